@@ -1,0 +1,5 @@
+pub mod Bits
+pub mod Fields
+pub mod Signed
+pub mod Laws
+pub mod Mirrors

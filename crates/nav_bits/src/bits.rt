@@ -1,0 +1,74 @@
+ghost use Rattle.std.specs.Prelude.{◌≡◌, ℕ, ◌+◌, ◌*◌, ◌^◌, ◌<◌, ◌≤◌, List, replicate};
+ghost use Rattle.nav_bits.specs.Bits.{number_at, signed_at, Puts};
+
+use crate::places::{number_of, put_number};
+use crate::signed::sign_extended;
+use std::marker::Model;
+
+/// `N` bytes as a run of bits, bit 0 being the most significant bit of the first byte.
+#[derive(Clone, Copy, PartialEq, Eq, Debug)]
+pub struct Bits<const N: usize> {
+    pub(crate) bytes: [u8; N],
+}
+
+impl<const N: usize> Model for Bits<N> {
+    ghost Value = { List ℕ };
+
+    ghost view = { λ b. b.bytes };
+
+    ghost inverse = { λ bytes. record { bytes = bytes } };
+}
+
+impl<const N: usize> Bits<N> {
+    /// Bits that are all 0.
+    pub fn zero() -> Self
+        ensures { result ≡ replicate N 0 }
+    {
+        Bits { bytes: [0; N] }
+    }
+
+    /// The bits of these bytes.
+    pub fn from_bytes(bytes: [u8; N]) -> Self
+        ensures { result ≡ bytes.entry }
+    {
+        Bits { bytes }
+    }
+
+    /// The bytes.
+    pub fn bytes(&self) -> &[u8; N]
+        ensures { result.now ≡ self.now }
+    {
+        &self.bytes
+    }
+
+    /// The number whose binary digits stand at the `width` places from `at` on.
+    pub fn get(&self, at: usize, width: u32) -> u64
+        requires some { 1 ≤ width }
+        requires most { width ≤ 64 }
+        requires inside { at + width ≤ 8 * N }
+        ensures { result ≡ number_at self.now at width }
+    {
+        number_of(&self.bytes, at, width as usize)
+    }
+
+    /// The same in two's complement, the first of the places being the sign.
+    pub fn get_signed(&self, at: usize, width: u32) -> i64
+        requires some { 1 ≤ width }
+        requires most { width ≤ 64 }
+        requires inside { at + width ≤ 8 * N }
+        ensures { result ≡ signed_at self.now at width }
+    {
+        sign_extended(self.get(at, width), width)
+    }
+
+    /// Puts the binary digits of a number at the `width` places from `at` on. All other bits stay.
+    pub fn put(&mut self, at: usize, width: u32, value: u64)
+        requires some { 1 ≤ width }
+        requires most { width ≤ 64 }
+        requires inside { at + width ≤ 8 * N }
+        requires fits { value < 2 ^ width }
+        ensures { Puts self.old self.new at width value }
+    {
+        put_number(&mut self.bytes, at, width as usize, value);
+    }
+}

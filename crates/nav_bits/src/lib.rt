@@ -1,0 +1,41 @@
+//! Numbers of a fixed count of binary digits, and the bits of bytes in which they stand.
+//!
+//! Broadcast navigation messages and correction messages are runs of bits, sent with the most
+//! significant bit first: the parameters of a subframe (IS-GPS-200, 20.3.3), of a page (Galileo OS
+//! SIS ICD, 4.3) and of a message (RTCM 10403.3, 3.3) stand there in two's complement or without a
+//! sign, some of them in two ranges. Here are
+//!
+//! - [`U`] and [`S`], numbers of `W` digits without and with a sign;
+//! - [`Bits`], some bytes as bits, with the numbers that stand at any places of them;
+//! - [`Layout`] and [`BitForm`], what a value that stands in bits promises: what was packed is
+//!   unpacked, and packing changes its own bits alone;
+//! - [`put_numbers`], which writes a table of fields, and `join` and `split` of [`U`] and [`S`], for
+//!   fields in two ranges.
+//!
+//! ```rust
+//! use nav_bits::{BitForm, Bits, S};
+//!
+//! let mut bits = Bits::<4>::zero();
+//! let root: S<16> = S::from_digits(0xFFFE);
+//! root.pack(&mut bits, 3);
+//! let again: S<16> = BitForm::<4>::unpack(&bits, 3);
+//! assert_eq!(rt; again.value(), -2);
+//! ```
+#![tactic(auto)]
+
+mod bits;
+mod fields;
+mod laws;
+mod layout;
+mod places;
+mod signed;
+#[cfg(test)]
+mod tests;
+mod unsigned;
+
+pub use crate::bits::Bits;
+pub use crate::fields::put_numbers;
+pub use crate::laws::{append, byte, one_number_for_digits};
+pub use crate::layout::{BitForm, Layout};
+pub use crate::signed::S;
+pub use crate::unsigned::U;

@@ -1,0 +1,60 @@
+ghost use Rattle.std.specs.Prelude.{◌≡◌, ℕ, ◌+◌, ◌*◌, ◌^◌, ◌<◌, ◌≤◌, length};
+ghost use Rattle.nav_bits.specs.Bits.{number_at, Puts};
+
+// The number of `width` digits of one byte, behind its first `skip` bits.
+fn part_of(bytes: &[u8], byte: usize, skip: usize, width: usize) -> u8
+    requires some { 1 ≤ width }
+    requires within { skip + width ≤ 8 }
+    requires inside { byte < length bytes.now }
+    ensures { result ≡ number_at bytes.now (8 * byte + skip) width }
+{
+    (bytes[byte] >> (8 - skip - width)) & (u8::MAX >> (8 - width))
+}
+
+/// The number of `width` digits that stands from the place `at` on, read a byte at a time.
+pub(crate) fn number_of(bytes: &[u8], at: usize, width: usize) -> u64
+    requires most { width ≤ 64 }
+    requires inside { at + width ≤ 8 * length bytes.now }
+    ensures { result ≡ number_at bytes.now at width }
+{
+    let mut value: u64 = 0;
+    let mut done: usize = 0;
+    while done < width {
+        let place = at % 8 + done;
+        let step = (width - done).min(8 - place % 8);
+        let part = part_of(bytes, at / 8 + place / 8, place % 8, step);
+        value = (value << step) | u64::from(part);
+        done += step;
+    }
+    value
+}
+
+// Writes a number of `width` digits into one byte, behind its first `skip` bits.
+fn put_part(bytes: &mut [u8], byte: usize, skip: usize, width: usize, value: u8)
+    requires some { 1 ≤ width }
+    requires within { skip + width ≤ 8 }
+    requires inside { byte < length bytes.old }
+    requires fits { value < 2 ^ width }
+    ensures { Puts bytes.old bytes.new (8 * byte + skip) width value }
+{
+    let shift = 8 - skip - width;
+    let mask = (u8::MAX >> (8 - width)) << shift;
+    bytes[byte] = (bytes[byte] & !mask) | (value << shift);
+}
+
+/// Writes a number of `width` digits from the place `at` on, a byte at a time; all other bits stay.
+pub(crate) fn put_number(bytes: &mut [u8], at: usize, width: usize, value: u64)
+    requires most { width ≤ 64 }
+    requires inside { at + width ≤ 8 * length bytes.old }
+    requires fits { value < 2 ^ width }
+    ensures { Puts bytes.old bytes.new at width value }
+{
+    let mut done: usize = 0;
+    while done < width {
+        let place = at % 8 + done;
+        let step = (width - done).min(8 - place % 8);
+        let part = ((value >> (width - done - step)) & (0xff >> (8 - step))) as u8;
+        put_part(bytes, at / 8 + place / 8, place % 8, step, part);
+        done += step;
+    }
+}

@@ -1,0 +1,147 @@
+ghost use Rattle.std.specs.Prelude.{◌≡◌, ℕ, ◌+◌, ◌*◌, ◌^◌, ◌<◌, ◌≤◌, ◌↔◌, ℤ, pos, negsuc, IsSome, IfSome};
+ghost use Rattle.nav_bits.specs.Bits.{signed_at};
+ghost use Rattle.nav_bits.specs.Laws.{signed_at-same};
+ghost use Rattle.nav_bits.specs.Mirrors.{magnitude_of};
+ghost use Rattle.nav_bits.specs.Signed.{IsSigned, signed_of};
+
+use crate::layout::Layout;
+use crate::places::{number_of, put_number};
+use crate::unsigned::U;
+use std::marker::Model;
+
+/// A number of `W` binary digits in two's complement, from -2^(`W` - 1) up to 2^(`W` - 1) - 1.
+#[derive(Clone, Copy, PartialEq, Eq, PartialOrd, Ord, Hash, Debug)]
+pub struct S<const W: u32> {
+    raw: i64,
+}
+
+impl<const W: u32> Model for S<W> {
+    ghost use Rattle.std.specs.Prelude.{ℤ};
+    ghost use Rattle.nav_bits.specs.Signed.{IsSigned};
+
+    ghost Value = { ℤ };
+
+    ghost view = { λ s. s.raw };
+
+    ghost invariant = { λ s. IsSigned W s.raw };
+
+    ghost inverse = { λ z. record { raw = z } };
+}
+
+// z, or -z - 1 where z is below 0.
+fn magnitude(value: i64) -> u64
+    ensures { result ≡ magnitude_of value }
+{
+    if value < 0 {
+        (-(value + 1)) as u64
+    } else {
+        value as u64
+    }
+}
+
+// The number that digits stand for in two's complement, its sign in all places above them.
+pub(crate) fn sign_extended(digits: u64, width: u32) -> i64
+    requires some { 1 ≤ width }
+    requires most { width ≤ 64 }
+    requires fits { digits < 2 ^ width }
+    ensures { result ≡ signed_of width digits }
+{
+    if digits >> (width - 1) == 0 {
+        return digits as i64;
+    }
+    let above = u64::MAX - (u64::MAX >> (64 - width));
+    (digits + above).cast_signed()
+}
+
+impl<const W: u32> S<W> {
+    /// The number as `W` digits; `None` where it does not fit.
+    pub fn new(value: i64) -> Option<Self>
+        ensures exactly { IsSome result ↔ IsSigned W value }
+        ensures same { IfSome result (λ s. s ≡ value) }
+    {
+        if W > 64 {
+            return Some(S { raw: value });
+        }
+        if magnitude(value) >> W.saturating_sub(1) == 0 {
+            Some(S { raw: value })
+        } else {
+            None
+        }
+    }
+
+    /// The number.
+    pub fn value(&self) -> i64
+        ensures same { result ≡ self.now }
+        ensures fits { IsSigned W self.now }
+    {
+        self.raw
+    }
+
+    /// Its `W` digits in two's complement, as a number without a sign.
+    pub fn digits(&self) -> u64
+        requires some { 1 ≤ W }
+        requires most { W ≤ 64 }
+        ensures fits { result < 2 ^ W }
+        ensures same { signed_of W result ≡ self.now }
+    {
+        self.raw.cast_unsigned() & (u64::MAX >> (64 - W))
+    }
+
+    /// The number that `W` digits stand for in two's complement.
+    pub fn from_digits(digits: u64) -> Self
+        requires some { 1 ≤ W }
+        requires most { W ≤ 64 }
+        requires fits { digits < 2 ^ W }
+        ensures { result ≡ signed_of W digits }
+    {
+        S {
+            raw: sign_extended(digits, W),
+        }
+    }
+
+    /// The number of which these are the high and the low digits.
+    pub fn join<const H: u32, const L: u32>(high: U<H>, low: U<L>) -> Self
+        requires whole { H + L ≡ W }
+        requires some_high { 1 ≤ H }
+        requires some_low { 1 ≤ L }
+        requires most { W ≤ 64 }
+        ensures { result ≡ signed_of W (high.entry * 2 ^ L + low.entry) }
+    {
+        let digits: U<W> = U::join(high, low);
+        S::from_digits(digits.value())
+    }
+
+    /// Its `H` high digits and its `L` low digits.
+    pub fn split<const H: u32, const L: u32>(&self) -> (U<H>, U<L>)
+        requires whole { H + L ≡ W }
+        requires some_high { 1 ≤ H }
+        requires some_low { 1 ≤ L }
+        requires most { W ≤ 64 }
+        ensures { signed_of W (result.0 * 2 ^ L + result.1) ≡ self.now }
+    {
+        let digits: U<W> = U::from_digits(self.digits());
+        digits.split()
+    }
+}
+
+impl<const W: u32> Layout for S<W> {
+    ghost BITS = { W };
+
+    ghost Usable = { (1 ≤ W) × (W ≤ 64) };
+
+    ghost stands_at = { λ bytes at. signed_at bytes at W };
+
+    ghost RestIsZero = { λ bytes at. Unit {0} };
+
+    ghost own_bits = { λ a b at same. signed_at-same a b at W same };
+
+    const BITS: u32 = W;
+
+    fn write_bits(&self, into: &mut [u8], at: usize) {
+        put_number(into, at, W as usize, self.digits());
+    }
+
+    fn read_bits(from: &[u8], at: usize) -> Self {
+        S::from_digits(number_of(from, at, W as usize))
+    }
+}

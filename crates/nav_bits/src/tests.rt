@@ -1,0 +1,58 @@
+ghost use Rattle.std.specs.Prelude.{◌≡◌, ◌+◌, ◌≤◌};
+
+use super::*;
+use std::test::Fail;
+
+#[test]
+fn numbers_at_places(rt: HostRuntime) {
+    let mut bits = Bits::<2>::from_bytes([0b1010_0101, 0xF0]);
+    assert_eq!(rt; bits.get(4, 8), 0x5F);
+    assert_eq!(rt; bits.get(0, 16), 0xA5F0);
+    assert_eq!(rt; bits.get_signed(0, 4), -6);
+    bits.put(4, 8, 0xC3);
+    assert_eq!(rt; bits.get(0, 16), 0xAC30);
+    assert!(rt; bits == Bits::from_bytes([0xAC, 0x30]));
+    let none = Bits::<1>::zero();
+    assert_eq!(rt; none.bytes()[0], 0);
+}
+
+#[test]
+fn numbers_of_digits(rt: HostRuntime) -> Result<(), Fail> {
+    assert_eq!(rt; U::<10>::new(1023).ok_or("fits")?.value(), 1023);
+    assert!(rt; U::<10>::new(1024).is_none());
+    assert!(rt; U::<64>::new(u64::MAX).is_some());
+    assert_eq!(rt; S::<4>::new(-8).ok_or("fits")?.digits(), 8);
+    assert!(rt; S::<4>::new(-9).is_none());
+    assert!(rt; S::<4>::new(8).is_none());
+    assert_eq!(rt; S::<4>::from_digits(9).value(), -7);
+    let whole: S<32> = S::join(U::<8>::from_digits(0xFF), U::<24>::from_digits(0xFF_FFFE));
+    assert_eq!(rt; whole.value(), -2);
+    let (high, low) = whole.split::<8, 24>();
+    let parts: U<32> = U::join(high, low);
+    assert_eq!(rt; parts.value(), 0xFFFF_FFFE);
+    Ok(())
+}
+
+// Packs a value into bytes that are all 0, and reads it back.
+fn again<F: BitForm<8> + Copy>(form: F, at: usize) -> F
+    requires usable { F.Usable }
+    requires inside { at + F.BITS ≤ 64 }
+    ensures { result ≡ form }
+{
+    let mut bits = Bits::<8>::zero();
+    form.pack(&mut bits, at);
+    F::unpack(&bits, at)
+}
+
+#[test]
+fn packed_is_unpacked(rt: HostRuntime) {
+    assert_eq!(rt; again(U::<14>::from_digits(9000), 3).value(), 9000);
+    assert_eq!(rt; again(S::<14>::from_digits(9000), 50).value(), 9000 - 16384);
+}
+
+#[test]
+fn tables(rt: HostRuntime) {
+    let mut bytes = [0xFF; 3];
+    put_numbers(&mut bytes, 2, &[(12, 1019), (6, 7)]);
+    assert!(rt; bytes == [0b1100_1111, 0b1110_1100, 0b0111_1111]);
+}
