@@ -1,0 +1,152 @@
+-- One step of each loop: the register over what is left of a list, and the digits of a register that is moved on.
+use Rattle.std.proofs.Common.{◌≡◌, ℕ, zero, suc, ◌+◌, ◌-◌, ◌*◌, ◌/◌, ◌%◌, ◌^◌, ◌<◌, ◌≤◌, List, [], ◌∷◌, length, get_or, drop, sym, ap, subst, ◌∙◌, arith, zero-add}
+use Rattle.std.proofs.lemmas.List.{drop_more, drop_all}
+use Rattle.std.proofs.lemmas.Nat.{and_mask, shr-shr, shr_le}
+use Rattle.std.specs.Int.Bits.{bit_and, bit_xor}
+use Rattle.crc24q.specs.Register.{turned, shift, with_byte_of, crc_from}
+use Rattle.crc24q.specs.RegisterLaws.{turned_small, shift-lt, shift-xor, shift-add, shift-zero, crc_from-append}
+use Rattle.crc24q.proofs.LookupLemmas.{next_digits}
+
+pub byte_step : (state next i : ℕ) (xs : List ℕ) → i < length xs → next ≡ with_byte_of state (get_or xs i 0) → crc_from next (drop (i + 1) xs) ≡ crc_from state (drop i xs)
+unfolding crc_from
+byte_step state next i xs h is = ap (λ n. crc_from n (drop (i + 1) xs)) is ∙ sym (ap (crc_from state) (drop_more xs i 0 h))
+
+pub no_bytes_left : (state i : ℕ) (xs : List ℕ) → length xs ≤ i → crc_from state (drop i xs) ≡ state
+unfolding crc_from
+no_bytes_left state i xs h = ap (crc_from state) (drop_all i xs h)
+
+four_more : (xs : List ℕ) (n : ℕ) → n + 4 ≤ length xs → drop n xs ≡ get_or xs n 0 ∷ get_or xs (n + 1) 0 ∷ get_or xs (n + 2) 0 ∷ get_or xs (n + 3) 0 ∷ drop (n + 4) xs
+four_more xs n h =
+    let second : n + 1 + 1 ≡ n + 2 = omega arith in
+    let third : n + 2 + 1 ≡ n + 3 = omega arith in
+    let fourth : n + 3 + 1 ≡ n + 4 = omega arith in
+    drop_more xs n 0 (omega arith)
+    ∙ ap (λ ys. get_or xs n 0 ∷ ys)
+    (drop_more xs (n + 1) 0 (omega arith) ∙ ap (λ m. get_or xs (n + 1) 0 ∷ drop m xs) second
+    ∙ ap (λ ys. get_or xs (n + 1) 0 ∷ ys)
+    (drop_more xs (n + 2) 0 (omega arith) ∙ ap (λ m. get_or xs (n + 2) 0 ∷ drop m xs) third
+    ∙ ap (λ ys. get_or xs (n + 2) 0 ∷ ys)
+    (drop_more xs (n + 3) 0 (omega arith) ∙ ap (λ m. get_or xs (n + 3) 0 ∷ drop m xs) fourth)))
+
+pub four_step : (state next n m : ℕ) (xs : List ℕ) → n + 4 ≡ m → m ≤ length xs
+    → next ≡ crc_from state (get_or xs n 0 ∷ get_or xs (n + 1) 0 ∷ get_or xs (n + 2) 0 ∷ get_or xs (n + 3) 0 ∷ [])
+    → crc_from next (drop m xs) ≡ crc_from state (drop n xs)
+four_step state next n m xs places inside is =
+    ap (λ k. crc_from next (drop k xs)) (sym places) ∙ ap (λ k. crc_from k (drop (n + 4) xs)) is
+    ∙ sym (ap (crc_from state) (four_more xs n (omega arith))
+    ∙ crc_from-append state (get_or xs n 0 ∷ get_or xs (n + 1) 0 ∷ get_or xs (n + 2) 0 ∷ get_or xs (n + 3) 0 ∷ []) (drop (n + 4) xs))
+
+-- ---- the register moved on by its digits
+
+pub digit_step : (n state k sum moved digit : ℕ) → state < 2 ^ 24 → k < 6 → sum ≡ shift n (state / 2 ^ (24 - 4 * k)) → moved ≡ shift 4 sum
+    → digit ≡ shift n (bit_and (state / 2 ^ (20 - 4 * k)) 15) → bit_xor moved digit ≡ shift n (state / 2 ^ (24 - 4 * (k + 1)))
+digit_step n state k sum moved digit fits h sum_is moved_is digit_is =
+    let rest : ℕ = state / 2 ^ (20 - 4 * k) in
+    let inside : rest ≤ state = shr_le state (20 - 4 * k) in
+    let further : 20 - 4 * k + 4 ≡ 24 - 4 * k = omega arith in
+    let after : 20 - 4 * k ≡ 24 - 4 * (k + 1) = omega arith in
+    let before : state / 2 ^ (24 - 4 * k) ≡ rest / 16 = sym (shr-shr state (20 - 4 * k) 4 ∙ ap (λ m. state / 2 ^ m) further) in
+    let whole : rest / 16 * 16 + rest % 16 ≡ rest = omega arith in
+    let last : bit_and rest 15 ≡ rest % 16 = and_mask rest 4 in
+    ap (λ m. bit_xor m digit) (moved_is ∙ ap (shift 4) (sum_is ∙ ap (shift n) before))
+    ∙ ap (bit_xor (shift 4 (shift n (rest / 16)))) (digit_is ∙ ap (shift n) last)
+    ∙ sym (next_digits n (rest / 16) (rest % 16) (omega arith) (omega arith))
+    ∙ ap (shift n) (whole ∙ ap (λ m. state / 2 ^ m) after)
+
+pub shifted_fits : (n state m sum : ℕ) → state < 2 ^ 24 → sum ≡ shift n (state / 2 ^ m) → sum < 2 ^ 24
+shifted_fits n state m sum fits is =
+    let inside : state / 2 ^ m ≤ state = shr_le state m in
+    subst (λ k. k < 2 ^ 24) (sym is) (shift-lt n (state / 2 ^ m) (omega arith))
+
+pub no_digits : (n state : ℕ) → state < 2 ^ 24 → 0 ≡ shift n (state / 2 ^ 24)
+no_digits n state fits =
+    let none : state / 2 ^ 24 ≡ 0 = omega arith in
+    sym (ap (shift n) none ∙ shift-zero n)
+
+-- ---- the sixteen multiples
+
+-- each number of a list is f of its place, counted from i
+abbrev Are : (ℕ → ℕ) → ℕ → List ℕ → Type 0
+Are f i [] = Unit {0}
+Are f i (x ∷ xs) = (x ≡ f i) × Are f (suc i) xs
+
+are_at : (f : ℕ → ℕ) (i : ℕ) (xs : List ℕ) → Are f i xs → (k : ℕ) → k < length xs → get_or xs k 0 ≡ f (i + k)
+are_at f i [] all k h = absurd (omega arith)
+are_at f i (x ∷ xs) all zero h =
+    let same : i ≡ i + 0 = omega arith in
+    all.0 ∙ ap f same
+are_at f i (x ∷ xs) all (suc k) h =
+    let next : suc i + k ≡ i + suc k = omega arith in
+    are_at f (suc i) xs all.1 k (omega arith) ∙ ap f next
+
+twice : (n m x y : ℕ) → m < 2 ^ 23 → x ≡ shift n m → y ≡ turned x → y ≡ shift n (m * 2)
+unfolding shift
+twice n m x y h x_is y_is =
+    let order : suc n ≡ n + 1 = omega arith in
+    y_is ∙ ap turned x_is ∙ ap (λ k. shift k m) order ∙ shift-add n 1 m ∙ ap (shift n) (turned_small m h)
+
+both : (n a b x y : ℕ) → a < 2 ^ 24 → b < 2 ^ 24 → x ≡ shift n a → y ≡ shift n b → bit_xor x y ≡ shift n (bit_xor a b)
+both n a b x y ha hb x_is y_is = ap (λ k. bit_xor k y) x_is ∙ ap (bit_xor (shift n a)) y_is ∙ sym (shift-xor n a b ha hb)
+
+pub multiple_is : (n one two four eight : ℕ) → one ≡ shift n 1 → two ≡ turned one → four ≡ turned two → eight ≡ turned four → (d : ℕ) → d < 16
+    → get_or (0 ∷ one ∷ two ∷ bit_xor two one ∷ four ∷ bit_xor four one ∷ bit_xor four two ∷ bit_xor four (bit_xor two one)
+    ∷ eight ∷ bit_xor eight one ∷ bit_xor eight two ∷ bit_xor eight (bit_xor two one)
+    ∷ bit_xor eight four ∷ bit_xor eight (bit_xor four one) ∷ bit_xor eight (bit_xor four two) ∷ bit_xor eight (bit_xor four (bit_xor two one)) ∷ []) d 0 ≡ shift n d
+multiple_is n one two four eight is1 two_is four_is eight_is d h =
+    let is2 : two ≡ shift n 2 = twice n 1 one two (omega arith) is1 two_is in
+    let is3 : bit_xor two one ≡ shift n 3 = both n 2 1 two one (omega arith) (omega arith) is2 is1 in
+    let is4 : four ≡ shift n 4 = twice n 2 two four (omega arith) is2 four_is in
+    let is5 : bit_xor four one ≡ shift n 5 = both n 4 1 four one (omega arith) (omega arith) is4 is1 in
+    let is6 : bit_xor four two ≡ shift n 6 = both n 4 2 four two (omega arith) (omega arith) is4 is2 in
+    let is7 : bit_xor four (bit_xor two one) ≡ shift n 7 = both n 4 3 four (bit_xor two one) (omega arith) (omega arith) is4 is3 in
+    let is8 : eight ≡ shift n 8 = twice n 4 four eight (omega arith) is4 eight_is in
+    let above : (m x : ℕ) → m < 8 → x ≡ shift n m → bit_xor eight x ≡ shift n (bit_xor 8 m) = λ m x less is. both n 8 m eight x (omega arith) (omega arith) is8 is in
+    let all : Are (shift n) 0 (0 ∷ one ∷ two ∷ bit_xor two one ∷ four ∷ bit_xor four one ∷ bit_xor four two ∷ bit_xor four (bit_xor two one)
+    ∷ eight ∷ bit_xor eight one ∷ bit_xor eight two ∷ bit_xor eight (bit_xor two one)
+    ∷ bit_xor eight four ∷ bit_xor eight (bit_xor four one) ∷ bit_xor eight (bit_xor four two) ∷ bit_xor eight (bit_xor four (bit_xor two one)) ∷ []) = (
+      sym (shift-zero n),
+      (
+        is1,
+        (
+          is2,
+          (
+            is3,
+            (
+              is4,
+              (
+                is5,
+                (
+                  is6,
+                  (
+                    is7,
+                    (
+                      is8,
+                      (
+                        above 1 one (omega arith) is1,
+                        (
+                          above 2 two (omega arith) is2,
+                          (
+                            above 3 (bit_xor two one) (omega arith) is3,
+                            (
+                              above 4 four (omega arith) is4,
+                              (
+                                above 5 (bit_xor four one) (omega arith) is5,
+                                (above 6 (bit_xor four two) (omega arith) is6, (above 7 (bit_xor four (bit_xor two one)) (omega arith) is7, tt)),
+                              ),
+                            ),
+                          ),
+                        ),
+                      ),
+                    ),
+                  ),
+                ),
+              ),
+            ),
+          ),
+        ),
+      ),
+    ) in
+    are_at (shift n) 0 (0 ∷ one ∷ two ∷ bit_xor two one ∷ four ∷ bit_xor four one ∷ bit_xor four two ∷ bit_xor four (bit_xor two one)
+    ∷ eight ∷ bit_xor eight one ∷ bit_xor eight two ∷ bit_xor eight (bit_xor two one)
+    ∷ bit_xor eight four ∷ bit_xor eight (bit_xor four one) ∷ bit_xor eight (bit_xor four two) ∷ bit_xor eight (bit_xor four (bit_xor two one)) ∷ []) all d h
+    ∙ ap (shift n) (zero-add d)

@@ -1,0 +1,11 @@
+use Rattle.std.proofs.Common.{◌*◌, length, ◌≡◌, subst, sym}
+use Rattle.nav_bits.specs.Bits.{number_at}
+use Rattle.crc24q.specs.Division.{IsCrc}
+use Rattle.crc24q.specs.Register.{crc_from}
+use Rattle.crc24q.proofs.MessageLemmas.{crc_of_bytes}
+use Rattle.crc24q.proofs.message.crc_bytes.Goals as goal
+
+pub returns-clause-crc : goal.returns-clause-crc
+returns-clause-crc c =
+    let value : c.from_digits.result ≡ crc_from 0 c.args.bytes.now = cc in
+    subst (IsCrc (number_at c.args.bytes.now 0 (8 * length c.args.bytes.now))) (sym value) (crc_of_bytes c.args.bytes.now)

@@ -1,0 +1,31 @@
+//! Laws of the definitions: each is the contract of a function that does nothing.
+
+ghost use Rattle.std.specs.Prelude.{◌≡◌, ℕ, ◌*◌, List, ◌++◌, length, bit_xor};
+ghost use Rattle.nav_bits.specs.Bits.{number_at};
+ghost use Rattle.crc24q.specs.Division.{IsCrc};
+ghost use Rattle.crc24q.specs.Register.{shift, crc_from};
+
+/// There is at most one CRC.
+pub fn one_crc()
+    ensures { (p r s : ℕ) → IsCrc p r → IsCrc p s → r ≡ s }
+{}
+
+/// Every polynomial has a CRC.
+pub fn every_polynomial_has_a_crc()
+    ensures { (p : ℕ) → (r : ℕ) × IsCrc p r }
+{}
+
+/// From 0 on, the register holds the CRC of the bytes that went in.
+pub fn the_register_holds_the_crc()
+    ensures { (bytes : List ℕ) → IsCrc (number_at bytes 0 (8 * length bytes)) (crc_from 0 bytes) }
+{}
+
+/// The CRC of joined bytes: that of the first ones, moved past the second ones, and that of the second ones.
+pub fn crc_of_joined_bytes()
+    ensures { (xs ys : List ℕ) → crc_from 0 (xs ++ ys) ≡ bit_xor (shift (8 * length ys) (crc_from 0 xs)) (crc_from 0 ys) }
+{}
+
+/// A run of bits that is the same as some bytes has the CRC of these bytes.
+pub fn bits_of_bytes_have_their_crc()
+    ensures { (bytes run : List ℕ) (from r : ℕ) → number_at run from (8 * length bytes) ≡ number_at bytes 0 (8 * length bytes) → IsCrc (number_at run from (8 * length bytes)) r → r ≡ crc_from 0 bytes }
+{}

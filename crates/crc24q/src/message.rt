@@ -1,0 +1,80 @@
+//! The CRC of bytes and of any run of bits.
+
+ghost use Rattle.std.specs.Prelude.{◌≡◌, ℕ, ◌+◌, ◌*◌, ◌^◌, ◌<◌, ◌≤◌, length};
+ghost use Rattle.nav_bits.specs.Bits.{number_at};
+ghost use Rattle.crc24q.specs.Division.{IsCrc};
+ghost use Rattle.crc24q.specs.Register.{crc_from};
+
+use crate::register::{after_bytes, with_byte};
+use crate::shifts::with_bit;
+use nav_bits::{Bits, U};
+
+/// The CRC of some bytes, the most significant bit of each first. It is 0 for no bytes.
+///
+/// RTCM 10403.3, section 4: the last three bytes of a frame are the CRC of all before them, the high byte first.
+pub fn crc_bytes(bytes: &[u8]) -> U<24>
+    ensures value { result ≡ crc_from 0 bytes.now }
+    ensures crc { IsCrc (number_at bytes.now 0 (8 * length bytes.now)) result }
+{
+    U::from_digits(u64::from(after_bytes(bytes)))
+}
+
+/// The CRC of the `count` bits from bit `from` on, bit 0 being the most significant bit of the first byte.
+///
+/// Galileo OS SIS ICD, section 5.1.9.4: the CRC of a nominal page is that of its 196 bits before the CRC.
+pub fn crc_bits<const N: usize>(bits: &Bits<N>, from: usize, count: usize) -> U<24>
+    requires { from + count ≤ 8 * N }
+    ensures { IsCrc (number_at bits.now from count) result }
+{
+    let bytes = bits.bytes();
+    U::from_digits(u64::from(crc_of_run(bytes, from, count)))
+}
+
+// The same over a slice.
+fn crc_of_run(bytes: &[u8], from: usize, count: usize) -> u32
+    requires { from + count ≤ 8 * length bytes.now }
+    ensures { IsCrc (number_at bytes.now from count) result }
+{
+    let state = after_whole_bytes(bytes, from, count / 8);
+    after_last_bits(state, bytes, from / 8 + count / 8, from % 8, count % 8)
+}
+
+// The register from 0 on after the digits that make whole bytes.
+fn after_whole_bytes(bytes: &[u8], from: usize, count: usize) -> u32
+    requires { from + 8 * count ≤ 8 * length bytes.now }
+    ensures { IsCrc (number_at bytes.now from (8 * count)) result }
+{
+    let mut state = 0;
+    for i in 0..count {
+        state = with_byte(state, byte_at(bytes, from / 8 + i, from % 8));
+    }
+    state
+}
+
+// The eight digits behind the first `skip` bits of a byte.
+fn byte_at(bytes: &[u8], byte: usize, skip: usize) -> u8
+    requires skip { skip < 8 }
+    requires inside { 8 * byte + skip + 8 ≤ 8 * length bytes.now }
+    ensures { result ≡ number_at bytes.now (8 * byte + skip) 8 }
+{
+    if skip == 0 {
+        return bytes[byte];
+    }
+    (bytes[byte] & (0xff >> skip)) << skip | bytes[byte + 1] >> (8 - skip)
+}
+
+// The register with fewer than eight digits more, those behind the first `skip` bits of a byte.
+fn after_last_bits(mut state: u32, bytes: &[u8], byte: usize, skip: usize, count: usize) -> u32
+    requires state { state < 2 ^ 24 }
+    requires skip { skip < 8 }
+    requires count { count < 8 }
+    requires inside { 8 * byte + skip + count ≤ 8 * length bytes.now }
+    ensures { (p : ℕ) → IsCrc p state → IsCrc (p * 2 ^ count + number_at bytes.now (8 * byte + skip) count) result }
+{
+    for k in 0..count {
+        let place = skip + k;
+        let bit = bytes[byte + place / 8] >> (7 - place % 8) & 1;
+        state = with_bit(state, u32::from(bit));
+    }
+    state
+}
