@@ -1,0 +1,5 @@
+pub mod Sums
+pub mod Digits
+pub mod Equations
+pub mod Words
+pub mod Choice
