@@ -1,0 +1,126 @@
+//! What no clause says: that calls succeed, that a fault in mid-stream is answered as one.
+
+use crate::{Failed, MemSink, MemSource, ReadSource, Sink, Source, WriteSink};
+use std::io;
+use std::io::{ErrorKind, Read, Write};
+use std::test::Fail;
+
+// A reader and a writer of one byte per call, which fails at its third call. It can't be flushed
+// after its sixth.
+#[derive(Drop)]
+struct Faltering {
+    calls: u8,
+}
+
+impl Read for Faltering {
+    fn read(&mut self, buf: &mut [u8]) -> io::Result<usize> {
+        self.calls = self.calls.saturating_add(1);
+        if self.calls == 3 {
+            return Err(io::Error::from(ErrorKind::Interrupted));
+        }
+        if let [first, ..] = buf {
+            *first = self.calls;
+            return Ok(1);
+        }
+        Ok(0)
+    }
+}
+
+impl Write for Faltering {
+    fn write(&mut self, buf: &[u8]) -> io::Result<usize> {
+        self.calls = self.calls.saturating_add(1);
+        if self.calls == 3 {
+            return Err(io::Error::from(ErrorKind::Interrupted));
+        }
+        Ok(buf.len().min(1))
+    }
+
+    fn flush(&mut self) -> io::Result<()> {
+        if self.calls == 6 {
+            return Err(io::Error::from(ErrorKind::Interrupted));
+        }
+        Ok(())
+    }
+}
+
+// The answers of so many reads into a buffer of four bytes, each with the first byte of the buffer.
+fn reads<S: Source>(source: &mut S) -> [(Result<usize, Failed>, u8); 5] {
+    let mut answers = [(Ok(0), 0); 5];
+    let mut buffer = [0; 4];
+    for answer in answers.iter_mut() {
+        let result = source.read(&mut buffer);
+        *answer = (result, buffer[0]);
+    }
+    answers
+}
+
+#[test]
+fn reads_memory_in_pieces(rt: HostRuntime) -> Result<(), Fail> {
+    let bytes = b"abcd".to_vec(rt.alloc())?;
+    let cuts = [1, 0, 1].to_vec(rt.alloc())?;
+    let mut source = MemSource::new(bytes, cuts, [2].to_vec(rt.alloc())?);
+    let got = reads(&mut source);
+    let want = [
+        (Ok(1), b'a'),
+        (Ok(1), b'b'),
+        (Err(Failed), b'b'),
+        (Ok(1), b'c'),
+        (Ok(1), b'd'),
+    ];
+    assert!(rt; got == want);
+    assert_eq!(rt; source.left().len(), 0);
+    Ok(())
+}
+
+#[test]
+fn writes_memory_in_its_room(rt: HostRuntime) -> Result<(), Fail> {
+    let mut sink = MemSink::new(rt.alloc(), 5, [1].to_vec(rt.alloc())?)?;
+    assert_eq!(rt; sink.write(b"ab"), Ok(()));
+    assert_eq!(rt; sink.write(b"cd"), Err(Failed));
+    assert_eq!(rt; sink.write(b"efgh"), Err(Failed));
+    assert_eq!(rt; sink.write(b"ijk"), Ok(()));
+    assert_eq!(rt; sink.bytes(), b"abijk".as_slice());
+    Ok(())
+}
+
+#[test]
+fn reads_and_writes_at_the_edge(rt: HostRuntime) -> Result<(), Fail> {
+    let bytes = b"abcde";
+    let mut source = ReadSource::new(bytes.as_slice());
+    let want = [
+        (Ok(4), b'a'),
+        (Ok(1), b'e'),
+        (Ok(0), b'e'),
+        (Ok(0), b'e'),
+        (Ok(0), b'e'),
+    ];
+    assert!(rt; reads(&mut source) == want);
+
+    let mut out = Vec::new(rt.alloc());
+    let mut sink = WriteSink::new(&mut out);
+    assert_eq!(rt; sink.write(b"ab"), Ok(()));
+    assert_eq!(rt; sink.write(b"cd"), Ok(()));
+    let _ = sink;
+    assert_eq!(rt; out.as_slice(), b"abcd".as_slice());
+    Ok(())
+}
+
+#[test]
+fn fails_in_mid_stream(rt: HostRuntime) {
+    let mut source = ReadSource::new(Faltering { calls: 0 });
+    let want = [
+        (Ok(1), 1),
+        (Ok(1), 2),
+        (Err(Failed), 2),
+        (Ok(1), 4),
+        (Ok(1), 5),
+    ];
+    assert!(rt; reads(&mut source) == want);
+
+    let mut sink = WriteSink::new(Faltering { calls: 0 });
+    assert_eq!(rt; sink.write(b"ab"), Ok(()));
+    assert_eq!(rt; sink.write(b"cd"), Err(Failed));
+    assert_eq!(rt; sink.write(b"ef"), Ok(()));
+    assert_eq!(rt; sink.write(b"g"), Err(Failed));
+    assert_eq!(rt; sink.write(b"h"), Ok(()));
+}
