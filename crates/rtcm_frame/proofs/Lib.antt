@@ -1,0 +1,13 @@
+mod FormCases
+mod FormLaws
+mod FrameLaws
+mod ChosenLaws
+mod Reaching
+mod ChosenFrames
+mod OpenPlace
+mod FirstPlace
+mod Takes
+mod Promising
+mod StandardLaws
+mod WriteLaws
+mod StateLaws

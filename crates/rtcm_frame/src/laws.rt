@@ -1,0 +1,63 @@
+//! Laws of the definitions: each function does nothing, and its contract is the law.
+
+ghost use Rattle.std.specs.Prelude.{◌≡◌, ℕ, ◌+◌, ◌≤◌, length, ◌<◌, ◌↔◌, ◌&&◌, ◌++◌, ◌∷◌, nat_lt, Bool, List, [], take, drop};
+ghost use Rattle.rtcm_frame.specs.Frames.{frame_size, frames, decided, undecided, after_first};
+ghost use Rattle.rtcm_frame.specs.Standard.{AreBytes, BeginsFrame};
+ghost use Rattle.rtcm_frame.specs.State.{IsWaiting, payload_of};
+ghost use Rattle.rtcm_frame.specs.Writing.{frame_bytes};
+ghost use Rattle.rtcm_frame.specs.Places.{AreChosen, is_chosen, frames_from, IsUnfinished, IsOpenPlace};
+
+/// A frame begins the bytes, and has this size, exactly where one of this size begins them in the standard's own terms.
+pub fn frames_are_those_of_the_standard()
+    ensures { (bytes : List ℕ) (n : ℕ) → AreBytes bytes
+        → ((0 < n) × (frame_size bytes ≡ n)) ↔ BeginsFrame bytes n }
+{
+    crc24q::one_crc();
+    crc24q::the_register_holds_the_crc();
+}
+
+/// The decided frames stay, whatever bytes follow, and the others are those of what is undecided with these bytes.
+pub fn decided_frames_stay()
+    ensures { (bytes more : List ℕ)
+        → frames (bytes ++ more) ≡ decided bytes ++ frames (undecided bytes ++ more) }
+{}
+
+/// There is exactly one set of chosen places, and the frames are those at its places, ascending.
+pub fn frames_are_at_the_chosen_places()
+    ensures exist { (bytes : List ℕ) → AreChosen bytes (is_chosen bytes) }
+    ensures only { (bytes : List ℕ) (chosen : ℕ → Bool) → AreChosen bytes chosen
+        → (p : ℕ) → chosen p ≡ is_chosen bytes p }
+    ensures frames { (bytes : List ℕ) (chosen : ℕ → Bool) → AreChosen bytes chosen
+        → frames_from chosen 0 bytes ≡ frames bytes }
+{}
+
+/// The decided frames are the chosen ones before the open place, the least that is unfinished.
+pub fn decided_frames_stand_before_the_open_place()
+    ensures before { (bytes : List ℕ) (chosen : ℕ → Bool) (place : ℕ) → AreChosen bytes chosen
+        → IsOpenPlace bytes chosen place
+        → (frames_from (λ p. chosen p && nat_lt p place) 0 bytes ≡ decided bytes)
+        × (undecided bytes ≡ drop place bytes) }
+    ensures all { (bytes : List ℕ) (chosen : ℕ → Bool) → AreChosen bytes chosen
+        → ((place : ℕ) → IsUnfinished bytes chosen place → ⊥)
+        → (decided bytes ≡ frames bytes) × (undecided bytes ≡ []) }
+{}
+
+/// The frames without the first are the frames of the bytes after it.
+pub fn frames_after_the_first()
+    ensures { (bytes : List ℕ) → frames (after_first bytes) ≡ drop 1 (frames bytes) }
+{}
+
+/// While nothing is held, or what is held begins with a frame that has not ended, no frame is decided, and what is held
+/// begins at its open place.
+pub fn nothing_is_decided_while_bytes_wait()
+    ensures decided { (rest : List ℕ) → IsWaiting rest → decided rest ≡ [] }
+    ensures undecided { (rest : List ℕ) → IsWaiting rest → undecided rest ≡ rest }
+{}
+
+/// What is written for a payload is a whole frame and nothing else, of this payload.
+pub fn written_frames_are_whole()
+    ensures whole { (payload : List ℕ) → length payload ≤ 1023
+        → frame_size (frame_bytes payload) ≡ length payload + 6 }
+    ensures size { (payload : List ℕ) → length (frame_bytes payload) ≡ length payload + 6 }
+    ensures payload { (payload : List ℕ) → payload_of (frame_bytes payload) ≡ payload }
+{}

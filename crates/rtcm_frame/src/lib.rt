@@ -1,0 +1,41 @@
+//! Frames of RTCM 10403.3 (the transport layer, section 4): writing one, reading one, and finding them in a stream of
+//! bytes.
+//!
+//! A frame is the preamble D3, six reserved bits that are not looked at, ten bits of length, a payload of so many bytes
+//! (0 to 1,023), and the CRC-24Q of all before it in three bytes, the high one first. In a stream a frame is looked for at
+//! each byte D3: where a whole frame of right checksum begins, that frame is taken and the search goes on behind it, else
+//! it goes on one byte further.
+//!
+//! ```rust
+//! let mut deframer = Deframer::new();
+//! for byte in bytes {
+//!     deframer.feed(*byte);
+//!     while let Some(frame) = deframer.next_frame() {
+//!         use_payload(frame.payload());
+//!     }
+//! }
+//! deframer.finish();
+//! while let Some(frame) = deframer.next_frame() {
+//!     use_payload(frame.payload());
+//! }
+//! ```
+#![tactic(auto)]
+
+mod deframer;
+mod form;
+mod frame;
+mod laws;
+mod states;
+#[cfg(test)]
+mod tests;
+mod window;
+mod writing;
+
+pub use deframer::Deframer;
+pub use frame::{Frame, frame_of};
+pub use laws::{
+    decided_frames_stand_before_the_open_place, decided_frames_stay, frames_after_the_first,
+    frames_are_at_the_chosen_places, frames_are_those_of_the_standard,
+    nothing_is_decided_while_bytes_wait, written_frames_are_whole,
+};
+pub use writing::write_frame;

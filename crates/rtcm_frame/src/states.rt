@@ -1,0 +1,68 @@
+//! The registers of the checksum beside the bytes of a window: with those before and after some bytes, the checksum of
+//! these takes the same time whatever their number.
+
+ghost use Rattle.std.specs.Prelude.{◌≡◌, ℕ, ◌-◌, ◌^◌, ◌<◌, ◌≤◌, List, length, take, drop};
+ghost use Rattle.arrayvec.specs.ArrayVec.{array_vec_len};
+ghost use Rattle.crc24q.specs.Register.{crc_from};
+ghost use Rattle.rtcm_frame.specs.Frames.{is_right};
+ghost use Rattle.rtcm_frame.specs.States.{AreStates};
+
+use arrayvec::ArrayVec;
+use byteorder::{BigEndian, ByteOrder};
+use crc24q::{shifted, with_byte};
+
+// Computes the registers up to the one before this place.
+pub fn extend(bytes: &[u8], states: &mut ArrayVec<u32, 4097>, end: usize)
+    requires states { AreStates bytes.now states.old.items }
+    requires inside { end ≤ length bytes.now }
+    requires room { length bytes.now ≤ 4096 }
+    ensures states { AreStates bytes.now states.new.items }
+    ensures reaches { end < array_vec_len states.new }
+{
+    let reached = states.len() - 1;
+    let mut state = states.as_slice()[reached];
+    for place in reached..end {
+        state = with_byte(state, bytes[place]);
+        states.push(state);
+    }
+}
+
+// Removes the registers of so many bytes in front.
+pub fn cut_states(states: &mut ArrayVec<u32, 4097>, count: usize)
+    ensures { (bytes : List ℕ) → AreStates bytes states.old.items → AreStates (drop count bytes) states.new.items }
+{
+    if count < states.len() {
+        cut_front(states, count);
+    } else {
+        begin_states(states);
+    }
+}
+
+// Removes so many registers in front.
+fn cut_front(states: &mut ArrayVec<u32, 4097>, count: usize)
+    requires { count ≤ array_vec_len states.old }
+    ensures { states.new.items ≡ drop count states.old.items }
+{
+    states.drain(..count);
+}
+
+// Leaves one register alone, that of a message that begins.
+pub fn begin_states(states: &mut ArrayVec<u32, 4097>)
+    ensures { (bytes : List ℕ) → AreStates bytes states.new.items }
+{
+    states.clear();
+    states.push(0);
+}
+
+// Whether the last three bytes are the checksum of those before them, by the registers before and after these.
+#[tactic(auto, unfolding(crate::specs::Frames::is_right))]
+pub fn has_right_checksum_by(before: u32, after: u32, frame: &[u8]) -> bool
+    requires before { before < 2 ^ 24 }
+    requires after { after ≡ crc_from before (take (length frame.now - 3) frame.now) }
+    requires shortest { 3 ≤ length frame.now }
+    requires longest { length frame.now ≤ 1029 }
+    ensures { result ≡ is_right frame.now }
+{
+    let end = frame.len() - 3;
+    after ^ shifted(before, end) == BigEndian::read_u24(&frame[end..])
+}

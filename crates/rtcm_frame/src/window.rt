@@ -1,0 +1,132 @@
+//! The bytes that a deframer holds.
+
+ghost use Rattle.std.specs.Prelude.{◌≡◌, ◌+◌, ◌<◌, ◌≤◌, [], ◌∷◌, ◌++◌, length, take, drop};
+ghost use Rattle.rtcm_frame.specs.Frames.{frame_size, is_right};
+
+use crate::form::{announced_within, has_right_checksum};
+use crate::states::{begin_states, cut_states, extend, has_right_checksum_by};
+use arrayvec::ArrayVec;
+use std::marker::Model;
+
+// How many bytes a window holds at most.
+const CAPACITY: usize = 4096;
+
+// The bytes, seen as their list. Beside the first of them stand the registers of the checksum: as far as a checksum by
+// itself was wrong, so that good frames never pay for them, and no byte is gone over twice.
+#[derive(Drop)]
+pub struct Window {
+    bytes: ArrayVec<u8, CAPACITY>,
+    // the register before each byte, up to some byte
+    states: ArrayVec<u32, 4097>,
+}
+
+impl Model for Window {
+    ghost use Rattle.std.specs.Prelude.{List, ℕ};
+    ghost use Rattle.rtcm_frame.specs.States.{AreStates};
+
+    ghost Value = { List ℕ };
+
+    ghost view = { λ w. w.bytes.items };
+
+    ghost invariant = { λ w. AreStates w.bytes.items w.states.items };
+}
+
+impl Window {
+    // A window of no bytes.
+    pub fn new() -> Self
+        ensures { result ≡ [] }
+    {
+        let mut states = ArrayVec::new();
+        begin_states(&mut states);
+        Window {
+            bytes: ArrayVec::new(),
+            states,
+        }
+    }
+
+    // How many bytes it holds.
+    pub fn len(&self) -> usize
+        ensures value { result ≡ length self.now }
+        ensures most { result ≤ 4096 }
+    {
+        self.bytes.len()
+    }
+
+    // The bytes.
+    pub fn bytes(&self) -> &[u8]
+        ensures { result.now ≡ self.now }
+    {
+        self.bytes.as_slice()
+    }
+
+    // Appends a byte.
+    pub fn push(&mut self, byte: u8)
+        requires { length self.old < 4096 }
+        ensures { self.new ≡ self.old ++ byte ∷ [] }
+    {
+        self.bytes.push(byte);
+    }
+
+    // Appends bytes, for which there is room.
+    pub fn append(&mut self, piece: &[u8])
+        requires { length self.old + length piece.now ≤ 4096 }
+        ensures { self.new ≡ self.old ++ piece.now }
+    {
+        if self.bytes.try_extend_from_slice(piece).is_err() {
+            unreachable!();
+        }
+    }
+
+    // Removes so many bytes in front.
+    pub fn cut_front(&mut self, count: usize)
+        requires { count ≤ length self.old }
+        ensures { self.new ≡ drop count self.old }
+    {
+        self.bytes.drain(..count);
+        cut_states(&mut self.states, count);
+    }
+
+    // Removes all bytes.
+    pub fn clear(&mut self)
+        ensures { self.new ≡ [] }
+    {
+        self.bytes.clear();
+        begin_states(&mut self.states);
+    }
+
+    // Whether the last three of these bytes are the checksum of those before.
+    pub fn is_right_at(&mut self, place: usize, size: usize) -> bool
+        requires inside { place + size ≤ length self.old }
+        requires shortest { 3 ≤ size }
+        requires longest { size ≤ 1029 }
+        ensures value { result ≡ is_right (take size (drop place self.old)) }
+        ensures same { self.new ≡ self.old }
+    {
+        if self.states.len() - 1 <= place
+            && has_right_checksum(&self.bytes.as_slice()[place..place + size])
+        {
+            return true;
+        }
+        extend(self.bytes.as_slice(), &mut self.states, place + size - 3);
+        let before = self.states.as_slice()[place];
+        let after = self.states.as_slice()[place + size - 3];
+        has_right_checksum_by(before, after, &self.bytes.as_slice()[place..place + size])
+    }
+
+    // The size of the frame that begins at this place, or 0 where none does.
+    pub fn size_at(&mut self, place: usize) -> usize
+        requires { place ≤ length self.old }
+        ensures value { result ≡ frame_size (drop place self.old) }
+        ensures same { self.new ≡ self.old }
+    {
+        let size = announced_within(&self.bytes()[place..]);
+        if size == 0 {
+            return 0;
+        }
+        if self.is_right_at(place, size) {
+            size
+        } else {
+            0
+        }
+    }
+}
