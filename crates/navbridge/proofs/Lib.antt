@@ -1,0 +1,7 @@
+mod Breakings
+mod Feeding
+mod Goings
+mod Jobs
+mod Numbers
+mod SoFar
+mod Spellings

@@ -1,0 +1,135 @@
+//! Whole jobs over memory: what they write, and their statuses.
+
+use crate::run::{BridgeFault, FrameCounts, run_frames};
+use crate::statuses::bridge;
+use nav_io::{MemSink, MemSource};
+use std::alloc::{AllocError, Global};
+use std::test::Fail;
+
+// A frame with no payload.
+const EMPTY_FRAME: &[u8] = &[0xd3, 0x00, 0x00, 0x47, 0xea, 0x4b];
+
+// The words, which are written with spaces between them.
+fn words_of(alloc: Global, text: &str) -> Result<Vec<String>, AllocError> {
+    let mut words = Vec::new(alloc);
+    for word in text.split_whitespace() {
+        words.push(String::from_str(alloc, word)?)?;
+    }
+    Ok(words)
+}
+
+// A source over these bytes, whole or in pieces of one byte.
+fn source_of(
+    alloc: Global,
+    bytes: &[u8],
+    is_cut: bool,
+    fails: &[u32],
+) -> Result<MemSource, AllocError> {
+    let mut cuts = Vec::new(alloc);
+    if is_cut {
+        for _ in bytes {
+            cuts.push(1)?;
+        }
+    }
+    Ok(MemSource::new(bytes.to_vec(alloc)?, cuts, fails.to_vec(alloc)?))
+}
+
+// A run of the job from a stream to frames: the status and what was written.
+fn frames_of(
+    alloc: Global,
+    mut input: MemSource,
+    fails: &[u32],
+) -> Result<(u8, MemSink), AllocError> {
+    let words = words_of(alloc, "--from stream --to frames")?;
+    let mut output = MemSink::new(alloc, 64, fails.to_vec(alloc)?)?;
+    let mut report = MemSink::new(alloc, 0, Vec::new(alloc))?;
+    let status = bridge(alloc, &words, &mut input, &mut output, &mut report);
+    Ok((status, output))
+}
+
+#[test]
+fn writes_a_line_for_each_frame(rt: HostRuntime) -> Result<(), Fail> {
+    let behind_a_start: &[u8] = &[0xd3, 0xd3, 0x00, 0x00, 0x47, 0xea, 0x4b];
+    let cut_off: &[u8] = &[0xd3, 0x00, 0x00, 0x47, 0xea];
+    let nothing: &[u8] = &[];
+    let cases: [(&[u8], &str); 4] = [
+        (EMPTY_FRAME, "- 0\n"),
+        (behind_a_start, "- 0\n"),
+        (cut_off, ""),
+        (nothing, ""),
+    ];
+    for (bytes, want) in cases {
+        for is_cut in [false, true] {
+            let input = source_of(rt.alloc(), bytes, is_cut, &[])?;
+            let (status, output) = frames_of(rt.alloc(), input, &[])?;
+            assert_eq!(rt; status, 0);
+            assert_eq!(rt; output.bytes(), want.as_bytes(), "{bytes:?}");
+        }
+    }
+    Ok(())
+}
+
+#[test]
+fn answers_faults_in_mid_stream(rt: HostRuntime) -> Result<(), Fail> {
+    let two = [EMPTY_FRAME, EMPTY_FRAME].concat(rt.alloc())?;
+    let failing_read = source_of(rt.alloc(), two.as_slice(), true, &[8])?;
+    let (status, output) = frames_of(rt.alloc(), failing_read, &[])?;
+    assert_eq!(rt; status, 3);
+    assert_eq!(rt; output.bytes(), b"- 0\n".as_slice());
+
+    let whole = source_of(rt.alloc(), two.as_slice(), false, &[])?;
+    let (status, output) = frames_of(rt.alloc(), whole, &[1])?;
+    assert_eq!(rt; status, 4);
+    assert_eq!(rt; output.bytes(), b"- 0\n".as_slice());
+    Ok(())
+}
+
+#[test]
+fn judges_the_words(rt: HostRuntime) -> Result<(), Fail> {
+    let cases = [
+        ("", 2),
+        ("--from stream", 2),
+        ("--from=stream --to=frames", 0),
+        ("--to frames --from=stream", 0),
+        ("--from stream --to frames --week 2295", 2),
+        ("--from stream --from stream --to frames", 2),
+        ("--from capture --to list --week 1023", 2),
+        ("--from stream --to frames --", 2),
+        ("--from stream --to -frames", 2),
+    ];
+    for (text, want) in cases {
+        let words = words_of(rt.alloc(), text)?;
+        let mut input = source_of(rt.alloc(), &[], false, &[])?;
+        let mut output = MemSink::new(rt.alloc(), 64, Vec::new(rt.alloc()))?;
+        let mut report = MemSink::new(rt.alloc(), 0, Vec::new(rt.alloc()))?;
+        let status = bridge(rt.alloc(), &words, &mut input, &mut output, &mut report);
+        assert_eq!(rt; status, want, "{text}");
+    }
+    Ok(())
+}
+
+#[test]
+fn counts_frames(rt: HostRuntime) -> Result<(), Fail> {
+    let mut input = source_of(rt.alloc(), EMPTY_FRAME, false, &[])?;
+    let mut output = MemSink::new(rt.alloc(), 64, Vec::new(rt.alloc()))?;
+    let counts = run_frames(&mut input, &mut output);
+    assert_eq!(rt; counts, Ok(FrameCounts { frames: 1 }));
+    Ok(())
+}
+
+#[test]
+fn names_its_faults(rt: HostRuntime) -> Result<(), Fail> {
+    let cases = [
+        (BridgeFault::ReadFault, "ReadFault"),
+        (BridgeFault::WriteFault, "WriteFault"),
+        (BridgeFault::ReportFault, "ReportFault"),
+        (BridgeFault::NotThisForm, "NotThisForm"),
+        (BridgeFault::TooLong, "TooLong"),
+        (BridgeFault::NoMemory, "NoMemory"),
+    ];
+    for (fault, want) in cases {
+        let text = fault.to_string(rt.alloc())?;
+        assert_eq!(rt; text.as_str(), want);
+    }
+    Ok(())
+}
