@@ -1,0 +1,42 @@
+//! Weeks, moments and dates of satellite navigation.
+//!
+//! GPS and Galileo count time in weeks and seconds of the week, without leap seconds, from the
+//! midnight that began 1980-01-06 (IS-GPS-200, 3.3.4; Galileo OS SIS ICD, 5.1.2). Their messages
+//! cut the count of weeks to ten and twelve binary digits, and leave the week of a time out where the
+//! reader is to take the nearest one. Here are
+//!
+//! - [`RefWeek`], [`Week`], [`Second`] and [`Moment`], numbers within their ranges;
+//! - [`gps_week`] and [`gal_week`], the weeks that cut numbers mean near a reference week;
+//! - [`nearest_moment`], the nearest moment with a second of the week;
+//! - [`civil`] and [`moment_of`], between moments and dates of the calendar.
+//!
+//! ```rust
+//! use gnss_week::{Civil, Moment, RefWeek, gps_week, moment_of};
+//! use nav_bits::U;
+//!
+//! let reference = RefWeek::new(2295).ok_or("a reference week")?;
+//! let week = gps_week(reference, U::from_digits(247));
+//! assert_eq!(rt; week.value(), 2295);
+//! let midnight = Civil { year: 2023, month: 12, day: 31, hour: 0, minute: 0, second: 0 };
+//! assert_eq!(rt; moment_of(&midnight)?.week(), 2295);
+//! ```
+#![tactic(auto)]
+
+mod calendar;
+mod dates;
+mod laws;
+mod moment;
+mod numbers;
+#[cfg(test)]
+mod tests;
+mod weeks;
+
+pub use crate::calendar::{Civil, WeekFault};
+pub use crate::dates::{civil, moment_of};
+pub use crate::laws::{
+    date_again, moment_again, one_answer, one_date, one_galileo_week, one_gps_week, one_moment,
+    one_nearest_moment,
+};
+pub use crate::moment::{Moment, Second};
+pub use crate::numbers::{RefWeek, Week};
+pub use crate::weeks::{gal_week, gps_week, nearest_moment};
