@@ -1,0 +1,57 @@
+-- What holds of ephemerides and of what is said of the ionosphere, and when two of them are alike.
+use Rattle.std.specs.Prelude.{◌≡◌, ℕ, pos, neg_ℤ, ◌≤ℤ◌}
+use Rattle.gnss_week.specs.Weeks.{IsWeek, week_of}
+use Rattle.nav_eph.specs.Satellite.{Satellite}
+use Rattle.nav_eph.specs.declared.sat.System.{System}
+use Rattle.nav_eph.specs.declared.sat.System.TheVariants.{Gps, Gal}
+use Rattle.nav_eph.specs.declared.gps.GpsOrbitA.{GpsOrbitA}
+use Rattle.nav_eph.specs.declared.gps.GpsOrbitB.{GpsOrbitB}
+use Rattle.nav_eph.specs.declared.galileo.GalWord1.{GalWord1}
+use Rattle.nav_eph.specs.declared.galileo.GalWord2.{GalWord2}
+use Rattle.nav_eph.specs.declared.galileo.GalWord3.{GalWord3}
+use Rattle.nav_eph.specs.declared.galileo.GalWord4.{GalWord4}
+use Rattle.nav_eph.specs.declared.ion.IonContent.{IonContent}
+use Rattle.nav_eph.specs.declared.ion.IonContent.TheVariants.{Gps as OfGps, Gal as OfGal}
+use Rattle.nav_eph.specs.declared.items.SentSecond.{SentSecond}
+use Rattle.nav_eph.specs.declared.items.SentSecond.TheVariants.{Unknown, At}
+use Rattle.nav_eph.specs.declared.items.NavItem.{NavItem}
+use Rattle.nav_eph.specs.declared.items.NavItem.TheVariants.{Gps as GpsItem, Gal as GalItem, Ion as IonItem}
+
+-- a known second of sending lies from half a week before the week of toe to half a week after it
+abbrev pub IsSentSecond : SentSecond → Type 0
+IsSentSecond Unknown = Unit {0}
+IsSentSecond (At second) = (neg_ℤ (pos 302400) ≤ℤ second) × (second ≤ℤ pos 907199)
+
+-- the satellite is one of GPS, and both halves of the orbit are of one issue
+pub record IsGpsEph (sat : Satellite) (a : GpsOrbitA) (b : GpsOrbitB) (sent : SentSecond) : Type 0 where
+  pub system : sat.system ≡ Gps
+  pub issue : a.iode ≡ b.iode
+  pub second : IsSentSecond sent
+
+-- the satellite is one of Galileo, and the four words are of one issue
+pub record IsGalEph (sat : Satellite) (w1 : GalWord1) (w2 : GalWord2) (w3 : GalWord3) (w4 : GalWord4) (sent : SentSecond) : Type 0 where
+  pub system : sat.system ≡ Gal
+  pub issue2 : w2.iodnav ≡ w1.iodnav
+  pub issue3 : w3.iodnav ≡ w1.iodnav
+  pub issue4 : w4.iodnav ≡ w1.iodnav
+  pub second : IsSentSecond sent
+
+-- the system whose satellites say it
+abbrev pub content_system : IonContent → System
+content_system (OfGps ionosphere) = Gps
+content_system (OfGal ionosphere) = Gal
+
+-- the satellite is of the content's system, and the moment lies in a week that a value may name
+pub record IsIonEph (sat : Satellite) (moment : ℕ) (content : IonContent) : Type 0 where
+  pub system : sat.system ≡ content_system content
+  pub week : IsWeek (week_of moment)
+
+-- the item with no time of sending
+abbrev pub unsent : NavItem → NavItem
+unsent (GpsItem e) = GpsItem (record e { sent = Unknown })
+unsent (GalItem e) = GalItem (record e { sent = Unknown })
+unsent (IonItem e) = IonItem e
+
+-- the two are equal in every field but the time of sending
+abbrev pub IsAlike : NavItem → NavItem → Type 0
+IsAlike a b = unsent a ≡ unsent b

@@ -1,0 +1,7 @@
+pub mod Bodies
+pub mod Conditions
+pub mod Digits
+pub mod Items
+pub mod Numbers
+pub mod Satellite
+pub mod Steps

@@ -1,0 +1,260 @@
+ghost use Rattle.std.specs.Prelude.{◌≡◌, ℕ, ◌↔◌, IsSome, IfSome, IsTrue};
+ghost use Rattle.nav_eph.specs.Items.{IsAlike, IsGalEph, IsGpsEph, IsIonEph, IsSentSecond, unsent};
+
+use crate::galileo::{GalHealth, GalWord1, GalWord2, GalWord3, GalWord4};
+use crate::gps::{GpsClock, GpsOrbitA, GpsOrbitB, GpsSide};
+use crate::ion::IonContent;
+use crate::same::{same_gal, same_gps, same_ion};
+use crate::sat::{Sat, System};
+use gnss_week::{Moment, Week};
+use nav_bits::U;
+
+/// When an ephemeris was sent.
+#[derive(Clone, Copy, PartialEq, Eq, Debug)]
+pub enum SentSecond {
+    /// It is not known.
+    Unknown,
+    /// So many seconds after the start of the week of its toe, -302,400 to 907,199.
+    At(i32),
+}
+
+/// An ephemeris of GPS.
+#[derive(Clone, Copy, PartialEq, Eq, Debug)]
+pub struct GpsEph {
+    /// The satellite, of GPS.
+    pub sat: Sat,
+    /// Its clock.
+    pub clock: GpsClock,
+    /// What stands beside the clock.
+    pub side: GpsSide,
+    /// The first half of its orbit.
+    pub a: GpsOrbitA,
+    /// The fit interval flag (IS-GPS-200, 20.3.3.4.3.1).
+    pub fit: U<1>,
+    /// The second half of its orbit, of the same issue.
+    pub b: GpsOrbitB,
+    /// The week of toe, counted from 1980-01-06.
+    pub toe_week: Week,
+    /// When it was sent.
+    pub sent: SentSecond,
+}
+
+/// An ephemeris of Galileo.
+#[derive(Clone, Copy, PartialEq, Eq, Debug)]
+pub struct GalEph {
+    /// The satellite, of Galileo.
+    pub sat: Sat,
+    /// The first part of its orbit.
+    pub w1: GalWord1,
+    /// The second part, of the same issue.
+    pub w2: GalWord2,
+    /// The third part, of the same issue.
+    pub w3: GalWord3,
+    /// The last part and the clock, of the same issue.
+    pub w4: GalWord4,
+    /// Its delays and health.
+    pub health: GalHealth,
+    /// The week of toe, counted from 1980-01-06.
+    pub toe_week: Week,
+    /// When it was sent.
+    pub sent: SentSecond,
+}
+
+/// What a satellite says of the ionosphere, and when.
+#[derive(Clone, Copy, PartialEq, Eq, Debug)]
+pub struct IonEph {
+    /// The satellite, of the content's system.
+    pub sat: Sat,
+    /// When it was sent, in week 1 to 16382.
+    pub moment: Moment,
+    /// What it says.
+    pub content: IonContent,
+}
+
+/// One item of a list of broadcast navigation data.
+#[derive(Clone, Copy, PartialEq, Eq, Debug)]
+pub enum NavItem {
+    /// An ephemeris of GPS.
+    Gps(GpsEph),
+    /// An ephemeris of Galileo.
+    Gal(GalEph),
+    /// The ionosphere.
+    Ion(IonEph),
+}
+
+// A known second of sending lies from half a week before the week of toe to half a week after it.
+fn is_sent_second(sent: &SentSecond) -> bool
+    ensures { IsTrue result ↔ IsSentSecond sent.now }
+{
+    match sent {
+        SentSecond::Unknown => true,
+        SentSecond::At(second) => *second >= -302_400 && *second <= 907_199,
+    }
+}
+
+impl GpsEph {
+    /// The ephemeris of these fields; `None` where the satellite is not one of GPS, the two halves of
+    /// the orbit have different issues, or `sent` is out of range.
+    pub fn new(
+        sat: Sat,
+        clock: GpsClock,
+        side: GpsSide,
+        a: GpsOrbitA,
+        fit: U<1>,
+        b: GpsOrbitB,
+        toe_week: Week,
+        sent: SentSecond,
+    ) -> Option<Self>
+        ensures exactly { IsSome result ↔ IsGpsEph sat a b sent }
+        ensures same { IfSome result (λ e. e ≡ record {
+          sat = sat;
+          clock = clock;
+          side = side;
+          a = a;
+          fit = fit;
+          b = b;
+          toe_week = toe_week;
+          sent = sent;
+        }) }
+    {
+        if sat.system() != System::Gps {
+            return None;
+        }
+        if a.iode.value() != b.iode.value() {
+            return None;
+        }
+        if !is_sent_second(&sent) {
+            return None;
+        }
+        Some(GpsEph {
+            sat,
+            clock,
+            side,
+            a,
+            fit,
+            b,
+            toe_week,
+            sent,
+        })
+    }
+}
+
+impl GalEph {
+    /// The ephemeris of these fields; `None` where the satellite is not one of Galileo, the four words
+    /// have different issues, or `sent` is out of range.
+    pub fn new(
+        sat: Sat,
+        w1: GalWord1,
+        w2: GalWord2,
+        w3: GalWord3,
+        w4: GalWord4,
+        health: GalHealth,
+        toe_week: Week,
+        sent: SentSecond,
+    ) -> Option<Self>
+        ensures exactly { IsSome result ↔ IsGalEph sat w1 w2 w3 w4 sent }
+        ensures same { IfSome result (λ e. e ≡ record {
+          sat = sat;
+          w1 = w1;
+          w2 = w2;
+          w3 = w3;
+          w4 = w4;
+          health = health;
+          toe_week = toe_week;
+          sent = sent;
+        }) }
+    {
+        if sat.system() != System::Gal {
+            return None;
+        }
+        let issue = w1.iodnav.value();
+        if w2.iodnav.value() != issue {
+            return None;
+        }
+        if w3.iodnav.value() != issue {
+            return None;
+        }
+        if w4.iodnav.value() != issue {
+            return None;
+        }
+        if !is_sent_second(&sent) {
+            return None;
+        }
+        Some(GalEph {
+            sat,
+            w1,
+            w2,
+            w3,
+            w4,
+            health,
+            toe_week,
+            sent,
+        })
+    }
+}
+
+impl IonEph {
+    /// The ionosphere of these fields; `None` where the satellite is not of the content's system, or
+    /// the moment is in week 0 or 16383.
+    pub fn new(sat: Sat, moment: Moment, content: IonContent) -> Option<Self>
+        ensures exactly { IsSome result ↔ IsIonEph sat moment content }
+        ensures same { IfSome result (λ e. e ≡ record {
+          sat = sat;
+          moment = moment;
+          content = content;
+        }) }
+    {
+        if sat.system() != content.system() {
+            return None;
+        }
+        if moment.week() < 1 {
+            return None;
+        }
+        if moment.week() > 16_382 {
+            return None;
+        }
+        Some(IonEph {
+            sat,
+            moment,
+            content,
+        })
+    }
+}
+
+impl NavItem {
+    /// It equals another in every field.
+    pub fn is_same(&self, other: &NavItem) -> bool
+        ensures { IsTrue result ↔ (self.now ≡ other.now) }
+    {
+        match (self, other) {
+            (NavItem::Gps(a), NavItem::Gps(b)) => same_gps(a, b),
+            (NavItem::Gal(a), NavItem::Gal(b)) => same_gal(a, b),
+            (NavItem::Ion(a), NavItem::Ion(b)) => same_ion(a, b),
+            _ => false,
+        }
+    }
+
+    // The item with no time of sending.
+    fn without_sending(&self) -> NavItem
+        ensures { result ≡ unsent self.now }
+    {
+        match self {
+            NavItem::Gps(e) => NavItem::Gps(GpsEph {
+                sent: SentSecond::Unknown,
+                ..*e
+            }),
+            NavItem::Gal(e) => NavItem::Gal(GalEph {
+                sent: SentSecond::Unknown,
+                ..*e
+            }),
+            NavItem::Ion(e) => NavItem::Ion(*e),
+        }
+    }
+
+    /// It equals another in every field but the time of sending.
+    pub fn is_alike(&self, other: &NavItem) -> bool
+        ensures { IsTrue result ↔ IsAlike self.now other.now }
+    {
+        self.without_sending().is_same(&other.without_sending())
+    }
+}

@@ -1,0 +1,49 @@
+ghost use Rattle.std.specs.Prelude.{◌≡◌, ℕ};
+ghost use Rattle.gnss_week.specs.Weeks.{IsSecond};
+ghost use Rattle.nav_eph.specs.Bodies.{IsGalHealth, IsGalIon, IsGpsIon, IsGpsSide, IsSentTag};
+ghost use Rattle.nav_eph.specs.Numbers.{gal_ion_number, gal_sending, gps_ion_number, gps_sending, health_number, side_number, tag_number};
+ghost use Rattle.nav_eph.specs.declared.gps.GpsSide.{GpsSide};
+ghost use Rattle.nav_eph.specs.declared.galileo.GalHealth.{GalHealth};
+ghost use Rattle.nav_eph.specs.declared.ion.GpsIon.{GpsIon};
+ghost use Rattle.nav_eph.specs.declared.ion.GalIon.{GalIon};
+ghost use Rattle.nav_eph.specs.declared.tag.SentTag.{SentTag};
+
+/// No two sides have the same number.
+pub fn one_side()
+    ensures { (a b : GpsSide) → IsGpsSide a → IsGpsSide b → side_number a ≡ side_number b → a ≡ b }
+{}
+
+/// No two tags have the same number.
+pub fn one_tag()
+    ensures { (a b : SentTag) → IsSentTag a → IsSentTag b → tag_number a ≡ tag_number b → a ≡ b }
+{}
+
+/// No two healths of Galileo with their tags have the same number.
+pub fn one_health_and_tag()
+    ensures { (a b : GalHealth) (s t : SentTag) →
+        IsGalHealth a → IsGalHealth b → IsSentTag s → IsSentTag t →
+        health_number a s ≡ health_number b t → (a ≡ b) × (s ≡ t) }
+{}
+
+/// No two contents of the GPS ionosphere have the same number.
+pub fn one_gps_ionosphere()
+    ensures { (a b : GpsIon) → IsGpsIon a → IsGpsIon b →
+        gps_ion_number a ≡ gps_ion_number b → a ≡ b }
+{}
+
+/// No two contents of the Galileo ionosphere have the same number.
+pub fn one_galileo_ionosphere()
+    ensures { (a b : GalIon) → IsGalIon a → IsGalIon b →
+        gal_ion_number a ≡ gal_ion_number b → a ≡ b }
+{}
+
+/// No two times at which the ionosphere of GPS was sent have the same number.
+pub fn one_gps_sending()
+    ensures { (s t : ℕ) → gps_sending s ≡ gps_sending t → s ≡ t }
+{}
+
+/// No two times at which the ionosphere of Galileo was sent have the same number.
+pub fn one_galileo_sending()
+    ensures { (v w s t : ℕ) → IsSecond s → IsSecond t →
+        gal_sending v s ≡ gal_sending w t → (v ≡ w) × (s ≡ t) }
+{}

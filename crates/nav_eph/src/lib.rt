@@ -1,0 +1,50 @@
+//! The values of broadcast ephemerides and of the broadcast ionosphere.
+//!
+//! GPS sends an ephemeris in three subframes (IS-GPS-200, 20.3.3), Galileo in four words and its health
+//! in a fifth (Galileo OS SIS ICD, 4.3.5), each parameter as a whole number of some binary digits. Here
+//! these numbers are kept as they were sent, unscaled:
+//!
+//! - [`Body`], what one subframe, word or message brings, and [`Part`], a body with its satellite and
+//!   the time at which it was heard;
+//! - [`GpsEph`], [`GalEph`] and [`IonEph`], whole values, and [`NavItem`], one of these;
+//! - [`Sat`], [`SentTag`] and the small numbers [`Step16`], [`Step60`] and [`Sisa`].
+//!
+//! A constructor answers `None` exactly where what it is given does not fit together. Where one of
+//! several values is to be chosen, they are compared by their numbers, which `number` gives.
+//!
+//! ```rust
+//! use nav_eph::{Sat, System};
+//!
+//! let first = Sat::new(System::Gps, 32).ok_or("a satellite")?;
+//! let second = Sat::new(System::Gal, 1).ok_or("a satellite")?;
+//! assert!(rt; first < second);
+//! assert!(rt; Sat::new(System::Gps, 33).is_none());
+//! ```
+#![tactic(auto)]
+
+mod digits;
+mod galileo;
+mod gps;
+mod ion;
+mod items;
+mod laws;
+mod part;
+mod same;
+mod sat;
+mod steps;
+mod tag;
+#[cfg(test)]
+mod tests;
+
+pub use crate::galileo::{GalHealth, GalWord1, GalWord2, GalWord3, GalWord4};
+pub use crate::gps::{GpsClock, GpsOrbitA, GpsOrbitB, GpsSide};
+pub use crate::ion::{GalIon, GpsIon, IonContent};
+pub use crate::items::{GalEph, GpsEph, IonEph, NavItem, SentSecond};
+pub use crate::laws::{
+    one_galileo_ionosphere, one_galileo_sending, one_gps_ionosphere, one_gps_sending,
+    one_health_and_tag, one_side, one_tag,
+};
+pub use crate::part::{Body, Part};
+pub use crate::sat::{Sat, System};
+pub use crate::steps::{Sisa, Step16, Step60};
+pub use crate::tag::{SentTag, gal_sending_number, gps_sending_number};

@@ -1,0 +1,94 @@
+ghost use Rattle.std.specs.Prelude.{◌≡◌, ℕ, ◌<◌, ◌↔◌, IsSome, IfSome, IsTrue};
+ghost use Rattle.nav_eph.specs.Conditions.{HasGpsWeek, IsPart, system_of};
+
+use crate::galileo::{GalHealth, GalWord1, GalWord2, GalWord3, GalWord4};
+use crate::gps::{GpsClock, GpsOrbitA, GpsOrbitB, GpsSide};
+use crate::ion::{GalIon, GpsIon};
+use crate::sat::{Sat, System};
+use crate::tag::SentTag;
+use gnss_week::Second;
+use nav_bits::U;
+
+/// What one subframe, word or message brings of an ephemeris or of the ionosphere.
+#[derive(Clone, Copy, PartialEq, Eq, Debug)]
+pub enum Body {
+    /// The clock of GPS, what stands beside it, and when it was sent.
+    GpsClock(GpsClock, GpsSide, SentTag),
+    /// The first half of the orbit of GPS, and the fit interval flag.
+    GpsA(GpsOrbitA, U<1>),
+    /// The second half of the orbit of GPS.
+    GpsB(GpsOrbitB),
+    /// Word 1 of Galileo.
+    GalW1(GalWord1),
+    /// Word 2 of Galileo.
+    GalW2(GalWord2),
+    /// Word 3 of Galileo.
+    GalW3(GalWord3),
+    /// Word 4 of Galileo.
+    GalW4(GalWord4),
+    /// Delays and health of Galileo, and when they were sent.
+    GalHealth(GalHealth, SentTag),
+    /// The ionosphere of GPS, and the second of the week at which it was sent.
+    GpsIon(GpsIon, Second),
+    /// The ionosphere of Galileo, and the week number and the second at which it was sent.
+    GalIon(GalIon, U<12>, Second),
+}
+
+impl Body {
+    /// The system whose satellites send it.
+    pub fn system(&self) -> System
+        ensures { result ≡ system_of self.now }
+    {
+        match self {
+            Body::GpsClock(_, _, _) => System::Gps,
+            Body::GpsA(_, _) => System::Gps,
+            Body::GpsB(_) => System::Gps,
+            Body::GalW1(_) => System::Gal,
+            Body::GalW2(_) => System::Gal,
+            Body::GalW3(_) => System::Gal,
+            Body::GalW4(_) => System::Gal,
+            Body::GalHealth(_, _) => System::Gal,
+            Body::GpsIon(_, _) => System::Gps,
+            Body::GalIon(_, _, _) => System::Gal,
+        }
+    }
+}
+
+/// A part of an ephemeris or of the ionosphere, as it was heard.
+#[derive(Clone, Copy, PartialEq, Eq, Debug)]
+pub struct Part {
+    /// The second at which it was heard, as the logger counts.
+    pub stamp: u32,
+    /// Who sent it.
+    pub sat: Sat,
+    /// What it brings.
+    pub body: Body,
+}
+
+// The week number that a tag of GPS bears has its ten digits.
+fn has_gps_week(body: &Body) -> bool
+    ensures { IsTrue result ↔ HasGpsWeek body.now }
+{
+    match body {
+        Body::GpsClock(_, _, SentTag::Sent { wn, second: _ }) => wn.value() < 1_024,
+        Body::GpsClock(_, _, SentTag::Toe { wn, second: _ }) => wn.value() < 1_024,
+        _ => true,
+    }
+}
+
+impl Part {
+    /// The part heard at that second; `None` where the satellite is not of the body's system, or the
+    /// week number of a tag of GPS has more than ten digits.
+    pub fn new(stamp: u32, sat: Sat, body: Body) -> Option<Self>
+        ensures exactly { IsSome result ↔ IsPart sat body }
+        ensures same { IfSome result (λ p. p ≡ record { stamp = stamp; sat = sat; body = body }) }
+    {
+        if sat.system() != body.system() {
+            return None;
+        }
+        if !has_gps_week(&body) {
+            return None;
+        }
+        Some(Part { stamp, sat, body })
+    }
+}
