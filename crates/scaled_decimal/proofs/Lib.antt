@@ -1,0 +1,14 @@
+pub mod NearestLemmas
+pub mod PowerLemmas
+pub mod PlaceLemmas
+pub mod PartsLemmas
+pub mod InReachLemmas
+pub mod SpanLemmas
+pub mod TextLemmas
+pub mod ColumnLemmas
+pub mod SizeLemmas
+pub mod BlankLemmas
+pub mod PrintLemmas
+pub mod FillLemmas
+pub mod WalkLemmas
+pub mod ReadLemmas

@@ -1,0 +1,5 @@
+pub mod Fractions
+pub mod ScaleValue
+pub mod NumberText
+pub mod NumberReading
+pub mod Mirrors

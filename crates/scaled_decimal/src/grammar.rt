@@ -1,0 +1,197 @@
+//! The grammar of decimal texts: a sign, digits with a point, and an exponent.
+
+ghost use Rattle.std.specs.Prelude.{◌≡◌, ◌+◌, ◌^◌, ◌<◌, ◌≤◌, ◌≤ℤ◌, pos, negsuc, length, MatchOption, Some, None};
+ghost use Rattle.scaled_decimal.specs.Mirrors.{IsExponentRead, IsDecimalRead};
+ghost use Rattle.scaled_decimal.specs.NumberReading.{trim_start, trim_end, is_decimal, span, mantissa, exponent_digits, signed_exponent, exponent_after, reading, decimal_of};
+
+/// Digits that were read: their number, how many they are, and what follows.
+#[derive(Clone, Copy)]
+struct Span<'a> {
+    number: u64,
+    count: usize,
+    rest: &'a [u8],
+}
+
+/// Digits with at most one point: the number without the point, how many digits, how many after the point, what follows.
+#[derive(Clone, Copy)]
+struct Mantissa<'a> {
+    number: u64,
+    count: usize,
+    places: usize,
+    rest: &'a [u8],
+}
+
+/// The value of a text: digits x 10^exponent, below 0 where `minus` is set.
+#[derive(Clone, Copy)]
+pub(crate) struct Decimal {
+    pub(crate) minus: bool,
+    pub(crate) digits: u64,
+    pub(crate) exponent: i32,
+}
+
+/// The text without the blanks before it.
+fn trim_start(text: &[u8]) -> &[u8]
+    ensures value { result.now ≡ trim_start text.now }
+    ensures shorter { length result.now ≤ length text.now }
+{
+    for start in 0..text.len() {
+        if text[start] != b' ' {
+            return &text[start..];
+        }
+    }
+    &text[text.len()..]
+}
+
+/// The text without the blanks after it.
+fn trim_end(text: &[u8]) -> &[u8]
+    ensures value { result.now ≡ trim_end text.now }
+    ensures shorter { length result.now ≤ length text.now }
+{
+    let mut end = text.len();
+    while end > 0 {
+        if text[end - 1] != b' ' {
+            return &text[..end];
+        }
+        end -= 1;
+    }
+    &text[..0]
+}
+
+/// The text without the blanks at its ends.
+pub(crate) fn trimmed(text: &[u8]) -> &[u8]
+    ensures value { result.now ≡ trim_end (trim_start text.now) }
+    ensures shorter { length result.now ≤ length text.now }
+{
+    trim_end(trim_start(text))
+}
+
+fn is_decimal(c: u8) -> bool
+    ensures { result ≡ is_decimal c }
+{
+    c.is_ascii_digit()
+}
+
+// Digits at the front of a text, going on from a number of `count` digits.
+fn read_digits(number: u64, count: usize, text: &[u8]) -> Span<'_>
+    requires number { number < 10 ^ count }
+    requires count { count + length text.now ≤ 19 }
+    ensures read { record { number = result.number; count = result.count; rest = result.rest.now } ≡ span number count text.now }
+    ensures number { result.number < 10 ^ result.count }
+    ensures count { result.count + length result.rest.now ≡ count + length text.now }
+    ensures more { count ≤ result.count }
+{
+    let mut number = number;
+    for place in 0..text.len() {
+        let c = text[place];
+        if !is_decimal(c) {
+            return Span {
+                number,
+                count: count + place,
+                rest: &text[place..],
+            };
+        }
+        number = number * 10 + u64::from(c - b'0');
+    }
+    Span {
+        number,
+        count: count + text.len(),
+        rest: &text[text.len()..],
+    }
+}
+
+// Digits with at most one point, at the front of a text.
+fn read_mantissa(text: &[u8]) -> Mantissa<'_>
+    requires { length text.now ≤ 19 }
+    ensures read { record { number = result.number; count = result.count; places = result.places; rest = result.rest.now } ≡ mantissa text.now }
+    ensures number { result.number < 10 ^ result.count }
+    ensures places { result.places ≤ 19 }
+    ensures rest { length result.rest.now ≤ 19 }
+{
+    let whole = read_digits(0, 0, text);
+    match whole.rest {
+        [b'.', rest @ ..] => {
+            let all = read_digits(whole.number, whole.count, rest);
+            Mantissa {
+                number: all.number,
+                count: all.count,
+                places: all.count - whole.count,
+                rest: all.rest,
+            }
+        }
+        _ => Mantissa {
+            number: whole.number,
+            count: whole.count,
+            places: 0,
+            rest: whole.rest,
+        },
+    }
+}
+
+// One to three digits to the end of a text.
+fn exponent_digits(minus: bool, text: &[u8]) -> Option<i32>
+    requires { length text.now ≤ 19 }
+    ensures { MatchOption result (exponent_digits minus text.now ≡ None) (λ e. (exponent_digits minus text.now ≡ Some e) × IsExponentRead e) }
+{
+    let digits = read_digits(0, 0, text);
+    if digits.rest.is_empty() && digits.count >= 1 && digits.count <= 3 {
+        let exponent = digits.number as i32;
+        Some(if minus { -exponent } else { exponent })
+    } else {
+        None
+    }
+}
+
+// An exponent with a sign or none.
+fn signed_exponent(text: &[u8]) -> Option<i32>
+    requires { length text.now ≤ 19 }
+    ensures { MatchOption result (signed_exponent text.now ≡ None) (λ e. (signed_exponent text.now ≡ Some e) × IsExponentRead e) }
+{
+    match text {
+        [] => None,
+        [b'-', rest @ ..] => exponent_digits(true, rest),
+        [b'+', rest @ ..] => exponent_digits(false, rest),
+        _ => exponent_digits(false, text),
+    }
+}
+
+// The exponent that follows a mantissa, 0 where nothing does.
+fn exponent_after(text: &[u8]) -> Option<i32>
+    requires { length text.now ≤ 19 }
+    ensures { MatchOption result (exponent_after text.now ≡ None) (λ e. (exponent_after text.now ≡ Some e) × IsExponentRead e) }
+{
+    match text {
+        [] => Some(0),
+        [b'D' | b'd' | b'E' | b'e', rest @ ..] => signed_exponent(rest),
+        _ => None,
+    }
+}
+
+// The value of a text without a sign.
+fn reading(minus: bool, text: &[u8]) -> Option<Decimal>
+    requires { length text.now ≤ 19 }
+    ensures { MatchOption result (reading text.now ≡ None) (λ d. (reading text.now ≡ Some (record { digits = d.digits; exponent = d.exponent })) × IsDecimalRead d.digits d.exponent × (d.minus ≡ minus)) }
+{
+    let mantissa = read_mantissa(text);
+    if mantissa.count < 1 || mantissa.count > 18 {
+        return None;
+    }
+    let exponent = exponent_after(mantissa.rest)?;
+    Some(Decimal {
+        minus,
+        digits: mantissa.number,
+        exponent: exponent - mantissa.places as i32,
+    })
+}
+
+/// The value of a text without blanks at its ends; None where it is not in the grammar.
+pub(crate) fn decimal_of(text: &[u8]) -> Option<Decimal>
+    requires { length text.now ≤ 19 }
+    ensures { MatchOption result (decimal_of text.now ≡ None) (λ d. (decimal_of text.now ≡ Some (record { minus = d.minus; value = record { digits = d.digits; exponent = d.exponent } })) × IsDecimalRead d.digits d.exponent) }
+{
+    match text {
+        [] => None,
+        [b'-', rest @ ..] => reading(true, rest),
+        [b'+', rest @ ..] => reading(false, rest),
+        _ => reading(false, text),
+    }
+}

@@ -1,0 +1,30 @@
+//! Numbers at a scale as decimal texts of 19 columns, and back (RINEX 4.01, navigation records, D19.12).
+//!
+//! A broadcast field is a whole number at a scale, as the mean anomaly at pi x 2^-31 rad (IS-GPS-200, 20.3.3.4.3). Its
+//! text has thirteen digits, correctly rounded, halves to even; a text is read as the whole number nearest to its value
+//! divided by the scale, halves to even. Both are exact: no floating point is used. The text of a number is read as that
+//! number, at each scale that [`Scale::new`] accepts.
+//!
+//! ```rust
+//! let mean_anomaly = Scale { pi: true, factor: 1, two: -31, ten: 0 };
+//! assert_eq!(rt; print(1, &mean_anomaly), *b" 1.462918079267D-09");
+//! assert_eq!(rt; read(b"1.462918079267E-9", &mean_anomaly, -2_147_483_648, 2_147_483_647)?, 1);
+//! ```
+#![tactic(auto)]
+
+mod fractions;
+mod grammar;
+mod laws;
+mod printing;
+mod reading;
+mod scales;
+#[cfg(test)]
+mod tests;
+
+pub use crate::laws::{
+    accepted_scales_are_scales, one_number_is_nearest, one_text, texts_are_read, texts_are_seen,
+    texts_stand,
+};
+pub use crate::printing::print;
+pub use crate::reading::{DecimalFault, read};
+pub use crate::scales::Scale;

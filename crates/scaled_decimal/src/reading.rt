@@ -1,0 +1,150 @@
+//! Reading a decimal text as a number at a scale.
+
+ghost use Rattle.std.specs.Prelude.{◌≡◌, ◌+◌, ◌*◌, ◌^◌, ◌<◌, ◌≤◌, ◌⊎◌, ◌+ℤ◌, ◌≤ℤ◌, pos, negsuc, length, SomeIff, MatchOption};
+ghost use Rattle.scaled_decimal.specs.Fractions.{IsNearest, nearest_to, ten_to};
+ghost use Rattle.scaled_decimal.specs.ScaleValue.{size_of, AreWithin};
+ghost use Rattle.scaled_decimal.specs.Mirrors.{IsDecimalRead};
+ghost use Rattle.scaled_decimal.specs.NumberReading.{at_size, signed, seen, number, read_of};
+
+use crate::fractions::{nearest, ratio_of};
+use crate::grammar::{Decimal, decimal_of, trimmed};
+use crate::scales::Scale;
+use thiserror::Error;
+
+/// Why a text gives no number, in the order in which it is judged.
+#[derive(Clone, Copy, Debug, PartialEq, Eq, Error)]
+pub enum DecimalFault {
+    /// Blanks alone, or nothing.
+    #[error("blank")]
+    Blank,
+    /// Not a decimal number.
+    #[error("not a number")]
+    NotANumber,
+    /// The nearest whole number is not within the range.
+    #[error("out of range")]
+    OutOfRange,
+}
+
+// The greatest number, without its sign.
+const GREATEST: u128 = 4_294_967_295;
+
+// digits x 10^up x under; None where that has more than 128 bits.
+fn wide_product(digits: u128, up: u32, under: u128) -> Option<u128>
+    ensures { SomeIff result (digits * 10 ^ up * under < 2 ^ 128) (digits * 10 ^ up * under) }
+{
+    if digits == 0 || under == 0 {
+        return Some(0);
+    }
+    let power = 10u128.checked_pow(up)?;
+    digits.checked_mul(power)?.checked_mul(under)
+}
+
+// The whole number nearest to digits x 10^up / 10^down divided by a ratio; None only where it is above 2^32.
+fn nearest_at(digits: u64, up: u32, down: u32, over: u128, under: u128) -> Option<u128>
+    requires digits { digits < 10 ^ 18 }
+    requires one { (up ≡ 0) ⊎ (down ≡ 0) }
+    requires over { 0 < over }
+    requires most { 4294967296 * over ≤ 10 ^ 37 }
+    requires some { 0 < under }
+    requires under { under ≤ 2 ^ 59 }
+    ensures { MatchOption result (8589934592 * (over * 10 ^ down) < digits * 10 ^ up * under)
+        (λ n. IsNearest (record { over = digits * 10 ^ up * under; under = over * 10 ^ down }) n) }
+{
+    match (
+        wide_product(u128::from(digits), up, under),
+        wide_product(over, down, 1),
+    ) {
+        (Some(wide), Some(size)) => Some(nearest(wide, size)),
+        (None, _) => None,
+        (_, None) => Some(0),
+    }
+}
+
+// The powers of ten, up and down, of an exponent.
+fn shifts(exponent: i32) -> (u32, u32)
+    requires from { negsuc 99999 ≤ℤ exponent }
+    requires to { exponent ≤ℤ pos 99999 }
+    ensures over { (ten_to exponent).over ≡ 10 ^ result.0 }
+    ensures under { (ten_to exponent).under ≡ 10 ^ result.1 }
+    ensures one { (result.0 ≡ 0) ⊎ (result.1 ≡ 0) }
+{
+    if exponent < 0 {
+        (0, exponent.unsigned_abs())
+    } else {
+        (exponent.unsigned_abs(), 0)
+    }
+}
+
+// The whole number nearest to a value divided by a scale, without its sign; None only where it is above 2^32.
+fn value_at(decimal: &Decimal, scale: &Scale) -> Option<u128>
+    requires decimal { IsDecimalRead decimal.now.digits decimal.now.exponent }
+    requires scale { AreWithin scale.now.factor scale.now.two scale.now.ten }
+    ensures { let value = at_size (size_of scale.now) (record { digits = decimal.now.digits; exponent = decimal.now.exponent }) in MatchOption result (4294967295 < nearest_to value) (λ n. n ≡ nearest_to value) }
+{
+    let size = ratio_of(scale);
+    let (up, down) = shifts(decimal.exponent + 20);
+    nearest_at(decimal.digits, up, down, size.over, size.under)
+}
+
+// The same; None exactly where it is above the greatest number.
+fn magnitude(decimal: &Decimal, scale: &Scale) -> Option<u64>
+    requires decimal { IsDecimalRead decimal.now.digits decimal.now.exponent }
+    requires scale { AreWithin scale.now.factor scale.now.two scale.now.ten }
+    ensures { let value = at_size (size_of scale.now) (record { digits = decimal.now.digits; exponent = decimal.now.exponent }) in MatchOption result (4294967295 < nearest_to value) (λ n. (n ≡ nearest_to value) × (n ≤ 4294967295)) }
+{
+    let number = value_at(decimal, scale)?;
+    if number > GREATEST {
+        return None;
+    }
+    Some(number as u64)
+}
+
+fn signed(minus: bool, number: u64) -> i64
+    requires { number < 2 ^ 63 }
+    ensures { result ≡ signed minus number }
+{
+    let number = number as i64;
+    if minus { -number } else { number }
+}
+
+fn within(nearest: i64, low: i64, high: i64) -> Result<i64, DecimalFault>
+    ensures { result ≡ read_of low high (number nearest) }
+{
+    if nearest < low {
+        return Err(DecimalFault::OutOfRange);
+    }
+    if nearest > high {
+        return Err(DecimalFault::OutOfRange);
+    }
+    Ok(nearest)
+}
+
+/// The number that a text says at a scale, within a range from `low` to `high`: the whole number nearest to the text's
+/// value divided by the scale, halves to even (RINEX 4.01, navigation records, D19.12).
+///
+/// Blanks at both ends are dropped. The text is then a sign or none; digits, with at most one point among, before or
+/// after them, 1 to 18 in all; then nothing, or one of `D d E e`, a sign or none, and one to three digits.
+///
+/// # Errors
+///
+/// In this order: [`DecimalFault::Blank`] for blanks alone or nothing, [`DecimalFault::NotANumber`] for a text that is
+/// not of that form, [`DecimalFault::OutOfRange`] for a number that is not in the range.
+pub fn read(text: &[u8], scale: &Scale, low: i64, high: i64) -> Result<i64, DecimalFault>
+    requires text { length text.now ≤ 19 }
+    requires scale { AreWithin scale.now.factor scale.now.two scale.now.ten }
+    requires low { negsuc 4294967294 ≤ℤ low }
+    requires high { high ≤ℤ pos 4294967295 }
+    ensures { result ≡ read_of low high (seen (size_of scale.now) text.now) }
+{
+    let text = trimmed(text);
+    if text.is_empty() {
+        return Err(DecimalFault::Blank);
+    }
+    let Some(decimal) = decimal_of(text) else {
+        return Err(DecimalFault::NotANumber);
+    };
+    let Some(magnitude) = magnitude(&decimal, scale) else {
+        return Err(DecimalFault::OutOfRange);
+    };
+    within(signed(decimal.minus, magnitude), low, high)
+}
