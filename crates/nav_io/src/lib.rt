@@ -1,4 +1,4 @@
-//! Sources and sinks of bytes: where a conversion reads, and where it writes.
+//! Sources and sinks of bytes: where a conversion reads, and where it writes; and the lines of a source.
 //!
 //! Code that converts is generic over [`Source`] and [`Sink`]. Their contracts say which bytes went
 //! through, where the source or the sink tells them, and count faults: a call fails only where its
@@ -6,12 +6,21 @@
 //! and failing calls for tests. [`ReadSource`] and [`WriteSink`] stand over a reader and a writer of
 //! the standard library.
 //!
+//! [`Lines`] gives the lines of a source one by one, in a buffer of fixed size: what stands between the
+//! ends of lines (LF), without a CR before them. Its contracts hold however the reads cut the bytes.
+//!
 //! ```rust
 //! let mut source = ReadSource::new(rt.stdin());
 //! let mut sink = WriteSink::new(rt.stdout());
 //! let mut buffer = [0; 4096];
 //! let count = source.read(&mut buffer)?;
 //! sink.write(&buffer[..count])?;
+//!
+//! let mut lines = Lines::new();
+//! match lines.next(&mut source)? {
+//!     LineKind::Text => sink.write(lines.text())?,
+//!     LineKind::Long | LineKind::End => {}
+//! }
 //! ```
 #![tactic(auto)]
 
@@ -22,11 +31,21 @@ ghost use Rattle.nav_io.specs.Causes.{HasCause};
 ghost use Rattle.nav_io.specs.Front.{AppendsFront};
 
 mod edge;
+mod laws;
+#[cfg(test)]
+mod line_tests;
+mod lines;
 mod memory;
 #[cfg(test)]
 mod tests;
 
 pub use crate::edge::{ReadSource, WriteSink};
+pub use crate::laws::{
+    ended_pieces_are_those_up_to_the_last_end, lines_given_are_the_first,
+    lines_given_are_those_of_the_bytes, pieces_are_those_between_the_ends, the_end_stays,
+    too_many_bytes_stay_too_many,
+};
+pub use crate::lines::{LineFault, LineKind, Lines};
 pub use crate::memory::{MemSink, MemSource};
 
 /// A read or a write failed. The object's count of faults says so.

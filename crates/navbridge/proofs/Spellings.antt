@@ -1,7 +1,7 @@
 -- Words begin with a spelling of at most one option.
 use Rattle.std.proofs.Common.{◌≡◌, ◌⊎◌, ℕ, suc, List, [], ◌∷◌, ◌++◌, refl, sym, ap, ◌∙◌, inl, inr, arith, subst}
 use Rattle.std.specs.Prelude.{Contains}
-use Rattle.navbridge.specs.Job.{Choice, choice, BeginsWithDash, Begins}
+use Rattle.navbridge.specs.Job.{Choice, choice, BeginsWithDash, Begins, Spells}
 
 contains_here : (x y : ℕ) (xs : List ℕ) → y ≡ x → Contains (y ∷ xs) x
 contains_here x y xs e = (0, omega arith, e)
@@ -119,3 +119,22 @@ pub dashed_value : (words more : List (List ℕ)) (word body value : List ℕ) �
     → ¬ Contains body 61 → BeginsWithDash value → (option : Choice) (rest : List (List ℕ)) → Begins words option rest → ⊥
 dashed_value words more word body value are dashes free dash option rest b =
     dashed words more rest word body value option are dashes free dash (spelling_of words option rest b)
+
+no_words : (option : Choice) (rest : List (List ℕ)) → InOne [] option rest ⊎ InTwo [] option rest → ⊥
+no_words option rest (inl a) = let e = a.are in cc
+no_words option rest (inr a) = let e = a.are in cc
+
+-- no words begin with no option
+pub begins_never : (words : List (List ℕ)) (option : Choice) (rest : List (List ℕ)) → words ≡ [] → Begins words option rest → ⊥
+begins_never words option rest none begins =
+    no_words option rest (spelling_of [] option rest (subst (λ (w : List (List ℕ)). Begins w option rest) none begins))
+
+-- words spell one list of options at most
+pub spells_once : (words : List (List ℕ)) (options others : List Choice) → Spells words options → Spells words others → options ≡ others
+spells_once words [] [] a b = refl
+spells_once words [] (other ∷ others) a b = absurd (begins_never words other b.0 a b.1)
+spells_once words (option ∷ options) [] a b = absurd (begins_never words option a.0 b a.1)
+spells_once words (option ∷ options) (other ∷ others) a b =
+    let same = begins_once words option other a.0 b.0 a.1 b.1 in
+    let rest = spells_once a.0 options others a.2 (subst (λ (w : List (List ℕ)). Spells w others) (sym same.1) b.2) in
+    ap (λ (o : Choice). o ∷ options) same.0 ∙ ap (λ (os : List Choice). other ∷ os) rest

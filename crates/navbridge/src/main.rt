@@ -8,8 +8,10 @@
 
 use nav_io::{ReadSource, WriteSink};
 use std::env;
+use std::io::ErrorKind;
 use std::process::ExitCode;
 
+mod laws;
 mod line;
 mod run;
 mod statuses;
@@ -17,14 +19,22 @@ mod statuses;
 mod tests;
 mod words;
 
+// No memory for the list of words.
+const NO_MEMORY: u8 = 6;
+
+// A word that the system doesn't hand over, as one that is not UTF-8.
+const NO_WORD: u8 = 9;
+
 fn main(rt: HostRuntime) -> ExitCode {
-    let Ok(args) = env::args(&rt) else {
-        return ExitCode::from(9);
+    let args = match env::args(&rt) {
+        Ok(args) => args,
+        Err(error) if error.kind() == ErrorKind::OutOfMemory => return ExitCode::from(NO_MEMORY),
+        Err(_) => return ExitCode::from(NO_WORD),
     };
     let mut words = Vec::new(rt.alloc());
     for word in args.skip(1) {
         if words.push(word).is_err() {
-            return ExitCode::from(6);
+            return ExitCode::from(NO_MEMORY);
         }
     }
     let mut input = ReadSource::new(rt.stdin());

@@ -1,0 +1,8 @@
+use Rattle.nav_io.proofs.LineEnds.{first_some, first_none}
+use Rattle.nav_io.proofs.lines.first_end.Goals as goal
+
+pub returns-clause-some : goal.returns-clause-some
+returns-clause-some c = first_some c.args.bytes.now c.memchr.result c.memchr.ensures
+
+pub returns-clause-none : goal.returns-clause-none
+returns-clause-none c = first_none c.args.bytes.now c.memchr.result c.memchr.ensures
