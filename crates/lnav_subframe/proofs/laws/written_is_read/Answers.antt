@@ -1,0 +1,5 @@
+use Rattle.lnav_subframe.proofs.Again.{read_as_written}
+use Rattle.lnav_subframe.proofs.laws.written_is_read.Goals as goal
+
+pub returns : goal.returns
+returns c = read_as_written

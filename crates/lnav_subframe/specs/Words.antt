@@ -1,0 +1,55 @@
+-- The ten words of a subframe in its 300 bits, as they are sent and as they are read (IS-GPS-200,
+-- 20.3.2 and 20.3.5). Word 1 is at index 0.
+use Rattle.std.specs.Prelude.{◌≡◌, ℕ, zero, suc, ◌-◌, ◌*◌, ◌/◌, ◌%◌, ◌<◌, ◌≤◌, ◌⊎◌, List, map, nat_eq, if◌then◌else◌}
+use Rattle.nav_bits.specs.Bits.{number_at}
+use Rattle.lnav_parity.specs.Parity.{IsGood, IsSource, IsSolved}
+
+-- the word of 30 bits at an index
+abbrev pub word_of : List ℕ → ℕ → ℕ
+word_of bits k = number_at bits (30 * k) 30
+
+-- the last two bits of the word before, which are 0 before the first
+unfoldable pub last_before : List ℕ → ℕ → ℕ
+last_before bits zero = 0
+last_before bits (suc k) = word_of bits k % 4
+
+-- the first n words are good
+abbrev pub AreGood : List ℕ → ℕ → Type 0
+AreGood bits n = (k : ℕ) → k < n → IsGood (word_of bits k) (last_before bits k)
+
+-- source holds the source bits of the first n words, each at the place of its data bit
+abbrev pub AreSource : List ℕ → List ℕ → ℕ → Type 0
+AreSource bits source n = (k : ℕ) → k < n → IsSource (word_of bits k) (last_before bits k) (number_at source (30 * k) 24)
+
+-- all bits turned
+abbrev pub complement : List ℕ → List ℕ
+complement bytes = map (λ byte. 255 - byte) bytes
+
+-- the subframe begins with the preamble 10001011 or with its complement 01110100
+abbrev pub HasPreamble : List ℕ → Type 0
+HasPreamble bits = (number_at bits 0 8 ≡ 139) ⊎ (number_at bits 0 8 ≡ 116)
+
+-- the subframe as it is to be read: turned whole where it begins with the complement of the preamble
+abbrev pub upright : List ℕ → List ℕ
+upright bits = if nat_eq (number_at bits 0 8) 116 then complement bits else bits
+
+-- word, counted from 1, is the first that is not good
+pub record IsFirstBad (bits : List ℕ) (word : ℕ) : Type 0 where
+  pub low : 1 ≤ word
+  pub high : word ≤ 10
+  pub before : AreGood bits (word - 1)
+  pub bad : IsGood (word_of bits (word - 1)) (last_before bits (word - 1)) → ⊥
+
+-- source holds the data bits of the subframe that was sent in these bits
+pub record IsSubframe (bits source : List ℕ) : Type 0 where
+  pub preamble : HasPreamble bits
+  pub good : AreGood (upright bits) 10
+  pub data_bits : AreSource (upright bits) source 10
+
+-- the word at an index is that of these data bits: in words 2 and 10 the last two data bits are chosen
+-- so that the word ends in two bits that are 0
+pub record IsWord (k word last bits : ℕ) : Type 0 where
+  pub second : k ≡ 1 → IsSolved word last (bits / 4)
+  pub tenth : k ≡ 9 → IsSolved word last (bits / 4)
+  pub good : (k ≡ 1 → ⊥) → (k ≡ 9 → ⊥) → IsGood word last
+  pub source : (k ≡ 1 → ⊥) → (k ≡ 9 → ⊥) → IsSource word last bits

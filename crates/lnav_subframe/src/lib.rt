@@ -1,0 +1,47 @@
+//! The subframes of the LNAV message, read and written (IS-GPS-200, 20.3 and figure 20-1).
+//!
+//! A subframe is 300 bits, ten words of 30, and brings a count of 6 s, its number and a part of what the
+//! satellite broadcasts. Here are
+//!
+//! - [`read_subframe`], the part that some bits stand for, or the first fault in them ([`LnavFault`]);
+//! - [`write_subframe`], the bits of a [`SubframeOut`].
+//!
+//! The clock (subframe 1), the orbit (subframes 2 and 3) and the ionosphere (page 18 of subframe 4) are
+//! used; other subframes are recognized and refused by name.
+//!
+//! ```rust
+//! use lnav_subframe::{LnavFault, SubframeOut, read_subframe, write_subframe};
+//! use nav_bits::U;
+//! use nav_eph::{Sat, System};
+//!
+//! let almanac = SubframeOut::Other { number: U::from_digits(5), page: U::from_digits(1) };
+//! let bits = write_subframe(&almanac, U::from_digits(7));
+//! let sat = Sat::new(System::Gps, 5).ok_or("a satellite")?;
+//! let read = read_subframe(&bits, sat, 0);
+//! assert!(rt; read == Err(LnavFault::Unused { number: 5, page: 1 }));
+//! ```
+#![tactic(auto)]
+
+mod clock;
+mod content;
+mod fault;
+mod head;
+mod laws;
+mod orbit;
+mod out;
+mod page18;
+mod read;
+#[cfg(test)]
+mod tests;
+mod words;
+mod write;
+
+pub use crate::clock::Subframe1;
+pub use crate::fault::LnavFault;
+pub use crate::head::Head;
+pub use crate::laws::{one_answer, written_is_read};
+pub use crate::orbit::{Subframe2, Subframe3};
+pub use crate::out::SubframeOut;
+pub use crate::page18::Page18;
+pub use crate::read::read_subframe;
+pub use crate::write::write_subframe;

@@ -1,0 +1,53 @@
+ghost use Rattle.std.specs.Prelude.{◌≡◌, IfErr, IfOk};
+ghost use Rattle.nav_eph.specs.Conditions.{IsPart};
+ghost use Rattle.nav_eph.specs.declared.sat.System.TheVariants.{Gps};
+ghost use Rattle.lnav_subframe.specs.Reading.{IsFirstFault, StandsFor};
+ghost use Rattle.lnav_subframe.specs.Words.{HasPreamble, upright};
+
+use crate::content::content_of;
+use crate::fault::LnavFault;
+use crate::words::{source_of, turned};
+use nav_bits::Bits;
+use nav_eph::{Part, Sat};
+
+// The first eight bits of a subframe (IS-GPS-200, 20.3.3.1), and their complement.
+const PREAMBLE: u64 = 0b1000_1011;
+
+const TURNED_PREAMBLE: u64 = 0b0111_0100;
+
+// The subframe as it is to be read, or that it does not begin as one.
+fn righted(bits: &Bits<38>) -> Result<Bits<38>, LnavFault>
+    ensures preamble { IfOk result (λ new. HasPreamble bits.now) }
+    ensures same { IfOk result (λ new. new ≡ upright bits.now) }
+    ensures fault { IfErr result (λ fault. (fault ≡ LnavFault.Preamble) × (HasPreamble bits.now → ⊥)) }
+{
+    match bits.get(0, 8) {
+        PREAMBLE => Ok(*bits),
+        TURNED_PREAMBLE => Ok(turned(bits)),
+        _ => Err(LnavFault::Preamble),
+    }
+}
+
+/// The part that the first 300 bits stand for as a subframe of the LNAV message (IS-GPS-200, figure
+/// 20-1), heard from a satellite of GPS at a second of the logger; the last four bits are not looked at.
+/// A subframe that begins with the complement of the preamble is turned whole before it is read.
+///
+/// The error is the first fault, as [`LnavFault`] orders them: no preamble; the first word whose parity
+/// is wrong; a count of 100,800 or more; a subframe other than 1, 2, 3 and page 18 of 4; a toc or toe
+/// of 37,800 steps or more.
+pub fn read_subframe(bits: &Bits<38>, sat: Sat, stamp: u32) -> Result<Part, LnavFault>
+    requires { sat.system ≡ Gps }
+    ensures part { IfOk result (StandsFor bits.now sat stamp) }
+    ensures whole { IfOk result (λ part. IsPart part.sat part.body) }
+    ensures fault { IfErr result (IsFirstFault bits.now) }
+{
+    let upright = righted(bits)?;
+    let source = match source_of(&upright) {
+        Ok(source) => source,
+        Err(word) => return Err(LnavFault::Parity { word }),
+    };
+    match content_of(&source) {
+        Ok(body) => Ok(Part { stamp, sat, body }),
+        Err(fault) => Err(fault),
+    }
+}

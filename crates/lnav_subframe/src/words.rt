@@ -1,0 +1,66 @@
+ghost use Rattle.std.specs.Prelude.{◌≡◌, ◌^◌, ◌<◌, IfErr, IfOk};
+ghost use Rattle.lnav_subframe.specs.Words.{AreGood, AreSource, IsFirstBad, IsWord, complement};
+ghost use Rattle.lnav_subframe.specs.Writing.{AreWords};
+
+use lnav_parity::{check_word, make_solved, make_word};
+use nav_bits::{Bits, U};
+
+// All bits turned.
+pub(crate) fn turned(bits: &Bits<38>) -> Bits<38>
+    ensures { result ≡ complement bits.now }
+{
+    let mut bytes = *bits.bytes();
+    for byte in bytes.iter_mut() {
+        *byte = 255 - *byte;
+    }
+    Bits::from_bytes(bytes)
+}
+
+// The source bits of the ten words, each at the place of its data bit, or the first word whose parity
+// is wrong, counted from 1.
+pub(crate) fn source_of(bits: &Bits<38>) -> Result<Bits<38>, u8>
+    ensures good { IfOk result (λ source. AreGood bits.now 10) }
+    ensures source { IfOk result (λ source. AreSource bits.now source 10) }
+    ensures fault { IfErr result (IsFirstBad bits.now) }
+{
+    let mut source = Bits::<38>::zero();
+    let mut last = 0;
+    for k in 0..10usize {
+        let word = bits.get(30 * k, 30);
+        match check_word(U::from_digits(word), U::from_digits(last)) {
+            Some(found) => source.put(30 * k, 24, found.value()),
+            None => return Err(k as u8 + 1),
+        }
+        last = word % 4;
+    }
+    Ok(source)
+}
+
+// The word at an index, of its data bits and the last two bits of the word before.
+fn word_at(k: usize, bits: u64, last: u64) -> u64
+    requires bits { bits < 2 ^ 24 }
+    requires last { last < 4 }
+    ensures fits { result < 2 ^ 30 }
+    ensures word { IsWord k result last bits }
+{
+    let last2: U<2> = U::from_digits(last);
+    match k {
+        1 => make_solved(U::from_digits(bits / 4), last2).value(),
+        9 => make_solved(U::from_digits(bits / 4), last2).value(),
+        _ => make_word(U::from_digits(bits), last2).value(),
+    }
+}
+
+// The ten words of the data bits.
+pub(crate) fn words_of(source: &Bits<38>) -> Bits<38>
+    ensures { AreWords result source.now }
+{
+    let mut bits = Bits::<38>::zero();
+    let mut before = 0;
+    for k in 0..10usize {
+        let word = word_at(k, source.get(30 * k, 24), before);
+        bits.put(30 * k, 30, word);
+        before = word % 4;
+    }
+    bits
+}
