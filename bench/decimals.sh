@@ -1,14 +1,70 @@
 #!/usr/bin/env bash
-# Numbers at a scale to decimal texts and back: numbers/s of a plain C program in exact arithmetic (bench/decimals.c).
+# Numbers at a scale to decimal texts and back: numbers/s of scaled_decimal and of a plain C program in exact
+# arithmetic (bench/decimals.c).
 #
 #   bench/decimals.sh [NUMBERS]      5,000,000 where none is said
 #
-# The figure to compare is that of the RINEX jobs of navbridge: a record of GPS has 29 numbers.
+# A program over the crate is made in a folder of its own, proved and built there, and timed as a whole.
 set -eu
 cd "$(git rev-parse --show-toplevel)"
 numbers=${1:-5000000}
 here=bench/build
 mkdir -p "$here"
 ${CC:-cc} -O2 -o "$here/decimals" bench/decimals.c
+folder=$(mktemp -d)
+trap 'rm -rf "$folder"' EXIT
+(cd "$folder" && git init -q . && printf 'scaled_decimal: thiserror\ndecimals: scaled_decimal\n' > crates.txt && mkdir crates)
+cp -r crates/scaled_decimal "$folder/crates/"
+mkdir -p "$folder/crates/decimals/src"
+cat > "$folder/crates/decimals/src/main.rt" <<'PROGRAM'
+#![tactic(auto)]
+
+ghost use Rattle.scaled_decimal.specs.ScaleValue.{AreWithin};
+
+use scaled_decimal::{Scale, print, read};
+use std::process::ExitCode;
+
+// Texts of numbers at the scale of angles, and with `back` the numbers of these texts; a sum of what came.
+fn round(scale: &Scale, numbers: u64, back: bool) -> u64
+    requires { AreWithin scale.now.factor scale.now.two scale.now.ten }
+{
+    let mut state: u64 = 1;
+    let mut sum: u64 = 0;
+    for i in 0..numbers {
+        state = state.wrapping_mul(6364136223846793005).wrapping_add(1442695040888963407);
+        let text = print((state >> 32) as i64 - 2_147_483_648, scale);
+        sum = sum.wrapping_add(text[(i % 19) as usize] as u64);
+        if back {
+            if let Ok(number) = read(&text, scale, -2_147_483_648, 2_147_483_647) {
+                sum = sum.wrapping_add(number.cast_unsigned());
+            }
+        }
+    }
+    sum
+}
+
+fn main() -> ExitCode {
+    let Some(scale) = Scale::new(true, 1, -31, 0) else {
+        return ExitCode::from(1);
+    };
+    let sum = round(&scale, NUMBERS, BACK);
+    ExitCode::from((sum % 2) as u8)
+}
+PROGRAM
+for way in print read; do
+  back=false
+  [ "$way" = read ] && back=true
+  sed "s/NUMBERS, BACK/$numbers, $back/" "$folder/crates/decimals/src/main.rt" > "$folder/main.$way"
+done
+for way in print read; do
+  cp "$folder/main.$way" "$folder/crates/decimals/src/main.rt"
+  (cd "$folder/crates/decimals" && rt run > "$folder/$way.log" 2>&1) || true
+  program="$folder/crates/decimals/out/decimals"
+  from=$(date +%s%N)
+  "$program" || true
+  to=$(date +%s%N)
+  awk -v w="$way" -v n="$numbers" -v t=$((to - from)) \
+    'BEGIN { printf "navbridge, %-6s %12.0f numbers/s%s\n", w, n / t * 1e9, w == "read" ? " written and read" : "" }'
+done
 "$here/decimals" print "$numbers"
 "$here/decimals" read "$numbers"

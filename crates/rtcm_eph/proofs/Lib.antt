@@ -1,0 +1,4 @@
+pub mod Tables
+pub mod Heads
+pub mod Contents
+pub mod RoundTrip

@@ -1,0 +1,42 @@
+//! The ephemeris messages of RTCM, read and written (RTCM 10403.3, 3.5).
+//!
+//! The payload of a frame begins with a message number of twelve bits. Message 1019 brings an ephemeris
+//! of GPS, and message 1046 the I/NAV ephemeris of Galileo, in their fields one behind the other. Here are
+//!
+//! - [`read_message`], the parts that a payload brings, or the first fault in it ([`MessageFault`]);
+//! - [`read_item`], the same as one ephemeris;
+//! - [`write_1019`] and [`write_1046`], the payload of an ephemeris.
+//!
+//! ```rust
+//! use gnss_week::RefWeek;
+//! use rtcm_eph::{MessageFault, read_item};
+//!
+//! let reference = RefWeek::new(2295).ok_or("a reference week")?;
+//! let read = read_item(&[0x3F, 0xC0], reference);
+//! assert!(rt; read == Err(MessageFault::OtherMessage { number: 1020 }));
+//! ```
+#![tactic(auto)]
+
+mod content;
+mod fault;
+mod galileo;
+mod gps;
+mod laws;
+mod message1019;
+mod message1046;
+mod read;
+mod satellite;
+#[cfg(test)]
+mod tests;
+mod write;
+
+pub use crate::content::{Content, GalContent, GpsContent};
+pub use crate::fault::MessageFault;
+pub use crate::laws::{
+    one_message_1019, one_message_1046, read_1019_is_sent, read_1046_is_sent, sent_1019_is_read,
+    sent_1046_is_read,
+};
+pub use crate::message1019::Message1019;
+pub use crate::message1046::Message1046;
+pub use crate::read::{MessageParts, read_item, read_message};
+pub use crate::write::{write_1019, write_1046};

@@ -1,0 +1,201 @@
+ghost use Rattle.std.specs.Prelude.{◌≡◌, ℕ, ◌≤◌, ◌<◌, length};
+ghost use Rattle.nav_bits.specs.Bits.{number_at};
+ghost use Rattle.rtcm_eph.specs.Messages.{message1019_at, message1046_at};
+ghost use Rattle.rtcm_eph.specs.Reading.{GivesItem, IsItem, content_of, gal_parts, gps_parts, parts_of};
+
+use crate::content::{Content, GalContent, GpsContent};
+use crate::fault::MessageFault;
+use crate::galileo::judge_1046;
+use crate::gps::judge_1019;
+use crate::message1019::Message1019;
+use crate::message1046::Message1046;
+use gnss_week::{RefWeek, Second, gal_week, gps_week};
+use nav_bits::{Layout, U};
+use nav_eph::{Body, GalEph, GpsEph, NavItem, Part, Sat, SentSecond, SentTag};
+
+/// The parts of an ephemeris that one message brings, as they were heard.
+#[derive(Clone, Copy, PartialEq, Eq, Debug)]
+pub enum MessageParts {
+    /// Of message 1019.
+    Gps {
+        /// The clock.
+        clock: Part,
+        /// The first half of the orbit.
+        a: Part,
+        /// The second half of the orbit.
+        b: Part,
+    },
+    /// Of message 1046.
+    Gal {
+        /// The first part of the orbit.
+        w1: Part,
+        /// The second part.
+        w2: Part,
+        /// The third part.
+        w3: Part,
+        /// The last part and the clock.
+        w4: Part,
+        /// The delays and the health.
+        health: Part,
+    },
+}
+
+// Message 1019 at the head of a payload.
+fn message_1019_in(payload: &[u8]) -> Message1019
+    requires { 61 ≤ length payload.now }
+    ensures { result ≡ message1019_at payload.now 0 }
+{
+    let own = &payload[..61];
+    Message1019::read_bits(own, 0)
+}
+
+// Message 1046 at the head of a payload.
+fn message_1046_in(payload: &[u8]) -> Message1046
+    requires { 63 ≤ length payload.now }
+    ensures { result ≡ message1046_at payload.now 0 }
+{
+    let own = &payload[..63];
+    Message1046::read_bits(own, 0)
+}
+
+// The message number at the head of a payload.
+fn number_in(payload: &[u8]) -> u16
+    requires { 2 ≤ length payload.now }
+    ensures { result ≡ number_at payload.now 0 12 }
+{
+    let own = &payload[..2];
+    let number: U<12> = U::read_bits(own, 0);
+    number.value() as u16
+}
+
+// What a payload brings, or its first fault.
+fn read_content(payload: &[u8]) -> Result<Content, MessageFault>
+    ensures { result ≡ content_of payload.now }
+{
+    if payload.len() < 2 {
+        return Err(MessageFault::NoNumber);
+    }
+    let number = number_in(payload);
+    if number == 1019 {
+        if payload.len() < 61 {
+            return Err(MessageFault::Short);
+        }
+        return judge_1019(&message_1019_in(payload));
+    }
+    if number == 1046 {
+        if payload.len() < 63 {
+            return Err(MessageFault::Short);
+        }
+        return judge_1046(&message_1046_in(payload));
+    }
+    Err(MessageFault::OtherMessage { number })
+}
+
+// The parts of a content of GPS, the tag naming its toe.
+fn gps_parts_of(c: &GpsContent, stamp: u32) -> MessageParts
+    ensures { result ≡ gps_parts stamp c.now }
+{
+    let sat = c.sat;
+    let tag = SentTag::Toe {
+        wn: U::from_digits(c.week.value()),
+        second: Second::from_number((16 * c.a.toe.value()) as u32),
+    };
+    MessageParts::Gps {
+        clock: Part {
+            stamp,
+            sat,
+            body: Body::GpsClock(c.clock, c.side, tag),
+        },
+        a: Part {
+            stamp,
+            sat,
+            body: Body::GpsA(c.a, c.fit),
+        },
+        b: Part {
+            stamp,
+            sat,
+            body: Body::GpsB(c.b),
+        },
+    }
+}
+
+// A part heard from a satellite.
+fn heard(stamp: u32, sat: Sat, body: Body) -> Part
+    ensures { result ≡ record { stamp = stamp; sat = sat; body = body } }
+{
+    Part { stamp, sat, body }
+}
+
+// The parts of a content of Galileo, the tag naming its toe.
+fn gal_parts_of(c: &GalContent, stamp: u32) -> MessageParts
+    ensures { result ≡ gal_parts stamp c.now }
+{
+    let tag = SentTag::Toe {
+        wn: c.week,
+        second: Second::from_number((60 * c.w1.toe.value()) as u32),
+    };
+    MessageParts::Gal {
+        w1: heard(stamp, c.sat, Body::GalW1(c.w1)),
+        w2: heard(stamp, c.sat, Body::GalW2(c.w2)),
+        w3: heard(stamp, c.sat, Body::GalW3(c.w3)),
+        w4: heard(stamp, c.sat, Body::GalW4(c.w4)),
+        health: heard(stamp, c.sat, Body::GalHealth(c.health, tag)),
+    }
+}
+
+/// The parts that a payload brings as message 1019 or 1046 (RTCM 10403.3, 3.5), heard at a second of the
+/// logger. The clock of GPS and the health of Galileo bear the message's week and its toe in seconds; a
+/// payload that is longer than its message is accepted, and the rest is not looked at.
+///
+/// The error is the first fault, as [`MessageFault`] orders them.
+pub fn read_message(payload: &[u8], stamp: u32) -> Result<MessageParts, MessageFault>
+    ensures { result ≡ parts_of stamp (content_of payload.now) }
+{
+    match read_content(payload) {
+        Ok(Content::Gps(c)) => Ok(gps_parts_of(&c, stamp)),
+        Ok(Content::Gal(c)) => Ok(gal_parts_of(&c, stamp)),
+        Err(fault) => Err(fault),
+    }
+}
+
+// The item of a content, its week near the reference week.
+fn item_of(content: &Content, r: RefWeek) -> NavItem
+    ensures { IsItem r content.now result }
+{
+    match content {
+        Content::Gps(c) => NavItem::Gps(GpsEph {
+            sat: c.sat,
+            clock: c.clock,
+            side: c.side,
+            a: c.a,
+            fit: c.fit,
+            b: c.b,
+            toe_week: gps_week(r, c.week),
+            sent: SentSecond::Unknown,
+        }),
+        Content::Gal(c) => NavItem::Gal(GalEph {
+            sat: c.sat,
+            w1: c.w1,
+            w2: c.w2,
+            w3: c.w3,
+            w4: c.w4,
+            health: c.health,
+            toe_week: gal_week(r, c.week),
+            sent: SentSecond::Unknown,
+        }),
+    }
+}
+
+/// The ephemeris that a payload brings as message 1019 or 1046 (RTCM 10403.3, 3.5): its week of toe is
+/// the one that the message's week number means near the reference week, and when it was sent is not
+/// known. A payload that is longer than its message is accepted, and the rest is not looked at.
+///
+/// The error is the first fault, as [`MessageFault`] orders them.
+pub fn read_item(payload: &[u8], r: RefWeek) -> Result<NavItem, MessageFault>
+    ensures { GivesItem r (content_of payload.now) result }
+{
+    match read_content(payload) {
+        Ok(content) => Ok(item_of(&content, r)),
+        Err(fault) => Err(fault),
+    }
+}
