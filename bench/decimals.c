@@ -1,10 +1,10 @@
 /* The plain program that the figures of bench/decimals.sh compare with: numbers at a scale to texts and back, in exact
  * arithmetic of 128 bits, as the navigation records of RINEX have them.
  *
- *   decimals print COUNT   prints COUNT numbers at ten scales, and writes numbers per second
- *   decimals read COUNT    reads the texts of COUNT numbers at ten scales, and writes numbers per second
+ *   decimals print COUNT   prints COUNT numbers at the scale of angles, and writes numbers per second
+ *   decimals read COUNT    prints each and reads its text again, and compares
  *
- * Each number that is read is compared with the one that was printed.
+ * It reads texts of its own form alone.
  */
 #include <stdint.h>
 #include <stdio.h>
@@ -16,10 +16,7 @@ typedef unsigned __int128 wide;
 
 struct scale { int pi; uint32_t factor; int two, ten; };
 
-static const struct scale scales[10] = {
-    {1, 1, -31, 0}, {1, 1, -43, 0}, {0, 1, -33, 0}, {0, 1, -19, 0}, {0, 1, -29, 0},
-    {0, 1, -5, 0}, {0, 1, -31, 0}, {0, 1, -55, 0}, {0, 16, 0, 0}, {0, 1, 11, 0},
-};
+static const struct scale scales[1] = {{1, 1, -31, 0}}; /* pi x 2^-31, the scale of angles */
 
 /* the size of a scale times 10^20, as over / under */
 static void size_of(const struct scale *s, wide *over, wide *under) {
@@ -88,21 +85,20 @@ int main(int count, char **words) {
     if (count != 3) return 2;
     long many = atol(words[2]);
     int reads = strcmp(words[1], "read") == 0;
-    char (*texts)[19] = malloc(19 * (reads ? many : 1));
+    const struct scale *angle = &scales[0];
+    char text[19];
     uint64_t state = 1, sum = 0;
-    if (reads) for (long i = 0; i < many; i++) print(number_of(&state), &scales[i % 10], texts[i]);
-    state = 1;
     double from = now();
     for (long i = 0; i < many; i++) {
         int64_t number = number_of(&state);
+        print(number, angle, text);
+        sum += text[i % 19];
         if (reads) {
-            if (read_back(texts[i], &scales[i % 10]) != number) return 1;
-        } else {
-            print(number, &scales[i % 10], texts[0]);
-            sum += texts[0][1 + i % 18];
+            if (read_back(text, angle) != number) return 1;
+            sum += number;
         }
     }
     double seconds = now() - from;
-    printf("C, %-6s %12.0f numbers/s  (%llu)\n", words[1], many / seconds, (unsigned long long)sum);
+    printf("C, %-6s         %12.0f numbers/s%s  (%llu)\n", words[1], many / seconds, reads ? " written and read" : "", (unsigned long long)sum);
     return 0;
 }
