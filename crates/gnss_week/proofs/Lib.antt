@@ -1,1 +1,4 @@
+pub mod ComputedDates
+pub mod DateFunctions
 pub mod Days
+pub mod WeekFunctions

@@ -2,6 +2,7 @@ ghost use Rattle.std.specs.Prelude.{◌≡◌, ℕ, ◌+◌, ◌*◌, ◌%◌, �
 ghost use Rattle.jiff_core.specs.Calendar.{IsEpochDay};
 ghost use Rattle.jiff_core.specs.Date.{epoch_day};
 ghost use Rattle.gnss_week.specs.Dates.{Exists, GivesMoment, IsCivilOf, day_of, first_day};
+ghost use Rattle.gnss_week.specs.Functions.{civil_to, moment_to};
 ghost use Rattle.gnss_week.specs.declared.calendar.Civil.{Civil as CivilDate};
 
 use crate::calendar::{Civil, WeekFault};
@@ -21,6 +22,7 @@ const SECONDS_OF_DAY: u64 = 86_400;
 pub fn civil(moment: Moment) -> Civil
     ensures date { IsCivilOf result moment }
     ensures again { GivesMoment result (Ok moment) }
+    ensures value { result ≡ civil_to moment }
 {
     let days = moment.value() / SECONDS_OF_DAY;
     let date = date_of((FIRST_DAY as u64 + days) as i64);
@@ -43,6 +45,7 @@ pub fn civil(moment: Moment) -> Civil
 pub fn moment_of(date: &Civil) -> Result<Moment, WeekFault>
     ensures answer { GivesMoment date.now result }
     ensures again { IfOk result (λ m. (c : CivilDate) → IsCivilOf c m → c ≡ date.now) }
+    ensures value { result ≡ moment_to date.now }
 {
     let Some(number) = day_number(date) else {
         return Err(WeekFault::NoSuchDate);

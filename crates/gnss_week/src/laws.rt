@@ -1,6 +1,7 @@
-ghost use Rattle.std.specs.Prelude.{◌≡◌, ℕ, Result};
-ghost use Rattle.gnss_week.specs.Weeks.{IsGalileoWeek, IsGpsWeek, IsMoment, IsNearestMoment};
+ghost use Rattle.std.specs.Prelude.{◌≡◌, ℕ, ◌<◌, ◌≤◌, Result, Ok};
+ghost use Rattle.gnss_week.specs.Weeks.{IsGalileoWeek, IsGpsWeek, IsMoment, IsNearestMoment, IsReference, IsSecond};
 ghost use Rattle.gnss_week.specs.Dates.{GivesMoment, IsCivilOf};
+ghost use Rattle.gnss_week.specs.Functions.{IsShort, civil_to, galileo_week_to, gps_week_to, moment_near, moment_to};
 ghost use Rattle.gnss_week.specs.declared.calendar.Civil.{Civil};
 ghost use Rattle.gnss_week.specs.declared.calendar.WeekFault.{WeekFault};
 
@@ -43,4 +44,41 @@ pub fn date_again()
 /// Asking for the moment of a date has one answer.
 pub fn one_answer()
     ensures { (c : Civil) (a b : Result ℕ WeekFault) → GivesMoment c a → GivesMoment c b → a ≡ b }
+{}
+
+/// The week that a ten-bit number means is `gps_week_to`.
+pub fn gps_week_function()
+    ensures meant { (r n : ℕ) → IsReference r → n < 1024 → IsGpsWeek r n (gps_week_to r n) }
+    ensures only { (r n w : ℕ) → IsGpsWeek r n w → w ≡ gps_week_to r n }
+{}
+
+/// The week that a twelve-bit number means is `galileo_week_to`.
+pub fn galileo_week_function()
+    ensures meant { (r n : ℕ) → IsReference r → n < 4096 → IsGalileoWeek r n (galileo_week_to r n) }
+    ensures only { (r n w : ℕ) → IsGalileoWeek r n w → w ≡ galileo_week_to r n }
+{}
+
+/// The nearest moment with a second of the week is `moment_near`.
+pub fn nearest_moment_function()
+    ensures nearest { (t second : ℕ) → 604800 ≤ t → IsSecond second →
+        IsNearestMoment t second (moment_near t second) }
+    ensures only { (t second m : ℕ) → IsNearestMoment t second m → m ≡ moment_near t second }
+{}
+
+/// The date of a moment is `civil_to`.
+pub fn date_function()
+    ensures date { (m : ℕ) → IsMoment m → IsCivilOf (civil_to m) m }
+    ensures only { (c : Civil) (m : ℕ) → IsCivilOf c m → IsMoment m → c ≡ civil_to m }
+{}
+
+/// The answer to asking for the moment of a date is `moment_to`.
+pub fn moment_function()
+    ensures answer { (c : Civil) → GivesMoment c (moment_to c) }
+    ensures only { (c : Civil) (a : Result ℕ WeekFault) → GivesMoment c a → a ≡ moment_to c }
+    ensures again { (c : Civil) (m : ℕ) → IsCivilOf c m → IsMoment m → moment_to c ≡ Ok m }
+{}
+
+/// The year of a date of the calendar has at most four digits, each other number of it at most two.
+pub fn short_dates()
+    ensures { (c : Civil) (m : ℕ) → IsCivilOf c m → IsShort c }
 {}

@@ -34,8 +34,9 @@ mod weeks;
 pub use crate::calendar::{Civil, WeekFault};
 pub use crate::dates::{civil, moment_of};
 pub use crate::laws::{
-    date_again, moment_again, one_answer, one_date, one_galileo_week, one_gps_week, one_moment,
-    one_nearest_moment,
+    date_again, date_function, galileo_week_function, gps_week_function, moment_again,
+    moment_function, nearest_moment_function, one_answer, one_date, one_galileo_week, one_gps_week,
+    one_moment, one_nearest_moment, short_dates,
 };
 pub use crate::moment::{Moment, Second};
 pub use crate::numbers::{RefWeek, Week};

@@ -29,6 +29,7 @@ mod ion;
 mod items;
 mod laws;
 mod part;
+mod ranges;
 mod same;
 mod sat;
 mod steps;

@@ -163,6 +163,11 @@ fn items(rt: HostRuntime) -> Result<(), Fail> {
     let late = NavItem::Gps(of(SentSecond::At(907_199)).ok_or("an ephemeris")?);
     let early = NavItem::Gps(of(SentSecond::At(-302_400)).ok_or("an ephemeris")?);
     assert!(rt; of(SentSecond::At(907_200)).is_none());
+    late.ranges();
+    assert!(rt; late.is_whole());
+    let eph = of(SentSecond::Unknown).ok_or("an ephemeris")?;
+    let b = orbit_b(U::from_digits(8));
+    assert!(rt; !NavItem::Gps(GpsEph { b, ..eph }).is_whole());
     assert!(rt; late.is_alike(&early));
     assert!(rt; !late.is_same(&early));
     let content = IonContent::Gps(gps_ionosphere());

@@ -1,6 +1,7 @@
 use Rattle.std.proofs.Common.{◌≡◌, ◌+◌, ◌/◌, ◌≤◌, ◌∙◌, arith, pos, ap}
 use Rattle.jiff_core.proofs.SignedLemmas.{signed_arith}
 use Rattle.gnss_week.proofs.Days.{year_from_1970, as_day, as_year, year_fits, civil-of}
+use Rattle.gnss_week.proofs.DateFunctions.{civil_to-only}
 use Rattle.gnss_week.proofs.dates.civil.Goals as goal
 
 pub date_of-date-requires-clause-last : goal.date_of-date-requires-clause-last
@@ -25,3 +26,7 @@ returns-clause-date c =
 
 pub returns-clause-again : goal.returns-clause-again
 returns-clause-again c = (returns-clause-date c, c.value-days.ensures.fits)
+
+pub returns-clause-value : goal.returns-clause-value
+returns-clause-value c =
+    civil_to-only _ c.args.moment (returns-clause-date c) (returns-clause-again c).1

@@ -1,6 +1,8 @@
-use Rattle.std.proofs.Common.{arith, pos, ◌≤ℤ◌}
+use Rattle.std.proofs.Common.{arith, pos, ◌≤ℤ◌, Ok, Err}
+use Rattle.gnss_week.specs.declared.calendar.WeekFault.TheVariants.{NoSuchDate, BeforeEpoch, TooFar}
 use Rattle.jiff_core.proofs.SignedLemmas.{signed_arith}
 use Rattle.gnss_week.proofs.Days.{first_day-is, days_after, moment-of, one_civil}
+use Rattle.gnss_week.proofs.DateFunctions.{moment_to-only}
 use Rattle.gnss_week.proofs.dates.moment_of.Goals as goal
 
 pub returns-then-number-lt-FIRST_DAY-clause-answer : goal.returns-then-number-lt-FIRST_DAY-clause-answer
@@ -26,3 +28,17 @@ returns-clause-answer c =
 
 pub returns-clause-again : goal.returns-clause-again
 returns-clause-again c = λ d of_m. one_civil d c.args.date.now c.from_seconds.result of_m (returns-clause-answer c).0
+
+pub returns-in_default-clause-value : goal.returns-in_default-clause-value
+returns-in_default-clause-value c = moment_to-only c.args.date.now (Err NoSuchDate) c.in_default.ensures
+
+pub returns-then-number-lt-FIRST_DAY-clause-value : goal.returns-then-number-lt-FIRST_DAY-clause-value
+returns-then-number-lt-FIRST_DAY-clause-value c =
+    moment_to-only c.args.date.now (Err BeforeEpoch) (returns-then-number-lt-FIRST_DAY-clause-answer c)
+
+pub returns-then-number-ge-DAYS-clause-value : goal.returns-then-number-ge-DAYS-clause-value
+returns-then-number-ge-DAYS-clause-value c =
+    moment_to-only c.args.date.now (Err TooFar) (returns-then-number-ge-DAYS-clause-answer c)
+
+pub returns-clause-value : goal.returns-clause-value
+returns-clause-value c = moment_to-only c.args.date.now (Ok c.from_seconds.result) (returns-clause-answer c)
