@@ -1,0 +1,43 @@
+-- The fields of the words that are written.
+use Rattle.std.specs.Prelude.{ℕ}
+use Rattle.nav_eph.specs.declared.galileo.GalWord1.{GalWord1}
+use Rattle.nav_eph.specs.declared.galileo.GalWord2.{GalWord2}
+use Rattle.nav_eph.specs.declared.galileo.GalWord3.{GalWord3}
+use Rattle.nav_eph.specs.declared.galileo.GalWord4.{GalWord4}
+use Rattle.nav_eph.specs.declared.galileo.GalHealth.{GalHealth}
+use Rattle.nav_eph.specs.declared.ion.GalIon.{GalIon}
+use Rattle.inav_word.specs.declared.word1.Word1.{Word1}
+use Rattle.inav_word.specs.declared.word2.Word2.{Word2}
+use Rattle.inav_word.specs.declared.word3.Word3.{Word3}
+use Rattle.inav_word.specs.declared.word4.Word4.{Word4}
+use Rattle.inav_word.specs.declared.word5.Word5.{Word5}
+
+abbrev pub word1_of : GalWord1 → Word1
+word1_of w = record { iodnav = w.iodnav; toe = w.toe; m0 = w.m0; e = w.e; root_a = w.root_a }
+
+abbrev pub word2_of : GalWord2 → Word2
+word2_of w = record { iodnav = w.iodnav; omega0 = w.omega0; i0 = w.i0; omega = w.omega; idot = w.idot }
+
+abbrev pub word3_of : GalWord3 → Word3
+word3_of w = record { iodnav = w.iodnav; omega_dot = w.omega_dot; delta_n = w.delta_n; cuc = w.cuc; cus = w.cus; crc = w.crc; crs = w.crs; sisa = w.sisa }
+
+-- word 4 of the satellite with that number
+abbrev pub word4_of : GalWord4 → ℕ → Word4
+word4_of w svid = record { iodnav = w.iodnav; svid = svid; cic = w.cic; cis = w.cis; toc = w.toc; af0 = w.af0; af1 = w.af1; af2 = w.af2 }
+
+-- word 5 sent in that week and second
+abbrev pub word5_of : GalHealth → GalIon → ℕ → ℕ → Word5
+word5_of h i wn second = record {
+  ai0 = i.ai0;
+  ai1 = i.ai1;
+  ai2 = i.ai2;
+  regions = i.regions;
+  bgd_a = h.bgd_a;
+  bgd_b = h.bgd_b;
+  hs_e5b = h.hs_e5b;
+  hs_e1b = h.hs_e1b;
+  dvs_e5b = h.dvs_e5b;
+  dvs_e1b = h.dvs_e1b;
+  wn = wn;
+  tow = second;
+}

@@ -1,0 +1,47 @@
+//! The words of the I/NAV message, read and written (Galileo OS SIS ICD, 4.3.5).
+//!
+//! A word is 128 bits, of which the first six are its type. Words 1 to 4 bring an ephemeris, and word 5 the
+//! ionosphere, the delays, the health and the time of sending. Here are
+//!
+//! - [`read_word`], the parts that a word brings, or the first fault in it ([`WordFault`]);
+//! - [`write_word1`] to [`write_word5`], the bits of a word.
+//!
+//! ```rust
+//! use inav_word::{WordFault, read_word};
+//! use nav_bits::Bits;
+//! use nav_eph::{Sat, System};
+//!
+//! let sat = Sat::new(System::Gal, 11).ok_or("a satellite")?;
+//! let read = read_word(&Bits::zero(), sat, 0);
+//! assert!(rt; read == Err(WordFault::OtherWord { number: 0 }));
+//! ```
+#![tactic(auto)]
+
+mod fault;
+mod laws;
+mod parts;
+mod read;
+#[cfg(test)]
+mod tests;
+mod word;
+mod word1;
+mod word2;
+mod word3;
+mod word4;
+mod word5;
+mod write;
+
+pub use crate::fault::WordFault;
+pub use crate::laws::{
+    refused_by_the_first_fault, written_word1_is_read, written_word2_is_read,
+    written_word3_is_read, written_word4_is_read, written_word5_is_read,
+};
+pub use crate::parts::WordParts;
+pub use crate::read::read_word;
+pub use crate::word::Word;
+pub use crate::word1::Word1;
+pub use crate::word2::Word2;
+pub use crate::word3::Word3;
+pub use crate::word4::Word4;
+pub use crate::word5::Word5;
+pub use crate::write::{write_word1, write_word2, write_word3, write_word4, write_word5};

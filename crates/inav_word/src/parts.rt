@@ -1,0 +1,10 @@
+use nav_eph::Part;
+
+/// The parts that one word brings, as they were heard.
+#[derive(Clone, Copy, PartialEq, Eq, Debug)]
+pub struct WordParts {
+    /// The part of words 1 to 4; the delays and the health of word 5.
+    pub first: Part,
+    /// The ionosphere of word 5; `None` of each other word.
+    pub second: Option<Part>,
+}

@@ -1,0 +1,71 @@
+use nav_bits::{Layout, S, U, put_numbers};
+
+/// The fields of I/NAV word 3, the third part of the orbit and the accuracy, in their order behind the
+/// type (Galileo OS SIS ICD, 4.3.5).
+#[derive(Clone, Copy, PartialEq, Eq, Debug)]
+pub struct Word3 {
+    /// Issue of data.
+    pub iodnav: U<10>,
+    /// Rate of the right ascension, in 2^-43 semicircles/s.
+    pub omega_dot: S<24>,
+    /// Correction to the mean motion, in 2^-43 semicircles/s.
+    pub delta_n: S<16>,
+    /// Cosine correction to the argument of latitude, in 2^-29 rad.
+    pub cuc: S<16>,
+    /// Sine correction to the argument of latitude, in 2^-29 rad.
+    pub cus: S<16>,
+    /// Cosine correction to the orbit's radius, in 2^-5 m.
+    pub crc: S<16>,
+    /// Sine correction to the orbit's radius, in 2^-5 m.
+    pub crs: S<16>,
+    /// The accuracy of signal in space, an index.
+    pub sisa: U<8>,
+}
+
+impl Layout for Word3 {
+    ghost use Rattle.std.specs.Prelude.{ℕ, List};
+    ghost use Rattle.inav_word.specs.Words.{word3_at, word3_own_bits, word3_rest};
+
+    ghost BITS = { 128 };
+
+    ghost Usable = { Unit {0} };
+
+    ghost stands_at = { word3_at };
+
+    ghost RestIsZero = { word3_rest };
+
+    ghost own_bits = { word3_own_bits };
+
+    const BITS: u32 = 128;
+
+    fn write_bits(&self, into: &mut [u8], at: usize) {
+        put_numbers(
+            into,
+            at,
+            &[
+                (6, 3),
+                (10, self.iodnav.value()),
+                (24, self.omega_dot.digits()),
+                (16, self.delta_n.digits()),
+                (16, self.cuc.digits()),
+                (16, self.cus.digits()),
+                (16, self.crc.digits()),
+                (16, self.crs.digits()),
+                (8, self.sisa.value()),
+            ],
+        );
+    }
+
+    fn read_bits(from: &[u8], at: usize) -> Self {
+        Word3 {
+            iodnav: U::read_bits(from, at + 6),
+            omega_dot: S::read_bits(from, at + 16),
+            delta_n: S::read_bits(from, at + 40),
+            cuc: S::read_bits(from, at + 56),
+            cus: S::read_bits(from, at + 72),
+            crc: S::read_bits(from, at + 88),
+            crs: S::read_bits(from, at + 104),
+            sisa: U::read_bits(from, at + 120),
+        }
+    }
+}

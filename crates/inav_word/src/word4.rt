@@ -1,0 +1,72 @@
+use nav_bits::{Layout, S, U, put_numbers};
+
+/// The fields of I/NAV word 4, the satellite, the last part of the orbit and the clock, in their order
+/// behind the type (Galileo OS SIS ICD, 4.3.5).
+#[derive(Clone, Copy, PartialEq, Eq, Debug)]
+pub struct Word4 {
+    /// Issue of data.
+    pub iodnav: U<10>,
+    /// The number of the satellite that sends it.
+    pub svid: U<6>,
+    /// Cosine correction to the inclination, in 2^-29 rad.
+    pub cic: S<16>,
+    /// Sine correction to the inclination, in 2^-29 rad.
+    pub cis: S<16>,
+    /// The time of the clock's data, in steps of 60 s.
+    pub toc: U<14>,
+    /// Clock bias, in 2^-34 s.
+    pub af0: S<31>,
+    /// Clock drift, in 2^-46 s/s.
+    pub af1: S<21>,
+    /// Clock drift rate, in 2^-59 s/s².
+    pub af2: S<6>,
+}
+
+impl Layout for Word4 {
+    ghost use Rattle.std.specs.Prelude.{ℕ, List};
+    ghost use Rattle.inav_word.specs.Words.{word4_at, word4_own_bits, word4_rest};
+
+    ghost BITS = { 128 };
+
+    ghost Usable = { Unit {0} };
+
+    ghost stands_at = { word4_at };
+
+    ghost RestIsZero = { word4_rest };
+
+    ghost own_bits = { word4_own_bits };
+
+    const BITS: u32 = 128;
+
+    fn write_bits(&self, into: &mut [u8], at: usize) {
+        put_numbers(
+            into,
+            at,
+            &[
+                (6, 4),
+                (10, self.iodnav.value()),
+                (6, self.svid.value()),
+                (16, self.cic.digits()),
+                (16, self.cis.digits()),
+                (14, self.toc.value()),
+                (31, self.af0.digits()),
+                (21, self.af1.digits()),
+                (6, self.af2.digits()),
+                (2, 0),
+            ],
+        );
+    }
+
+    fn read_bits(from: &[u8], at: usize) -> Self {
+        Word4 {
+            iodnav: U::read_bits(from, at + 6),
+            svid: U::read_bits(from, at + 16),
+            cic: S::read_bits(from, at + 22),
+            cis: S::read_bits(from, at + 38),
+            toc: U::read_bits(from, at + 54),
+            af0: S::read_bits(from, at + 68),
+            af1: S::read_bits(from, at + 99),
+            af2: S::read_bits(from, at + 120),
+        }
+    }
+}
