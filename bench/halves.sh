@@ -1,0 +1,74 @@
+#!/usr/bin/env bash
+# Halves of I/NAV pages a second that inav_page takes: thirty satellites on two signals, a half of each every second, in
+# a window of 7,200 s.
+#
+#   bench/halves.sh [SECONDS]      7,200 where none is said
+#
+# A program over the crate is made in a folder of its own, proved and built there, and timed as a whole.
+set -eu
+cd "$(git rev-parse --show-toplevel)"
+seconds=${1:-7200}
+folder=$(mktemp -d)
+trap 'rm -rf "$folder"' EXIT
+(cd "$folder" && git init -q . && mkdir crates)
+grep -E '^(nav_bits|crc24q|gnss_week|nav_eph|inav_page):' crates.txt > "$folder/crates.txt"
+echo 'halves: nav_bits nav_eph inav_page' >> "$folder/crates.txt"
+for name in nav_bits crc24q gnss_week nav_eph inav_page; do
+  cp -r "crates/$name" "$folder/crates/"
+  rm -rf "$folder/crates/$name/out"
+done
+mkdir -p "$folder/crates/halves/src"
+cat > "$folder/crates/halves/src/main.rt" <<'PROGRAM'
+#![tactic(auto)]
+
+ghost use Rattle.std.specs.Prelude.{◌≡◌};
+ghost use Rattle.nav_eph.specs.declared.sat.System.TheVariants.{Gal};
+
+use inav_page::{Half, Halves, Signal, split};
+use nav_bits::Bits;
+use nav_eph::{Sat, System};
+use std::alloc::AllocError;
+use std::process::ExitCode;
+
+// Takes a half on both signals, and counts the words.
+fn both(halves: &mut Halves, stamp: u32, sat: Sat, half: &Half) -> Result<u64, AllocError>
+    requires { sat.system ≡ Gal }
+{
+    let first = halves.take(stamp, sat, Signal::E1b, half)?;
+    let second = halves.take(stamp, sat, Signal::E5b, half)?;
+    Ok((first.len() as u64).wrapping_add(second.len() as u64))
+}
+
+// The halves of one second: even ones in even seconds, the odd ones of the same words a second later.
+fn second(halves: &mut Halves, stamp: u32) -> Result<u64, AllocError> {
+    let mut words: u64 = 0;
+    for number in 1..31u8 {
+        if let Some(sat) = Sat::new(System::Gal, number) {
+            let mut word = Bits::<16>::zero();
+            word.put(0, 32, u64::from(stamp / 2));
+            word.put(96, 8, u64::from(number));
+            let (even, odd) = split(&word);
+            let half = if stamp % 2 == 0 { even } else { odd };
+            words = words.wrapping_add(both(halves, stamp, sat, &half)?);
+        }
+    }
+    Ok(words)
+}
+
+fn main(rt: HostRuntime) -> Result<ExitCode, AllocError> {
+    let mut halves = Halves::new(rt.alloc(), 7200);
+    let mut words: u64 = 0;
+    for stamp in 0..SECONDS {
+        words = words.wrapping_add(second(&mut halves, stamp)?);
+    }
+    Ok(ExitCode::from(if words == SECONDS / 2 * 60 { 0 } else { 1 }))
+}
+PROGRAM
+sed -i "s/0\.\.SECONDS/0..${seconds}u32/; s/SECONDS/$seconds/g" "$folder/crates/halves/src/main.rt"
+(cd "$folder/crates/halves" && rt fmt >/dev/null 2>&1; rt run >"$folder/log" 2>&1) || { tail -20 "$folder/log"; exit 1; }
+for round in 1 2 3; do
+  begin=$(date +%s%N)
+  "$folder/crates/halves/out/halves"
+  end=$(date +%s%N)
+  echo "$((seconds * 60)) halves in $(((end - begin) / 1000000)) ms: $((seconds * 60 * 1000 / ((end - begin) / 1000000 + 1))) halves/s"
+done

@@ -1,0 +1,164 @@
+-- Parts of pages as numbers: what is kept of them, their CRC and their word.
+use Rattle.std.proofs.Common.{◌≡◌, ℕ, ◌+◌, ◌-◌, ◌*◌, ◌/◌, ◌%◌, ◌^◌, ◌<◌, ◌≤◌, List, [], ◌∷◌, length, slice_index, true, sym, ap, subst, ◌∙◌, ⊎_elim, arith}
+use Rattle.std.proofs.Math.Nat.{mod-eq_of_lt}
+use Rattle.std.proofs.lemmas.Bool.{cases_lt, lt-ltb, le-ltb, eqb-true, eq-eqb, cond-true, cond-false}
+use Rattle.std.specs.Int.{bytes_high_first}
+use Rattle.nav_bits.specs.Bits.{number_at}
+use Rattle.nav_bits.specs.Fields.{Stand}
+use Rattle.nav_bits.specs.Laws.{number_at-append, number_at-lt}
+use Rattle.crc24q.specs.Division.{IsCrc}
+use Rattle.crc24q.specs.Register.{crc_from}
+use Rattle.crc24q.proofs.DivisionLemmas.{one_remainder}
+use Rattle.crc24q.proofs.MessageLemmas.{crc_of_bytes}
+use Rattle.inav_page.specs.Pages.{digits_at, kept_of, protected_of, data_of, word_of, HasRightCrc, IsHalf, bytes_of_half}
+use Rattle.inav_page.specs.Mirrors.{page_crc, is_right}
+use Rattle.inav_page.proofs.WholeNumbers.{number_at-of_whole, number_at-bytes_of, bytes_of-length, bytes_of-lt, same_from_number}
+
+-- ---- what is kept
+
+kept-even : (n : ℕ) → n < 2 ^ 119 → kept_of n ≡ n / 2 ^ 6 * 2 ^ 6
+kept-even n h = cond-true _ _ _ (lt-ltb n (2 ^ 119) h)
+
+kept-odd : (n : ℕ) → 2 ^ 119 ≤ n → kept_of n ≡ n / 2 ^ 14 * 2 ^ 14
+kept-odd n h = cond-false _ _ _ (le-ltb n (2 ^ 119) h)
+
+-- what is kept of a nominal part is a half
+pub kept_is_half : (n : ℕ) → n < 2 ^ 120 → digits_at n 1 1 ≡ 0 → IsHalf (kept_of n)
+kept_is_half n fits nominal =
+    let P : ℕ → Type 0 = IsHalf in
+    ⊎_elim
+    (λ (even : n < 2 ^ 119). let k = n / 2 ^ 6 * 2 ^ 6 in
+    subst P (sym (kept-even n even)) (record { fits = omega arith; nominal = omega (arith, nominal); kept = kept-even k (omega arith) ∙ omega arith }))
+    (λ (odd : 2 ^ 119 ≤ n). let k = n / 2 ^ 14 * 2 ^ 14 in
+    subst P (sym (kept-odd n odd)) (record { fits = omega arith; nominal = omega (arith, nominal); kept = kept-odd k (omega arith) ∙ omega arith }))
+    (cases_lt n (2 ^ 119))
+
+-- an even part that ends in six bits 0
+pub even_is_half : (n : ℕ) → n < 2 ^ 118 → n / 2 ^ 6 * 2 ^ 6 ≡ n → IsHalf n
+even_is_half n fits tail = record { fits = omega arith; nominal = omega arith; kept = kept-even n (omega arith) ∙ tail }
+
+pub odd_is_half : (n : ℕ) → 2 ^ 119 ≤ n → n < 2 ^ 119 + 2 ^ 118 → n / 2 ^ 14 * 2 ^ 14 ≡ n → IsHalf n
+odd_is_half n odd fits tail = record { fits = omega arith; nominal = omega arith; kept = kept-odd n odd ∙ tail }
+
+-- ---- the bits of a half
+
+pub half_number : (n : ℕ) (bits : List ℕ) → n < 2 ^ 120 → bytes_of_half n ≡ bits → number_at bits 0 120 ≡ n
+half_number n bits fits same = ap (λ b. number_at b 0 120) (sym same) ∙ number_at-bytes_of 15 n ∙ mod-eq_of_lt fits
+
+pub type_of_number : (bits : List ℕ) → digits_at (number_at bits 0 120) 1 1 ≡ number_at bits 1 1
+type_of_number bits = number_at-of_whole bits 1 1 118
+
+-- the number as the code reads it, in two pieces
+pub number_is_read : (bits : List ℕ) (a b : ℕ) → a ≡ number_at bits 0 60 → b ≡ number_at bits 60 60 → a * 2 ^ 60 % 2 ^ 128 + b ≡ number_at bits 0 120
+number_is_read bits a b high low =
+    let whole : number_at bits 0 120 ≡ number_at bits 0 60 * 2 ^ 60 + number_at bits 60 60 = number_at-append bits 0 60 60 in
+    omega (arith, high, low, number_at-lt bits 0 60, whole)
+
+-- ---- the CRC
+
+protected-lt : (even odd : ℕ) → protected_of even odd < 2 ^ 200
+protected-lt even odd = omega arith
+
+number_of_25 : (p : ℕ) → p < 2 ^ 200 → number_at (bytes_high_first 25 p) 0 200 ≡ p
+number_of_25 p h = number_at-bytes_of 25 p ∙ mod-eq_of_lt h
+
+pub page_crc_is : (even odd : ℕ) → IsCrc (protected_of even odd) (page_crc even odd)
+unfolding page_crc
+page_crc_is even odd =
+    let p = protected_of even odd in
+    let bytes = bytes_high_first 25 p in
+    let number : number_at bytes 0 (8 * length bytes) ≡ p = number_of_25 p (protected-lt even odd) in
+    let P : ℕ → Type 0 = λ n. IsCrc n (crc_from 0 bytes) in
+    subst P number (crc_of_bytes bytes)
+
+pub right_to : (even odd : ℕ) → is_right even odd ≡ true → HasRightCrc even odd
+right_to even odd e =
+    let P : ℕ → Type 0 = IsCrc (protected_of even odd) in
+    subst P (eqb-true (page_crc even odd) (digits_at odd 82 24) e) (page_crc_is even odd)
+
+pub right_from : (even odd : ℕ) → HasRightCrc even odd → is_right even odd ≡ true
+right_from even odd is =
+    eq-eqb (page_crc even odd) (digits_at odd 82 24) (one_remainder (protected_of even odd) (page_crc even odd) (digits_at odd 82 24) (page_crc_is even odd) is)
+
+-- the number that stands in four pieces behind four places
+pieces : (bytes : List ℕ) (a b c d : ℕ) → Stand bytes 0 0 ((4, 0) ∷ (50, a) ∷ (64, b) ∷ (18, c) ∷ (64, d) ∷ [])
+    → number_at bytes 0 200 ≡ (a * 2 ^ 64 + b) * 2 ^ 82 + (c * 2 ^ 64 + d)
+pieces bytes a b c d stand =
+    let none : number_at bytes 0 4 ≡ 0 = stand.0 in
+    let one : number_at bytes 4 50 ≡ a = stand.1.0 in
+    let two : number_at bytes 54 64 ≡ b = stand.1.1.0 in
+    let three : number_at bytes 118 18 ≡ c = stand.1.1.1.0 in
+    let four : number_at bytes 136 64 ≡ d = stand.1.1.1.1.0 in
+    omega (arith, none, one, two, three, four, number_at-append bytes 0 136 64, number_at-append bytes 0 118 18, number_at-append bytes 0 54 64, number_at-append bytes 0 4 50)
+
+-- the bytes of which the code takes the CRC are those of the 196 bits
+pub crc_of_pieces : (bytes : List ℕ) (even odd e o : ℕ) → length bytes ≡ 25 → ((i : ℕ) → slice_index bytes i < 256)
+    → e ≡ even / 2 ^ 6 % 2 ^ 114 → o ≡ odd / 2 ^ 38 % 2 ^ 82
+    → Stand bytes 0 0 ((4, 0) ∷ (50, e / 2 ^ 64) ∷ (64, e % 2 ^ 64) ∷ (18, o / 2 ^ 64) ∷ (64, o % 2 ^ 64) ∷ [])
+    → crc_from 0 bytes ≡ page_crc even odd
+unfolding page_crc
+crc_of_pieces bytes even odd e o long each e_is o_is stand =
+    let p = protected_of even odd in
+    let number : number_at bytes 0 200 ≡ p =
+    pieces bytes (e / 2 ^ 64) (e % 2 ^ 64) (o / 2 ^ 64) (o % 2 ^ 64) stand ∙ omega (arith, e_is, o_is) in
+    ap (crc_from 0) (same_from_number bytes (bytes_high_first 25 p) 25 long (bytes_of-length 25 p) each (bytes_of-lt 25 p)
+    (number ∙ sym (number_of_25 p (protected-lt even odd))))
+
+-- ---- the word
+
+-- the word of the parts that are made of it
+pub word_again : (word : List ℕ) (even odd crc : ℕ) → length word ≡ 16 → ((i : ℕ) → slice_index word i < 256)
+    → even ≡ number_at word 0 112 * 2 ^ 6 → odd ≡ 2 ^ 119 + number_at word 112 16 * 2 ^ 102 + crc * 2 ^ 14 → crc < 2 ^ 24
+    → word_of even odd ≡ word
+unfolding word_of
+word_again word even odd crc long each even_is odd_is fits =
+    let number_is : data_of even odd ≡ number_at word 0 128 =
+    omega (arith, even_is, odd_is, fits, number_at-lt word 0 112, number_at-lt word 112 16, number_at-append word 0 112 16) in
+    let bytes = bytes_high_first 16 (data_of even odd) in
+    let number : number_at bytes 0 128 ≡ number_at word 0 128 =
+    number_at-bytes_of 16 (data_of even odd) ∙ ap (λ n. n % 2 ^ 128) number_is ∙ mod-eq_of_lt (number_at-lt word 0 128) in
+    same_from_number bytes word 16 (bytes_of-length 16 (data_of even odd)) long (bytes_of-lt 16 (data_of even odd)) each number
+
+-- the parts of a word as the code makes them
+pub split_even : (word : List ℕ) (a b : ℕ) → a ≡ number_at word 0 56 → b ≡ number_at word 56 56
+    → (a * 2 ^ 56 % 2 ^ 128 + b) * 2 ^ 6 ≡ number_at word 0 112 * 2 ^ 6
+split_even word a b high low =
+    let whole : number_at word 0 112 ≡ number_at word 0 56 * 2 ^ 56 + number_at word 56 56 = number_at-append word 0 56 56 in
+    omega (arith, high, low, number_at-lt word 0 56, whole)
+
+pub split_odd : (word : List ℕ) (a : ℕ) → a ≡ number_at word 112 16 → 2 ^ 119 + a * 2 ^ 102 % 2 ^ 128 ≡ 2 ^ 119 + number_at word 112 16 * 2 ^ 102
+split_odd word a low = omega (arith, low, number_at-lt word 112 16)
+
+pub even_of_word : (word : List ℕ) → IsHalf (number_at word 0 112 * 2 ^ 6)
+even_of_word word = even_is_half (number_at word 0 112 * 2 ^ 6) (omega (arith, number_at-lt word 0 112)) (omega arith)
+
+pub odd_of_word : (word : List ℕ) (crc : ℕ) → crc < 2 ^ 24 → IsHalf (2 ^ 119 + number_at word 112 16 * 2 ^ 102 + crc * 2 ^ 14)
+odd_of_word word crc fits =
+    odd_is_half (2 ^ 119 + number_at word 112 16 * 2 ^ 102 + crc * 2 ^ 14) (omega arith) (omega (arith, fits, number_at-lt word 112 16)) (omega arith)
+
+-- the CRC of the page in its place
+pub crc_in_place : (d crc : ℕ) → d < 2 ^ 16 → crc < 2 ^ 24 → digits_at (2 ^ 119 + d * 2 ^ 102 + crc * 2 ^ 14) 82 24 ≡ crc
+crc_in_place d crc fits fits' = omega (arith, fits, fits')
+
+pub crc_is_right : (even d crc : ℕ) → d < 2 ^ 16 → crc < 2 ^ 24 → crc ≡ page_crc even (2 ^ 119 + d * 2 ^ 102)
+    → HasRightCrc even (2 ^ 119 + d * 2 ^ 102 + crc * 2 ^ 14)
+crc_is_right even d crc fits fits' is =
+    let first = 2 ^ 119 + d * 2 ^ 102 in
+    let odd = 2 ^ 119 + d * 2 ^ 102 + crc * 2 ^ 14 in
+    let same : protected_of even first ≡ protected_of even odd = omega (arith, fits, fits') in
+    let P : ℕ → Type 0 = λ p. IsCrc p (digits_at odd 82 24) in
+    let Q : ℕ → Type 0 = IsCrc (protected_of even first) in
+    subst P same (subst Q (sym is ∙ sym (crc_in_place d crc fits fits')) (page_crc_is even first))
+
+-- ---- places
+
+digits_by : List ℕ → ℕ → ℕ → ℕ
+digits_by bits width rest = number_at bits 0 120 / 2 ^ rest % 2 ^ width
+
+pub digits_of_bits : (bits : List ℕ) (at width rest : ℕ) → at + width + rest ≡ 120 → digits_at (number_at bits 0 120) at width ≡ number_at bits at width
+unfolding digits_by
+digits_of_bits bits at width rest all =
+    let left : 120 - at - width ≡ rest = omega (arith, all) in
+    ap (digits_by bits width) left
+    ∙ sym (ap (λ n. number_at bits 0 n / 2 ^ rest % 2 ^ width) all)
+    ∙ number_at-of_whole bits at width rest

@@ -1,0 +1,297 @@
+-- The partners of a half among the keys, and the words that it makes with them.
+use Rattle.std.proofs.Common.{◌≡◌, ℕ, zero, suc, ◌+◌, ◌-◌, ◌/◌, ◌%◌, ◌<◌, ◌≤◌, ◌^◌, List, [], ◌∷◌, ◌++◌, Bool, true, false, length, map, None, Some, inl, inr, refl, sym, ap, subst, ◌∙◌, ⊎_elim, arith}
+use Rattle.std.proofs.lemmas.Bool.{cond-true, cond-false, cond_both}
+use Rattle.std.proofs.lemmas.List.{map-append, append-nil, length-map}
+use Rattle.std.proofs.lemmas.List.Elements.{filter-append}
+use Rattle.std.proofs.lemmas.List.Kept.{IsStrictlySortedBy-filter}
+use Rattle.std.specs.List.{filter, AllByRecursion}
+use Rattle.std.specs.BTreeMap.Range.{range_contains}
+use Rattle.std.specs.declared.ops.Bound.TheVariants.{Included, Excluded}
+use Rattle.std.specs.List.Sorted.{IsStrictlySortedBy}
+use Rattle.std.specs.declared.cmp.Ordering.TheVariants.{Less}
+use Rattle.nav_eph.specs.Satellite.{Satellite}
+use Rattle.nav_eph.specs.declared.sat.System.TheVariants.{Gal}
+use Rattle.inav_page.specs.declared.half.HalfKind.{HalfKind}
+use Rattle.inav_page.specs.declared.half.HalfKind.TheVariants.{Even, Odd}
+use Rattle.inav_page.specs.declared.signal.Signal.{Signal}
+use Rattle.inav_page.specs.declared.signal.Signal.TheVariants.{E1b, E5b}
+use Rattle.inav_page.specs.Pages.{kind_of}
+use Rattle.inav_page.specs.Heard.{StampedHalf, IsIn, MakeWord, ArePartners, AreWordsWith, IsAbove, IsAscending, word_by, word_with}
+use Rattle.inav_page.specs.Keeping.{stamped}
+use Rattle.inav_page.specs.Mirrors.{signal_number, signal_of, place_of, half_of, is_right_by, key_cmp, first_partner, end_of_partners, keys_at_place, right_keys, words_at_place, AreKeys, HasPartnerStamp}
+use Rattle.inav_page.specs.HeardLaws.{not_both}
+use Rattle.inav_page.proofs.PageNumbers.{right_to, right_from}
+use Rattle.inav_page.proofs.Membership.{filter_in, in_filter, in_map, map_in}
+use Rattle.inav_page.proofs.KeyOrder.{key_lt, in_range, range_to, range_from, other_kind}
+
+-- ---- keys and halves
+
+signal_again : (signal : Signal) → signal_of (signal_number signal) ≡ signal
+signal_again E1b = refl
+signal_again E5b = refl
+
+signal_number-lt : (signal : Signal) → signal_number signal < 2
+signal_number-lt E1b = omega arith
+signal_number-lt E5b = omega arith
+
+signal_back : (lane : ℕ) → lane < 2 → signal_number (signal_of lane) ≡ lane
+signal_back zero h = refl
+signal_back (suc zero) h = refl
+signal_back (suc (suc n)) h = absurd (omega (arith, h))
+
+-- the half of a key at a place
+pub half_of_place : (stamp number : ℕ) (signal : Signal) (key : ℕ × ℕ) → number < 64 → key.0 ≡ place_of stamp number signal
+    → half_of key ≡ stamped stamp (record { system = Gal; number = number }) signal key.1
+half_of_place stamp number signal key fits at =
+    let s = signal_number signal in
+    let small : s < 2 = signal_number-lt signal in
+    let stamp_is : key.0 / 128 ≡ stamp = omega (arith, at, small, fits) in
+    let number_is : key.0 / 2 % 64 ≡ number = omega (arith, at, small, fits) in
+    let lane_is : key.0 % 2 ≡ s = omega (arith, at, small, fits) in
+    let signal_is : signal_of (key.0 % 2) ≡ signal = ap signal_of lane_is ∙ signal_again signal in
+    λ i. record { stamp = stamp_is i; sat = record { system = Gal; number = number_is i }; signal = signal_is i; half = key.1 }
+
+-- the place of a half
+pub place_back : (key : ℕ × ℕ) → key.0 ≡ place_of (half_of key).stamp (half_of key).sat.number (half_of key).signal
+place_back key =
+    let lane : signal_number (signal_of (key.0 % 2)) ≡ key.0 % 2 = signal_back (key.0 % 2) (omega arith) in
+    omega (arith, lane)
+
+-- no two keys have the same half
+pub same_key : (a b : ℕ × ℕ) → half_of a ≡ half_of b → a ≡ b
+same_key a b e =
+    let at : a.0 ≡ b.0 = place_back a ∙ ap (λ h. place_of h.stamp h.sat.number h.signal) e ∙ sym (place_back b) in
+    let bits : a.1 ≡ b.1 = ap (λ h. h.half) e in
+    λ i. (at i, bits i)
+
+-- ---- partners, one by one
+
+-- what makes a key the partner of a half of that kind at a stamp
+pub is_partner : (stamp number : ℕ) (signal : Signal) (half other : ℕ) (kind : HalfKind) (key : ℕ × ℕ) → kind_of half ≡ kind → number < 64
+    → HasPartnerStamp kind stamp (Some other) → key.0 ≡ place_of other number signal → kind_of key.1 ≡ other_kind kind → is_right_by kind half key.1 ≡ true
+    → ArePartners (stamped stamp (record { system = Gal; number = number }) signal half) (half_of key)
+is_partner stamp number signal half other Even key kind_is fits has at its right =
+    let taken = stamped stamp (record { system = Gal; number = number }) signal half in
+    let P : StampedHalf → Type 0 = ArePartners taken in
+    subst P (sym (half_of_place other number signal key fits at))
+    (inl (record { is_even = kind_is; is_odd = its; stamp = has.1; sat = refl; signal = refl; crc = right_to half key.1 right }))
+is_partner stamp number signal half other Odd key kind_is fits has at its right =
+    let taken = stamped stamp (record { system = Gal; number = number }) signal half in
+    let P : StampedHalf → Type 0 = ArePartners taken in
+    let low : 1 ≤ stamp = has.0 in
+    let is : other ≡ stamp - 1 = has.1 in
+    subst P (sym (half_of_place other number signal key fits at))
+    (inr (record { is_even = its; is_odd = kind_is; stamp = omega (arith, low, is); sat = refl; signal = refl; crc = right_to key.1 half right }))
+
+-- the place of a partner
+pub partner_place : (stamp number : ℕ) (signal : Signal) (half other : ℕ) (kind : HalfKind) (key : ℕ × ℕ) → kind_of half ≡ kind
+    → HasPartnerStamp kind stamp (Some other) → ArePartners (stamped stamp (record { system = Gal; number = number }) signal half) (half_of key)
+    → (key.0 ≡ place_of other number signal) × (kind_of key.1 ≡ other_kind kind) × (is_right_by kind half key.1 ≡ true)
+partner_place stamp number signal half other Even key kind_is has partners =
+    let taken = stamped stamp (record { system = Gal; number = number }) signal half in
+    ⊎_elim
+    (λ (make : MakeWord taken (half_of key)).
+    let stamp_is : key.0 / 128 ≡ other = make.stamp ∙ sym has.1 in
+    let number_is : key.0 / 2 % 64 ≡ number = ap (λ (s : Satellite). s.number) make.sat in (
+      place_back key ∙ ap (λ t. place_of t (half_of key).sat.number (half_of key).signal) stamp_is
+          ∙ ap (λ n. place_of other n (half_of key).signal) number_is ∙ ap (place_of other number) make.signal,
+      make.is_odd,
+      right_from half key.1 make.crc,
+    ))
+    (λ (make : MakeWord (half_of key) taken). absurd (not_both (kind_of half) kind_is make.is_odd))
+    partners
+partner_place stamp number signal half other Odd key kind_is has partners =
+    let taken = stamped stamp (record { system = Gal; number = number }) signal half in
+    let is : other ≡ stamp - 1 = has.1 in
+    ⊎_elim
+    (λ (make : MakeWord taken (half_of key)). absurd (not_both (kind_of half) make.is_even kind_is))
+    (λ (make : MakeWord (half_of key) taken).
+    let later : stamp ≡ key.0 / 128 + 1 = make.stamp in
+    let stamp_is : key.0 / 128 ≡ other = omega (arith, later, is) in
+    let number_is : key.0 / 2 % 64 ≡ number = sym (ap (λ (s : Satellite). s.number) make.sat) in (
+      place_back key ∙ ap (λ t. place_of t (half_of key).sat.number (half_of key).signal) stamp_is
+          ∙ ap (λ n. place_of other n (half_of key).signal) number_is ∙ ap (place_of other number) (sym make.signal),
+      make.is_even,
+      right_from key.1 half make.crc,
+    ))
+    partners
+
+-- a half whose partners would be past the last second, or before the first, has none
+pub no_partner : (stamp number : ℕ) (signal : Signal) (half : ℕ) (kind : HalfKind) (key : ℕ × ℕ) → kind_of half ≡ kind
+    → HasPartnerStamp kind stamp None → key.0 < 2 ^ 39 → ArePartners (stamped stamp (record { system = Gal; number = number }) signal half) (half_of key) → ⊥
+no_partner stamp number signal half Even key kind_is none fits partners =
+    let taken = stamped stamp (record { system = Gal; number = number }) signal half in
+    ⊎_elim
+    (λ (make : MakeWord taken (half_of key)). let is : key.0 / 128 ≡ stamp + 1 = make.stamp in none (omega (arith, is, fits)))
+    (λ (make : MakeWord (half_of key) taken). not_both (kind_of half) kind_is make.is_odd)
+    partners
+no_partner stamp number signal half Odd key kind_is none fits partners =
+    let taken = stamped stamp (record { system = Gal; number = number }) signal half in
+    ⊎_elim
+    (λ (make : MakeWord taken (half_of key)). not_both (kind_of half) make.is_even kind_is)
+    (λ (make : MakeWord (half_of key) taken). let is : stamp ≡ key.0 / 128 + 1 = make.stamp in none (omega (arith, is)))
+    partners
+
+-- ---- all partners
+
+bits_ascend : (a b : ℕ × ℕ) → a.0 ≡ b.0 → key_cmp a b ≡ Less → a.1 < b.1
+bits_ascend a b e h =
+    ⊎_elim
+    (λ (low : a.0 < b.0). absurd (omega (arith, e, low)))
+    (λ (same : (a.0 ≡ b.0) × (a.1 < b.1)). same.1)
+    (key_lt a b h)
+
+all_above : (place : ℕ) (first : ℕ × ℕ) (keys : List (ℕ × ℕ)) → first.0 ≡ place → ((key : ℕ × ℕ) → IsIn keys key → key.0 ≡ place)
+    → AllByRecursion (λ key. key_cmp first key ≡ Less) keys → IsAbove first.1 (map half_of keys)
+all_above place first [] at places h = tt
+all_above place first (key ∷ keys) at places h =
+    (bits_ascend first key (at ∙ sym (places key (inl refl))) h.0, all_above place first keys at (λ k there. places k (inr there)) h.1)
+
+-- keys at one place ascend by their bits
+pub keys_ascend : (place : ℕ) (keys : List (ℕ × ℕ)) → ((key : ℕ × ℕ) → IsIn keys key → key.0 ≡ place) → IsStrictlySortedBy key_cmp keys
+    → IsAscending (map half_of keys)
+unfolding IsStrictlySortedBy
+keys_ascend place [] places h = tt
+keys_ascend place (key ∷ keys) places h =
+    (all_above place key keys (places key (inl refl)) (λ k there. places k (inr there)) h.0, keys_ascend place keys (λ k there. places k (inr there)) h.1)
+
+map-map : {X Y Z : Type 0} (f : Y → Z) (g : X → Y) (xs : List X) → map f (map g xs) ≡ map (λ x. f (g x)) xs
+map-map f g [] = refl
+map-map f g (x ∷ xs) = ap (λ ys. f (g x) ∷ ys) (map-map f g xs)
+
+at_place : (keys : List (ℕ × ℕ)) (place half : ℕ) (kind : HalfKind) (key : ℕ × ℕ) → IsIn (right_keys kind half (keys_at_place keys place kind)) key
+    → IsIn keys key × (key.0 ≡ place) × (kind_of key.1 ≡ other_kind kind) × (is_right_by kind half key.1 ≡ true)
+unfolding keys_at_place right_keys
+at_place keys place half kind key h =
+    let right = filter_in (λ k. is_right_by kind half k.1) (keys_at_place keys place kind) key h in
+    let there = filter_in (in_range place kind) keys key right.0 in
+    let where_is = range_to place kind key there.1 in
+    (there.0, where_is.0, where_is.1, right.1)
+
+stands_at_place : (keys : List (ℕ × ℕ)) (place half : ℕ) (kind : HalfKind) (key : ℕ × ℕ) → IsIn keys key → key.0 ≡ place → kind_of key.1 ≡ other_kind kind
+    → is_right_by kind half key.1 ≡ true → IsIn (right_keys kind half (keys_at_place keys place kind)) key
+unfolding keys_at_place right_keys
+stands_at_place keys place half kind key there at its right =
+    in_filter (λ k. is_right_by kind half k.1) (keys_at_place keys place kind) key
+    (in_filter (in_range place kind) keys key there (range_from place kind key at its)) right
+
+sorted_at_place : (keys : List (ℕ × ℕ)) (place half : ℕ) (kind : HalfKind) → IsStrictlySortedBy key_cmp keys
+    → IsStrictlySortedBy key_cmp (right_keys kind half (keys_at_place keys place kind))
+unfolding keys_at_place right_keys
+sorted_at_place keys place half kind sorted =
+    IsStrictlySortedBy-filter key_cmp (λ k. is_right_by kind half k.1) (keys_at_place keys place kind)
+    (IsStrictlySortedBy-filter key_cmp (in_range place kind) keys sorted)
+
+-- the words at the place of the partners are those of the half with its partners
+pub words_of_partners : (keys : List (ℕ × ℕ)) (stamp number : ℕ) (signal : Signal) (half other : ℕ) → IsStrictlySortedBy key_cmp keys → number < 64
+    → HasPartnerStamp (kind_of half) stamp (Some other)
+    → AreWordsWith (IsIn (map half_of keys)) (stamped stamp (record { system = Gal; number = number }) signal half) (words_at_place keys (place_of other number signal) half)
+words_of_partners keys stamp number signal half other sorted fits has =
+    let kind = kind_of half in
+    let place = place_of other number signal in
+    let taken = stamped stamp (record { system = Gal; number = number }) signal half in
+    let found = right_keys kind half (keys_at_place keys place kind) in
+    record {
+      partners = map half_of found;
+      each = λ one. (
+        λ h. let key = map_in half_of found one h in
+            let is = at_place keys place half kind key.0 key.1 in
+            let P : StampedHalf → Type 0 = λ h. IsIn (map half_of keys) h × ArePartners taken h in
+            subst P key.2 (in_map half_of keys key.0 is.0, is_partner stamp number signal half other kind key.0 refl fits has is.1 is.2 is.3),
+        λ h. let key = map_in half_of keys one h.0 in
+            let P : StampedHalf → Type 0 = ArePartners taken in
+            let is = partner_place stamp number signal half other kind key.0 refl has (subst P (sym key.2) h.1) in
+            let Q : StampedHalf → Type 0 = IsIn (map half_of found) in
+            subst Q key.2 (in_map half_of found key.0 (stands_at_place keys place half kind key.0 key.1 is.0 is.1 is.2)),
+      );
+      ascending = keys_ascend place found (λ key h. (at_place keys place half kind key h).1) (sorted_at_place keys place half kind sorted);
+      words_are = sym (map-map (word_with taken) half_of found);
+    }
+
+pub no_words : (keys : List (ℕ × ℕ)) (stamp number : ℕ) (signal : Signal) (half : ℕ) → AreKeys keys → HasPartnerStamp (kind_of half) stamp None
+    → AreWordsWith (IsIn (map half_of keys)) (stamped stamp (record { system = Gal; number = number }) signal half) []
+no_words keys stamp number signal half fits none =
+    let taken = stamped stamp (record { system = Gal; number = number }) signal half in
+    record {
+      partners = [];
+      each = λ one. (
+        λ h. absurd h,
+        λ h. let key = map_in half_of keys one h.0 in
+            let P : StampedHalf → Type 0 = ArePartners taken in
+            absurd (no_partner stamp number signal half (kind_of half) key.0 refl none (fits key.0 key.1) (subst P (sym key.2) h.1)),
+      );
+      ascending = tt;
+      words_are = refl;
+    }
+
+-- ---- words, as the code finds them one after another
+
+abbrev pub words_found : HalfKind → ℕ → List (ℕ × ℕ) → List (List ℕ)
+words_found kind half keys = map (λ key. word_by kind half key.1) (right_keys kind half keys)
+
+pub none_found : (kind : HalfKind) (half : ℕ) → words_found kind half [] ≡ []
+unfolding right_keys
+none_found kind half = refl
+
+found_append : (kind : HalfKind) (half : ℕ) (keys : List (ℕ × ℕ)) (key : ℕ × ℕ)
+    → words_found kind half (keys ++ key ∷ []) ≡ words_found kind half keys ++ words_found kind half (key ∷ [])
+unfolding right_keys
+found_append kind half keys key =
+    ap (map (λ key. word_by kind half key.1)) (filter-append (λ key. is_right_by kind half key.1) keys (key ∷ []))
+    ∙ map-append (λ key. word_by kind half key.1) (right_keys kind half keys) (right_keys kind half (key ∷ []))
+
+one_found : (kind : HalfKind) (half : ℕ) (key : ℕ × ℕ) → is_right_by kind half key.1 ≡ true → words_found kind half (key ∷ []) ≡ word_by kind half key.1 ∷ []
+unfolding right_keys
+one_found kind half key right =
+    ap (map (λ key. word_by kind half key.1)) (cond-true (is_right_by kind half key.1) (key ∷ []) [] right)
+
+not_found : (kind : HalfKind) (half : ℕ) (key : ℕ × ℕ) → is_right_by kind half key.1 ≡ false → words_found kind half (key ∷ []) ≡ []
+unfolding right_keys
+not_found kind half key wrong =
+    ap (map (λ key. word_by kind half key.1)) (cond-false (is_right_by kind half key.1) (key ∷ []) [] wrong)
+
+pub found_more : {A : Type 0} (shows : A → ℕ × ℕ) (kind : HalfKind) (half : ℕ) (ys : List A) (y : A) (words : List (List ℕ)) (w : List ℕ)
+    → words ≡ words_found kind half (map shows ys) → is_right_by kind half (shows y).1 ≡ true → w ≡ word_by kind half (shows y).1
+    → words ++ w ∷ [] ≡ words_found kind half (map shows (ys ++ y ∷ []))
+found_more shows kind half ys y words w so right is =
+    ap (λ ws. ws ++ w ∷ []) so
+    ∙ ap (λ v. words_found kind half (map shows ys) ++ v ∷ []) is
+    ∙ ap (λ ws. words_found kind half (map shows ys) ++ ws) (sym (one_found kind half (shows y) right))
+    ∙ sym (ap (words_found kind half) (map-append shows ys (y ∷ [])) ∙ found_append kind half (map shows ys) (shows y))
+
+pub found_no_more : {A : Type 0} (shows : A → ℕ × ℕ) (kind : HalfKind) (half : ℕ) (ys : List A) (y : A) (words : List (List ℕ))
+    → words ≡ words_found kind half (map shows ys) → is_right_by kind half (shows y).1 ≡ false
+    → words ≡ words_found kind half (map shows (ys ++ y ∷ []))
+found_no_more shows kind half ys y words so wrong =
+    so ∙ sym (append-nil (words_found kind half (map shows ys)))
+    ∙ ap (λ ws. words_found kind half (map shows ys) ++ ws) (sym (not_found kind half (shows y) wrong))
+    ∙ sym (ap (words_found kind half) (map-append shows ys (y ∷ [])) ∙ found_append kind half (map shows ys) (shows y))
+
+-- the range that the code asks for
+pub range_is : (keys : List (ℕ × ℕ)) (place : ℕ) (kind : HalfKind) (start end : ℕ × ℕ) → start ≡ first_partner place kind → end ≡ end_of_partners place kind
+    → filter (range_contains key_cmp (Included start) (Excluded end)) keys ≡ keys_at_place keys place kind
+unfolding keys_at_place
+range_is keys place kind start end first last =
+    ap (λ s. filter (range_contains key_cmp (Included s) (Excluded end)) keys) first
+    ∙ ap (λ e. filter (range_contains key_cmp (Included (first_partner place kind)) (Excluded e)) keys) last
+
+-- ---- how many
+
+filter-fewer : (p : ℕ × ℕ → Bool) (keys : List (ℕ × ℕ)) → length (filter p keys) ≤ length keys
+filter-fewer p [] = omega arith
+filter-fewer p (key ∷ keys) =
+    let P : List (ℕ × ℕ) → Type 0 = λ found. length found ≤ suc (length keys) in
+    let fewer = filter-fewer p keys in
+    cond_both (p key) (key ∷ filter p keys) (filter p keys) P (λ passes. omega (arith, fewer)) (λ fails. omega (arith, fewer))
+
+pub words-fewer : (keys : List (ℕ × ℕ)) (place half : ℕ) → length (words_at_place keys place half) ≤ length keys
+unfolding keys_at_place right_keys
+words-fewer keys place half =
+    let kind = kind_of half in
+    let there = keys_at_place keys place kind in
+    omega (
+      arith,
+      length-map (right_keys kind half there) (λ key. word_by kind half key.1),
+      filter-fewer (λ key. is_right_by kind half key.1) there,
+      filter-fewer (in_range place kind) keys,
+    )

@@ -1,0 +1,5 @@
+pub mod Pages
+pub mod Heard
+pub mod Keeping
+pub mod Mirrors
+pub mod HeardLaws

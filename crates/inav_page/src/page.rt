@@ -1,0 +1,96 @@
+//! The word of two parts, and the parts of a word.
+
+ghost use Rattle.std.specs.Prelude.{◌≡◌, ℕ, ◌+◌, ◌*◌, ◌^◌, ◌<◌, ◌↔◌, IsSome, IfSome, slice_index};
+ghost use Rattle.nav_bits.specs.Bits.{number_at};
+ghost use Rattle.inav_page.specs.declared.half.HalfKind.TheVariants.{Even, Odd};
+ghost use Rattle.inav_page.specs.Pages.{digits_at, kind_of, word_of, HasRightCrc, IsHalf, IsSplit};
+ghost use Rattle.inav_page.specs.Mirrors.{is_right, page_crc};
+
+use crate::half::{Half, ODD};
+use crc24q::crc_bytes;
+use nav_bits::{Bits, put_numbers};
+
+// The low 64 bits of a number.
+const LOW: u128 = 1 << 64;
+
+// Contracts see bytes as numbers: each is below 256.
+fn are_bytes(bytes: &[u8])
+    ensures { (i : ℕ) → slice_index bytes.now i < 256 }
+{
+    let _length = bytes.len();
+}
+
+// The CRC of the 196 bits of two parts that it protects.
+fn crc_of(even: u128, odd: u128) -> u64
+    ensures same { result ≡ page_crc even odd }
+    ensures fits { result < 2 ^ 24 }
+{
+    let even = (even >> 6) % (1 << 114);
+    let odd = (odd >> 38) % (1 << 82);
+    let mut bytes = [0u8; 25];
+    put_numbers(
+        &mut bytes,
+        0,
+        &[
+            (4, 0),
+            (50, (even / LOW) as u64),
+            (64, (even % LOW) as u64),
+            (18, (odd / LOW) as u64),
+            (64, (odd % LOW) as u64),
+        ],
+    );
+    are_bytes(&bytes);
+    crc_bytes(&bytes).value()
+}
+
+// The CRC in the odd part is that of the page.
+pub(crate) fn belong(even: u128, odd: u128) -> bool
+    ensures { result ≡ is_right even odd }
+{
+    crc_of(even, odd) == (odd / 0x4000 % 0x100_0000) as u64
+}
+
+// The word of two parts.
+pub(crate) fn word(even: u128, odd: u128) -> Bits<16>
+    ensures { result ≡ word_of even odd }
+{
+    let high = even / 0x40 % (1 << 112);
+    let low = (odd >> 102) % 0x1_0000;
+    Bits::from_bytes((high * 0x1_0000 + low).to_be_bytes())
+}
+
+/// The word of the two parts of a page: the 112 data bits of the even part, and the 16 of the odd one (Galileo OS SIS
+/// ICD, 4.3.2.3).
+///
+/// `None` exactly where the CRC-24Q of the first 114 bits of the even part and the first 82 of the odd one is not the
+/// CRC in the odd part (5.1.9.4).
+pub fn join(even: &Half, odd: &Half) -> Option<Bits<16>>
+    requires even { kind_of even.now ≡ Even }
+    requires odd { kind_of odd.now ≡ Odd }
+    ensures crc { IsSome result ↔ HasRightCrc even.now odd.now }
+    ensures word { IfSome result (λ word. word ≡ word_of even.now odd.now) }
+{
+    let even = even.number();
+    let odd = odd.number();
+    if belong(even, odd) {
+        Some(word(even, odd))
+    } else {
+        None
+    }
+}
+
+/// The two parts that send a word: nominal pages, the 64 further bits 0, and the CRC of the page.
+pub fn split(word: &Bits<16>) -> (Half, Half)
+    ensures parts { IsSplit word.now result.0 result.1 }
+    ensures even { kind_of result.0 ≡ Even }
+    ensures odd { kind_of result.1 ≡ Odd }
+    ensures again { word_of result.0 result.1 ≡ word.now }
+{
+    are_bytes(word.bytes());
+    let high = (u128::from(word.get(0, 56)) << 56) + u128::from(word.get(56, 56));
+    let even = high * 0x40;
+    let odd = ODD + (u128::from(word.get(112, 16)) << 102);
+    let crc = crc_of(even, odd);
+    let odd = odd + u128::from(crc) * 0x4000;
+    (Half::of_number(even), Half::of_number(odd))
+}
