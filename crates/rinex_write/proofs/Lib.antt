@@ -1,0 +1,4 @@
+mod Worked
+pub mod Rows
+pub mod ItemFields
+pub mod RowsLeft

@@ -1,0 +1,7 @@
+use Rattle.gnss_week.proofs.WeekFunctions.{moment_near-only}
+use Rattle.rinex_write.specs.Fields.{gps_epoch}
+use Rattle.rinex_write.proofs.item.gps_epoch.Goals as goal
+
+pub returns : goal.returns
+unfolding gps_epoch
+returns c = let e = moment_near-only _ _ _ c.nearest_moment.ensures in cc

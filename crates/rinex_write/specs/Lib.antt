@@ -1,0 +1,6 @@
+pub mod Accuracies
+pub mod Columns
+pub mod Fields
+pub mod Layouts
+pub mod Mirrors
+pub mod Texts

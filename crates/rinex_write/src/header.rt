@@ -1,0 +1,69 @@
+//! The header of a file.
+
+ghost use Rattle.std.specs.Prelude.{◌≡◌, ◌<◌, ◌≤◌, MatchResult};
+ghost use Rattle.std.specs.Io.KnownBytes.{Appends};
+ghost use Rattle.nav_io.specs.Causes.{HasCause};
+ghost use Rattle.nav_io.specs.Front.{AppendsFront};
+ghost use Rattle.rinex_write.specs.Texts.{header_lines, leap_text, text_of};
+
+use crate::record::{Record, append};
+use nav_io::{Failed, Sink};
+
+/// What a header says of its file, beside what each header says.
+#[derive(Clone, Copy, PartialEq, Eq, Debug)]
+pub struct HeaderWords {
+    /// When the file was made, in 19 characters as `20240101 000000 UTC`.
+    pub date: [u8; 19],
+    /// The leap seconds between UTC and GPS time, 0 to 99.
+    pub leap: u8,
+}
+
+// The leap seconds in two columns.
+fn leap_columns(leap: u8) -> [u8; 2]
+    requires { leap < 100 }
+    ensures { result ≡ leap_text leap }
+{
+    let tens = if leap < 10 { b' ' } else { b'0' + leap / 10 };
+    [tens, b'0' + leap % 10]
+}
+
+// The text of a header.
+fn header_text(words: &HeaderWords) -> Record
+    requires { words.now.leap < 100 }
+    ensures { result.items ≡ text_of (header_lines words.now) }
+{
+    let mut text = Record::new();
+    append(
+        &mut text,
+        b"     4.01           N: GNSS NAV DATA    M: MIXED            RINEX VERSION / TYPE\n",
+    );
+    append(&mut text, b"navbridge                               ");
+    append(&mut text, &words.date);
+    append(&mut text, b" PGM / RUN BY / DATE\n    ");
+    append(&mut text, &leap_columns(words.leap));
+    append(
+        &mut text,
+        b"                                                      LEAP SECONDS\n",
+    );
+    append(
+        &mut text,
+        b"                                                            END OF HEADER\n",
+    );
+    text
+}
+
+/// Appends the header of a navigation file to a sink, by one write (RINEX 4.01, table A2).
+///
+/// # Errors
+///
+/// `Failed` only where the sink's count of faults rose in this call, or stands at its last value; a front of the header
+/// was appended then.
+pub fn write_header<T: Sink>(words: &HeaderWords, out: &mut T) -> Result<(), Failed>
+    requires { words.now.leap < 100 }
+    ensures bytes { MatchResult result
+        (λ _. Appends (T.written out.old) (T.written out.new) (text_of (header_lines words.now)))
+        (λ _. AppendsFront (T.written out.old) (T.written out.new) (text_of (header_lines words.now))) }
+    ensures cause { HasCause (T.faults out.old) (T.faults out.new) result }
+{
+    out.write(&header_text(words))
+}

@@ -1,0 +1,204 @@
+//! The records of items.
+
+ghost use Rattle.std.specs.Prelude.{◌≡◌, ◌≤◌, ◌∷◌, ◌++◌, [], List, ℕ, map, length, MatchResult, codes};
+ghost use Rattle.std.specs.Io.KnownBytes.{Appends};
+ghost use Rattle.nav_io.specs.Causes.{HasCause};
+ghost use Rattle.nav_io.specs.Front.{AppendsFront};
+ghost use Rattle.nav_eph.specs.Ranges.{HasGalRanges, HasGpsRanges, HasIonRanges};
+ghost use Rattle.nav_eph.specs.declared.items.NavItem.TheVariants.{Gps, Gal, Ion};
+ghost use Rattle.rinex_write.specs.Columns.{joined_rows};
+ghost use Rattle.rinex_write.specs.Fields.{gps_epoch, galileo_epoch, gps_fields, galileo_fields, gps_ionosphere_fields, galileo_ionosphere_fields};
+ghost use Rattle.rinex_write.specs.Layouts.{Kind, gps_kind, galileo_kind, gps_ionosphere_kind, galileo_ionosphere_kind};
+ghost use Rattle.rinex_write.specs.Mirrors.{AreReady, IsTable};
+ghost use Rattle.rinex_write.specs.Texts.{text_of, title_line, record_lines, satellite_text, item_lines, ionosphere_lines};
+
+use crate::fields::{galileo_fields, galileo_ionosphere_fields, gps_fields, gps_ionosphere_fields};
+use crate::layouts::{
+    Layout, galileo_ionosphere_layout, galileo_layout, gps_ionosphere_layout, gps_layout,
+};
+use crate::record::{Record, append, append_table, date_columns, satellite_columns};
+use gnss_week::{Moment, Second, civil, nearest_moment};
+use nav_eph::{GalEph, GpsEph, IonContent, IonEph, NavItem, Sat};
+use nav_io::{Failed, Sink};
+
+// The class and the message of a kind of record, as they stand in its title.
+#[derive(Clone, Copy)]
+struct Title {
+    class: [u8; 3],
+    message: [u8; 4],
+}
+
+// The moment of the clock of an ephemeris of GPS.
+fn gps_epoch(e: &GpsEph) -> Moment
+    ensures { result ≡ gps_epoch e.now }
+{
+    let week = u64::from(e.toe_week.value());
+    let toe = Moment::from_seconds(604_800 * week + 16 * e.a.toe.value());
+    nearest_moment(toe, Second::from_number((16 * e.clock.toc.value()) as u32))
+}
+
+// The moment of the clock of an ephemeris of Galileo.
+fn galileo_epoch(e: &GalEph) -> Moment
+    ensures { result ≡ galileo_epoch e.now }
+{
+    let week = u64::from(e.toe_week.value());
+    let toe = Moment::from_seconds(604_800 * week + 60 * e.w1.toe.value());
+    nearest_moment(toe, Second::from_number((60 * e.w4.toc.value()) as u32))
+}
+
+// Appends the title of a record.
+fn append_title(text: &mut Record, title: &Title, sat: &Sat)
+    requires { text.old.items ≡ [] }
+    ensures items { (k : Kind) → title.now.class ≡ k.class → title.now.message ≡ k.message
+        → text.new.items ≡ title_line k sat.now ++ 10 ∷ [] }
+    ensures short { length text.new.items ≤ 15 }
+{
+    append(text, b"> ");
+    append(text, &title.class);
+    append(text, b" ");
+    append(text, &satellite_columns(sat));
+    append(text, b" ");
+    append(text, &title.message);
+    append(text, b"\n");
+}
+
+// The text of a record.
+fn record_of(
+    title: &Title,
+    sat: &Sat,
+    four: &[u8; 4],
+    moment: Moment,
+    layout: &Layout,
+    fields: &[i64],
+) -> Record
+    requires table { IsTable layout.now.rows.now layout.now.columns.now }
+    requires ready { AreReady layout.now.columns.now fields.now }
+    ensures { (k : Kind) → title.now.class ≡ k.class → title.now.message ≡ k.message
+        → layout.now.columns.now ≡ joined_rows k.rows → layout.now.rows.now ≡ map length k.rows
+        → result.items ≡ text_of (record_lines k sat.now four.now moment fields.now) }
+{
+    let mut text = Record::new();
+    append_title(&mut text, title, sat);
+    append(&mut text, four);
+    append(&mut text, &date_columns(&civil(moment)));
+    append_table(&mut text, layout, fields);
+    text
+}
+
+// The four columns before the date of an ephemeris.
+fn satellite_start(sat: &Sat) -> [u8; 4]
+    ensures { result ≡ satellite_text sat.now ++ 32 ∷ [] }
+{
+    let [letter, tens, ones] = satellite_columns(sat);
+    [letter, tens, ones, b' ']
+}
+
+const GPS: Title = Title {
+    class: *b"EPH",
+    message: *b"LNAV",
+};
+
+const GALILEO: Title = Title {
+    class: *b"EPH",
+    message: *b"INAV",
+};
+
+const GPS_IONOSPHERE: Title = Title {
+    class: *b"ION",
+    message: *b"LNAV",
+};
+
+const GALILEO_IONOSPHERE: Title = Title {
+    class: *b"ION",
+    message: *b"IFNV",
+};
+
+// The record of an ephemeris of GPS.
+fn gps_record(e: &GpsEph) -> Record
+    requires { HasGpsRanges e.now }
+    ensures { result.items ≡ text_of (item_lines (Gps e.now)) }
+{
+    let start = satellite_start(&e.sat);
+    let fields = gps_fields(e);
+    record_of(&GPS, &e.sat, &start, gps_epoch(e), &gps_layout(), &fields)
+}
+
+// The record of an ephemeris of Galileo.
+fn galileo_record(e: &GalEph) -> Record
+    requires { HasGalRanges e.now }
+    ensures { result.items ≡ text_of (item_lines (Gal e.now)) }
+{
+    let start = satellite_start(&e.sat);
+    let fields = galileo_fields(e);
+    record_of(
+        &GALILEO,
+        &e.sat,
+        &start,
+        galileo_epoch(e),
+        &galileo_layout(),
+        &fields,
+    )
+}
+
+// The record of an ionosphere.
+fn ionosphere_record(e: &IonEph) -> Record
+    requires { HasIonRanges e.now }
+    ensures { result.items ≡ text_of (item_lines (Ion e.now)) }
+{
+    match &e.content {
+        IonContent::Gps(i) => {
+            let fields = gps_ionosphere_fields(i);
+            record_of(
+                &GPS_IONOSPHERE,
+                &e.sat,
+                b"    ",
+                e.moment,
+                &gps_ionosphere_layout(),
+                &fields,
+            )
+        }
+        IonContent::Gal(i) => {
+            let fields = galileo_ionosphere_fields(i);
+            record_of(
+                &GALILEO_IONOSPHERE,
+                &e.sat,
+                b"    ",
+                e.moment,
+                &galileo_ionosphere_layout(),
+                &fields,
+            )
+        }
+    }
+}
+
+// The record of an item.
+fn item_record(item: &NavItem) -> Record
+    ensures { result.items ≡ text_of (item_lines item.now) }
+{
+    item.ranges();
+    match item {
+        NavItem::Gps(e) => gps_record(e),
+        NavItem::Gal(e) => galileo_record(e),
+        NavItem::Ion(e) => ionosphere_record(e),
+    }
+}
+
+/// Appends the record of an item to a sink, by one write: its title, as `> EPH G05 LNAV`, and the lines of its numbers
+/// (RINEX 4.01, GPS LNAV and Galileo INAV navigation records).
+///
+/// Angles are written in radians, times in seconds, lengths in metres; the accuracy in metres by its nominal value, the
+/// fit interval in hours, the second of sending counted from the start of the week of toe, 999,900,000 where it is not
+/// known. The date of an ephemeris is that of its clock, at most half a week from toe.
+///
+/// # Errors
+///
+/// `Failed` only where the sink's count of faults rose in this call, or stands at its last value; a front of the record
+/// was appended then.
+pub fn write_item<T: Sink>(item: &NavItem, out: &mut T) -> Result<(), Failed>
+    ensures bytes { MatchResult result
+        (λ _. Appends (T.written out.old) (T.written out.new) (text_of (item_lines item.now)))
+        (λ _. AppendsFront (T.written out.old) (T.written out.new) (text_of (item_lines item.now))) }
+    ensures cause { HasCause (T.faults out.old) (T.faults out.new) result }
+{
+    out.write(&item_record(item))
+}

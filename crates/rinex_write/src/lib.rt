@@ -1,0 +1,41 @@
+//! Headers and records of RINEX 4.01 navigation files, as text.
+//!
+//! [`write_header`] and [`write_item`] append the text of a header, and of the record of an ephemeris or of an
+//! ionosphere, to a [`Sink`](nav_io::Sink): whole, or a front of it where the sink failed. A text is built in a buffer
+//! of fixed size and handed over by one write; no memory is taken.
+//!
+//! A record (RINEX 4.01, GPS LNAV and Galileo INAV navigation records) is a table of columns, a number a column: a
+//! [`Column`] has the scale of its number, and the [`Rule`] by which the number belongs to a field of the item. Numbers
+//! are exact: each stands for the raw integer that was sent, correctly rounded to thirteen digits.
+//!
+//! ```rust
+//! let words = HeaderWords {
+//!     date: *b"20240101 000000 UTC",
+//!     leap: 18,
+//! };
+//! let mut sink = WriteSink::new(rt.stdout());
+//! write_header(&words, &mut sink)?;
+//! write_item(&item, &mut sink)?;
+//! ```
+#![tactic(auto)]
+
+mod columns;
+mod fields;
+mod header;
+mod item;
+mod laws;
+mod layouts;
+mod numbers;
+mod record;
+#[cfg(test)]
+mod test_items;
+#[cfg(test)]
+mod tests;
+
+pub use crate::columns::{Column, Rule};
+pub use crate::header::{HeaderWords, write_header};
+pub use crate::item::write_item;
+pub use crate::laws::{columns_are_good, fields_fit_their_columns};
+pub use crate::layouts::{
+    Layout, galileo_ionosphere_layout, galileo_layout, gps_ionosphere_layout, gps_layout,
+};
