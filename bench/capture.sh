@@ -1,0 +1,97 @@
+#!/usr/bin/env bash
+# Lines of a capture: MB/s of nav_io's `Lines` alone, and of `Lines` and capture_lines' `read_line`.
+#
+#   bench/capture.sh [MEGABYTES]      12 where none is said
+#
+# The capture has lines of subframes, page halves and frames, as a logger of twelve satellites of each system writes them. A
+# program over the two crates is made in a folder of its own, proved and built there, and timed as a whole, the least of
+# five runs.
+set -eu
+cd "$(git rev-parse --show-toplevel)"
+megabytes=${1:-12}
+folder=$(mktemp -d)
+trap 'rm -rf "$folder"' EXIT
+(cd "$folder" && git init -q . && mkdir crates)
+grep -E '^(nav_bits|nav_io|crc24q|gnss_week|nav_eph|inav_page|capture_lines):' crates.txt > "$folder/crates.txt"
+echo 'capture: nav_io capture_lines' >> "$folder/crates.txt"
+for crate in nav_bits nav_io crc24q gnss_week nav_eph inav_page capture_lines; do
+  cp -r "crates/$crate" "$folder/crates/"
+done
+mkdir -p "$folder/crates/capture/src"
+cat > "$folder/crates/capture/src/main.rt" <<'PROGRAM'
+#![tactic(auto)]
+
+use capture_lines::{LineItem, read_line};
+use nav_io::{LineKind, Lines, ReadSource};
+use std::process::ExitCode;
+
+const MOST_LINES: u32 = 4_000_000_000;
+
+const READS: bool = WAY;
+
+// What is counted of a line.
+fn weight(line: &[u8]) -> u32 {
+    if !READS {
+        return if line.is_empty() { 0 } else { 1 };
+    }
+    match read_line(line) {
+        LineItem::Lnav { stamp, sat, .. } => stamp ^ sat.number() as u32,
+        LineItem::Half { stamp, sat, .. } => stamp ^ sat.number() as u32,
+        LineItem::Frame { stamp, bytes } => stamp ^ bytes.len() as u32,
+        LineItem::Pass => 1,
+        LineItem::Malformed => 2,
+    }
+}
+
+fn main(rt: HostRuntime) -> ExitCode {
+    let mut source = ReadSource::new(rt.stdin());
+    let mut lines = Lines::new();
+    let mut sum: u32 = 0;
+    for _ in 0..MOST_LINES {
+        match lines.next(&mut source) {
+            Ok(LineKind::Text) => sum = sum.wrapping_add(weight(lines.text())),
+            Ok(LineKind::Long) => sum = sum.wrapping_add(1),
+            _ => break,
+        }
+    }
+    ExitCode::from((sum % 2) as u8)
+}
+PROGRAM
+awk -v most=$((megabytes * 1000000)) 'BEGIN {
+  lnav = "8b00004800021043dc000580000029ffffff580000029ffffff580000029ffffff58000008c0"
+  even = "0188c0007fffffff5d98683842d080"; odd = "ac6000000000000000003374bc4000"
+  frame = "d3003d3fb14f70"; for (i = 0; i < 60; i++) frame = frame "00"
+  size = 0; print "NAVCAP 1"
+  for (second = 0; size < most; second++) {
+    for (sat = 1; sat <= 12; sat++) {
+      line = ""
+      if (second % 6 == 0) line = sprintf("%d L G%02d %s\n", second, sat, lnav)
+      half = second % 2 ? odd : even
+      line = line sprintf("%d P E%02d B %s\n%d P E%02d 5 %s\n", second, sat, half, second, sat, half)
+      if (second % 30 == 0) line = line sprintf("%d R %s\n", second, frame)
+      size += length(line); printf "%s", line
+    }
+  }
+}' > "$folder/capture.txt"
+bytes=$(stat -c %s "$folder/capture.txt")
+lines=$(wc -l < "$folder/capture.txt")
+for way in false true; do
+  sed "s/= WAY;/= $way;/" "$folder/crates/capture/src/main.rt" > "$folder/main.$way"
+done
+printf '%-24s %8s %12s %10s\n' "$lines lines" MB/s lines/s seconds
+for way in false true; do
+  cp "$folder/main.$way" "$folder/crates/capture/src/main.rt"
+  (cd "$folder/crates/capture" && rt run < /dev/null > "$folder/$way.log" 2>&1) || true
+  program="$folder/crates/capture/out/capture"
+  [ -x "$program" ] || { tail -20 "$folder/$way.log"; exit 1; }
+  best=
+  for _ in 1 2 3 4 5; do
+    from=$(date +%s%N)
+    "$program" < "$folder/capture.txt" || true
+    to=$(date +%s%N)
+    if [ -z "$best" ] || [ $((to - from)) -lt "$best" ]; then best=$((to - from)); fi
+  done
+  name=$([ "$way" = true ] && echo 'lines and read_line' || echo 'lines alone')
+  awk -v n="$name" -v b="$bytes" -v l="$lines" -v t="$best" \
+    'BEGIN { s = t / 1e9; printf "%-24s %8.0f %12.0f %10.4f\n", n, b / s / 1e6, l / s, s }'
+done

@@ -1,0 +1,7 @@
+pub mod Stamps
+pub mod Bodies
+pub mod Items
+pub mod Lateness
+pub mod Decimals
+pub mod Written
+pub mod Printed

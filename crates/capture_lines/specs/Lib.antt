@@ -1,0 +1,5 @@
+pub mod Texts
+pub mod Spellings
+pub mod Reading
+pub mod Heads
+pub mod Late

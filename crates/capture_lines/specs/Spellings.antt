@@ -1,0 +1,83 @@
+-- What a line of a capture stands for: an item, where it is one of the item's spellings, which differ in leading zeros of
+-- the stamp and in the case of hexadecimal digits alone; or it is passed; or it is malformed.
+use Rattle.std.specs.Prelude.{◌≡◌, ℕ, ◌^◌, ◌<◌, ◌≤◌, ◌⊎◌, List, [], ◌∷◌, ◌++◌, All, length, Ok}
+use Rattle.std.specs.Str.Parse.{IsNumeral, digits_value}
+use Rattle.hex.specs.Hex.{decode_of}
+use Rattle.nav_eph.specs.Satellite.{Satellite, IsSat}
+use Rattle.nav_eph.specs.declared.sat.System.TheVariants.{Gps, Gal}
+use Rattle.inav_page.specs.declared.signal.Signal.{Signal}
+use Rattle.capture_lines.specs.Texts.{lnav_line, half_line, frame_line}
+use Rattle.capture_lines.specs.declared.item.LineItem.{LineItem}
+use Rattle.capture_lines.specs.declared.item.LineItem.TheVariants.{Pass, Lnav, Half, Frame, Malformed}
+
+-- one to ten decimal digits, of a number up to 4,294,967,295
+pub record IsStampText (stamp : ℕ) (text : List ℕ) : Type 0 where
+  pub numeral : IsNumeral 10 text
+  pub short : length text ≤ 10
+  pub value : digits_value 10 text ≡ stamp
+  pub fits : stamp < 2 ^ 32
+
+-- the line of a subframe: a satellite of GPS and 76 hexadecimal digits, of either case
+pub record IsLnavLine (stamp : ℕ) (sat : Satellite) (bits line : List ℕ) : Type 0 where
+  pub time : List ℕ
+  pub digits : List ℕ
+  pub line_is : line ≡ lnav_line time sat.number digits
+  pub time_is : IsStampText stamp time
+  pub system : sat.system ≡ Gps
+  pub number : IsSat Gps sat.number
+  pub digits_are : decode_of digits ≡ Ok bits
+  pub size : length bits ≡ 38
+
+-- the line of a page half: a satellite of Galileo, a signal and 30 digits
+pub record IsHalfLine (stamp : ℕ) (sat : Satellite) (signal : Signal) (bits line : List ℕ) : Type 0 where
+  pub time : List ℕ
+  pub digits : List ℕ
+  pub line_is : line ≡ half_line time sat.number signal digits
+  pub time_is : IsStampText stamp time
+  pub system : sat.system ≡ Gal
+  pub number : IsSat Gal sat.number
+  pub digits_are : decode_of digits ≡ Ok bits
+  pub size : length bits ≡ 15
+
+-- the line of a frame: 12 to 2,058 digits, two for each byte
+pub record IsFrameLine (stamp : ℕ) (bytes line : List ℕ) : Type 0 where
+  pub time : List ℕ
+  pub digits : List ℕ
+  pub line_is : line ≡ frame_line time digits
+  pub time_is : IsStampText stamp time
+  pub digits_are : decode_of digits ≡ Ok bytes
+  pub shortest : 6 ≤ length bytes
+  pub longest : length bytes ≤ 1029
+
+-- the line is one of the spellings of the item
+abbrev pub IsSpelling : LineItem → List ℕ → Type 0
+IsSpelling Pass line = ⊥
+IsSpelling (Lnav stamp sat bits) line = IsLnavLine stamp sat bits line
+IsSpelling (Half stamp sat signal bits) line = IsHalfLine stamp sat signal bits line
+IsSpelling (Frame stamp bytes) line = IsFrameLine stamp bytes.items line
+IsSpelling Malformed line = ⊥
+
+-- the line begins with `#`, or is empty, or has blanks alone
+abbrev pub IsPassed : List ℕ → Type 0
+IsPassed line = ((rest : List ℕ) × (line ≡ 35 ∷ rest)) ⊎ All (λ c. c ≡ 32) line
+
+-- every other line
+pub record IsMalformed (line : List ℕ) : Type 0 where
+  pub not_passed : IsPassed line → ⊥
+  pub no_item : (item : LineItem) → IsSpelling item line → ⊥
+
+-- what the line stands for
+abbrev pub StandsFor : LineItem → List ℕ → Type 0
+StandsFor Pass line = IsPassed line
+StandsFor (Lnav stamp sat bits) line = IsSpelling (Lnav stamp sat bits) line
+StandsFor (Half stamp sat signal bits) line = IsSpelling (Half stamp sat signal bits) line
+StandsFor (Frame stamp bytes) line = IsSpelling (Frame stamp bytes) line
+StandsFor Malformed line = IsMalformed line
+
+-- the text is such a line with LF behind it
+abbrev pub IsEnded : (List ℕ → Type 0) → List ℕ → Type 0
+IsEnded IsLine text = (line : List ℕ) × (text ≡ line ++ 10 ∷ []) × IsLine line
+
+-- a printed character of ASCII, or a blank: no end of a line
+abbrev pub IsPrinted : ℕ → Type 0
+IsPrinted c = (32 ≤ c) × (c ≤ 126)

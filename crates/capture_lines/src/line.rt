@@ -1,0 +1,184 @@
+//! Reading a line.
+
+ghost use Rattle.std.specs.Prelude.{◌≡◌, ◌≤◌, ◌==◌, length, nat_eq, slice_index};
+ghost use Rattle.std.specs.List.{list_all, starts_with};
+ghost use Rattle.capture_lines.specs.Reading.{form_in, frame_in, half_in, is_passed, item_of, lnav_in, satellite_in, signal_in};
+ghost use Rattle.capture_lines.specs.Spellings.{StandsFor};
+
+use crate::item::{LONGEST_FRAME, LineItem};
+use crate::stamp::{digit_count, stamp_of};
+use arrayvec::ArrayVec;
+use hex::{FromHex, decode_to_slice};
+use inav_page::Signal;
+use nav_bits::Bits;
+use nav_eph::{Sat, System};
+
+// The fewest and the most hexadecimal digits of a frame.
+const FEWEST_DIGITS: usize = 12;
+
+const MOST_DIGITS: usize = 2058;
+
+/// What a line of a capture stands for, without its end.
+///
+/// A line is `stamp L G05 hex` (76 digits), `stamp P E11 B hex` (30 digits; `5` for E5b in place of `B`) or
+/// `stamp R hex` (12 to 2,058 digits, an even number), its words separated by one space. The stamp has one to ten decimal
+/// digits and is at most 4,294,967,295; hexadecimal digits are of either case. A line that begins with `#`, is empty or has
+/// blanks alone is `Pass`; every other line is `Malformed`.
+#[tactic(auto, unfolding(crate::specs::Reading::item_of))]
+pub fn read_line(line: &[u8]) -> LineItem
+    ensures item { result ≡ item_of line.now }
+    ensures stands { StandsFor result line.now }
+{
+    if is_passed_line(line) {
+        return LineItem::Pass;
+    }
+    let count = digit_count(line);
+    match stamp_of(line, count) {
+        Some(stamp) => form(stamp, &line[count..]),
+        None => LineItem::Malformed,
+    }
+}
+
+// Whether the line is passed.
+fn is_passed_line(line: &[u8]) -> bool
+    ensures { result ≡ is_passed line.now }
+{
+    begins_comment(line) || has_blanks_alone(line)
+}
+
+// Whether the line has no byte but blanks.
+fn has_blanks_alone(line: &[u8]) -> bool
+    ensures { result ≡ list_all (λ c. c == 32) line.now }
+{
+    line.iter().all(|byte| *byte == b' ')
+}
+
+// Whether the line begins with `#`.
+fn begins_comment(line: &[u8]) -> bool
+    ensures { result ≡ (slice_index line.now 0 == 35) }
+{
+    !line.is_empty() && line[0] == b'#'
+}
+
+// Whether the text begins with these bytes.
+fn begins(text: &[u8], front: &[u8]) -> bool
+    ensures { result ≡ starts_with nat_eq text.now front.now }
+{
+    text.starts_with(front)
+}
+
+// What stands behind the stamp.
+#[tactic(auto, unfolding(crate::specs::Reading::form_in))]
+fn form(stamp: u32, rest: &[u8]) -> LineItem
+    ensures { result ≡ form_in stamp rest.now }
+{
+    if begins(rest, b" L G") {
+        lnav(stamp, rest)
+    } else if begins(rest, b" P E") {
+        half(stamp, rest)
+    } else if begins(rest, b" R ") {
+        frame(stamp, &rest[3..])
+    } else {
+        LineItem::Malformed
+    }
+}
+
+// The satellite of a system whose number two digits write.
+#[tactic(auto, unfolding(crate::specs::Reading::satellite_in))]
+fn satellite(system: System, tens: u8, units: u8) -> Option<Sat>
+    ensures { result ≡ satellite_in system tens units }
+{
+    if !tens.is_ascii_digit() || !units.is_ascii_digit() {
+        return None;
+    }
+    Sat::new(system, (tens - b'0') * 10 + (units - b'0'))
+}
+
+// The signal of a letter.
+#[tactic(auto, unfolding(crate::specs::Reading::signal_in))]
+fn signal_of(letter: u8) -> Option<Signal>
+    ensures { result ≡ signal_in letter }
+{
+    match letter {
+        b'B' => Some(Signal::E1b),
+        b'5' => Some(Signal::E5b),
+        _ => None,
+    }
+}
+
+// A subframe.
+#[tactic(auto, unfolding(crate::specs::Reading::lnav_in))]
+fn lnav(stamp: u32, rest: &[u8]) -> LineItem
+    ensures { result ≡ lnav_in stamp rest.now }
+{
+    if rest.len() < 7 || rest[6] != b' ' {
+        return LineItem::Malformed;
+    }
+    let Some(sat) = satellite(System::Gps, rest[4], rest[5]) else {
+        return LineItem::Malformed;
+    };
+    match <[u8; 38]>::from_hex(&rest[7..]) {
+        Ok(bytes) => LineItem::Lnav {
+            stamp,
+            sat,
+            bits: Bits::from_bytes(bytes),
+        },
+        Err(_) => LineItem::Malformed,
+    }
+}
+
+// A page half.
+#[tactic(auto, unfolding(crate::specs::Reading::half_in))]
+fn half(stamp: u32, rest: &[u8]) -> LineItem
+    ensures { result ≡ half_in stamp rest.now }
+{
+    if rest.len() < 9 || rest[6] != b' ' || rest[8] != b' ' {
+        return LineItem::Malformed;
+    }
+    let Some(sat) = satellite(System::Gal, rest[4], rest[5]) else {
+        return LineItem::Malformed;
+    };
+    let Some(signal) = signal_of(rest[7]) else {
+        return LineItem::Malformed;
+    };
+    match <[u8; 15]>::from_hex(&rest[9..]) {
+        Ok(bytes) => LineItem::Half {
+            stamp,
+            sat,
+            signal,
+            bits: Bits::from_bytes(bytes),
+        },
+        Err(_) => LineItem::Malformed,
+    }
+}
+
+// A frame, of these digits.
+#[tactic(auto, unfolding(crate::specs::Reading::frame_in))]
+fn frame(stamp: u32, digits: &[u8]) -> LineItem
+    ensures { result ≡ frame_in stamp digits.now }
+{
+    if digits.len() < FEWEST_DIGITS || digits.len() > MOST_DIGITS {
+        return LineItem::Malformed;
+    }
+    let mut room = [0u8; LONGEST_FRAME];
+    let count = digits.len() / 2;
+    if decode_to_slice(digits, &mut room[..count]).is_err() {
+        return LineItem::Malformed;
+    }
+    LineItem::Frame {
+        stamp,
+        bytes: kept(&room[..count]),
+    }
+}
+
+// These bytes.
+fn kept(bytes: &[u8]) -> ArrayVec<u8, LONGEST_FRAME>
+    requires { length bytes.now ≤ 1029 }
+    ensures { result.items ≡ bytes.now }
+{
+    let mut kept = ArrayVec::new();
+    if kept.try_extend_from_slice(bytes).is_err() {
+        unreachable!();
+    }
+    kept
+}

@@ -1,0 +1,67 @@
+//! Stamps: seconds of the logger, in decimal digits.
+
+ghost use Rattle.std.specs.Prelude.{◌≡◌, ◌+◌, ◌^◌, ◌<◌, ◌≤◌, ◌++◌, length, take, decimal};
+ghost use Rattle.std.specs.List.{prefix_len};
+ghost use Rattle.std.specs.Char.{is_ascii_digit};
+ghost use Rattle.std.specs.Str.Parse.{digits_value};
+ghost use Rattle.arrayvec.specs.ArrayVec.{array_vec_len};
+ghost use Rattle.capture_lines.specs.Reading.{stamp_in};
+
+use crate::LineText;
+
+// The most digits of a stamp.
+const MOST_DIGITS: usize = 10;
+
+// The greatest stamp.
+const GREATEST: u64 = 4_294_967_295;
+
+// How many digits the line begins with.
+pub(crate) fn digit_count(line: &[u8]) -> usize
+    ensures { result ≡ prefix_len is_ascii_digit line.now }
+{
+    line.iter().take_while(|byte| byte.is_ascii_digit()).count()
+}
+
+// The stamp of the digits that the line begins with.
+#[tactic(auto, unfolding(crate::specs::Reading::stamp_in))]
+pub(crate) fn stamp_of(line: &[u8], count: usize) -> Option<u32>
+    requires { count ≡ prefix_len is_ascii_digit line.now }
+    ensures { result ≡ stamp_in (take count line.now) }
+{
+    if count == 0 || count > MOST_DIGITS {
+        return None;
+    }
+    let value = value_of(line, count);
+    if value > GREATEST {
+        return None;
+    }
+    Some(value as u32)
+}
+
+// The number of the digits that the line begins with, ten at most.
+fn value_of(line: &[u8], count: usize) -> u64
+    requires digits { count ≡ prefix_len is_ascii_digit line.now }
+    requires short { count ≤ 10 }
+    ensures { result ≡ digits_value 10 (take count line.now) }
+{
+    let mut value: u64 = 0;
+    'digits: for i in 0..count {
+        value = value * 10 + u64::from(line[i] - b'0');
+    }
+    value
+}
+
+// Appends the digits of a number, without leading zeros.
+#[tactic(auto, using(crate::proofs::Decimals::one_digit, crate::proofs::Decimals::last_digit, crate::proofs::Decimals::one_digit_more))]
+pub(crate) fn push_decimal(number: u32, into: &mut LineText)
+    requires { array_vec_len into.old + length (decimal number) ≤ 2201 }
+    ensures text { into.new.items ≡ into.old.items ++ decimal number }
+    ensures len { array_vec_len into.new ≡ array_vec_len into.old + length (decimal number) }
+{
+    if number < 10 {
+        into.push(b'0' + number as u8);
+    } else {
+        push_decimal(number / 10, into);
+        into.push(b'0' + (number % 10) as u8);
+    }
+}
