@@ -1,0 +1,66 @@
+-- What an assembly stands for, and what it gives next.
+use Rattle.std.specs.Prelude.{ℕ, ◌+◌, ◌<◌, List, [], ◌∷◌, ◌++◌, Option, None, Some}
+use Rattle.nav_eph.specs.declared.part.Part.{Part}
+use Rattle.issue_periods.specs.declared.key.Place.{Place}
+use Rattle.issue_periods.specs.declared.closed.Closed.{Closed}
+use Rattle.issue_periods.specs.Periods.{IsPeriod, IsBefore}
+use Rattle.issue_periods.specs.Verdicts.{IsClosed, place_of}
+
+-- the parts taken, the greatest mark given, and the last period given
+pub record Standing : Type 0 where
+  pub parts : List Part
+  pub mark : ℕ
+  pub last : Option Place
+
+-- it stands for something with this property
+abbrev pub Stood : (Standing → Type 0) → (Standing → Type 0) → Type 0
+Stood now property = (at : Standing) × now at × property at
+
+-- whatever it stands for has this property
+abbrev pub Tells : (Standing → Type 0) → (Standing → Type 0) → Type 0
+Tells now property = (at : Standing) → now at → property at
+
+-- whatever it stood for before, it stands for the change of that afterwards
+abbrev pub Carries : (Standing → Type 0) → (Standing → Type 0) → (Standing → Standing) → Type 0
+Carries old new change = (at : Standing) → old at → new (change at)
+
+-- nothing yet
+abbrev pub nothing_yet : Standing
+nothing_yet = record { parts = []; mark = 0; last = None }
+
+-- the same
+abbrev pub unchanged : Standing → Standing
+unchanged at = at
+
+-- with one part more
+abbrev pub taking : Part → Standing → Standing
+taking part at = record { parts = at.parts ++ part ∷ []; mark = at.mark; last = at.last }
+
+-- at a mark
+abbrev pub reaching : ℕ → Standing → Standing
+reaching mark at = record { parts = at.parts; mark = mark; last = at.last }
+
+-- at a mark, with a period given
+abbrev pub giving : ℕ → Place → Standing → Standing
+giving mark place at = record { parts = at.parts; mark = mark; last = Some place }
+
+-- behind the last period given
+abbrev pub IsAfter : Option Place → Place → Type 0
+IsAfter None place = Unit {0}
+IsAfter (Some last) place = IsBefore last place
+
+-- a period that is closed at the mark, and was not given yet
+pub record IsDue (window : ℕ) (parts : Part → Type 0) (mark : ℕ) (last : Option Place) (place : Place) : Type 0 where
+  pub period : IsPeriod window parts place
+  pub low : place.end + window < mark
+  pub after : IsAfter last place
+
+-- the first of these
+pub record IsNext (r window : ℕ) (parts : Part → Type 0) (mark : ℕ) (last : Option Place) (closed : Closed) : Type 0 where
+  pub due : IsDue window parts mark last (place_of closed)
+  pub verdict : IsClosed r window parts closed
+  pub least : (place : Place) → IsDue window parts mark last place → IsBefore place (place_of closed) → ⊥
+
+-- there is none
+abbrev pub NoneDue : ℕ → (Part → Type 0) → ℕ → Option Place → Type 0
+NoneDue window parts mark last = (place : Place) → IsDue window parts mark last place → ⊥

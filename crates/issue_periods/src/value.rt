@@ -1,0 +1,28 @@
+ghost use Rattle.issue_periods.specs.Parts.{IsPartValue};
+
+use nav_eph::{Body, Part};
+
+// Each number of a part by which it is compared is within its digits.
+pub(crate) fn note_value(part: &Part)
+    ensures { IsPartValue part.now }
+{
+    let _stamp = part.stamp;
+    match part.body {
+        Body::GpsClock(_, side, tag) => {
+            let _side = side.number();
+            let _tag = tag.number();
+        }
+        Body::GalHealth(health, tag) => {
+            let _health = health.number_with(&tag);
+        }
+        Body::GpsIon(ionosphere, second) => {
+            let _content = ionosphere.number();
+            let _second = second.value();
+        }
+        Body::GalIon(ionosphere, _, second) => {
+            let _content = ionosphere.number();
+            let _second = second.value();
+        }
+        _ => {}
+    }
+}

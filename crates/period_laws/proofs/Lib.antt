@@ -1,0 +1,4 @@
+pub mod Membership
+pub mod EndLemmas
+pub mod JoinLemmas
+pub mod Lists
