@@ -1,0 +1,11 @@
+pub mod States
+pub mod Orders
+pub mod Joined
+pub mod Pushes
+pub mod Places
+pub mod SameBits
+pub mod SameFields
+pub mod SameSubframes
+pub mod SamePages
+pub mod OneText
+pub mod Counts

@@ -1,0 +1,9 @@
+use Rattle.std.proofs.Common.{All, sym, ◌∙◌, subst}
+use Rattle.nav_vectors.specs.Mirrors.{IsOf}
+use Rattle.nav_vectors.proofs.Orders.{lines_are_of}
+use Rattle.nav_vectors.proofs.capture.make_capture.Goals as goal
+
+pub push_lines-requires-clause-of : goal.push_lines-requires-clause-of
+push_lines-requires-clause-of c =
+    subst (λ n. All (IsOf n) c.as_slice.result.now) (sym c.in_ok-senders.ensures.sats)
+    (subst (All (IsOf c.args.sats)) (sym (c.as_slice.ensures.value ∙ c.in_ok-order.ensures)) (lines_are_of c.args.sats))

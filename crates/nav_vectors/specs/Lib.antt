@@ -1,0 +1,5 @@
+pub mod Draws
+pub mod Values
+pub mod Lines
+pub mod Capture
+pub mod Mirrors

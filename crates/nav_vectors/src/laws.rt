@@ -1,0 +1,23 @@
+//! Laws of the definitions: each is the contract of a function that does nothing.
+
+ghost use Rattle.std.specs.Prelude.{◌≡◌, ℕ, ◌*◌, List, length};
+ghost use Rattle.nav_vectors.specs.Capture.{lines_of, IsCapture};
+
+use crc24q::one_crc;
+use lnav_parity::{one_choice, one_word};
+use nav_bits::one_number_for_digits;
+
+/// There is at most one capture of a seed, a number of satellites and a week.
+pub fn one_capture()
+    ensures { (seed n r : ℕ) (a b : List ℕ) → IsCapture seed n r a → IsCapture seed n r b → a ≡ b }
+{
+    one_number_for_digits();
+    one_word();
+    one_choice();
+    one_crc();
+}
+
+/// Behind its first line a capture has 7,865 lines for each of its satellites of a system.
+pub fn lines_are_counted()
+    ensures { (n : ℕ) → length (lines_of n) ≡ 7865 * n }
+{}

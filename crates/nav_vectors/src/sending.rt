@@ -1,0 +1,138 @@
+//! What is sent at each second, in the order of sending, and the order of the lines.
+
+ghost use Rattle.std.specs.Prelude.{◌≡◌, ◌+◌, ◌<◌, ◌++◌, IfOk, OnOk, length, reverse};
+ghost use Rattle.nav_vectors.specs.Lines.{halves_at, sent_at, sent_before, subframes_at};
+ghost use Rattle.nav_vectors.specs.Capture.{lines_of, turned};
+
+use inav_page::Signal;
+use std::alloc::{AllocError, Global};
+
+/// What one line of the capture says: that something was sent at a stamp, in seconds.
+#[derive(Clone, Copy, PartialEq, Eq, Debug)]
+pub enum Sending {
+    /// A subframe of the satellite of GPS with that number.
+    Subframe {
+        /// When.
+        stamp: u32,
+        /// By which.
+        number: u8,
+    },
+    /// Half a page of the satellite of Galileo with that number.
+    Half {
+        /// When.
+        stamp: u32,
+        /// By which.
+        number: u8,
+        /// On which of its signals.
+        signal: Signal,
+    },
+}
+
+// The lines of an hour, in seconds.
+const HOUR: u32 = 3600;
+
+// The lines before this stamp come once more.
+const REPEATED: u32 = 30;
+
+// So many lines are turned round together.
+const BLOCK: usize = 16;
+
+// Appends the subframes of the satellites 1 to `sats`.
+#[tactic(auto, unfolding(crate::specs::Lines::subframes_at))]
+fn push_subframes(sent: &mut Vec<Sending>, sats: u8, stamp: u32) -> Result<(), AllocError>
+    requires { sats < 255 }
+    ensures { OnOk result (sent.new.items ≡ sent.old.items ++ subframes_at stamp sats) }
+{
+    'satellites: for i in 0..sats {
+        sent.push(Sending::Subframe {
+            stamp,
+            number: i + 1,
+        })?;
+    }
+    Ok(())
+}
+
+// Appends the halves of the satellites 1 to `sats`.
+#[tactic(auto, unfolding(crate::specs::Lines::halves_at))]
+fn push_halves(sent: &mut Vec<Sending>, sats: u8, stamp: u32) -> Result<(), AllocError>
+    requires { sats < 255 }
+    ensures { OnOk result (sent.new.items ≡ sent.old.items ++ halves_at stamp sats) }
+{
+    'satellites: for i in 0..sats {
+        let number = i + 1;
+        let first = Sending::Half {
+            stamp,
+            number,
+            signal: Signal::E1b,
+        };
+        let second = Sending::Half {
+            stamp,
+            number,
+            signal: Signal::E5b,
+        };
+        sent.push(first)?;
+        sent.push(second)?;
+    }
+    Ok(())
+}
+
+// Appends what is sent at a stamp.
+#[tactic(auto, unfolding(crate::specs::Lines::sent_at))]
+fn push_sent(sent: &mut Vec<Sending>, sats: u8, stamp: u32) -> Result<(), AllocError>
+    requires { sats < 255 }
+    ensures { OnOk result (sent.new.items ≡ sent.old.items ++ sent_at sats stamp) }
+{
+    if stamp % 6 == 0 {
+        push_subframes(sent, sats, stamp)?;
+    }
+    push_halves(sent, sats, stamp)
+}
+
+// Appends what is sent before a stamp, in order.
+#[tactic(auto, unfolding(crate::specs::Lines::sent_before))]
+fn push_sent_before(sent: &mut Vec<Sending>, sats: u8, end: u32) -> Result<(), AllocError>
+    requires { sats < 255 }
+    ensures { OnOk result (sent.new.items ≡ sent.old.items ++ sent_before sats end) }
+{
+    'stamps: for stamp in 0..end {
+        push_sent(sent, sats, stamp)?;
+    }
+    Ok(())
+}
+
+// Appends a block in the reversed order.
+fn push_reversed(block: &[Sending], order: &mut Vec<Sending>) -> Result<(), AllocError>
+    ensures { OnOk result (order.new.items ≡ order.old.items ++ reverse block.now) }
+{
+    'places: for i in 0..block.len() {
+        order.push(block[block.len() - 1 - i])?;
+    }
+    Ok(())
+}
+
+// Appends the blocks, each turned round.
+fn push_turned(sent: &[Sending], order: &mut Vec<Sending>) -> Result<(), AllocError>
+    ensures { OnOk result (order.new.items ≡ order.old.items ++ turned sent.now) }
+{
+    let count = (sent.len() + (BLOCK - 1)) / BLOCK;
+    for block in 0..count {
+        let from = BLOCK * block;
+        let to = (from + BLOCK).min(sent.len());
+        push_reversed(&sent[from..to], order)?;
+    }
+    Ok(())
+}
+
+// What the lines say, in their order.
+#[tactic(auto, unfolding(crate::specs::Capture::lines_of))]
+pub(crate) fn order_of_lines(alloc: Global, sats: u8) -> Result<Vec<Sending>, AllocError>
+    requires { sats < 255 }
+    ensures { IfOk result (λ order. order.items ≡ lines_of sats) }
+{
+    let mut sent = Vec::new(alloc);
+    push_sent_before(&mut sent, sats, HOUR)?;
+    let mut order = Vec::new(alloc);
+    push_turned(sent.as_slice(), &mut order)?;
+    push_sent_before(&mut order, sats, REPEATED)?;
+    Ok(order)
+}
