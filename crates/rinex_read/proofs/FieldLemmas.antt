@@ -1,0 +1,258 @@
+-- The fields that are written are those that are read.
+use Rattle.std.proofs.Common.{◌≡◌, ℕ, zero, suc, ◌+◌, ◌*◌, ◌<◌, ◌≤◌, ◌⊎◌, ◌==◌, ◌&&◌, nat_le, Bool, true, false, if◌then◌else◌, List, [], ◌∷◌, ◌++◌, length, take, drop, get_or, codes, Result, Ok, Err, refl, ap, sym, ◌∙◌, inl, inr, ⊎_elim, subst, arith, ℤ, pos, negsuc, ◌≤ℤ◌, int_le, unsigned_abs, append_assoc, length-append, eqb-true, ne_eqb}
+use Rattle.std.proofs.lemmas.Bool.{and_parts, cases_lt, leb-true}
+use Rattle.std.proofs.lemmas.Int.{ints}
+use Rattle.scaled_decimal.specs.declared.scales.Scale.{Scale}
+use Rattle.scaled_decimal.specs.ScaleValue.{size_of, AreWithin, IsScale}
+use Rattle.scaled_decimal.specs.NumberText.{number_text}
+use Rattle.scaled_decimal.specs.NumberReading.{number, seen}
+use Rattle.scaled_decimal.proofs.SizeLemmas.{is_scale}
+use Rattle.scaled_decimal.proofs.TextLemmas.{text_seen}
+use Rattle.scaled_decimal.proofs.ColumnLemmas.{length-number_text}
+use Rattle.rinex_write.specs.declared.columns.Rule.{Rule}
+use Rattle.rinex_write.specs.declared.columns.Rule.TheVariants.{Plain, OrZero, Ura, Sisa, Fit, Sent, Unread}
+use Rattle.rinex_write.specs.declared.columns.Column.{Column}
+use Rattle.rinex_write.specs.Accuracies.{first_from, ura_nominal, ura_greatest, ura_of, sisa_value, sisa_nominal, sisa_from, sisa_of}
+use Rattle.rinex_write.specs.Columns.{shown, IsField, AreFields, column_text, row_text, row_lines, joined_rows, is_good_scale, is_good_range, is_good_rule, are_good}
+use Rattle.rinex_read.specs.declared.reason.Reason.{Reason}
+use Rattle.rinex_read.specs.declared.reason.Reason.TheVariants as reasons
+use Rattle.rinex_read.specs.Lines.{columns}
+use Rattle.rinex_read.specs.Fields.{◌>>=◌, in_range, sent_or_unknown, taken, field_at, read_row, read_rows}
+use Rattle.rinex_read.proofs.ColumnLemmas.{columns_at}
+
+pub bind_ok : {A B : Type 0} (r : Result A Reason) (x : A) (f : A → Result B Reason) → r ≡ Ok x → (r >>= f) ≡ f x
+bind_ok r x f e = ap (λ s. s >>= f) e
+
+pub le_true : (a b : ℤ) → a ≤ℤ b → int_le a b ≡ true
+le_true a b h = grind (arith, ints)
+
+pub le_from : (a b : ℤ) → int_le a b ≡ true → a ≤ℤ b
+le_from a b h = grind (arith, ints)
+
+pub in_range-ok : (low high z : ℤ) → low ≤ℤ z → z ≤ℤ high → in_range low high z ≡ Ok z
+in_range-ok low high z from to =
+    ap (λ b. if b && int_le z high then Ok z else Err reasons.OutOfRange) (le_true low z from)
+    ∙ ap (λ b. if b then Ok z else Err reasons.OutOfRange) (le_true z high to)
+
+-- a test of each number below n
+abbrev all_below : ℕ → (ℕ → Bool) → Bool
+all_below zero p = true
+all_below (suc n) p = p n && all_below n p
+
+at_below : (n : ℕ) (p : ℕ → Bool) (k : ℕ) → all_below n p ≡ true → k < n → p k ≡ true
+at_below zero p k h lt = absurd (omega arith)
+at_below (suc n) p k h lt =
+    let both = and_parts (p n) (all_below n p) h in
+    ⊎_elim (λ (below : k < n). at_below n p k both.1 below) (λ (above : n ≤ k). let is : k ≡ n = omega arith in ap p is ∙ both.0) (cases_lt k n)
+
+abbrev is_ura : ℕ → Bool
+is_ura k = nat_le (get_or ura_nominal k 0) 100000000 && first_from (get_or ura_nominal k 0) ura_greatest == k
+
+all_ura : all_below 16 is_ura ≡ true
+unfolding ura_nominal ura_greatest
+all_ura = refl
+
+ura_again : (k : ℕ) → k < 16 → taken Ura (number (pos (get_or ura_nominal k 0))) ≡ Ok (pos k)
+unfolding ura_of
+ura_again k h =
+    let n = get_or ura_nominal k 0 in
+    let both = and_parts (nat_le n 100000000) (first_from n ura_greatest == k) (at_below 16 is_ura k all_ura h) in
+    let least : negsuc 99999999 ≤ℤ pos n = omega (arith, ints) in
+    let most : pos n ≤ℤ pos 100000000 = omega (arith, ints, leb-true n 100000000 both.0) in
+    bind_ok (in_range (negsuc 99999999) (pos 100000000) (pos n)) (pos n) (λ w. Ok (ura_of w)) (in_range-ok (negsuc 99999999) (pos 100000000) (pos n) least most)
+    ∙ ap (λ i. Ok (pos i)) (eqb-true (first_from n ura_greatest) k both.1)
+
+abbrev is_sisa : ℕ → Bool
+is_sisa k = nat_le (sisa_value k) 600 && sisa_from 125 0 (sisa_value k) == k
+
+all_sisa : all_below 126 is_sisa ≡ true
+unfolding sisa_from
+all_sisa = refl
+
+sisa_below : (k : ℕ) → k < 126 → taken Sisa (number (sisa_nominal k)) ≡ Ok (pos k)
+unfolding sisa_of sisa_nominal
+sisa_below k h =
+    let n = sisa_value k in
+    let both = and_parts (nat_le n 600) (sisa_from 125 0 n == k) (at_below 126 is_sisa k all_sisa h) in
+    let small : n ≤ 600 = leb-true n 600 both.0 in
+    let least : negsuc 99999999 ≤ℤ pos n = omega (arith, ints) in
+    let most : pos n ≤ℤ pos 100000000 = omega (arith, ints, small) in
+    ap (λ b. taken Sisa (number (if b then negsuc 99 else pos n))) (ne_eqb k 255 (λ e. omega arith))
+    ∙ bind_ok (in_range (negsuc 99999999) (pos 100000000) (pos n)) (pos n) (λ w. Ok (sisa_of w)) (in_range-ok (negsuc 99999999) (pos 100000000) (pos n) least most)
+    ∙ ap (λ b. Ok (if b then pos (sisa_from 125 0 n) else pos 255)) both.0
+    ∙ ap (λ i. Ok (pos i)) (eqb-true (sisa_from 125 0 n) k both.1)
+
+sisa_none : taken Sisa (number (sisa_nominal 255)) ≡ Ok (pos 255)
+unfolding sisa_of sisa_nominal
+sisa_none = refl
+
+sent_again : (z : ℤ) → negsuc 302399 ≤ℤ z → z ≤ℤ pos 907199 → sent_or_unknown z ≡ z
+sent_again z from to =
+    ap (λ b. if b && int_le z (pos 907199) then z else pos 999900000) (le_true (negsuc 302399) z from)
+    ∙ ap (λ b. if b then z else pos 999900000) (le_true z (pos 907199) to)
+
+-- the number of a field is read as that field
+pub taken_again : (r : Rule) (z : ℤ) → IsField r z → taken r (number (shown r z)) ≡ Ok z
+taken_again (Plain low high) z h = in_range-ok low high z h.0 h.1
+taken_again (OrZero low high) z h = in_range-ok low high z h.0 h.1
+taken_again Ura (pos k) h = ura_again k (omega (arith, ints, h.1))
+taken_again Ura (negsuc k) h = absurd (omega (arith, ints, h.0))
+taken_again Sisa (pos k) (inl h) = sisa_below k (omega (arith, ints, h.1))
+taken_again Sisa (pos k) (inr h) = let is : k ≡ 255 = cc in subst (λ i. taken Sisa (number (sisa_nominal i)) ≡ Ok (pos i)) (sym is) sisa_none
+taken_again Sisa (negsuc k) (inl h) = absurd (omega (arith, ints, h.0))
+taken_again Sisa (negsuc k) (inr h) = absurd (cc)
+taken_again Fit (pos zero) h = refl
+taken_again Fit (pos (suc zero)) h = refl
+taken_again Fit (pos (suc (suc k))) h = absurd (omega (arith, ints, h.1))
+taken_again Fit (negsuc k) h = absurd (omega (arith, ints, h.0))
+taken_again Sent z (inl h) = ap Ok (sent_again z h.0 h.1)
+taken_again Sent z (inr h) = subst (λ y. taken Sent (number y) ≡ Ok y) (sym h) refl
+taken_again (Unread n) z h = ap Ok (sym h)
+
+abs_small : (z : ℤ) → negsuc 4294967294 ≤ℤ z → z ≤ℤ pos 4294967295 → unsigned_abs z ≤ 4294967295
+abs_small (pos n) from to = omega (arith, ints)
+abs_small (negsuc n) from to = omega (arith, ints)
+
+range_small : (low high z : ℤ) → is_good_range low high ≡ true → low ≤ℤ z → z ≤ℤ high → unsigned_abs z ≤ 4294967295
+range_small low high z good from to =
+    let both = and_parts (int_le (negsuc 4294967294) low) (int_le high (pos 4294967295)) good in
+    let least = le_from (negsuc 4294967294) low both.0 in
+    let most = le_from high (pos 4294967295) both.1 in
+    abs_small z (omega (arith, ints, least)) (omega (arith, ints, most))
+
+abbrev is_ura_small : ℕ → Bool
+is_ura_small k = nat_le (get_or ura_nominal k 0) 4294967295
+
+all_ura_small : all_below 16 is_ura_small ≡ true
+unfolding ura_nominal
+all_ura_small = refl
+
+abbrev is_sisa_small : ℕ → Bool
+is_sisa_small k = nat_le (unsigned_abs (sisa_nominal k)) 4294967295
+
+all_sisa_small : all_below 256 is_sisa_small ≡ true
+unfolding sisa_nominal
+all_sisa_small = refl
+
+-- the number of a field has at most 32 digits
+shown_small : (r : Rule) (z : ℤ) → is_good_rule r ≡ true → IsField r z → unsigned_abs (shown r z) ≤ 4294967295
+shown_small (Plain low high) z good h = range_small low high z good h.0 h.1
+shown_small (OrZero low high) z good h = range_small low high z good h.0 h.1
+shown_small Ura (pos k) good h = leb-true (get_or ura_nominal k 0) 4294967295 (at_below 16 is_ura_small k all_ura_small (omega (arith, ints, h.1)))
+shown_small Ura (negsuc k) good h = absurd (omega (arith, ints, h.0))
+shown_small Sisa (pos k) good (inl h) = leb-true _ _ (at_below 256 is_sisa_small k all_sisa_small (omega (arith, ints, h.1)))
+shown_small Sisa (pos k) good (inr h) = let is : k ≡ 255 = cc in leb-true _ _ (at_below 256 is_sisa_small k all_sisa_small (omega arith))
+shown_small Sisa (negsuc k) good (inl h) = absurd (omega (arith, ints, h.0))
+shown_small Sisa (negsuc k) good (inr h) = absurd (cc)
+shown_small Fit (pos zero) good h = omega arith
+shown_small Fit (pos (suc k)) good h = omega arith
+shown_small Fit (negsuc k) good h = absurd (omega (arith, ints, h.0))
+shown_small Sent z good (inl h) = abs_small z (omega (arith, ints, h.0)) (omega (arith, ints, h.1))
+shown_small Sent z good (inr h) = subst (λ y. unsigned_abs y ≤ 4294967295) (sym h) (omega arith)
+shown_small (Unread n) z good h =
+    let both = and_parts (int_le (negsuc 4294967294) n) (int_le n (pos 4294967295)) good in
+    abs_small n (le_from (negsuc 4294967294) n both.0) (le_from n (pos 4294967295) both.1)
+
+-- what a good scale and a good range are within
+pub scale_within : (s : Scale) → is_good_scale s ≡ true → AreWithin s.factor s.two s.ten
+scale_within s good =
+    let a = nat_le 1 s.factor in
+    let b = nat_le s.factor 60 in
+    let c = int_le (negsuc 58) s.two in
+    let d = int_le s.two (pos 16) in
+    let e = int_le (negsuc 1) s.ten in
+    let f = int_le s.ten (pos 0) in
+    let p5 = and_parts (a && b && c && d && e) f good in
+    let p4 = and_parts (a && b && c && d) e p5.0 in
+    let p3 = and_parts (a && b && c) d p4.0 in
+    let p2 = and_parts (a && b) c p3.0 in
+    let p1 = and_parts a b p2.0 in (
+      leb-true 1 s.factor p1.0,
+      leb-true s.factor 60 p1.1,
+      le_from (negsuc 58) s.two p2.1,
+      le_from s.two (pos 16) p3.1,
+      le_from (negsuc 1) s.ten p4.1,
+      le_from s.ten (pos 0) p5.1,
+    )
+
+pub range_within : (low high : ℤ) → is_good_range low high ≡ true → (negsuc 4294967294 ≤ℤ low) × (high ≤ℤ pos 4294967295)
+range_within low high good =
+    let both = and_parts (int_le (negsuc 4294967294) low) (int_le high (pos 4294967295)) good in
+    (le_from (negsuc 4294967294) low both.0, le_from high (pos 4294967295) both.1)
+
+-- a good scale is one at which each number is in reach
+good_scale : (s : Scale) → is_good_scale s ≡ true → IsScale (size_of s)
+good_scale s good = is_scale s (scale_within s good)
+
+-- the text of a field is read as that field
+field_again : (c : Column) (z : ℤ) (a : ℕ) (start tail line : List ℕ) → line ≡ start ++ (column_text c z ++ tail) → length start ≡ a
+    → is_good_scale c.scale ≡ true → is_good_rule c.rule ≡ true → IsField c.rule z → field_at c a line ≡ Ok z
+field_again c z a start tail line e at scale rule is =
+    let text = columns_at a 19 start (column_text c z) tail line e at (length-number_text (size_of c.scale) (shown c.rule z)) in
+    ap (λ t. taken c.rule (seen (size_of c.scale) t)) text
+    ∙ ap (taken c.rule) (text_seen (size_of c.scale) (shown c.rule z) (good_scale c.scale scale) (shown_small c.rule z rule is))
+    ∙ taken_again c.rule z is
+
+-- the texts of a row are read as its fields, of which more may follow
+pub row_again : (cs rest : List Column) (zs : List ℤ) (a : ℕ) (start tail line : List ℕ) → line ≡ start ++ (row_text cs zs ++ tail) → length start ≡ a
+    → are_good cs ≡ true → AreFields (cs ++ rest) zs → read_row cs a line ≡ Ok (take (length cs) zs)
+row_again [] rest zs a start tail line e at good are = refl
+row_again (c ∷ cs) rest [] a start tail line e at good are = absurd are
+row_again (c ∷ cs) rest (z ∷ zs) a start tail line e at good are =
+    let parts = and_parts (is_good_scale c.scale && is_good_rule c.rule) (are_good cs) good in
+    let own = and_parts (is_good_scale c.scale) (is_good_rule c.rule) parts.0 in
+    let split : line ≡ start ++ (column_text c z ++ (row_text cs zs ++ tail)) = e ∙ ap (λ t. start ++ t) (append_assoc (column_text c z) (row_text cs zs) tail) in
+    let first = field_again c z a start (row_text cs zs ++ tail) line split at own.0 own.1 are.0 in
+    let size = length-number_text (size_of c.scale) (shown c.rule z) in
+    let longer : length (start ++ column_text c z) ≡ a + 19 = omega (arith, length-append start (column_text c z), size, at) in
+    let next = row_again cs rest zs (a + 19) (start ++ column_text c z) tail line
+    (split ∙ sym (append_assoc start (column_text c z) (row_text cs zs ++ tail))) longer parts.1 are.1 in
+    ap (λ r. r >>= λ x. read_row cs (a + 19) line >>= λ xs. Ok (x ∷ xs)) first
+    ∙ ap (λ r. r >>= λ xs. Ok (z ∷ xs)) next
+
+rest_fields : (cs rest : List Column) (zs : List ℤ) → AreFields (cs ++ rest) zs → AreFields rest (drop (length cs) zs)
+rest_fields [] rest zs are = are
+rest_fields (c ∷ cs) rest [] are = absurd are
+rest_fields (c ∷ cs) rest (z ∷ zs) are = rest_fields cs rest zs are.1
+
+good_parts : (cs ds : List Column) → are_good (cs ++ ds) ≡ true → (are_good cs ≡ true) × (are_good ds ≡ true)
+good_parts [] ds good = (refl, good)
+good_parts (c ∷ cs) ds good =
+    let own = is_good_scale c.scale && is_good_rule c.rule in
+    let parts = and_parts own (are_good (cs ++ ds)) good in
+    let more = good_parts cs ds parts.1 in
+    (ap (λ b. b && are_good cs) parts.0 ∙ more.0, more.1)
+
+front_and_rest : (n : ℕ) (zs : List ℤ) → take n zs ++ drop n zs ≡ zs
+front_and_rest zero zs = refl
+front_and_rest (suc n) [] = refl
+front_and_rest (suc n) (z ∷ zs) = ap (λ l. z ∷ l) (front_and_rest n zs)
+
+-- the lines of rows are read as their fields, whatever lines follow
+pub rows_again : (rows : List (List Column)) (zs : List ℤ) (a : ℕ) (start : List ℕ) (more : List (List ℕ)) → length start ≡ a
+    → are_good (joined_rows rows) ≡ true → AreFields (joined_rows rows) zs → read_rows rows a (row_lines start rows zs ++ more) ≡ Ok zs
+rows_again [] [] a start more at good are = refl
+rows_again [] (z ∷ zs) a start more at good are = absurd are
+rows_again (r ∷ rs) zs a start more at good are =
+    let parts = good_parts r (joined_rows rs) good in
+    let line = start ++ row_text r zs in
+    let whole : line ≡ start ++ (row_text r zs ++ []) = ap (λ t. start ++ t) (sym (nothing_behind (row_text r zs))) in
+    let first = row_again r (joined_rows rs) zs a start [] line whole at parts.0 are in
+    let others = row_lines (codes "    ") rs (drop (length r) zs) ++ more in
+    let next = rows_again rs (drop (length r) zs) 4 (codes "    ") more refl parts.1 (rest_fields r (joined_rows rs) zs are) in
+    ap (λ x. x >>= λ ws. read_rows rs 4 others >>= λ vs. Ok (ws ++ vs)) first
+    ∙ ap (λ x. x >>= λ vs. Ok (take (length r) zs ++ vs)) next
+    ∙ ap Ok (front_and_rest (length r) zs)
+  where
+    nothing_behind : (xs : List ℕ) → xs ++ [] ≡ xs
+    nothing_behind [] = refl
+    nothing_behind (x ∷ xs) = ap (λ l. x ∷ l) (nothing_behind xs)
+
+pub good_at : (cs : List Column) (i : ℕ) (d : Column) → are_good cs ≡ true → i < length cs → (is_good_scale (get_or cs i d).scale ≡ true) × (is_good_rule (get_or cs i d).rule ≡ true)
+good_at [] i d good h = absurd (omega arith)
+good_at (c ∷ cs) zero d good h =
+    let parts = and_parts (is_good_scale c.scale && is_good_rule c.rule) (are_good cs) good in
+    and_parts (is_good_scale c.scale) (is_good_rule c.rule) parts.0
+good_at (c ∷ cs) (suc i) d good h =
+    let parts = and_parts (is_good_scale c.scale && is_good_rule c.rule) (are_good cs) good in
+    good_at cs i d parts.1 (omega arith)

@@ -1,0 +1,17 @@
+pub mod AccuracyLemmas
+pub mod AlikeLemmas
+pub mod ColumnLemmas
+pub mod DateLemmas
+pub mod FieldLemmas
+pub mod FileLemmas
+pub mod HeaderLemmas
+pub mod ItemLemmas
+pub mod LineLemmas
+pub mod RangeLemmas
+pub mod RecordLemmas
+pub mod RecordSteps
+pub mod RowLemmas
+pub mod StayLemmas
+pub mod TakeLemmas
+pub mod TakenLemmas
+pub mod WholeLemmas

@@ -1,0 +1,5 @@
+use Rattle.rinex_read.proofs.StayLemmas.{begins_with_file}
+use Rattle.rinex_read.proofs.laws.readers_begin_with_the_file.Goals as goal
+
+pub returns : goal.returns
+returns c = begins_with_file

@@ -1,0 +1,8 @@
+use Rattle.rinex_read.proofs.StayLemmas.{end_stays, end_unbroken}
+use Rattle.rinex_read.proofs.laws.the_end_stays.Goals as goal
+
+pub returns-clause-read : goal.returns-clause-read
+returns-clause-read c = end_stays
+
+pub returns-clause-fault : goal.returns-clause-fault
+returns-clause-fault c = end_unbroken

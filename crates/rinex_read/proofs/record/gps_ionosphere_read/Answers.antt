@@ -1,0 +1,9 @@
+use Rattle.std.proofs.Common.{List, ℤ, sym, subst}
+use Rattle.rinex_write.specs.Layouts.{gps_kind, galileo_kind, gps_ionosphere_kind, galileo_ionosphere_kind}
+use Rattle.rinex_read.specs.Mirrors.{AreGpsIonosphereFields}
+use Rattle.rinex_read.proofs.RangeLemmas.{gps_ionosphere_fields_in}
+use Rattle.rinex_read.proofs.record.gps_ionosphere_read.Goals as goal
+
+pub gps_ionosphere_item-requires : goal.gps_ionosphere_item-requires
+unfolding gps_kind galileo_kind gps_ionosphere_kind galileo_ionosphere_kind
+gps_ionosphere_item-requires c = subst (λ (zs : List ℤ). AreGpsIonosphereFields zs) (sym c.as_slice.ensures.value) (gps_ionosphere_fields_in c.in_ok-said.said.fields.items c.in_ok-said.ensures.are)

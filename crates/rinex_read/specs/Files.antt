@@ -1,0 +1,89 @@
+-- Navigation files as read: the header, the records with the numbers of their lines, and the list of items (RINEX 4.01).
+use Rattle.std.specs.Prelude.{ℕ, ◌+◌, ◌==◌, ◌&&◌, Bool, false, if◌then◌else◌, List, [], ◌∷◌, codes, Result, Ok, Err}
+use Rattle.scaled_decimal.specs.NumberReading.{trim_start, trim_end, is_decimal}
+use Rattle.nav_eph.specs.declared.items.NavItem.{NavItem}
+use Rattle.rinex_read.specs.declared.reason.Reason.{Reason}
+use Rattle.rinex_read.specs.declared.judged.Judged.{Judged}
+use Rattle.rinex_read.specs.declared.judged.Judged.TheVariants as judgments
+use Rattle.rinex_read.specs.declared.judged.ItemRead.{ItemRead}
+use Rattle.rinex_read.specs.declared.judged.ItemRead.TheVariants.{Item, Refused, PassedOver, End}
+use Rattle.rinex_read.specs.declared.judged.HeaderFault.{HeaderFault}
+use Rattle.rinex_read.specs.declared.judged.HeaderFault.TheVariants.{NotRinexNav, Version}
+use Rattle.rinex_read.specs.Lines.{columns, stands_at, begins, lines_of}
+use Rattle.rinex_read.specs.Judging.{judged}
+
+-- the first line says that this is a navigation file: the label in columns 61-80, and `N` in column 21
+unfoldable pub is_navigation : List ℕ → Bool
+is_navigation line = stands_at 60 (codes "RINEX VERSION / TYPE") line && stands_at 20 (codes "N") line
+
+-- `4.` and one digit or two
+abbrev pub is_four : List ℕ → Bool
+is_four (a ∷ b ∷ c ∷ []) = a == 52 && b == 46 && is_decimal c
+is_four (a ∷ b ∷ c ∷ d ∷ []) = a == 52 && b == 46 && is_decimal c && is_decimal d
+is_four _ = false
+
+-- the version, in columns 1-9 without blanks at the ends, is 4
+unfoldable pub is_version : List ℕ → Bool
+is_version line = is_four (trim_end (trim_start (columns 0 9 line)))
+
+-- the line ends the header: its label begins so in column 61
+unfoldable pub ends_header : List ℕ → Bool
+ends_header line = stands_at 60 (codes "END OF HEADER") line
+
+-- what stands behind a header: lines, of which so many went before
+pub record Body : Type 0 where
+  pub number : ℕ
+  pub lines : List (List ℕ)
+
+-- what stands behind the next line that ends a header, where n lines went before these
+abbrev pub header_passed : ℕ → List (List ℕ) → Result Body HeaderFault
+header_passed n [] = Err NotRinexNav
+header_passed n (l ∷ ls) = if ends_header l then Ok (record { number = n + 1; lines = ls }) else header_passed (n + 1) ls
+
+-- what stands behind the header with which these lines begin
+abbrev pub header_of : ℕ → List (List ℕ) → Result Body HeaderFault
+header_of n [] = Err NotRinexNav
+header_of n (l ∷ ls) =
+    if is_navigation l then (if is_version l then header_passed (n + 1) ls else Err Version) else Err NotRinexNav
+
+-- the lines up to the next that begins a record
+abbrev pub up_to_next : List (List ℕ) → List (List ℕ)
+up_to_next [] = []
+up_to_next (l ∷ ls) = if begins l then [] else l ∷ up_to_next ls
+
+-- what is read of a record that begins at line n
+abbrev pub read_at : ℕ → Judged → ItemRead
+read_at n (judgments.Item item) = Item n item
+read_at n (judgments.Refused reason) = Refused n reason
+read_at n judgments.PassedOver = PassedOver n
+
+-- what is read of the records of lines, where n lines went before: a record is a line that begins one and the lines up to
+-- the next such line or the end
+abbrev pub reads : ℕ → List (List ℕ) → List ItemRead
+reads n [] = []
+reads n (l ∷ ls) = if begins l then read_at (n + 1) (judged (l ∷ up_to_next ls)) ∷ reads (n + 1) ls else reads (n + 1) ls
+
+-- what is read of the records behind a header
+abbrev pub reads_behind : Result Body HeaderFault → Result (List ItemRead) HeaderFault
+reads_behind (Ok body) = Ok (reads body.number body.lines)
+reads_behind (Err fault) = Err fault
+
+-- what is read of the bytes of a file
+abbrev pub file_reads : List ℕ → Result (List ItemRead) HeaderFault
+file_reads bytes = reads_behind (header_of 0 (lines_of bytes))
+
+-- the items among what is read
+abbrev pub items_of : List ItemRead → List NavItem
+items_of [] = []
+items_of (Item line item ∷ rs) = item ∷ items_of rs
+items_of (Refused line reason ∷ rs) = items_of rs
+items_of (PassedOver line ∷ rs) = items_of rs
+items_of (End ∷ rs) = items_of rs
+
+abbrev pub items_read : Result (List ItemRead) HeaderFault → List NavItem
+items_read (Ok rs) = items_of rs
+items_read (Err fault) = []
+
+-- the list of the items of a file
+abbrev pub rinex_list : List ℕ → List NavItem
+rinex_list bytes = items_read (file_reads bytes)

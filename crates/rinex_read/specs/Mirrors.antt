@@ -1,0 +1,229 @@
+-- What private functions keep on the way, cited by no public clause.
+use Rattle.std.specs.Prelude.{◌≡◌, ℕ, ◌+◌, ◌-◌, ◌*◌, ◌/◌, ◌^◌, ◌<◌, ◌≤◌, nat_lt, nat_le, ◌&&◌, Bool, true, false, if◌then◌else◌, List, [], ◌∷◌, ◌++◌, length, take, drop, sum, Result, Ok, Err, ℤ, pos, negsuc, ◌≤ℤ◌}
+use Rattle.nav_eph.specs.Steps.{IsSisa}
+use Rattle.nav_bits.specs.Signed.{IsSigned}
+use Rattle.rinex_write.specs.declared.columns.Column.{Column}
+use Rattle.rinex_write.specs.Columns.{are_good}
+use Rattle.rinex_write.specs.Layouts.{Kind, gps_kind, galileo_kind, gps_ionosphere_kind, galileo_ionosphere_kind}
+use Rattle.rinex_read.specs.declared.reason.Reason.{Reason}
+use Rattle.rinex_read.specs.declared.reason.Reason.TheVariants as reasons
+use Rattle.rinex_read.specs.declared.title.Form.{Form}
+use Rattle.rinex_read.specs.declared.title.Form.TheVariants.{GpsEphemeris, GalileoEphemeris, GpsIonosphere, GalileoIonosphere}
+use Rattle.rinex_read.specs.Fields.{◌>>=◌, read_row}
+use Rattle.rinex_read.specs.declared.judged.ItemRead.{ItemRead}
+use Rattle.rinex_read.specs.declared.judged.ItemRead.TheVariants.{Item, Refused, PassedOver, End}
+use Rattle.rinex_read.specs.declared.judged.HeaderState.{HeaderState}
+use Rattle.rinex_read.specs.declared.judged.HeaderState.TheVariants.{New, Open, Passed, NotRinexNav, OtherVersion}
+use Rattle.rinex_read.specs.Judging.{field, natural, Said, judged}
+use Rattle.rinex_read.specs.Files.{is_navigation, is_version, ends_header, read_at}
+use Rattle.nav_io.specs.LinesState.{LinesState}
+use Rattle.rinex_read.specs.declared.judged.HeaderFault.{HeaderFault}
+use Rattle.rinex_read.specs.declared.judged.HeaderFault.TheVariants as faults
+use Rattle.rinex_read.specs.States.{RecordsState, held_reads}
+use Rattle.rinex_read.specs.declared.said.RecordSaid.{RecordSaid}
+
+-- the kinds of the forms
+abbrev pub kind_by : Form → Kind
+kind_by GpsEphemeris = gps_kind
+kind_by GalileoEphemeris = galileo_kind
+kind_by GpsIonosphere = gps_ionosphere_kind
+kind_by GalileoIonosphere = galileo_ionosphere_kind
+
+-- what a function returned, seen by view, is what was to be read
+abbrev pub Gives : {X Y : Type 0} → (X → Y) → Result X Reason → Result Y Reason → Type 0
+Gives view (Ok x) read = read ≡ Ok (view x)
+Gives view (Err e) read = read ≡ Err e
+
+-- fields that go before what is read
+abbrev pub with_front : List ℤ → Result (List ℤ) Reason → Result (List ℤ) Reason
+with_front zs (Ok ws) = Ok (zs ++ ws)
+with_front zs (Err e) = Err e
+
+-- all was read, or the reason is that of the reading
+abbrev pub ReadsTo : {T : Type 0} → Result T Reason → List ℤ → Result (List ℤ) Reason → Type 0
+ReadsTo (Ok x) new read = read ≡ Ok new
+ReadsTo (Err e) new read = read ≡ Err e
+
+-- the fields of lines of so many columns each, the columns of all lines being one list
+abbrev pub flat_rows : List ℕ → List Column → ℕ → List (List ℕ) → Result (List ℤ) Reason
+flat_rows [] cs a ls = Ok []
+flat_rows (n ∷ ns) cs a [] = Err reasons.Short
+flat_rows (n ∷ ns) cs a (l ∷ ls) = read_row (take n cs) a l >>= λ zs. flat_rows ns (drop n cs) 4 ls >>= λ ws. Ok (zs ++ ws)
+
+-- each line of columns ends by column 80
+abbrev pub do_fit : ℕ → List ℕ → Bool
+do_fit a [] = true
+do_fit a (n ∷ ns) = nat_le (a + 19 * n) 80 && do_fit 4 ns
+
+-- a table of columns, and how many of them each line has
+pub record IsLayout (columns : List Column) (rows : List ℕ) : Type 0 where
+  pub good : are_good columns ≡ true
+  pub count : sum rows ≡ length columns
+  pub few : length columns ≤ 29
+  pub fit : do_fit 23 rows ≡ true
+
+-- the least index of signal in space accuracy whose value is at least n, for n up to 600
+abbrev pub sisa_index : ℕ → ℕ
+sisa_index n =
+    if nat_lt n 50 then n
+    else if nat_lt n 100 then 50 + (n - 49) / 2
+    else if nat_lt n 200 then 75 + (n - 97) / 4
+    else 100 + (n - 185) / 16
+
+-- field k is a number of w digits without a sign, or in two's complement
+pub record IsUnsignedAt (w : ℕ) (zs : List ℤ) (k : ℕ) : Type 0 where
+  pub within : k < length zs
+  pub low : pos 0 ≤ℤ field zs k
+  pub high : natural zs k < 2 ^ w
+
+pub record IsSignedAt (w : ℕ) (zs : List ℤ) (k : ℕ) : Type 0 where
+  pub within : k < length zs
+  pub is : IsSigned w (field zs k)
+
+-- field k is a number below n, a week, an index of signal in space accuracy, a second of sending or that it is not known
+pub record IsBelowAt (n : ℕ) (zs : List ℤ) (k : ℕ) : Type 0 where
+  pub within : k < length zs
+  pub low : pos 0 ≤ℤ field zs k
+  pub high : natural zs k < n
+
+pub record IsWeekAt (zs : List ℤ) (k : ℕ) : Type 0 where
+  pub within : k < length zs
+  pub low : pos 1 ≤ℤ field zs k
+  pub high : field zs k ≤ℤ pos 16382
+
+pub record IsSisaAt (zs : List ℤ) (k : ℕ) : Type 0 where
+  pub within : k < length zs
+  pub low : pos 0 ≤ℤ field zs k
+  pub high : IsSisa (natural zs k)
+
+pub record IsSentAt (zs : List ℤ) (k : ℕ) : Type 0 where
+  pub within : k < length zs
+  pub low : negsuc 302399 ≤ℤ field zs k
+
+-- what the definitions see of what a record says
+abbrev pub view_said : RecordSaid → Said
+view_said s = record { sat = s.sat; moment = s.moment; fields = s.fields.items }
+
+-- the fields of an ephemeris of GPS are within their digits
+pub record AreGpsFields (zs : List ℤ) : Type 0 where
+  pub af0 : IsSignedAt 22 zs 0
+  pub af1 : IsSignedAt 16 zs 1
+  pub af2 : IsSignedAt 8 zs 2
+  pub iode : IsUnsignedAt 8 zs 3
+  pub crs : IsSignedAt 16 zs 4
+  pub delta_n : IsSignedAt 16 zs 5
+  pub m0 : IsSignedAt 32 zs 6
+  pub cuc : IsSignedAt 16 zs 7
+  pub e : IsUnsignedAt 32 zs 8
+  pub cus : IsSignedAt 16 zs 9
+  pub root_a : IsUnsignedAt 32 zs 10
+  pub toe : IsBelowAt 37800 zs 11
+  pub cic : IsSignedAt 16 zs 12
+  pub omega0 : IsSignedAt 32 zs 13
+  pub cis : IsSignedAt 16 zs 14
+  pub i0 : IsSignedAt 32 zs 15
+  pub crc : IsSignedAt 16 zs 16
+  pub omega : IsSignedAt 32 zs 17
+  pub omega_dot : IsSignedAt 24 zs 18
+  pub idot : IsSignedAt 14 zs 19
+  pub l2_code : IsUnsignedAt 2 zs 20
+  pub toe_week : IsWeekAt zs 21
+  pub l2p : IsUnsignedAt 1 zs 22
+  pub ura : IsUnsignedAt 4 zs 23
+  pub health : IsUnsignedAt 6 zs 24
+  pub tgd : IsSignedAt 8 zs 25
+  pub iodc : IsUnsignedAt 10 zs 26
+  pub sent : IsSentAt zs 27
+  pub fit : IsUnsignedAt 1 zs 28
+
+-- the fields of an ephemeris of Galileo are within their digits
+pub record AreGalileoFields (zs : List ℤ) : Type 0 where
+  pub af0 : IsSignedAt 31 zs 0
+  pub af1 : IsSignedAt 21 zs 1
+  pub af2 : IsSignedAt 6 zs 2
+  pub iodnav : IsUnsignedAt 10 zs 3
+  pub crs : IsSignedAt 16 zs 4
+  pub delta_n : IsSignedAt 16 zs 5
+  pub m0 : IsSignedAt 32 zs 6
+  pub cuc : IsSignedAt 16 zs 7
+  pub e : IsUnsignedAt 32 zs 8
+  pub cus : IsSignedAt 16 zs 9
+  pub root_a : IsUnsignedAt 32 zs 10
+  pub toe : IsBelowAt 10080 zs 11
+  pub cic : IsSignedAt 16 zs 12
+  pub omega0 : IsSignedAt 32 zs 13
+  pub cis : IsSignedAt 16 zs 14
+  pub i0 : IsSignedAt 32 zs 15
+  pub crc : IsSignedAt 16 zs 16
+  pub omega : IsSignedAt 32 zs 17
+  pub omega_dot : IsSignedAt 24 zs 18
+  pub idot : IsSignedAt 14 zs 19
+  pub toe_week : IsWeekAt zs 21
+  pub sisa : IsSisaAt zs 22
+  pub health : IsUnsignedAt 9 zs 23
+  pub bgd_a : IsSignedAt 10 zs 24
+  pub bgd_b : IsSignedAt 10 zs 25
+  pub sent : IsSentAt zs 26
+
+-- the fields of the ionospheres are within their digits
+pub record AreGpsIonosphereFields (zs : List ℤ) : Type 0 where
+  pub alpha0 : IsSignedAt 8 zs 0
+  pub alpha1 : IsSignedAt 8 zs 1
+  pub alpha2 : IsSignedAt 8 zs 2
+  pub alpha3 : IsSignedAt 8 zs 3
+  pub beta0 : IsSignedAt 8 zs 4
+  pub beta1 : IsSignedAt 8 zs 5
+  pub beta2 : IsSignedAt 8 zs 6
+  pub beta3 : IsSignedAt 8 zs 7
+
+pub record AreGalileoIonosphereFields (zs : List ℤ) : Type 0 where
+  pub ai0 : IsUnsignedAt 11 zs 0
+  pub ai1 : IsSignedAt 11 zs 1
+  pub ai2 : IsSignedAt 14 zs 2
+  pub regions : IsUnsignedAt 5 zs 3
+
+-- A line was taken: what is held with it and any lines behind it gives these records, and then what is held now gives.
+pub record TakesLine (kept : List (List ℕ)) (first : ℕ) (kept_new : List (List ℕ)) (first_new : ℕ) (line : List ℕ) (number : ℕ) (given : List ItemRead) : Type 0 where
+  pub answers : (n : ℕ) (more : List (List ℕ)) → number ≡ n + 1 → held_reads kept first n (line ∷ more) ≡ given ++ held_reads kept_new first_new number more
+
+-- No line is left: what is held gives these records.
+pub record TakesEnd (kept : List (List ℕ)) (first : ℕ) (given : List ItemRead) : Type 0 where
+  pub answers : (n : ℕ) → held_reads kept first n [] ≡ given
+
+-- what was read is a record, of which there is one
+abbrev pub IsRecord : ItemRead → Type 0
+IsRecord (Item line item) = Unit {0}
+IsRecord (Refused line reason) = Unit {0}
+IsRecord (PassedOver line) = Unit {0}
+IsRecord End = ⊥
+
+-- the end where nothing was held, and else the record that was
+abbrev pub EndsWith : List (List ℕ) → ℕ → ItemRead → Type 0
+EndsWith [] first read = read ≡ End
+EndsWith (k ∷ ks) first read = read ≡ read_at first (judged (k ∷ ks))
+
+-- how far the header is read with one more line
+abbrev pub header_after : HeaderState → List ℕ → HeaderState
+header_after New line = if is_navigation line then (if is_version line then Open else OtherVersion) else NotRinexNav
+header_after Open line = if ends_header line then Passed else Open
+header_after Passed line = Passed
+header_after NotRinexNav line = NotRinexNav
+header_after OtherVersion line = OtherVersion
+
+-- lines of the header are still to come
+abbrev pub is_waiting : HeaderState → Bool
+is_waiting New = true
+is_waiting Open = true
+is_waiting Passed = false
+is_waiting NotRinexNav = false
+is_waiting OtherVersion = false
+
+-- a reader of records of these parts
+abbrev pub state_of : HeaderState → List (List ℕ) → ℕ → LinesState → RecordsState
+state_of header kept first lines = record { header = header; kept = kept; first = first; lines = lines }
+
+-- how a header that was read is answered
+abbrev pub HeaderRefused : HeaderState → HeaderFault → Type 0
+HeaderRefused header faults.NotRinexNav = header ≡ NotRinexNav
+HeaderRefused header faults.Version = header ≡ OtherVersion
+HeaderRefused header (faults.Line fault) = ⊥

@@ -1,0 +1,127 @@
+//! The fields that the numbers of a record say.
+
+ghost use Rattle.std.specs.Prelude.{◌≡◌, ◌+◌, ◌*◌, ◌≤◌, ◌≤ℤ◌, pos, true, length, unsigned_abs, OnOk};
+ghost use Rattle.arrayvec.specs.ArrayVec.{array_vec_len};
+ghost use Rattle.scaled_decimal.specs.ScaleValue.{size_of};
+ghost use Rattle.scaled_decimal.specs.NumberReading.{seen};
+ghost use Rattle.rinex_write.specs.Columns.{are_good, is_good_rule, is_good_scale};
+ghost use Rattle.rinex_read.specs.Fields.{flag_of, read_row, taken};
+ghost use Rattle.rinex_read.specs.Mirrors.{Gives, IsLayout, ReadsTo, flat_rows, with_front};
+
+use crate::accuracy::{sisa_of, ura_of};
+use crate::line::{Line, columns};
+use crate::reason::Reason;
+use arrayvec::ArrayVec;
+use rinex_write::{Column, Layout, Rule};
+use scaled_decimal::{DecimalFault, read};
+
+/// The fields of a record, of which there are at most 29.
+pub(crate) type Fields = ArrayVec<i64, 29>;
+
+// The second of sending that is not known.
+const UNKNOWN: i64 = 999_900_000;
+
+// The greatest accuracy that is read, in centimetres.
+const GREATEST: i64 = 100_000_000;
+
+// The flag of a fit interval in hours.
+fn flag_of(hours: i64) -> Result<i64, Reason>
+    requires { pos 0 ≤ℤ hours }
+    ensures { result ≡ flag_of (unsigned_abs hours) }
+{
+    match hours {
+        0 | 4 => Ok(0),
+        2 | 3 => Err(Reason::Fit),
+        _ => Ok(1),
+    }
+}
+
+// The field that a text in a column says.
+fn field(column: &Column, text: &[u8]) -> Result<i64, Reason>
+    requires text { length text.now ≤ 19 }
+    requires scale { is_good_scale column.now.scale ≡ true }
+    requires rule { is_good_rule column.now.rule ≡ true }
+    ensures { result ≡ taken column.now.rule (seen (size_of column.now.scale) text.now) }
+{
+    match column.rule {
+        Rule::Plain { low, high } => match read(text, &column.scale, low, high) {
+            Ok(number) => Ok(number),
+            Err(DecimalFault::Blank) => Err(Reason::Blank),
+            Err(DecimalFault::NotANumber) => Err(Reason::NotANumber),
+            Err(DecimalFault::OutOfRange) => Err(Reason::OutOfRange),
+        },
+        Rule::OrZero { low, high } => match read(text, &column.scale, low, high) {
+            Ok(number) => Ok(number),
+            Err(DecimalFault::Blank) => Ok(0),
+            Err(DecimalFault::NotANumber) => Err(Reason::NotANumber),
+            Err(DecimalFault::OutOfRange) => Err(Reason::OutOfRange),
+        },
+        Rule::Ura => match read(text, &column.scale, -GREATEST, GREATEST) {
+            Ok(number) => Ok(ura_of(number)),
+            Err(DecimalFault::Blank) => Ok(15),
+            Err(DecimalFault::NotANumber) => Err(Reason::NotANumber),
+            Err(DecimalFault::OutOfRange) => Err(Reason::OutOfRange),
+        },
+        Rule::Sisa => match read(text, &column.scale, -GREATEST, GREATEST) {
+            Ok(number) => Ok(sisa_of(number)),
+            Err(DecimalFault::Blank) => Ok(255),
+            Err(DecimalFault::NotANumber) => Err(Reason::NotANumber),
+            Err(DecimalFault::OutOfRange) => Err(Reason::OutOfRange),
+        },
+        Rule::Fit => match read(text, &column.scale, 0, 255) {
+            Ok(number) => flag_of(number),
+            Err(DecimalFault::Blank) => Ok(0),
+            Err(DecimalFault::NotANumber) => Err(Reason::NotANumber),
+            Err(DecimalFault::OutOfRange) => Err(Reason::OutOfRange),
+        },
+        Rule::Sent => match read(text, &column.scale, -302_400, 907_199) {
+            Ok(number) => Ok(number),
+            Err(DecimalFault::Blank) => Ok(UNKNOWN),
+            Err(DecimalFault::NotANumber) => Err(Reason::NotANumber),
+            Err(DecimalFault::OutOfRange) => Ok(UNKNOWN),
+        },
+        Rule::Unread { number } => Ok(number),
+    }
+}
+
+// Appends the fields of a line whose numbers begin at a place.
+fn read_row(
+    columns_of_row: &[Column],
+    place: usize,
+    line: &Line,
+    fields: &mut Fields,
+) -> Result<(), Reason>
+    requires good { are_good columns_of_row.now ≡ true }
+    requires line { place + 19 * length columns_of_row.now ≤ 80 }
+    requires room { array_vec_len fields.old + length columns_of_row.now ≤ 29 }
+    ensures read { ReadsTo result fields.new.items (with_front fields.old.items (read_row columns_of_row.now place line.now)) }
+    ensures count { OnOk result (length fields.new.items ≡ length fields.old.items + length columns_of_row.now) }
+{
+    for (i, column) in columns_of_row.iter().enumerate() {
+        let field = field(column, columns(line, place + 19 * i, 19))?;
+        fields.push(field);
+    }
+    Ok(())
+}
+
+/// The fields of the lines of a record behind its title, of which the numbers of the first begin at place 23.
+pub(crate) fn read_fields(layout: &Layout, lines: &[Line]) -> Result<Fields, Reason>
+    requires layout { IsLayout layout.now.columns.now layout.now.rows.now }
+    requires lines { length layout.now.rows.now ≤ length lines.now }
+    ensures { Gives (λ fields. fields.items) result (flat_rows layout.now.rows.now layout.now.columns.now 23 lines.now) }
+{
+    let mut fields = Fields::new();
+    let mut at = 0;
+    let mut place = 23;
+    for (i, count) in layout.rows.iter().enumerate() {
+        let row = &layout.columns[at..at + *count];
+        match read_row(row, place, &lines[i], &mut fields) {
+            Ok(()) => {
+                at += *count;
+                place = 4;
+            }
+            Err(reason) => return Err(reason),
+        }
+    }
+    Ok(fields)
+}

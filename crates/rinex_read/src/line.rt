@@ -1,0 +1,50 @@
+//! Lines of a record as they are kept: their first 80 characters.
+
+ghost use Rattle.std.specs.Prelude.{◌≡◌, ◌+◌, ◌≤◌, length};
+ghost use Rattle.rinex_read.specs.Kept.{padded};
+ghost use Rattle.rinex_read.specs.Lines.{begins, columns, stands_at};
+
+/// The first 80 characters of a line, blanks where it is shorter.
+pub(crate) type Line = [u8; 80];
+
+/// The first 80 characters of a line.
+pub(crate) fn padded(line: &[u8]) -> Line
+    ensures { result ≡ padded line.now }
+{
+    let mut columns = [b' '; 80];
+    let count = line.len().min(80);
+    columns[..count].copy_from_slice(&line[..count]);
+    columns
+}
+
+/// The characters in so many columns from a place on, places being counted from 0.
+pub(crate) fn columns(line: &Line, place: usize, count: usize) -> &[u8]
+    requires { place + count ≤ 80 }
+    ensures text { result.now ≡ columns place count line.now }
+    ensures len { length result.now ≡ count }
+{
+    &line[place..place + count]
+}
+
+/// The text stands in the columns from a place on.
+pub(crate) fn stands_at(line: &Line, place: usize, text: &[u8]) -> bool
+    requires { place + length text.now ≤ 80 }
+    ensures { result ≡ stands_at place text.now line.now }
+{
+    for (i, c) in text.iter().enumerate() {
+        if line[place + i] != *c {
+            return false;
+        }
+    }
+    true
+}
+
+/// The line begins a record.
+pub(crate) fn begins(line: &[u8]) -> bool
+    ensures { result ≡ begins line.now }
+{
+    match line {
+        [first, ..] => *first == b'>',
+        [] => false,
+    }
+}

@@ -1,0 +1,150 @@
+//! The lines of a record, and what they stand for.
+
+ghost use Rattle.std.specs.Prelude.{◌≡◌, ◌↔◌, ◌∷◌, ◌++◌, [], List, ℕ, IsTrue};
+ghost use Rattle.rinex_read.specs.Judging.{galileo_ionosphere_read, galileo_read, gps_ionosphere_read, gps_read, judged, outcome};
+ghost use Rattle.rinex_read.specs.Kept.{kept_with};
+
+use crate::items::{galileo_ionosphere_item, galileo_item, gps_ionosphere_item, gps_item};
+use crate::judged::Judged;
+use crate::line::{Line, padded};
+use crate::reason::Reason;
+use crate::said::{ephemeris_said, ionosphere_said};
+use crate::title::{Form, is_kind};
+use nav_eph::NavItem;
+use std::marker::Model;
+
+/// The lines of a record as far as they are looked at: the first nine, of each the first 80 characters.
+///
+/// A contract sees the list of these lines, with blanks behind each that is shorter. What is left out changes nothing:
+/// they are judged as all lines that were pushed would be.
+#[derive(Drop)]
+pub struct RecordLines {
+    lines: [Line; 9],
+    count: usize,
+}
+
+impl Model for RecordLines {
+    ghost use Rattle.std.specs.Prelude.{ℕ, ◌≤◌, List, take};
+
+    ghost Value = { List (List ℕ) };
+
+    ghost view = { λ r. take r.count r.lines };
+
+    ghost invariant = { λ r. r.count ≤ 9 };
+}
+
+// The ephemeris of GPS for which the lines stand.
+fn gps_read(title: &Line, lines: &[Line]) -> Result<NavItem, Reason>
+    ensures { result ≡ gps_read title.now lines.now }
+{
+    let said = ephemeris_said(Form::GpsEphemeris, title, lines)?;
+    gps_item(said.sat, said.moment, said.fields.as_slice())
+}
+
+// The ephemeris of Galileo for which the lines stand.
+fn galileo_read(title: &Line, lines: &[Line]) -> Result<NavItem, Reason>
+    ensures { result ≡ galileo_read title.now lines.now }
+{
+    let said = ephemeris_said(Form::GalileoEphemeris, title, lines)?;
+    galileo_item(said.sat, said.moment, said.fields.as_slice())
+}
+
+// The ionosphere of GPS for which the lines stand.
+fn gps_ionosphere_read(title: &Line, lines: &[Line]) -> Result<NavItem, Reason>
+    ensures { result ≡ gps_ionosphere_read title.now lines.now }
+{
+    let said = ionosphere_said(Form::GpsIonosphere, title, lines)?;
+    gps_ionosphere_item(said.sat, said.moment, said.fields.as_slice())
+}
+
+// The ionosphere of Galileo for which the lines stand.
+fn galileo_ionosphere_read(title: &Line, lines: &[Line]) -> Result<NavItem, Reason>
+    ensures { result ≡ galileo_ionosphere_read title.now lines.now }
+{
+    let said = ionosphere_said(Form::GalileoIonosphere, title, lines)?;
+    galileo_ionosphere_item(said.sat, said.moment, said.fields.as_slice())
+}
+
+// An item, or a refusal.
+fn outcome(read: Result<NavItem, Reason>) -> Judged
+    ensures { result ≡ outcome read }
+{
+    match read {
+        Ok(item) => Judged::Item(item),
+        Err(reason) => Judged::Refused(reason),
+    }
+}
+
+// What the lines behind a title stand for with it.
+#[tactic(auto, unfolding(crate::specs::Judging::judged))]
+fn judge_lines(title: &Line, lines: &[Line]) -> Judged
+    ensures { result ≡ judged (title.now ∷ lines.now) }
+{
+    if is_kind(Form::GpsEphemeris, title) {
+        return outcome(gps_read(title, lines));
+    }
+    if is_kind(Form::GalileoEphemeris, title) {
+        return outcome(galileo_read(title, lines));
+    }
+    if is_kind(Form::GpsIonosphere, title) {
+        return outcome(gps_ionosphere_read(title, lines));
+    }
+    if is_kind(Form::GalileoIonosphere, title) {
+        return outcome(galileo_ionosphere_read(title, lines));
+    }
+    Judged::PassedOver
+}
+
+impl RecordLines {
+    /// A record of no line.
+    pub fn new() -> RecordLines
+        ensures { result ≡ [] }
+    {
+        RecordLines {
+            lines: [[b' '; 80]; 9],
+            count: 0,
+        }
+    }
+
+    /// There is no line.
+    pub fn is_empty(&self) -> bool
+        ensures { IsTrue result ↔ (self.now ≡ []) }
+    {
+        self.count == 0
+    }
+
+    // Keeps what is looked at of one more line.
+    fn keep(&mut self, line: &[u8])
+        ensures { self.new ≡ kept_with self.old line.now }
+    {
+        if self.count < 9 {
+            self.lines[self.count] = padded(line);
+            self.count += 1;
+        }
+    }
+
+    /// Takes the next line of the record, without the end of the line; the first one is its title, as `> EPH G05 LNAV`.
+    ///
+    /// Lines behind the ninth and characters behind the 80th are not kept, since they are not looked at.
+    pub fn push(&mut self, line: &[u8])
+        ensures kept { self.new ≡ kept_with self.old line.now }
+
+        // The lines that are kept are judged as those that were pushed, whatever lines follow.
+        ensures means { (more : List (List ℕ)) → judged (self.new ++ more) ≡ judged (self.old ++ line.now ∷ more) }
+    {
+        self.keep(line);
+    }
+
+    /// What the lines stand for (RINEX 4.01, navigation records: EPH LNAV and INAV, and ION).
+    ///
+    /// An item; or the first [`Reason`] for which a record of these kinds stands for none; or, of records of other
+    /// kinds and where there is no line, that they are passed over.
+    pub fn judge(&self) -> Judged
+        ensures { result ≡ judged self.now }
+    {
+        match &self.lines[..self.count] {
+            [] => Judged::PassedOver,
+            [title, lines @ ..] => judge_lines(title, lines),
+        }
+    }
+}

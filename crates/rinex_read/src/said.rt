@@ -1,0 +1,126 @@
+//! What records say: satellites, moments and fields.
+
+ghost use Rattle.std.specs.Prelude.{◌≡◌, ◌≤◌, map, length, IfOk};
+ghost use Rattle.rinex_write.specs.Columns.{AreFields, joined_rows};
+ghost use Rattle.rinex_read.specs.Fields.{read_rows};
+ghost use Rattle.rinex_read.specs.Judging.{ephemeris_said, ionosphere_said, is_named_week, need};
+ghost use Rattle.rinex_read.specs.Mirrors.{Gives, kind_by, view_said};
+
+use crate::date::moment_in;
+use crate::fields::{Fields, read_fields};
+use crate::line::Line;
+use crate::reason::Reason;
+use crate::title::{Form, same_sat, sat_of};
+use gnss_week::Moment;
+use nav_eph::{Sat, System};
+use rinex_write::{
+    Layout, galileo_ionosphere_layout, galileo_layout, gps_ionosphere_layout, gps_layout,
+};
+
+/// What a record says.
+#[derive(Drop)]
+pub(crate) struct RecordSaid {
+    /// The satellite of its title.
+    pub(crate) sat: Sat,
+    /// The moment of its date.
+    pub(crate) moment: Moment,
+    /// The fields of its numbers.
+    pub(crate) fields: Fields,
+}
+
+// The layout of a kind.
+#[tactic(auto, unfolding(rinex_write::specs::Layouts::gps_kind, rinex_write::specs::Layouts::galileo_kind, rinex_write::specs::Layouts::gps_ionosphere_kind, rinex_write::specs::Layouts::galileo_ionosphere_kind))]
+fn layout_of(form: Form) -> Layout
+    ensures columns { result.columns.now ≡ joined_rows (kind_by form).rows }
+    ensures rows { result.rows.now ≡ map length (kind_by form).rows }
+{
+    match form {
+        Form::GpsEphemeris => gps_layout(),
+        Form::GalileoEphemeris => galileo_layout(),
+        Form::GpsIonosphere => gps_ionosphere_layout(),
+        Form::GalileoIonosphere => galileo_ionosphere_layout(),
+    }
+}
+
+// The system of a kind.
+#[tactic(auto, unfolding(rinex_write::specs::Layouts::gps_kind, rinex_write::specs::Layouts::galileo_kind, rinex_write::specs::Layouts::gps_ionosphere_kind, rinex_write::specs::Layouts::galileo_ionosphere_kind))]
+fn system_of(form: Form) -> System
+    ensures { result ≡ (kind_by form).system }
+{
+    match form {
+        Form::GpsEphemeris | Form::GpsIonosphere => System::Gps,
+        Form::GalileoEphemeris | Form::GalileoIonosphere => System::Gal,
+    }
+}
+
+// How many lines a kind has behind the title.
+fn count_of(form: Form) -> usize
+    ensures count { result ≡ length (kind_by form).rows }
+    ensures some { 1 ≤ result }
+{
+    layout_of(form).rows.len()
+}
+
+// The fields of the lines of a record.
+fn fields_of(form: Form, lines: &[Line]) -> Result<Fields, Reason>
+    requires { length (kind_by form).rows ≤ length lines.now }
+    ensures read { Gives (λ fields. fields.items) result (read_rows (kind_by form).rows 23 lines.now) }
+    ensures are { IfOk result (λ fields. AreFields (joined_rows (kind_by form).rows) fields.items) }
+{
+    let layout = layout_of(form);
+    read_fields(&layout, lines)
+}
+
+// Nothing where this holds, and the reason where it does not.
+fn need(holds: bool, reason: Reason) -> Result<bool, Reason>
+    ensures { result ≡ need holds reason }
+{
+    if holds { Ok(true) } else { Err(reason) }
+}
+
+// The moment lies in a week that has one before it and one after it.
+fn is_named_week(moment: Moment) -> bool
+    ensures { result ≡ is_named_week moment }
+{
+    moment.week() >= 1 && moment.week() <= 16_382
+}
+
+/// What an ephemeris says.
+#[tactic(auto, unfolding(crate::specs::Judging::ephemeris_said))]
+pub(crate) fn ephemeris_said(form: Form, title: &Line, lines: &[Line]) -> Result<RecordSaid, Reason>
+    ensures said { Gives view_said result (ephemeris_said (kind_by form) title.now lines.now) }
+    ensures are { IfOk result (λ said. AreFields (joined_rows (kind_by form).rows) said.fields.items) }
+{
+    let sat = sat_of(system_of(form), title)?;
+    need(count_of(form) <= lines.len(), Reason::Short)?;
+    need(same_sat(title, &lines[0]), Reason::BadSat)?;
+    let moment = moment_in(&lines[0])?;
+    let fields = fields_of(form, lines)?;
+    Ok(RecordSaid {
+        sat,
+        moment,
+        fields,
+    })
+}
+
+/// What an ionosphere says.
+#[tactic(auto, unfolding(crate::specs::Judging::ionosphere_said))]
+pub(crate) fn ionosphere_said(
+    form: Form,
+    title: &Line,
+    lines: &[Line],
+) -> Result<RecordSaid, Reason>
+    ensures said { Gives view_said result (ionosphere_said (kind_by form) title.now lines.now) }
+    ensures are { IfOk result (λ said. AreFields (joined_rows (kind_by form).rows) said.fields.items) }
+{
+    let sat = sat_of(system_of(form), title)?;
+    need(count_of(form) <= lines.len(), Reason::Short)?;
+    let moment = moment_in(&lines[0])?;
+    need(is_named_week(moment), Reason::Week)?;
+    let fields = fields_of(form, lines)?;
+    Ok(RecordSaid {
+        sat,
+        moment,
+        fields,
+    })
+}
