@@ -2,6 +2,7 @@
 use Rattle.std.specs.Prelude.{◌≡◌, ℕ, ◌*◌, ◌&&◌, ◌||◌, Bool, List, length, nat_eq, nat_le, nat_lt, if◌then◌else◌, Result, Ok, Err}
 use Rattle.nav_bits.specs.Bits.{number_at}
 use Rattle.gnss_week.specs.Weeks.{IsGpsWeek, IsGalileoWeek}
+use Rattle.nav_eph.specs.Conditions.{IsPart}
 use Rattle.nav_eph.specs.declared.sat.System.TheVariants.{Gps, Gal}
 use Rattle.nav_eph.specs.declared.tag.SentTag.TheVariants.{Toe}
 use Rattle.nav_eph.specs.declared.part.Body.TheVariants.{GpsClock, GpsA, GpsB, GalW1, GalW2, GalW3, GalW4, GalHealth}
@@ -144,6 +145,17 @@ abbrev pub parts_of : ℕ → Result Content MessageFault → Result MessagePart
 parts_of stamp (Ok (OfGps c)) = Ok (gps_parts stamp c)
 parts_of stamp (Ok (OfGal c)) = Ok (gal_parts stamp c)
 parts_of stamp (Err fault) = Err fault
+
+-- each part is one that its satellite can send
+abbrev pub ArePartsOf : MessageParts → Type 0
+ArePartsOf (GpsParts clock a b) = IsPart clock.sat clock.body × IsPart a.sat a.body × IsPart b.sat b.body
+ArePartsOf (GalParts w1 w2 w3 w4 health) =
+    IsPart w1.sat w1.body × IsPart w2.sat w2.body × IsPart w3.sat w3.body × IsPart w4.sat w4.body × IsPart health.sat health.body
+
+-- the content is of a satellite of its system
+abbrev pub IsOfSystem : Content → Type 0
+IsOfSystem (OfGps c) = c.sat.system ≡ Gps
+IsOfSystem (OfGal c) = c.sat.system ≡ Gal
 
 -- the ephemeris that a content gives with a week of toe; a message names no time of sending
 abbrev pub gps_eph : GpsContent → ℕ → GpsEph

@@ -1,7 +1,7 @@
-ghost use Rattle.std.specs.Prelude.{◌≡◌, ℕ, ◌<◌, Ok, Err};
+ghost use Rattle.std.specs.Prelude.{◌≡◌, ℕ, ◌<◌, Ok, Err, IfOk};
 ghost use Rattle.nav_eph.specs.Satellite.{IsSat};
 ghost use Rattle.nav_eph.specs.declared.sat.System.TheVariants.{Gal};
-ghost use Rattle.rtcm_eph.specs.Reading.{content_1046, judged_1046};
+ghost use Rattle.rtcm_eph.specs.Reading.{IsOfSystem, content_1046, judged_1046};
 ghost use Rattle.rtcm_eph.specs.Writing.{message_1046};
 
 use crate::content::{Content, GalContent};
@@ -87,7 +87,8 @@ fn health(m: &Message1046) -> GalHealth
 
 // What message 1046 brings, or its first fault.
 pub(crate) fn judge_1046(m: &Message1046) -> Result<Content, MessageFault>
-    ensures { result ≡ judged_1046 m.now }
+    ensures judged { result ≡ judged_1046 m.now }
+    ensures system { IfOk result IsOfSystem }
 {
     let sat = match satellite_of(System::Gal, m.satellite) {
         Some(sat) => sat,

@@ -1,7 +1,7 @@
-ghost use Rattle.std.specs.Prelude.{◌≡◌, ℕ, ◌<◌, Ok, Err};
+ghost use Rattle.std.specs.Prelude.{◌≡◌, ℕ, ◌<◌, Ok, Err, IfOk};
 ghost use Rattle.nav_eph.specs.Satellite.{IsSat};
 ghost use Rattle.nav_eph.specs.declared.sat.System.TheVariants.{Gps};
-ghost use Rattle.rtcm_eph.specs.Reading.{content_1019, judged_1019};
+ghost use Rattle.rtcm_eph.specs.Reading.{IsOfSystem, content_1019, judged_1019};
 ghost use Rattle.rtcm_eph.specs.Writing.{message_1019};
 
 use crate::content::{Content, GpsContent};
@@ -75,7 +75,8 @@ fn orbit_b(m: &Message1019) -> GpsOrbitB
 
 // What message 1019 brings, or its first fault.
 pub(crate) fn judge_1019(m: &Message1019) -> Result<Content, MessageFault>
-    ensures { result ≡ judged_1019 m.now }
+    ensures judged { result ≡ judged_1019 m.now }
+    ensures system { IfOk result IsOfSystem }
 {
     let sat = match satellite_of(System::Gps, m.satellite) {
         Some(sat) => sat,

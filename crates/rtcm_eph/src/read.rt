@@ -1,7 +1,8 @@
-ghost use Rattle.std.specs.Prelude.{◌≡◌, ℕ, ◌≤◌, ◌<◌, length};
+ghost use Rattle.std.specs.Prelude.{◌≡◌, ℕ, ◌≤◌, ◌<◌, IfOk, length};
 ghost use Rattle.nav_bits.specs.Bits.{number_at};
+ghost use Rattle.nav_eph.specs.declared.sat.System.TheVariants.{Gal, Gps};
 ghost use Rattle.rtcm_eph.specs.Messages.{message1019_at, message1046_at};
-ghost use Rattle.rtcm_eph.specs.Reading.{GivesItem, IsItem, content_of, gal_parts, gps_parts, parts_of};
+ghost use Rattle.rtcm_eph.specs.Reading.{ArePartsOf, GivesItem, IsItem, IsOfSystem, content_of, gal_parts, gps_parts, parts_of};
 
 use crate::content::{Content, GalContent, GpsContent};
 use crate::fault::MessageFault;
@@ -70,7 +71,8 @@ fn number_in(payload: &[u8]) -> u16
 
 // What a payload brings, or its first fault.
 fn read_content(payload: &[u8]) -> Result<Content, MessageFault>
-    ensures { result ≡ content_of payload.now }
+    ensures content { result ≡ content_of payload.now }
+    ensures system { IfOk result IsOfSystem }
 {
     if payload.len() < 2 {
         return Err(MessageFault::NoNumber);
@@ -93,7 +95,9 @@ fn read_content(payload: &[u8]) -> Result<Content, MessageFault>
 
 // The parts of a content of GPS, the tag naming its toe.
 fn gps_parts_of(c: &GpsContent, stamp: u32) -> MessageParts
-    ensures { result ≡ gps_parts stamp c.now }
+    requires { c.now.sat.system ≡ Gps }
+    ensures are { result ≡ gps_parts stamp c.now }
+    ensures parts { ArePartsOf result }
 {
     let sat = c.sat;
     let tag = SentTag::Toe {
@@ -128,7 +132,9 @@ fn heard(stamp: u32, sat: Sat, body: Body) -> Part
 
 // The parts of a content of Galileo, the tag naming its toe.
 fn gal_parts_of(c: &GalContent, stamp: u32) -> MessageParts
-    ensures { result ≡ gal_parts stamp c.now }
+    requires { c.now.sat.system ≡ Gal }
+    ensures are { result ≡ gal_parts stamp c.now }
+    ensures parts { ArePartsOf result }
 {
     let tag = SentTag::Toe {
         wn: c.week,
@@ -149,7 +155,8 @@ fn gal_parts_of(c: &GalContent, stamp: u32) -> MessageParts
 ///
 /// The error is the first fault, as [`MessageFault`] orders them.
 pub fn read_message(payload: &[u8], stamp: u32) -> Result<MessageParts, MessageFault>
-    ensures { result ≡ parts_of stamp (content_of payload.now) }
+    ensures answer { result ≡ parts_of stamp (content_of payload.now) }
+    ensures parts { IfOk result ArePartsOf }
 {
     match read_content(payload) {
         Ok(Content::Gps(c)) => Ok(gps_parts_of(&c, stamp)),
