@@ -37,6 +37,8 @@ mod laws;
 mod order;
 mod plain;
 mod run;
+#[cfg(test)]
+mod samples;
 mod search;
 mod settling;
 #[cfg(test)]
