@@ -1,7 +1,7 @@
 -- The walk over the greatest values of indices, and the indices of signal in space accuracy by a formula.
-use Rattle.std.proofs.Common.{◌≡◌, ℕ, zero, suc, ◌+◌, ◌<◌, ◌≤◌, ◌==◌, ◌&&◌, nat_le, Bool, true, if◌then◌else◌, List, [], ◌∷◌, length, get_or, drop, refl, ap, sym, ◌∙◌, ⊎_elim, arith, drop-cons, add-one, eqb-true}
+use Rattle.std.proofs.Common.{◌≡◌, ℕ, zero, suc, ◌+◌, ◌<◌, ◌≤◌, ◌==◌, ◌&&◌, Bool, true, if◌then◌else◌, List, [], ◌∷◌, length, get_or, drop, refl, ap, sym, ◌∙◌, ⊎_elim, arith, drop-cons, add-one, eqb-true}
 use Rattle.std.proofs.lemmas.Bool.{and_parts, cases_lt, le-leb, lt-leb}
-use Rattle.rinex_write.specs.Accuracies.{first_from, sisa_value, sisa_from}
+use Rattle.rinex_write.specs.Accuracies.{first_from, sisa_from}
 use Rattle.rinex_read.specs.Mirrors.{sisa_index}
 
 at_place : (text : List ℕ) (i : ℕ) → i < length text → drop i text ≡ get_or text i 0 ∷ drop (i + 1) text

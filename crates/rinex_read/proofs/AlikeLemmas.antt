@@ -1,22 +1,20 @@
 -- Columns past 80, lines past the last of a layout and what is cut off long lines are not looked at.
-use Rattle.std.proofs.Common.{◌≡◌, ℕ, zero, suc, ◌+◌, ◌*◌, ◌<◌, ◌≤◌, ◌==◌, ◌&&◌, nat_le, nat_lt, Bool, true, false, if◌then◌else◌, List, [], ◌∷◌, ◌++◌, length, get_or, take, map, codes, Result, Ok, Err, refl, ap, sym, ◌∙◌, ⊎_elim, arith, ℤ, append_assoc}
+use Rattle.std.proofs.Common.{◌≡◌, ℕ, zero, suc, ◌+◌, ◌*◌, ◌<◌, ◌≤◌, ◌==◌, ◌&&◌, nat_le, Bool, true, false, if◌then◌else◌, List, [], ◌∷◌, ◌++◌, length, get_or, take, map, codes, Ok, Err, refl, ap, sym, ◌∙◌, ⊎_elim, arith, append_assoc}
 use Rattle.std.proofs.lemmas.Bool.{and_parts, cases_lt, leb-true, le-leb, lt-leb, lt-ltb, le-ltb}
 use Rattle.std.proofs.lemmas.List.{get_or-take}
 use Rattle.scaled_decimal.specs.ScaleValue.{size_of}
 use Rattle.scaled_decimal.specs.NumberReading.{seen, trim_start, trim_end}
-use Rattle.nav_io.specs.Lines.{Line, line_of, pieces, without_cr}
-use Rattle.gnss_week.specs.Functions.{moment_to}
+use Rattle.nav_io.specs.Lines.{line_of, pieces, without_cr}
 use Rattle.nav_eph.specs.declared.sat.System.{System}
 use Rattle.rinex_write.specs.declared.columns.Column.{Column}
 use Rattle.rinex_write.specs.Layouts.{Kind, gps_kind, galileo_kind, gps_ionosphere_kind, galileo_ionosphere_kind, gps_rows, galileo_rows, gps_ionosphere_rows, galileo_ionosphere_rows}
 use Rattle.rinex_write.specs.Texts.{letter_of}
-use Rattle.rinex_read.specs.declared.reason.Reason.{Reason}
 use Rattle.rinex_read.specs.declared.judged.HeaderFault.TheVariants.{NotRinexNav, Version}
 use Rattle.rinex_read.specs.Lines.{columns, stands_at, begins, lines_of, text_of_line, told_lines}
 use Rattle.rinex_read.specs.Fields.{◌>>=◌, taken, field_at, read_row, read_rows}
-use Rattle.rinex_read.specs.Judging.{first_of, is_kind, sat_of, satellite_of, same_sat, whole_number, date_of, ephemeris_said, ionosphere_said, judged}
+use Rattle.rinex_read.specs.Judging.{first_of, is_kind, sat_of, satellite_of, same_sat, date_of, ephemeris_said, ionosphere_said, judged}
 use Rattle.rinex_read.specs.Kept.{padded, kept_with}
-use Rattle.rinex_read.specs.Files.{is_navigation, is_version, is_four, ends_header, header_passed, header_of, up_to_next, read_at, reads, reads_behind, file_reads}
+use Rattle.rinex_read.specs.Files.{is_navigation, is_version, is_four, ends_header, header_passed, header_of, up_to_next, read_at, reads, reads_behind}
 use Rattle.rinex_read.proofs.ColumnLemmas.{IsAlike, columns_alike, stands_alike, length-columns, padded_alike, alike_itself}
 
 -- the first n lines are alike, and there are as many where there are fewer

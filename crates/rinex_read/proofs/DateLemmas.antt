@@ -1,14 +1,13 @@
 -- The date that is written is the one that is read.
-use Rattle.std.proofs.Common.{◌≡◌, ◌≢◌, ℕ, ◌+◌, ◌*◌, ◌/◌, ◌%◌, ◌^◌, ◌<◌, ◌==◌, List, [], ◌∷◌, ◌++◌, if◌then◌else◌, Ok, refl, ap, sym, ◌∙◌, arith, append-nil, ne_eqb}
+use Rattle.std.proofs.Common.{◌≡◌, ◌≢◌, ℕ, ◌+◌, ◌/◌, ◌%◌, ◌^◌, ◌<◌, List, [], ◌∷◌, ◌++◌, if◌then◌else◌, Ok, refl, ap, sym, ◌∙◌, arith, append-nil, ne_eqb}
 use Rattle.scaled_decimal.specs.NumberText.{digits}
-use Rattle.scaled_decimal.specs.NumberReading.{trim_start, trim_end, Span, span}
+use Rattle.scaled_decimal.specs.NumberReading.{trim_start, trim_end, span}
 use Rattle.scaled_decimal.proofs.SpanLemmas.{span-digits}
 use Rattle.scaled_decimal.proofs.TextLemmas.{kept_behind, no_blank}
 use Rattle.gnss_week.specs.declared.calendar.Civil.{Civil}
 use Rattle.gnss_week.specs.Functions.{IsShort}
 use Rattle.rinex_write.specs.Texts.{date_text}
 use Rattle.rinex_read.specs.Lines.{columns}
-use Rattle.rinex_read.specs.Fields.{◌>>=◌}
 use Rattle.rinex_read.specs.Judging.{digits_alone, whole_number, date_of}
 
 -- a text that neither begins nor ends with a blank

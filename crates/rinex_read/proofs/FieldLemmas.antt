@@ -1,10 +1,9 @@
 -- The fields that are written are those that are read.
-use Rattle.std.proofs.Common.{◌≡◌, ℕ, zero, suc, ◌+◌, ◌*◌, ◌<◌, ◌≤◌, ◌⊎◌, ◌==◌, ◌&&◌, nat_le, Bool, true, false, if◌then◌else◌, List, [], ◌∷◌, ◌++◌, length, take, drop, get_or, codes, Result, Ok, Err, refl, ap, sym, ◌∙◌, inl, inr, ⊎_elim, subst, arith, ℤ, pos, negsuc, ◌≤ℤ◌, int_le, unsigned_abs, append_assoc, length-append, eqb-true, ne_eqb}
+use Rattle.std.proofs.Common.{◌≡◌, ℕ, zero, suc, ◌+◌, ◌<◌, ◌≤◌, ◌==◌, ◌&&◌, nat_le, Bool, true, if◌then◌else◌, List, [], ◌∷◌, ◌++◌, length, take, drop, get_or, codes, Result, Ok, Err, refl, ap, sym, ◌∙◌, inl, inr, ⊎_elim, subst, arith, ℤ, pos, negsuc, ◌≤ℤ◌, int_le, unsigned_abs, append_assoc, length-append, eqb-true, ne_eqb}
 use Rattle.std.proofs.lemmas.Bool.{and_parts, cases_lt, leb-true}
 use Rattle.std.proofs.lemmas.Int.{ints}
 use Rattle.scaled_decimal.specs.declared.scales.Scale.{Scale}
 use Rattle.scaled_decimal.specs.ScaleValue.{size_of, AreWithin, IsScale}
-use Rattle.scaled_decimal.specs.NumberText.{number_text}
 use Rattle.scaled_decimal.specs.NumberReading.{number, seen}
 use Rattle.scaled_decimal.proofs.SizeLemmas.{is_scale}
 use Rattle.scaled_decimal.proofs.TextLemmas.{text_seen}
@@ -16,7 +15,6 @@ use Rattle.rinex_write.specs.Accuracies.{first_from, ura_nominal, ura_greatest, 
 use Rattle.rinex_write.specs.Columns.{shown, IsField, AreFields, column_text, row_text, row_lines, joined_rows, is_good_scale, is_good_range, is_good_rule, are_good}
 use Rattle.rinex_read.specs.declared.reason.Reason.{Reason}
 use Rattle.rinex_read.specs.declared.reason.Reason.TheVariants as reasons
-use Rattle.rinex_read.specs.Lines.{columns}
 use Rattle.rinex_read.specs.Fields.{◌>>=◌, in_range, sent_or_unknown, taken, field_at, read_row, read_rows}
 use Rattle.rinex_read.proofs.ColumnLemmas.{columns_at}
 

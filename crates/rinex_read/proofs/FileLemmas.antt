@@ -1,5 +1,5 @@
 -- The list that is read from the text of a list of items is that list.
-use Rattle.std.proofs.Common.{◌≡◌, ℕ, zero, suc, ◌+◌, ◌<◌, ◌≤◌, ◌==◌, ◌&&◌, Bool, true, false, if◌then◌else◌, List, [], ◌∷◌, ◌++◌, length, get_or, drop, map, codes, Result, Ok, Err, refl, ap, sym, ◌∙◌, subst, arith, ℤ, pos, append_assoc, append-nil, length-append, ne_eqb, nat_le, nat_lt, ◌/◌}
+use Rattle.std.proofs.Common.{◌≡◌, ℕ, ◌+◌, ◌≤◌, ◌==◌, ◌&&◌, Bool, true, false, if◌then◌else◌, List, [], ◌∷◌, ◌++◌, length, get_or, drop, map, codes, Ok, refl, ap, sym, ◌∙◌, arith, ℤ, append_assoc, append-nil, length-append, ne_eqb, nat_le, nat_lt, ◌/◌}
 use Rattle.std.proofs.lemmas.Bool.{and_parts, leb-true}
 use Rattle.std.specs.List.{flat_map}
 use Rattle.std.proofs.lemmas.List.{get_or-append-add}
@@ -7,7 +7,7 @@ use Rattle.scaled_decimal.specs.ScaleValue.{size_of}
 use Rattle.scaled_decimal.specs.NumberText.{digits, AreShown}
 use Rattle.scaled_decimal.proofs.ColumnLemmas.{AreShown-number_text}
 use Rattle.gnss_week.specs.Functions.{civil_to}
-use Rattle.nav_io.specs.Lines.{ends, without_cr, pieces}
+use Rattle.nav_io.specs.Lines.{ends, without_cr}
 use Rattle.nav_io.specs.LineLaws.{pieces-line}
 use Rattle.nav_eph.specs.Satellite.{Satellite}
 use Rattle.nav_eph.specs.declared.sat.System.{System}
@@ -27,7 +27,7 @@ use Rattle.rinex_read.specs.declared.judged.ItemRead.{ItemRead}
 use Rattle.rinex_read.specs.declared.judged.ItemRead.TheVariants.{Item}
 use Rattle.rinex_read.specs.Lines.{columns, stands_at, begins, lines_of}
 use Rattle.rinex_read.specs.Judging.{judged}
-use Rattle.rinex_read.specs.Files.{is_navigation, is_version, ends_header, header_passed, header_of, up_to_next, read_at, reads, reads_behind, file_reads, items_of, items_read, rinex_list}
+use Rattle.rinex_read.specs.Files.{is_navigation, is_version, ends_header, header_of, up_to_next, read_at, reads, reads_behind, file_reads, items_of, items_read, rinex_list}
 use Rattle.rinex_read.specs.RoundTrip.{IsHeader, AreItems, numbered}
 use Rattle.rinex_read.proofs.RecordLemmas.{item_again}
 

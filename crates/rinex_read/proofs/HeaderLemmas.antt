@@ -1,5 +1,5 @@
 -- How far a header was read, and what is then answered.
-use Rattle.std.proofs.Common.{◌≡◌, ℕ, ◌+◌, ◌≤◌, Bool, true, false, if◌then◌else◌, List, [], ◌∷◌, ◌++◌, map, Result, Ok, Err, OnOk, IfErr, MatchResult, refl, sym, ap, ◌∙◌, subst, arith}
+use Rattle.std.proofs.Common.{◌≡◌, ℕ, ◌+◌, Bool, true, false, if◌then◌else◌, List, [], ◌∷◌, ◌++◌, map, Result, Ok, Err, OnOk, IfErr, MatchResult, refl, sym, ap, ◌∙◌, subst}
 use Rattle.std.specs.Prelude.{Option}
 use Rattle.nav_io.specs.Lines.{Line}
 use Rattle.nav_io.specs.LinesState.{LinesState, Reads, GivesEnd}
@@ -14,7 +14,7 @@ use Rattle.rinex_read.specs.declared.judged.HeaderFault.{HeaderFault}
 use Rattle.rinex_read.specs.declared.judged.HeaderFault.TheVariants as faults
 use Rattle.rinex_read.specs.Lines.{text_of_line, told_lines}
 use Rattle.rinex_read.specs.Files.{is_navigation, is_version, ends_header, header_passed, header_of, reads, reads_behind}
-use Rattle.rinex_read.specs.States.{RecordsState, file_by, file_to_come, HeaderSteps, PassesHeader, BreaksHeader, RefusedBy}
+use Rattle.rinex_read.specs.States.{RecordsState, file_to_come, HeaderSteps, PassesHeader, BreaksHeader, RefusedBy}
 use Rattle.rinex_read.specs.StepLaws.{header_steps_none, header_steps_more}
 use Rattle.rinex_read.specs.Mirrors.{state_of, header_after, is_waiting, HeaderRefused}
 use Rattle.rinex_read.proofs.RecordSteps.{HasLine}

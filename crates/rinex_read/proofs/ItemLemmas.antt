@@ -1,5 +1,5 @@
 -- The fields of an item may stand in their columns, the item of these fields is that item, and its epoch gives toc.
-use Rattle.std.proofs.Common.{◌≡◌, ℕ, ◌+◌, ◌-◌, ◌*◌, ◌/◌, ◌%◌, ◌^◌, ◌<◌, ◌≤◌, ◌⊎◌, ◌==◌, nat_lt, nat_le, Bool, true, List, [], ◌∷◌, Ok, refl, ap, sym, ◌∙◌, inl, inr, arith, ℤ, pos, negsuc, neg_ℤ, ◌≤ℤ◌, ◌<ℤ◌, int_le, if◌then◌else◌, eq-eqb}
+use Rattle.std.proofs.Common.{◌≡◌, ℕ, ◌+◌, ◌-◌, ◌*◌, ◌/◌, ◌%◌, ◌^◌, ◌<◌, ◌≤◌, ◌==◌, nat_lt, nat_le, true, Ok, refl, ap, sym, inl, inr, arith, ℤ, pos, neg_ℤ, ◌≤ℤ◌, if◌then◌else◌, eq-eqb}
 use Rattle.std.proofs.lemmas.Int.{ints}
 use Rattle.std.proofs.lemmas.Bool.{lt-ltb, le-leb}
 use Rattle.nav_bits.specs.Signed.{IsSigned}

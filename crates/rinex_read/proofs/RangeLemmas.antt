@@ -1,15 +1,14 @@
 -- Fields that may stand in their columns are within their digits.
-use Rattle.std.proofs.Common.{◌≡◌, ℕ, zero, suc, ◌+◌, ◌-◌, ◌^◌, ◌<◌, ◌≤◌, ◌⊎◌, List, [], ◌∷◌, length, get_or, refl, inl, inr, subst, sym, arith, ℤ, pos, negsuc, neg_ℤ, ◌≤ℤ◌, ◌<ℤ◌, unsigned_abs}
+use Rattle.std.proofs.Common.{◌≡◌, ℕ, zero, suc, ◌+◌, ◌-◌, ◌^◌, ◌<◌, List, [], ◌∷◌, length, get_or, refl, inl, inr, subst, sym, arith, ℤ, pos, negsuc, ◌≤ℤ◌, unsigned_abs}
 use Rattle.std.proofs.lemmas.Int.{ints}
-use Rattle.nav_bits.specs.Signed.{IsSigned}
 use Rattle.nav_eph.specs.Steps.{IsSisa}
 use Rattle.rinex_write.specs.declared.columns.Rule.{Rule}
-use Rattle.rinex_write.specs.declared.columns.Rule.TheVariants.{Plain, OrZero, Ura, Sisa, Fit, Sent}
+use Rattle.rinex_write.specs.declared.columns.Rule.TheVariants.{Plain, Ura, Sisa, Fit, Sent}
 use Rattle.rinex_write.specs.declared.columns.Column.{Column}
 use Rattle.rinex_write.specs.Columns.{IsField, AreFields, joined_rows}
 use Rattle.rinex_write.specs.Layouts.{signed, unsigned, up_to, flags, gps_rows, galileo_rows, gps_ionosphere_rows, galileo_ionosphere_rows}
 use Rattle.rinex_write.proofs.Rows.{no_column}
-use Rattle.rinex_read.specs.Judging.{field, natural}
+use Rattle.rinex_read.specs.Judging.{field}
 use Rattle.rinex_read.specs.Mirrors.{IsUnsignedAt, IsSignedAt, IsBelowAt, IsWeekAt, IsSisaAt, IsSentAt, AreGpsFields, AreGalileoFields, AreGpsIonosphereFields, AreGalileoIonosphereFields}
 
 field_within : (cs : List Column) (zs : List ℤ) (k : ℕ) → AreFields cs zs → k < length cs → k < length zs

@@ -1,5 +1,5 @@
 -- The record of an item stands for that item, whatever lines follow.
-use Rattle.std.proofs.Common.{◌≡◌, ℕ, suc, ◌+◌, ◌-◌, ◌*◌, ◌/◌, ◌%◌, ◌<◌, ◌≤◌, ◌==◌, ◌||◌, ◌&&◌, nat_le, Bool, true, false, List, [], ◌∷◌, ◌++◌, length, get_or, drop, codes, Result, Ok, Err, refl, ap, sym, ◌∙◌, subst, arith, ℤ, if◌then◌else◌, length-append, ne_eqb}
+use Rattle.std.proofs.Common.{◌≡◌, ℕ, suc, ◌+◌, ◌-◌, ◌*◌, ◌/◌, ◌%◌, ◌<◌, ◌==◌, ◌||◌, ◌&&◌, nat_le, true, false, List, [], ◌∷◌, ◌++◌, length, drop, codes, Ok, Err, refl, ap, sym, ◌∙◌, subst, arith, ℤ, if◌then◌else◌, length-append, ne_eqb}
 use Rattle.std.proofs.lemmas.Bool.{le-leb}
 use Rattle.scaled_decimal.specs.NumberText.{digits}
 use Rattle.scaled_decimal.specs.NumberReading.{is_decimal}
@@ -21,14 +21,12 @@ use Rattle.rinex_write.specs.declared.columns.Column.{Column}
 use Rattle.rinex_write.specs.Columns.{AreFields, row_text, row_lines, joined_rows, are_good}
 use Rattle.rinex_write.specs.Layouts.{Kind, gps_kind, galileo_kind, gps_ionosphere_kind, galileo_ionosphere_kind, gps_rows, galileo_rows, gps_ionosphere_rows, galileo_ionosphere_rows}
 use Rattle.rinex_write.specs.Fields.{gps_fields, galileo_fields, gps_ionosphere_fields, galileo_ionosphere_fields, gps_epoch, galileo_epoch}
-use Rattle.rinex_write.specs.Texts.{satellite_text, letter_of, date_text, title_line, record_lines, ionosphere_lines, item_lines}
-use Rattle.rinex_read.specs.declared.reason.Reason.{Reason}
+use Rattle.rinex_write.specs.Texts.{satellite_text, date_text, title_line, item_lines}
 use Rattle.rinex_read.specs.declared.reason.Reason.TheVariants as reasons
-use Rattle.rinex_read.specs.declared.judged.Judged.{Judged}
 use Rattle.rinex_read.specs.declared.judged.Judged.TheVariants as judgments
 use Rattle.rinex_read.specs.Lines.{columns, stands_at}
-use Rattle.rinex_read.specs.Fields.{◌>>=◌, read_rows}
-use Rattle.rinex_read.specs.Judging.{need, is_kind, named, satellite_of, sat_of, same_sat, date_of, moment_said, moment_at, is_named_week, Said, ephemeris_said, ionosphere_said, gps_item, galileo_item, gps_ionosphere_item, galileo_ionosphere_item, outcome, judged}
+use Rattle.rinex_read.specs.Fields.{read_rows}
+use Rattle.rinex_read.specs.Judging.{need, is_kind, named, satellite_of, sat_of, same_sat, date_of, moment_said, moment_at, is_named_week, ephemeris_said, ionosphere_said, gps_item, galileo_item, gps_ionosphere_item, galileo_ionosphere_item, outcome, judged}
 use Rattle.rinex_read.proofs.ColumnLemmas.{stands_first}
 use Rattle.rinex_read.proofs.FieldLemmas.{bind_ok, rows_again}
 use Rattle.rinex_read.proofs.DateLemmas.{date_again}

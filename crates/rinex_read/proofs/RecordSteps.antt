@@ -1,8 +1,8 @@
 -- How far the next record was read, and what is then answered.
-use Rattle.std.proofs.Common.{◌≡◌, ℕ, ◌+◌, ◌-◌, ◌*◌, ◌^◌, ◌<◌, ◌≤◌, Bool, true, false, List, [], ◌∷◌, ◌++◌, map, refl, sym, ap, ◌∙◌, subst, arith, append-nil}
+use Rattle.std.proofs.Common.{◌≡◌, ℕ, ◌≤◌, Bool, true, false, List, [], ◌∷◌, ◌++◌, map, refl, sym, ap, ◌∙◌, subst, arith, append-nil}
 use Rattle.std.specs.Prelude.{Option}
-use Rattle.nav_io.specs.Lines.{Line, lines_by}
-use Rattle.nav_io.specs.LinesState.{LinesState, Reads, GivesLine, GivesEnd, BreaksRead, BreaksLong}
+use Rattle.nav_io.specs.Lines.{Line}
+use Rattle.nav_io.specs.LinesState.{LinesState, Reads, GivesLine, GivesEnd}
 use Rattle.nav_io.specs.LineAnswers.{Answers, Breaks}
 use Rattle.nav_io.specs.declared.lines.LineKind.{LineKind}
 use Rattle.nav_io.specs.declared.lines.LineKind.TheVariants.{Text, Long, End}
@@ -14,8 +14,8 @@ use Rattle.rinex_read.specs.declared.judged.Judged.{Judged}
 use Rattle.rinex_read.specs.declared.judged.Judged.TheVariants as judgments
 use Rattle.rinex_read.specs.Lines.{text_of_line, told_lines}
 use Rattle.rinex_read.specs.Judging.{judged}
-use Rattle.rinex_read.specs.Files.{read_at, reads}
-use Rattle.rinex_read.specs.States.{RecordsState, held_reads, records_to_come, Steps, held_count, lines_left, GivesRecord, GivesNone, GivesRead, BrokeBy, BreaksRecord}
+use Rattle.rinex_read.specs.Files.{read_at}
+use Rattle.rinex_read.specs.States.{RecordsState, held_reads, Steps, held_count, lines_left, GivesRecord, GivesRead, BreaksRecord}
 use Rattle.rinex_read.specs.StepLaws.{steps_more}
 use Rattle.rinex_read.specs.Mirrors.{TakesLine, TakesEnd, EndsWith, IsRecord}
 

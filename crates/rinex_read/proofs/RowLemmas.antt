@@ -1,11 +1,10 @@
 -- The walk over the columns of a row and over rows, and what is read is what the definitions say.
-use Rattle.std.proofs.Common.{◌≡◌, ℕ, zero, suc, ◌+◌, ◌*◌, ◌<◌, ◌≤◌, ◌&&◌, nat_le, Bool, true, List, [], ◌∷◌, ◌++◌, length, get_or, take, drop, map, sum, Result, Ok, Err, refl, ap, sym, ◌∙◌, arith, ℤ, append_assoc, append-nil, drop-cons, add-one}
+use Rattle.std.proofs.Common.{◌≡◌, ℕ, zero, suc, ◌+◌, ◌*◌, ◌<◌, ◌≤◌, ◌&&◌, nat_le, true, List, [], ◌∷◌, ◌++◌, length, get_or, take, drop, map, sum, Result, Ok, Err, refl, ap, sym, ◌∙◌, arith, ℤ, append_assoc, append-nil, drop-cons, add-one}
 use Rattle.std.proofs.lemmas.Bool.{and_parts, leb-true}
 use Rattle.std.proofs.lemmas.List.Sums.{sum_by-cons}
 use Rattle.rinex_write.specs.declared.columns.Column.{Column}
 use Rattle.rinex_write.specs.Columns.{joined_rows, are_good, is_good_scale, is_good_rule}
 use Rattle.rinex_read.specs.declared.reason.Reason.{Reason}
-use Rattle.rinex_read.specs.declared.reason.Reason.TheVariants as reasons
 use Rattle.rinex_read.specs.Fields.{◌>>=◌, field_at, read_row, read_rows}
 use Rattle.rinex_read.specs.Mirrors.{with_front, flat_rows, do_fit}
 

@@ -1,14 +1,13 @@
 -- What a reader of records answers from the first call on, after the end, and after too many bytes.
-use Rattle.std.proofs.Common.{◌≡◌, ℕ, ◌+◌, ◌^◌, ◌<◌, List, [], ◌∷◌, ◌++◌, true, false, Result, Ok, Err, length, refl, sym, ap, ◌∙◌, subst, arith, append-nil}
+use Rattle.std.proofs.Common.{◌≡◌, ℕ, ◌+◌, ◌^◌, ◌<◌, List, [], ◌∷◌, ◌++◌, true, false, length, refl, ap, ◌∙◌, arith}
 use Rattle.std.specs.Prelude.{Option}
 use Rattle.nav_io.specs.declared.lines.LineFault.{LineFault}
 use Rattle.nav_io.specs.declared.lines.LineFault.TheVariants.{ReadFault, TooLong}
 use Rattle.rinex_read.specs.declared.judged.ItemRead.{ItemRead}
 use Rattle.rinex_read.specs.declared.judged.ItemRead.TheVariants as items
-use Rattle.rinex_read.specs.declared.judged.HeaderState.TheVariants.{New}
 use Rattle.rinex_read.specs.Lines.{told_lines}
 use Rattle.rinex_read.specs.Files.{header_of, reads, reads_behind, file_reads}
-use Rattle.rinex_read.specs.States.{RecordsState, held_reads, records_to_come, file_by, file_to_come, IsNew, Steps, GivesRecord, GivesRead, BreaksRecord}
+use Rattle.rinex_read.specs.States.{RecordsState, held_reads, records_to_come, file_by, file_to_come, IsNew, GivesRecord, GivesRead, BreaksRecord}
 use Rattle.rinex_read.proofs.AlikeLemmas.{file_told}
 
 pub begins_with_file : (s : RecordsState) (bytes : List ℕ) → IsNew s → file_to_come s bytes ≡ file_reads bytes

@@ -1,5 +1,5 @@
 -- An item that a record stands for has fields within their digits, and its parts fit together.
-use Rattle.std.proofs.Common.{◌≡◌, ℕ, ◌+◌, ◌-◌, ◌*◌, ◌/◌, ◌%◌, ◌^◌, ◌<◌, ◌≤◌, ◌==◌, ◌&&◌, ◌||◌, nat_le, nat_lt, Bool, true, false, if◌then◌else◌, List, [], ◌∷◌, length, Result, Ok, Err, refl, sym, ap, ◌∙◌, subst, arith, ℤ, pos, negsuc, ◌≤ℤ◌, int_le, unsigned_abs, get_or}
+use Rattle.std.proofs.Common.{◌≡◌, ℕ, ◌+◌, ◌-◌, ◌*◌, ◌/◌, ◌%◌, ◌<◌, ◌==◌, ◌&&◌, ◌||◌, nat_le, nat_lt, Bool, true, false, if◌then◌else◌, List, [], ◌∷◌, length, Result, Ok, Err, refl, ap, subst, arith, ℤ, pos, negsuc, ◌≤ℤ◌, int_le, unsigned_abs, get_or}
 use Rattle.std.proofs.lemmas.Bool.{leb-true}
 use Rattle.std.proofs.lemmas.Int.{ints}
 use Rattle.scaled_decimal.specs.NumberReading.{is_decimal}
@@ -20,16 +20,15 @@ use Rattle.nav_eph.specs.Items.{IsSentSecond}
 use Rattle.nav_eph.specs.declared.items.SentSecond.TheVariants.{Unknown, At}
 use Rattle.nav_eph.specs.Ranges.{IsItem}
 use Rattle.rinex_write.specs.Columns.{AreFields, joined_rows}
-use Rattle.rinex_write.specs.Layouts.{Kind, gps_kind, galileo_kind, gps_ionosphere_kind, galileo_ionosphere_kind, gps_rows, galileo_rows, gps_ionosphere_rows, galileo_ionosphere_rows}
+use Rattle.rinex_write.specs.Layouts.{Kind, gps_kind, galileo_kind, gps_ionosphere_kind, galileo_ionosphere_kind}
 use Rattle.rinex_read.specs.declared.reason.Reason.{Reason}
 use Rattle.rinex_read.specs.declared.reason.Reason.TheVariants as reasons
-use Rattle.rinex_read.specs.declared.judged.Judged.{Judged}
 use Rattle.rinex_read.specs.declared.judged.Judged.TheVariants as judgments
 use Rattle.rinex_read.specs.Fields.{◌>>=◌, read_rows}
 use Rattle.rinex_read.specs.Judging.{need, first_of, is_kind, named, satellite_of, sat_of, same_sat, date_of, moment_said, moment_at, is_named_week, Said, ephemeris_said, ionosphere_said, field, natural, sent_of, toc_of, gps_of, gps_clock_of, gps_side_of, gps_orbit_a_of, gps_orbit_b_of, galileo_of, word1_of, word2_of, word3_of, word4_of, gps_ionosphere_of, galileo_ionosphere_of, gps_item, galileo_item, gps_ionosphere_item, galileo_ionosphere_item, gps_read, galileo_read, gps_ionosphere_read, galileo_ionosphere_read, outcome, judged}
 use Rattle.rinex_read.specs.Mirrors.{AreGpsFields, AreGalileoFields}
 use Rattle.rinex_read.proofs.FieldLemmas.{le_from}
-use Rattle.rinex_read.proofs.TakenLemmas.{Bound, bound, have_zero, rows_are, gps_zero, galileo_zero, gps_ionosphere_zero, galileo_ionosphere_zero}
+use Rattle.rinex_read.proofs.TakenLemmas.{bound, have_zero, rows_are, gps_zero, galileo_zero, gps_ionosphere_zero, galileo_ionosphere_zero}
 use Rattle.rinex_read.proofs.RangeLemmas.{gps_fields_in, galileo_fields_in, gps_ionosphere_fields_in, galileo_ionosphere_fields_in}
 
 need_ok : (b : Bool) (e : Reason) (x : Bool) → need b e ≡ Ok x → b ≡ true

@@ -8,7 +8,6 @@ use Rattle.gnss_week.specs.declared.calendar.WeekFault.TheVariants as weeks
 use Rattle.gnss_week.specs.Functions.{moment_to}
 use Rattle.nav_eph.specs.Satellite.{Satellite, most}
 use Rattle.nav_eph.specs.declared.sat.System.{System}
-use Rattle.nav_eph.specs.declared.sat.System.TheVariants.{Gps, Gal}
 use Rattle.nav_eph.specs.declared.gps.GpsClock.{GpsClock}
 use Rattle.nav_eph.specs.declared.gps.GpsSide.{GpsSide}
 use Rattle.nav_eph.specs.declared.gps.GpsOrbitA.{GpsOrbitA}
@@ -25,7 +24,6 @@ use Rattle.nav_eph.specs.declared.items.SentSecond.{SentSecond}
 use Rattle.nav_eph.specs.declared.items.SentSecond.TheVariants.{Unknown, At}
 use Rattle.nav_eph.specs.declared.items.GpsEph.{GpsEph}
 use Rattle.nav_eph.specs.declared.items.GalEph.{GalEph}
-use Rattle.nav_eph.specs.declared.items.IonEph.{IonEph}
 use Rattle.nav_eph.specs.declared.items.NavItem.{NavItem}
 use Rattle.nav_eph.specs.declared.items.NavItem.TheVariants.{Gps as GpsItem, Gal as GalItem, Ion as IonItem}
 use Rattle.rinex_write.specs.Layouts.{Kind, gps_kind, galileo_kind, gps_ionosphere_kind, galileo_ionosphere_kind}

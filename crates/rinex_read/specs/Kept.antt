@@ -1,5 +1,5 @@
 -- What is kept of the lines of a record: the first nine, of each the first 80 characters, blanks where it is shorter.
-use Rattle.std.specs.Prelude.{ℕ, ◌+◌, nat_lt, if◌then◌else◌, List, [], ◌∷◌, ◌++◌, length}
+use Rattle.std.specs.Prelude.{ℕ, nat_lt, if◌then◌else◌, List, [], ◌∷◌, ◌++◌, length}
 use Rattle.rinex_read.specs.Lines.{columns}
 
 -- the first 80 characters of a line

@@ -12,7 +12,7 @@ use Rattle.rinex_read.specs.declared.judged.HeaderState.{HeaderState}
 use Rattle.rinex_read.specs.declared.judged.HeaderState.TheVariants.{New, Open, Passed, NotRinexNav, OtherVersion}
 use Rattle.rinex_read.specs.Lines.{told_lines}
 use Rattle.rinex_read.specs.Judging.{judged}
-use Rattle.rinex_read.specs.Files.{Body, header_of, header_passed, up_to_next, read_at, reads, reads_behind}
+use Rattle.rinex_read.specs.Files.{header_of, header_passed, up_to_next, read_at, reads, reads_behind}
 
 -- a reader of records
 pub record RecordsState : Type 0 where

@@ -1,11 +1,11 @@
 -- Steps of a reader of records, one after another.
-use Rattle.std.specs.Prelude.{◌≡◌, ◌++◌, ℕ, true, false, List, [], ◌∷◌, Option, Result, refl}
+use Rattle.std.specs.Prelude.{◌≡◌, ◌++◌, ℕ, true, List, [], Option, refl}
 use Rattle.std.proofs.Common.{sym, ap, ◌∙◌, append_assoc}
 use Rattle.nav_io.specs.Lines.{Line}
 use Rattle.nav_io.specs.LinesState.{LinesState, Reads}
 use Rattle.nav_io.specs.ReadsLaws.{reads_none, reads_more}
 use Rattle.rinex_read.specs.declared.judged.ItemRead.{ItemRead}
-use Rattle.rinex_read.specs.States.{RecordsState, MayCome, records_to_come, file_to_come, Steps, HeaderSteps}
+use Rattle.rinex_read.specs.States.{RecordsState, records_to_come, file_to_come, Steps, HeaderSteps}
 
 pub steps_none : (o : Option (List ℕ)) (s : RecordsState) → Steps o o s s []
 steps_none o s = record { lines = []; reads = reads_none o s.lines; header = refl; stream = λ following may. refl }

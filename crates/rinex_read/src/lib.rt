@@ -1,4 +1,23 @@
-//! RINEX navigation files of version 4 as items (RINEX 4.01).
+//! RINEX 4 navigation files as items: the records of ephemerides of GPS (LNAV) and Galileo (INAV) and of the ionosphere
+//! (RINEX 4.01, header section and navigation records).
+//!
+//! [`Records`] reads the header of a [`Source`](nav_io::Source) and then its records one by one, in buffers of fixed size:
+//! an item, a record that is refused, with the first [`Reason`], or one of another kind, each with the number of its `>` line.
+//! [`RecordLines`] judges the lines of a single record. What is read is exact: each number gives the nearest raw integer,
+//! halves to even, as it was sent, and the record that `rinex_write` writes of an item is read as that item
+//! ([`records_are_read`], [`files_are_read`], [`joined_files_are_read`]).
+//!
+//! ```rust
+//! let mut source = ReadSource::new(rt.stdin());
+//! let mut records = Records::new();
+//! records.read_header(&mut source)?;
+//! match records.next_item(&mut source)? {
+//!     ItemRead::Item { line, item } => write_item(&item, &mut sink)?,
+//!     ItemRead::Refused { line, reason } => println!(rt; "line {line} {reason}")?,
+//!     ItemRead::PassedOver { line } => {}
+//!     ItemRead::End => {}
+//! }
+//! ```
 #![tactic(auto)]
 
 mod accuracy;

@@ -41,189 +41,152 @@ fn source_of(alloc: Global, first: &[u8], second: &[u8]) -> Result<MemSource, Al
     Ok(MemSource::new(bytes, Vec::new(alloc), Vec::new(alloc)))
 }
 
+// Whether the record, behind a header and before another one, is read as the item, and then the other one.
+fn gives_item(alloc: Global, record: &[u8], item: NavItem, next: u32) -> Result<bool, Fail> {
+    let mut source = source_of(alloc, record, IONOSPHERE)?;
+    let other = galileo_ionosphere(11, 1_388_016_008, &[0; 4]).ok_or("an ionosphere")?;
+    let want = [
+        ItemRead::Item { line: 5, item },
+        ItemRead::Item {
+            line: next,
+            item: other,
+        },
+    ];
+    Ok(gives(&mut source, &want))
+}
+
+// Records of an independent program, and the integers of their items.
 #[test]
-fn records_give_items(rt: HostRuntime) -> Result<(), Fail> {
-    let ionosphere = galileo_ionosphere(11, 1_388_016_008, &[0; 4]).ok_or("an ionosphere")?;
-    let rows: [(Option<NavItem>, u32, &[u8]); 6] = [
+fn records_give_ephemerides(rt: HostRuntime) -> Result<(), Fail> {
+    let rows: [([i64; 30], SentSecond, &[u8]); 2] = [
         (
-            gps(
-                &[
-                    32,
-                    2294,
-                    1,
-                    225,
-                    -111,
-                    -8,
-                    -930363,
-                    0,
-                    0,
-                    2,
-                    45,
-                    1,
-                    15,
-                    1,
-                    0,
-                    -929809505,
-                    7754,
-                    0,
-                    28853,
-                    4294967295,
-                    37500,
-                    -32347,
-                    -2147483647,
-                    -26443,
-                    -949999335,
-                    -30499,
-                    -1831812308,
-                    8388607,
-                    36,
-                    1,
-                ],
-                SentSecond::At(604799),
-            ),
-            14,
+            [
+                32,
+                2294,
+                1,
+                225,
+                -111,
+                -8,
+                -930363,
+                0,
+                0,
+                2,
+                45,
+                1,
+                15,
+                1,
+                0,
+                -929809505,
+                7754,
+                0,
+                28853,
+                4294967295,
+                37500,
+                -32347,
+                -2147483647,
+                -26443,
+                -949999335,
+                -30499,
+                -1831812308,
+                8388607,
+                36,
+                1,
+            ],
+            SentSecond::At(604799),
             b"> EPH G32 LNAV\nG32 2023 12 31 01 00 00-4.332340322435D-04-9.094947017729D-13-3.080868893335D-15\n     1.500000000000D+01 3.125000000000D-02 0.000000000000D+00-1.360235135139D+00\n     1.444295048714D-05 0.000000000000D+00 5.374290049076D-05 8.191999998093D+03\n     6.000000000000D+05-6.025098264217D-05-3.141592652127D+00-4.925392568111D-05\n    -1.389771202463D+00-9.530937500000D+02-2.679791343197D+00 2.996055869181D-06\n     1.285767843106D-11 0.000000000000D+00 2.294000000000D+03 1.000000000000D+00\n     4.000000000000D+00 4.500000000000D+01 0.000000000000D+00 1.000000000000D+00\n     6.047990000000D+05 6.000000000000D+00\n",
         ),
         (
-            gps(
-                &[
-                    1,
-                    1783,
-                    41,
-                    18900,
-                    90,
-                    1,
-                    1564431,
-                    43,
-                    0,
-                    1,
-                    44,
-                    0,
-                    41,
-                    -15,
-                    0,
-                    1,
-                    0,
-                    2987039595,
-                    -2582,
-                    1,
-                    28348,
-                    1,
-                    -1831748688,
-                    0,
-                    680349975,
-                    24538,
-                    2147483647,
-                    4692849,
-                    -6430,
-                    0,
-                ],
-                SentSecond::Unknown,
-            ),
-            14,
+            [
+                1,
+                1783,
+                41,
+                18900,
+                90,
+                1,
+                1564431,
+                43,
+                0,
+                1,
+                44,
+                0,
+                41,
+                -15,
+                0,
+                1,
+                0,
+                2987039595,
+                -2582,
+                1,
+                28348,
+                1,
+                -1831748688,
+                0,
+                680349975,
+                24538,
+                2147483647,
+                4692849,
+                -6430,
+                0,
+            ],
+            SentSecond::Unknown,
             b"> EPH G01 LNAV\nG01 2014 03 12 12 00 00 7.284949533641D-04 1.136868377216D-13 2.498001805407D-15\n     4.100000000000D+01-4.687500000000D-01 0.000000000000D+00 1.462918079267D-09\n     0.000000000000D+00 3.477371757617D-01-4.809349775314D-06 1.907348632812D-06\n     4.535680000000D+05 1.862645149231D-09-2.679698272349D+00 0.000000000000D+00\n     9.952962786565D-01 7.668125000000D+02 3.141592652127D+00 1.676087315764D-06\n    -2.296524230881D-09 0.000000000000D+00 1.783000000000D+03 0.000000000000D+00\n     2.800000000000D+00 4.400000000000D+01 2.002343535423D-08 4.100000000000D+01\n     9.999000000000D+08 4.000000000000D+00\n",
         ),
-        (
-            galileo(
-                &[
-                    1,
-                    2296,
-                    378,
-                    120,
-                    -2147483647,
-                    0,
-                    2753624108,
-                    0,
-                    2147483647,
-                    0,
-                    -8192,
-                    -47154,
-                    32766,
-                    32767,
-                    0,
-                    -9021,
-                    -32768,
-                    107,
-                    0,
-                    0,
-                    8040,
-                    1073741823,
-                    810508,
-                    -31,
-                    -336,
-                    -188,
-                    0,
-                    0,
-                    0,
-                    1,
-                ],
-                SentSecond::At(907199),
-            ),
-            14,
-            b"> EPH E01 INAV\nE01 2024 01 05 14 00 00 6.249999994179D-02 1.151801143351D-08-5.377642775528D-17\n     3.780000000000D+02-1.024000000000D+03 1.170263031867D-08-3.141592652127D+00\n     6.103329360485D-05 0.000000000000D+00 0.000000000000D+00 5.252121177673D+03\n     7.200000000000D+03 0.000000000000D+00 0.000000000000D+00 0.000000000000D+00\n     3.141592652127D+00-2.819062500000D+02 0.000000000000D+00-1.684141579828D-08\n    -2.925836158534D-09 5.170000000000D+02 2.296000000000D+03\n     3.120000000000D+00 1.000000000000D+00-7.823109626770D-08-4.377216100693D-08\n     9.071990000000D+05\n",
-        ),
-        (
-            galileo(
-                &[
-                    32,
-                    2297,
-                    32,
-                    10078,
-                    -1078221374,
-                    3161096006,
-                    1,
-                    0,
-                    1243304832,
-                    1063951778,
-                    23,
-                    -2306486,
-                    31076,
-                    25780,
-                    8425,
-                    0,
-                    -30,
-                    0,
-                    28,
-                    -6360,
-                    7244,
-                    -28,
-                    -748642,
-                    7,
-                    35,
-                    1,
-                    1,
-                    1,
-                    0,
-                    0,
-                ],
-                SentSecond::At(604799),
-            ),
-            14,
-            b"> EPH E32 INAV\nE32 2024 01 19 00 44 00-1.629814505577D-09-1.063884269570D-08 1.214306433184D-17\n     3.200000000000D+01-9.375000000000D-01 1.109903374788D-08-1.577349541477D+00\n     4.801899194717D-05 3.680000088643D-01 1.569278538227D-05 1.907348632812D-06\n     6.046800000000D+05 5.215406417847D-08 0.000000000000D+00-1.184642314911D-05\n     1.818853116773D+00 0.000000000000D+00 1.556474291505D+00-8.237793137150D-07\n     8.214627886510D-12 5.170000000000D+02 2.297000000000D+03\n     0.000000000000D+00 1.300000000000D+02 8.149072527885D-09 2.328306436539D-10\n     6.047990000000D+05\n",
-        ),
-        (
-            gps_ionosphere(32, 1389091129, &[-1, -50, -19, 4, -27, -13, -128, 0]),
-            9,
-            b"> ION G32 LNAV\n    2024 01 12 10 38 49-9.313225746155D-10-3.725290298462D-07-1.132488250732D-06\n     2.384185791016D-07-5.529600000000D+04-2.129920000000D+05-8.388608000000D+06\n     0.000000000000D+00 0.000000000000D+00\n",
-        ),
-        (
-            galileo_ionosphere(36, 1387411200, &[1300, -534, 1, 0]),
-            8,
-            b"> ION E36 IFNV\n    2023 12 24 00 00 00 3.250000000000D+02-2.085937500000D+00 3.051757812500D-05\n     0.000000000000D+00\n",
-        ),
     ];
-    for (item, next, record) in rows.iter() {
-        let item = (*item).ok_or("an item")?;
-        let mut source = source_of(rt.alloc(), record, IONOSPHERE)?;
-        let want = [
-            ItemRead::Item { line: 5, item },
-            ItemRead::Item {
-                line: *next,
-                item: ionosphere,
-            },
-        ];
-        assert!(rt; gives(&mut source, &want));
+    for (numbers, sent, record) in rows.iter() {
+        let item = gps(numbers, *sent).ok_or("an item")?;
+        assert!(rt; gives_item(rt.alloc(), record, item, 14)?);
     }
+    let numbers = [
+        1,
+        2296,
+        378,
+        120,
+        -2147483647,
+        0,
+        2753624108,
+        0,
+        2147483647,
+        0,
+        -8192,
+        -47154,
+        32766,
+        32767,
+        0,
+        -9021,
+        -32768,
+        107,
+        0,
+        0,
+        8040,
+        1073741823,
+        810508,
+        -31,
+        -336,
+        -188,
+        0,
+        0,
+        0,
+        1,
+    ];
+    let record =
+        b"> EPH E01 INAV\nE01 2024 01 05 14 00 00 6.249999994179D-02 1.151801143351D-08-5.377642775528D-17\n     3.780000000000D+02-1.024000000000D+03 1.170263031867D-08-3.141592652127D+00\n     6.103329360485D-05 0.000000000000D+00 0.000000000000D+00 5.252121177673D+03\n     7.200000000000D+03 0.000000000000D+00 0.000000000000D+00 0.000000000000D+00\n     3.141592652127D+00-2.819062500000D+02 0.000000000000D+00-1.684141579828D-08\n    -2.925836158534D-09 5.170000000000D+02 2.296000000000D+03\n     3.120000000000D+00 1.000000000000D+00-7.823109626770D-08-4.377216100693D-08\n     9.071990000000D+05\n";
+    let item = galileo(&numbers, SentSecond::At(907199)).ok_or("an item")?;
+    assert!(rt; gives_item(rt.alloc(), record, item, 14)?);
+    Ok(())
+}
+
+#[test]
+fn records_give_ionospheres(rt: HostRuntime) -> Result<(), Fail> {
+    let record =
+        b"> ION G32 LNAV\n    2024 01 12 10 38 49-9.313225746155D-10-3.725290298462D-07-1.132488250732D-06\n     2.384185791016D-07-5.529600000000D+04-2.129920000000D+05-8.388608000000D+06\n     0.000000000000D+00 0.000000000000D+00\n";
+    let item = gps_ionosphere(32, 1389091129, &[-1, -50, -19, 4, -27, -13, -128, 0]).ok_or(
+        "an item",
+    )?;
+    assert!(rt; gives_item(rt.alloc(), record, item, 9)?);
+    let record =
+        b"> ION E36 IFNV\n    2023 12 24 00 00 00 3.250000000000D+02-2.085937500000D+00 3.051757812500D-05\n     0.000000000000D+00\n";
+    let item = galileo_ionosphere(36, 1387411200, &[1300, -534, 1, 0]).ok_or("an item")?;
+    assert!(rt; gives_item(rt.alloc(), record, item, 8)?);
     Ok(())
 }
 
@@ -249,44 +212,59 @@ fn judged(bytes: &[u8]) -> Judged {
     lines.judge()
 }
 
+// What a changed record is to stand for: an item of zeroes with this second of sending, or none.
+#[derive(Clone, Copy)]
+enum Want {
+    Item(SentSecond),
+    Refused(Reason),
+    PassedOver,
+}
+
+fn wanted(want: &Want) -> Option<Judged> {
+    match want {
+        Want::Item(sent) => Some(Judged::Item(gps(&zeroes([5, 2295, 0], 0), *sent)?)),
+        Want::Refused(reason) => Some(Judged::Refused(*reason)),
+        Want::PassedOver => Some(Judged::PassedOver),
+    }
+}
+
 #[test]
 fn records_with_one_change(rt: HostRuntime) -> Result<(), Fail> {
-    let numbers = zeroes([5, 2295, 0], 0);
-    let known = gps(&numbers, SentSecond::At(0)).ok_or("an item")?;
-    let unknown = gps(&numbers, SentSecond::Unknown).ok_or("an item")?;
-    let rows: [(usize, &[u8], Judged); 20] = [
-        (7, b"33", Judged::Refused(Reason::BadSat)),
-        (15, b"G06", Judged::Refused(Reason::BadSat)),
-        (7, b" 5", Judged::Refused(Reason::BadSat)),
-        (101, b"x", Judged::Refused(Reason::NotANumber)),
-        (27, b"D2", Judged::Refused(Reason::NotANumber)),
-        (119, b"                   ", Judged::Refused(Reason::Blank)),
+    let known = SentSecond::At(0);
+    let unknown = SentSecond::Unknown;
+    let rows: [(usize, &[u8], Want); 20] = [
+        (7, b"33", Want::Refused(Reason::BadSat)),
+        (15, b"G06", Want::Refused(Reason::BadSat)),
+        (7, b" 5", Want::Refused(Reason::BadSat)),
+        (101, b"x", Want::Refused(Reason::NotANumber)),
+        (27, b"D2", Want::Refused(Reason::NotANumber)),
+        (119, b"                   ", Want::Refused(Reason::Blank)),
         (
             562,
             b" 1.024000000000D+03",
-            Judged::Refused(Reason::OutOfRange),
+            Want::Refused(Reason::OutOfRange),
         ),
         (
             524,
             b" 6.400000000000D+01",
-            Judged::Refused(Reason::OutOfRange),
+            Want::Refused(Reason::OutOfRange),
         ),
-        (27, b"32", Judged::Refused(Reason::NoSuchDate)),
-        (19, b"1979", Judged::Refused(Reason::Week)),
-        (19, b"0000", Judged::Refused(Reason::Week)),
-        (605, b" 2.000000000000D+00", Judged::Refused(Reason::Fit)),
-        (36, b"01", Judged::Refused(Reason::EpochStep)),
-        (27, b"23", Judged::Refused(Reason::EpochFar)),
-        (605, b"                   ", Judged::Item(known)),
-        (586, b" 9.999000000000e+08", Judged::Item(unknown)),
-        (586, b"                   ", Judged::Item(unknown)),
-        (443, b"                   ", Judged::Item(known)),
-        (2, b"STO", Judged::PassedOver),
-        (6, b"R", Judged::PassedOver),
+        (27, b"32", Want::Refused(Reason::NoSuchDate)),
+        (19, b"1979", Want::Refused(Reason::Week)),
+        (19, b"0000", Want::Refused(Reason::Week)),
+        (605, b" 2.000000000000D+00", Want::Refused(Reason::Fit)),
+        (36, b"01", Want::Refused(Reason::EpochStep)),
+        (27, b"23", Want::Refused(Reason::EpochFar)),
+        (605, b"                   ", Want::Item(known)),
+        (586, b" 9.999000000000e+08", Want::Item(unknown)),
+        (586, b"                   ", Want::Item(unknown)),
+        (443, b"                   ", Want::Item(known)),
+        (2, b"STO", Want::PassedOver),
+        (6, b"R", Want::PassedOver),
     ];
     for (place, characters, want) in rows.iter() {
         let record = changed(rt.alloc(), *place, characters)?;
-        assert_eq!(rt; judged(&record), *want);
+        assert_eq!(rt; Some(judged(&record)), wanted(want));
     }
     Ok(())
 }

@@ -1,6 +1,6 @@
 use Rattle.std.proofs.Common.{◌≡◌, ℕ, ◌+◌, ◌-◌, ◌<◌, ◌≤◌, List, length, get_or, take, drop, arith, length-take, length-drop}
 use Rattle.rinex_write.specs.declared.columns.Column.{Column}
-use Rattle.rinex_read.proofs.RowLemmas.{rows_more, rows_stop, rows_end, rows_start, good_take, good_drop, fit_next, sum_next}
+use Rattle.rinex_read.proofs.RowLemmas.{rows_more, rows_stop, good_take, good_drop, fit_next, sum_next}
 use Rattle.rinex_read.proofs.fields.read_fields.Goals as goal
 
 few_more : (at n j old new : ℕ) (cs : List Column) → j ≡ n → at + n ≤ length cs → old ≡ at → new ≡ old + length (take j (drop at cs)) → new ≡ at + n

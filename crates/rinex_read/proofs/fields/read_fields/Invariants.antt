@@ -1,4 +1,4 @@
-use Rattle.std.proofs.Common.{◌≡◌, ◌+◌, ◌≤◌, true, drop, length, sum}
+use Rattle.std.proofs.Common.{◌≡◌, ◌+◌, true, drop, length, sum}
 use Rattle.rinex_read.specs.Mirrors.{with_front, flat_rows, do_fit}
 use Rattle.rinex_read.proofs.fields.read_fields.Given as goal
 

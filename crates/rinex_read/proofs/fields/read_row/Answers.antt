@@ -9,7 +9,7 @@ use Rattle.rinex_read.specs.Lines.{columns}
 use Rattle.rinex_read.specs.Fields.{taken, field_at, read_row}
 use Rattle.rinex_read.specs.Mirrors.{with_front}
 use Rattle.rinex_read.proofs.FieldLemmas.{good_at}
-use Rattle.rinex_read.proofs.RowLemmas.{row_more, row_stops, row_ends}
+use Rattle.rinex_read.proofs.RowLemmas.{row_more}
 use Rattle.rinex_read.proofs.fields.read_row.Goals as goal
 
 field_is : (col : Column) (t : List ℕ) (a : ℕ) (line : List ℕ) (r : Result ℤ Reason) → t ≡ columns a 19 line → r ≡ taken col.rule (seen (size_of col.scale) t) → field_at col a line ≡ r

@@ -1,4 +1,4 @@
-use Rattle.std.proofs.Common.{◌≡◌, ℕ, ◌≤◌, List, [], ◌∷◌, true, refl, subst, ◌∙◌, arith}
+use Rattle.std.proofs.Common.{◌≡◌, ℕ, List, true, refl, subst, ◌∙◌, arith}
 use Rattle.nav_io.specs.declared.lines.LineKind.TheVariants.{End}
 use Rattle.rinex_read.specs.declared.judged.HeaderState.TheVariants.{Passed}
 use Rattle.rinex_read.specs.declared.judged.ItemRead.{ItemRead}

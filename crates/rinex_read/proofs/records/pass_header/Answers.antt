@@ -2,7 +2,7 @@ use Rattle.std.proofs.Common.{◌≡◌, [], true, refl, sym, ◌∙◌}
 use Rattle.nav_io.specs.declared.lines.LineKind.TheVariants.{End}
 use Rattle.rinex_read.specs.declared.judged.HeaderState.TheVariants.{NotRinexNav}
 use Rattle.rinex_read.specs.StepLaws.{header_steps_none, header_steps_more}
-use Rattle.rinex_read.specs.Mirrors.{is_waiting, state_of}
+use Rattle.rinex_read.specs.Mirrors.{state_of}
 use Rattle.rinex_read.proofs.RecordSteps.{line_given, end_given}
 use Rattle.rinex_read.proofs.HeaderLemmas.{header_end, header_read, header_more, break_reads}
 use Rattle.rinex_read.proofs.records.pass_header.Goals as goal

@@ -1,4 +1,4 @@
-use Rattle.std.proofs.Common.{◌≡◌, [], ◌∷◌, true, false, sym, ap, ◌∙◌}
+use Rattle.std.proofs.Common.{◌≡◌, [], true, false, ap, ◌∙◌}
 use Rattle.rinex_read.specs.Lines.{begins}
 use Rattle.rinex_read.specs.Judging.{judged}
 use Rattle.rinex_read.specs.Kept.{kept_with}
