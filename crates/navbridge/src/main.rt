@@ -11,6 +11,8 @@ use std::env;
 use std::io::ErrorKind;
 use std::process::ExitCode;
 
+#[cfg(test)]
+mod capture_tests;
 mod laws;
 mod line;
 mod run;
