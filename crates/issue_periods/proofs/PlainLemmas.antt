@@ -17,7 +17,7 @@ use Rattle.period_items.proofs.Surface.{earlier_decides, is_below-true, below-is
 use Rattle.period_items.proofs.Surface.{Passing, best_among-is, IsBest-same}
 use Rattle.period_items.proofs.Surface.{AreLater, IsPeriod-same, IsClosed-same}
 use Rattle.period_items.proofs.Surface.{before_irr}
-use Rattle.period_items.proofs.Surface.{end_from_quiet, quiet_from_end, verdict_at-is}
+use Rattle.period_items.proofs.Surface.{all_values, end_from_quiet, quiet_from_end, verdict_at-is}
 use Rattle.period_items.proofs.Surface.{place_at-is, is-place_at}
 use Rattle.period_items.proofs.Surface.{with_part}
 use Rattle.issue_periods.proofs.GivenLemmas.{after_trans, NoneDue-take, NoneDue-give}
@@ -77,7 +77,7 @@ next_is s at mark q h e =
     record {
       due = IsDue-same s.window mark (Contains s.parts) (Contains at.parts) at.last q (same_parts s at h) here;
       verdict = IsClosed-same s.reference s.window (Contains s.parts) (Contains at.parts) (closed_with q (verdict_at s.reference s.window s.parts q)) (same_parts s at h)
-          (record { period = b.here.period; verdict = verdict_at-is s.reference s.window s.parts q b.here.period });
+          (record { period = b.here.period; verdict = verdict_at-is s.reference s.window s.parts q (all_values s.parts h.values) b.here.period });
       least = λ z due l. b.first z (subst (λ (o : Option Place). IsDue s.window (Contains s.parts) mark o z) (sym h.at_last) (IsDue-same s.window mark (Contains at.parts) (Contains s.parts) at.last z (same_back s at h) due)) l;
     }
 

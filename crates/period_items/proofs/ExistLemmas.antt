@@ -17,9 +17,11 @@ use Rattle.period_items.specs.PeriodsOf.{quiet, place_in, place_at, verdict_at, 
 use Rattle.period_items.proofs.Orders.{is_below-true, below-is_below}
 use Rattle.period_items.proofs.Folds.{some_is, none_some}
 use Rattle.period_items.proofs.KeyLemmas.{IsKeyValue, key_value, same_place}
-use Rattle.period_items.proofs.PeriodLemmas.{AreLater, IsPeriod-was, IsClosed-keeps}
+use Rattle.period_items.proofs.PeriodLemmas.{AreLater, IsPeriod-was}
+use Rattle.period_items.proofs.VerdictLemmas.{IsClosed-keeps}
 use Rattle.period_items.proofs.ListLemmas.{before_trans, All-in, all_of, Precedes, ArePeriods-one, AreClosed-one, ArePeriods-same, closed_at-are, closed_at-front, closed_at-rise, filter_all}
-use Rattle.period_items.proofs.SearchLemmas.{end_from_quiet, quiet_from_end, verdict_at-is}
+use Rattle.period_items.proofs.SearchLemmas.{end_from_quiet, quiet_from_end}
+use Rattle.period_items.proofs.LastLemmas.{verdict_at-is}
 
 -- a period in its place
 insert_all-at : (P : Closed → Type 0) (c d : Closed) (ds : List Closed) (t u : Bool) → P c → P d → AllByRecursion P ds → AllByRecursion P (insert c ds)
@@ -89,27 +91,38 @@ is-place_at p q k s = ap (place_in p.stamp) k ∙ ap (λ (x : ℕ). Some (place_
     place_with : ℕ → Key → Place
     place_with x key = record { end = x; key = key }
 
--- each of the list is a period with its verdict
-closed_here : (r w : ℕ) (parts : List Part) (q : Place) (p : Part) → In parts p → place_at p ≡ Some q → quiet parts w q.key q.end ≡ true → IsClosed r w (Contains parts) (closed_with q (verdict_at r w parts q))
-closed_here r w parts q p i e h =
+-- each of the list is a period of the parts: what holds of these holds of each
+all_if : (Is : Closed → Type 0) (r w : ℕ) (parts : List Part) (q : Place) (p : Part) (cs : List Closed) (t : Bool)
+    → ((z : Place) → IsPeriod w (Contains parts) z → Is (closed_with z (verdict_at r w parts z))) → quiet parts w q.key q.end ≡ t → In parts p → place_at p ≡ Some q
+    → AllByRecursion Is cs → AllByRecursion Is (if t then insert (closed_with q (verdict_at r w parts q)) cs else cs)
+all_if Is r w parts q p cs true is et i e h =
     let f = place_at-is p q e in
-    let hq : IsPeriod w (Contains parts) q = end_from_quiet w parts q.key q.end p (contains_from_In parts p i) f.0 f.1 h in
-    record { period = hq; verdict = verdict_at-is r w parts q hq }
+    insert_all Is (closed_with q (verdict_at r w parts q)) cs (is q (end_from_quiet w parts q.key q.end p (contains_from_In parts p i) f.0 f.1 et)) h
+all_if Is r w parts q p cs false is et i e h = h
 
-each_if : (r w : ℕ) (parts : List Part) (q : Place) (p : Part) (cs : List Closed) (t : Bool) → quiet parts w q.key q.end ≡ t → In parts p → place_at p ≡ Some q
-    → AllByRecursion (IsClosed r w (Contains parts)) cs → AllByRecursion (IsClosed r w (Contains parts)) (if t then insert (closed_with q (verdict_at r w parts q)) cs else cs)
-each_if r w parts q p cs true et i e h = insert_all (IsClosed r w (Contains parts)) (closed_with q (verdict_at r w parts q)) cs (closed_here r w parts q p i e et) h
-each_if r w parts q p cs false et i e h = h
+all_at : (Is : Closed → Type 0) (r w : ℕ) (parts : List Part) (p : Part) (o : Option Place) (cs : List Closed)
+    → ((z : Place) → IsPeriod w (Contains parts) z → Is (closed_with z (verdict_at r w parts z))) → place_at p ≡ o → In parts p
+    → AllByRecursion Is cs → AllByRecursion Is (insert_at r w parts o cs)
+all_at Is r w parts p None cs is e i h = h
+all_at Is r w parts p (Some q) cs is e i h = all_if Is r w parts q p cs (quiet parts w q.key q.end) is refl i e h
 
-each_at : (r w : ℕ) (parts : List Part) (p : Part) (o : Option Place) (cs : List Closed) → place_at p ≡ o → In parts p → AllByRecursion (IsClosed r w (Contains parts)) cs
-    → AllByRecursion (IsClosed r w (Contains parts)) (insert_at r w parts o cs)
-each_at r w parts p None cs e i h = h
-each_at r w parts p (Some q) cs e i h = each_if r w parts q p cs (quiet parts w q.key q.end) refl i e h
+ending_all : (Is : Closed → Type 0) (r w : ℕ) (parts ps : List Part) → ((z : Place) → IsPeriod w (Contains parts) z → Is (closed_with z (verdict_at r w parts z)))
+    → ((p : Part) → In ps p → In parts p) → AllByRecursion Is (periods_ending r w parts ps)
+ending_all Is r w parts [] is within = tt
+ending_all Is r w parts (p ∷ ps) is within =
+    all_at Is r w parts p (place_at p) (periods_ending r w parts ps) is refl (within p (inl refl)) (ending_all Is r w parts ps is (λ x i. within x (inr i)))
 
-ending_each : (r w : ℕ) (parts ps : List Part) → ((p : Part) → In ps p → In parts p) → AllByRecursion (IsClosed r w (Contains parts)) (periods_ending r w parts ps)
-ending_each r w parts [] within = tt
-ending_each r w parts (p ∷ ps) within =
-    each_at r w parts p (place_at p) (periods_ending r w parts ps) refl (within p (inl refl)) (ending_each r w parts ps (λ x i. within x (inr i)))
+-- the place of a period
+abbrev AtPeriod : ℕ → (Part → Type 0) → Closed → Type 0
+AtPeriod w parts c = IsPeriod w parts (place_of c)
+
+ending_period : (r w : ℕ) (parts ps : List Part) → ((p : Part) → In ps p → In parts p) → AllByRecursion (AtPeriod w (Contains parts)) (periods_ending r w parts ps)
+ending_period r w parts ps within = ending_all (AtPeriod w (Contains parts)) r w parts ps (λ z h. h) within
+
+ending_each : (r w : ℕ) (parts ps : List Part) → ((p : Part) → Contains parts p → IsPartValue p) → ((p : Part) → In ps p → In parts p)
+    → AllByRecursion (IsClosed r w (Contains parts)) (periods_ending r w parts ps)
+ending_each r w parts ps values within =
+    ending_all (IsClosed r w (Contains parts)) r w parts ps (λ z h. record { period = h; verdict = verdict_at-is r w parts z values h }) within
 
 -- the list is in order
 ascending_if : (c : Closed) (cs : List Closed) (t : Bool) → IsAscending cs → IsAscending (if t then insert c cs else cs)
@@ -152,7 +165,7 @@ ending_every r w parts [] q p values within h i k s = absurd i
 ending_every r w parts (x ∷ xs) q p values within h (inl e) k s =
     let cs = periods_ending r w parts xs in
     let v : AllByRecursion (λ d. IsKeyValue d.key) cs =
-    all_of (λ d. IsKeyValue d.key) cs (λ d j. period_key w (Contains parts) (place_of d) values (All-in (IsClosed r w (Contains parts)) cs d (ending_each r w parts xs (λ y j. within y (inr j))) j).period) in
+    all_of (λ d. IsKeyValue d.key) cs (λ d j. period_key w (Contains parts) (place_of d) values (All-in (AtPeriod w (Contains parts)) cs d (ending_period r w parts xs (λ y j. within y (inr j))) j)) in
     stands_at r w parts q (place_at x) cs (ap place_at e ∙ is-place_at p q k s) (period_key w (Contains parts) q values h) v (quiet_from_end w parts q.key q.end h)
 ending_every r w parts (x ∷ xs) q p values within h (inr i) k s =
     let d = ending_every r w parts xs q p values (λ y j. within y (inr j)) h i k s in
@@ -163,7 +176,7 @@ pub periods_of-are : (r w : ℕ) (parts : List Part) → ((p : Part) → Contain
 unfolding periods_of
 periods_of-are r w parts values = record {
   ascending = ending_ascending r w parts parts;
-  each = λ c i. All-in (IsClosed r w (Contains parts)) (periods_ending r w parts parts) c (ending_each r w parts parts (λ p j. j)) (In-from_contains (periods_ending r w parts parts) c i);
+  each = λ c i. All-in (IsClosed r w (Contains parts)) (periods_ending r w parts parts) c (ending_each r w parts parts values (λ p j. j)) (In-from_contains (periods_ending r w parts parts) c i);
   every = λ q h.
       let p = h.heard in
       let d = ending_every r w parts parts q p.part values (λ x j. j) h (In-from_contains parts p.part p.here) p.of_key p.at_stamp in
@@ -221,6 +234,6 @@ closed_of-front r w mark parts = closed_at-front w mark (periods_ending r w part
 pub closed_of-all : (r w mark : ℕ) (parts : List Part) → ((p : Part) → Contains parts p → p.stamp + w < mark) → closed_of r w mark parts ≡ periods_of r w parts
 unfolding closed_of periods_of
 closed_of-all r w mark parts low = filter_all (λ c. nat_lt (c.end + w) mark) (periods_ending r w parts parts) (λ c i.
-    let k = All-in (IsClosed r w (Contains parts)) (periods_ending r w parts parts) c (ending_each r w parts parts (λ p j. j)) i in
-    let p = k.period.heard in
+    let k = All-in (AtPeriod w (Contains parts)) (periods_ending r w parts parts) c (ending_period r w parts parts (λ p j. j)) i in
+    let p = k.heard in
     lt-ltb (c.end + w) mark (subst (λ (s : ℕ). s + w < mark) p.at_stamp (low p.part p.here)))

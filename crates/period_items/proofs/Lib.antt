@@ -1,6 +1,7 @@
 mod Orders
 mod Folds
 mod KeyLemmas
+mod AlikeLemmas
 mod ValueLemmas
 mod ValueFindings
 mod ValueItems
@@ -8,8 +9,11 @@ mod DigestLemmas
 mod DigestFindings
 mod HealthLemmas
 mod PeriodLemmas
+mod AgainLemmas
+mod VerdictLemmas
 mod ListLemmas
 mod SearchLemmas
+mod LastLemmas
 mod ExistLemmas
 mod TouchLemmas
 mod Examples

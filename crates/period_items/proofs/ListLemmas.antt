@@ -12,7 +12,8 @@ use Rattle.period_items.specs.Periods.{IsPeriod, IsBefore, place_numbers}
 use Rattle.period_items.specs.Verdicts.{IsClosed, place_of}
 use Rattle.period_items.specs.PeriodLists.{IsAscending, ArePeriods, AreClosed, closed_at, IsPrefix}
 use Rattle.period_items.proofs.Orders.{irreflexive, transitive}
-use Rattle.period_items.proofs.PeriodLemmas.{IsPeriod-same, IsClosed-same, IsClosed-one}
+use Rattle.period_items.proofs.PeriodLemmas.{IsPeriod-same}
+use Rattle.period_items.proofs.VerdictLemmas.{IsClosed-same, IsClosed-one}
 use Rattle.period_laws.proofs.Surface.{turned}
 
 pub before_irr : (a : Place) → IsBefore a a → ⊥

@@ -1,4 +1,4 @@
--- Periods of sets of parts: the same for the same set, kept by later parts where they are closed, with one verdict.
+-- Periods of sets of parts, and what they come to by themselves: the same for the same set, kept by later parts where they are closed.
 use Rattle.std.proofs.Common.{◌≡◌, ℕ, ◌+◌, ◌<◌, ◌≤◌, ◌⊎◌, inl, inr, Bool, true, false, None, Some, if◌then◌else◌, sym, ap, subst, ◌∙◌, arith}
 use Rattle.period_laws.specs.Ends.{IsLaterSet}
 use Rattle.period_laws.proofs.Surface.{Same, turned, IsEnd-same, IsEndOf-same, IsEnd-later, IsEnd-was, IsEndOf-later, IsEndOf-was}
@@ -57,7 +57,7 @@ IsUpToEnd-to w a b sat e h to v = record { heard = health_to sat a b h to v.hear
 IsBehindEnd-to : (w : ℕ) (a b : Part → Type 0) (sat : Satellite) (e : ℕ) (h : ℕ × GalHealth × SentTag) → ((p : Part) → a p → b p) → IsBehindEnd w a sat e h → IsBehindEnd w b sat e h
 IsBehindEnd-to w a b sat e h to v = record { heard = health_to sat a b h to v.heard; behind = v.behind; near = v.near }
 
-none_same : {X : Type 0} → Same {X = X} (λ x. ⊥) (λ x. ⊥)
+pub none_same : {X : Type 0} → Same {X = X} (λ x. ⊥) (λ x. ⊥)
 none_same = record { to = λ x h. h; from = λ x h. h }
 
 pub before_same : (w : ℕ) (a b : Part → Type 0) (key : Key) (e : ℕ) → Same a b → Same (IsHealthBefore w a key e) (IsHealthBefore w b key e)
@@ -71,17 +71,6 @@ behind_same w a b (Gps sat i) e s = none_same
 behind_same w a b (Gal sat i) e s = record { to = λ h v. IsBehindEnd-to w a b sat e h s.to v; from = λ h v. IsBehindEnd-to w b a sat e h s.from v }
 behind_same w a b (GpsIon c) e s = none_same
 behind_same w a b (GalIon c) e s = none_same
-
-pub IsVerdict-same : (r w : ℕ) (a b : Part → Type 0) (q : Place) (v : Verdict) → Same a b → IsVerdict r w a q v → IsVerdict r w b q v
-IsVerdict-same r w a b q v s h = record {
-  finding = h.finding;
-  found = IsFoundIn-same r q.key (IsMember w a q) (IsMember w b q) (IsHealthBefore w a q.key q.end) (IsHealthBehind w a q.key q.end) (IsHealthBefore w b q.key q.end) (IsHealthBehind w b q.key q.end)
-      h.finding (members_same w a b q s) (before_same w a b q.key q.end s) (behind_same w a b q.key q.end s) h.found;
-  judged = h.judged;
-}
-
-pub IsClosed-same : (r w : ℕ) (a b : Part → Type 0) (c : Closed) → Same a b → IsClosed r w a c → IsClosed r w b c
-IsClosed-same r w a b c s h = record { period = IsPeriod-same w a b (place_of c) s h.period; verdict = IsVerdict-same r w a b (place_of c) c.verdict s h.verdict }
 
 -- the second set has the parts of the first, and further ones from the mark on
 pub record AreLater (mark : ℕ) (old new : Part → Type 0) : Type 0 where
@@ -137,7 +126,7 @@ health_where stamp body h false e = absurd (none_some h e)
 pub health_stamp : (sat : Satellite) (p : Part) (h : ℕ × GalHealth × SentTag) → health_of sat p ≡ Some h → p.stamp ≡ h.0
 health_stamp sat p h e = health_where p.stamp p.body h (same_sat p.sat sat) e
 
-health_was : (mark : ℕ) (old new : Part → Type 0) (sat : Satellite) (h : ℕ × GalHealth × SentTag) → AreLater mark old new → h.0 < mark
+pub health_was : (mark : ℕ) (old new : Part → Type 0) (sat : Satellite) (h : ℕ × GalHealth × SentTag) → AreLater mark old new → h.0 < mark
     → HasValue (health_of sat) new h → HasValue (health_of sat) old h
 health_was mark old new sat h l low v = record {
   element = v.element;
@@ -145,7 +134,7 @@ health_was mark old new sat h l low v = record {
   is = v.is;
 }
 
-before_later : (w mark : ℕ) (old new : Part → Type 0) (key : Key) (e : ℕ) → AreLater mark old new → e + w < mark → Same (IsHealthBefore w old key e) (IsHealthBefore w new key e)
+pub before_later : (w mark : ℕ) (old new : Part → Type 0) (key : Key) (e : ℕ) → AreLater mark old new → e + w < mark → Same (IsHealthBefore w old key e) (IsHealthBefore w new key e)
 before_later w mark old new (Gps sat i) e l low = none_same
 before_later w mark old new (Gal sat i) e l low = record {
   to = λ h v. IsUpToEnd-to w old new sat e h l.keeps v;
@@ -154,7 +143,7 @@ before_later w mark old new (Gal sat i) e l low = record {
 before_later w mark old new (GpsIon c) e l low = none_same
 before_later w mark old new (GalIon c) e l low = none_same
 
-behind_later : (w mark : ℕ) (old new : Part → Type 0) (key : Key) (e : ℕ) → AreLater mark old new → e + w < mark → Same (IsHealthBehind w old key e) (IsHealthBehind w new key e)
+pub behind_later : (w mark : ℕ) (old new : Part → Type 0) (key : Key) (e : ℕ) → AreLater mark old new → e + w < mark → Same (IsHealthBehind w old key e) (IsHealthBehind w new key e)
 behind_later w mark old new (Gps sat i) e l low = none_same
 behind_later w mark old new (Gal sat i) e l low = record {
   to = λ h v. IsBehindEnd-to w old new sat e h l.keeps v;
@@ -163,65 +152,43 @@ behind_later w mark old new (Gal sat i) e l low = record {
 behind_later w mark old new (GpsIon c) e l low = none_same
 behind_later w mark old new (GalIon c) e l low = none_same
 
--- what is closed keeps its verdict
-pub IsVerdict-keeps : (r w mark : ℕ) (old new : Part → Type 0) (q : Place) (v : Verdict) → AreLater mark old new → q.end + w < mark → IsVerdict r w old q v → IsVerdict r w new q v
-IsVerdict-keeps r w mark old new q v l low h = record {
-  finding = h.finding;
-  found = IsFoundIn-same r q.key (IsMember w old q) (IsMember w new q) (IsHealthBefore w old q.key q.end) (IsHealthBehind w old q.key q.end) (IsHealthBefore w new q.key q.end) (IsHealthBehind w new q.key q.end)
-      h.finding (members_later w mark old new q l low) (before_later w mark old new q.key q.end l low) (behind_later w mark old new q.key q.end l low) h.found;
-  judged = h.judged;
-}
-
-pub IsClosed-keeps : (r w mark : ℕ) (old new : Part → Type 0) (c : Closed) → AreLater mark old new → c.end + w < mark → IsClosed r w old c → IsClosed r w new c
-IsClosed-keeps r w mark old new c l low h = record {
-  period = IsPeriod-keeps w mark old new (place_of c) l low h.period;
-  verdict = IsVerdict-keeps r w mark old new (place_of c) c.verdict l low h.verdict;
-}
-
--- a period has one verdict
-IsJudged-one : (f : Finding) (u v : Verdict) → IsJudged f u → IsJudged f v → u ≡ v
-IsJudged-one Differs u v h k = h ∙ sym k
-IsJudged-one Misses u v h k = h ∙ sym k
-IsJudged-one LacksHealth u v h k = h ∙ sym k
-IsJudged-one (Complete item) u v h k = h ∙ sym k
-
-before_value : (w : ℕ) (parts : Part → Type 0) (key : Key) (e : ℕ) (h : ℕ × GalHealth × SentTag) → ((p : Part) → parts p → IsPartValue p) → IsHealthBefore w parts key e h → IsHealthValue h
+pub before_value : (w : ℕ) (parts : Part → Type 0) (key : Key) (e : ℕ) (h : ℕ × GalHealth × SentTag) → ((p : Part) → parts p → IsPartValue p) → IsHealthBefore w parts key e h → IsHealthValue h
 before_value w parts (Gps sat i) e h v b = absurd b
 before_value w parts (Gal sat i) e h v b = health_value sat b.heard.element h (v b.heard.element b.heard.here) b.heard.is
 before_value w parts (GpsIon c) e h v b = absurd b
 before_value w parts (GalIon c) e h v b = absurd b
 
-behind_value : (w : ℕ) (parts : Part → Type 0) (key : Key) (e : ℕ) (h : ℕ × GalHealth × SentTag) → ((p : Part) → parts p → IsPartValue p) → IsHealthBehind w parts key e h → IsHealthValue h
+pub behind_value : (w : ℕ) (parts : Part → Type 0) (key : Key) (e : ℕ) (h : ℕ × GalHealth × SentTag) → ((p : Part) → parts p → IsPartValue p) → IsHealthBehind w parts key e h → IsHealthValue h
 behind_value w parts (Gps sat i) e h v b = absurd b
 behind_value w parts (Gal sat i) e h v b = health_value sat b.heard.element h (v b.heard.element b.heard.here) b.heard.is
 behind_value w parts (GpsIon c) e h v b = absurd b
 behind_value w parts (GalIon c) e h v b = absurd b
 
-pub IsVerdict-one : (r w : ℕ) (parts : Part → Type 0) (q : Place) (u v : Verdict) → ((p : Part) → parts p → IsPartValue p) → IsVerdict r w parts q u → IsVerdict r w parts q v → u ≡ v
-IsVerdict-one r w parts q u v values h k =
-    let same : h.finding ≡ k.finding = IsFoundIn-one r q.key (IsMember w parts q) (IsHealthBefore w parts q.key q.end) (IsHealthBehind w parts q.key q.end) h.finding k.finding
-    (λ p m. values p m.here) (λ x b. before_value w parts q.key q.end x values b) (λ x b. behind_value w parts q.key q.end x values b) h.found k.found in
-    IsJudged-one k.finding u v (subst (λ (f : Finding). IsJudged f u) same h.judged) k.judged
+-- what a period comes to by itself: the same for the same set, kept by later parts where the period is closed, and one
+pub IsFound-same : (r w : ℕ) (a b : Part → Type 0) (q : Place) (f : Finding) → Same a b → IsFound r w a q f → IsFound r w b q f
+IsFound-same r w a b q f s h =
+    IsFoundIn-same r q.key (IsMember w a q) (IsMember w b q)
+    (IsHealthBefore w a q.key q.end) (IsHealthBehind w a q.key q.end) (IsHealthBefore w b q.key q.end) (IsHealthBehind w b q.key q.end)
+    f (members_same w a b q s) (before_same w a b q.key q.end s) (behind_same w a b q.key q.end s) h
 
-pub IsClosed-one : (r w : ℕ) (parts : Part → Type 0) (c d : Closed) → ((p : Part) → parts p → IsPartValue p) → place_of c ≡ place_of d → IsClosed r w parts c → IsClosed r w parts d → c ≡ d
-IsClosed-one r w parts c d values e h k =
-    let v : c.verdict ≡ d.verdict = IsVerdict-one r w parts (place_of d) c.verdict d.verdict values (subst (λ (q : Place). IsVerdict r w parts q c.verdict) e h.verdict) k.verdict in
-    let f : c.end ≡ d.end = ap (λ (q : Place). q.end) e in
-    let g : c.key ≡ d.key = ap (λ (q : Place). q.key) e in
-    λ i. record { end = f i; key = g i; verdict = v i }
+pub IsFound-keeps : (r w mark : ℕ) (old new : Part → Type 0) (q : Place) (f : Finding)
+    → AreLater mark old new → q.end + w < mark → IsFound r w old q f → IsFound r w new q f
+IsFound-keeps r w mark old new q f l low h =
+    IsFoundIn-same r q.key (IsMember w old q) (IsMember w new q)
+    (IsHealthBefore w old q.key q.end) (IsHealthBehind w old q.key q.end) (IsHealthBefore w new q.key q.end) (IsHealthBehind w new q.key q.end)
+    f (members_later w mark old new q l low) (before_later w mark old new q.key q.end l low) (behind_later w mark old new q.key q.end l low) h
 
--- the item of a whole period is what it comes to
-whole_item : (f : Finding) (item : NavItem) (v : Verdict) → IsJudged f v → v ≡ Whole item → f ≡ Complete item
-whole_item Differs item v h e = absurd (let g : Contradicted ≡ Whole item = sym h ∙ e in cc)
-whole_item Misses item v h e = absurd (let g : Partial ≡ Whole item = sym h ∙ e in cc)
-whole_item LacksHealth item v h e = absurd (let g : NoHealth ≡ Whole item = sym h ∙ e in cc)
-whole_item (Complete x) item v h e = let g : Whole x ≡ Whole item = sym h ∙ e in cc
+pub IsFound-was : (r w mark : ℕ) (old new : Part → Type 0) (q : Place) (f : Finding)
+    → AreLater mark old new → q.end + w < mark → IsFound r w new q f → IsFound r w old q f
+IsFound-was r w mark old new q f l low h =
+    IsFoundIn-same r q.key (IsMember w new q) (IsMember w old q)
+    (IsHealthBefore w new q.key q.end) (IsHealthBehind w new q.key q.end) (IsHealthBefore w old q.key q.end) (IsHealthBehind w old q.key q.end)
+    f (turned (IsMember w old q) (IsMember w new q) (members_later w mark old new q l low))
+    (turned (IsHealthBefore w old q.key q.end) (IsHealthBefore w new q.key q.end) (before_later w mark old new q.key q.end l low))
+    (turned (IsHealthBehind w old q.key q.end) (IsHealthBehind w new q.key q.end) (behind_later w mark old new q.key q.end l low)) h
 
-pub item_fits_period : (r w : ℕ) (parts : Part → Type 0) (c : Closed) (item : NavItem) → IsReference r → ((p : Part) → parts p → IsPartValue p) → ((p : Part) → parts p → IsPart p.sat p.body)
-    → HasRanges item → IsClosed r w parts c → c.verdict ≡ Whole item → IsItem item
-item_fits_period r w parts c item reference values are ranges h e =
-    let q = place_of c in
-    let f = whole_item h.verdict.finding item c.verdict h.verdict.judged e in
-    item_fits r q.key (IsMember w parts q) (IsHealthBefore w parts q.key q.end) (IsHealthBehind w parts q.key q.end) item reference
-    (record { of_key = λ p m. m.of_key; is_part = λ p m. are p m.here; is_value = λ p m. values p m.here }) ranges
-    (subst (λ (x : Finding). IsFound r w parts q x) f h.verdict.found)
+pub IsFound-one : (r w : ℕ) (parts : Part → Type 0) (q : Place) (f g : Finding)
+    → ((p : Part) → parts p → IsPartValue p) → IsFound r w parts q f → IsFound r w parts q g → f ≡ g
+IsFound-one r w parts q f g values h k =
+    IsFoundIn-one r q.key (IsMember w parts q) (IsHealthBefore w parts q.key q.end) (IsHealthBehind w parts q.key q.end) f g
+    (λ p m. values p m.here) (λ x b. before_value w parts q.key q.end x values b) (λ x b. behind_value w parts q.key q.end x values b) h k

@@ -84,7 +84,7 @@ pub record IsEndBelow (w : ℕ) (parts : Part → Type 0) (key : Key) (e s : ℕ
 abbrev pub IsAbove : ℕ → ℕ → Type 0
 IsAbove a b = b < a
 
-above_decides : Decides (λ a b. nat_lt b a) IsAbove
+pub above_decides : Decides (λ a b. nat_lt b a) IsAbove
 above_decides = record {
   yes = λ a b e. ltb-true b a e;
   is = λ a b h. lt-ltb b a h;
@@ -223,12 +223,3 @@ finding_at-is r w parts q hq =
     finding_with-is r w parts q (members_digest q.key q.end before parts None) hq
     (IsSomeDigest-same q.key (Tested q.key q.end before parts) (IsMember w (Contains parts) q) (members_digest q.key q.end before parts None)
     (tested_members w parts q before hq (end_before-is w parts q.key q.end)) (members_digest-is q.key q.end before parts))
-
-judged : (f : Finding) → IsJudged f (verdict_of f)
-judged Differs = refl
-judged Misses = refl
-judged LacksHealth = refl
-judged (Complete item) = refl
-
-pub verdict_at-is : (r w : ℕ) (parts : List Part) (q : Place) → IsPeriod w (Contains parts) q → IsVerdict r w (Contains parts) q (verdict_at r w parts q)
-verdict_at-is r w parts q hq = record { finding = finding_at r w parts q; found = finding_at-is r w parts q hq; judged = judged (finding_at r w parts q) }

@@ -5,6 +5,7 @@ pub mod Items
 pub mod Verdicts
 pub mod PeriodLists
 pub mod Digests
+pub mod Alike
 pub mod Mirrors
 pub mod PeriodsOf
 pub mod Touching

@@ -14,6 +14,7 @@ use Rattle.nav_eph.specs.declared.galileo.GalWord4.{GalWord4}
 use Rattle.nav_eph.specs.declared.tag.SentTag.{SentTag}
 use Rattle.nav_eph.specs.declared.ion.IonContent.TheVariants.{Gps as OfGps, Gal as OfGal}
 use Rattle.nav_eph.specs.declared.items.NavItem.TheVariants.{Gps as GpsItem, Gal as GalItem, Ion as IonItem}
+use Rattle.nav_eph.specs.declared.items.NavItem.{NavItem}
 use Rattle.nav_eph.specs.declared.part.Part.{Part}
 use Rattle.nav_eph.specs.contracts.gps.GpsClockPartialEq.TheImpl.{eq-value as clock_eq}
 use Rattle.nav_eph.specs.contracts.gps.GpsOrbitAPartialEq.TheImpl.{eq-value as orbit_a_eq}
@@ -30,13 +31,14 @@ use Rattle.period_items.specs.declared.key.Sending.{Sending}
 use Rattle.period_items.specs.declared.closed.Finding.{Finding}
 use Rattle.period_items.specs.declared.closed.Finding.TheVariants.{Differs, Misses, LacksHealth, Complete}
 use Rattle.period_items.specs.declared.closed.Verdict.{Verdict}
-use Rattle.period_items.specs.declared.closed.Verdict.TheVariants.{Whole, Partial, Contradicted, NoHealth}
+use Rattle.period_items.specs.declared.closed.Verdict.TheVariants.{Whole, Partial, Contradicted, NoHealth, Again}
 use Rattle.period_items.specs.declared.digest.Seen.{Seen}
 use Rattle.period_items.specs.declared.digest.Seen.TheVariants.{Nothing, One, Different}
 use Rattle.period_items.specs.declared.digest.GpsDigest.{GpsDigest}
 use Rattle.period_items.specs.declared.digest.GalDigest.{GalDigest}
 use Rattle.period_items.specs.declared.digest.Digest.{Digest}
 use Rattle.period_items.specs.declared.digest.Digest.TheVariants.{Gps as GpsForm, Gal as GalForm, Ion as IonForm}
+use Rattle.period_items.specs.Alike.{is_alike}
 use Rattle.period_items.specs.Parts.{key_of, clock_of, orbit_a_of, orbit_b_of, word1_of, word2_of, word3_of, word4_of, side_of, fit_of, sent_tag_of, toe_tag_of, sending_of, side_numbers, fit_numbers, tag_numbers, sending_numbers, health_of, health_numbers, same_sat}
 use Rattle.period_items.specs.Items.{gps_moment, gal_moment, toe_week_of, sent_second, gps_ion_moment, gal_ion_moment}
 
@@ -186,12 +188,30 @@ digest_finding r (GpsIon content) (IonForm s) health = Complete (IonItem (record
 digest_finding r (GalIon content) (IonForm s) health = Complete (IonItem (record { sat = s.sat; moment = gal_ion_moment r s; content = OfGal content }))
 digest_finding r key digest health = Misses
 
+-- the item of a finding, where all is there and agrees
+abbrev pub item_of : Finding → Option NavItem
+item_of Differs = None
+item_of Misses = None
+item_of LacksHealth = None
+item_of (Complete item) = Some item
+
+abbrev pub is_complete : Finding → Bool
+is_complete Differs = false
+is_complete Misses = false
+is_complete LacksHealth = false
+is_complete (Complete item) = true
+
+-- the verdict on an item, where there is one before with which it is compared
+abbrev pub verdict_on_item : Option NavItem → NavItem → Verdict
+verdict_on_item None item = Whole item
+verdict_on_item (Some before) item = if is_alike before item then Again else Whole item
+
 -- the verdict on a finding
-abbrev pub verdict_of : Finding → Verdict
-verdict_of Differs = Contradicted
-verdict_of Misses = Partial
-verdict_of LacksHealth = NoHealth
-verdict_of (Complete item) = Whole item
+abbrev pub verdict_of : Option NavItem → Finding → Verdict
+verdict_of before Differs = Contradicted
+verdict_of before Misses = Partial
+verdict_of before LacksHealth = NoHealth
+verdict_of before (Complete item) = verdict_on_item before item
 
 -- the two keys are one
 abbrev pub same_key : Key → Key → Bool

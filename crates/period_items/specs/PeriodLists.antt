@@ -1,9 +1,12 @@
 -- The list of the periods of a set of parts, and of those that are closed at a mark.
 use Rattle.std.specs.Prelude.{◌≡◌, ℕ, ◌+◌, ◌<◌, nat_lt, List, [], ◌∷◌, ◌++◌, Contains, filter}
 use Rattle.std.specs.List.{AllByRecursion}
+use Rattle.nav_eph.specs.declared.items.NavItem.{NavItem}
 use Rattle.nav_eph.specs.declared.part.Part.{Part}
 use Rattle.period_items.specs.declared.key.Place.{Place}
 use Rattle.period_items.specs.declared.closed.Closed.{Closed}
+use Rattle.period_items.specs.declared.closed.Verdict.{Verdict}
+use Rattle.period_items.specs.declared.closed.Verdict.TheVariants.{Whole, Partial, Contradicted, NoHealth, Again}
 use Rattle.period_items.specs.Periods.{IsPeriod, IsBefore}
 use Rattle.period_items.specs.Verdicts.{IsClosed, place_of}
 
@@ -32,3 +35,16 @@ closed_at window mark periods = filter (λ c. nat_lt (c.end + window) mark) peri
 -- the first list is a front of the second
 abbrev pub IsPrefix : List Closed → List Closed → Type 0
 IsPrefix xs ys = (rest : List Closed) × (ys ≡ xs ++ rest)
+
+-- the item of a whole period
+abbrev pub item_in : Verdict → List NavItem
+item_in (Whole item) = item ∷ []
+item_in Partial = []
+item_in Contradicted = []
+item_in NoHealth = []
+item_in Again = []
+
+-- the items of the whole periods, in order
+abbrev pub items_in : List Closed → List NavItem
+items_in [] = []
+items_in (c ∷ cs) = item_in c.verdict ++ items_in cs

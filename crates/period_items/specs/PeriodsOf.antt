@@ -1,8 +1,10 @@
 -- The list of the periods of some parts, as a function.
 use Rattle.std.specs.Prelude.{ℕ, ◌+◌, Bool, true, not, ◌&&◌, ◌||◌, nat_lt, nat_le, if◌then◌else◌, List, [], ◌∷◌, Option, None, Some}
 use Rattle.std.specs.List.{list_all}
+use Rattle.nav_eph.specs.declared.items.NavItem.{NavItem}
 use Rattle.nav_eph.specs.declared.part.Part.{Part}
 use Rattle.period_items.specs.declared.key.Key.{Key}
+use Rattle.period_items.specs.declared.key.Key.TheVariants.{Gps, Gal, GpsIon, GalIon}
 use Rattle.period_items.specs.declared.key.Place.{Place}
 use Rattle.period_items.specs.declared.closed.Finding.{Finding}
 use Rattle.period_items.specs.declared.closed.Finding.TheVariants.{Misses}
@@ -13,7 +15,7 @@ use Rattle.period_items.specs.Parts.{key_of}
 use Rattle.period_items.specs.Periods.{place_numbers}
 use Rattle.period_items.specs.Verdicts.{place_of}
 use Rattle.period_items.specs.PeriodLists.{closed_at}
-use Rattle.period_items.specs.Mirrors.{is_of, earlier, best_among, digest_of, digest_join, digest_finding, health_at, verdict_of}
+use Rattle.period_items.specs.Mirrors.{is_of, earlier, best_among, digest_of, digest_join, digest_finding, health_at, item_of, is_complete, verdict_of}
 
 -- no part of the key in the window after a stamp
 abbrev pub quiet_at : ℕ → Key → ℕ → Part → Bool
@@ -66,13 +68,42 @@ abbrev pub finding_with : ℕ → ℕ → List Part → Place → Option Digest 
 finding_with r window parts place None = Misses
 finding_with r window parts place (Some d) = digest_finding r place.key d (health_at window parts place.key place.end)
 
--- what a period comes to by itself, and the verdict on it
+-- what a period comes to by itself
 abbrev pub finding_at : ℕ → ℕ → List Part → Place → Finding
 finding_at r window parts place =
     finding_with r window parts place (members_digest place.key place.end (end_before parts window place.key place.end) parts None)
 
+-- the place of the key's period with that end
+abbrev pub end_place : Key → ℕ → Place
+end_place key e = record { end = e; key = key }
+
+-- a complete period of the key ends below another end
+abbrev pub complete_below : ℕ → ℕ → List Part → Key → ℕ → ℕ → Bool
+complete_below r window parts key e s = end_below parts window key e s && is_complete (finding_at r window parts (end_place key s))
+
+-- the end of the key's last complete period below another end
+abbrev pub complete_before : ℕ → ℕ → List Part → Key → ℕ → Option ℕ
+complete_before r window parts key e = best_among (stamp_of key) (complete_below r window parts key e) (λ a b. nat_lt b a) parts None
+
+-- the item of the key's period with that end
+abbrev pub item_at : ℕ → ℕ → List Part → Key → Option ℕ → Option NavItem
+item_at r window parts key None = None
+item_at r window parts key (Some e) = item_of (finding_at r window parts (end_place key e))
+
+-- the item of the key's last complete period below an end
+abbrev pub last_item : ℕ → ℕ → List Part → Key → ℕ → Option NavItem
+last_item r window parts key e = item_at r window parts key (complete_before r window parts key e)
+
+-- the item with which that of a period is compared; an ionosphere is compared with none
+abbrev pub item_before : ℕ → ℕ → List Part → Key → ℕ → Option NavItem
+item_before r window parts (Gps sat issue) e = last_item r window parts (Gps sat issue) e
+item_before r window parts (Gal sat issue) e = last_item r window parts (Gal sat issue) e
+item_before r window parts (GpsIon content) e = None
+item_before r window parts (GalIon content) e = None
+
+-- the verdict on a period
 abbrev pub verdict_at : ℕ → ℕ → List Part → Place → Verdict
-verdict_at r window parts place = verdict_of (finding_at r window parts place)
+verdict_at r window parts place = verdict_of (item_before r window parts place.key place.end) (finding_at r window parts place)
 
 abbrev pub closed_with : Place → Verdict → Closed
 closed_with place verdict = record { end = place.end; key = place.key; verdict = verdict }

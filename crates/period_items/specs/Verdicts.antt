@@ -1,5 +1,6 @@
 -- What a period comes to by itself, and what is said of it.
 use Rattle.std.specs.Prelude.{◌≡◌, ℕ, ◌+◌, ◌<◌, ◌≤◌, ◌⊎◌}
+use Rattle.nav_eph.specs.Items.{IsAlike}
 use Rattle.nav_eph.specs.Satellite.{Satellite}
 use Rattle.nav_eph.specs.declared.galileo.GalHealth.{GalHealth}
 use Rattle.nav_eph.specs.declared.tag.SentTag.{SentTag}
@@ -13,7 +14,7 @@ use Rattle.period_items.specs.declared.key.Place.{Place}
 use Rattle.period_items.specs.declared.closed.Finding.{Finding}
 use Rattle.period_items.specs.declared.closed.Finding.TheVariants.{Differs, Misses, LacksHealth, Complete}
 use Rattle.period_items.specs.declared.closed.Verdict.{Verdict}
-use Rattle.period_items.specs.declared.closed.Verdict.TheVariants.{Whole, Partial, Contradicted, NoHealth}
+use Rattle.period_items.specs.declared.closed.Verdict.TheVariants.{Whole, Partial, Contradicted, NoHealth, Again}
 use Rattle.period_items.specs.declared.closed.Closed.{Closed}
 use Rattle.period_items.specs.Values.{HasValue, IsEmpty, Differ}
 use Rattle.period_items.specs.Parts.{clock_of, orbit_a_of, orbit_b_of, word1_of, word2_of, word3_of, word4_of, health_of}
@@ -86,18 +87,44 @@ abbrev pub IsFound : ℕ → ℕ → (Part → Type 0) → Place → Finding →
 IsFound r window parts place finding =
     IsFoundIn r place.key (IsMember window parts place) (IsHealthBefore window parts place.key place.end) (IsHealthBehind window parts place.key place.end) finding
 
--- what is said of what was found
-abbrev pub IsJudged : Finding → Verdict → Type 0
-IsJudged Differs verdict = verdict ≡ Contradicted
-IsJudged Misses verdict = verdict ≡ Partial
-IsJudged LacksHealth verdict = verdict ≡ NoHealth
-IsJudged (Complete item) verdict = verdict ≡ Whole item
+-- the key is that of an ephemeris, and not that of an ionosphere
+abbrev pub IsOfEphemeris : Key → Type 0
+IsOfEphemeris (Gps sat issue) = Unit {0}
+IsOfEphemeris (Gal sat issue) = Unit {0}
+IsOfEphemeris (GpsIon content) = ⊥
+IsOfEphemeris (GalIon content) = ⊥
+
+-- the key has a period with this end, all of its parts were heard and agree, and this is its item
+pub record IsComplete (r window : ℕ) (parts : Part → Type 0) (key : Key) (e : ℕ) (item : NavItem) : Type 0 where
+  pub period : IsPeriod window parts (record { end = e; key = key })
+  pub found : IsFound r window parts (record { end = e; key = key }) (Complete item)
+
+-- the item of the key's last complete period with an end before e
+pub record IsLastBefore (r window : ℕ) (parts : Part → Type 0) (key : Key) (e : ℕ) (item : NavItem) : Type 0 where
+  pub at : ℕ
+  pub earlier : at < e
+  pub complete : IsComplete r window parts key at item
+  pub last : (f : ℕ) (other : NavItem) → IsComplete r window parts key f other → f < e → f ≤ at
+
+-- an ephemeris that is equal, in every field but the second of sending, to that of the key's last complete period before
+pub record Repeats (r window : ℕ) (parts : Part → Type 0) (place : Place) (item : NavItem) : Type 0 where
+  pub ephemeris : IsOfEphemeris place.key
+  pub before : NavItem
+  pub is_before : IsLastBefore r window parts place.key place.end before
+  pub alike : IsAlike before item
+
+-- what is said of what was found, where some items say again what was said before
+abbrev pub IsJudged : (NavItem → Type 0) → Finding → Verdict → Type 0
+IsJudged repeats Differs verdict = verdict ≡ Contradicted
+IsJudged repeats Misses verdict = verdict ≡ Partial
+IsJudged repeats LacksHealth verdict = verdict ≡ NoHealth
+IsJudged repeats (Complete item) verdict = (repeats item × (verdict ≡ Again)) ⊎ ((repeats item → ⊥) × (verdict ≡ Whole item))
 
 -- the verdict on a period
 pub record IsVerdict (r window : ℕ) (parts : Part → Type 0) (place : Place) (verdict : Verdict) : Type 0 where
   pub finding : Finding
   pub found : IsFound r window parts place finding
-  pub judged : IsJudged finding verdict
+  pub judged : IsJudged (Repeats r window parts place) finding verdict
 
 -- the end and the key of a period
 abbrev pub place_of : Closed → Place

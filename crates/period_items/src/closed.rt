@@ -17,7 +17,7 @@ pub enum Finding {
 /// What is said of a period.
 #[derive(Clone, Copy, PartialEq, Eq, Debug)]
 pub enum Verdict {
-    /// All of its parts were heard and agree; this is its item.
+    /// All of its parts were heard and agree, and they bring something new; this is its item.
     Whole(NavItem),
     /// A kind of part was not heard.
     Partial,
@@ -25,6 +25,9 @@ pub enum Verdict {
     Contradicted,
     /// No health of the Galileo satellite was heard within the window of the end.
     NoHealth,
+    /// All of its parts were heard and agree, and in all but the second of sending they say again what the last
+    /// complete period of the same ephemeris said.
+    Again,
 }
 
 /// A period to which no further part can belong.

@@ -24,7 +24,7 @@ pub fn is_quiet(parts: &[Part], window: u32, key: &Key, end: u32) -> bool
 }
 
 // No stamp was found yet, or this one is later.
-fn is_later(best: Option<u32>, stamp: u32) -> bool
+pub(crate) fn is_later(best: Option<u32>, stamp: u32) -> bool
     ensures { result ≡ is_better (λ a b. nat_lt b a) best stamp }
 {
     match best {

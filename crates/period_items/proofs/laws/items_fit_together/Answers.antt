@@ -2,7 +2,7 @@ use Rattle.std.proofs.Common.{Contains}
 use Rattle.std.proofs.lemmas.List.Elements.{All-contains}
 use Rattle.nav_eph.specs.Conditions.{IsPart}
 use Rattle.period_items.proofs.ExistLemmas.{all_values}
-use Rattle.period_items.proofs.PeriodLemmas.{item_fits_period}
+use Rattle.period_items.proofs.VerdictLemmas.{item_fits_period}
 use Rattle.period_items.proofs.laws.items_fit_together.Goals as goal
 
 pub returns : goal.returns
