@@ -1,5 +1,5 @@
 -- What the 128 bits of an I/NAV word stand for, and the first of its faults.
-use Rattle.std.specs.Prelude.{ℕ, ◌||◌, Bool, List, nat_eq, nat_le, nat_lt, if◌then◌else◌, None, Some, Result, Ok, Err, IfSome}
+use Rattle.std.specs.Prelude.{ℕ, ◌||◌, Bool, List, [], ◌∷◌, Option, nat_eq, nat_le, nat_lt, if◌then◌else◌, None, Some, Result, Ok, Err, IfSome}
 use Rattle.nav_bits.specs.Bits.{number_at}
 use Rattle.nav_eph.specs.Conditions.{IsPart}
 use Rattle.nav_eph.specs.Satellite.{Satellite}
@@ -98,3 +98,11 @@ reading_of bits sat stamp = reading sat stamp (word_in bits)
 pub record ArePartsOf (parts : WordParts) : Type 0 where
   pub first : IsPart parts.first.sat parts.first.body
   pub second : IfSome parts.second (λ part. IsPart part.sat part.body)
+
+-- the parts of a word as one list, in the order of the word
+abbrev pub second_parts : Option Part → List Part
+second_parts None = []
+second_parts (Some part) = part ∷ []
+
+abbrev pub all_parts : WordParts → List Part
+all_parts parts = parts.first ∷ second_parts parts.second

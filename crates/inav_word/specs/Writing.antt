@@ -1,11 +1,13 @@
 -- The fields of the words that are written.
-use Rattle.std.specs.Prelude.{ℕ}
+use Rattle.std.specs.Prelude.{ℕ, List}
+use Rattle.nav_bits.specs.Packed.{packed}
 use Rattle.nav_eph.specs.declared.galileo.GalWord1.{GalWord1}
 use Rattle.nav_eph.specs.declared.galileo.GalWord2.{GalWord2}
 use Rattle.nav_eph.specs.declared.galileo.GalWord3.{GalWord3}
 use Rattle.nav_eph.specs.declared.galileo.GalWord4.{GalWord4}
 use Rattle.nav_eph.specs.declared.galileo.GalHealth.{GalHealth}
 use Rattle.nav_eph.specs.declared.ion.GalIon.{GalIon}
+use Rattle.inav_word.specs.Words.{fields_word1, fields_word2, fields_word3, fields_word4, fields_word5}
 use Rattle.inav_word.specs.declared.word1.Word1.{Word1}
 use Rattle.inav_word.specs.declared.word2.Word2.{Word2}
 use Rattle.inav_word.specs.declared.word3.Word3.{Word3}
@@ -41,3 +43,21 @@ word5_of h i wn second = record {
   wn = wn;
   tow = second;
 }
+
+-- the 128 bits of each word: its table, packed
+unfoldable pub word1_bytes : GalWord1 → List ℕ
+word1_bytes w = packed 16 (fields_word1 (word1_of w))
+
+unfoldable pub word2_bytes : GalWord2 → List ℕ
+word2_bytes w = packed 16 (fields_word2 (word2_of w))
+
+unfoldable pub word3_bytes : GalWord3 → List ℕ
+word3_bytes w = packed 16 (fields_word3 (word3_of w))
+
+-- word 4 of the satellite with that number
+unfoldable pub word4_bytes : GalWord4 → ℕ → List ℕ
+word4_bytes w svid = packed 16 (fields_word4 (word4_of w svid))
+
+-- word 5 sent in that week and second
+unfoldable pub word5_bytes : GalHealth → GalIon → ℕ → ℕ → List ℕ
+word5_bytes h i wn second = packed 16 (fields_word5 (word5_of h i wn second))

@@ -1,6 +1,11 @@
-ghost use Rattle.std.specs.Prelude.{◌≡◌, ℕ, ◌↔◌, List, Ok, Err};
+ghost use Rattle.std.specs.Prelude.{◌≡◌, ℕ, ◌<◌, ◌^◌, ◌↔◌, List, All, Ok, Err};
 ghost use Rattle.gnss_week.specs.Weeks.{IsSecond};
 ghost use Rattle.nav_bits.specs.Fields.{StandFrom};
+ghost use Rattle.nav_bits.specs.Packed.{AreBytes, ZerosFrom};
+ghost use Rattle.nav_eph.specs.Bodies.{IsGalHealth, IsGalIon};
+ghost use Rattle.nav_eph.specs.Conditions.{IsPart};
+ghost use Rattle.nav_eph.specs.Ranges.{IsGalWord1, IsGalWord2, IsGalWord3, IsGalWord4};
+ghost use Rattle.nav_eph.specs.Values.{IsPartValue};
 ghost use Rattle.nav_eph.specs.Satellite.{Satellite};
 ghost use Rattle.nav_eph.specs.Steps.{IsSisa, IsStep60};
 ghost use Rattle.nav_eph.specs.declared.galileo.GalWord1.{GalWord1};
@@ -12,8 +17,11 @@ ghost use Rattle.nav_eph.specs.declared.ion.GalIon.{GalIon};
 ghost use Rattle.nav_eph.specs.declared.part.Body.TheVariants.{GalW1, GalW2, GalW3, GalW4};
 ghost use Rattle.inav_word.specs.declared.fault.WordFault.{WordFault};
 ghost use Rattle.inav_word.specs.Faults.{IsFirstFault};
-ghost use Rattle.inav_word.specs.Reading.{one_part, reading_of, two_parts, word_in};
+ghost use Rattle.inav_word.specs.Reading.{all_parts, one_part, reading_of, two_parts, word_in};
+ghost use Rattle.inav_word.specs.declared.parts.WordParts.{WordParts};
+ghost use Rattle.nav_eph.specs.declared.sat.System.TheVariants.{Gal};
 ghost use Rattle.inav_word.specs.Words.{fields_word1, fields_word2, fields_word3, fields_word4, fields_word5};
+ghost use Rattle.inav_word.specs.Writing.{word1_bytes, word2_bytes, word3_bytes, word4_bytes, word5_bytes};
 ghost use Rattle.inav_word.specs.Writing.{word1_of, word2_of, word3_of, word4_of, word5_of};
 
 /// Bits in which word 1 is written are read as its fields.
@@ -93,4 +101,66 @@ pub fn read_word5_is_written()
 pub fn refused_by_the_first_fault()
     ensures { (bits : List ℕ) (sat : Satellite) (stamp : ℕ) (fault : WordFault) →
         (reading_of bits sat stamp ≡ Err fault) ↔ IsFirstFault sat (word_in bits) fault }
+{}
+
+/// In the bytes of a word its table stands, and what is reserved is 0.
+pub fn word_bytes()
+    ensures word1 { (w : GalWord1) → IsGalWord1 w →
+        StandFrom (word1_bytes w) 0 0 (fields_word1 (word1_of w)) }
+    ensures zeros1 { (w : GalWord1) → IsGalWord1 w →
+        ZerosFrom (word1_bytes w) 0 0 (fields_word1 (word1_of w)) }
+    ensures size1 { (w : GalWord1) → AreBytes 16 (word1_bytes w) }
+    ensures word2 { (w : GalWord2) → IsGalWord2 w →
+        StandFrom (word2_bytes w) 0 0 (fields_word2 (word2_of w)) }
+    ensures zeros2 { (w : GalWord2) → IsGalWord2 w →
+        ZerosFrom (word2_bytes w) 0 0 (fields_word2 (word2_of w)) }
+    ensures size2 { (w : GalWord2) → AreBytes 16 (word2_bytes w) }
+    ensures word3 { (w : GalWord3) → IsGalWord3 w →
+        StandFrom (word3_bytes w) 0 0 (fields_word3 (word3_of w)) }
+    ensures zeros3 { (w : GalWord3) → IsGalWord3 w →
+        ZerosFrom (word3_bytes w) 0 0 (fields_word3 (word3_of w)) }
+    ensures size3 { (w : GalWord3) → AreBytes 16 (word3_bytes w) }
+    ensures word4 { (w : GalWord4) (svid : ℕ) → IsGalWord4 w → svid < 64 →
+        StandFrom (word4_bytes w svid) 0 0 (fields_word4 (word4_of w svid)) }
+    ensures zeros4 { (w : GalWord4) (svid : ℕ) → IsGalWord4 w → svid < 64 →
+        ZerosFrom (word4_bytes w svid) 0 0 (fields_word4 (word4_of w svid)) }
+    ensures size4 { (w : GalWord4) (svid : ℕ) → AreBytes 16 (word4_bytes w svid) }
+    ensures word5 { (h : GalHealth) (i : GalIon) (wn second : ℕ) → IsGalHealth h → IsGalIon i → wn < 4096 → IsSecond second →
+        StandFrom (word5_bytes h i wn second) 0 0 (fields_word5 (word5_of h i wn second)) }
+    ensures zeros5 { (h : GalHealth) (i : GalIon) (wn second : ℕ) → IsGalHealth h → IsGalIon i → wn < 4096 → IsSecond second →
+        ZerosFrom (word5_bytes h i wn second) 0 0 (fields_word5 (word5_of h i wn second)) }
+    ensures size5 { (h : GalHealth) (i : GalIon) (wn second : ℕ) → AreBytes 16 (word5_bytes h i wn second) }
+{}
+
+/// No other 16 bytes hold the table of a word with 0 in what is reserved.
+pub fn words_are_the_functions()
+    ensures word1 { (w : GalWord1) (bits : List ℕ) → IsGalWord1 w → AreBytes 16 bits →
+        StandFrom bits 0 0 (fields_word1 (word1_of w)) →
+        ZerosFrom bits 0 0 (fields_word1 (word1_of w)) → bits ≡ word1_bytes w }
+    ensures word2 { (w : GalWord2) (bits : List ℕ) → IsGalWord2 w → AreBytes 16 bits →
+        StandFrom bits 0 0 (fields_word2 (word2_of w)) →
+        ZerosFrom bits 0 0 (fields_word2 (word2_of w)) → bits ≡ word2_bytes w }
+    ensures word3 { (w : GalWord3) (bits : List ℕ) → IsGalWord3 w → AreBytes 16 bits →
+        StandFrom bits 0 0 (fields_word3 (word3_of w)) →
+        ZerosFrom bits 0 0 (fields_word3 (word3_of w)) → bits ≡ word3_bytes w }
+    ensures word4 { (w : GalWord4) (svid : ℕ) (bits : List ℕ) → IsGalWord4 w → svid < 64 → AreBytes 16 bits →
+        StandFrom bits 0 0 (fields_word4 (word4_of w svid)) →
+        ZerosFrom bits 0 0 (fields_word4 (word4_of w svid)) → bits ≡ word4_bytes w svid }
+    ensures word5 { (h : GalHealth) (i : GalIon) (wn second : ℕ) (bits : List ℕ) → IsGalHealth h → IsGalIon i → wn < 4096 → IsSecond second → AreBytes 16 bits →
+        StandFrom bits 0 0 (fields_word5 (word5_of h i wn second)) →
+        ZerosFrom bits 0 0 (fields_word5 (word5_of h i wn second)) → bits ≡ word5_bytes h i wn second }
+{}
+
+/// The parts that a word brings have the stamp and the satellite with which it was heard, are such as a
+/// satellite of Galileo can send, and have their fields within their digits.
+pub fn word_parts()
+    ensures stamps { (bits : List ℕ) (sat : Satellite) (stamp : ℕ) (parts : WordParts) →
+        reading_of bits sat stamp ≡ Ok parts → All (λ part. part.stamp ≡ stamp) (all_parts parts) }
+    ensures satellites { (bits : List ℕ) (sat : Satellite) (stamp : ℕ) (parts : WordParts) →
+        reading_of bits sat stamp ≡ Ok parts → All (λ part. part.sat ≡ sat) (all_parts parts) }
+    ensures sendable { (bits : List ℕ) (sat : Satellite) (stamp : ℕ) (parts : WordParts) →
+        sat.system ≡ Gal → reading_of bits sat stamp ≡ Ok parts →
+        All (λ part. IsPart part.sat part.body) (all_parts parts) }
+    ensures values { (bits : List ℕ) (sat : Satellite) (stamp : ℕ) (parts : WordParts) →
+        stamp < 2 ^ 32 → reading_of bits sat stamp ≡ Ok parts → All IsPartValue (all_parts parts) }
 {}

@@ -20,6 +20,7 @@
 mod fault;
 mod laws;
 mod parts;
+mod ranges;
 mod read;
 #[cfg(test)]
 mod tests;
@@ -33,8 +34,10 @@ mod write;
 
 pub use crate::fault::WordFault;
 pub use crate::laws::{
-    refused_by_the_first_fault, written_word1_is_read, written_word2_is_read,
-    written_word3_is_read, written_word4_is_read, written_word5_is_read,
+    read_word1_is_written, read_word2_is_written, read_word3_is_written, read_word4_is_written,
+    read_word5_is_written, refused_by_the_first_fault, word_bytes, word_parts,
+    words_are_the_functions, written_word1_is_read, written_word2_is_read, written_word3_is_read,
+    written_word4_is_read, written_word5_is_read,
 };
 pub use crate::parts::WordParts;
 pub use crate::read::read_word;

@@ -1,4 +1,4 @@
-ghost use Rattle.std.specs.Prelude.{◌≡◌, ℕ, Ok};
+ghost use Rattle.std.specs.Prelude.{◌≡◌, ℕ, ◌<◌, Ok};
 ghost use Rattle.gnss_week.specs.Weeks.{IsSecond};
 ghost use Rattle.nav_bits.specs.Bits.{number_at};
 ghost use Rattle.nav_bits.specs.Fields.{StandFrom};
@@ -7,8 +7,12 @@ ghost use Rattle.nav_eph.specs.declared.sat.System.TheVariants.{Gal};
 ghost use Rattle.nav_eph.specs.declared.part.Body.TheVariants.{GalW1, GalW2, GalW3, GalW4};
 ghost use Rattle.inav_word.specs.Reading.{one_part, reading_of, two_parts};
 ghost use Rattle.inav_word.specs.Words.{fields_word1, fields_word2, fields_word3, fields_word4, fields_word5};
+ghost use Rattle.inav_word.specs.Writing.{word1_bytes, word2_bytes, word3_bytes, word4_bytes, word5_bytes};
 ghost use Rattle.inav_word.specs.Writing.{word1_of, word2_of, word3_of, word4_of, word5_of};
 
+use crate::ranges::{
+    health_ranges, ion_ranges, word1_ranges, word2_ranges, word3_ranges, word4_ranges,
+};
 use crate::word1::Word1;
 use crate::word2::Word2;
 use crate::word3::Word3;
@@ -22,6 +26,7 @@ use nav_eph::{GalHealth, GalIon, GalWord1, GalWord2, GalWord3, GalWord4, Sat};
 pub fn write_word1(w: &GalWord1) -> Bits<16>
     ensures fields { StandFrom result 0 0 (fields_word1 (word1_of w.now)) }
     ensures reserved_bits { number_at result 126 2 ≡ 0 }
+    ensures bytes { result ≡ word1_bytes w.now }
     ensures again { (sat : Satellite) (stamp : ℕ) →
         reading_of result sat stamp ≡ Ok (one_part sat stamp (GalW1 w.now)) }
 {
@@ -34,6 +39,8 @@ pub fn write_word1(w: &GalWord1) -> Bits<16>
     };
     let mut bits = Bits::<16>::zero();
     word.pack(&mut bits, 0);
+    word1_ranges(*w);
+    bits.are_bytes();
     bits
 }
 
@@ -41,6 +48,7 @@ pub fn write_word1(w: &GalWord1) -> Bits<16>
 pub fn write_word2(w: &GalWord2) -> Bits<16>
     ensures fields { StandFrom result 0 0 (fields_word2 (word2_of w.now)) }
     ensures reserved_bits { number_at result 126 2 ≡ 0 }
+    ensures bytes { result ≡ word2_bytes w.now }
     ensures again { (sat : Satellite) (stamp : ℕ) →
         reading_of result sat stamp ≡ Ok (one_part sat stamp (GalW2 w.now)) }
 {
@@ -53,12 +61,15 @@ pub fn write_word2(w: &GalWord2) -> Bits<16>
     };
     let mut bits = Bits::<16>::zero();
     word.pack(&mut bits, 0);
+    word2_ranges(*w);
+    bits.are_bytes();
     bits
 }
 
 /// The 128 bits of I/NAV word 3 (Galileo OS SIS ICD, 4.3.5).
 pub fn write_word3(w: &GalWord3) -> Bits<16>
     ensures fields { StandFrom result 0 0 (fields_word3 (word3_of w.now)) }
+    ensures bytes { result ≡ word3_bytes w.now }
     ensures again { (sat : Satellite) (stamp : ℕ) →
         reading_of result sat stamp ≡ Ok (one_part sat stamp (GalW3 w.now)) }
 {
@@ -74,6 +85,8 @@ pub fn write_word3(w: &GalWord3) -> Bits<16>
     };
     let mut bits = Bits::<16>::zero();
     word.pack(&mut bits, 0);
+    word3_ranges(*w);
+    bits.are_bytes();
     bits
 }
 
@@ -83,6 +96,7 @@ pub fn write_word4(w: &GalWord4, sat: Sat) -> Bits<16>
     requires { sat.system ≡ Gal }
     ensures fields { StandFrom result 0 0 (fields_word4 (word4_of w.now sat.number)) }
     ensures reserved_bits { number_at result 126 2 ≡ 0 }
+    ensures bytes { result ≡ word4_bytes w.now sat.number }
     ensures again { (stamp : ℕ) →
         reading_of result sat stamp ≡ Ok (one_part sat stamp (GalW4 w.now)) }
 {
@@ -98,6 +112,8 @@ pub fn write_word4(w: &GalWord4, sat: Sat) -> Bits<16>
     };
     let mut bits = Bits::<16>::zero();
     word.pack(&mut bits, 0);
+    word4_ranges(*w);
+    bits.are_bytes();
     bits
 }
 
@@ -105,6 +121,7 @@ pub fn write_word4(w: &GalWord4, sat: Sat) -> Bits<16>
 fn word5(health: &GalHealth, ion: &GalIon, wn: U<12>, second: Second) -> Word5
     ensures fields { result ≡ word5_of health.now ion.now wn second }
     ensures time { IsSecond second }
+    ensures week { wn < 4096 }
 {
     Word5 {
         ai0: ion.ai0,
@@ -127,11 +144,15 @@ fn word5(health: &GalHealth, ion: &GalIon, wn: U<12>, second: Second) -> Word5
 pub fn write_word5(health: &GalHealth, ion: &GalIon, wn: U<12>, second: Second) -> Bits<16>
     ensures fields { StandFrom result 0 0 (fields_word5 (word5_of health.now ion.now wn second)) }
     ensures reserved_bits { number_at result 105 23 ≡ 0 }
+    ensures bytes { result ≡ word5_bytes health.now ion.now wn second }
     ensures again { (sat : Satellite) (stamp : ℕ) →
         reading_of result sat stamp ≡ Ok (two_parts sat stamp health.now ion.now wn second) }
 {
     let word = word5(health, ion, wn, second);
     let mut bits = Bits::<16>::zero();
     word.pack(&mut bits, 0);
+    health_ranges(*health);
+    ion_ranges(*ion);
+    bits.are_bytes();
     bits
 }

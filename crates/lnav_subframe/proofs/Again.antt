@@ -14,10 +14,10 @@ use Rattle.lnav_subframe.specs.declared.orbit.Subframe3.{Subframe3}
 use Rattle.lnav_subframe.specs.declared.page18.Page18.{Page18}
 use Rattle.lnav_subframe.specs.declared.out.SubframeOut.{SubframeOut}
 use Rattle.lnav_subframe.specs.declared.out.SubframeOut.TheVariants.{Clock, OrbitA, OrbitB, Ion, Other}
-use Rattle.lnav_subframe.specs.Reading.{IsFirstFault, StandsFor, content, read_1, read_2, read_3, read_18, read_by}
+use Rattle.lnav_subframe.specs.Reading.{IsFirstFault, StandsFor, content, heard, read_1, read_2, read_3, read_18, read_by}
 use Rattle.lnav_subframe.specs.Words.{AreGood, AreSource, HasPreamble, IsFirstBad, IsSubframe, last_before, upright, word_of}
 use Rattle.lnav_subframe.specs.Subframes.{head_at, subframe1_at, subframe2_at, subframe3_at, page18_at}
-use Rattle.lnav_subframe.specs.Writing.{AllReadAs, AreWords, Holds, IsWritten, heard, IsWritable, HasTime, read_again, subframe1_of, subframe2_of, subframe3_of, page18_of}
+use Rattle.lnav_subframe.specs.Writing.{AllReadAs, AreWords, Holds, IsWritten, IsWritable, HasTime, read_again, subframe1_of, subframe2_of, subframe3_of, page18_of}
 use Rattle.lnav_subframe.proofs.Agree.{Agree, agree, good_word, two_agree, number_22, number_24, preamble_sent}
 
 -- the fields of data bits that agree are the same
@@ -147,7 +147,7 @@ content_same a b same =
     ∙ ap (λ p. read_by (head_at a 0) (subframe1_at a 0) (subframe2_at a 0) (subframe3_at a 0) p) (page18_same a b same)
 
 -- where the bits are a subframe, an answer is that of its data bits
-by_source : (bits a : List ℕ) (sat : Satellite) (stamp : ℕ) (r : Result Part LnavFault) → IsSubframe bits a
+pub by_source : (bits a : List ℕ) (sat : Satellite) (stamp : ℕ) (r : Result Part LnavFault) → IsSubframe bits a
     → IfOk r (StandsFor bits sat stamp) → IfErr r (IsFirstFault bits) → r ≡ heard sat stamp (content a)
 by_source bits a sat stamp r is p q =
     read_as bits (content a) sat stamp r is.preamble is.good
@@ -163,7 +163,7 @@ good_before : (bits : List ℕ) (w : ℕ) → AreGood bits 10 → IsFirstBad bit
 good_before bits w good first = first.bad (good (w - 1) (omega (arith, first.low, first.high)))
 
 -- the answers to bits that do not begin as a subframe, and to bits with a bad word
-at_preamble : (bits : List ℕ) (sat : Satellite) (stamp : ℕ) (r : Result Part LnavFault) → (HasPreamble bits → ⊥)
+pub at_preamble : (bits : List ℕ) (sat : Satellite) (stamp : ℕ) (r : Result Part LnavFault) → (HasPreamble bits → ⊥)
     → IfOk r (StandsFor bits sat stamp) → IfErr r (IsFirstFault bits) → r ≡ Err Preamble
 at_preamble bits sat stamp (Ok part) none p q = absurd (none p.2.1.preamble)
 at_preamble bits sat stamp (Err Preamble) none p q = refl
@@ -172,7 +172,7 @@ at_preamble bits sat stamp (Err BadTow) none p q = absurd (none q.1.preamble)
 at_preamble bits sat stamp (Err (Unused number page)) none p q = absurd (none q.1.preamble)
 at_preamble bits sat stamp (Err BadTime) none p q = absurd (none q.1.preamble)
 
-at_word : (bits : List ℕ) (sat : Satellite) (stamp word : ℕ) (r : Result Part LnavFault) → HasPreamble bits → IsFirstBad (upright bits) word
+pub at_word : (bits : List ℕ) (sat : Satellite) (stamp word : ℕ) (r : Result Part LnavFault) → HasPreamble bits → IsFirstBad (upright bits) word
     → IfOk r (StandsFor bits sat stamp) → IfErr r (IsFirstFault bits) → r ≡ Err (Parity word)
 at_word bits sat stamp word (Ok part) begins bad p q = absurd (good_before (upright bits) word p.2.1.good bad)
 at_word bits sat stamp word (Err Preamble) begins bad p q = absurd (q begins)

@@ -1,12 +1,11 @@
 -- Two readings of the same words have the same data bits, but for the two last ones of words 2 and 10.
 use Rattle.std.proofs.Common.{◌≡◌, ℕ, zero, suc, ◌+◌, ◌-◌, ◌*◌, ◌/◌, ◌%◌, ◌^◌, ◌<◌, List, Bool, true, false, nat_eq, nat_le, nat_lt, refl, sym, ap, ◌∙◌, arith, below_more}
 use Rattle.std.proofs.lemmas.Bool.{leb-true, ltb-true, eqb-true, eqb-false}
-use Rattle.std.proofs.lemmas.Nat.Bits.{bit_at-lt, same_from_bits_below}
-use Rattle.std.specs.Int.{bit_at}
+use Rattle.std.proofs.lemmas.Nat.Bits.{bit_at-lt}
 use Rattle.nav_bits.specs.Bits.{bit, number_at, SameInside}
 use Rattle.nav_bits.specs.Laws.{bit-lt, number_at-append, number_at-lt, number_at-same}
 use Rattle.lnav_parity.specs.Parity.{IsGood, IsSource, IsSolved}
-use Rattle.lnav_parity.proofs.Words.{checked_source}
+use Rattle.lnav_parity.proofs.Surface.{checked_source, one_source}
 use Rattle.lnav_subframe.specs.Words.{AreSource, IsWord, last_before, word_of}
 use Rattle.lnav_subframe.specs.Writing.{AreWords}
 
@@ -25,14 +24,6 @@ inside a b at n e = record {
       let d : bit a (at + (i - at)) ≡ bit b (at + (i - at)) = digits_same a b at n e (i - at) (omega arith) in
       ap (bit a) (sym s) ∙ d ∙ ap (bit b) s;
 }
-
--- there are no two numbers of the source bits of one word
-one_source : (word last a b : ℕ) → IsSource word last a → IsSource word last b → a ≡ b
-one_source word last a b p q =
-    same_from_bits_below 24 a b p.fits q.fits
-    (λ i h. let e : 24 - (24 - i) ≡ i = omega arith in
-    let same : bit_at a (24 - (24 - i)) ≡ bit_at b (24 - (24 - i)) = p.each (24 - i) (omega arith) (omega arith) ∙ sym (q.each (24 - i) (omega arith) (omega arith)) in
-    ap (bit_at a) (sym e) ∙ same ∙ ap (bit_at b) e)
 
 -- the data bits of each word agree, the last two of words 2 and 10 aside
 pub record Agree (a b : List ℕ) : Type 0 where

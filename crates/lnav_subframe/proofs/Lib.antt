@@ -2,3 +2,5 @@ pub mod Places
 pub mod Faults
 pub mod Agree
 pub mod Again
+pub mod Functions
+pub mod Values

@@ -1,5 +1,5 @@
 -- What the bits of a subframe stand for, and the first of its faults.
-use Rattle.std.specs.Prelude.{◌≡◌, ℕ, ◌-◌, ◌*◌, ◌&&◌, List, nat_eq, nat_le, nat_lt, if◌then◌else◌, Result, Ok, Err}
+use Rattle.std.specs.Prelude.{◌≡◌, ℕ, ◌-◌, ◌*◌, ◌&&◌, List, nat_eq, nat_le, nat_lt, if◌then◌else◌, Option, None, Some, Result, Ok, Err}
 use Rattle.nav_eph.specs.Satellite.{Satellite}
 use Rattle.nav_eph.specs.declared.gps.GpsClock.{GpsClock}
 use Rattle.nav_eph.specs.declared.gps.GpsSide.{GpsSide}
@@ -19,6 +19,7 @@ use Rattle.lnav_subframe.specs.declared.orbit.Subframe3.{Subframe3}
 use Rattle.lnav_subframe.specs.declared.page18.Page18.{Page18}
 use Rattle.lnav_subframe.specs.Subframes.{head_at, subframe1_at, subframe2_at, subframe3_at, page18_at}
 use Rattle.lnav_subframe.specs.Words.{HasPreamble, IsFirstBad, IsSubframe, upright}
+use Rattle.lnav_subframe.specs.Words.{bad_word_from, data_bits_of, has_preamble}
 
 -- the second of the week at which a subframe starts, by its count, which names the start of the next
 -- one (IS-GPS-200, 20.3.3.2)
@@ -85,3 +86,21 @@ abbrev pub IsFirstFault : List ℕ → LnavFault → Type 0
 IsFirstFault bits Preamble = HasPreamble bits → ⊥
 IsFirstFault bits (Parity word) = HasPreamble bits × IsFirstBad (upright bits) word
 IsFirstFault bits fault = (source : List ℕ) × IsSubframe bits source × (content source ≡ Err fault)
+
+-- ---- the same as a function
+
+-- the answer of a reader to whom a subframe stands for that
+abbrev pub heard : Satellite → ℕ → Result Body LnavFault → Result Part LnavFault
+heard sat stamp (Ok body) = Ok (record { stamp = stamp; sat = sat; body = body })
+heard sat stamp (Err fault) = Err fault
+
+-- the answer to an upright subframe, by the first of its words that is not good
+abbrev pub by_words : List ℕ → Satellite → ℕ → Option ℕ → Result Part LnavFault
+by_words bits sat stamp None = heard sat stamp (content (data_bits_of bits))
+by_words bits sat stamp (Some word) = Err (Parity word)
+
+-- the part that the bits stand for, or their first fault
+unfoldable pub subframe_of : List ℕ → Satellite → ℕ → Result Part LnavFault
+subframe_of bits sat stamp =
+    if has_preamble bits then by_words (upright bits) sat stamp (bad_word_from (upright bits) 0 10)
+    else Err Preamble

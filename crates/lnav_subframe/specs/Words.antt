@@ -1,7 +1,11 @@
 -- The ten words of a subframe in its 300 bits, as they are sent and as they are read (IS-GPS-200,
 -- 20.3.2 and 20.3.5). Word 1 is at index 0.
-use Rattle.std.specs.Prelude.{◌≡◌, ℕ, zero, suc, ◌-◌, ◌*◌, ◌/◌, ◌%◌, ◌<◌, ◌≤◌, ◌⊎◌, List, map, nat_eq, if◌then◌else◌}
+use Rattle.std.specs.Prelude.{◌≡◌, ℕ, zero, suc, ◌-◌, ◌*◌, ◌/◌, ◌%◌, ◌<◌, ◌≤◌, ◌⊎◌, List, [], ◌∷◌, map}
+use Rattle.std.specs.Prelude.{Bool, ◌||◌, nat_eq, if◌then◌else◌, Option, None, Some}
 use Rattle.nav_bits.specs.Bits.{number_at}
+use Rattle.nav_bits.specs.Fields.{Field, unsigned, reserved}
+use Rattle.nav_bits.specs.Packed.{packed}
+use Rattle.lnav_parity.specs.Functions.{is_good, source_of}
 use Rattle.lnav_parity.specs.Parity.{IsGood, IsSource, IsSolved}
 
 -- the word of 30 bits at an index
@@ -53,3 +57,27 @@ pub record IsWord (k word last bits : ℕ) : Type 0 where
   pub tenth : k ≡ 9 → IsSolved word last (bits / 4)
   pub good : (k ≡ 1 → ⊥) → (k ≡ 9 → ⊥) → IsGood word last
   pub source : (k ≡ 1 → ⊥) → (k ≡ 9 → ⊥) → IsSource word last bits
+
+-- ---- the same as functions
+
+-- the subframe begins with the preamble or with its complement
+unfoldable pub has_preamble : List ℕ → Bool
+has_preamble bits = nat_eq (number_at bits 0 8) 139 || nat_eq (number_at bits 0 8) 116
+
+-- the first word that is not good of the n words from the index k on, counted from 1
+unfoldable pub bad_word_from : List ℕ → ℕ → ℕ → Option ℕ
+bad_word_from bits k zero = None
+bad_word_from bits k (suc n) =
+    if is_good (word_of bits k) (last_before bits k) then bad_word_from bits (suc k) n
+    else Some (suc k)
+
+-- the source bits of the n words from the index k on, each word's in front of 6 places that are 0, and 4
+-- more such places behind the last
+unfoldable pub data_fields : List ℕ → ℕ → ℕ → List Field
+data_fields bits k zero = reserved 4 ∷ []
+data_fields bits k (suc n) =
+    unsigned 24 (source_of (word_of bits k) (last_before bits k)) ∷ reserved 6 ∷ data_fields bits (suc k) n
+
+-- the data bits of the subframe that was sent in these bits, each at its place
+unfoldable pub data_bits_of : List ℕ → List ℕ
+data_bits_of bits = packed 38 (data_fields bits 0 10)

@@ -21,7 +21,7 @@ use Rattle.lnav_subframe.specs.declared.page18.Page18.{Page18}
 use Rattle.lnav_subframe.specs.declared.out.SubframeOut.{SubframeOut}
 use Rattle.lnav_subframe.specs.declared.out.SubframeOut.TheVariants.{Clock, OrbitA, OrbitB, Ion, Other}
 use Rattle.lnav_subframe.specs.Subframes.{head_at, head_rest, subframe1_at, subframe1_rest, subframe2_at, subframe2_rest, subframe3_at, subframe3_rest, page18_at, page18_rest}
-use Rattle.lnav_subframe.specs.Reading.{IsFirstFault, StandsFor, start_second}
+use Rattle.lnav_subframe.specs.Reading.{IsFirstFault, StandsFor, heard, start_second}
 use Rattle.lnav_subframe.specs.Words.{IsWord, last_before, word_of}
 
 -- the subframe is one that is written: another page is one of subframe 4 or 5, and not page 18
@@ -118,11 +118,6 @@ read_again (OrbitA orbit fit) count = Ok (OrbitABody orbit fit)
 read_again (OrbitB orbit) count = Ok (OrbitBBody orbit)
 read_again (Ion ion) count = Ok (IonBody ion (start_second count))
 read_again (Other number page) count = Err (Unused number page)
-
--- the answer of a reader to whom a subframe stands for that
-abbrev pub heard : Satellite → ℕ → Result Body LnavFault → Result Part LnavFault
-heard sat stamp (Ok body) = Ok (record { stamp = stamp; sat = sat; body = body })
-heard sat stamp (Err fault) = Err fault
 
 -- each answer that a reader may give to the bits, of whichever satellite and at whichever second, is that
 abbrev pub AllReadAs : List ℕ → Result Body LnavFault → Type 0

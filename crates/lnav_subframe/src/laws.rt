@@ -1,9 +1,12 @@
-ghost use Rattle.std.specs.Prelude.{◌≡◌, ℕ, ◌<◌, List, IfErr, IfOk, Result};
+ghost use Rattle.std.specs.Prelude.{◌≡◌, ℕ, ◌<◌, ◌^◌, List, IfErr, IfOk, Ok, Result};
+ghost use Rattle.nav_eph.specs.Conditions.{IsPart};
+ghost use Rattle.nav_eph.specs.Values.{IsPartValue};
+ghost use Rattle.nav_eph.specs.declared.sat.System.TheVariants.{Gps};
 ghost use Rattle.nav_eph.specs.Satellite.{Satellite};
 ghost use Rattle.nav_eph.specs.declared.part.Part.{Part};
 ghost use Rattle.lnav_subframe.specs.declared.fault.LnavFault.{LnavFault};
 ghost use Rattle.lnav_subframe.specs.declared.out.SubframeOut.{SubframeOut};
-ghost use Rattle.lnav_subframe.specs.Reading.{IsFirstFault, StandsFor};
+ghost use Rattle.lnav_subframe.specs.Reading.{IsFirstFault, StandsFor, subframe_of};
 ghost use Rattle.lnav_subframe.specs.Writing.{AllReadAs, HasTime, IsWritable, IsWritten, read_again};
 
 /// What was written is read as the same fields, with the second at which the subframe starts; a page that
@@ -18,4 +21,28 @@ pub fn one_answer()
     ensures { (bits : List ℕ) (sat : Satellite) (stamp : ℕ) (r s : Result Part LnavFault) →
         IfOk r (StandsFor bits sat stamp) → IfErr r (IsFirstFault bits) →
         IfOk s (StandsFor bits sat stamp) → IfErr s (IsFirstFault bits) → r ≡ s }
+{}
+
+/// The answer to the bits is `subframe_of`: a part that they stand for, or their first fault.
+pub fn subframe_function()
+    ensures part { (bits : List ℕ) (sat : Satellite) (stamp : ℕ) →
+        IfOk (subframe_of bits sat stamp) (StandsFor bits sat stamp) }
+    ensures fault { (bits : List ℕ) (sat : Satellite) (stamp : ℕ) →
+        IfErr (subframe_of bits sat stamp) (IsFirstFault bits) }
+    ensures only { (bits : List ℕ) (sat : Satellite) (stamp : ℕ) (r : Result Part LnavFault) →
+        IfOk r (StandsFor bits sat stamp) → IfErr r (IsFirstFault bits) →
+        r ≡ subframe_of bits sat stamp }
+{}
+
+/// A part that is read has the stamp and the satellite with which it was heard, is one that a satellite of
+/// GPS can send, and has its fields within their digits.
+pub fn subframe_parts()
+    ensures stamp { (bits : List ℕ) (sat : Satellite) (stamp : ℕ) (part : Part) →
+        subframe_of bits sat stamp ≡ Ok part → part.stamp ≡ stamp }
+    ensures satellite { (bits : List ℕ) (sat : Satellite) (stamp : ℕ) (part : Part) →
+        subframe_of bits sat stamp ≡ Ok part → part.sat ≡ sat }
+    ensures sendable { (bits : List ℕ) (sat : Satellite) (stamp : ℕ) (part : Part) →
+        sat.system ≡ Gps → subframe_of bits sat stamp ≡ Ok part → IsPart part.sat part.body }
+    ensures value { (bits : List ℕ) (sat : Satellite) (stamp : ℕ) (part : Part) →
+        stamp < 2 ^ 32 → subframe_of bits sat stamp ≡ Ok part → IsPartValue part }
 {}

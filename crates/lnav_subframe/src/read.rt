@@ -1,7 +1,7 @@
 ghost use Rattle.std.specs.Prelude.{◌≡◌, IfErr, IfOk};
 ghost use Rattle.nav_eph.specs.Conditions.{IsPart};
 ghost use Rattle.nav_eph.specs.declared.sat.System.TheVariants.{Gps};
-ghost use Rattle.lnav_subframe.specs.Reading.{IsFirstFault, StandsFor};
+ghost use Rattle.lnav_subframe.specs.Reading.{IsFirstFault, StandsFor, subframe_of};
 ghost use Rattle.lnav_subframe.specs.Words.{HasPreamble, upright};
 
 use crate::content::content_of;
@@ -40,6 +40,7 @@ pub fn read_subframe(bits: &Bits<38>, sat: Sat, stamp: u32) -> Result<Part, Lnav
     ensures part { IfOk result (StandsFor bits.now sat stamp) }
     ensures whole { IfOk result (λ part. IsPart part.sat part.body) }
     ensures fault { IfErr result (IsFirstFault bits.now) }
+    ensures answer { result ≡ subframe_of bits.now sat stamp }
 {
     let upright = righted(bits)?;
     let source = match source_of(&upright) {

@@ -1,5 +1,6 @@
-ghost use Rattle.std.specs.Prelude.{◌≡◌, ℕ, ◌+◌, ◌*◌, ◌^◌, ◌<◌, ◌≤◌, List, replicate};
+ghost use Rattle.std.specs.Prelude.{◌≡◌, ℕ, ◌+◌, ◌*◌, ◌^◌, ◌<◌, ◌≤◌, List, replicate, slice_index};
 ghost use Rattle.nav_bits.specs.Bits.{number_at, signed_at, Puts};
+ghost use Rattle.nav_bits.specs.Packed.{AreBytes};
 
 use crate::places::{number_of, put_number};
 use crate::signed::sign_extended;
@@ -19,7 +20,21 @@ impl<const N: usize> Model for Bits<N> {
     ghost inverse = { λ bytes. record { bytes = bytes } };
 }
 
+// Contracts see bytes as numbers: each is below 256.
+fn fit(bytes: &[u8])
+    ensures { (i : ℕ) → slice_index bytes.now i < 256 }
+{
+    let _length = bytes.len();
+}
+
 impl<const N: usize> Bits<N> {
+    /// They are `N` bytes: a fact of all bits, which this says and for which it does nothing.
+    pub fn are_bytes(&self)
+        ensures { AreBytes N self.now }
+    {
+        fit(&self.bytes);
+    }
+
     /// Bits that are all 0.
     pub fn zero() -> Self
         ensures { result ≡ replicate N 0 }
