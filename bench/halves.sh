@@ -1,6 +1,7 @@
 #!/usr/bin/env bash
-# Halves of I/NAV pages a second that inav_page takes: thirty satellites on two signals, a half of each every second, in
-# a window of 7,200 s.
+# Halves of I/NAV pages a second that inav_page takes. First thirty satellites on two signals, a half of each every
+# second, in a window of 7,200 s; then 100,000 halves of one satellite on one signal in two seconds, 50,000 even ones and
+# 50,000 odd ones of other words.
 #
 #   bench/halves.sh [SECONDS]      7,200 where none is said
 #
@@ -16,6 +17,7 @@ trap 'rm -rf "$folder"' EXIT
 (cd "$folder" && git init -q . && mkdir crates)
 grep -E '^(nav_bits|crc24q|gnss_week|nav_eph|inav_page):' crates.txt > "$folder/crates.txt"
 echo 'halves: nav_bits nav_eph inav_page' >> "$folder/crates.txt"
+echo 'crowded: nav_bits nav_eph inav_page' >> "$folder/crates.txt"
 for name in nav_bits crc24q gnss_week nav_eph inav_page; do
   cp -r "crates/$name" "$folder/crates/"
   rm -rf "$folder/crates/$name/out"
@@ -68,10 +70,54 @@ fn main(rt: HostRuntime) -> Result<ExitCode, AllocError> {
 }
 PROGRAM
 sed -i "s/0\.\.SECONDS/0..${seconds}u32/; s/SECONDS/$seconds/g" "$folder/crates/halves/src/main.rt"
-(cd "$folder/crates/halves" && rt fmt >/dev/null 2>&1; rt run >"$folder/log" 2>&1) || { tail -20 "$folder/log"; exit 1; }
-for round in 1 2 3; do
-  begin=$(date +%s%N)
-  "$folder/crates/halves/out/halves"
-  end=$(date +%s%N)
-  echo "$((seconds * 60)) halves in $(((end - begin) / 1000000)) ms: $((seconds * 60 * 1000 / ((end - begin) / 1000000 + 1))) halves/s"
+mkdir -p "$folder/crates/crowded/src"
+cat > "$folder/crates/crowded/src/main.rt" <<'PROGRAM'
+#![tactic(auto)]
+
+ghost use Rattle.std.specs.Prelude.{◌≡◌};
+ghost use Rattle.nav_eph.specs.declared.sat.System.TheVariants.{Gal};
+
+use inav_page::{Halves, Signal, split};
+use nav_bits::Bits;
+use nav_eph::{Sat, System};
+use std::alloc::AllocError;
+use std::process::ExitCode;
+
+// Takes the even half of one word and the odd half of another, a second later, and counts the words.
+fn pair(halves: &mut Halves, sat: Sat, i: u64) -> Result<u64, AllocError>
+    requires { sat.system ≡ Gal }
+{
+    let mut first = Bits::<16>::zero();
+    first.put(0, 32, i);
+    let mut second = Bits::<16>::zero();
+    second.put(32, 32, i);
+    let even = halves.take(0, sat, Signal::E1b, &split(&first).0)?;
+    let odd = halves.take(1, sat, Signal::E1b, &split(&second).1)?;
+    Ok((even.len() as u64).wrapping_add(odd.len() as u64))
+}
+
+fn main(rt: HostRuntime) -> Result<ExitCode, AllocError> {
+    let mut halves = Halves::new(rt.alloc(), 7200);
+    let mut words: u64 = 0;
+    if let Some(sat) = Sat::new(System::Gal, 11) {
+        for i in 0..50_000u64 {
+            words = words.wrapping_add(pair(&mut halves, sat, i)?);
+        }
+    }
+    Ok(ExitCode::from(if words < 1_000_000 { 0 } else { 1 }))
+}
+PROGRAM
+for name in halves crowded; do
+  (cd "$folder/crates/$name" && rt fmt >/dev/null 2>&1; rt run >"$folder/log" 2>&1) || { tail -20 "$folder/log"; exit 1; }
 done
+# Runs a program three times over: its name, and how many halves it takes.
+timed() {
+  for round in 1 2 3; do
+    begin=$(date +%s%N)
+    "$folder/crates/$1/out/$1"
+    end=$(date +%s%N)
+    echo "$1: $2 halves in $(((end - begin) / 1000000)) ms: $(($2 * 1000 / ((end - begin) / 1000000 + 1))) halves/s"
+  done
+}
+timed halves $((seconds * 60))
+timed crowded 100000

@@ -172,18 +172,18 @@ fn frame(stamp: u32, digits: &[u8]) -> LineItem
     }
     LineItem::Frame {
         stamp,
-        bytes: kept(&room[..count]),
+        bytes: copied(&room[..count]),
     }
 }
 
 // These bytes.
-fn kept(bytes: &[u8]) -> ArrayVec<u8, LONGEST_FRAME>
+fn copied(bytes: &[u8]) -> ArrayVec<u8, LONGEST_FRAME>
     requires { length bytes.now ≤ 1029 }
     ensures { result.items ≡ bytes.now }
 {
-    let mut kept = ArrayVec::new();
-    if kept.try_extend_from_slice(bytes).is_err() {
+    let mut copy = ArrayVec::new();
+    if copy.try_extend_from_slice(bytes).is_err() {
         unreachable!();
     }
-    kept
+    copy
 }

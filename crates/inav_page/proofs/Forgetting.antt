@@ -1,6 +1,7 @@
 -- Forgetting from the front what stands before a place.
 use Rattle.std.proofs.Common.{◌≡◌, ℕ, ◌<◌, ◌≤◌, List, ◌∷◌, length, ◌↔◌, inr, ap, subst, ⊎_elim, arith}
-use Rattle.inav_page.specs.Heard.{IsIn}
+use Rattle.std.specs.Prelude.{Contains}
+use Rattle.inav_page.proofs.Membership.{IsIn, in_contains, contains_in}
 
 -- so far nothing from the place on was forgotten, and nothing came to it
 pub record Forgets (first now : List (ℕ × ℕ)) (from : ℕ) : Type 0 where
@@ -26,6 +27,9 @@ forgets_more first now new from one so cut early =
     }
 
 -- where each that is left is late enough, those that are left are the late ones
-pub forgets_all : (first now : List (ℕ × ℕ)) (from : ℕ) → Forgets first now from → ((key : ℕ × ℕ) → IsIn now key → from ≤ key.0)
-    → (key : ℕ × ℕ) → IsIn now key ↔ (IsIn first key × (from ≤ key.0))
-forgets_all first now from so late key = (λ h. (so.was key h, late key h), λ h. so.stays key h.0 h.1)
+pub forgets_all : (first now : List (ℕ × ℕ)) (from : ℕ) → Forgets first now from → ((key : ℕ × ℕ) → Contains now key → from ≤ key.0)
+    → (key : ℕ × ℕ) → Contains now key ↔ (Contains first key × (from ≤ key.0))
+forgets_all first now from so late key = (
+  λ h. (in_contains first key (so.was key (contains_in now key h)), late key h),
+  λ h. in_contains now key (so.stays key (contains_in first key h.0) h.1),
+)

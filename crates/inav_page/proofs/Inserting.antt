@@ -1,23 +1,22 @@
 -- What stands in a set of keys once a key was put in.
-use Rattle.std.proofs.Common.{◌≡◌, ℕ, ◌⊎◌, ◌↔◌, true, false, cond, inl, inr, sym, ap, ◌∙◌, ⊎_elim}
+use Rattle.std.proofs.Common.{◌≡◌, ℕ, ◌⊎◌, ◌↔◌, true, false, cond, inl, inr, sym, ap, subst, ◌∙◌, ⊎_elim}
 use Rattle.std.proofs.lemmas.Bool.{cases_Bool, cond-true, cond-false, true≢false}
 use Rattle.std.proofs.lemmas.Map.Views.{btree_set_contains_iff}
+use Rattle.std.specs.Prelude.{Contains}
 use Rattle.std.specs.BTreeSet.{BTreeSet, contains, Updates}
 use Rattle.std.specs.Cmp.{Equal-is}
 use Rattle.std.specs.Ordering.{is_eq}
-use Rattle.inav_page.specs.Heard.{IsIn}
 use Rattle.inav_page.specs.Mirrors.{key_cmp}
 use Rattle.inav_page.proofs.KeyOrder.{key_cmp_total, key_cmp_exact, key_cmp_same}
-use Rattle.inav_page.proofs.Membership.{in_contains, contains_in}
 
-in_set : (s : BTreeSet (ℕ × ℕ)) (q : ℕ × ℕ) → IsIn s.keys q → contains key_cmp s q ≡ true
-in_set s q h = (btree_set_contains_iff key_cmp_total key_cmp_exact s q).1 (in_contains s.keys q h)
+in_set : (s : BTreeSet (ℕ × ℕ)) (q : ℕ × ℕ) → Contains s.keys q → contains key_cmp s q ≡ true
+in_set s q h = (btree_set_contains_iff key_cmp_total key_cmp_exact s q).1 h
 
-set_in : (s : BTreeSet (ℕ × ℕ)) (q : ℕ × ℕ) → contains key_cmp s q ≡ true → IsIn s.keys q
-set_in s q h = contains_in s.keys q ((btree_set_contains_iff key_cmp_total key_cmp_exact s q).0 h)
+set_in : (s : BTreeSet (ℕ × ℕ)) (q : ℕ × ℕ) → contains key_cmp s q ≡ true → Contains s.keys q
+set_in s q h = (btree_set_contains_iff key_cmp_total key_cmp_exact s q).0 h
 
 -- it holds what it held, and the key
-pub in_inserted : (old new : BTreeSet (ℕ × ℕ)) (key : ℕ × ℕ) → Updates key_cmp old new key true → (q : ℕ × ℕ) → IsIn new.keys q ↔ (IsIn old.keys q ⊎ (key ≡ q))
+pub in_inserted : (old new : BTreeSet (ℕ × ℕ)) (key : ℕ × ℕ) → Updates key_cmp old new key true → (q : ℕ × ℕ) → Contains new.keys q ↔ (Contains old.keys q ⊎ (key ≡ q))
 in_inserted old new key updates q =
     let is : contains key_cmp new q ≡ cond (is_eq (key_cmp key q)) true (contains key_cmp old q) = updates.0 q in (
       λ h. ⊎_elim
@@ -29,7 +28,7 @@ in_inserted old new key updates q =
           (λ (apart : is_eq (key_cmp key q) ≡ false).
           cond-false (is_eq (key_cmp key q)) true (contains key_cmp old q) apart
           ∙ ⊎_elim
-          (λ (was : IsIn old.keys q). in_set old q was)
+          (λ (was : Contains old.keys q). in_set old q was)
           (λ (same : key ≡ q). sym (cond-false (is_eq (key_cmp key q)) true (contains key_cmp old q) apart)
           ∙ cond-true (is_eq (key_cmp key q)) true (contains key_cmp old q) (ap is_eq (key_cmp_same key q same)))
           h)
@@ -37,8 +36,15 @@ in_inserted old new key updates q =
     )
 
 -- the key was there exactly where the set says so
-pub was_in : (old : BTreeSet (ℕ × ℕ)) (key : ℕ × ℕ) → contains key_cmp old key ≡ true → IsIn old.keys key
+pub was_in : (old : BTreeSet (ℕ × ℕ)) (key : ℕ × ℕ) → contains key_cmp old key ≡ true → Contains old.keys key
 was_in old key h = set_in old key h
 
-pub was_not_in : (old : BTreeSet (ℕ × ℕ)) (key : ℕ × ℕ) → contains key_cmp old key ≡ false → IsIn old.keys key → ⊥
+pub was_not_in : (old : BTreeSet (ℕ × ℕ)) (key : ℕ × ℕ) → contains key_cmp old key ≡ false → Contains old.keys key → ⊥
 was_not_in old key h there = true≢false (sym (in_set old key there) ∙ h)
+
+-- a key that is there already changes nothing
+pub in_unchanged : (old : BTreeSet (ℕ × ℕ)) (key : ℕ × ℕ) → Contains old.keys key
+    → (q : ℕ × ℕ) → Contains old.keys q ↔ (Contains old.keys q ⊎ (key ≡ q))
+in_unchanged old key there q =
+    let P : ℕ × ℕ → Type 0 = Contains old.keys in
+    (λ h. inl h, λ h. ⊎_elim (λ (was : Contains old.keys q). was) (λ (same : key ≡ q). subst P same there) h)

@@ -13,7 +13,7 @@ use Rattle.std.specs.BTreeMap.Range.{range_contains}
 use Rattle.inav_page.specs.declared.half.HalfKind.{HalfKind}
 use Rattle.inav_page.specs.declared.half.HalfKind.TheVariants.{Even, Odd}
 use Rattle.inav_page.specs.Pages.{kind_of}
-use Rattle.inav_page.specs.HeardLaws.{not_both}
+use Rattle.inav_page.proofs.Surface.{not_both}
 use Rattle.inav_page.specs.Mirrors.{key_cmp, first_partner, end_of_partners}
 
 less : (a b : ℕ) → a < b → nat_cmp a b ≡ Less

@@ -1,8 +1,10 @@
-pub mod WholeNumbers
 pub mod PageNumbers
 pub mod Membership
-pub mod Forgetting
+pub mod Surface
+pub mod Deciding
 pub mod KeyOrder
+pub mod Remainders
+pub mod Forgetting
 pub mod Partners
 pub mod Inserting
 pub mod Taking

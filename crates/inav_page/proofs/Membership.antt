@@ -1,9 +1,13 @@
 -- Lists as sets: what stands in a list, and in a part of it.
-use Rattle.std.proofs.Common.{◌≡◌, ℕ, zero, suc, ◌<◌, List, [], ◌∷◌, Bool, slice_index_or, true, length, map, inl, inr, refl, sym, ap, ◌∙◌, ⊎_elim, arith}
+use Rattle.std.proofs.Common.{◌≡◌, ℕ, zero, suc, ◌<◌, ◌⊎◌, ◌↔◌, List, [], ◌∷◌, Bool, slice_index_or, true, length, map, inl, inr, refl, sym, ap, ◌∙◌, ⊎_elim, arith}
 use Rattle.std.proofs.lemmas.Bool.{cond_both, true≢false}
 use Rattle.std.proofs.lemmas.List.Elements.{All-contains}
 use Rattle.std.specs.List.{All, Contains, filter}
-use Rattle.inav_page.specs.Heard.{IsIn}
+
+-- x stands in the list, place by place
+abbrev pub IsIn : {X : Type 0} → List X → X → Type 0
+IsIn [] x = ⊥
+IsIn (y ∷ ys) x = (y ≡ x) ⊎ IsIn ys x
 
 module _ {X : Type 0} where
   pub in_contains : (xs : List X) (x : X) → IsIn xs x → Contains xs x
@@ -24,6 +28,17 @@ module _ {X : Type 0} where
         | suc j ↦ λ low e. inr (contains_in ys x (j, omega (arith, low), e))
       ] in
       at h.0 h.1 h.2
+
+  -- what stands in a list with one more
+  pub contains_cons : (y : X) (ys : List X) (x : X) → Contains (y ∷ ys) x ↔ ((y ≡ x) ⊎ Contains ys x)
+  contains_cons y ys x = (
+    λ h. ⊎_elim
+        (λ (here : y ≡ x). inl here)
+        (λ (later : IsIn ys x). inr (in_contains ys x later))
+        (contains_in (y ∷ ys) x h),
+    λ h. in_contains (y ∷ ys) x
+        (⊎_elim (λ (here : y ≡ x). inl here) (λ (later : Contains ys x). inr (contains_in ys x later)) h),
+  )
 
   -- what holds of each holds of one that stands there
   pub all_at : (P : X → Type 0) (xs : List X) (x : X) → All P xs → IsIn xs x → P x

@@ -1,18 +1,18 @@
 -- Parts of pages as numbers: what is kept of them, their CRC and their word.
-use Rattle.std.proofs.Common.{◌≡◌, ℕ, ◌+◌, ◌-◌, ◌*◌, ◌/◌, ◌%◌, ◌^◌, ◌<◌, ◌≤◌, List, [], ◌∷◌, length, slice_index, true, sym, ap, subst, ◌∙◌, ⊎_elim, arith}
+use Rattle.std.proofs.Common.{◌≡◌, ℕ, ◌+◌, ◌-◌, ◌*◌, ◌/◌, ◌%◌, ◌^◌, ◌<◌, ◌≤◌, List, [], ◌∷◌, length, slice_index, true, refl, sym, ap, subst, ◌∙◌, ⊎_elim, arith}
 use Rattle.std.proofs.Math.Nat.{mod-eq_of_lt}
 use Rattle.std.proofs.lemmas.Bool.{cases_lt, lt-ltb, le-ltb, eqb-true, eq-eqb, cond-true, cond-false}
 use Rattle.std.specs.Int.{bytes_high_first}
 use Rattle.nav_bits.specs.Bits.{number_at}
 use Rattle.nav_bits.specs.Fields.{Stand}
 use Rattle.nav_bits.specs.Laws.{number_at-append, number_at-lt}
+use Rattle.nav_bits.specs.Packed.{AreBytes}
 use Rattle.crc24q.specs.Division.{IsCrc}
 use Rattle.crc24q.specs.Register.{crc_from}
-use Rattle.crc24q.proofs.DivisionLemmas.{one_remainder}
-use Rattle.crc24q.proofs.MessageLemmas.{crc_of_bytes}
-use Rattle.inav_page.specs.Pages.{digits_at, kept_of, protected_of, data_of, word_of, HasRightCrc, IsHalf, bytes_of_half}
-use Rattle.inav_page.specs.Mirrors.{page_crc, is_right}
-use Rattle.inav_page.proofs.WholeNumbers.{number_at-of_whole, number_at-bytes_of, bytes_of-length, bytes_of-lt, same_from_number}
+use Rattle.crc24q.proofs.Surface.{crc_of_bytes, one_remainder}
+use Rattle.inav_page.specs.declared.half.HalfKind.TheVariants.{Even, Odd}
+use Rattle.inav_page.specs.Pages.{digits_at, kind_of, kept_of, protected_of, data_of, word_of, HasRightCrc, has_right_crc, page_crc, IsHalf, IsSplit, bytes_of_half, even_of, odd_of, odd_before_crc}
+use Rattle.nav_bits.proofs.Surface.{number_at-of_whole, number_at-bytes_of, bytes_of-length, bytes_of-lt, same_from_number}
 
 -- ---- what is kept
 
@@ -71,12 +71,12 @@ page_crc_is even odd =
     let P : ℕ → Type 0 = λ n. IsCrc n (crc_from 0 bytes) in
     subst P number (crc_of_bytes bytes)
 
-pub right_to : (even odd : ℕ) → is_right even odd ≡ true → HasRightCrc even odd
+pub right_to : (even odd : ℕ) → has_right_crc even odd ≡ true → HasRightCrc even odd
 right_to even odd e =
     let P : ℕ → Type 0 = IsCrc (protected_of even odd) in
     subst P (eqb-true (page_crc even odd) (digits_at odd 82 24) e) (page_crc_is even odd)
 
-pub right_from : (even odd : ℕ) → HasRightCrc even odd → is_right even odd ≡ true
+pub right_from : (even odd : ℕ) → HasRightCrc even odd → has_right_crc even odd ≡ true
 right_from even odd is =
     eq-eqb (page_crc even odd) (digits_at odd 82 24) (one_remainder (protected_of even odd) (page_crc even odd) (digits_at odd 82 24) (page_crc_is even odd) is)
 
@@ -162,3 +162,61 @@ digits_of_bits bits at width rest all =
     ap (digits_by bits width) left
     ∙ sym (ap (λ n. number_at bits 0 n / 2 ^ rest % 2 ^ width) all)
     ∙ number_at-of_whole bits at width rest
+
+-- ---- the parts of a word
+
+even-lt : (word : List ℕ) → even_of word < 2 ^ 118
+even-lt word = omega (arith, number_at-lt word 0 112)
+
+-- the parts of the functions are those of a word
+pub parts_split : (word : List ℕ) → IsSplit word (even_of word) (odd_of word)
+parts_split word =
+    let d = number_at word 112 16 in
+    let crc = page_crc (even_of word) (odd_before_crc word) in
+    let fits : crc < 2 ^ 24 = (page_crc_is (even_of word) (odd_before_crc word)).fits in
+    let in_place : digits_at (odd_of word) 82 24 ≡ crc = crc_in_place d crc (number_at-lt word 112 16) fits in
+    record {
+      even_is = refl;
+      odd_is = ap (λ n. odd_before_crc word + n * 2 ^ 14) (sym in_place);
+      crc = crc_is_right (even_of word) d crc (number_at-lt word 112 16) fits refl;
+    }
+
+-- and a word has no other parts
+pub only_parts : (word : List ℕ) (even odd : ℕ) → IsSplit word even odd → (even ≡ even_of word) × (odd ≡ odd_of word)
+only_parts word even odd h =
+    let d = number_at word 112 16 in
+    let held = digits_at odd 82 24 in
+    let fits : held < 2 ^ 24 = h.crc.fits in
+    let whole : odd ≡ odd_before_crc word + held * 2 ^ 14 = h.odd_is in
+    let same : protected_of even odd ≡ protected_of (even_of word) (odd_before_crc word) =
+    ap (λ e. protected_of e odd) h.even_is ∙ omega (arith, whole, fits, number_at-lt word 112 16) in
+    let P : ℕ → Type 0 = λ p. IsCrc p held in
+    let crc : held ≡ page_crc (even_of word) (odd_before_crc word) =
+    one_remainder (protected_of (even_of word) (odd_before_crc word)) held (page_crc (even_of word) (odd_before_crc word))
+    (subst P same h.crc) (page_crc_is (even_of word) (odd_before_crc word)) in
+    (h.even_is, whole ∙ ap (λ n. odd_before_crc word + n * 2 ^ 14) crc)
+
+pub even_part_is_half : (word : List ℕ) → IsHalf (even_of word)
+even_part_is_half word = even_of_word word
+
+pub odd_part_is_half : (word : List ℕ) → IsHalf (odd_of word)
+odd_part_is_half word =
+    let crc = page_crc (even_of word) (odd_before_crc word) in
+    odd_of_word word crc (page_crc_is (even_of word) (odd_before_crc word)).fits
+
+pub even_part_is_even : (word : List ℕ) → kind_of (even_of word) ≡ Even
+even_part_is_even word = cond-true _ _ _ (lt-ltb (even_of word) (2 ^ 119) (let low = even-lt word in omega arith))
+
+pub odd_part_is_odd : (word : List ℕ) → kind_of (odd_of word) ≡ Odd
+odd_part_is_odd word = cond-false _ _ _ (le-ltb (odd_of word) (2 ^ 119) (omega arith))
+
+-- the word of the parts
+pub word_of_parts : (word : List ℕ) → AreBytes 16 word → word_of (even_of word) (odd_of word) ≡ word
+word_of_parts word bytes =
+    let crc = page_crc (even_of word) (odd_before_crc word) in
+    word_again word (even_of word) (odd_of word) crc bytes.count_is bytes.fit refl refl
+    (page_crc_is (even_of word) (odd_before_crc word)).fits
+
+-- what is kept of the bytes of a half is the half
+pub half_again : (half : ℕ) → IsHalf half → kept_of (number_at (bytes_of_half half) 0 120) ≡ half
+half_again half is = ap kept_of (half_number half (bytes_of_half half) is.fits refl) ∙ is.kept

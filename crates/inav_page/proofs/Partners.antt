@@ -1,9 +1,10 @@
 -- The partners of a half among the keys, and the words that it makes with them.
-use Rattle.std.proofs.Common.{◌≡◌, ℕ, zero, suc, ◌+◌, ◌-◌, ◌/◌, ◌%◌, ◌<◌, ◌≤◌, ◌^◌, List, [], ◌∷◌, ◌++◌, Bool, true, false, length, map, None, Some, inl, inr, refl, sym, ap, subst, ◌∙◌, ⊎_elim, arith}
+use Rattle.std.proofs.Common.{◌≡◌, ℕ, zero, suc, ◌+◌, ◌-◌, ◌*◌, ◌/◌, ◌%◌, ◌<◌, ◌≤◌, ◌^◌, List, [], ◌∷◌, ◌++◌, Bool, true, false, length, map, None, Some, inl, inr, refl, sym, ap, subst, ◌∙◌, ⊎_elim, arith}
 use Rattle.std.proofs.lemmas.Bool.{cond-true, cond-false, cond_both}
 use Rattle.std.proofs.lemmas.List.{map-append, append-nil, length-map}
 use Rattle.std.proofs.lemmas.List.Elements.{filter-append}
 use Rattle.std.proofs.lemmas.List.Kept.{IsStrictlySortedBy-filter}
+use Rattle.std.specs.Prelude.{Contains}
 use Rattle.std.specs.List.{filter, AllByRecursion}
 use Rattle.std.specs.BTreeMap.Range.{range_contains}
 use Rattle.std.specs.declared.ops.Bound.TheVariants.{Included, Excluded}
@@ -16,12 +17,13 @@ use Rattle.inav_page.specs.declared.half.HalfKind.TheVariants.{Even, Odd}
 use Rattle.inav_page.specs.declared.signal.Signal.{Signal}
 use Rattle.inav_page.specs.declared.signal.Signal.TheVariants.{E1b, E5b}
 use Rattle.inav_page.specs.Pages.{kind_of}
-use Rattle.inav_page.specs.Heard.{StampedHalf, IsIn, MakeWord, ArePartners, AreWordsWith, IsAbove, IsAscending, word_by, word_with}
+use Rattle.inav_page.specs.Heard.{StampedHalf, MakeWord, ArePartners, AreWordsWith, IsAbove, IsAscending, word_by, word_with}
 use Rattle.inav_page.specs.Keeping.{stamped}
-use Rattle.inav_page.specs.Mirrors.{signal_number, signal_of, place_of, half_of, is_right_by, key_cmp, first_partner, end_of_partners, keys_at_place, right_keys, words_at_place, AreKeys, HasPartnerStamp}
-use Rattle.inav_page.specs.HeardLaws.{not_both}
+use Rattle.inav_page.specs.Mirrors.{signal_number, signal_of, place_of, slot_of, half_of, remainder_by, remainder_of, key_cmp, first_partner, end_of_partners, keys_in_slot, words_by, words_in_slot, IsKey, AreKeys, HasPartnerStamp}
+use Rattle.inav_page.proofs.Surface.{not_both}
 use Rattle.inav_page.proofs.PageNumbers.{right_to, right_from}
-use Rattle.inav_page.proofs.Membership.{filter_in, in_filter, in_map, map_in}
+use Rattle.inav_page.proofs.Remainders.{is_right_by, same_remainder, right_by_remainder, remainder-lt}
+use Rattle.inav_page.proofs.Membership.{IsIn, in_contains, contains_in, filter_in, in_filter, in_map, map_in}
 use Rattle.inav_page.proofs.KeyOrder.{key_lt, in_range, range_to, range_from, other_kind}
 
 -- ---- keys and halves
@@ -40,35 +42,46 @@ signal_back (suc zero) h = refl
 signal_back (suc (suc n)) h = absurd (omega (arith, h))
 
 -- the half of a key at a place
-pub half_of_place : (stamp number : ℕ) (signal : Signal) (key : ℕ × ℕ) → number < 64 → key.0 ≡ place_of stamp number signal
+pub half_of_place : (stamp number : ℕ) (signal : Signal) (key : ℕ × ℕ) → number < 64 → key.0 / 2 ^ 24 ≡ place_of stamp number signal
     → half_of key ≡ stamped stamp (record { system = Gal; number = number }) signal key.1
 half_of_place stamp number signal key fits at =
     let s = signal_number signal in
     let small : s < 2 = signal_number-lt signal in
-    let stamp_is : key.0 / 128 ≡ stamp = omega (arith, at, small, fits) in
-    let number_is : key.0 / 2 % 64 ≡ number = omega (arith, at, small, fits) in
-    let lane_is : key.0 % 2 ≡ s = omega (arith, at, small, fits) in
-    let signal_is : signal_of (key.0 % 2) ≡ signal = ap signal_of lane_is ∙ signal_again signal in
+    let stamp_is : key.0 / 2 ^ 24 / 128 ≡ stamp = omega (arith, at, small, fits) in
+    let number_is : key.0 / 2 ^ 24 / 2 % 64 ≡ number = omega (arith, at, small, fits) in
+    let lane_is : key.0 / 2 ^ 24 % 2 ≡ s = omega (arith, at, small, fits) in
+    let signal_is : signal_of (key.0 / 2 ^ 24 % 2) ≡ signal = ap signal_of lane_is ∙ signal_again signal in
     λ i. record { stamp = stamp_is i; sat = record { system = Gal; number = number_is i }; signal = signal_is i; half = key.1 }
 
 -- the place of a half
-pub place_back : (key : ℕ × ℕ) → key.0 ≡ place_of (half_of key).stamp (half_of key).sat.number (half_of key).signal
+pub place_back : (key : ℕ × ℕ) → key.0 / 2 ^ 24 ≡ place_of (half_of key).stamp (half_of key).sat.number (half_of key).signal
 place_back key =
-    let lane : signal_number (signal_of (key.0 % 2)) ≡ key.0 % 2 = signal_back (key.0 % 2) (omega arith) in
+    let lane : signal_number (signal_of (key.0 / 2 ^ 24 % 2)) ≡ key.0 / 2 ^ 24 % 2 = signal_back (key.0 / 2 ^ 24 % 2) (omega arith) in
     omega (arith, lane)
 
+-- a slot by its place and its remainder
+slot_parts : (slot place remainder : ℕ) → remainder < 2 ^ 24 → slot ≡ slot_of place remainder
+    → (slot / 2 ^ 24 ≡ place) × (slot % 2 ^ 24 ≡ remainder)
+slot_parts slot place remainder fits is = (omega arith, omega arith)
+
+whole_slot : (slot : ℕ) → slot ≡ slot / 2 ^ 24 * 2 ^ 24 + slot % 2 ^ 24
+whole_slot slot = omega arith
+
 -- no two keys have the same half
-pub same_key : (a b : ℕ × ℕ) → half_of a ≡ half_of b → a ≡ b
-same_key a b e =
-    let at : a.0 ≡ b.0 = place_back a ∙ ap (λ h. place_of h.stamp h.sat.number h.signal) e ∙ sym (place_back b) in
+pub same_key : (a b : ℕ × ℕ) → IsKey a → IsKey b → half_of a ≡ half_of b → a ≡ b
+same_key a b first second e =
+    let place : a.0 / 2 ^ 24 ≡ b.0 / 2 ^ 24 =
+    place_back a ∙ ap (λ h. place_of h.stamp h.sat.number h.signal) e ∙ sym (place_back b) in
     let bits : a.1 ≡ b.1 = ap (λ h. h.half) e in
+    let remainder : a.0 % 2 ^ 24 ≡ b.0 % 2 ^ 24 = first.remainder ∙ ap remainder_of bits ∙ sym second.remainder in
+    let at : a.0 ≡ b.0 = omega (arith, whole_slot a.0, whole_slot b.0, place, remainder) in
     λ i. (at i, bits i)
 
 -- ---- partners, one by one
 
 -- what makes a key the partner of a half of that kind at a stamp
 pub is_partner : (stamp number : ℕ) (signal : Signal) (half other : ℕ) (kind : HalfKind) (key : ℕ × ℕ) → kind_of half ≡ kind → number < 64
-    → HasPartnerStamp kind stamp (Some other) → key.0 ≡ place_of other number signal → kind_of key.1 ≡ other_kind kind → is_right_by kind half key.1 ≡ true
+    → HasPartnerStamp kind stamp (Some other) → key.0 / 2 ^ 24 ≡ place_of other number signal → kind_of key.1 ≡ other_kind kind → is_right_by kind half key.1 ≡ true
     → ArePartners (stamped stamp (record { system = Gal; number = number }) signal half) (half_of key)
 is_partner stamp number signal half other Even key kind_is fits has at its right =
     let taken = stamped stamp (record { system = Gal; number = number }) signal half in
@@ -86,13 +99,13 @@ is_partner stamp number signal half other Odd key kind_is fits has at its right 
 -- the place of a partner
 pub partner_place : (stamp number : ℕ) (signal : Signal) (half other : ℕ) (kind : HalfKind) (key : ℕ × ℕ) → kind_of half ≡ kind
     → HasPartnerStamp kind stamp (Some other) → ArePartners (stamped stamp (record { system = Gal; number = number }) signal half) (half_of key)
-    → (key.0 ≡ place_of other number signal) × (kind_of key.1 ≡ other_kind kind) × (is_right_by kind half key.1 ≡ true)
+    → (key.0 / 2 ^ 24 ≡ place_of other number signal) × (kind_of key.1 ≡ other_kind kind) × (is_right_by kind half key.1 ≡ true)
 partner_place stamp number signal half other Even key kind_is has partners =
     let taken = stamped stamp (record { system = Gal; number = number }) signal half in
     ⊎_elim
     (λ (make : MakeWord taken (half_of key)).
-    let stamp_is : key.0 / 128 ≡ other = make.stamp ∙ sym has.1 in
-    let number_is : key.0 / 2 % 64 ≡ number = ap (λ (s : Satellite). s.number) make.sat in (
+    let stamp_is : key.0 / 2 ^ 24 / 128 ≡ other = make.stamp ∙ sym has.1 in
+    let number_is : key.0 / 2 ^ 24 / 2 % 64 ≡ number = ap (λ (s : Satellite). s.number) make.sat in (
       place_back key ∙ ap (λ t. place_of t (half_of key).sat.number (half_of key).signal) stamp_is
           ∙ ap (λ n. place_of other n (half_of key).signal) number_is ∙ ap (place_of other number) make.signal,
       make.is_odd,
@@ -106,9 +119,9 @@ partner_place stamp number signal half other Odd key kind_is has partners =
     ⊎_elim
     (λ (make : MakeWord taken (half_of key)). absurd (not_both (kind_of half) make.is_even kind_is))
     (λ (make : MakeWord (half_of key) taken).
-    let later : stamp ≡ key.0 / 128 + 1 = make.stamp in
-    let stamp_is : key.0 / 128 ≡ other = omega (arith, later, is) in
-    let number_is : key.0 / 2 % 64 ≡ number = sym (ap (λ (s : Satellite). s.number) make.sat) in (
+    let later : stamp ≡ key.0 / 2 ^ 24 / 128 + 1 = make.stamp in
+    let stamp_is : key.0 / 2 ^ 24 / 128 ≡ other = omega (arith, later, is) in
+    let number_is : key.0 / 2 ^ 24 / 2 % 64 ≡ number = sym (ap (λ (s : Satellite). s.number) make.sat) in (
       place_back key ∙ ap (λ t. place_of t (half_of key).sat.number (half_of key).signal) stamp_is
           ∙ ap (λ n. place_of other n (half_of key).signal) number_is ∙ ap (place_of other number) (sym make.signal),
       make.is_even,
@@ -118,18 +131,18 @@ partner_place stamp number signal half other Odd key kind_is has partners =
 
 -- a half whose partners would be past the last second, or before the first, has none
 pub no_partner : (stamp number : ℕ) (signal : Signal) (half : ℕ) (kind : HalfKind) (key : ℕ × ℕ) → kind_of half ≡ kind
-    → HasPartnerStamp kind stamp None → key.0 < 2 ^ 39 → ArePartners (stamped stamp (record { system = Gal; number = number }) signal half) (half_of key) → ⊥
+    → HasPartnerStamp kind stamp None → key.0 < 2 ^ 63 → ArePartners (stamped stamp (record { system = Gal; number = number }) signal half) (half_of key) → ⊥
 no_partner stamp number signal half Even key kind_is none fits partners =
     let taken = stamped stamp (record { system = Gal; number = number }) signal half in
     ⊎_elim
-    (λ (make : MakeWord taken (half_of key)). let is : key.0 / 128 ≡ stamp + 1 = make.stamp in none (omega (arith, is, fits)))
+    (λ (make : MakeWord taken (half_of key)). let is : key.0 / 2 ^ 24 / 128 ≡ stamp + 1 = make.stamp in none (omega (arith, is, fits)))
     (λ (make : MakeWord (half_of key) taken). not_both (kind_of half) kind_is make.is_odd)
     partners
 no_partner stamp number signal half Odd key kind_is none fits partners =
     let taken = stamped stamp (record { system = Gal; number = number }) signal half in
     ⊎_elim
     (λ (make : MakeWord taken (half_of key)). not_both (kind_of half) make.is_even kind_is)
-    (λ (make : MakeWord (half_of key) taken). let is : stamp ≡ key.0 / 128 + 1 = make.stamp in none (omega (arith, is)))
+    (λ (make : MakeWord (half_of key) taken). let is : stamp ≡ key.0 / 2 ^ 24 / 128 + 1 = make.stamp in none (omega (arith, is)))
     partners
 
 -- ---- all partners
@@ -159,66 +172,83 @@ map-map : {X Y Z : Type 0} (f : Y → Z) (g : X → Y) (xs : List X) → map f (
 map-map f g [] = refl
 map-map f g (x ∷ xs) = ap (λ ys. f (g x) ∷ ys) (map-map f g xs)
 
-at_place : (keys : List (ℕ × ℕ)) (place half : ℕ) (kind : HalfKind) (key : ℕ × ℕ) → IsIn (right_keys kind half (keys_at_place keys place kind)) key
-    → IsIn keys key × (key.0 ≡ place) × (kind_of key.1 ≡ other_kind kind) × (is_right_by kind half key.1 ≡ true)
-unfolding keys_at_place right_keys
-at_place keys place half kind key h =
-    let right = filter_in (λ k. is_right_by kind half k.1) (keys_at_place keys place kind) key h in
-    let there = filter_in (in_range place kind) keys key right.0 in
-    let where_is = range_to place kind key there.1 in
-    (there.0, where_is.0, where_is.1, right.1)
+in_slot : (keys : List (ℕ × ℕ)) (slot : ℕ) (kind : HalfKind) (key : ℕ × ℕ) → IsIn (keys_in_slot keys slot kind) key
+    → IsIn keys key × (key.0 ≡ slot) × (kind_of key.1 ≡ other_kind kind)
+unfolding keys_in_slot
+in_slot keys slot kind key h =
+    let there = filter_in (in_range slot kind) keys key h in
+    let where_is = range_to slot kind key there.1 in
+    (there.0, where_is.0, where_is.1)
 
-stands_at_place : (keys : List (ℕ × ℕ)) (place half : ℕ) (kind : HalfKind) (key : ℕ × ℕ) → IsIn keys key → key.0 ≡ place → kind_of key.1 ≡ other_kind kind
-    → is_right_by kind half key.1 ≡ true → IsIn (right_keys kind half (keys_at_place keys place kind)) key
-unfolding keys_at_place right_keys
-stands_at_place keys place half kind key there at its right =
-    in_filter (λ k. is_right_by kind half k.1) (keys_at_place keys place kind) key
-    (in_filter (in_range place kind) keys key there (range_from place kind key at its)) right
+stands_in_slot : (keys : List (ℕ × ℕ)) (slot : ℕ) (kind : HalfKind) (key : ℕ × ℕ) → IsIn keys key → key.0 ≡ slot
+    → kind_of key.1 ≡ other_kind kind → IsIn (keys_in_slot keys slot kind) key
+unfolding keys_in_slot
+stands_in_slot keys slot kind key there at its = in_filter (in_range slot kind) keys key there (range_from slot kind key at its)
 
-sorted_at_place : (keys : List (ℕ × ℕ)) (place half : ℕ) (kind : HalfKind) → IsStrictlySortedBy key_cmp keys
-    → IsStrictlySortedBy key_cmp (right_keys kind half (keys_at_place keys place kind))
-unfolding keys_at_place right_keys
-sorted_at_place keys place half kind sorted =
-    IsStrictlySortedBy-filter key_cmp (λ k. is_right_by kind half k.1) (keys_at_place keys place kind)
-    (IsStrictlySortedBy-filter key_cmp (in_range place kind) keys sorted)
+sorted_in_slot : (keys : List (ℕ × ℕ)) (slot : ℕ) (kind : HalfKind) → IsStrictlySortedBy key_cmp keys
+    → IsStrictlySortedBy key_cmp (keys_in_slot keys slot kind)
+unfolding keys_in_slot
+sorted_in_slot keys slot kind sorted = IsStrictlySortedBy-filter key_cmp (in_range slot kind) keys sorted
 
--- the words at the place of the partners are those of the half with its partners
-pub words_of_partners : (keys : List (ℕ × ℕ)) (stamp number : ℕ) (signal : Signal) (half other : ℕ) → IsStrictlySortedBy key_cmp keys → number < 64
-    → HasPartnerStamp (kind_of half) stamp (Some other)
-    → AreWordsWith (IsIn (map half_of keys)) (stamped stamp (record { system = Gal; number = number }) signal half) (words_at_place keys (place_of other number signal) half)
-words_of_partners keys stamp number signal half other sorted fits has =
+-- the remainder of a key whose half is of a kind
+remainder_of_kind : (key : ℕ × ℕ) (kind : HalfKind) → IsKey key → kind_of key.1 ≡ kind → key.0 % 2 ^ 24 ≡ remainder_by kind key.1
+remainder_of_kind key kind is own = is.remainder ∙ ap (λ k. remainder_by k key.1) own
+
+-- the words in the slot of the partners are those of the half with its partners
+pub words_of_partners : (keys : List (ℕ × ℕ)) (stamp number : ℕ) (signal : Signal) (half other slot : ℕ) → AreKeys keys
+    → IsStrictlySortedBy key_cmp keys → number < 64 → HasPartnerStamp (kind_of half) stamp (Some other)
+    → slot ≡ slot_of (place_of other number signal) (remainder_of half)
+    → AreWordsWith (Contains (map half_of keys)) (stamped stamp (record { system = Gal; number = number }) signal half) (words_in_slot keys slot half)
+words_of_partners keys stamp number signal half other slot are sorted fits has slot_is =
     let kind = kind_of half in
     let place = place_of other number signal in
     let taken = stamped stamp (record { system = Gal; number = number }) signal half in
-    let found = right_keys kind half (keys_at_place keys place kind) in
+    let found = keys_in_slot keys slot kind in
+    let parts = slot_parts slot place (remainder_of half) (remainder-lt kind half) slot_is in
+    let partner : (key : ℕ × ℕ) → IsIn found key → IsIn keys key × ArePartners taken (half_of key) =
+    λ key h.
+    let is = in_slot keys slot kind key h in
+    let own = remainder_of_kind key (other_kind kind) (are key (in_contains keys key is.0)) is.2 in
+    let here : key.0 / 2 ^ 24 ≡ place = ap (λ n. n / 2 ^ 24) is.1 ∙ parts.0 in
+    let same : remainder_by kind half ≡ remainder_by (other_kind kind) key.1 = sym parts.1 ∙ sym (ap (λ n. n % 2 ^ 24) is.1) ∙ own in
+    (is.0, is_partner stamp number signal half other kind key refl fits has here is.2 (right_by_remainder kind half key.1 same)) in
+    let stands : (key : ℕ × ℕ) → IsIn keys key → ArePartners taken (half_of key) → IsIn found key =
+    λ key there partners.
+    let is = partner_place stamp number signal half other kind key refl has partners in
+    let own = remainder_of_kind key (other_kind kind) (are key (in_contains keys key there)) is.1 in
+    let same : remainder_by kind half ≡ remainder_by (other_kind kind) key.1 = same_remainder kind half key.1 is.2 in
+    let rest : key.0 % 2 ^ 24 ≡ slot % 2 ^ 24 = own ∙ sym same ∙ sym parts.1 in
+    let front : key.0 / 2 ^ 24 ≡ slot / 2 ^ 24 = is.0 ∙ sym parts.0 in
+    stands_in_slot keys slot kind key there (omega (arith, whole_slot key.0, whole_slot slot, rest, front)) is.1 in
     record {
       partners = map half_of found;
       each = λ one. (
-        λ h. let key = map_in half_of found one h in
-            let is = at_place keys place half kind key.0 key.1 in
-            let P : StampedHalf → Type 0 = λ h. IsIn (map half_of keys) h × ArePartners taken h in
-            subst P key.2 (in_map half_of keys key.0 is.0, is_partner stamp number signal half other kind key.0 refl fits has is.1 is.2 is.3),
-        λ h. let key = map_in half_of keys one h.0 in
+        λ h. let key = map_in half_of found one (contains_in (map half_of found) one h) in
+            let is = partner key.0 key.1 in
+            let P : StampedHalf → Type 0 = λ h. Contains (map half_of keys) h × ArePartners taken h in
+            subst P key.2 (in_contains (map half_of keys) (half_of key.0) (in_map half_of keys key.0 is.0), is.1),
+        λ h. let key = map_in half_of keys one (contains_in (map half_of keys) one h.0) in
             let P : StampedHalf → Type 0 = ArePartners taken in
-            let is = partner_place stamp number signal half other kind key.0 refl has (subst P (sym key.2) h.1) in
-            let Q : StampedHalf → Type 0 = IsIn (map half_of found) in
-            subst Q key.2 (in_map half_of found key.0 (stands_at_place keys place half kind key.0 key.1 is.0 is.1 is.2)),
+            let Q : StampedHalf → Type 0 = Contains (map half_of found) in
+            subst Q key.2 (in_contains (map half_of found) (half_of key.0)
+            (in_map half_of found key.0 (stands key.0 key.1 (subst P (sym key.2) h.1)))),
       );
-      ascending = keys_ascend place found (λ key h. (at_place keys place half kind key h).1) (sorted_at_place keys place half kind sorted);
+      ascending = keys_ascend slot found (λ key h. (in_slot keys slot kind key h).1) (sorted_in_slot keys slot kind sorted);
       words_are = sym (map-map (word_with taken) half_of found);
     }
 
 pub no_words : (keys : List (ℕ × ℕ)) (stamp number : ℕ) (signal : Signal) (half : ℕ) → AreKeys keys → HasPartnerStamp (kind_of half) stamp None
-    → AreWordsWith (IsIn (map half_of keys)) (stamped stamp (record { system = Gal; number = number }) signal half) []
-no_words keys stamp number signal half fits none =
+    → AreWordsWith (Contains (map half_of keys)) (stamped stamp (record { system = Gal; number = number }) signal half) []
+no_words keys stamp number signal half are none =
     let taken = stamped stamp (record { system = Gal; number = number }) signal half in
     record {
       partners = [];
       each = λ one. (
-        λ h. absurd h,
-        λ h. let key = map_in half_of keys one h.0 in
+        λ h. absurd (contains_in [] one h),
+        λ h. let key = map_in half_of keys one (contains_in (map half_of keys) one h.0) in
             let P : StampedHalf → Type 0 = ArePartners taken in
-            absurd (no_partner stamp number signal half (kind_of half) key.0 refl none (fits key.0 key.1) (subst P (sym key.2) h.1)),
+            let fits = (are key.0 (in_contains keys key.0 key.1)).fits in
+            absurd (no_partner stamp number signal half (kind_of half) key.0 refl none fits (subst P (sym key.2) h.1)),
       );
       ascending = tt;
       words_are = refl;
@@ -226,54 +256,22 @@ no_words keys stamp number signal half fits none =
 
 -- ---- words, as the code finds them one after another
 
-abbrev pub words_found : HalfKind → ℕ → List (ℕ × ℕ) → List (List ℕ)
-words_found kind half keys = map (λ key. word_by kind half key.1) (right_keys kind half keys)
-
-pub none_found : (kind : HalfKind) (half : ℕ) → words_found kind half [] ≡ []
-unfolding right_keys
-none_found kind half = refl
-
-found_append : (kind : HalfKind) (half : ℕ) (keys : List (ℕ × ℕ)) (key : ℕ × ℕ)
-    → words_found kind half (keys ++ key ∷ []) ≡ words_found kind half keys ++ words_found kind half (key ∷ [])
-unfolding right_keys
-found_append kind half keys key =
-    ap (map (λ key. word_by kind half key.1)) (filter-append (λ key. is_right_by kind half key.1) keys (key ∷ []))
-    ∙ map-append (λ key. word_by kind half key.1) (right_keys kind half keys) (right_keys kind half (key ∷ []))
-
-one_found : (kind : HalfKind) (half : ℕ) (key : ℕ × ℕ) → is_right_by kind half key.1 ≡ true → words_found kind half (key ∷ []) ≡ word_by kind half key.1 ∷ []
-unfolding right_keys
-one_found kind half key right =
-    ap (map (λ key. word_by kind half key.1)) (cond-true (is_right_by kind half key.1) (key ∷ []) [] right)
-
-not_found : (kind : HalfKind) (half : ℕ) (key : ℕ × ℕ) → is_right_by kind half key.1 ≡ false → words_found kind half (key ∷ []) ≡ []
-unfolding right_keys
-not_found kind half key wrong =
-    ap (map (λ key. word_by kind half key.1)) (cond-false (is_right_by kind half key.1) (key ∷ []) [] wrong)
-
 pub found_more : {A : Type 0} (shows : A → ℕ × ℕ) (kind : HalfKind) (half : ℕ) (ys : List A) (y : A) (words : List (List ℕ)) (w : List ℕ)
-    → words ≡ words_found kind half (map shows ys) → is_right_by kind half (shows y).1 ≡ true → w ≡ word_by kind half (shows y).1
-    → words ++ w ∷ [] ≡ words_found kind half (map shows (ys ++ y ∷ []))
-found_more shows kind half ys y words w so right is =
+    → words ≡ words_by kind half (map shows ys) → w ≡ word_by kind half (shows y).1
+    → words ++ w ∷ [] ≡ words_by kind half (map shows (ys ++ y ∷ []))
+found_more shows kind half ys y words w so is =
     ap (λ ws. ws ++ w ∷ []) so
-    ∙ ap (λ v. words_found kind half (map shows ys) ++ v ∷ []) is
-    ∙ ap (λ ws. words_found kind half (map shows ys) ++ ws) (sym (one_found kind half (shows y) right))
-    ∙ sym (ap (words_found kind half) (map-append shows ys (y ∷ [])) ∙ found_append kind half (map shows ys) (shows y))
-
-pub found_no_more : {A : Type 0} (shows : A → ℕ × ℕ) (kind : HalfKind) (half : ℕ) (ys : List A) (y : A) (words : List (List ℕ))
-    → words ≡ words_found kind half (map shows ys) → is_right_by kind half (shows y).1 ≡ false
-    → words ≡ words_found kind half (map shows (ys ++ y ∷ []))
-found_no_more shows kind half ys y words so wrong =
-    so ∙ sym (append-nil (words_found kind half (map shows ys)))
-    ∙ ap (λ ws. words_found kind half (map shows ys) ++ ws) (sym (not_found kind half (shows y) wrong))
-    ∙ sym (ap (words_found kind half) (map-append shows ys (y ∷ [])) ∙ found_append kind half (map shows ys) (shows y))
+    ∙ ap (λ v. words_by kind half (map shows ys) ++ v ∷ []) is
+    ∙ sym (ap (words_by kind half) (map-append shows ys (y ∷ []))
+    ∙ map-append (λ key. word_by kind half key.1) (map shows ys) (shows y ∷ []))
 
 -- the range that the code asks for
-pub range_is : (keys : List (ℕ × ℕ)) (place : ℕ) (kind : HalfKind) (start end : ℕ × ℕ) → start ≡ first_partner place kind → end ≡ end_of_partners place kind
-    → filter (range_contains key_cmp (Included start) (Excluded end)) keys ≡ keys_at_place keys place kind
-unfolding keys_at_place
-range_is keys place kind start end first last =
+pub range_is : (keys : List (ℕ × ℕ)) (slot : ℕ) (kind : HalfKind) (start end : ℕ × ℕ) → start ≡ first_partner slot kind → end ≡ end_of_partners slot kind
+    → filter (range_contains key_cmp (Included start) (Excluded end)) keys ≡ keys_in_slot keys slot kind
+unfolding keys_in_slot
+range_is keys slot kind start end first last =
     ap (λ s. filter (range_contains key_cmp (Included s) (Excluded end)) keys) first
-    ∙ ap (λ e. filter (range_contains key_cmp (Included (first_partner place kind)) (Excluded e)) keys) last
+    ∙ ap (λ e. filter (range_contains key_cmp (Included (first_partner slot kind)) (Excluded e)) keys) last
 
 -- ---- how many
 
@@ -284,14 +282,12 @@ filter-fewer p (key ∷ keys) =
     let fewer = filter-fewer p keys in
     cond_both (p key) (key ∷ filter p keys) (filter p keys) P (λ passes. omega (arith, fewer)) (λ fails. omega (arith, fewer))
 
-pub words-fewer : (keys : List (ℕ × ℕ)) (place half : ℕ) → length (words_at_place keys place half) ≤ length keys
-unfolding keys_at_place right_keys
-words-fewer keys place half =
+pub words-fewer : (keys : List (ℕ × ℕ)) (slot half : ℕ) → length (words_in_slot keys slot half) ≤ length keys
+unfolding keys_in_slot
+words-fewer keys slot half =
     let kind = kind_of half in
-    let there = keys_at_place keys place kind in
     omega (
       arith,
-      length-map (right_keys kind half there) (λ key. word_by kind half key.1),
-      filter-fewer (λ key. is_right_by kind half key.1) there,
-      filter-fewer (in_range place kind) keys,
+      length-map (keys_in_slot keys slot kind) (λ key. word_by kind half key.1),
+      filter-fewer (in_range slot kind) keys,
     )

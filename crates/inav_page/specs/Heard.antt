@@ -1,15 +1,13 @@
 -- Words heard: of an even part and the odd part one second later, of one satellite on one signal.
-use Rattle.std.specs.Prelude.{◌≡◌, ℕ, ◌+◌, ◌<◌, ◌⊎◌, ◌↔◌, List, [], ◌∷◌, map}
+use Rattle.std.specs.Prelude.{◌≡◌, ℕ, ◌+◌, ◌<◌, ◌==◌, ◌⊎◌, ◌↔◌, ◌&&◌, ◌||◌, nat_lt, Bool, true, false, if◌then◌else◌, List, [], ◌∷◌, map, Contains}
 use Rattle.nav_eph.specs.Satellite.{Satellite}
+use Rattle.nav_eph.specs.declared.sat.System.{System}
+use Rattle.nav_eph.specs.declared.sat.System.TheVariants.{Gps, Gal}
 use Rattle.inav_page.specs.declared.half.HalfKind.{HalfKind}
 use Rattle.inav_page.specs.declared.half.HalfKind.TheVariants.{Even, Odd}
 use Rattle.inav_page.specs.declared.signal.Signal.{Signal}
-use Rattle.inav_page.specs.Pages.{kind_of, HasRightCrc, word_of}
-
--- x stands in the list
-abbrev pub IsIn : {X : Type 0} → List X → X → Type 0
-IsIn [] x = ⊥
-IsIn (y ∷ ys) x = (y ≡ x) ⊎ IsIn ys x
+use Rattle.inav_page.specs.declared.signal.Signal.TheVariants.{E1b, E5b}
+use Rattle.inav_page.specs.Pages.{kind_of, HasRightCrc, has_right_crc, word_of}
 
 -- a half as it was received: the second of the logger, from which satellite, on which signal, and its kept bits
 pub record StampedHalf : Type 0 where
@@ -64,10 +62,69 @@ IsAscending (x ∷ xs) = IsAbove x.half xs × IsAscending xs
 -- the words that a half makes with others: one for each of its partners among them, ascending by the partners' bits
 pub record AreWordsWith (among : StampedHalf → Type 0) (taken : StampedHalf) (words : List (List ℕ)) : Type 0 where
   pub partners : List StampedHalf
-  pub each : (other : StampedHalf) → IsIn partners other ↔ (among other × ArePartners taken other)
+  pub each : (other : StampedHalf) → Contains partners other ↔ (among other × ArePartners taken other)
   pub ascending : IsAscending partners
   pub words_are : words ≡ map (word_with taken) partners
 
 -- a word heard of a half and one of the others
 abbrev pub IsHeardWith : (StampedHalf → Type 0) → StampedHalf → StampedHalf → StampedHalf → Type 0
 IsHeardWith among taken even odd = MakeWord even odd × (((taken ≡ even) × among odd) ⊎ (among even × (taken ≡ odd)))
+
+-- ---- the same as functions
+
+-- whether two halves are from one satellite on one signal
+abbrev pub same_system : System → System → Bool
+same_system Gps Gps = true
+same_system Gps Gal = false
+same_system Gal Gps = false
+same_system Gal Gal = true
+
+abbrev pub same_signal : Signal → Signal → Bool
+same_signal E1b E1b = true
+same_signal E1b E5b = false
+same_signal E5b E1b = false
+same_signal E5b E5b = true
+
+abbrev pub same_sender : StampedHalf → StampedHalf → Bool
+same_sender a b = same_system a.sat.system b.sat.system && (a.sat.number == b.sat.number && same_signal a.signal b.signal)
+
+-- whether they are the same
+unfoldable pub same_half : StampedHalf → StampedHalf → Bool
+same_half a b = a.stamp == b.stamp && (a.half == b.half && same_sender a b)
+
+-- whether a half stands among those of a list
+unfoldable pub has_half : List StampedHalf → StampedHalf → Bool
+has_half [] half = false
+has_half (x ∷ xs) half = same_half x half || has_half xs half
+
+-- whether a half is even
+abbrev pub is_even : HalfKind → Bool
+is_even Even = true
+is_even Odd = false
+
+-- whether two halves make a word, the first as the even one
+unfoldable pub makes_word : StampedHalf → StampedHalf → Bool
+makes_word even odd =
+    (is_even (kind_of even.half) && (if is_even (kind_of odd.half) then false else true))
+    && (odd.stamp == even.stamp + 1 && (same_sender odd even && has_right_crc even.half odd.half))
+
+-- whether one is the partner of the other
+unfoldable pub are_partners : StampedHalf → StampedHalf → Bool
+are_partners one other = makes_word one other || makes_word other one
+
+-- a half put among ascending ones, unless its bits stand there already
+unfoldable pub put_half : StampedHalf → List StampedHalf → List StampedHalf
+put_half half [] = half ∷ []
+put_half half (x ∷ xs) =
+    if nat_lt half.half x.half then half ∷ x ∷ xs
+    else if nat_lt x.half half.half then x ∷ put_half half xs
+    else x ∷ xs
+
+-- the partners of a half among those of a list, ascending by their bits
+unfoldable pub partners_of : List StampedHalf → StampedHalf → List StampedHalf
+partners_of [] taken = []
+partners_of (x ∷ xs) taken = if are_partners taken x then put_half x (partners_of xs taken) else partners_of xs taken
+
+-- the words that it makes with them
+unfoldable pub words_of : List StampedHalf → StampedHalf → List (List ℕ)
+words_of halves taken = map (word_with taken) (partners_of halves taken)

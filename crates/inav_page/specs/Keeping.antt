@@ -1,8 +1,8 @@
 -- What a collection of halves keeps.
-use Rattle.std.specs.Prelude.{◌≡◌, ℕ, ◌+◌, ◌≤◌, ◌⊎◌, List}
+use Rattle.std.specs.Prelude.{◌≡◌, ℕ, ◌+◌, ◌≤◌, ◌⊎◌, List, Contains}
 use Rattle.nav_eph.specs.Satellite.{Satellite}
 use Rattle.inav_page.specs.declared.signal.Signal.{Signal}
-use Rattle.inav_page.specs.Heard.{StampedHalf, IsIn}
+use Rattle.inav_page.specs.Heard.{StampedHalf}
 
 -- what contracts see of it: its window in seconds, the greatest stamp that it took (0 before the first), and what it keeps
 pub record Keeping : Type 0 where
@@ -20,7 +20,7 @@ IsRecent window greatest half = greatest ≤ half.stamp + window + 1
 
 -- what a half that was taken leaves kept: of the halves kept before and it, those that are recent
 abbrev pub IsKeptWith : Keeping → StampedHalf → ℕ → StampedHalf → Type 0
-IsKeptWith old taken greatest half = (IsIn old.kept half ⊎ (taken ≡ half)) × IsRecent old.window greatest half
+IsKeptWith old taken greatest half = (Contains old.kept half ⊎ (taken ≡ half)) × IsRecent old.window greatest half
 
 -- what contracts see of the words that a half made: the words, in order, and their stamp
 pub record Words : Type 0 where

@@ -2,4 +2,3 @@ pub mod Pages
 pub mod Heard
 pub mod Keeping
 pub mod Mirrors
-pub mod HeardLaws

@@ -1,9 +1,10 @@
 -- The two parts of an I/NAV page and the word in them (Galileo OS SIS ICD, 4.3.2). A part is 120 bits, here
 -- the number of so many binary digits, bit 0 the most significant.
-use Rattle.std.specs.Prelude.{◌≡◌, ℕ, ◌+◌, ◌-◌, ◌*◌, ◌/◌, ◌%◌, ◌^◌, ◌<◌, List, nat_lt, if◌then◌else◌}
+use Rattle.std.specs.Prelude.{◌≡◌, ℕ, ◌+◌, ◌-◌, ◌*◌, ◌/◌, ◌%◌, ◌^◌, ◌<◌, ◌==◌, Bool, List, nat_lt, if◌then◌else◌}
 use Rattle.std.specs.Int.{bytes_high_first}
 use Rattle.nav_bits.specs.Bits.{number_at}
 use Rattle.crc24q.specs.Division.{IsCrc}
+use Rattle.crc24q.specs.Register.{crc_from}
 use Rattle.inav_page.specs.declared.half.HalfKind.{HalfKind}
 use Rattle.inav_page.specs.declared.half.HalfKind.TheVariants.{Even, Odd}
 
@@ -37,6 +38,14 @@ protected_of even odd = digits_at even 0 114 * 2 ^ 82 + digits_at odd 0 82
 abbrev pub HasRightCrc : ℕ → ℕ → Type 0
 HasRightCrc even odd = IsCrc (protected_of even odd) (digits_at odd 82 24)
 
+-- that CRC, by the register of CRC-24Q over 25 bytes, of which the first four bits are 0
+unfoldable pub page_crc : ℕ → ℕ → ℕ
+page_crc even odd = crc_from 0 (bytes_high_first 25 (protected_of even odd))
+
+-- whether it is the one in the odd part
+abbrev pub has_right_crc : ℕ → ℕ → Bool
+has_right_crc even odd = page_crc even odd == digits_at odd 82 24
+
 -- the word of a page: the 112 data bits of the even part, and behind them the 16 of the odd one
 abbrev pub data_of : ℕ → ℕ → ℕ
 data_of even odd = digits_at even 2 112 * 2 ^ 16 + digits_at odd 2 16
@@ -51,3 +60,14 @@ pub record IsSplit (word : List ℕ) (even odd : ℕ) : Type 0 where
   pub even_is : even ≡ number_at word 0 112 * 2 ^ 6
   pub odd_is : odd ≡ 2 ^ 119 + number_at word 112 16 * 2 ^ 102 + digits_at odd 82 24 * 2 ^ 14
   pub crc : HasRightCrc even odd
+
+-- the even part that is made of a word
+abbrev pub even_of : List ℕ → ℕ
+even_of word = number_at word 0 112 * 2 ^ 6
+
+-- the odd part with 0 in place of the CRC, and with the CRC of the page
+abbrev pub odd_before_crc : List ℕ → ℕ
+odd_before_crc word = 2 ^ 119 + number_at word 112 16 * 2 ^ 102
+
+abbrev pub odd_of : List ℕ → ℕ
+odd_of word = odd_before_crc word + page_crc (even_of word) (odd_before_crc word) * 2 ^ 14

@@ -20,8 +20,8 @@ pub enum HalfKind {
     Odd,
 }
 
-/// What is kept of a part of a nominal page: the first 114 bits of an even one, the first 106 of an odd one (82 and the
-/// CRC).
+/// What is kept of a part of a nominal page: the first 114 bits of an even one, the first 106 of an
+/// odd one (82 and the CRC).
 #[derive(Clone, Copy, PartialEq, Eq, Debug)]
 pub struct Half {
     // The 120 bits as a number, those that are not kept 0.
@@ -109,9 +109,10 @@ fn kept(number: u128) -> u128
     }
 }
 
-/// The part that these 120 bits are: even/odd bit, page type, and behind them in an even part 112 data bits and 6 tail
-/// bits, in an odd one 16 data bits, 64 further bits, the CRC of 24 bits, 8 bits and 6 tail bits (Galileo OS SIS ICD,
-/// 4.3.2.3). The tail bits and the eight bits behind the CRC are not looked at.
+/// The part that these 120 bits are: even/odd bit, page type, and behind them in an even part 112
+/// data bits and 6 tail bits, in an odd one 16 data bits, 64 further bits, the CRC of 24 bits, 8
+/// bits and 6 tail bits (Galileo OS SIS ICD, 4.3.2.3). The tail bits and the eight bits behind the
+/// CRC are not looked at.
 ///
 /// [`HalfFault::Alert`] exactly where the page type is 1.
 pub fn read_half(bits: &Bits<15>) -> Result<Half, HalfFault>

@@ -1,12 +1,14 @@
-ghost use Rattle.std.specs.Prelude.{◌≡◌, ℕ, ◌+◌, ◌≤◌, ◌↔◌, List, [], IfOk, OnOk, OnErr, length, max};
+ghost use Rattle.std.specs.Prelude.{◌≡◌, ℕ, ◌+◌, ◌≤◌, ◌↔◌, List, [], IfOk, OnOk, OnErr, length};
+ghost use Rattle.std.specs.Prelude.{max};
+ghost use Rattle.std.specs.Prelude.{Contains};
 ghost use Rattle.nav_eph.specs.declared.sat.System.TheVariants.{Gal};
 ghost use Rattle.inav_page.specs.Pages.{kind_of};
-ghost use Rattle.inav_page.specs.Heard.{IsIn, AreWordsWith, stamp_by, StampedHalf};
+ghost use Rattle.inav_page.specs.Heard.{AreWordsWith, stamp_by, StampedHalf};
 ghost use Rattle.inav_page.specs.Keeping.{stamped, IsKeptWith};
 
 use crate::half::Half;
 use crate::joined::Joined;
-use crate::keys::{Key, forget, joined_with, place};
+use crate::keys::{Key, first_slot, forget, keep};
 use crate::signal::Signal;
 use nav_eph::Sat;
 use std::alloc::{AllocError, Global};
@@ -15,8 +17,9 @@ use std::marker::Model;
 
 /// The halves of a log, kept as long as a partner may come.
 ///
-/// A half's partners are the halves of the same satellite on the same signal, odd for an even one and even for an odd
-/// one, the odd one a second after the even one, that have the right CRC together.
+/// A half's partners are the halves of the same satellite on the same signal, odd for an even one
+/// and even for an odd one, the odd one a second after the even one, that have the right CRC
+/// together.
 #[derive(Drop)]
 pub struct Halves {
     alloc: Global,
@@ -32,14 +35,18 @@ impl Model for Halves {
 
     ghost Value = { Keeping };
 
-    ghost view = { λ h. record { window = h.window; greatest = h.greatest; kept = map half_of h.kept.keys } };
+    ghost view = { λ h. record {
+      window = h.window;
+      greatest = h.greatest;
+      kept = map half_of h.kept.keys;
+    } };
 
     ghost invariant = { λ h. (h.window ≤ 14400) × AreKeys h.kept.keys };
 }
 
 impl Halves {
-    /// Keeps nothing yet. `window` is in seconds: a half is kept as long as it is older than the greatest stamp by at
-    /// most the window and a second.
+    /// Keeps nothing yet. `window` is in seconds: a half is kept as long as it is older than the
+    /// greatest stamp by at most the window and a second.
     pub fn new(alloc: Global, window: u32) -> Halves
         requires least { 60 ≤ window }
         requires most { window ≤ 14400 }
@@ -55,12 +62,13 @@ impl Halves {
         }
     }
 
-    /// Takes a half that was received at a second of the logger, and gives the words that it makes with the partners
-    /// that are kept, ascending by the partners' bits; none where this very half is kept already. Then it is kept as
-    /// well, and what is older than the greatest stamp by more than the window and a second is forgotten.
+    /// Takes a half that was received at a second of the logger, and gives the words that it makes
+    /// with the partners that are kept, ascending by the partners' bits; none where this very half
+    /// is kept already. Then it is kept as well, and what is older than the greatest stamp by more
+    /// than the window and a second is forgotten.
     ///
-    /// The cost is that of three searches among the halves that are kept, of the partners, and of what is forgotten:
-    /// each half is forgotten once. On an error nothing has changed.
+    /// The cost is that of a CRC, of three searches among the halves that are kept, of the words,
+    /// and of what is forgotten: each half is forgotten once. On an error nothing has changed.
     pub fn take(
         &mut self,
         stamp: u32,
@@ -69,28 +77,27 @@ impl Halves {
         half: &Half,
     ) -> Result<Joined, AllocError>
         requires { sat.system ≡ Gal }
-        ensures words { IfOk result (λ joined. (IsIn self.old.kept (stamped stamp sat signal half.now) → ⊥) → AreWordsWith (IsIn self.old.kept) (stamped stamp sat signal half.now) joined.words) }
-        ensures again { IfOk result (λ joined. IsIn self.old.kept (stamped stamp sat signal half.now) → joined.words ≡ []) }
-        ensures stamp { IfOk result (λ joined. (joined.words ≡ [] → ⊥) → joined.stamp ≡ stamp_by (kind_of half.now) stamp) }
+        ensures words { IfOk result (λ joined.
+            (Contains self.old.kept (stamped stamp sat signal half.now) → ⊥) →
+            AreWordsWith (Contains self.old.kept) (stamped stamp sat signal half.now)
+            joined.words) }
+        ensures again { IfOk result (λ joined.
+            Contains self.old.kept (stamped stamp sat signal half.now) → joined.words ≡ []) }
+        ensures stamp { IfOk result (λ joined. (joined.words ≡ [] → ⊥) →
+            joined.stamp ≡ stamp_by (kind_of half.now) stamp) }
         ensures count { IfOk result (λ joined. length joined.words ≤ length self.old.kept) }
-        ensures kept { OnOk result ((other : StampedHalf) → IsIn self.new.kept other ↔ IsKeptWith self.old (stamped stamp sat signal half.now) self.new.greatest other) }
+        ensures kept { OnOk result ((other : StampedHalf) → Contains self.new.kept other ↔
+            IsKeptWith self.old (stamped stamp sat signal half.now) self.new.greatest other) }
         ensures room { OnOk result (length self.new.kept ≤ length self.old.kept + 1) }
         ensures greatest { OnOk result (self.new.greatest ≡ max self.old.greatest stamp) }
         ensures window { self.new.window ≡ self.old.window }
         ensures err { OnErr result (self.new ≡ self.old) }
     {
         let number = sat.number();
-        let joined = joined_with(self.alloc, &self.kept, stamp, number, signal, half)?;
-        let added = self
-            .kept
-            .insert((place(stamp, number, signal), half.number()))?;
+        let joined = keep(self.alloc, &mut self.kept, stamp, number, signal, half)?;
         self.greatest = self.greatest.max(stamp);
         let oldest = self.greatest.saturating_sub(self.window + 1);
-        forget(&mut self.kept, u64::from(oldest) * 128);
-        if added {
-            Ok(joined)
-        } else {
-            Ok(Joined::none(self.alloc))
-        }
+        forget(&mut self.kept, first_slot(oldest));
+        Ok(joined)
     }
 }

@@ -50,7 +50,8 @@ impl Joined {
         &self.words[i]
     }
 
-    /// The second at which the odd parts of the words were received; without words it means nothing.
+    /// The second at which the odd parts of the words were received; without words it means
+    /// nothing.
     pub fn stamp(&self) -> u32
         ensures { result ≡ self.now.stamp }
     {

@@ -1,32 +1,47 @@
-//! Halves in the order in which they are kept: by stamp, satellite, signal, part, and bits.
+//! Halves in the order in which they are kept: by stamp, satellite, signal, the remainder that
+//! their partners have too, part, and bits. So the partners of a half stand one behind the other.
 
-ghost use Rattle.std.specs.Prelude.{◌≡◌, ℕ, ◌+◌, ◌*◌, ◌^◌, ◌<◌, ◌≤◌, ◌↔◌, IsTrue, SomeIff, IfOk, List, [], length, map};
+ghost use Rattle.std.specs.Prelude.{◌≡◌, ℕ, ◌+◌, ◌*◌, ◌/◌, ◌^◌, ◌<◌, ◌≤◌, ◌⊎◌, ◌↔◌, SomeIff, IfOk};
+ghost use Rattle.std.specs.Prelude.{OnOk, OnErr, List, [], length, map, Contains};
 ghost use Rattle.std.specs.List.Sorted.{IsStrictlySortedBy};
 ghost use Rattle.nav_eph.specs.declared.sat.System.TheVariants.{Gal};
 ghost use Rattle.inav_page.specs.Pages.{kind_of};
-ghost use Rattle.inav_page.specs.Heard.{IsIn, AreWordsWith, stamp_by, word_by};
+ghost use Rattle.inav_page.specs.Heard.{AreWordsWith, stamp_by, word_by};
 ghost use Rattle.inav_page.specs.Keeping.{stamped};
-ghost use Rattle.inav_page.specs.Mirrors.{is_right_by, first_partner, end_of_partners, half_of, key_cmp, place_of, words_at_place, AreKeys, HasPartnerStamp};
+ghost use Rattle.inav_page.specs.Mirrors.{end_of_partners, first_partner, half_of, key_cmp};
+ghost use Rattle.inav_page.specs.Mirrors.{place_of};
+ghost use Rattle.inav_page.specs.Mirrors.{remainder_of, slot_of, words_in_slot};
+ghost use Rattle.inav_page.specs.Mirrors.{AreKeys, HasPartnerStamp, IsKey};
 
 use crate::half::{Half, HalfKind, ODD};
 use crate::joined::Joined;
-use crate::page::{belong, word};
+use crate::page::{remainder, word};
 use crate::signal::{Signal, number_of};
 use nav_bits::Bits;
 use std::alloc::{AllocError, Global};
 use std::collections::BTreeSet;
 use std::ops::Range;
 
-// The number of a stamp, a satellite and a signal, in their order, and the bits of a half.
+// The slot of a half, which is the number of its stamp, satellite and signal, in their order, with
+// its remainder behind; and the bits of the half.
 pub(crate) type Key = (u64, u128);
 
-// The number of a stamp, the number of a satellite of Galileo, and a signal.
-pub(crate) fn place(stamp: u32, number: u8, signal: Signal) -> u64
-    requires { number < 64 }
-    ensures same { result ≡ place_of stamp number signal }
-    ensures fits { result < 2 ^ 39 }
+// The slot of a stamp, the number of a satellite of Galileo, a signal, and a remainder.
+fn slot(stamp: u32, number: u8, signal: Signal, remainder: u64) -> u64
+    requires number { number < 64 }
+    requires remainder { remainder < 2 ^ 24 }
+    ensures same { result ≡ slot_of (place_of stamp number signal) remainder }
+    ensures fits { result < 2 ^ 63 }
 {
-    u64::from(stamp) * 128 + u64::from(number) * 2 + number_of(signal)
+    let place = u64::from(stamp) * 128 + u64::from(number) * 2 + number_of(signal);
+    place * 0x100_0000 + remainder
+}
+
+// The first slot of a stamp.
+pub(crate) fn first_slot(stamp: u32) -> u64
+    ensures { result ≡ stamp * 128 * 2 ^ 24 }
+{
+    u64::from(stamp) * 128 * 0x100_0000
 }
 
 // The stamp of the partners of a half, where it is one.
@@ -39,76 +54,74 @@ pub(crate) fn partner_stamp(kind: HalfKind, stamp: u32) -> Option<u32>
     }
 }
 
-// Where the halves at a place stand that are not of that kind.
-fn others_at(place: u64, kind: HalfKind) -> Range<Key>
-    requires { place < 2 ^ 39 }
-    ensures start { result.start ≡ first_partner place kind }
-    ensures end { result.end ≡ end_of_partners place kind }
+// Where the halves in a slot stand that are not of that kind.
+fn others_in(slot: u64, kind: HalfKind) -> Range<Key>
+    requires { slot < 2 ^ 63 }
+    ensures start { result.start ≡ first_partner slot kind }
+    ensures end { result.end ≡ end_of_partners slot kind }
 {
     match kind {
-        HalfKind::Even => (place, ODD)..(place + 1, 0),
-        HalfKind::Odd => (place, 0)..(place, ODD),
+        HalfKind::Even => (slot, ODD)..(slot + 1, 0),
+        HalfKind::Odd => (slot, 0)..(slot, ODD),
     }
 }
 
-// The word of a half of that kind and another, where the CRC is right.
-fn word_of_two(kind: HalfKind, one: u128, other: u128) -> Option<Bits<16>>
-    ensures { SomeIff result (IsTrue (is_right_by kind one other)) (word_by kind one other) }
+// The word of a half of that kind and another.
+fn word_of_two(kind: HalfKind, one: u128, other: u128) -> Bits<16>
+    ensures { result ≡ word_by kind one other }
 {
-    let (even, odd) = match kind {
-        HalfKind::Even => (one, other),
-        HalfKind::Odd => (other, one),
-    };
-    if belong(even, odd) {
-        Some(word(even, odd))
-    } else {
-        None
+    match kind {
+        HalfKind::Even => word(one, other),
+        HalfKind::Odd => word(other, one),
     }
 }
 
-// The words of a half with those that are kept at a place.
-pub(crate) fn words_with(
+// The words of a half with those that are kept in a slot.
+fn words_with(
     alloc: Global,
     kept: &BTreeSet<Key>,
-    place: u64,
+    slot: u64,
     half: &Half,
 ) -> Result<Vec<Bits<16>>, AllocError>
-    requires { place < 2 ^ 39 }
-    ensures words { IfOk result (λ words. words.items ≡ words_at_place kept.now.keys place half.now) }
+    requires { slot < 2 ^ 63 }
+    ensures words { IfOk result (λ words. words.items ≡ words_in_slot kept.now.keys slot half.now) }
     ensures ordered { IsStrictlySortedBy key_cmp kept.now.keys }
 {
     let kind = half.kind();
     let number = half.number();
     let mut words = Vec::new(alloc);
     let _length = kept.len();
-    for key in kept.range(others_at(place, kind)) {
-        if let Some(word) = word_of_two(kind, number, key.1) {
-            words.push(word)?;
-        }
+    for key in kept.range(others_in(slot, kind)) {
+        words.push(word_of_two(kind, number, key.1))?;
     }
     Ok(words)
 }
 
-// The words that a half makes with those that are kept, and their stamp.
-pub(crate) fn joined_with(
+// The words that a half with this remainder makes with those that are kept, and their stamp.
+fn joined_with(
     alloc: Global,
     kept: &BTreeSet<Key>,
     stamp: u32,
     number: u8,
     signal: Signal,
+    remainder: u64,
     half: &Half,
 ) -> Result<Joined, AllocError>
     requires number { number < 64 }
     requires keys { AreKeys kept.now.keys }
-    ensures words { IfOk result (λ joined. AreWordsWith (IsIn (map half_of kept.now.keys)) (stamped stamp (record { system = Gal; number = number }) signal half.now) joined.words) }
-    ensures stamp { IfOk result (λ joined. (joined.words ≡ [] → ⊥) → joined.stamp ≡ stamp_by (kind_of half.now) stamp) }
+    requires remainder { remainder ≡ remainder_of half.now }
+    requires fits { remainder < 2 ^ 24 }
+    ensures words { IfOk result (λ joined. AreWordsWith (Contains (map half_of kept.now.keys))
+        (stamped stamp (record { system = Gal; number = number }) signal half.now) joined.words) }
+    ensures stamp { IfOk result (λ joined. (joined.words ≡ [] → ⊥) →
+        joined.stamp ≡ stamp_by (kind_of half.now) stamp) }
     ensures count { IfOk result (λ joined. length joined.words ≤ length kept.now.keys) }
 {
     let kind = half.kind();
     let Some(other) = partner_stamp(kind, stamp) else {
         return Ok(Joined::none(alloc));
     };
-    let words = words_with(alloc, kept, place(other, number, signal), half)?;
+    let words = words_with(alloc, kept, slot(other, number, signal, remainder), half)?;
     let heard = match kind {
         HalfKind::Even => other,
         HalfKind::Odd => stamp,
@@ -116,9 +129,64 @@ pub(crate) fn joined_with(
     Ok(Joined::new(words, heard))
 }
 
-// Forgets what stands before a place.
+// The key of a half, and its remainder.
+fn key_of(stamp: u32, number: u8, signal: Signal, half: &Half) -> (Key, u64)
+    requires { number < 64 }
+    ensures place { result.0.0 / 2 ^ 24 ≡ place_of stamp number signal }
+    ensures bits { result.0.1 ≡ half.now }
+    ensures key { IsKey result.0 }
+    ensures remainder { result.1 ≡ remainder_of half.now }
+    ensures fits { result.1 < 2 ^ 24 }
+{
+    let remainder = remainder(half);
+    (
+        (slot(stamp, number, signal, remainder), half.number()),
+        remainder,
+    )
+}
+
+// Keeps a half, and gives the words that it makes with those that were kept; none where it was kept
+// already, and then nothing is sought.
+pub(crate) fn keep(
+    alloc: Global,
+    kept: &mut BTreeSet<Key>,
+    stamp: u32,
+    number: u8,
+    signal: Signal,
+    half: &Half,
+) -> Result<Joined, AllocError>
+    requires number { number < 64 }
+    requires keys { AreKeys kept.old.keys }
+    ensures words { IfOk result (λ joined. (Contains (map half_of kept.old.keys)
+        (stamped stamp (record { system = Gal; number = number }) signal half.now) → ⊥) →
+        AreWordsWith (Contains (map half_of kept.old.keys))
+        (stamped stamp (record { system = Gal; number = number }) signal half.now) joined.words) }
+    ensures again { IfOk result (λ joined. Contains (map half_of kept.old.keys)
+        (stamped stamp (record { system = Gal; number = number }) signal half.now) →
+        joined.words ≡ []) }
+    ensures stamp { IfOk result (λ joined. (joined.words ≡ [] → ⊥) →
+        joined.stamp ≡ stamp_by (kind_of half.now) stamp) }
+    ensures count { IfOk result (λ joined. length joined.words ≤ length kept.old.keys) }
+    ensures kept { OnOk result ((key : ℕ × ℕ) × IsKey key ×
+        (half_of key ≡ stamped stamp (record { system = Gal; number = number }) signal half.now) ×
+        ((other : ℕ × ℕ) → Contains kept.new.keys other ↔
+        (Contains kept.old.keys other ⊎ (key ≡ other)))) }
+    ensures room { OnOk result (length kept.new.keys ≤ length kept.old.keys + 1) }
+    ensures err { OnErr result (kept.new ≡ kept.old) }
+{
+    let (key, remainder) = key_of(stamp, number, signal, half);
+    if kept.contains(&key) {
+        return Ok(Joined::none(alloc));
+    }
+    let joined = joined_with(alloc, kept, stamp, number, signal, remainder, half)?;
+    kept.insert(key)?;
+    Ok(joined)
+}
+
+// Forgets what stands before a slot.
 pub(crate) fn forget(kept: &mut BTreeSet<Key>, from: u64)
-    ensures kept { (key : ℕ × ℕ) → IsIn kept.new.keys key ↔ (IsIn kept.old.keys key × (from ≤ key.0)) }
+    ensures kept { (key : ℕ × ℕ) →
+        Contains kept.new.keys key ↔ (Contains kept.old.keys key × (from ≤ key.0)) }
     ensures fewer { length kept.new.keys ≤ length kept.old.keys }
 {
     while let Some(first) = kept.first() {

@@ -1,12 +1,12 @@
 //! The pages of the I/NAV message of Galileo, in halves (Galileo OS SIS ICD, 4.3.2).
 //!
-//! A nominal page is sent in two parts of 120 bits, an even one and a second later an odd one; together they bring a
-//! word of 128 bits, protected by a CRC-24Q in the odd part. Here are
+//! A nominal page is sent in two parts of 120 bits, an even one and a second later an odd one;
+//! together they bring a word of 128 bits, protected by a CRC-24Q in the odd part. Here are
 //!
 //! - [`read_half`] and [`write_half`], a part as the bits that are kept of it ([`Half`]);
 //! - [`join`] and [`split`], the word of two parts and the parts of a word;
-//! - [`Halves`], which takes the parts of a log as they come, in any order, and gives each word as soon as both its
-//!   parts are there ([`Joined`]).
+//! - [`Halves`], which takes the parts of a log as they come, in any order, and gives each word as
+//!   soon as both its parts are there ([`Joined`]).
 //!
 //! ```rust
 //! use inav_page::{HalfKind, join, read_half, split, write_half};
@@ -35,6 +35,10 @@ pub use crate::fault::HalfFault;
 pub use crate::half::{Half, HalfKind, read_half, write_half};
 pub use crate::halves::Halves;
 pub use crate::joined::Joined;
-pub use crate::laws::{one_list_of_words, parts_are_their_bits, words_heard_with_one_more};
+pub use crate::laws::{
+    halves_are_decided, halves_are_read_again, halves_are_the_functions, one_list_of_words,
+    parts_are_their_bits, right_crc_is_decided, split_is_a_word, words_are_the_function,
+    words_heard_with_one_more,
+};
 pub use crate::page::{join, split};
 pub use crate::signal::Signal;

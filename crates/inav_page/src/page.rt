@@ -3,10 +3,11 @@
 ghost use Rattle.std.specs.Prelude.{◌≡◌, ℕ, ◌+◌, ◌*◌, ◌^◌, ◌<◌, ◌↔◌, IsSome, IfSome, slice_index};
 ghost use Rattle.nav_bits.specs.Bits.{number_at};
 ghost use Rattle.inav_page.specs.declared.half.HalfKind.TheVariants.{Even, Odd};
-ghost use Rattle.inav_page.specs.Pages.{digits_at, kind_of, word_of, HasRightCrc, IsHalf, IsSplit};
-ghost use Rattle.inav_page.specs.Mirrors.{is_right, page_crc};
+ghost use Rattle.inav_page.specs.Pages.{digits_at, even_of, has_right_crc, kind_of, odd_of};
+ghost use Rattle.inav_page.specs.Pages.{page_crc, word_of, HasRightCrc, IsHalf, IsSplit};
+ghost use Rattle.inav_page.specs.Mirrors.{remainder_of};
 
-use crate::half::{Half, ODD};
+use crate::half::{Half, HalfKind, ODD};
 use crc24q::crc_bytes;
 use nav_bits::{Bits, put_numbers};
 
@@ -45,9 +46,22 @@ fn crc_of(even: u128, odd: u128) -> u64
 
 // The CRC in the odd part is that of the page.
 pub(crate) fn belong(even: u128, odd: u128) -> bool
-    ensures { result ≡ is_right even odd }
+    ensures { result ≡ has_right_crc even odd }
 {
     crc_of(even, odd) == (odd / 0x4000 % 0x100_0000) as u64
+}
+
+// What a part and its partners have in common: the CRC that an even part brings to a page, and that
+// which an odd part leaves to be brought.
+pub(crate) fn remainder(half: &Half) -> u64
+    ensures same { result ≡ remainder_of half.now }
+    ensures fits { result < 2 ^ 24 }
+{
+    let number = half.number();
+    match half.kind() {
+        HalfKind::Even => crc_of(number, 0),
+        HalfKind::Odd => crc_of(0, number) ^ (number / 0x4000 % 0x100_0000) as u64,
+    }
 }
 
 // The word of two parts.
@@ -59,11 +73,11 @@ pub(crate) fn word(even: u128, odd: u128) -> Bits<16>
     Bits::from_bytes((high * 0x1_0000 + low).to_be_bytes())
 }
 
-/// The word of the two parts of a page: the 112 data bits of the even part, and the 16 of the odd one (Galileo OS SIS
-/// ICD, 4.3.2.3).
+/// The word of the two parts of a page: the 112 data bits of the even part, and the 16 of the odd
+/// one (Galileo OS SIS ICD, 4.3.2.3).
 ///
-/// `None` exactly where the CRC-24Q of the first 114 bits of the even part and the first 82 of the odd one is not the
-/// CRC in the odd part (5.1.9.4).
+/// `None` exactly where the CRC-24Q of the first 114 bits of the even part and the first 82 of the
+/// odd one is not the CRC in the odd part (5.1.9.4).
 pub fn join(even: &Half, odd: &Half) -> Option<Bits<16>>
     requires even { kind_of even.now ≡ Even }
     requires odd { kind_of odd.now ≡ Odd }
@@ -81,6 +95,7 @@ pub fn join(even: &Half, odd: &Half) -> Option<Bits<16>>
 
 /// The two parts that send a word: nominal pages, the 64 further bits 0, and the CRC of the page.
 pub fn split(word: &Bits<16>) -> (Half, Half)
+    ensures halves { (result.0 ≡ even_of word.now) × (result.1 ≡ odd_of word.now) }
     ensures parts { IsSplit word.now result.0 result.1 }
     ensures even { kind_of result.0 ≡ Even }
     ensures odd { kind_of result.1 ≡ Odd }

@@ -95,7 +95,8 @@ fn reads_and_refuses_parts(rt: HostRuntime) {
     assert!(rt; join(&changed.0, &plain_odd) == None);
 }
 
-// How many words taking a half of satellite 11 gave, their last bytes one after another, and their stamp.
+// How many words taking a half of satellite 11 gave, their last bytes one after another, and their
+// stamp.
 fn took(
     halves: &mut Halves,
     stamp: u32,

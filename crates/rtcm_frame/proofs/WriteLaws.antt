@@ -1,13 +1,15 @@
 -- What is written for a payload is a whole frame.
-use Rattle.std.proofs.Common.{◌≡◌, ℕ, ◌+◌, ◌-◌, ◌^◌, ◌<◌, ◌≤◌, nat_eq, true, List, ◌++◌, length, take, drop, refl, sym, ap, ◌∙◌, arith, length-append}
-use Rattle.std.proofs.lemmas.Bool.{eq-eqb}
+use Rattle.std.proofs.Common.{◌≡◌, ℕ, ◌+◌, ◌-◌, ◌/◌, ◌%◌, ◌^◌, ◌<◌, ◌≤◌, nat_eq, nat_lt, Bool, true, false, List, ◌∷◌, ◌++◌, length, take, drop, refl, sym, ap, ◌∙◌, arith, length-append}
+use Rattle.std.proofs.lemmas.Bool.{eq-eqb, lt-ltb}
 use Rattle.std.proofs.lemmas.List.{take_at, drop_at, take_all}
 use Rattle.byteorder.specs.Endian.{big_number}
 use Rattle.crc24q.specs.Register.{crc_from}
 use Rattle.crc24q.proofs.Surface.{crc_from-lt}
-use Rattle.rtcm_frame.specs.Frames.{frame_size, is_right}
+use Rattle.rtcm_frame.specs.Frames.{frame_size, frames, frames_past, is_open, is_right}
 use Rattle.rtcm_frame.specs.State.{payload_of}
 use Rattle.rtcm_frame.specs.Writing.{three_bytes, body_of, frame_bytes}
+use Rattle.rtcm_frame.proofs.FormLaws.{size-append, size_of_open}
+use Rattle.rtcm_frame.proofs.FrameLaws.{frames_past-drop}
 use Rattle.rtcm_frame.proofs.FormCases.{announced_by, size_within}
 
 -- three bytes read back
@@ -42,3 +44,25 @@ pub payload_of-frame_bytes : (payload : List ℕ) → payload_of (frame_bytes pa
 payload_of-frame_bytes payload =
     let size : length (frame_bytes payload) - 6 ≡ length payload = omega (arith, length-frame_bytes payload) in
     ap (λ n. take n (drop 3 (frame_bytes payload))) size ∙ take_at payload (three_bytes (crc_from 0 (body_of payload))) (length payload) refl
+
+-- ---- a whole frame and more bytes
+
+pub whole_first : (x : ℕ) (xs more : List ℕ) → frame_size (x ∷ xs) ≡ length (x ∷ xs) → frames (x ∷ (xs ++ more)) ≡ (x ∷ xs) ∷ frames more
+whole_first x xs more whole =
+    let shut = not_open (is_open (x ∷ xs)) refl in
+    let size : frame_size (x ∷ (xs ++ more)) ≡ length (x ∷ xs) = size-append x xs more shut ∙ whole in
+    let some : nat_lt 0 (length (x ∷ xs)) ≡ true = lt-ltb 0 (length (x ∷ xs)) (omega arith) in
+    let front : take (length (x ∷ xs)) (x ∷ (xs ++ more)) ≡ x ∷ xs = take_at (x ∷ xs) more (length (x ∷ xs)) refl in
+    let count : length (x ∷ xs) - 1 ≡ length xs = omega arith in
+    let rest : frames_past false (xs ++ more) (length xs) ≡ frames more =
+    frames_past-drop false (xs ++ more) (length xs) ∙ ap frames (drop_at xs more (length xs) refl) in
+    rw (size, some, front, count, rest) refl
+  where
+    not_open : (b : Bool) → is_open (x ∷ xs) ≡ b → is_open (x ∷ xs) ≡ false
+    not_open true e = absurd (let none = size_of_open (x ∷ xs) e in omega (arith, whole, none))
+    not_open false e = e
+
+pub written_first : (payload more : List ℕ) → length payload ≤ 1023 → frames (frame_bytes payload ++ more) ≡ frame_bytes payload ∷ frames more
+written_first payload more short =
+    let behind = length payload / 256 ∷ length payload % 256 ∷ payload ++ three_bytes (crc_from 0 (body_of payload)) in
+    whole_first 211 behind more (written_is_whole payload short ∙ sym (length-frame_bytes payload))

@@ -1,6 +1,7 @@
 //! Frames of bytes that come one by one.
 
-ghost use Rattle.std.specs.Prelude.{◌≡◌, ◌+◌, ◌-◌, ◌<◌, ◌≤◌, ◌↔◌, [], ◌∷◌, ◌++◌, length, take, drop, true, false, not, IsTrue, IfSome, IfNone};
+ghost use Rattle.std.specs.Prelude.{◌≡◌, ◌+◌, ◌-◌, ◌<◌, ◌≤◌, ◌↔◌, [], ◌∷◌, ◌++◌, length, take};
+ghost use Rattle.std.specs.Prelude.{drop, true, false, not, IsTrue, IfSome, IfNone};
 ghost use Rattle.rtcm_frame.specs.Frames.{frame_size};
 ghost use Rattle.rtcm_frame.specs.State.{IsWaiting};
 ghost use Rattle.rtcm_frame.specs.Mirrors.{from_first, Promises};
@@ -10,9 +11,11 @@ use crate::frame::Frame;
 use crate::window::Window;
 use std::marker::Model;
 
-/// Takes the bytes of a stream one by one and gives the frames in them, in order (RTCM 10403.3, the transport layer).
+/// Takes the bytes of a stream one by one and gives the frames in them, in order (RTCM 10403.3, the
+/// transport layer).
 ///
-/// A contract sees the bytes that were fed and not passed yet, `rest`, and whether `finish` was called, `finished`.
+/// A contract sees the bytes that were fed and not passed yet, `rest`, and whether `finish` was
+/// called, `finished`.
 #[derive(Drop)]
 pub struct Deframer {
     window: Window,
@@ -37,7 +40,8 @@ impl Model for Deframer {
 }
 
 impl Deframer {
-    ghost use Rattle.std.specs.Prelude.{◌≡◌, ◌<◌, ◌≤◌, ◌↔◌, [], ◌∷◌, ◌++◌, length, take, false, not, IsTrue, IfSome, IfNone};
+    ghost use Rattle.std.specs.Prelude.{◌≡◌, ◌<◌, ◌≤◌, ◌↔◌, [], ◌∷◌, ◌++◌, length, take, false};
+    ghost use Rattle.std.specs.Prelude.{not, IsTrue, IfSome, IfNone};
     ghost use Rattle.rtcm_frame.specs.State.{IsSettled, TakesFrame, TakesNone};
 
     /// A deframer that has taken no byte.
@@ -53,8 +57,8 @@ impl Deframer {
         }
     }
 
-    /// Takes one more byte. It may be called where `settled` holds: after `new`, and after each `next_frame` that answered
-    /// `None`, until `finish` is called.
+    /// Takes one more byte. It may be called where `settled` holds: after `new`, and after each
+    /// `next_frame` that answered `None`, until `finish` is called.
     pub fn feed(&mut self, byte: u8)
         requires { IsSettled self.old }
         ensures rest { self.new.rest ≡ self.old.rest ++ byte ∷ [] }
@@ -64,9 +68,11 @@ impl Deframer {
         self.window.push(byte);
     }
 
-    /// Takes bytes from the front of a piece, as many as there is room for and at least one, and gives how many.
+    /// Takes bytes from the front of a piece, as many as there is room for and at least one, and
+    /// gives how many.
     ///
-    /// It may be called where `settled` holds, as `feed`. A piece that is fed so costs less than one that is fed byte by byte.
+    /// It may be called where `settled` holds, as `feed`. A piece that is fed so costs less than
+    /// one that is fed byte by byte.
     pub fn feed_some(&mut self, piece: &[u8]) -> usize
         requires settled { IsSettled self.old }
         requires some { 0 < length piece.now }
@@ -83,12 +89,14 @@ impl Deframer {
 
     /// The next frame, and passes the bytes up to its end.
     ///
-    /// Before `finish` it answers `None` exactly where no frame is decided: what is kept then begins with a frame that has
-    /// not ended, or nothing is kept. After `finish` it answers `None` exactly where there is no frame any more, and
-    /// keeps nothing.
+    /// Before `finish` it answers `None` exactly where no frame is decided: what is kept then
+    /// begins with a frame that has not ended, or nothing is kept. After `finish` it answers `None`
+    /// exactly where there is no frame any more, and keeps nothing.
     pub fn next_frame(&mut self) -> Option<Frame>
-        ensures frame { IfSome result (λ frame. TakesFrame (not self.old.finished) self.old.rest frame self.new.rest) }
-        ensures none { IfNone result (TakesNone (not self.old.finished) self.old.rest self.new.rest) }
+        ensures frame { IfSome result (λ frame.
+            TakesFrame (not self.old.finished) self.old.rest frame self.new.rest) }
+        ensures none { IfNone result
+            (TakesNone (not self.old.finished) self.old.rest self.new.rest) }
         ensures finished { self.new.finished ≡ self.old.finished }
     {
         if !self.finished && self.window.len() < self.wanted {
@@ -109,7 +117,8 @@ impl Deframer {
         Some(frame)
     }
 
-    /// Says that no byte follows: a frame that has not ended will not, and the frames inside it are looked for.
+    /// Says that no byte follows: a frame that has not ended will not, and the frames inside it are
+    /// looked for.
     pub fn finish(&mut self)
         ensures rest { self.new.rest ≡ self.old.rest }
         ensures finished { self.new.finished ≡ true }
@@ -125,8 +134,8 @@ impl Deframer {
     }
 }
 
-// Passes the bytes before the first place where a frame begins or, where more may come, that is open, and gives the size
-// of the frame that begins there, or 0 where none does.
+// Passes the bytes before the first place where a frame begins or, where more may come, that is
+// open, and gives the size of the frame that begins there, or 0 where none does.
 #[inline(never)]
 fn decide(window: &mut Window, start: &mut usize, wanted: &mut usize, more: bool) -> usize
     requires { start.old ≤ length window.old }
@@ -139,13 +148,13 @@ fn decide(window: &mut Window, start: &mut usize, wanted: &mut usize, more: bool
     let (place, size) = find(window, *start, more);
     *start = place;
     if size == 0 {
-        *wanted = wait(window, start);
+        *wanted = undecided_below(window, start);
     }
     size
 }
 
-// The first place from this one on where a frame begins or, where more bytes may come, that is open, and the size of the
-// frame, or 0 where none begins.
+// The first place from this one on where a frame begins or, where more bytes may come, that is
+// open, and the size of the frame, or 0 where none begins.
 #[tactic(auto, using(crate::proofs::Takes::steps))]
 fn find(window: &mut Window, start: usize, more: bool) -> (usize, usize)
     requires { start ≤ length window.old }
@@ -182,7 +191,7 @@ fn frame_at(window: &Window, place: usize, size: usize) -> Frame
 
 // Below how many bytes in the window nothing is decided; a window with no bytes to pass is cleared.
 #[tactic(auto, using(crate::proofs::Promising::promises))]
-fn wait(window: &mut Window, start: &mut usize) -> usize
+fn undecided_below(window: &mut Window, start: &mut usize) -> usize
     requires inside { start.old ≤ length window.old }
     requires waiting { IsWaiting (drop start.old window.old) }
     ensures inside { start.new ≤ length window.new }

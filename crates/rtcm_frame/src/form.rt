@@ -1,6 +1,7 @@
 //! The form of one frame, at the beginning of some bytes (RTCM 10403.3, the transport layer).
 
-ghost use Rattle.std.specs.Prelude.{◌≡◌, ◌<◌, ◌≤◌, ◌^◌, ◌&&◌, ◌↔◌, IsTrue, length, take, slice_index, if◌then◌else◌, Bool};
+ghost use Rattle.std.specs.Prelude.{◌≡◌, ◌<◌, ◌≤◌, ◌^◌, ◌&&◌, ◌↔◌, IsTrue, length, take};
+ghost use Rattle.std.specs.Prelude.{slice_index, if◌then◌else◌, Bool};
 ghost use Rattle.rtcm_frame.specs.Checksum.{checksum};
 ghost use Rattle.rtcm_frame.specs.Frames.{announced, frame_size, is_open, is_right};
 ghost use Rattle.rtcm_frame.specs.State.{IsWaiting};
@@ -52,7 +53,8 @@ pub fn is_held(bytes: &[u8], more: bool) -> bool
     more && opens(bytes)
 }
 
-// The size of the frame that is announced at the beginning of these bytes and ends in them, or 0 where none does.
+// The size of the frame that is announced at the beginning of these bytes and ends in them, or 0
+// where none does.
 #[tactic(auto, using(crate::proofs::FormCases::form_cases))]
 pub fn announced_within(bytes: &[u8]) -> usize
     ensures none { result ≡ 0 → frame_size bytes.now ≡ 0 }

@@ -8,8 +8,8 @@ use crate::form::{LONGEST, size_of_frame};
 use arrayvec::ArrayVec;
 use std::marker::Model;
 
-/// One whole frame (RTCM 10403.3, the transport layer). A contract sees the list of its bytes, of which there are 6 at
-/// least.
+/// One whole frame (RTCM 10403.3, the transport layer). A contract sees the list of its bytes, of
+/// which there are 6 at least.
 #[derive(Drop)]
 pub struct Frame {
     bytes: ArrayVec<u8, LONGEST>,
@@ -56,10 +56,12 @@ impl Frame {
     }
 }
 
-/// The frame that these bytes are; `None` exactly where they are not one whole frame of right checksum and nothing else.
+/// The frame that these bytes are; `None` exactly where they are not one whole frame of right
+/// checksum and nothing else.
 #[tactic(auto, using(crate::proofs::Takes::sizes))]
 pub fn frame_of(bytes: &[u8]) -> Option<Frame>
-    ensures whole { IsSome result ↔ ((0 < length bytes.now) × (frame_size bytes.now ≡ length bytes.now)) }
+    ensures whole { IsSome result ↔
+        ((0 < length bytes.now) × (frame_size bytes.now ≡ length bytes.now)) }
     ensures frame { IfSome result (λ frame. frame ≡ bytes.now) }
 {
     let size = size_of_frame(bytes);

@@ -1,13 +1,16 @@
 //! Laws of the definitions: each function does nothing, and its contract is the law.
 
-ghost use Rattle.std.specs.Prelude.{◌≡◌, ℕ, ◌+◌, ◌≤◌, length, ◌<◌, ◌↔◌, ◌&&◌, ◌++◌, ◌∷◌, nat_lt, Bool, List, [], take, drop};
+ghost use Rattle.std.specs.Prelude.{◌≡◌, ℕ, ◌+◌, ◌≤◌, length, ◌<◌, ◌↔◌, ◌&&◌, ◌++◌, ◌∷◌, nat_lt};
+ghost use Rattle.std.specs.Prelude.{Bool, List, [], take, drop};
 ghost use Rattle.rtcm_frame.specs.Frames.{frame_size, frames, decided, undecided, after_first};
 ghost use Rattle.rtcm_frame.specs.Standard.{AreBytes, BeginsFrame};
 ghost use Rattle.rtcm_frame.specs.State.{IsWaiting, payload_of};
 ghost use Rattle.rtcm_frame.specs.Writing.{frame_bytes};
-ghost use Rattle.rtcm_frame.specs.Places.{AreChosen, is_chosen, frames_from, IsUnfinished, IsOpenPlace};
+ghost use Rattle.rtcm_frame.specs.Places.{AreChosen, is_chosen, frames_from, IsUnfinished};
+ghost use Rattle.rtcm_frame.specs.Places.{IsOpenPlace};
 
-/// A frame begins the bytes, and has this size, exactly where one of this size begins them in the standard's own terms.
+/// A frame begins the bytes, and has this size, exactly where one of this size begins them in the
+/// standard's own terms.
 pub fn frames_are_those_of_the_standard()
     ensures { (bytes : List ℕ) (n : ℕ) → AreBytes bytes
         → ((0 < n) × (frame_size bytes ≡ n)) ↔ BeginsFrame bytes n }
@@ -16,7 +19,8 @@ pub fn frames_are_those_of_the_standard()
     crc24q::the_register_holds_the_crc();
 }
 
-/// The decided frames stay, whatever bytes follow, and the others are those of what is undecided with these bytes.
+/// The decided frames stay, whatever bytes follow, and the others are those of what is undecided
+/// with these bytes.
 pub fn decided_frames_stay()
     ensures { (bytes more : List ℕ)
         → frames (bytes ++ more) ≡ decided bytes ++ frames (undecided bytes ++ more) }
@@ -47,8 +51,8 @@ pub fn frames_after_the_first()
     ensures { (bytes : List ℕ) → frames (after_first bytes) ≡ drop 1 (frames bytes) }
 {}
 
-/// While nothing is held, or what is held begins with a frame that has not ended, no frame is decided, and what is held
-/// begins at its open place.
+/// While nothing is held, or what is held begins with a frame that has not ended, no frame is
+/// decided, and what is held begins at its open place.
 pub fn nothing_is_decided_while_bytes_wait()
     ensures decided { (rest : List ℕ) → IsWaiting rest → decided rest ≡ [] }
     ensures undecided { (rest : List ℕ) → IsWaiting rest → undecided rest ≡ rest }
@@ -60,4 +64,10 @@ pub fn written_frames_are_whole()
         → frame_size (frame_bytes payload) ≡ length payload + 6 }
     ensures size { (payload : List ℕ) → length (frame_bytes payload) ≡ length payload + 6 }
     ensures payload { (payload : List ℕ) → payload_of (frame_bytes payload) ≡ payload }
+{}
+
+/// The frames of a written frame and more bytes are that frame and the frames of the other bytes.
+pub fn frames_behind_a_written_frame()
+    ensures { (payload more : List ℕ) → length payload ≤ 1023
+        → frames (frame_bytes payload ++ more) ≡ frame_bytes payload ∷ frames more }
 {}

@@ -1,10 +1,11 @@
-//! Frames of RTCM 10403.3 (the transport layer, section 4): writing one, reading one, and finding them in a stream of
-//! bytes.
+//! Frames of RTCM 10403.3 (the transport layer, section 4): writing one, reading one, and finding
+//! them in a stream of bytes.
 //!
-//! A frame is the preamble D3, six reserved bits that are not looked at, ten bits of length, a payload of so many bytes
-//! (0 to 1,023), and the CRC-24Q of all before it in three bytes, the high one first. In a stream a frame is looked for at
-//! each byte D3: where a whole frame of right checksum begins, that frame is taken and the search goes on behind it, else
-//! it goes on one byte further.
+//! A frame is the preamble D3, six reserved bits that are not looked at, ten bits of length, a
+//! payload of so many bytes (0 to 1,023), and the CRC-24Q of all before it in three bytes, the high
+//! one first. In a stream a frame is looked for at each byte D3: where a whole frame of right
+//! checksum begins, that frame is taken and the search goes on behind it, else it goes on one byte
+//! further.
 //!
 //! ```rust
 //! let mut deframer = Deframer::new();
@@ -36,6 +37,6 @@ pub use frame::{Frame, frame_of};
 pub use laws::{
     decided_frames_stand_before_the_open_place, decided_frames_stay, frames_after_the_first,
     frames_are_at_the_chosen_places, frames_are_those_of_the_standard,
-    nothing_is_decided_while_bytes_wait, written_frames_are_whole,
+    frames_behind_a_written_frame, nothing_is_decided_while_bytes_wait, written_frames_are_whole,
 };
 pub use writing::write_frame;

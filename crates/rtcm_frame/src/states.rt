@@ -1,5 +1,5 @@
-//! The registers of the checksum beside the bytes of a window: with those before and after some bytes, the checksum of
-//! these takes the same time whatever their number.
+//! The registers of the checksum beside the bytes of a window: with those before and after some
+//! bytes, the checksum of these takes the same time whatever their number.
 
 ghost use Rattle.std.specs.Prelude.{◌≡◌, ℕ, ◌-◌, ◌^◌, ◌<◌, ◌≤◌, List, length, take, drop};
 ghost use Rattle.arrayvec.specs.ArrayVec.{array_vec_len};
@@ -29,7 +29,8 @@ pub fn extend(bytes: &[u8], states: &mut ArrayVec<u32, 4097>, end: usize)
 
 // Removes the registers of so many bytes in front.
 pub fn cut_states(states: &mut ArrayVec<u32, 4097>, count: usize)
-    ensures { (bytes : List ℕ) → AreStates bytes states.old.items → AreStates (drop count bytes) states.new.items }
+    ensures { (bytes : List ℕ) → AreStates bytes states.old.items →
+        AreStates (drop count bytes) states.new.items }
 {
     if count < states.len() {
         cut_front(states, count);
@@ -54,7 +55,8 @@ pub fn begin_states(states: &mut ArrayVec<u32, 4097>)
     states.push(0);
 }
 
-// Whether the last three bytes are the checksum of those before them, by the registers before and after these.
+// Whether the last three bytes are the checksum of those before them, by the registers before and
+// after these.
 #[tactic(auto, unfolding(crate::specs::Frames::is_right))]
 pub fn has_right_checksum_by(before: u32, after: u32, frame: &[u8]) -> bool
     requires before { before < 2 ^ 24 }

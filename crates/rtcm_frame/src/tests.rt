@@ -14,7 +14,7 @@ const STATION: &[u8] =
     b"\xd3\x00\x13\x3e\xd7\xd3\x02\x02\x98\x0e\xde\xef\x34\xb4\xbd\x62\xac\x09\x41\x98\x6f\x33\x36\x0b\x98";
 
 // Appends the frames that a deframer gives.
-fn take_frames(deframer: &mut Deframer, frames: &mut Vec<u8>) -> Result<(), AllocError> {
+fn write_frames(deframer: &mut Deframer, frames: &mut Vec<u8>) -> Result<(), AllocError> {
     while let Some(frame) = deframer.next_frame() {
         frames.extend_from_slice(frame.bytes())?;
     }
@@ -28,10 +28,10 @@ fn frames_of(rt: &impl Abort, alloc: Global, bytes: &[u8]) -> Result<Vec<u8>, Al
     for byte in bytes {
         assert!(rt; deframer.settled(), "more bytes may come");
         deframer.feed(*byte);
-        take_frames(&mut deframer, &mut frames)?;
+        write_frames(&mut deframer, &mut frames)?;
     }
     deframer.finish();
-    take_frames(&mut deframer, &mut frames)?;
+    write_frames(&mut deframer, &mut frames)?;
     assert!(rt; !deframer.settled(), "no byte may come");
     Ok(frames)
 }
@@ -85,8 +85,8 @@ fn writes_and_reads_one_frame(rt: HostRuntime) -> Result<(), Fail> {
     Ok(())
 }
 
-// A stream in which a frame of the longest kind is announced at each byte, and none is right: 20 MB go in a second only
-// where no byte is gone over twice.
+// A stream in which a frame of the longest kind is announced at each byte, and none is right: 20 MB
+// go in a second only where no byte is gone over twice.
 #[test]
 fn goes_over_no_byte_twice(rt: HostRuntime) {
     let mut deframer = Deframer::new();

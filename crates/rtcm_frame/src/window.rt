@@ -11,8 +11,9 @@ use std::marker::Model;
 // How many bytes a window holds at most.
 const CAPACITY: usize = 4096;
 
-// The bytes, seen as their list. Beside the first of them stand the registers of the checksum: as far as a checksum by
-// itself was wrong, so that good frames never pay for them, and no byte is gone over twice.
+// The bytes, seen as their list. Beside the first of them stand the registers of the checksum: as
+// far as a checksum by itself was wrong, so that good frames never pay for them, and no byte is
+// gone over twice.
 #[derive(Drop)]
 pub struct Window {
     bytes: ArrayVec<u8, CAPACITY>,

@@ -8,8 +8,8 @@ use crate::form::PREAMBLE;
 use arrayvec::ArrayVec;
 use crc24q::crc_bytes;
 
-/// Writes the frame of this payload of at most 1,023 bytes: the preamble, six reserved bits 0, the payload's length, the
-/// payload, and the CRC-24Q of all these (RTCM 10403.3, the transport layer).
+/// Writes the frame of this payload of at most 1,023 bytes: the preamble, six reserved bits 0, the
+/// payload's length, the payload, and the CRC-24Q of all these (RTCM 10403.3, the transport layer).
 pub fn write_frame(payload: &[u8], into: &mut ArrayVec<u8, 1029>)
     requires short { length payload.now ≤ 1023 }
     requires empty { into.old.items ≡ [] }

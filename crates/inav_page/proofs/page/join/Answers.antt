@@ -1,19 +1,19 @@
 use Rattle.std.proofs.Common.{◌≡◌, true, false, refl, sym, ap, ◌∙◌}
 use Rattle.std.proofs.lemmas.Bool.{false≢true}
-use Rattle.inav_page.specs.Mirrors.{is_right}
+use Rattle.inav_page.specs.Pages.{has_right_crc}
 use Rattle.inav_page.proofs.PageNumbers.{right_to, right_from}
 use Rattle.inav_page.proofs.page.join.Goals as goal
 
 pub returns-then-belong-clause-crc : goal.returns-then-belong-clause-crc
 returns-then-belong-clause-crc c =
-    let right : is_right c.number-even.result c.number-odd.result ≡ true = sym c.belong.ensures ∙ c.if-belong.true in
-    let here : is_right c.args.even.now c.args.odd.now ≡ true =
-    sym (ap (λ e. is_right e c.args.odd.now) c.number-even.ensures.same) ∙ sym (ap (is_right c.number-even.result) c.number-odd.ensures.same) ∙ right in
+    let right : has_right_crc c.number-even.result c.number-odd.result ≡ true = sym c.belong.ensures ∙ c.if-belong.true in
+    let here : has_right_crc c.args.even.now c.args.odd.now ≡ true =
+    sym (ap (λ e. has_right_crc e c.args.odd.now) c.number-even.ensures.same) ∙ sym (ap (has_right_crc c.number-even.result) c.number-odd.ensures.same) ∙ right in
     (λ e. right_to c.args.even.now c.args.odd.now here, λ h. refl)
 
 pub returns-else-belong-clause-crc : goal.returns-else-belong-clause-crc
 returns-else-belong-clause-crc c =
-    let wrong : is_right c.number-even.result c.number-odd.result ≡ false = sym c.belong.ensures ∙ c.if-belong.false in
-    let here : is_right c.args.even.now c.args.odd.now ≡ false =
-    sym (ap (λ e. is_right e c.args.odd.now) c.number-even.ensures.same) ∙ sym (ap (is_right c.number-even.result) c.number-odd.ensures.same) ∙ wrong in
+    let wrong : has_right_crc c.number-even.result c.number-odd.result ≡ false = sym c.belong.ensures ∙ c.if-belong.false in
+    let here : has_right_crc c.args.even.now c.args.odd.now ≡ false =
+    sym (ap (λ e. has_right_crc e c.args.odd.now) c.number-even.ensures.same) ∙ sym (ap (has_right_crc c.number-even.result) c.number-odd.ensures.same) ∙ wrong in
     (λ e. absurd (false≢true e), λ h. sym here ∙ right_from c.args.even.now c.args.odd.now h)

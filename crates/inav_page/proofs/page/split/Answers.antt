@@ -2,9 +2,8 @@ use Rattle.std.proofs.Common.{List, slice_index, ◌≡◌, ℕ, ◌+◌, ◌*�
 use Rattle.std.proofs.lemmas.Bool.{cond-true, lt-ltb}
 use Rattle.nav_bits.specs.Bits.{number_at}
 use Rattle.nav_bits.specs.Laws.{number_at-lt}
-use Rattle.inav_page.specs.Pages.{IsHalf, HasRightCrc, digits_at}
-use Rattle.inav_page.specs.Mirrors.{page_crc}
-use Rattle.inav_page.proofs.PageNumbers.{split_even, split_odd, even_of_word, odd_of_word, crc_in_place, crc_is_right, word_again}
+use Rattle.inav_page.specs.Pages.{IsHalf, IsSplit, HasRightCrc, digits_at, page_crc}
+use Rattle.inav_page.proofs.PageNumbers.{only_parts, split_even, split_odd, even_of_word, odd_of_word, crc_in_place, crc_is_right, word_again}
 use Rattle.inav_page.proofs.page.split.Goals as goal
 
 pub overflow_add-odd : goal.overflow_add-odd
@@ -53,6 +52,30 @@ returns-clause-parts c =
       odd_is = odd_is ∙ ap (λ n. 2 ^ 119 + d * 2 ^ 102 + n * 2 ^ 14) (sym in_place);
       crc = subst P (sym odd_is) (crc_is_right c.of_number.result d crc (number_at-lt word 112 16) fits crc_is);
     }
+
+pub returns-clause-halves : goal.returns-clause-halves
+returns-clause-halves c =
+    let word = c.args.word.now in
+    let d = number_at word 112 16 in
+    let crc = c.from-4.result in
+    let fits : crc < 2 ^ 24 = omega (arith, c.from-4.ensures, c.crc_of-crc.ensures.fits) in
+    let even_is : c.of_number.result ≡ number_at word 0 112 * 2 ^ 6 =
+    c.of_number.ensures ∙ split_even word c.from.result c.from-2.result (c.from.ensures ∙ c.get.ensures) (c.from-2.ensures ∙ c.get-2.ensures) in
+    let first = split_odd word c.from-3.result (c.from-3.ensures ∙ c.get-3.ensures) in
+    let odd_is : c.of_number-2.result ≡ 2 ^ 119 + d * 2 ^ 102 + crc * 2 ^ 14 =
+    c.of_number-2.ensures ∙ ap (λ n. n + crc * 2 ^ 14) first in
+    let in_place : digits_at c.of_number-2.result 82 24 ≡ crc =
+    ap (λ n. digits_at n 82 24) odd_is ∙ crc_in_place d crc (number_at-lt word 112 16) fits in
+    let crc_is : crc ≡ page_crc c.of_number.result (2 ^ 119 + d * 2 ^ 102) =
+    c.from-4.ensures ∙ c.crc_of-crc.ensures.same ∙ ap (page_crc _) first ∙ ap (λ e. page_crc e (2 ^ 119 + d * 2 ^ 102)) (sym c.of_number.ensures) in
+    let P : ℕ → Type 0 = HasRightCrc c.of_number.result in
+    let is : IsSplit word c.of_number.result c.of_number-2.result =
+    record {
+      even_is = even_is;
+      odd_is = odd_is ∙ ap (λ n. 2 ^ 119 + d * 2 ^ 102 + n * 2 ^ 14) (sym in_place);
+      crc = subst P (sym odd_is) (crc_is_right c.of_number.result d crc (number_at-lt word 112 16) fits crc_is);
+    } in
+    only_parts word c.of_number.result c.of_number-2.result is
 
 pub returns-clause-even : goal.returns-clause-even
 returns-clause-even c =

@@ -1,10 +1,11 @@
--- Laws on words heard, which crates above cite, and the one list of the words of a half.
-use Rattle.std.proofs.Common.{◌≡◌, ℕ, ◌<◌, Bool, true, false, List, [], ◌∷◌, ◌⊎◌, ◌↔◌, map, inl, inr, refl, sym, ap, ◌∙◌, ⊎_elim, arith}
+-- What crates above cite: laws on the words heard of halves of which any predicate is true.
+use Rattle.std.proofs.Common.{◌≡◌, ℕ, ◌<◌, Bool, true, false, List, [], ◌∷◌, ◌⊎◌, ◌↔◌, map, Contains, inl, inr, refl, sym, ap, ◌∙◌, ⊎_elim, arith}
 use Rattle.std.proofs.lemmas.Bool.{true≢false}
 use Rattle.inav_page.specs.declared.half.HalfKind.{HalfKind}
 use Rattle.inav_page.specs.declared.half.HalfKind.TheVariants.{Even, Odd}
 use Rattle.inav_page.specs.Pages.{kind_of}
-use Rattle.inav_page.specs.Heard.{StampedHalf, IsIn, IsAbove, IsAscending, AreWordsWith, IsHeard, IsHeardWith, word_with}
+use Rattle.inav_page.specs.Heard.{StampedHalf, IsAbove, IsAscending, AreWordsWith, IsHeard, IsHeardWith, word_with}
+use Rattle.inav_page.proofs.Membership.{IsIn, in_contains, contains_in}
 
 abbrev is_odd : HalfKind → Bool
 is_odd Even = false
@@ -22,7 +23,8 @@ above bits (y ∷ ys) x h there =
     ⊎_elim (λ (here : y ≡ x). let e : y.half ≡ x.half = ap (λ z. z.half) here in omega (arith, h.0, e)) (λ (later : IsIn ys x). above bits ys x h.1 later) there
 
 -- ascending lists of the same members are the same
-pub one_ascending : (xs ys : List StampedHalf) → IsAscending xs → IsAscending ys → ((x : StampedHalf) → IsIn xs x → IsIn ys x) → ((x : StampedHalf) → IsIn ys x → IsIn xs x) → xs ≡ ys
+pub one_ascending : (xs ys : List StampedHalf) → IsAscending xs → IsAscending ys
+    → ((x : StampedHalf) → IsIn xs x → IsIn ys x) → ((x : StampedHalf) → IsIn ys x → IsIn xs x) → xs ≡ ys
 one_ascending [] [] a b f g = refl
 one_ascending [] (y ∷ ys) a b f g = absurd (g y (inl refl))
 one_ascending (x ∷ xs) [] a b f g = absurd (f x (inl refl))
@@ -48,10 +50,14 @@ one_ascending (x ∷ xs) (y ∷ ys) a b f g =
     (g z (inr h)) in
     ap (λ z. z ∷ xs) (sym heads) ∙ ap (λ zs. y ∷ zs) (one_ascending xs ys a.1 b.1 forth back)
 
-pub one_list_of : (among : StampedHalf → Type 0) (taken : StampedHalf) (words more : List (List ℕ)) → AreWordsWith among taken words → AreWordsWith among taken more → words ≡ more
+pub one_list_of : (among : StampedHalf → Type 0) (taken : StampedHalf) (words more : List (List ℕ))
+    → AreWordsWith among taken words → AreWordsWith among taken more → words ≡ more
 one_list_of among taken words more a b =
     a.words_are
-    ∙ ap (map (word_with taken)) (one_ascending a.partners b.partners a.ascending b.ascending (λ x h. (b.each x).1 ((a.each x).0 h)) (λ x h. (a.each x).1 ((b.each x).0 h)))
+    ∙ ap (map (word_with taken))
+    (one_ascending a.partners b.partners a.ascending b.ascending
+    (λ x h. contains_in b.partners x ((b.each x).1 ((a.each x).0 (in_contains a.partners x h))))
+    (λ x h. contains_in a.partners x ((a.each x).1 ((b.each x).0 (in_contains b.partners x h)))))
     ∙ sym b.words_are
 
 -- ---- one half more
@@ -77,3 +83,12 @@ heard_with_one_more among taken even odd = (
       new.1)
       h,
 )
+
+-- where more halves are among them, what was heard is still heard
+pub still_heard : (among more : StampedHalf → Type 0) (even odd : StampedHalf)
+    → ((half : StampedHalf) → among half → more half) → IsHeard among even odd → IsHeard more even odd
+still_heard among more even odd all h = record {
+  even_among = all even h.even_among;
+  odd_among = all odd h.odd_among;
+  make = h.make;
+}
