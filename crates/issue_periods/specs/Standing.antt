@@ -12,15 +12,16 @@ pub record Standing : Type 0 where
   pub mark : ℕ
   pub last : Option Place
 
--- it stands for something with this property
+-- there is something that it stands for, and that has this property
 abbrev pub Stood : (Standing → Type 0) → (Standing → Type 0) → Type 0
 Stood now property = (at : Standing) × now at × property at
 
--- whatever it stands for has this property
+-- all that it stands for has this property
 abbrev pub Tells : (Standing → Type 0) → (Standing → Type 0) → Type 0
 Tells now property = (at : Standing) → now at → property at
 
--- whatever it stood for before, it stands for the change of that afterwards
+-- a call that makes this change: if the assembly stood for some parts, mark and last period before the call, it stands for the changed
+-- ones after it
 abbrev pub Carries : (Standing → Type 0) → (Standing → Type 0) → (Standing → Standing) → Type 0
 Carries old new change = (at : Standing) → old at → new (change at)
 
@@ -35,6 +36,14 @@ unchanged at = at
 -- with one part more
 abbrev pub taking : Part → Standing → Standing
 taking part at = record { parts = at.parts ++ part ∷ []; mark = at.mark; last = at.last }
+
+-- with these parts more, in this order
+abbrev pub adding : List Part → Standing → Standing
+adding parts at = record { parts = at.parts ++ parts; mark = at.mark; last = at.last }
+
+-- with other parts in their place
+abbrev pub with_parts : List Part → Standing → Standing
+with_parts parts at = record { parts = parts; mark = at.mark; last = at.last }
 
 -- at a mark
 abbrev pub reaching : ℕ → Standing → Standing

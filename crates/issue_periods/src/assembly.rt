@@ -1,7 +1,8 @@
-ghost use Rattle.std.specs.Prelude.{◌≡◌, ℕ, ◌+◌, ◌<◌, ◌≤◌, Contains, All, IfOk, IfSome, IfNone, OnOk, OnErr};
+ghost use Rattle.std.specs.Prelude.{◌≡◌, ◌↔◌, ℕ, ◌+◌, ◌<◌, ◌≤◌, List, Contains, All, IfOk, IfSome, IfNone, OnOk, OnErr};
 ghost use Rattle.period_items.specs.Parts.{IsPartValue};
 ghost use Rattle.period_items.specs.Verdicts.{place_of};
-ghost use Rattle.issue_periods.specs.Standing.{Standing, Stood, Tells, Carries, IsNext, NoneDue, giving, reaching, taking, unchanged};
+ghost use Rattle.issue_periods.specs.Standing.{Standing, Stood, Tells, Carries, IsNext, NoneDue, giving, reaching, taking, unchanged, with_parts};
+ghost use Rattle.nav_eph.specs.declared.part.Part.{Part};
 
 use nav_eph::Part;
 use period_items::Closed;
@@ -61,4 +62,9 @@ pub trait Assembly {
     // Each part that it stands for is a value of its type.
     ghost parts_are_values: { (assembly : Self) (at : Standing)
         → stands_for assembly at → All IsPartValue at.parts };
+
+    // Its parts are a set: what it stands for, it stands for in any order and with any repetition.
+    ghost parts_are_a_set: { (assembly : Self) (at : Standing) (other : List Part)
+        → stands_for assembly at → ((p : Part) → Contains at.parts p ↔ Contains other p)
+        → stands_for assembly (with_parts other at) };
 }

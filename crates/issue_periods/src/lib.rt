@@ -31,15 +31,13 @@ mod plain;
 mod run;
 #[cfg(test)]
 mod samples;
-mod settling;
 #[cfg(test)]
 mod tests;
 
 pub use crate::assembly::Assembly;
 pub use crate::laws::old_is_far;
 pub use crate::plain::PlainAssembly;
-pub use crate::run::{add_periods, follow};
-pub use crate::settling::settle;
+pub use crate::run::add_periods;
 pub use period_items::{
     Closed, Key, Place, Verdict, closed_stays, items_fit_together, key_of_part, one_more_part,
     order_is_nothing, periods_are,

@@ -70,7 +70,7 @@ impl PlainAssembly {
 
 impl Assembly for PlainAssembly {
     ghost use Rattle.issue_periods.specs.Plain.{StandsFor, plain_left};
-    ghost use Rattle.issue_periods.specs.PlainValues.{parts_are_values};
+    ghost use Rattle.issue_periods.specs.PlainLaws.{parts_are_a_set, parts_are_values};
 
     ghost reference = { λ s. s.reference };
 
@@ -113,4 +113,6 @@ impl Assembly for PlainAssembly {
     }
 
     ghost parts_are_values = { parts_are_values };
+
+    ghost parts_are_a_set = { parts_are_a_set };
 }
