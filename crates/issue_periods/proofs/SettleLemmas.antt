@@ -5,8 +5,8 @@ use Rattle.std.proofs.lemmas.List.Elements.{All-append}
 use Rattle.nav_eph.specs.declared.part.Part.{Part}
 use Rattle.period_items.specs.declared.key.Place.{Place}
 use Rattle.period_items.specs.declared.closed.Closed.{Closed}
-use Rattle.period_items.specs.Parts.{IsPartValue}
-use Rattle.period_items.specs.Verdicts.{place_of}
+use Rattle.nav_eph.specs.Values.{IsPartValue}
+use Rattle.period_items.specs.Verdicts.{closed_place}
 use Rattle.period_items.specs.PeriodLists.{IsPrefix, closed_at}
 use Rattle.issue_periods.specs.Standing.{Standing, Stood, Tells, Carries, IsNext, NoneDue, giving, reaching, taking, adding, unchanged, nothing_yet}
 use Rattle.issue_periods.specs.Given.{HasGiven, last_from, settled}
@@ -49,7 +49,7 @@ longer_front xs ys c p = (p.0 ++ c ∷ [], ap (λ (l : List Closed). l ++ c ∷ 
 
 -- after an answer with a period
 pub gives_more : (now new : Standing → Type 0) (r w before mark : ℕ) (parts : List Part) (given : List Closed) (c : Closed) → HasValues now
-    → Tells now (λ at. IsNext r w (Contains at.parts) mark at.last c) → Carries now new (giving mark (place_of c))
+    → Tells now (λ at. IsNext r w (Contains at.parts) mark at.last c) → Carries now new (giving mark (closed_place c))
     → Gives now r w before mark parts given → Gives new r w before mark parts (given ++ c ∷ [])
 gives_more now new r w before mark parts given c values next carries h =
     let at = standing parts h.at_mark (last_from None given) in
@@ -112,9 +112,9 @@ pub stood_reaching : (now new : Standing → Type 0) (mark : ℕ) → Stood now 
 stood_reaching now new mark s carries = (reaching mark s.0, carries s.0 s.1, omega arith)
 
 pub stood_asked : (now new : Standing → Type 0) (mark : ℕ) (answer : Option Closed) → Stood now (λ at. at.mark ≤ mark)
-    → IfSome answer (λ closed. Carries now new (giving mark (place_of closed))) → IfNone answer (Carries now new (reaching mark)) → Stood new (λ at. at.mark ≤ mark)
+    → IfSome answer (λ closed. Carries now new (giving mark (closed_place closed))) → IfNone answer (Carries now new (reaching mark)) → Stood new (λ at. at.mark ≤ mark)
 stood_asked now new mark None s given reached = stood_reaching now new mark s reached
-stood_asked now new mark (Some c) s given reached = stood_giving now new mark (place_of c) s given
+stood_asked now new mark (Some c) s given reached = stood_giving now new mark (closed_place c) s given
 
 pub stood_taking : (now new : Standing → Type 0) (mark : ℕ) (p : Part) → Stood now (λ at. at.mark ≤ mark) → Carries now new (taking p) → Stood new (λ at. at.mark ≤ mark)
 stood_taking now new mark p s carries = (taking p s.0, carries s.0 s.1, s.2)

@@ -3,17 +3,17 @@
 use Rattle.std.proofs.Common.{All, List, Contains, get_or, ◌↔◌}
 use Rattle.std.proofs.lemmas.List.Elements.{All-contains, Contains-get_or}
 use Rattle.nav_eph.specs.declared.part.Part.{Part}
-use Rattle.period_items.specs.Parts.{IsPartValue}
+use Rattle.nav_eph.specs.Values.{IsPartValue}
 use Rattle.period_items.proofs.Surface.{IsPeriod-same}
 use Rattle.issue_periods.specs.Standing.{Standing, with_parts}
-use Rattle.issue_periods.specs.Plain.{PlainState, StandsFor}
+use Rattle.issue_periods.specs.Plain.{PlainState, PlainStandsFor}
 
-pub parts_are_values : (s : PlainState) (at : Standing) → StandsFor s at → All IsPartValue at.parts
+pub parts_are_values : (s : PlainState) (at : Standing) → PlainStandsFor s at → All IsPartValue at.parts
 parts_are_values s at h = λ k d l.
     All-contains IsPartValue s.parts (get_or at.parts k d) h.values (h.keeps (get_or at.parts k d) (Contains-get_or at.parts k d l))
 
-pub parts_are_a_set : (s : PlainState) (at : Standing) (other : List Part) → StandsFor s at
-    → ((p : Part) → Contains at.parts p ↔ Contains other p) → StandsFor s (with_parts other at)
+pub parts_are_a_set : (s : PlainState) (at : Standing) (other : List Part) → PlainStandsFor s at
+    → ((p : Part) → Contains at.parts p ↔ Contains other p) → PlainStandsFor s (with_parts other at)
 parts_are_a_set s at other h same = record {
   keeps = λ p i. h.keeps p ((same p).1 i);
   keeps_no_more = λ p i. (same p).0 (h.keeps_no_more p i);

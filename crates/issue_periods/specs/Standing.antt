@@ -4,7 +4,7 @@ use Rattle.nav_eph.specs.declared.part.Part.{Part}
 use Rattle.period_items.specs.declared.key.Place.{Place}
 use Rattle.period_items.specs.declared.closed.Closed.{Closed}
 use Rattle.period_items.specs.Periods.{IsPeriod, IsBefore}
-use Rattle.period_items.specs.Verdicts.{IsClosed, place_of}
+use Rattle.period_items.specs.Verdicts.{IsClosed, closed_place}
 
 -- the parts taken, the greatest mark given, and the last period given
 pub record Standing : Type 0 where
@@ -66,9 +66,9 @@ pub record IsDue (window : ℕ) (parts : Part → Type 0) (mark : ℕ) (last : O
 
 -- the first of these
 pub record IsNext (r window : ℕ) (parts : Part → Type 0) (mark : ℕ) (last : Option Place) (closed : Closed) : Type 0 where
-  pub due : IsDue window parts mark last (place_of closed)
+  pub due : IsDue window parts mark last (closed_place closed)
   pub verdict : IsClosed r window parts closed
-  pub least : (place : Place) → IsDue window parts mark last place → IsBefore place (place_of closed) → ⊥
+  pub least : (place : Place) → IsDue window parts mark last place → IsBefore place (closed_place closed) → ⊥
 
 -- there is none
 abbrev pub NoneDue : ℕ → (Part → Type 0) → ℕ → Option Place → Type 0

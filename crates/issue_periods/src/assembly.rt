@@ -1,6 +1,6 @@
 ghost use Rattle.std.specs.Prelude.{◌≡◌, ◌↔◌, ℕ, ◌+◌, ◌<◌, ◌≤◌, List, Contains, All, IfOk, IfSome, IfNone, OnOk, OnErr};
-ghost use Rattle.period_items.specs.Parts.{IsPartValue};
-ghost use Rattle.period_items.specs.Verdicts.{place_of};
+ghost use Rattle.nav_eph.specs.Values.{IsPartValue};
+ghost use Rattle.period_items.specs.Verdicts.{closed_place};
 ghost use Rattle.issue_periods.specs.Standing.{Standing, Stood, Tells, Carries, IsNext, NoneDue, giving, reaching, taking, unchanged, with_parts};
 ghost use Rattle.nav_eph.specs.declared.part.Part.{Part};
 
@@ -51,7 +51,7 @@ pub trait Assembly {
 
         // What it stands for then.
         ensures given { IfOk result (λ answer. IfSome answer (λ closed.
-            Carries (stands_for self.old) (stands_for self.new) (giving mark (place_of closed)))) }
+            Carries (stands_for self.old) (stands_for self.new) (giving mark (closed_place closed)))) }
         ensures reached { IfOk result (λ answer. IfNone answer
             (Carries (stands_for self.old) (stands_for self.new) (reaching mark))) }
         ensures err { OnErr result (Carries (stands_for self.old) (stands_for self.new) unchanged) }

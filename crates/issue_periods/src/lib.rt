@@ -39,6 +39,6 @@ pub use crate::laws::old_is_far;
 pub use crate::plain::PlainAssembly;
 pub use crate::run::add_periods;
 pub use period_items::{
-    Closed, Key, Place, Verdict, closed_stays, items_fit_together, key_of_part, one_more_part,
-    order_is_nothing, periods_are,
+    Closed, Key, Place, Verdict, closed_stays, items_fit_together, items_follow, key_of_part,
+    one_more_part, only_ephemerides_are_said_again, order_is_nothing, parts_far_apart, periods_are,
 };

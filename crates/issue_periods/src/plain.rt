@@ -45,7 +45,7 @@ impl Model for PlainAssembly {
 }
 
 impl PlainAssembly {
-    ghost use Rattle.issue_periods.specs.Plain.{StandsFor};
+    ghost use Rattle.issue_periods.specs.Plain.{PlainStandsFor};
     ghost use Rattle.issue_periods.specs.Standing.{nothing_yet};
 
     /// An assembly of no parts, near the week `r`, with a window of 60 to 14,400 seconds.
@@ -54,7 +54,7 @@ impl PlainAssembly {
         requires most { window ≤ 14400 }
         ensures reference { result.reference ≡ r }
         ensures window { result.window ≡ window }
-        ensures stands { StandsFor result nothing_yet }
+        ensures stands { PlainStandsFor result nothing_yet }
     {
         PlainAssembly {
             parts: Vec::new(alloc),
@@ -69,14 +69,14 @@ impl PlainAssembly {
 }
 
 impl Assembly for PlainAssembly {
-    ghost use Rattle.issue_periods.specs.Plain.{StandsFor, plain_left};
+    ghost use Rattle.issue_periods.specs.Plain.{PlainStandsFor, plain_left};
     ghost use Rattle.issue_periods.specs.PlainLaws.{parts_are_a_set, parts_are_values};
 
     ghost reference = { λ s. s.reference };
 
     ghost window = { λ s. s.window };
 
-    ghost stands_for = { StandsFor };
+    ghost stands_for = { PlainStandsFor };
 
     ghost left = { plain_left };
 

@@ -1,7 +1,7 @@
 -- Digests: that of one part, that of two sets of parts together, and that of the same set.
 use Rattle.std.proofs.Common.{◌≡◌, ℕ, inl, inr, Bool, true, false, if◌then◌else◌, List, Option, None, Some, refl, sym, ap, subst, ◌∙◌, rules}
 use Rattle.std.proofs.lemmas.Bool.{both_ways}
-use Rattle.nav_eph.proofs.SameFields.{clock_decided, orbit_a_decided, orbit_b_decided, word2_decided, word3_decided, word4_decided}
+use Rattle.nav_eph.proofs.Surface.{clock_decided, orbit_a_decided, orbit_b_decided, word2_decided, word3_decided, word4_decided}
 use Rattle.nav_eph.specs.Satellite.{Satellite}
 use Rattle.nav_eph.specs.contracts.gps.GpsClockPartialEq.TheImpl.{eq-value as clock_eq}
 use Rattle.nav_eph.specs.contracts.gps.GpsOrbitAPartialEq.TheImpl.{eq-value as orbit_a_eq}

@@ -5,7 +5,6 @@ pub mod Items
 pub mod Verdicts
 pub mod PeriodLists
 pub mod Digests
-pub mod Alike
 pub mod Mirrors
 pub mod PeriodsOf
 pub mod Touching

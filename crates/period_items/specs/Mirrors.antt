@@ -38,7 +38,7 @@ use Rattle.period_items.specs.declared.digest.GpsDigest.{GpsDigest}
 use Rattle.period_items.specs.declared.digest.GalDigest.{GalDigest}
 use Rattle.period_items.specs.declared.digest.Digest.{Digest}
 use Rattle.period_items.specs.declared.digest.Digest.TheVariants.{Gps as GpsForm, Gal as GalForm, Ion as IonForm}
-use Rattle.period_items.specs.Alike.{is_alike}
+use Rattle.nav_eph.specs.Items.{is_alike}
 use Rattle.period_items.specs.Parts.{key_of, clock_of, orbit_a_of, orbit_b_of, word1_of, word2_of, word3_of, word4_of, side_of, fit_of, sent_tag_of, toe_tag_of, sending_of, side_numbers, fit_numbers, tag_numbers, sending_numbers, health_of, health_numbers, same_sat}
 use Rattle.period_items.specs.Items.{gps_moment, gal_moment, toe_week_of, sent_second, gps_ion_moment, gal_ion_moment}
 

@@ -103,7 +103,7 @@ fn last_up_to(parts: &[Part], window: u32, sat: Sat, end: u32) -> Option<(u32, G
 }
 
 // The satellite's first health behind the end, within the window.
-fn first_behind(
+pub(crate) fn first_behind(
     parts: &[Part],
     window: u32,
     sat: Sat,

@@ -1,6 +1,6 @@
 //! Laws of periods: each function does nothing, and its contract is the law.
 
-ghost use Rattle.std.specs.Prelude.{◌≡◌, ◌+◌, ◌*◌, ◌<◌, ◌≤◌, ◌∷◌, ◌++◌, ◌↔◌, ℕ, List, [], Option, Some, All, Contains};
+ghost use Rattle.std.specs.Prelude.{◌≡◌, ◌+◌, ◌*◌, ◌<◌, ◌≤◌, ◌∷◌, ◌++◌, ◌↔◌, ◌⊎◌, ℕ, List, [], Option, Some, All, Contains};
 ghost use Rattle.gnss_week.specs.Weeks.{IsReference};
 ghost use Rattle.nav_eph.specs.Conditions.{IsPart};
 ghost use Rattle.nav_eph.specs.Ranges.{HasRanges, IsItem};
@@ -9,11 +9,13 @@ ghost use Rattle.nav_eph.specs.declared.part.Part.{Part};
 ghost use Rattle.period_items.specs.declared.key.Key.{Key};
 ghost use Rattle.period_items.specs.declared.key.Place.{Place};
 ghost use Rattle.period_items.specs.declared.closed.Closed.{Closed};
-ghost use Rattle.period_items.specs.declared.closed.Verdict.TheVariants.{Whole};
-ghost use Rattle.period_items.specs.Verdicts.{IsClosed};
-ghost use Rattle.period_items.specs.Parts.{IsPartValue, key_of};
+ghost use Rattle.period_items.specs.declared.closed.Verdict.TheVariants.{Whole, Again};
+ghost use Rattle.period_items.specs.declared.closed.Finding.{Finding};
+ghost use Rattle.period_items.specs.Verdicts.{IsClosed, IsFound, IsOfEphemeris};
+ghost use Rattle.nav_eph.specs.Values.{IsPartValue};
+ghost use Rattle.period_items.specs.Parts.{key_of};
 ghost use Rattle.period_items.specs.Periods.{IsPeriod};
-ghost use Rattle.period_items.specs.PeriodLists.{ArePeriods, AreClosed, IsPrefix};
+ghost use Rattle.period_items.specs.PeriodLists.{ArePeriods, AreClosed, IsPrefix, items_in};
 ghost use Rattle.period_items.specs.PeriodsOf.{periods_of, closed_of};
 ghost use Rattle.period_items.specs.Touching.{IsTouched, IsJoined, Stays};
 
@@ -61,6 +63,37 @@ pub fn one_more_part()
     ensures rest { (window : ℕ) (parts : List Part) (part : Part) (place : Place)
         → IsPeriod window (Contains parts) place → (IsTouched window (Contains parts) part place → ⊥)
         → Stays window (Contains parts) (Contains (parts ++ part ∷ [])) place }
+{}
+
+/// Parts that lie more than a window before others change none of their periods, nor the others theirs: the periods of both
+/// together are those of either, and each comes to the same by itself. What is said of one may differ, since it may say
+/// again what an earlier one said.
+pub fn parts_far_apart()
+    ensures periods { (window mark : ℕ) (some more : List Part) (place : Place)
+        → All (λ p. p.stamp + window < mark) some → All (λ p. mark ≤ p.stamp) more
+        → IsPeriod window (Contains (some ++ more)) place
+        ↔ (IsPeriod window (Contains some) place ⊎ IsPeriod window (Contains more) place) }
+    ensures first { (r window mark : ℕ) (some more : List Part) (place : Place) (finding : Finding)
+        → All (λ p. p.stamp + window < mark) some → All (λ p. mark ≤ p.stamp) more
+        → IsPeriod window (Contains some) place
+        → IsFound r window (Contains (some ++ more)) place finding
+        ↔ IsFound r window (Contains some) place finding }
+    ensures second { (r window mark : ℕ) (some more : List Part) (place : Place) (finding : Finding)
+        → All (λ p. p.stamp + window < mark) some → All (λ p. mark ≤ p.stamp) more
+        → IsPeriod window (Contains more) place
+        → IsFound r window (Contains (some ++ more)) place finding
+        ↔ IsFound r window (Contains more) place finding }
+{}
+
+/// Only an ephemeris is said again, and never an ionosphere.
+pub fn only_ephemerides_are_said_again()
+    ensures { (r window : ℕ) (parts : List Part) (c : Closed)
+        → IsClosed r window (Contains parts) c → c.verdict ≡ Again → IsOfEphemeris c.key }
+{}
+
+/// The items of periods that follow others are those of the first, and then those of the second.
+pub fn items_follow()
+    ensures { (some more : List Closed) → items_in (some ++ more) ≡ items_in some ++ items_in more }
 {}
 
 /// The item of a period fits together, as the constructors of items demand, where each part is of a satellite that sends

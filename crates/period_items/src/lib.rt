@@ -36,10 +36,11 @@ mod value;
 
 pub use crate::closed::{Closed, Finding, Verdict};
 pub use crate::digest::{Digest, GalDigest, GpsDigest, Seen};
-pub use crate::find::{judge, verdict_on};
+pub use crate::find::{finding_on, judge, verdict_on};
 pub use crate::key::{Key, Place, Sending};
 pub use crate::laws::{
-    closed_stays, items_fit_together, one_more_part, order_is_nothing, periods_are,
+    closed_stays, items_fit_together, items_follow, one_more_part, only_ephemerides_are_said_again,
+    order_is_nothing, parts_far_apart, periods_are,
 };
 pub use crate::order::{
     comes_before, is_part_of, is_same_sat, key_of_part, place_of_part, system_number,

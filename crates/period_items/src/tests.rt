@@ -4,7 +4,10 @@ use super::*;
 fn laws() {
     closed_stays();
     items_fit_together();
+    items_follow();
     one_more_part();
+    only_ephemerides_are_said_again();
     order_is_nothing();
+    parts_far_apart();
     periods_are();
 }

@@ -1,4 +1,4 @@
-ghost use Rattle.period_items.specs.Parts.{IsPartValue};
+ghost use Rattle.nav_eph.specs.Values.{IsPartValue};
 
 use nav_eph::{Body, Part};
 

@@ -1,6 +1,6 @@
 use Rattle.std.proofs.Common.{ℕ, Contains, refl, sym, subst, ◌∙◌, arith}
 use Rattle.period_items.specs.declared.closed.Closed.{Closed}
-use Rattle.period_items.specs.Verdicts.{place_of}
+use Rattle.period_items.specs.Verdicts.{closed_place}
 use Rattle.issue_periods.specs.Standing.{Tells, Carries, IsNext, NoneDue, giving, reaching}
 use Rattle.issue_periods.proofs.SettleLemmas.{Gives, closed_of-none, gives_start, gives_more, gives_all, next_at, none_at, stood_giving}
 use Rattle.issue_periods.proofs.run.give_all.Goals as goal
@@ -25,13 +25,13 @@ giving-preserved g c =
     let r = g.A.Assembly.reference c.args.assembly.now in
     let w = g.A.Assembly.window c.args.assembly.now in
     let m : ℕ = 18446744073709551615 in
-    let carries : Carries now new (giving m (place_of c.in-Some.closed)) = rw c.in-Some.is at c.in_ok-closed.ensures.given in
+    let carries : Carries now new (giving m (closed_place c.in-Some.closed)) = rw c.in-Some.is at c.in_ok-closed.ensures.given in
     let told : Tells now (λ at. IsNext (g.A.Assembly.reference c.giving.assembly) (g.A.Assembly.window c.giving.assembly) (Contains at.parts) m at.last c.in-Some.closed) =
     rw c.in-Some.is at c.in_ok-closed.ensures.next in
     record {
       reference = c.in_ok-closed.ensures.reference ∙ c.giving.invariant.reference;
       window = c.in_ok-closed.ensures.window ∙ c.giving.invariant.window;
-      stood = stood_giving now new m (place_of c.in-Some.closed) c.giving.invariant.stood carries;
+      stood = stood_giving now new m (closed_place c.in-Some.closed) c.giving.invariant.stood carries;
       gives = λ parts stands.
           subst (Gives new r w 0 m parts) (sym c.in_ok-push.ensures.items)
           (gives_more now new r w 0 m parts c.giving.given.items c.in-Some.closed (g.met.A.Assembly.parts_are_values c.giving.assembly)
