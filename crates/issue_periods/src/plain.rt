@@ -11,10 +11,11 @@ use period_items::{Closed, Place, note_value, verdict_on};
 use std::alloc::{AllocError, Global};
 use std::marker::Model;
 
-/// An assembly that keeps every part, and searches them all for what is closed: the definition's own program.
+/// An assembly that keeps every part, and searches them all for what is closed: the definition's
+/// own program.
 ///
-/// A contract sees the week `reference` near which it listens, the `window` in seconds, the `parts` that it keeps,
-/// the greatest `mark` given and the `last` period given.
+/// A contract sees the week `reference` near which it listens, the `window` in seconds, the `parts`
+/// that it keeps, the greatest `mark` given and the `last` period given.
 #[derive(Drop)]
 pub struct PlainAssembly {
     parts: Vec<Part>,
@@ -88,7 +89,8 @@ impl Assembly for PlainAssembly {
     }
 
     fn next_closed(&mut self, mark: u64) -> Result<Option<Closed>, AllocError> {
-        // There was none at this mark, and what came since does not end before it; or no kept part is old enough.
+        // There was none at this mark, and what came since does not end before it; or no kept part
+        // is old enough.
         if mark <= self.none_at || mark <= self.least as u64 + self.window as u64 {
             self.mark = mark;
             return Ok(None);

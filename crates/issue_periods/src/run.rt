@@ -16,8 +16,10 @@ fn give_all<A: Assembly>(assembly: &mut A, given: &mut Vec<Closed>) -> Result<()
     requires stood { Stood (A.stands_for assembly.old) (λ at. at.mark ≤ 0) }
     requires given { given.old.items ≡ [] }
     ensures { OnOk result ((parts : List Part)
-        → A.stands_for assembly.old (settled (A.reference assembly.old) (A.window assembly.old) parts 0)
-        → given.new.items ≡ closed_of (A.reference assembly.old) (A.window assembly.old) 18446744073709551615 parts) }
+        → A.stands_for assembly.old
+        (settled (A.reference assembly.old) (A.window assembly.old) parts 0)
+        → given.new.items
+        ≡ closed_of (A.reference assembly.old) (A.window assembly.old) 18446744073709551615 parts) }
 {
     'giving: while let Some(closed) = assembly.next_closed(u64::MAX)? {
         given.push(closed)?;
@@ -25,7 +27,8 @@ fn give_all<A: Assembly>(assembly: &mut A, given: &mut Vec<Closed>) -> Result<()
     Ok(())
 }
 
-/// The periods of some parts, in order, each with its verdict, by an assembly that has taken none yet.
+/// The periods of some parts, in order, each with its verdict, by an assembly that has taken none
+/// yet.
 pub fn add_periods<A: Assembly>(
     assembly: &mut A,
     parts: &[Part],
@@ -35,7 +38,8 @@ pub fn add_periods<A: Assembly>(
     requires window { A.window assembly.old < 2 ^ 32 }
     requires periods { periods.old.items ≡ [] }
     ensures { OnOk result
-        (periods.new.items ≡ periods_of (A.reference assembly.old) (A.window assembly.old) parts.now) }
+        (periods.new.items
+        ≡ periods_of (A.reference assembly.old) (A.window assembly.old) parts.now) }
 {
     'taking: for part in parts {
         assembly.take(part)?;

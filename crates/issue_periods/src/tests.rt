@@ -115,7 +115,8 @@ fn health_near_the_end(rt: HostRuntime) -> Result<(), Fail> {
         &[(7_207, 'n')],
     )?;
 
-    // Of two at one stamp the greater before the end, the lesser behind it; of two stamps the last before it.
+    // Of two at one stamp the greater before the end, the lesser behind it; of two stamps the last
+    // before it.
     let before = [health(7, 1)?, health(7, 2)?, l1, l2, l3, l4];
     chosen_health(&rt, alloc, &before, 2)?;
     let before = [
@@ -175,7 +176,8 @@ fn times_of(item: &NavItem) -> Option<(u64, u32, SentSecond)> {
     }
 }
 
-// Two clocks with the rest of the orbit: accuracy, week of toe and second of sending that are chosen.
+// Two clocks with the rest of the orbit: accuracy, week of toe and second of sending that are
+// chosen.
 fn chosen(
     rt: &impl Abort,
     alloc: Global,
@@ -314,7 +316,8 @@ fn issues_heard_again(rt: HostRuntime) -> Result<(), Fail> {
     let (a0, b0, c0) = (a(0)?, b(6)?, c(12)?);
     let (a1, b1, c1) = (a(7_213)?, b(7_219)?, c(7_225)?);
 
-    // The same is nothing new; another health of the satellite is; a partial period between does not count.
+    // The same is nothing new; another health of the satellite is; a partial period between does
+    // not count.
     lists(
         &rt,
         alloc,

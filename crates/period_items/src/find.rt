@@ -1,8 +1,11 @@
 //! What a period among kept parts comes to.
 
 ghost use Rattle.std.specs.Prelude.{◌≡◌, None, if◌then◌else◌, nat_lt};
-ghost use Rattle.period_items.specs.Mirrors.{best_with, digest_of, is_complete, item_of, verdict_of};
-ghost use Rattle.period_items.specs.PeriodsOf.{complete_before, complete_below, finding_at, is_above, is_member, item_before, join_some, last_item, members_digest, verdict_at};
+ghost use Rattle.period_items.specs.Mirrors.{best_with, digest_of, is_complete, item_of};
+ghost use Rattle.period_items.specs.Mirrors.{verdict_of};
+ghost use Rattle.period_items.specs.PeriodsOf.{complete_before, complete_below, finding_at};
+ghost use Rattle.period_items.specs.PeriodsOf.{is_above, is_member, item_before, join_some};
+ghost use Rattle.period_items.specs.PeriodsOf.{last_item, members_digest, verdict_at};
 
 use crate::closed::{Finding, Verdict};
 use crate::digest::Digest;
@@ -49,7 +52,8 @@ fn joined_with(
     end: u32,
     before: Option<u32>,
 ) -> Option<Digest>
-    ensures { result ≡ (if is_member key.now end before part.now then join_some all (digest_of part.now) else all) }
+    ensures { result ≡ (if is_member key.now end before part.now
+        then join_some all (digest_of part.now) else all) }
 {
     if belongs(key, end, before, part) {
         joined(all, Digest::of(part))
@@ -84,7 +88,8 @@ pub fn finding_on(parts: &[Part], r: RefWeek, window: u32, place: &Place) -> Fin
     }
 }
 
-/// What is said of a finding, where `before` is the item of the last complete period of the same ephemeris.
+/// What is said of a finding, where `before` is the item of the last complete period of the same
+/// ephemeris.
 pub fn judge(before: Option<NavItem>, finding: Finding) -> Verdict
     ensures { result ≡ verdict_of before finding }
 {
@@ -158,7 +163,8 @@ fn complete_with(
     key: &Key,
     end: u32,
 ) -> Option<u32>
-    ensures { result ≡ best_with (complete_below r window parts.now key.now end) (λ a b. nat_lt b a) best stamp }
+    ensures { result
+        ≡ best_with (complete_below r window parts.now key.now end) (λ a b. nat_lt b a) best stamp }
 {
     match stamp {
         None => best,

@@ -3,6 +3,7 @@ use super::*;
 #[test]
 fn laws() {
     closed_stays();
+    digests_are();
     items_fit_together();
     items_follow();
     one_more_part();
