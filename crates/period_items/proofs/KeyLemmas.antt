@@ -21,7 +21,7 @@ use Rattle.nav_eph.specs.Values.{IsPartValue}
 use Rattle.period_items.specs.Parts.{key_in, key_of, same_sat}
 use Rattle.nav_eph.specs.Values.{IsBodyValue}
 use Rattle.period_items.specs.Periods.{key_numbers, place_numbers, IsBefore}
-use Rattle.period_items.specs.Mirrors.{same_key, is_key, is_of}
+use Rattle.period_items.specs.KeyTests.{same_key, is_key, is_of}
 use Rattle.period_items.proofs.Orders.{trichotomy}
 use Rattle.period_items.proofs.Folds.{some_is, none_some}
 

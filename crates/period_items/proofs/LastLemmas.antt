@@ -16,7 +16,7 @@ use Rattle.period_items.specs.Values.{IsBest, IsFirstBy}
 use Rattle.nav_eph.specs.Values.{IsPartValue}
 use Rattle.period_items.specs.Periods.{IsPeriod}
 use Rattle.period_items.specs.Verdicts.{IsOfEphemeris, IsFound, IsComplete, IsLastBefore, Repeats, IsJudged, IsVerdict}
-use Rattle.period_items.specs.Mirrors.{item_of, is_complete, verdict_on_item, verdict_of}
+use Rattle.period_items.specs.DigestsOf.{item_of, is_complete, verdict_on_item, verdict_of}
 use Rattle.period_items.specs.PeriodsOf.{quiet, stamp_of, end_below, end_place, complete_below, complete_before, item_at, last_item, item_before, finding_at, verdict_at}
 use Rattle.period_items.proofs.Folds.{Passing, best_among-is, IsBest-same}
 use Rattle.nav_eph.proofs.Surface.{is_alike-decides}

@@ -6,5 +6,7 @@ pub mod Verdicts
 pub mod PeriodLists
 pub mod Digests
 pub mod Mirrors
+pub mod KeyTests
+pub mod DigestsOf
 pub mod PeriodsOf
 pub mod Touching

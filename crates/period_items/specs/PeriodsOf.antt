@@ -15,7 +15,9 @@ use Rattle.period_items.specs.Parts.{key_of}
 use Rattle.period_items.specs.Periods.{place_numbers}
 use Rattle.period_items.specs.Verdicts.{closed_place}
 use Rattle.period_items.specs.PeriodLists.{closed_at}
-use Rattle.period_items.specs.Mirrors.{is_of, earlier, best_among, digest_of, digest_join, digest_finding, health_at, item_of, is_complete, verdict_of}
+use Rattle.period_items.specs.DigestsOf.{digest_of, digest_join, digest_finding, health_at, item_of, is_complete, verdict_of}
+use Rattle.period_items.specs.KeyTests.{is_of}
+use Rattle.period_items.specs.Mirrors.{earlier, best_among}
 
 -- no part of the key in the window after a stamp
 abbrev pub quiet_at : ℕ → Key → ℕ → Part → Bool

@@ -1,8 +1,9 @@
 //! What a period among kept parts comes to.
 
 ghost use Rattle.std.specs.Prelude.{◌≡◌, None, if◌then◌else◌, nat_lt};
-ghost use Rattle.period_items.specs.Mirrors.{best_with, digest_of, is_complete, item_of};
-ghost use Rattle.period_items.specs.Mirrors.{verdict_of};
+ghost use Rattle.period_items.specs.DigestsOf.{digest_of, is_complete, item_of};
+ghost use Rattle.period_items.specs.Mirrors.{best_with};
+ghost use Rattle.period_items.specs.DigestsOf.{verdict_of};
 ghost use Rattle.period_items.specs.PeriodsOf.{complete_before, complete_below, finding_at};
 ghost use Rattle.period_items.specs.PeriodsOf.{is_above, is_member, item_before, join_some};
 ghost use Rattle.period_items.specs.PeriodsOf.{last_item, members_digest, verdict_at};

@@ -1,7 +1,9 @@
 ghost use Rattle.std.specs.Prelude.{◌≡◌, None};
 ghost use Rattle.period_items.specs.Parts.{health_numbers, health_of};
-ghost use Rattle.period_items.specs.Mirrors.{behind_end, best_among, best_with, earlier, health_at};
-ghost use Rattle.period_items.specs.Mirrors.{is_better, later, satellite_health, up_to_end};
+ghost use Rattle.period_items.specs.DigestsOf.{health_at};
+ghost use Rattle.period_items.specs.Mirrors.{behind_end, best_among, best_with, earlier};
+ghost use Rattle.period_items.specs.DigestsOf.{satellite_health};
+ghost use Rattle.period_items.specs.Mirrors.{is_better, later, up_to_end};
 
 use crate::key::Key;
 use crate::order::is_same_sat;

@@ -1,7 +1,7 @@
 //! Laws of periods: each function does nothing, and its contract is the law.
 
 ghost use Rattle.std.specs.Prelude.{◌≡◌, ◌+◌, ◌*◌, ◌<◌, ◌≤◌, ◌∷◌, ◌++◌, ◌↔◌, ◌⊎◌, ℕ, List, []};
-ghost use Rattle.std.specs.Prelude.{Option, Some, All, Contains};
+ghost use Rattle.std.specs.Prelude.{Option, Some, true, All, Contains};
 ghost use Rattle.gnss_week.specs.Weeks.{IsReference};
 ghost use Rattle.nav_eph.specs.Conditions.{IsPart};
 ghost use Rattle.nav_eph.specs.Ranges.{HasRanges, IsItem};
@@ -18,7 +18,8 @@ ghost use Rattle.period_items.specs.Parts.{key_of};
 ghost use Rattle.period_items.specs.Periods.{IsMember, IsPeriod};
 ghost use Rattle.period_items.specs.declared.digest.Digest.{Digest};
 ghost use Rattle.period_items.specs.Digests.{IsDigest};
-ghost use Rattle.period_items.specs.Mirrors.{digest_finding, digest_join, digest_of, health_at};
+ghost use Rattle.period_items.specs.KeyTests.{is_of};
+ghost use Rattle.period_items.specs.DigestsOf.{digest_finding, digest_join, digest_of, health_at};
 ghost use Rattle.period_items.specs.PeriodLists.{ArePeriods, AreClosed, IsPrefix, items_in};
 ghost use Rattle.period_items.specs.PeriodsOf.{periods_of, closed_of};
 ghost use Rattle.period_items.specs.Touching.{IsTouched, IsJoined, Stays};
@@ -105,6 +106,11 @@ pub fn digests_are()
         → IsDigest place.key (IsMember window (Contains parts) place) d
         → IsFound r window (Contains parts) place
         (digest_finding r place.key d (health_at window parts place.key place.end)) }
+{}
+
+/// A part is told to be of a key exactly where that is its key.
+pub fn keys_are_told()
+    ensures { (key : Key) (part : Part) → (is_of key part ≡ true) ↔ (key_of part ≡ Some key) }
 {}
 
 /// Only an ephemeris is said again, and never an ionosphere.

@@ -43,7 +43,7 @@ pub use crate::digest::{Digest, GalDigest, GpsDigest, Seen};
 pub use crate::find::{finding_on, judge, verdict_on};
 pub use crate::key::{Key, Place, Sending};
 pub use crate::laws::{
-    closed_stays, digests_are, items_fit_together, items_follow, one_more_part,
+    closed_stays, digests_are, items_fit_together, items_follow, keys_are_told, one_more_part,
     only_ephemerides_are_said_again, order_is_nothing, parts_far_apart, periods_are,
 };
 pub use crate::order::{

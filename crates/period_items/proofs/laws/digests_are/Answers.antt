@@ -3,7 +3,7 @@ use Rattle.nav_eph.specs.declared.part.Part.{Part}
 use Rattle.period_laws.proofs.Surface.{In-from_contains, contains_from_In, In-append_left, In-append_right, In-append_cases}
 use Rattle.period_items.specs.Periods.{IsMember}
 use Rattle.period_items.specs.Verdicts.{IsHealthBefore, IsHealthBehind}
-use Rattle.period_items.specs.Mirrors.{health_at}
+use Rattle.period_items.specs.DigestsOf.{health_at}
 use Rattle.period_items.proofs.ValueLemmas.{IsUnion}
 use Rattle.period_items.proofs.DigestLemmas.{digest_of-is, digest_join-is, IsDigest-same}
 use Rattle.period_items.proofs.DigestFindings.{digest_finding-is}
