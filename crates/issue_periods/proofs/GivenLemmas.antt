@@ -7,9 +7,9 @@ use Rattle.period_laws.proofs.Surface.{In, In-from_contains, contains_from_In, I
 use Rattle.period_laws.proofs.Surface.{one_more}
 use Rattle.period_items.specs.declared.key.Place.{Place}
 use Rattle.period_items.specs.declared.closed.Closed.{Closed}
-use Rattle.period_items.specs.Parts.{IsPartValue}
+use Rattle.nav_eph.specs.Values.{IsPartValue}
 use Rattle.period_items.specs.Periods.{IsBefore}
-use Rattle.period_items.specs.Verdicts.{IsClosed, place_of}
+use Rattle.period_items.specs.Verdicts.{IsClosed, closed_place}
 use Rattle.period_items.specs.PeriodLists.{IsAscending, IsPrefix}
 use Rattle.issue_periods.specs.Standing.{IsAfter, IsNext, NoneDue}
 use Rattle.issue_periods.specs.Given.{GivenBelow, HasGiven, last_from}
@@ -30,23 +30,23 @@ after_low w mark None q g l = tt
 after_low w mark (Some x) q g l = inl (omega arith)
 
 -- the last one of a list
-pub last_from-push : (o : Option Place) (cs : List Closed) (c : Closed) → last_from o (cs ++ c ∷ []) ≡ Some (place_of c)
+pub last_from-push : (o : Option Place) (cs : List Closed) (c : Closed) → last_from o (cs ++ c ∷ []) ≡ Some (closed_place c)
 last_from-push o [] c = refl
-last_from-push o (d ∷ ds) c = last_from-push (Some (place_of d)) ds c
+last_from-push o (d ∷ ds) c = last_from-push (Some (closed_place d)) ds c
 
 last_below : (w mark : ℕ) (o : Option Place) (cs : List Closed) → GivenBelow w mark o → ((c : Closed) → In cs c → c.end + w < mark) → GivenBelow w mark (last_from o cs)
 last_below w mark o [] g h = g
-last_below w mark o (c ∷ cs) g h = last_below w mark (Some (place_of c)) cs (h c (inl refl)) (λ d i. h d (inr i))
+last_below w mark o (c ∷ cs) g h = last_below w mark (Some (closed_place c)) cs (h c (inl refl)) (λ d i. h d (inr i))
 
 -- what is behind the last one is behind each
-behind_last : (x : Closed) (cs : List Closed) (q : Place) → IsAscending (x ∷ cs) → IsAfter (last_from (Some (place_of x)) cs) q → (c : Closed) → In (x ∷ cs) c → IsBefore (place_of c) q
-behind_last x [] q h l c (inl e) = subst (λ (z : Closed). IsBefore (place_of z) q) e l
+behind_last : (x : Closed) (cs : List Closed) (q : Place) → IsAscending (x ∷ cs) → IsAfter (last_from (Some (closed_place x)) cs) q → (c : Closed) → In (x ∷ cs) c → IsBefore (closed_place c) q
+behind_last x [] q h l c (inl e) = subst (λ (z : Closed). IsBefore (closed_place z) q) e l
 behind_last x [] q h l c (inr i) = absurd i
 behind_last x (y ∷ ys) q h l c (inl e) =
-    subst (λ (z : Closed). IsBefore (place_of z) q) e (before_trans (place_of x) (place_of y) q h.0.0 (behind_last y ys q h.1 l y (inl refl)))
+    subst (λ (z : Closed). IsBefore (closed_place z) q) e (before_trans (closed_place x) (closed_place y) q h.0.0 (behind_last y ys q h.1 l y (inl refl)))
 behind_last x (y ∷ ys) q h l c (inr i) = behind_last y ys q h.1 l c i
 
-behind_each : (cs : List Closed) (q : Place) → IsAscending cs → IsAfter (last_from None cs) q → (c : Closed) → In cs c → IsBefore (place_of c) q
+behind_each : (cs : List Closed) (q : Place) → IsAscending cs → IsAfter (last_from None cs) q → (c : Closed) → In cs c → IsBefore (closed_place c) q
 behind_each [] q h l c i = absurd i
 behind_each (x ∷ cs) q h l c i = behind_last x cs q h l c i
 
@@ -76,17 +76,17 @@ ascending_push (d ∷ ds) c h l = (push_all (Precedes d) ds c h.0 (l d (inl refl
 
 -- a period more
 pub HasGiven-more : (r w : ℕ) (parts : Part → Type 0) (mark : ℕ) (last : Option Place) (given : List Closed) (c : Closed) → ((p : Part) → parts p → IsPartValue p)
-    → IsNext r w parts mark last c → HasGiven r w parts mark last given → HasGiven r w parts mark (Some (place_of c)) (given ++ c ∷ [])
+    → IsNext r w parts mark last c → HasGiven r w parts mark last given → HasGiven r w parts mark (Some (closed_place c)) (given ++ c ∷ [])
 HasGiven-more r w parts mark last given c values next h = record {
-  ascending = ascending_push given c h.ascending (λ d i. h.below d (contains_from_In given d i) (place_of c) next.due.after);
+  ascending = ascending_push given c h.ascending (λ d i. h.below d (contains_from_In given d i) (closed_place c) next.due.after);
   each = λ d i. elim (one_more given c d i) [ inl o ↦ h.each d o | inr e ↦ subst (IsClosed r w parts) e next.verdict ];
   low = λ d i. elim (one_more given c d i) [ inl o ↦ h.low d o | inr e ↦ subst (λ (z : Closed). z.end + w < mark) e next.due.low ];
   below = λ d i q l. elim (one_more given c d i) [
-    | inl o ↦ before_trans (place_of d) (place_of c) q (h.below d o (place_of c) next.due.after) l
-    | inr e ↦ subst (λ (z : Closed). IsBefore (place_of z) q) e l
+    | inl o ↦ before_trans (closed_place d) (closed_place c) q (h.below d o (closed_place c) next.due.after) l
+    | inr e ↦ subst (λ (z : Closed). IsBefore (closed_place z) q) e l
   ];
   every = λ q hq l. elim (h.every q hq l) [
-    | inl after ↦ elim (cases_place q (place_of c) (period_key w parts q values hq) (period_key w parts (place_of c) values next.due.period)) [
+    | inl after ↦ elim (cases_place q (closed_place c) (period_key w parts q values hq) (period_key w parts (closed_place c) values next.due.period)) [
       | inl b ↦ absurd (next.least q (record { period = hq; low = l; after = after }) b)
       | inr o ↦ elim o [
         | inl e ↦ inr (c, contains_from_In (given ++ c ∷ []) c (In-append_right given (c ∷ []) c (inl refl)), sym e)
@@ -132,18 +132,18 @@ front_heads : (x y : Closed) (xs ys : List Closed) → IsAscending (x ∷ xs) �
 front_heads x y xs ys ax ay (inl e) o = sym e
 front_heads x y xs ys ax ay (inr i) (inl (inl e)) = e
 front_heads x y xs ys ax ay (inr i) (inl (inr j)) =
-    absurd (before_irr (place_of x) (before_trans (place_of x) (place_of y) (place_of x) (All-in (Precedes x) xs y ax.0 j) (All-in (Precedes y) ys x ay.0 i)))
+    absurd (before_irr (closed_place x) (before_trans (closed_place x) (closed_place y) (closed_place x) (All-in (Precedes x) xs y ax.0 j) (All-in (Precedes y) ys x ay.0 i)))
 front_heads x y xs ys ax ay (inr i) (inr b) =
-    absurd (before_irr (place_of x) (before_trans (place_of x) (place_of y) (place_of x) b.0 (All-in (Precedes y) ys x ay.0 i)))
+    absurd (before_irr (closed_place x) (before_trans (closed_place x) (closed_place y) (closed_place x) b.0 (All-in (Precedes y) ys x ay.0 i)))
 
 front_tail_in : (x y c : Closed) (xs ys : List Closed) → x ≡ y → AllByRecursion (Precedes x) xs → In xs c → In (y ∷ ys) c → In ys c
-front_tail_in x y c xs ys e h i (inl f) = absurd (before_irr (place_of c) (subst (λ (z : Closed). IsBefore (place_of z) (place_of c)) (e ∙ f) (All-in (Precedes x) xs c h i)))
+front_tail_in x y c xs ys e h i (inl f) = absurd (before_irr (closed_place c) (subst (λ (z : Closed). IsBefore (closed_place z) (closed_place c)) (e ∙ f) (All-in (Precedes x) xs c h i)))
 front_tail_in x y c xs ys e h i (inr j) = j
 
 front_tail_out : (x y c : Closed) (xs ys : List Closed) → x ≡ y → AllByRecursion (Precedes y) ys → In ys c → In (x ∷ xs) c ⊎ AllByRecursion (λ d. Precedes d c) (x ∷ xs)
     → In xs c ⊎ AllByRecursion (λ d. Precedes d c) xs
 front_tail_out x y c xs ys e h i (inl (inl f)) =
-    absurd (before_irr (place_of c) (subst (λ (z : Closed). IsBefore (place_of z) (place_of c)) (sym e ∙ f) (All-in (Precedes y) ys c h i)))
+    absurd (before_irr (closed_place c) (subst (λ (z : Closed). IsBefore (closed_place z) (closed_place c)) (sym e ∙ f) (All-in (Precedes y) ys c h i)))
 front_tail_out x y c xs ys e h i (inl (inr j)) = inl j
 front_tail_out x y c xs ys e h i (inr b) = inr b.1
 
@@ -161,17 +161,17 @@ pub given_front : (r w mark : ℕ) (parts : List Part) (last : Option Place) (gi
 given_front r w mark parts last given values h =
     let cs = closed_of r w mark parts in
     let k = closed_of-are r w mark parts values in
-    let one : (c d : Closed) → place_of c ≡ place_of d → IsClosed r w (Contains parts) c → IsClosed r w (Contains parts) d → c ≡ d = λ c d e x y. IsClosed-one r w (Contains parts) c d values e x y in
+    let one : (c d : Closed) → closed_place c ≡ closed_place d → IsClosed r w (Contains parts) c → IsClosed r w (Contains parts) d → c ≡ d = λ c d e x y. IsClosed-one r w (Contains parts) c d values e x y in
     front_of given cs h.ascending k.ascending
     (λ c i.
     let x = h.each c (contains_from_In given c i) in
-    let f = k.every (place_of c) x.period (h.low c (contains_from_In given c i)) in
+    let f = k.every (closed_place c) x.period (h.low c (contains_from_In given c i)) in
     subst (In cs) (one f.0 c f.2 (k.each f.0 f.1) x) (In-from_contains cs f.0 f.1))
     (λ c i.
     let j = contains_from_In cs c i in
     let x = k.each c j in
-    elim (h.every (place_of c) x.period (k.low c j)) [
-      | inl after ↦ inr (all_of (λ d. Precedes d c) given (λ d l. h.below d (contains_from_In given d l) (place_of c) after))
+    elim (h.every (closed_place c) x.period (k.low c j)) [
+      | inl after ↦ inr (all_of (λ d. Precedes d c) given (λ d l. h.below d (contains_from_In given d l) (closed_place c) after))
       | inr f ↦ inl (subst (In given) (one f.0 c f.2 (h.each f.0 f.1) x) (In-from_contains given f.0 f.1))
     ])
 

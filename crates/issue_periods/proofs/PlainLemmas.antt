@@ -7,12 +7,12 @@ use Rattle.period_laws.proofs.Surface.{In, In-from_contains, contains_from_In}
 use Rattle.period_laws.proofs.Surface.{Same}
 use Rattle.period_items.specs.declared.key.Place.{Place}
 use Rattle.period_items.specs.Values.{IsBest, IsFirstBy}
-use Rattle.period_items.specs.Parts.{IsPartValue}
+use Rattle.nav_eph.specs.Values.{IsPartValue}
 use Rattle.period_items.specs.Periods.{IsBefore, place_numbers}
 use Rattle.issue_periods.specs.Standing.{Standing, IsAfter, IsDue, IsNext, NoneDue, taking, reaching, giving}
 use Rattle.period_items.specs.Mirrors.{best_among}
 use Rattle.period_items.specs.PeriodsOf.{quiet, place_at, is_before, verdict_at, closed_with}
-use Rattle.issue_periods.specs.Plain.{PlainState, StandsFor, is_after, due, count_after, left_of, plain_left}
+use Rattle.issue_periods.specs.Plain.{PlainState, PlainStandsFor, is_after, due, count_after, left_of, plain_left}
 use Rattle.period_items.proofs.Surface.{earlier_decides, is_below-true, below-is_below}
 use Rattle.period_items.proofs.Surface.{Passing, best_among-is, IsBest-same}
 use Rattle.period_items.proofs.Surface.{AreLater, IsPeriod-same, IsClosed-same}
@@ -62,14 +62,14 @@ first_due-is w mark parts last = IsBest-same IsBefore (Passing place_at (due par
 IsDue-same : (w mark : ℕ) (a b : Part → Type 0) (last : Option Place) (q : Place) → Same a b → IsDue w a mark last q → IsDue w b mark last q
 IsDue-same w mark a b last q s h = record { period = IsPeriod-same w a b q s h.period; low = h.low; after = h.after }
 
-same_parts : (s : PlainState) (at : Standing) → StandsFor s at → Same (Contains s.parts) (Contains at.parts)
+same_parts : (s : PlainState) (at : Standing) → PlainStandsFor s at → Same (Contains s.parts) (Contains at.parts)
 same_parts s at h = record { to = h.keeps_no_more; from = h.keeps }
 
-same_back : (s : PlainState) (at : Standing) → StandsFor s at → Same (Contains at.parts) (Contains s.parts)
+same_back : (s : PlainState) (at : Standing) → PlainStandsFor s at → Same (Contains at.parts) (Contains s.parts)
 same_back s at h = record { to = h.keeps; from = h.keeps_no_more }
 
 -- the first due place, with its verdict, is the next one
-pub next_is : (s : PlainState) (at : Standing) (mark : ℕ) (q : Place) → StandsFor s at → best_among place_at (due s.parts s.window mark s.last) is_before s.parts None ≡ Some q
+pub next_is : (s : PlainState) (at : Standing) (mark : ℕ) (q : Place) → PlainStandsFor s at → best_among place_at (due s.parts s.window mark s.last) is_before s.parts None ≡ Some q
     → IsNext s.reference s.window (Contains at.parts) mark at.last (closed_with q (verdict_at s.reference s.window s.parts q))
 next_is s at mark q h e =
     let b : IsFirstBy IsBefore (IsDue s.window (Contains s.parts) mark s.last) q = subst (IsBest IsBefore (IsDue s.window (Contains s.parts) mark s.last)) e (first_due-is s.window mark s.parts s.last) in
@@ -81,25 +81,25 @@ next_is s at mark q h e =
       least = λ z due l. b.first z (subst (λ (o : Option Place). IsDue s.window (Contains s.parts) mark o z) (sym h.at_last) (IsDue-same s.window mark (Contains at.parts) (Contains s.parts) at.last z (same_back s at h) due)) l;
     }
 
-pub none_is : (s : PlainState) (at : Standing) (mark : ℕ) → StandsFor s at → best_among place_at (due s.parts s.window mark s.last) is_before s.parts None ≡ None
+pub none_is : (s : PlainState) (at : Standing) (mark : ℕ) → PlainStandsFor s at → best_among place_at (due s.parts s.window mark s.last) is_before s.parts None ≡ None
     → NoneDue s.window (Contains at.parts) mark at.last
 none_is s at mark h e =
     let none = subst (IsBest IsBefore (IsDue s.window (Contains s.parts) mark s.last)) e (first_due-is s.window mark s.parts s.last) in
     λ q due. none q (subst (λ (o : Option Place). IsDue s.window (Contains s.parts) mark o q) (sym h.at_last) (IsDue-same s.window mark (Contains at.parts) (Contains s.parts) at.last q (same_back s at h) due))
 
 -- at a mark at which there was none
-pub none_again : (s : PlainState) (at : Standing) (mark : ℕ) → StandsFor s at → mark ≤ s.none_at → NoneDue s.window (Contains at.parts) mark at.last
+pub none_again : (s : PlainState) (at : Standing) (mark : ℕ) → PlainStandsFor s at → mark ≤ s.none_at → NoneDue s.window (Contains at.parts) mark at.last
 none_again s at mark h l = λ q due. h.none_due q (record { period = due.period; low = omega (arith, due.low); after = due.after })
 
 -- where no part is old enough
-pub none_old : (s : PlainState) (at : Standing) (mark : ℕ) → StandsFor s at → mark ≤ s.least + s.window → NoneDue s.window (Contains at.parts) mark at.last
+pub none_old : (s : PlainState) (at : Standing) (mark : ℕ) → PlainStandsFor s at → mark ≤ s.least + s.window → NoneDue s.window (Contains at.parts) mark at.last
 none_old s at mark h l = λ q due.
     let p = due.period.heard in
     omega (arith, due.low, All-contains (λ x. s.least ≤ x.stamp) s.parts p.part h.least (h.keeps p.part p.here), p.at_stamp)
 
 -- after None it stands for the mark
-pub stands_reached : (s new : PlainState) (at : Standing) (mark : ℕ) → StandsFor s at → at.mark ≤ mark → new.parts ≡ s.parts → new.window ≡ s.window → new.mark ≡ mark → new.last ≡ s.last → new.least ≡ s.least → new.none_at ≡ s.none_at
-    → StandsFor new (reaching mark at)
+pub stands_reached : (s new : PlainState) (at : Standing) (mark : ℕ) → PlainStandsFor s at → at.mark ≤ mark → new.parts ≡ s.parts → new.window ≡ s.window → new.mark ≡ mark → new.last ≡ s.last → new.least ≡ s.least → new.none_at ≡ s.none_at
+    → PlainStandsFor new (reaching mark at)
 stands_reached s new at mark h l ep ew em el et en = record {
   keeps = λ p i. subst (λ (ps : List Part). Contains ps p) (sym ep) (h.keeps p i);
   keeps_no_more = λ p i. h.keeps_no_more p (subst (λ (ps : List Part). Contains ps p) ep i);
@@ -112,8 +112,8 @@ stands_reached s new at mark h l ep ew em el et en = record {
 }
 
 -- and notes it, where all parts were searched
-pub stands_searched : (s new : PlainState) (at : Standing) (mark : ℕ) → StandsFor s at → NoneDue s.window (Contains at.parts) mark at.last → new.parts ≡ s.parts → new.window ≡ s.window → new.mark ≡ mark → new.last ≡ s.last → new.least ≡ s.least
-    → new.none_at ≡ mark → StandsFor new (reaching mark at)
+pub stands_searched : (s new : PlainState) (at : Standing) (mark : ℕ) → PlainStandsFor s at → NoneDue s.window (Contains at.parts) mark at.last → new.parts ≡ s.parts → new.window ≡ s.window → new.mark ≡ mark → new.last ≡ s.last → new.least ≡ s.least
+    → new.none_at ≡ mark → PlainStandsFor new (reaching mark at)
 stands_searched s new at mark h none ep ew em el et en = record {
   keeps = λ p i. subst (λ (ps : List Part). Contains ps p) (sym ep) (h.keeps p i);
   keeps_no_more = λ p i. h.keeps_no_more p (subst (λ (ps : List Part). Contains ps p) ep i);
@@ -126,8 +126,8 @@ stands_searched s new at mark h none ep ew em el et en = record {
 }
 
 -- after a period given
-pub stands_given : (s new : PlainState) (at : Standing) (mark : ℕ) (q : Place) → StandsFor s at → at.mark ≤ mark → IsAfter at.last q → new.parts ≡ s.parts → new.window ≡ s.window → new.mark ≡ mark → new.last ≡ Some q → new.least ≡ s.least
-    → new.none_at ≡ s.none_at → StandsFor new (giving mark q at)
+pub stands_given : (s new : PlainState) (at : Standing) (mark : ℕ) (q : Place) → PlainStandsFor s at → at.mark ≤ mark → IsAfter at.last q → new.parts ≡ s.parts → new.window ≡ s.window → new.mark ≡ mark → new.last ≡ Some q → new.least ≡ s.least
+    → new.none_at ≡ s.none_at → PlainStandsFor new (giving mark q at)
 stands_given s new at mark q h l after ep ew em el et en = record {
   keeps = λ p i. subst (λ (ps : List Part). Contains ps p) (sym ep) (h.keeps p i);
   keeps_no_more = λ p i. h.keeps_no_more p (subst (λ (ps : List Part). Contains ps p) ep i);
@@ -147,8 +147,8 @@ later_one mark parts p l = record {
   later = λ q i. elim ((with_part parts p).only q i) [ inl o ↦ inl o | inr e ↦ inr (subst (λ (x : Part). mark ≤ x.stamp) e l) ];
 }
 
-pub stands_taken : (s new : PlainState) (at : Standing) (p : Part) → StandsFor s at → at.mark ≤ p.stamp → IsPartValue p → new.parts ≡ s.parts ++ p ∷ [] → new.window ≡ s.window → new.mark ≡ s.mark → new.last ≡ s.last
-    → new.least ≡ min s.least p.stamp → new.none_at ≡ s.none_at → StandsFor new (taking p at)
+pub stands_taken : (s new : PlainState) (at : Standing) (p : Part) → PlainStandsFor s at → at.mark ≤ p.stamp → IsPartValue p → new.parts ≡ s.parts ++ p ∷ [] → new.window ≡ s.window → new.mark ≡ s.mark → new.last ≡ s.last
+    → new.least ≡ min s.least p.stamp → new.none_at ≡ s.none_at → PlainStandsFor new (taking p at)
 stands_taken s new at p h l v ep ew em el et en = record {
   keeps = λ q i. subst (λ (ps : List Part). Contains ps q) (sym ep) (elim ((with_part at.parts p).only q i) [
     | inl o ↦ (with_part s.parts p).keeps q (h.keeps q o)
@@ -215,5 +215,5 @@ fewer_left s new mark q e ep el =
     subst (λ (o : Option Place). left_of o new.parts < left_of s.last s.parts) (sym el) (subst (λ (ps : List Part). left_of (Some q) ps < left_of s.last s.parts) (sym ep)
     (left_strict s.last q s.parts d.element d.here d.is b.here.after))
 
-pub given_after : (s : PlainState) (at : Standing) (mark : ℕ) (q : Place) → StandsFor s at → best_among place_at (due s.parts s.window mark s.last) is_before s.parts None ≡ Some q → IsAfter at.last q
+pub given_after : (s : PlainState) (at : Standing) (mark : ℕ) (q : Place) → PlainStandsFor s at → best_among place_at (due s.parts s.window mark s.last) is_before s.parts None ≡ Some q → IsAfter at.last q
 given_after s at mark q h e = (next_is s at mark q h e).due.after

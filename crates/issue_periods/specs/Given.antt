@@ -4,7 +4,7 @@ use Rattle.nav_eph.specs.declared.part.Part.{Part}
 use Rattle.period_items.specs.declared.key.Place.{Place}
 use Rattle.period_items.specs.declared.closed.Closed.{Closed}
 use Rattle.period_items.specs.Periods.{IsPeriod, IsBefore}
-use Rattle.period_items.specs.Verdicts.{IsClosed, place_of}
+use Rattle.period_items.specs.Verdicts.{IsClosed, closed_place}
 use Rattle.period_items.specs.PeriodLists.{IsAscending}
 use Rattle.issue_periods.specs.Standing.{Standing, IsAfter}
 use Rattle.period_items.specs.PeriodsOf.{closed_of}
@@ -19,14 +19,14 @@ pub record HasGiven (r window : ℕ) (parts : Part → Type 0) (mark : ℕ) (las
   pub ascending : IsAscending given
   pub each : (c : Closed) → Contains given c → IsClosed r window parts c
   pub low : (c : Closed) → Contains given c → c.end + window < mark
-  pub below : (c : Closed) → Contains given c → (q : Place) → IsAfter last q → IsBefore (place_of c) q
-  pub every : (q : Place) → IsPeriod window parts q → q.end + window < mark → IsAfter last q ⊎ ((c : Closed) × Contains given c × (place_of c ≡ q))
+  pub below : (c : Closed) → Contains given c → (q : Place) → IsAfter last q → IsBefore (closed_place c) q
+  pub every : (q : Place) → IsPeriod window parts q → q.end + window < mark → IsAfter last q ⊎ ((c : Closed) × Contains given c × (closed_place c ≡ q))
   pub last_low : GivenBelow window mark last
 
 -- the place of the last one of a list
 abbrev pub last_from : Option Place → List Closed → Option Place
 last_from last [] = last
-last_from last (c ∷ cs) = last_from (Some (place_of c)) cs
+last_from last (c ∷ cs) = last_from (Some (closed_place c)) cs
 
 -- all that is closed at the mark was given
 abbrev pub settled : ℕ → ℕ → List Part → ℕ → Standing

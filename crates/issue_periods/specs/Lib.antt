@@ -1,4 +1,4 @@
 pub mod Standing
 pub mod Given
 pub mod Plain
-pub mod PlainValues
+pub mod PlainLaws

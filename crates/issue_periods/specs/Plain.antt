@@ -2,7 +2,7 @@
 use Rattle.std.specs.Prelude.{◌≡◌, ℕ, ◌+◌, ◌≤◌, Bool, true, ◌&&◌, nat_lt, if◌then◌else◌, List, [], ◌∷◌, Option, None, Some, All, Contains}
 use Rattle.nav_eph.specs.declared.part.Part.{Part}
 use Rattle.period_items.specs.declared.key.Place.{Place}
-use Rattle.period_items.specs.Parts.{IsPartValue}
+use Rattle.nav_eph.specs.Values.{IsPartValue}
 use Rattle.issue_periods.specs.Standing.{Standing, NoneDue}
 use Rattle.period_items.specs.PeriodsOf.{quiet, is_before, place_at}
 
@@ -24,7 +24,7 @@ pub record PlainState : Type 0 where
   pub none_at : ℕ
 
 -- it keeps the parts, the mark and the last period given; no part is earlier than `least`, and at `none_at` no period was due
-pub record StandsFor (assembly : PlainState) (at : Standing) : Type 0 where
+pub record PlainStandsFor (assembly : PlainState) (at : Standing) : Type 0 where
   pub keeps : (p : Part) → Contains at.parts p → Contains assembly.parts p
   pub keeps_no_more : (p : Part) → Contains assembly.parts p → Contains at.parts p
   pub at_mark : assembly.mark ≡ at.mark

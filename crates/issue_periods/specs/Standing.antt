@@ -4,7 +4,7 @@ use Rattle.nav_eph.specs.declared.part.Part.{Part}
 use Rattle.period_items.specs.declared.key.Place.{Place}
 use Rattle.period_items.specs.declared.closed.Closed.{Closed}
 use Rattle.period_items.specs.Periods.{IsPeriod, IsBefore}
-use Rattle.period_items.specs.Verdicts.{IsClosed, place_of}
+use Rattle.period_items.specs.Verdicts.{IsClosed, closed_place}
 
 -- the parts taken, the greatest mark given, and the last period given
 pub record Standing : Type 0 where
@@ -12,15 +12,16 @@ pub record Standing : Type 0 where
   pub mark : ℕ
   pub last : Option Place
 
--- it stands for something with this property
+-- there is something that it stands for, and that has this property
 abbrev pub Stood : (Standing → Type 0) → (Standing → Type 0) → Type 0
 Stood now property = (at : Standing) × now at × property at
 
--- whatever it stands for has this property
+-- all that it stands for has this property
 abbrev pub Tells : (Standing → Type 0) → (Standing → Type 0) → Type 0
 Tells now property = (at : Standing) → now at → property at
 
--- whatever it stood for before, it stands for the change of that afterwards
+-- a call that makes this change: if the assembly stood for some parts, mark and last period before the call, it stands for the changed
+-- ones after it
 abbrev pub Carries : (Standing → Type 0) → (Standing → Type 0) → (Standing → Standing) → Type 0
 Carries old new change = (at : Standing) → old at → new (change at)
 
@@ -35,6 +36,14 @@ unchanged at = at
 -- with one part more
 abbrev pub taking : Part → Standing → Standing
 taking part at = record { parts = at.parts ++ part ∷ []; mark = at.mark; last = at.last }
+
+-- with these parts more, in this order
+abbrev pub adding : List Part → Standing → Standing
+adding parts at = record { parts = at.parts ++ parts; mark = at.mark; last = at.last }
+
+-- with other parts in their place
+abbrev pub with_parts : List Part → Standing → Standing
+with_parts parts at = record { parts = parts; mark = at.mark; last = at.last }
 
 -- at a mark
 abbrev pub reaching : ℕ → Standing → Standing
@@ -57,9 +66,9 @@ pub record IsDue (window : ℕ) (parts : Part → Type 0) (mark : ℕ) (last : O
 
 -- the first of these
 pub record IsNext (r window : ℕ) (parts : Part → Type 0) (mark : ℕ) (last : Option Place) (closed : Closed) : Type 0 where
-  pub due : IsDue window parts mark last (place_of closed)
+  pub due : IsDue window parts mark last (closed_place closed)
   pub verdict : IsClosed r window parts closed
-  pub least : (place : Place) → IsDue window parts mark last place → IsBefore place (place_of closed) → ⊥
+  pub least : (place : Place) → IsDue window parts mark last place → IsBefore place (closed_place closed) → ⊥
 
 -- there is none
 abbrev pub NoneDue : ℕ → (Part → Type 0) → ℕ → Option Place → Type 0

@@ -1,7 +1,10 @@
-ghost use Rattle.std.specs.Prelude.{◌≡◌, ℕ, ◌+◌, ◌<◌, ◌≤◌, Contains, All, IfOk, IfSome, IfNone, OnOk, OnErr};
-ghost use Rattle.period_items.specs.Parts.{IsPartValue};
-ghost use Rattle.period_items.specs.Verdicts.{place_of};
-ghost use Rattle.issue_periods.specs.Standing.{Standing, Stood, Tells, Carries, IsNext, NoneDue, giving, reaching, taking, unchanged};
+ghost use Rattle.std.specs.Prelude.{◌≡◌, ◌↔◌, ℕ, ◌+◌, ◌<◌, ◌≤◌, List, Contains, All, IfOk, IfSome};
+ghost use Rattle.std.specs.Prelude.{IfNone, OnOk, OnErr};
+ghost use Rattle.nav_eph.specs.Values.{IsPartValue};
+ghost use Rattle.period_items.specs.Verdicts.{closed_place};
+ghost use Rattle.issue_periods.specs.Standing.{Standing, Stood, Tells, Carries, IsNext, NoneDue};
+ghost use Rattle.issue_periods.specs.Standing.{giving, reaching, taking, unchanged, with_parts};
+ghost use Rattle.nav_eph.specs.declared.part.Part.{Part};
 
 use nav_eph::Part;
 use period_items::Closed;
@@ -9,8 +12,9 @@ use std::alloc::AllocError;
 
 /// What puts parts together into periods.
 ///
-/// It stands for the parts that it has taken, the greatest mark that it was given, and the last period that it
-/// has given. An implementation may keep less than these; each clause holds of everything that it may stand for.
+/// It stands for the parts that it has taken, the greatest mark that it was given, and the last
+/// period that it has given. An implementation may keep less than these; each clause holds of
+/// everything that it may stand for.
 pub trait Assembly {
     // The week near which it listens.
     ghost reference: { Self → ℕ };
@@ -24,19 +28,20 @@ pub trait Assembly {
     // How many periods it may still give before it takes a part again.
     ghost left: { Self → ℕ };
 
-    /// Takes a part, whose stamp is at least the greatest mark given so far. A part that was taken already
-    /// changes no period. Where memory is wanting all is unchanged.
+    /// Takes a part, whose stamp is at least the greatest mark given so far. A part that was taken
+    /// already changes no period. Where memory is wanting all is unchanged.
     fn take(&mut self, part: &Part) -> Result<(), AllocError>
         requires { Stood (stands_for self.old) (λ at. at.mark ≤ part.now.stamp) }
         ensures reference { reference self.new ≡ reference self.old }
         ensures window { window self.new ≡ window self.old }
         ensures ok { OnOk result
             (Carries (stands_for self.old) (stands_for self.new) (taking part.now)) }
-        ensures err { OnErr result (Carries (stands_for self.old) (stands_for self.new) unchanged) };
+        ensures err { OnErr result
+            (Carries (stands_for self.old) (stands_for self.new) unchanged) };
 
-    /// The first period whose end and the window after it are below the mark and that was not given yet, with its
-    /// verdict; `None` exactly where there is none. The mark is at least the greatest given so far. Where memory
-    /// is wanting all is unchanged.
+    /// The first period whose end and the window after it are below the mark and that was not given
+    /// yet, with its verdict; `None` exactly where there is none. The mark is at least the greatest
+    /// given so far. Where memory is wanting all is unchanged.
     fn next_closed(&mut self, mark: u64) -> Result<Option<Closed>, AllocError>
         requires { Stood (stands_for self.old) (λ at. at.mark ≤ mark) }
         ensures reference { reference self.new ≡ reference self.old }
@@ -44,21 +49,30 @@ pub trait Assembly {
 
         // What is given, and where nothing is.
         ensures next { IfOk result (λ answer. IfSome answer (λ closed.
-            Tells (stands_for self.old) (λ at. IsNext (reference self.old) (window self.old) (Contains at.parts) mark at.last closed))) }
+            Tells (stands_for self.old) (λ at. IsNext (reference self.old) (window self.old)
+            (Contains at.parts) mark at.last closed))) }
         ensures none { IfOk result (λ answer. IfNone answer
-            (Tells (stands_for self.old) (λ at. NoneDue (window self.old) (Contains at.parts) mark at.last))) }
+            (Tells (stands_for self.old) (λ at. NoneDue (window self.old)
+            (Contains at.parts) mark at.last))) }
 
         // What it stands for then.
         ensures given { IfOk result (λ answer. IfSome answer (λ closed.
-            Carries (stands_for self.old) (stands_for self.new) (giving mark (place_of closed)))) }
+            Carries (stands_for self.old) (stands_for self.new)
+            (giving mark (closed_place closed)))) }
         ensures reached { IfOk result (λ answer. IfNone answer
             (Carries (stands_for self.old) (stands_for self.new) (reaching mark))) }
         ensures err { OnErr result (Carries (stands_for self.old) (stands_for self.new) unchanged) }
 
         // Fewer may still be given, so asking until there is none ends.
-        ensures fewer { IfOk result (λ answer. IfSome answer (λ _. left self.new < left self.old)) };
+        ensures fewer { IfOk result (λ answer. IfSome answer
+            (λ _. left self.new < left self.old)) };
 
     // Each part that it stands for is a value of its type.
     ghost parts_are_values: { (assembly : Self) (at : Standing)
         → stands_for assembly at → All IsPartValue at.parts };
+
+    // Its parts are a set: what it stands for, it stands for in any order and with any repetition.
+    ghost parts_are_a_set: { (assembly : Self) (at : Standing) (other : List Part)
+        → stands_for assembly at → ((p : Part) → Contains at.parts p ↔ Contains other p)
+        → stands_for assembly (with_parts other at) };
 }

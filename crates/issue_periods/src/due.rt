@@ -66,7 +66,8 @@ pub(crate) fn first_due(
     mark: u64,
     last: &Option<Place>,
 ) -> Option<Place>
-    ensures { result ≡ best_among place_at (due parts.now window mark last.now) is_before parts.now None }
+    ensures { result
+        ≡ best_among place_at (due parts.now window mark last.now) is_before parts.now None }
 {
     let mut best: Option<Place> = None;
     for part in parts {

@@ -6,10 +6,11 @@ ghost use Rattle.period_items.specs.declared.key.Place.{Place};
 ghost use Rattle.period_items.specs.Periods.{IsPeriod};
 ghost use Rattle.issue_periods.specs.Standing.{IsAfter, NoneDue};
 
-/// Where no period is due at a mark, and later parts come from the mark on, what was heard two windows before the mark is
-/// farther than the window from each end to come.
+/// Where no period is due at a mark, and later parts come from the mark on, what was heard two
+/// windows before the mark is farther than the window from each end to come.
 pub fn old_is_far()
-    ensures { (window mark : ℕ) (parts later : List Part) (last : Option Place) (place : Place) (stamp : ℕ)
+    ensures { (window mark : ℕ) (parts later : List Part) (last : Option Place)
+        (place : Place) (stamp : ℕ)
         → NoneDue window (Contains parts) mark last → All (λ p. mark ≤ p.stamp) later
         → IsPeriod window (Contains (parts ++ later)) place → IsAfter last place
         → stamp + 2 * window < mark → stamp + window < place.end }

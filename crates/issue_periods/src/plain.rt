@@ -11,10 +11,11 @@ use period_items::{Closed, Place, note_value, verdict_on};
 use std::alloc::{AllocError, Global};
 use std::marker::Model;
 
-/// An assembly that keeps every part, and searches them all for what is closed: the definition's own program.
+/// An assembly that keeps every part, and searches them all for what is closed: the definition's
+/// own program.
 ///
-/// A contract sees the week `reference` near which it listens, the `window` in seconds, the `parts` that it keeps,
-/// the greatest `mark` given and the `last` period given.
+/// A contract sees the week `reference` near which it listens, the `window` in seconds, the `parts`
+/// that it keeps, the greatest `mark` given and the `last` period given.
 #[derive(Drop)]
 pub struct PlainAssembly {
     parts: Vec<Part>,
@@ -45,7 +46,7 @@ impl Model for PlainAssembly {
 }
 
 impl PlainAssembly {
-    ghost use Rattle.issue_periods.specs.Plain.{StandsFor};
+    ghost use Rattle.issue_periods.specs.Plain.{PlainStandsFor};
     ghost use Rattle.issue_periods.specs.Standing.{nothing_yet};
 
     /// An assembly of no parts, near the week `r`, with a window of 60 to 14,400 seconds.
@@ -54,7 +55,7 @@ impl PlainAssembly {
         requires most { window ≤ 14400 }
         ensures reference { result.reference ≡ r }
         ensures window { result.window ≡ window }
-        ensures stands { StandsFor result nothing_yet }
+        ensures stands { PlainStandsFor result nothing_yet }
     {
         PlainAssembly {
             parts: Vec::new(alloc),
@@ -69,14 +70,14 @@ impl PlainAssembly {
 }
 
 impl Assembly for PlainAssembly {
-    ghost use Rattle.issue_periods.specs.Plain.{StandsFor, plain_left};
-    ghost use Rattle.issue_periods.specs.PlainValues.{parts_are_values};
+    ghost use Rattle.issue_periods.specs.Plain.{PlainStandsFor, plain_left};
+    ghost use Rattle.issue_periods.specs.PlainLaws.{parts_are_a_set, parts_are_values};
 
     ghost reference = { λ s. s.reference };
 
     ghost window = { λ s. s.window };
 
-    ghost stands_for = { StandsFor };
+    ghost stands_for = { PlainStandsFor };
 
     ghost left = { plain_left };
 
@@ -88,7 +89,8 @@ impl Assembly for PlainAssembly {
     }
 
     fn next_closed(&mut self, mark: u64) -> Result<Option<Closed>, AllocError> {
-        // There was none at this mark, and what came since does not end before it; or no kept part is old enough.
+        // There was none at this mark, and what came since does not end before it; or no kept part
+        // is old enough.
         if mark <= self.none_at || mark <= self.least as u64 + self.window as u64 {
             self.mark = mark;
             return Ok(None);
@@ -113,4 +115,6 @@ impl Assembly for PlainAssembly {
     }
 
     ghost parts_are_values = { parts_are_values };
+
+    ghost parts_are_a_set = { parts_are_a_set };
 }

@@ -4,7 +4,7 @@ use crate::samples::{
 };
 use gnss_week::{RefWeek, Second};
 use nav_bits::U;
-use nav_eph::{Body, IonContent, NavItem, Part, SentSecond, SentTag};
+use nav_eph::{Body, GpsSide, IonContent, NavItem, Part, SentSecond, SentTag};
 use std::alloc::Global;
 use std::process::Abort;
 use std::test::Fail;
@@ -115,7 +115,8 @@ fn health_near_the_end(rt: HostRuntime) -> Result<(), Fail> {
         &[(7_207, 'n')],
     )?;
 
-    // Of two at one stamp the greater before the end, the lesser behind it; of two stamps the last before it.
+    // Of two at one stamp the greater before the end, the lesser behind it; of two stamps the last
+    // before it.
     let before = [health(7, 1)?, health(7, 2)?, l1, l2, l3, l4];
     chosen_health(&rt, alloc, &before, 2)?;
     let before = [
@@ -175,7 +176,8 @@ fn times_of(item: &NavItem) -> Option<(u64, u32, SentSecond)> {
     }
 }
 
-// Two clocks with the rest of the orbit: accuracy, week of toe and second of sending that are chosen.
+// Two clocks with the rest of the orbit: accuracy, week of toe and second of sending that are
+// chosen.
 fn chosen(
     rt: &impl Abort,
     alloc: Global,
@@ -299,18 +301,91 @@ fn next_closed_period(rt: HostRuntime) -> Result<(), Fail> {
     Ok(())
 }
 
+// A clock of G05 with a health of its satellite.
+fn clock_with_health(stamp: u32, health: u64) -> Result<Part, Fail> {
+    let side = GpsSide {
+        health: U::from_digits(health % 64),
+        ..side(0)
+    };
+    clock(stamp, side, sent(247, 0)?)
+}
+
 #[test]
-fn steps_of_a_run(rt: HostRuntime) -> Result<(), Fail> {
-    let r = RefWeek::new(WEEK).ok_or("a week")?;
-    let (_body, _tag): (Option<Body>, Option<SentTag>) = (None, None);
-    let last = c(20_000)?;
-    let mut assembly = PlainAssembly::new(rt.alloc(), r, WINDOW);
-    let mut given = Vec::new(rt.alloc());
-    follow(&mut assembly, &last, 12_800, &mut given)?;
-    assert!(rt; given.is_empty());
-    settle(&mut assembly, u64::MAX, &mut given)?;
-    assert_eq!(rt; given.len(), 1);
-    Ok(())
+fn issues_heard_again(rt: HostRuntime) -> Result<(), Fail> {
+    let alloc = rt.alloc();
+    let (a0, b0, c0) = (a(0)?, b(6)?, c(12)?);
+    let (a1, b1, c1) = (a(7_213)?, b(7_219)?, c(7_225)?);
+
+    // The same is nothing new; another health of the satellite is; a partial period between does
+    // not count.
+    lists(
+        &rt,
+        alloc,
+        &[a0, b0, c0, a1, b1, c1],
+        &[(12, 'w'), (7_225, 'a')],
+    )?;
+    lists(
+        &rt,
+        alloc,
+        &[a0, b0, c0, clock_with_health(7_213, 1)?, b1, c1],
+        &[(12, 'w'), (7_225, 'w')],
+    )?;
+    let (a2, b2, c2) = (a(14_414)?, b(14_420)?, c(14_426)?);
+    lists(
+        &rt,
+        alloc,
+        &[a0, b0, c0, c(7_213)?, a2, b2, c2],
+        &[(12, 'w'), (7_213, 'p'), (14_426, 'a')],
+    )?;
+
+    // Three times, with a partial period before the last.
+    let (a3, b3, c3) = (a(21_628)?, b(21_634)?, c(21_640)?);
+    lists(
+        &rt,
+        alloc,
+        &[a0, b0, c0, a1, b1, c1, c(14_426)?, a3, b3, c3],
+        &[(12, 'w'), (7_225, 'a'), (14_426, 'p'), (21_640, 'a')],
+    )?;
+
+    // What was said before the last time is new again.
+    lists(
+        &rt,
+        alloc,
+        &[a0, b0, c0, clock_with_health(7_213, 1)?, b1, c1, a2, b2, c2],
+        &[(12, 'w'), (7_225, 'w'), (14_426, 'w')],
+    )
+}
+
+#[test]
+fn words_heard_again(rt: HostRuntime) -> Result<(), Fail> {
+    let alloc = rt.alloc();
+    let (w1, w2, w3, w4) = (word(1, 1)?, word(3, 2)?, word(5, 3)?, word(7, 4)?);
+    let late = [
+        word(14_401, 1)?,
+        word(14_403, 2)?,
+        word(14_405, 3)?,
+        word(14_407, 4)?,
+    ];
+    let [l1, l2, l3, l4] = late;
+    let first = health(9, 0)?;
+    lists(
+        &rt,
+        alloc,
+        &[w1, w2, w3, w4, first, l1, l2, l3, l4, health(14_409, 0)?],
+        &[(7, 'w'), (14_407, 'a')],
+    )?;
+    lists(
+        &rt,
+        alloc,
+        &[w1, w2, w3, w4, first, l1, l2, l3, l4, health(14_409, 1)?],
+        &[(7, 'w'), (14_407, 'w')],
+    )?;
+    lists(
+        &rt,
+        alloc,
+        &[ionosphere(18, 5)?, ionosphere(7_219, 5)?],
+        &[(18, 'w'), (7_219, 'w')],
+    )
 }
 
 #[test]

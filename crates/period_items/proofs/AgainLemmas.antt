@@ -9,7 +9,7 @@ use Rattle.period_items.specs.declared.closed.Finding.{Finding}
 use Rattle.period_items.specs.declared.closed.Finding.TheVariants.{Differs, Misses, LacksHealth, Complete}
 use Rattle.period_items.specs.declared.closed.Verdict.{Verdict}
 use Rattle.period_items.specs.declared.closed.Verdict.TheVariants.{Whole, Again}
-use Rattle.period_items.specs.Parts.{IsPartValue}
+use Rattle.nav_eph.specs.Values.{IsPartValue}
 use Rattle.period_items.specs.PeriodsOf.{end_place}
 use Rattle.period_items.specs.Verdicts.{IsFound, IsComplete, IsLastBefore, Repeats, IsJudged}
 use Rattle.period_items.proofs.PeriodLemmas.{AreLater, IsPeriod-same, IsPeriod-keeps, IsPeriod-was, IsFound-same, IsFound-keeps, IsFound-was, IsFound-one}

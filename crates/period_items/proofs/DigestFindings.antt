@@ -30,7 +30,8 @@ use Rattle.period_items.specs.Parts.{clock_in, orbit_a_in, side_in, fit_in, sent
 use Rattle.period_items.specs.Items.{IsGpsTag}
 use Rattle.period_items.specs.Verdicts.{IsContradicted, IsPartial, IsFoundIn}
 use Rattle.period_items.specs.Digests.{IsSeen, IsGpsDigest, IsGalDigest, IsDigest, IsBestHealth}
-use Rattle.period_items.specs.Mirrors.{or_else, seen_differs, seen_only, gps_item, gal_item, digest_finding}
+use Rattle.period_items.specs.DigestsOf.{gps_item, gal_item, digest_finding}
+use Rattle.period_items.specs.Mirrors.{or_else, seen_differs, seen_only}
 use Rattle.period_items.proofs.Folds.{none_some}
 use Rattle.period_items.proofs.ValueLemmas.{only_agrees, only_there}
 

@@ -1,7 +1,7 @@
 -- Digests: that of one part, that of two sets of parts together, and that of the same set.
 use Rattle.std.proofs.Common.{◌≡◌, ℕ, inl, inr, Bool, true, false, if◌then◌else◌, List, Option, None, Some, refl, sym, ap, subst, ◌∙◌, rules}
 use Rattle.std.proofs.lemmas.Bool.{both_ways}
-use Rattle.nav_eph.proofs.SameFields.{clock_decided, orbit_a_decided, orbit_b_decided, word2_decided, word3_decided, word4_decided}
+use Rattle.nav_eph.proofs.Surface.{clock_decided, orbit_a_decided, orbit_b_decided, word2_decided, word3_decided, word4_decided}
 use Rattle.nav_eph.specs.Satellite.{Satellite}
 use Rattle.nav_eph.specs.contracts.gps.GpsClockPartialEq.TheImpl.{eq-value as clock_eq}
 use Rattle.nav_eph.specs.contracts.gps.GpsOrbitAPartialEq.TheImpl.{eq-value as orbit_a_eq}
@@ -26,7 +26,8 @@ use Rattle.period_items.specs.declared.digest.Digest.TheVariants.{Gps as GpsForm
 use Rattle.period_items.specs.Values.{HasValue, IsOnly, IsFirstBy, IsBest, IsEarlier, IsLater}
 use Rattle.period_items.specs.Parts.{key_in, key_of, clock_of, orbit_a_of, orbit_b_of, word1_of, word2_of, word3_of, word4_of, side_of, fit_of, sent_tag_of, toe_tag_of, sending_of, side_numbers, fit_numbers, tag_numbers, sending_numbers}
 use Rattle.period_items.specs.Digests.{IsSeen, IsGpsDigest, IsGalDigest, IsDigest}
-use Rattle.period_items.specs.Mirrors.{earlier, later, seen_of, seen_join, gps_digest, gal_digest, ion_digest, digest_for, digest_of, gps_join, gal_join, digest_join}
+use Rattle.period_items.specs.DigestsOf.{gps_digest, gal_digest, ion_digest, digest_for, digest_of, gps_join, gal_join, digest_join}
+use Rattle.period_items.specs.Mirrors.{earlier, later, seen_of, seen_join}
 use Rattle.period_items.proofs.Orders.{earlier_decides, later_decides}
 use Rattle.period_items.proofs.Folds.{some_is, none_some, IsBest-same, Grows, best_join-is}
 use Rattle.period_items.proofs.ValueLemmas.{IsUnion, same_values, union_values, IsEmpty-same, IsOnly-same, Differ-same, IsFirstBy-same}

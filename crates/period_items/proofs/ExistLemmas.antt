@@ -9,9 +9,10 @@ use Rattle.period_laws.proofs.Surface.{Same}
 use Rattle.period_items.specs.declared.key.Key.{Key}
 use Rattle.period_items.specs.declared.key.Place.{Place}
 use Rattle.period_items.specs.declared.closed.Closed.{Closed}
-use Rattle.period_items.specs.Parts.{key_of, IsPartValue}
+use Rattle.nav_eph.specs.Values.{IsPartValue}
+use Rattle.period_items.specs.Parts.{key_of}
 use Rattle.period_items.specs.Periods.{IsPeriod, IsBefore, place_numbers}
-use Rattle.period_items.specs.Verdicts.{IsClosed, place_of}
+use Rattle.period_items.specs.Verdicts.{IsClosed, closed_place}
 use Rattle.period_items.specs.PeriodLists.{IsAscending, ArePeriods, AreClosed, IsPrefix}
 use Rattle.period_items.specs.PeriodsOf.{quiet, place_in, place_at, verdict_at, closed_with, is_before, insert, insert_at, periods_ending, periods_of, closed_of}
 use Rattle.period_items.proofs.Orders.{is_below-true, below-is_below}
@@ -32,22 +33,22 @@ insert_all-at P c d ds false false hc hd h ih = (hd, h)
 
 insert_all : (P : Closed → Type 0) (c : Closed) (ds : List Closed) → P c → AllByRecursion P ds → AllByRecursion P (insert c ds)
 insert_all P c [] hc h = (hc, tt)
-insert_all P c (d ∷ ds) hc h = insert_all-at P c d ds (is_before (place_of c) (place_of d)) (is_before (place_of d) (place_of c)) hc h.0 h.1 (insert_all P c ds hc h.1)
+insert_all P c (d ∷ ds) hc h = insert_all-at P c d ds (is_before (closed_place c) (closed_place d)) (is_before (closed_place d) (closed_place c)) hc h.0 h.1 (insert_all P c ds hc h.1)
 
 is_before-true : (a b : Place) → is_before a b ≡ true → IsBefore a b
 is_before-true a b e = is_below-true (place_numbers a) (place_numbers b) e
 
-insert_ascending-at : (c d : Closed) (ds : List Closed) (t u : Bool) → is_before (place_of c) (place_of d) ≡ t → is_before (place_of d) (place_of c) ≡ u
+insert_ascending-at : (c d : Closed) (ds : List Closed) (t u : Bool) → is_before (closed_place c) (closed_place d) ≡ t → is_before (closed_place d) (closed_place c) ≡ u
     → IsAscending (d ∷ ds) → IsAscending (insert c ds) → IsAscending (if t then c ∷ d ∷ ds else (if u then d ∷ insert c ds else d ∷ ds))
 insert_ascending-at c d ds true u et eu h ih =
-    let l = is_before-true (place_of c) (place_of d) et in
-    ((l, all_of (Precedes c) ds (λ x i. before_trans (place_of c) (place_of d) (place_of x) l (All-in (Precedes d) ds x h.0 i))), h)
-insert_ascending-at c d ds false true et eu h ih = (insert_all (Precedes d) c ds (is_before-true (place_of d) (place_of c) eu) h.0, ih)
+    let l = is_before-true (closed_place c) (closed_place d) et in
+    ((l, all_of (Precedes c) ds (λ x i. before_trans (closed_place c) (closed_place d) (closed_place x) l (All-in (Precedes d) ds x h.0 i))), h)
+insert_ascending-at c d ds false true et eu h ih = (insert_all (Precedes d) c ds (is_before-true (closed_place d) (closed_place c) eu) h.0, ih)
 insert_ascending-at c d ds false false et eu h ih = h
 
 insert_ascending : (c : Closed) (ds : List Closed) → IsAscending ds → IsAscending (insert c ds)
 insert_ascending c [] h = (tt, tt)
-insert_ascending c (d ∷ ds) h = insert_ascending-at c d ds (is_before (place_of c) (place_of d)) (is_before (place_of d) (place_of c)) refl refl h (insert_ascending c ds h.1)
+insert_ascending c (d ∷ ds) h = insert_ascending-at c d ds (is_before (closed_place c) (closed_place d)) (is_before (closed_place d) (closed_place c)) refl refl h (insert_ascending c ds h.1)
 
 insert_keeps-at : (c d x : Closed) (ds : List Closed) (t u : Bool) → In (d ∷ ds) x → (In ds x → In (insert c ds) x) → In (if t then c ∷ d ∷ ds else (if u then d ∷ insert c ds else d ∷ ds)) x
 insert_keeps-at c d x ds true u i ih = inr i
@@ -57,25 +58,25 @@ insert_keeps-at c d x ds false false i ih = i
 
 insert_keeps : (c x : Closed) (ds : List Closed) → In ds x → In (insert c ds) x
 insert_keeps c x [] i = absurd i
-insert_keeps c x (d ∷ ds) i = insert_keeps-at c d x ds (is_before (place_of c) (place_of d)) (is_before (place_of d) (place_of c)) i (λ j. insert_keeps c x ds j)
+insert_keeps c x (d ∷ ds) i = insert_keeps-at c d x ds (is_before (closed_place c) (closed_place d)) (is_before (closed_place d) (closed_place c)) i (λ j. insert_keeps c x ds j)
 
 -- a period of the list stands at the place
 abbrev pub StandsIn : List Closed → Place → Type 0
-StandsIn xs q = (c : Closed) × In xs c × (place_of c ≡ q)
+StandsIn xs q = (c : Closed) × In xs c × (closed_place c ≡ q)
 
 not_before : (a b : Place) → is_before a b ≡ false → IsBefore a b → ⊥
 not_before a b e h = both_ways (is_before a b) e (below-is_below (place_numbers a) (place_numbers b) h)
 
-insert_stands-at : (c d : Closed) (ds : List Closed) (t u : Bool) → is_before (place_of c) (place_of d) ≡ t → is_before (place_of d) (place_of c) ≡ u
-    → IsKeyValue c.key → IsKeyValue d.key → StandsIn (insert c ds) (place_of c) → StandsIn (if t then c ∷ d ∷ ds else (if u then d ∷ insert c ds else d ∷ ds)) (place_of c)
+insert_stands-at : (c d : Closed) (ds : List Closed) (t u : Bool) → is_before (closed_place c) (closed_place d) ≡ t → is_before (closed_place d) (closed_place c) ≡ u
+    → IsKeyValue c.key → IsKeyValue d.key → StandsIn (insert c ds) (closed_place c) → StandsIn (if t then c ∷ d ∷ ds else (if u then d ∷ insert c ds else d ∷ ds)) (closed_place c)
 insert_stands-at c d ds true u et eu vc vd ih = (c, inl refl, refl)
 insert_stands-at c d ds false true et eu vc vd ih = (ih.0, inr ih.1, ih.2)
 insert_stands-at c d ds false false et eu vc vd ih =
-    (d, inl refl, same_place (place_of d) (place_of c) vd vc (not_before (place_of d) (place_of c) eu) (not_before (place_of c) (place_of d) et))
+    (d, inl refl, same_place (closed_place d) (closed_place c) vd vc (not_before (closed_place d) (closed_place c) eu) (not_before (closed_place c) (closed_place d) et))
 
-insert_stands : (c : Closed) (ds : List Closed) → IsKeyValue c.key → AllByRecursion (λ d. IsKeyValue d.key) ds → StandsIn (insert c ds) (place_of c)
+insert_stands : (c : Closed) (ds : List Closed) → IsKeyValue c.key → AllByRecursion (λ d. IsKeyValue d.key) ds → StandsIn (insert c ds) (closed_place c)
 insert_stands c [] vc h = (c, inl refl, refl)
-insert_stands c (d ∷ ds) vc h = insert_stands-at c d ds (is_before (place_of c) (place_of d)) (is_before (place_of d) (place_of c)) refl refl vc h.0 (insert_stands c ds vc h.1)
+insert_stands c (d ∷ ds) vc h = insert_stands-at c d ds (is_before (closed_place c) (closed_place d)) (is_before (closed_place d) (closed_place c)) refl refl vc h.0 (insert_stands c ds vc h.1)
 
 -- the place of a part
 place_in-is : (stamp : ℕ) (o : Option Key) (q : Place) → place_in stamp o ≡ Some q → (o ≡ Some q.key) × (stamp ≡ q.end)
@@ -114,7 +115,7 @@ ending_all Is r w parts (p ∷ ps) is within =
 
 -- the place of a period
 abbrev AtPeriod : ℕ → (Part → Type 0) → Closed → Type 0
-AtPeriod w parts c = IsPeriod w parts (place_of c)
+AtPeriod w parts c = IsPeriod w parts (closed_place c)
 
 ending_period : (r w : ℕ) (parts ps : List Part) → ((p : Part) → In ps p → In parts p) → AllByRecursion (AtPeriod w (Contains parts)) (periods_ending r w parts ps)
 ending_period r w parts ps within = ending_all (AtPeriod w (Contains parts)) r w parts ps (λ z h. h) within
@@ -146,7 +147,7 @@ keeps_at : (r w : ℕ) (parts : List Part) (o : Option Place) (x : Closed) (cs :
 keeps_at r w parts None x cs i = i
 keeps_at r w parts (Some q) x cs i = keeps_if (closed_with q (verdict_at r w parts q)) x cs (quiet parts w q.key q.end) i
 
-stands_if : (c : Closed) (cs : List Closed) (t : Bool) → t ≡ true → IsKeyValue c.key → AllByRecursion (λ d. IsKeyValue d.key) cs → StandsIn (if t then insert c cs else cs) (place_of c)
+stands_if : (c : Closed) (cs : List Closed) (t : Bool) → t ≡ true → IsKeyValue c.key → AllByRecursion (λ d. IsKeyValue d.key) cs → StandsIn (if t then insert c cs else cs) (closed_place c)
 stands_if c cs true e v h = insert_stands c cs v h
 stands_if c cs false e v h = absurd (both_ways false refl e)
 
@@ -165,7 +166,7 @@ ending_every r w parts [] q p values within h i k s = absurd i
 ending_every r w parts (x ∷ xs) q p values within h (inl e) k s =
     let cs = periods_ending r w parts xs in
     let v : AllByRecursion (λ d. IsKeyValue d.key) cs =
-    all_of (λ d. IsKeyValue d.key) cs (λ d j. period_key w (Contains parts) (place_of d) values (All-in (AtPeriod w (Contains parts)) cs d (ending_period r w parts xs (λ y j. within y (inr j))) j)) in
+    all_of (λ d. IsKeyValue d.key) cs (λ d j. period_key w (Contains parts) (closed_place d) values (All-in (AtPeriod w (Contains parts)) cs d (ending_period r w parts xs (λ y j. within y (inr j))) j)) in
     stands_at r w parts q (place_at x) cs (ap place_at e ∙ is-place_at p q k s) (period_key w (Contains parts) q values h) v (quiet_from_end w parts q.key q.end h)
 ending_every r w parts (x ∷ xs) q p values within h (inr i) k s =
     let d = ending_every r w parts xs q p values (λ y j. within y (inr j)) h i k s in

@@ -13,7 +13,8 @@ use Rattle.period_items.specs.Values.{IsBest, IsEarlier, IsLater}
 use Rattle.period_items.specs.Parts.{health_of, health_numbers}
 use Rattle.period_items.specs.Verdicts.{IsUpToEnd, IsBehindEnd, IsHealthBefore, IsHealthBehind}
 use Rattle.period_items.specs.Digests.{IsBestHealth}
-use Rattle.period_items.specs.Mirrors.{earlier, later, best_among, or_else, up_to_end, behind_end, satellite_health, health_at}
+use Rattle.period_items.specs.DigestsOf.{satellite_health, health_at}
+use Rattle.period_items.specs.Mirrors.{earlier, later, best_among, or_else, up_to_end, behind_end}
 use Rattle.period_items.proofs.Orders.{earlier_decides, later_decides}
 use Rattle.period_items.proofs.Folds.{IsBest-same, Passing, best_among-is}
 

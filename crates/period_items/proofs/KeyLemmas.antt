@@ -7,8 +7,8 @@ use Rattle.nav_eph.specs.declared.sat.System.{System}
 use Rattle.nav_eph.specs.declared.sat.System.TheVariants.{Gps as OfGps, Gal as OfGal}
 use Rattle.nav_eph.specs.declared.ion.GpsIon.{GpsIon as GpsIonosphere}
 use Rattle.nav_eph.specs.declared.ion.GalIon.{GalIon as GalIonosphere}
-use Rattle.nav_eph.proofs.NumberLemmas.{one_gps_ionosphere, one_galileo_ionosphere}
-use Rattle.nav_eph.proofs.SameFields.{gps_ion_decided, gal_ion_decided}
+use Rattle.nav_eph.proofs.Surface.{one_gps_ionosphere, one_galileo_ionosphere}
+use Rattle.nav_eph.proofs.Surface.{gps_ion_decided, gal_ion_decided}
 use Rattle.nav_eph.specs.contracts.ion.GpsIonPartialEq.TheImpl.{eq-value as gps_ion_eq}
 use Rattle.nav_eph.specs.contracts.ion.GalIonPartialEq.TheImpl.{eq-value as gal_ion_eq}
 use Rattle.nav_eph.specs.declared.part.Part.{Part}
@@ -17,9 +17,11 @@ use Rattle.nav_eph.specs.declared.part.Body.TheVariants.{GpsClock as OfClock, Gp
 use Rattle.period_items.specs.declared.key.Key.{Key}
 use Rattle.period_items.specs.declared.key.Key.TheVariants.{Gps, Gal, GpsIon, GalIon}
 use Rattle.period_items.specs.declared.key.Place.{Place}
-use Rattle.period_items.specs.Parts.{key_in, key_of, same_sat, IsBodyValue, IsPartValue}
+use Rattle.nav_eph.specs.Values.{IsPartValue}
+use Rattle.period_items.specs.Parts.{key_in, key_of, same_sat}
+use Rattle.nav_eph.specs.Values.{IsBodyValue}
 use Rattle.period_items.specs.Periods.{key_numbers, place_numbers, IsBefore}
-use Rattle.period_items.specs.Mirrors.{same_key, is_key, is_of}
+use Rattle.period_items.specs.KeyTests.{same_key, is_key, is_of}
 use Rattle.period_items.proofs.Orders.{trichotomy}
 use Rattle.period_items.proofs.Folds.{some_is, none_some}
 

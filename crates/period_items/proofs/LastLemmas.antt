@@ -11,15 +11,15 @@ use Rattle.period_items.specs.declared.key.Place.{Place}
 use Rattle.period_items.specs.declared.closed.Finding.{Finding}
 use Rattle.period_items.specs.declared.closed.Finding.TheVariants.{Differs, Misses, LacksHealth, Complete}
 use Rattle.period_items.specs.declared.closed.Verdict.TheVariants.{Whole, Again}
-use Rattle.period_items.specs.Alike.{is_alike}
+use Rattle.nav_eph.specs.Items.{is_alike}
 use Rattle.period_items.specs.Values.{IsBest, IsFirstBy}
-use Rattle.period_items.specs.Parts.{IsPartValue}
+use Rattle.nav_eph.specs.Values.{IsPartValue}
 use Rattle.period_items.specs.Periods.{IsPeriod}
 use Rattle.period_items.specs.Verdicts.{IsOfEphemeris, IsFound, IsComplete, IsLastBefore, Repeats, IsJudged, IsVerdict}
-use Rattle.period_items.specs.Mirrors.{item_of, is_complete, verdict_on_item, verdict_of}
+use Rattle.period_items.specs.DigestsOf.{item_of, is_complete, verdict_on_item, verdict_of}
 use Rattle.period_items.specs.PeriodsOf.{quiet, stamp_of, end_below, end_place, complete_below, complete_before, item_at, last_item, item_before, finding_at, verdict_at}
 use Rattle.period_items.proofs.Folds.{Passing, best_among-is, IsBest-same}
-use Rattle.period_items.proofs.AlikeLemmas.{alike_decided}
+use Rattle.nav_eph.proofs.Surface.{is_alike-decides}
 use Rattle.period_items.proofs.PeriodLemmas.{IsFound-one}
 use Rattle.period_items.proofs.AgainLemmas.{IsLastBefore-one}
 use Rattle.period_items.proofs.SearchLemmas.{IsAbove, above_decides, end_from_quiet, quiet_from_end, stamp_of-is, is-stamp_of, finding_at-is}
@@ -129,8 +129,8 @@ compares_before r w parts (GalIon c) e values = λ item h. h.ephemeris
 
 judged_item : (repeats : NavItem → Type 0) (before item : NavItem) (t : Bool) → is_alike before item ≡ t
     → repeats item ↔ IsAlike before item → IsJudged repeats (Complete item) (if t then Again else Whole item)
-judged_item repeats before item true e h = inl (h.1 ((alike_decided before item).0 e), refl)
-judged_item repeats before item false e h = inr (λ k. both_ways (is_alike before item) e ((alike_decided before item).1 (h.0 k)), refl)
+judged_item repeats before item true e h = inl (h.1 ((is_alike-decides before item).0 e), refl)
+judged_item repeats before item false e h = inr (λ k. both_ways (is_alike before item) e ((is_alike-decides before item).1 (h.0 k)), refl)
 
 -- the verdict by the item before
 pub judged_by : (repeats : NavItem → Type 0) (o : Option NavItem) (f : Finding) → Compares repeats o → IsJudged repeats f (verdict_of o f)

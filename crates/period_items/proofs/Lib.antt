@@ -1,7 +1,6 @@
 mod Orders
 mod Folds
 mod KeyLemmas
-mod AlikeLemmas
 mod ValueLemmas
 mod ValueFindings
 mod ValueItems
@@ -16,5 +15,6 @@ mod SearchLemmas
 mod LastLemmas
 mod ExistLemmas
 mod TouchLemmas
+mod ApartLemmas
 mod Examples
 pub mod Surface

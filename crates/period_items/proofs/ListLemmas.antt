@@ -2,15 +2,17 @@
 use Rattle.std.proofs.Common.{◌≡◌, ℕ, ◌+◌, ◌<◌, ◌≤◌, inl, inr, Bool, true, false, cond, nat_lt, List, [], ◌∷◌, ◌++◌, Contains, filter, refl, sym, ap, subst, ◌∙◌, arith, ltb-true, ltb-false, lt-ltb, le-ltb}
 use Rattle.std.specs.List.{AllByRecursion}
 use Rattle.std.proofs.lemmas.Bool.{both_ways}
+use Rattle.std.proofs.lemmas.List.{append_assoc}
+use Rattle.nav_eph.specs.declared.items.NavItem.{NavItem}
 use Rattle.nav_eph.specs.declared.part.Part.{Part}
 use Rattle.period_laws.proofs.Surface.{In, In-from_contains, contains_from_In}
 use Rattle.period_laws.proofs.Surface.{Same}
 use Rattle.period_items.specs.declared.key.Place.{Place}
 use Rattle.period_items.specs.declared.closed.Closed.{Closed}
-use Rattle.period_items.specs.Parts.{IsPartValue}
+use Rattle.nav_eph.specs.Values.{IsPartValue}
 use Rattle.period_items.specs.Periods.{IsPeriod, IsBefore, place_numbers}
-use Rattle.period_items.specs.Verdicts.{IsClosed, place_of}
-use Rattle.period_items.specs.PeriodLists.{IsAscending, ArePeriods, AreClosed, closed_at, IsPrefix}
+use Rattle.period_items.specs.Verdicts.{IsClosed, closed_place}
+use Rattle.period_items.specs.PeriodLists.{IsAscending, ArePeriods, AreClosed, closed_at, IsPrefix, item_in, items_in}
 use Rattle.period_items.proofs.Orders.{irreflexive, transitive}
 use Rattle.period_items.proofs.PeriodLemmas.{IsPeriod-same}
 use Rattle.period_items.proofs.VerdictLemmas.{IsClosed-same, IsClosed-one}
@@ -37,18 +39,18 @@ all_of P [] h = tt
 all_of P (y ∷ ys) h = (h y (inl refl), all_of P ys (λ x i. h x (inr i)))
 
 abbrev pub Precedes : Closed → Closed → Type 0
-Precedes c d = IsBefore (place_of c) (place_of d)
+Precedes c d = IsBefore (closed_place c) (closed_place d)
 
 -- the heads of two ascending lists of the same periods are the same
 same_heads : (x y : Closed) (xs ys : List Closed) → IsAscending (x ∷ xs) → IsAscending (y ∷ ys) → In (y ∷ ys) x → In (x ∷ xs) y → x ≡ y
 same_heads x y xs ys ax ay (inl e) iy = sym e
 same_heads x y xs ys ax ay (inr i) (inl e) = e
 same_heads x y xs ys ax ay (inr i) (inr j) =
-    absurd (before_irr (place_of x) (before_trans (place_of x) (place_of y) (place_of x) (All-in (Precedes x) xs y ax.0 j) (All-in (Precedes y) ys x ay.0 i)))
+    absurd (before_irr (closed_place x) (before_trans (closed_place x) (closed_place y) (closed_place x) (All-in (Precedes x) xs y ax.0 j) (All-in (Precedes y) ys x ay.0 i)))
 
 -- what is behind the head of one is behind that of the other
 tail_in : (x y c : Closed) (xs ys : List Closed) → x ≡ y → AllByRecursion (Precedes x) xs → In xs c → In (y ∷ ys) c → In ys c
-tail_in x y c xs ys e h i (inl f) = absurd (before_irr (place_of c) (subst (λ (z : Closed). IsBefore (place_of z) (place_of c)) (e ∙ f) (All-in (Precedes x) xs c h i)))
+tail_in x y c xs ys e h i (inl f) = absurd (before_irr (closed_place c) (subst (λ (z : Closed). IsBefore (closed_place z) (closed_place c)) (e ∙ f) (All-in (Precedes x) xs c h i)))
 tail_in x y c xs ys e h i (inr j) = j
 
 pub ascending_one : (xs ys : List Closed) → IsAscending xs → IsAscending ys → ((c : Closed) → In xs c → In ys c) → ((c : Closed) → In ys c → In xs c) → xs ≡ ys
@@ -61,17 +63,17 @@ ascending_one (x ∷ xs) (y ∷ ys) ax ay to from =
     λ i. e i ∷ rest i
 
 -- two lists of exactly the periods of some kind are one
-one_of_kind : (Here : Place → Type 0) (Is : Closed → Type 0) (xs ys : List Closed) → ((c d : Closed) → place_of c ≡ place_of d → Is c → Is d → c ≡ d)
-    → ((c : Closed) → Contains xs c → Is c × Here (place_of c)) → ((c : Closed) → Contains ys c → Is c)
-    → ((q : Place) → Here q → (d : Closed) × Contains ys d × (place_of d ≡ q)) → (c : Closed) → In xs c → In ys c
+one_of_kind : (Here : Place → Type 0) (Is : Closed → Type 0) (xs ys : List Closed) → ((c d : Closed) → closed_place c ≡ closed_place d → Is c → Is d → c ≡ d)
+    → ((c : Closed) → Contains xs c → Is c × Here (closed_place c)) → ((c : Closed) → Contains ys c → Is c)
+    → ((q : Place) → Here q → (d : Closed) × Contains ys d × (closed_place d ≡ q)) → (c : Closed) → In xs c → In ys c
 one_of_kind Here Is xs ys one each other every c i =
     let e = each c (contains_from_In xs c i) in
-    let d = every (place_of c) e.1 in
+    let d = every (closed_place c) e.1 in
     subst (In ys) (one d.0 c d.2 (other d.0 d.1) e.0) (In-from_contains ys d.0 d.1)
 
 pub ArePeriods-one : (r w : ℕ) (parts : Part → Type 0) (xs ys : List Closed) → ((p : Part) → parts p → IsPartValue p) → ArePeriods r w parts xs → ArePeriods r w parts ys → xs ≡ ys
 ArePeriods-one r w parts xs ys values hx hy =
-    let one : (c d : Closed) → place_of c ≡ place_of d → IsClosed r w parts c → IsClosed r w parts d → c ≡ d = λ c d e h k. IsClosed-one r w parts c d values e h k in
+    let one : (c d : Closed) → closed_place c ≡ closed_place d → IsClosed r w parts c → IsClosed r w parts d → c ≡ d = λ c d e h k. IsClosed-one r w parts c d values e h k in
     ascending_one xs ys hx.ascending hy.ascending
     (one_of_kind (IsPeriod w parts) (IsClosed r w parts) xs ys one (λ c i. let k = hx.each c i in (k, k.period)) hy.each hy.every)
     (one_of_kind (IsPeriod w parts) (IsClosed r w parts) ys xs one (λ c i. let k = hy.each c i in (k, k.period)) hx.each hx.every)
@@ -82,7 +84,7 @@ IsLow w parts mark q = IsPeriod w parts q × (q.end + w < mark)
 
 pub AreClosed-one : (r w : ℕ) (parts : Part → Type 0) (mark : ℕ) (xs ys : List Closed) → ((p : Part) → parts p → IsPartValue p) → AreClosed r w parts mark xs → AreClosed r w parts mark ys → xs ≡ ys
 AreClosed-one r w parts mark xs ys values hx hy =
-    let one : (c d : Closed) → place_of c ≡ place_of d → IsClosed r w parts c → IsClosed r w parts d → c ≡ d = λ c d e h k. IsClosed-one r w parts c d values e h k in
+    let one : (c d : Closed) → closed_place c ≡ closed_place d → IsClosed r w parts c → IsClosed r w parts d → c ≡ d = λ c d e h k. IsClosed-one r w parts c d values e h k in
     ascending_one xs ys hx.ascending hy.ascending
     (one_of_kind (IsLow w parts mark) (IsClosed r w parts) xs ys one (λ c i. let k = hx.each c i in (k, (k.period, hx.low c i))) hy.each (λ q h. hy.every q h.0 h.1))
     (one_of_kind (IsLow w parts mark) (IsClosed r w parts) ys xs one (λ c i. let k = hy.each c i in (k, (k.period, hy.low c i))) hx.each (λ q h. hx.every q h.0 h.1))
@@ -145,7 +147,7 @@ closed_at-are r w parts mark xs h =
 none_low : (w mark : ℕ) (x : Closed) (xs : List Closed) → AllByRecursion (Precedes x) xs → mark ≤ x.end + w → closed_at w mark xs ≡ []
 none_low w mark x [] h l = refl
 none_low w mark x (y ∷ ys) h l =
-    let high : nat_lt (y.end + w) mark ≡ false = le-ltb (y.end + w) mark (omega (arith, before_end (place_of x) (place_of y) h.0)) in
+    let high : nat_lt (y.end + w) mark ≡ false = le-ltb (y.end + w) mark (omega (arith, before_end (closed_place x) (closed_place y) h.0)) in
     subst (λ (b : Bool). cond b (y ∷ closed_at w mark ys) (closed_at w mark ys) ≡ []) (sym high) (none_low w mark x ys h.1 l)
 
 prefix_more : (x : Closed) (xs ys : List Closed) → IsPrefix xs ys → IsPrefix (x ∷ xs) (x ∷ ys)
@@ -187,3 +189,8 @@ all_at t x xs false e f ih = absurd (both_ways false refl f)
 pub filter_all : (t : Closed → Bool) (xs : List Closed) → ((x : Closed) → In xs x → t x ≡ true) → filter t xs ≡ xs
 filter_all t [] h = refl
 filter_all t (x ∷ xs) h = all_at t x xs (t x) refl (h x (inl refl)) (filter_all t xs (λ y i. h y (inr i)))
+
+-- the items of periods behind others
+pub items_append : (xs ys : List Closed) → items_in (xs ++ ys) ≡ items_in xs ++ items_in ys
+items_append [] ys = refl
+items_append (x ∷ xs) ys = ap (λ (l : List NavItem). item_in x.verdict ++ l) (items_append xs ys) ∙ sym (append_assoc (item_in x.verdict) (items_in xs) (items_in ys))

@@ -21,14 +21,15 @@ use Rattle.period_items.specs.declared.closed.Verdict.{Verdict}
 use Rattle.period_items.specs.declared.closed.Verdict.TheVariants.{Whole, Partial, Contradicted, NoHealth}
 use Rattle.period_items.specs.declared.closed.Closed.{Closed}
 use Rattle.period_items.specs.Values.{HasValue}
-use Rattle.period_items.specs.Parts.{IsPartValue, health_of, health_in, same_sat}
+use Rattle.nav_eph.specs.Values.{IsPartValue}
+use Rattle.period_items.specs.Parts.{health_of, health_in, same_sat}
 use Rattle.period_items.specs.Periods.{IsHeardAt, IsPeriod, IsMember}
-use Rattle.period_items.specs.Verdicts.{IsFound, IsUpToEnd, IsBehindEnd, IsHealthBefore, IsHealthBehind, IsJudged, IsVerdict, IsClosed, place_of}
+use Rattle.period_items.specs.Verdicts.{IsFound, IsUpToEnd, IsBehindEnd, IsHealthBefore, IsHealthBehind, IsJudged, IsVerdict, IsClosed, closed_place}
 use Rattle.period_items.proofs.Folds.{some_is, none_some}
 use Rattle.period_items.proofs.ValueItems.{item_fits}
 use Rattle.period_items.proofs.ValueFindings.{IsHealthValue, IsFoundIn-one, IsFoundIn-same, health_value}
 
-heard_to : (a b : Part → Type 0) (key : Key) (s : ℕ) → ((p : Part) → a p → b p) → IsHeardAt a key s → IsHeardAt b key s
+pub heard_to : (a b : Part → Type 0) (key : Key) (s : ℕ) → ((p : Part) → a p → b p) → IsHeardAt a key s → IsHeardAt b key s
 heard_to a b key s to h = record { part = h.part; here = to h.part h.here; of_key = h.of_key; at_stamp = h.at_stamp }
 
 pub heard_same : (a b : Part → Type 0) (key : Key) → Same a b → Same (IsHeardAt a key) (IsHeardAt b key)
@@ -51,10 +52,10 @@ members_same w a b q s = record { to = λ p h. IsMember-same w a b q p s h; from
 health_to : (sat : Satellite) (a b : Part → Type 0) (h : ℕ × GalHealth × SentTag) → ((p : Part) → a p → b p) → HasValue (health_of sat) a h → HasValue (health_of sat) b h
 health_to sat a b h to v = record { element = v.element; here = to v.element v.here; is = v.is }
 
-IsUpToEnd-to : (w : ℕ) (a b : Part → Type 0) (sat : Satellite) (e : ℕ) (h : ℕ × GalHealth × SentTag) → ((p : Part) → a p → b p) → IsUpToEnd w a sat e h → IsUpToEnd w b sat e h
+pub IsUpToEnd-to : (w : ℕ) (a b : Part → Type 0) (sat : Satellite) (e : ℕ) (h : ℕ × GalHealth × SentTag) → ((p : Part) → a p → b p) → IsUpToEnd w a sat e h → IsUpToEnd w b sat e h
 IsUpToEnd-to w a b sat e h to v = record { heard = health_to sat a b h to v.heard; by_end = v.by_end; near = v.near }
 
-IsBehindEnd-to : (w : ℕ) (a b : Part → Type 0) (sat : Satellite) (e : ℕ) (h : ℕ × GalHealth × SentTag) → ((p : Part) → a p → b p) → IsBehindEnd w a sat e h → IsBehindEnd w b sat e h
+pub IsBehindEnd-to : (w : ℕ) (a b : Part → Type 0) (sat : Satellite) (e : ℕ) (h : ℕ × GalHealth × SentTag) → ((p : Part) → a p → b p) → IsBehindEnd w a sat e h → IsBehindEnd w b sat e h
 IsBehindEnd-to w a b sat e h to v = record { heard = health_to sat a b h to v.heard; behind = v.behind; near = v.near }
 
 pub none_same : {X : Type 0} → Same {X = X} (λ x. ⊥) (λ x. ⊥)

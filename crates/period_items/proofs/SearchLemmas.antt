@@ -16,7 +16,8 @@ use Rattle.period_items.specs.Parts.{key_of}
 use Rattle.period_items.specs.Periods.{IsHeardAt, IsPeriod, IsMember}
 use Rattle.period_items.specs.Digests.{IsDigest}
 use Rattle.period_items.specs.Verdicts.{IsFound, IsHealthBefore, IsHealthBehind, IsJudged, IsVerdict}
-use Rattle.period_items.specs.Mirrors.{is_of, digest_of, health_at, verdict_of}
+use Rattle.period_items.specs.DigestsOf.{digest_of, health_at, verdict_of}
+use Rattle.period_items.specs.KeyTests.{is_of}
 use Rattle.period_items.specs.PeriodsOf.{quiet_at, quiet, stamp_of, end_below, end_before, is_above, is_member, join_some, members_digest, finding_with, finding_at, verdict_at}
 use Rattle.period_items.proofs.Orders.{Decides}
 use Rattle.period_items.proofs.Folds.{some_is, none_some, Passing, best_among-is, IsBest-same}

@@ -18,7 +18,7 @@ use Rattle.nav_eph.specs.declared.items.NavItem.TheVariants.{Gps as GpsItem, Gal
 use Rattle.nav_eph.specs.declared.part.Part.{Part}
 use Rattle.nav_eph.specs.declared.part.Body.{Body}
 use Rattle.nav_eph.specs.declared.part.Body.TheVariants.{GpsClock as OfClock, GalHealth as OfHealth, GpsIon as OfGpsIon, GalIon as OfGalIon}
-use Rattle.nav_eph.proofs.NumberLemmas.{one_side, one_tag, one_health, one_sending}
+use Rattle.nav_eph.proofs.Surface.{one_side, one_tag, one_health, one_sending}
 use Rattle.period_laws.proofs.Surface.{Same, turned}
 use Rattle.period_items.specs.declared.key.Key.{Key}
 use Rattle.period_items.specs.declared.key.Key.TheVariants.{Gps, Gal, GpsIon, GalIon}
@@ -26,7 +26,9 @@ use Rattle.period_items.specs.declared.key.Sending.{Sending}
 use Rattle.period_items.specs.declared.closed.Finding.{Finding}
 use Rattle.period_items.specs.declared.closed.Finding.TheVariants.{Differs, Misses, LacksHealth, Complete}
 use Rattle.period_items.specs.Values.{HasValue, IsEmpty, IsOnly, IsFirstBy, IsEarlier, IsLater}
-use Rattle.period_items.specs.Parts.{IsBodyValue, IsPartValue, clock_of, orbit_a_of, orbit_b_of, word1_of, word2_of, word3_of, word4_of, side_in, side_of, fit_of, sent_tag_in, sent_tag_of, toe_tag_in, toe_tag_of, sending_in, sending_of, health_in, health_of, same_sat, side_numbers, fit_numbers, tag_numbers, health_numbers, sending_numbers}
+use Rattle.nav_eph.specs.Values.{IsPartValue}
+use Rattle.period_items.specs.Parts.{clock_of, orbit_a_of, orbit_b_of, word1_of, word2_of, word3_of, word4_of, side_in, side_of, fit_of, sent_tag_in, sent_tag_of, toe_tag_in, toe_tag_of, sending_in, sending_of, health_in, health_of, same_sat, side_numbers, fit_numbers, tag_numbers, health_numbers, sending_numbers}
+use Rattle.nav_eph.specs.Values.{IsBodyValue}
 use Rattle.period_items.specs.Items.{toe_week_of, gps_moment, gal_moment, sent_second, gps_ion_moment, gal_ion_moment, IsHealth, IsGpsTag, IsGpsItemOf, IsGalItemOf, IsIonItemOf}
 use Rattle.period_items.specs.Verdicts.{IsContradicted, IsPartial, IsWithoutHealth, IsItemOf, IsFoundIn}
 use Rattle.period_items.proofs.Orders.{same_numbers}

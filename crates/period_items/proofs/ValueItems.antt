@@ -4,7 +4,7 @@ use Rattle.std.proofs.Common.{◌≡◌, ℕ, ◌+◌, ◌*◌, ◌/◌, ◌^◌
 use Rattle.std.proofs.lemmas.Int.{ints}
 use Rattle.gnss_week.specs.Weeks.{IsReference, IsSecond, IsWeek, week_of}
 use Rattle.gnss_week.specs.Functions.{gps_week_to, galileo_week_to, moment_near}
-use Rattle.gnss_week.proofs.WeekFunctions.{moment_near-nearest}
+use Rattle.gnss_week.proofs.Surface.{moment_near-nearest}
 use Rattle.nav_eph.specs.Satellite.{Satellite}
 use Rattle.nav_eph.specs.Conditions.{IsPart, wn_of}
 use Rattle.nav_eph.specs.Items.{IsSentSecond, content_system}
@@ -33,7 +33,8 @@ use Rattle.nav_eph.specs.declared.part.Body.TheVariants.{GpsClock as OfClock, Gp
 use Rattle.period_items.specs.declared.key.Key.{Key}
 use Rattle.period_items.specs.declared.key.Key.TheVariants.{Gps, Gal, GpsIon, GalIon}
 use Rattle.period_items.specs.declared.key.Sending.{Sending}
-use Rattle.period_items.specs.Parts.{key_in, key_of, orbit_a_in, orbit_b_in, word1_in, word2_in, word3_in, word4_in, sending_in, IsPartValue}
+use Rattle.nav_eph.specs.Values.{IsPartValue}
+use Rattle.period_items.specs.Parts.{key_in, key_of, orbit_a_in, orbit_b_in, word1_in, word2_in, word3_in, word4_in, sending_in}
 use Rattle.period_items.specs.Items.{gps_moment, gal_moment, toe_week_of, sent_second, gps_ion_moment, gal_ion_moment}
 use Rattle.period_items.specs.Verdicts.{IsItemOf}
 use Rattle.period_items.proofs.Folds.{some_is, none_some}

@@ -12,9 +12,9 @@ use Rattle.period_items.specs.declared.closed.Finding.TheVariants.{Differs, Miss
 use Rattle.period_items.specs.declared.closed.Verdict.{Verdict}
 use Rattle.period_items.specs.declared.closed.Verdict.TheVariants.{Whole, Partial, Contradicted, NoHealth, Again}
 use Rattle.period_items.specs.declared.closed.Closed.{Closed}
-use Rattle.period_items.specs.Parts.{IsPartValue}
+use Rattle.nav_eph.specs.Values.{IsPartValue}
 use Rattle.period_items.specs.Periods.{IsMember}
-use Rattle.period_items.specs.Verdicts.{IsFound, IsHealthBefore, IsHealthBehind, Repeats, IsJudged, IsVerdict, IsClosed, place_of}
+use Rattle.period_items.specs.Verdicts.{IsFound, IsHealthBefore, IsHealthBehind, Repeats, IsJudged, IsVerdict, IsClosed, closed_place}
 use Rattle.period_items.proofs.ValueItems.{item_fits}
 use Rattle.period_items.proofs.PeriodLemmas.{AreLater, IsPeriod-same, IsPeriod-keeps, IsFound-same, IsFound-keeps, IsFound-one}
 use Rattle.period_items.proofs.AgainLemmas.{Repeats-same, Repeats-keeps, Repeats-was, IsJudged-same, IsJudged-one}
@@ -28,7 +28,7 @@ IsVerdict-same r w a b q v s h = record {
 }
 
 pub IsClosed-same : (r w : ℕ) (a b : Part → Type 0) (c : Closed) → Same a b → IsClosed r w a c → IsClosed r w b c
-IsClosed-same r w a b c s h = record { period = IsPeriod-same w a b (place_of c) s h.period; verdict = IsVerdict-same r w a b (place_of c) c.verdict s h.verdict }
+IsClosed-same r w a b c s h = record { period = IsPeriod-same w a b (closed_place c) s h.period; verdict = IsVerdict-same r w a b (closed_place c) c.verdict s h.verdict }
 
 -- what is closed keeps its verdict
 pub IsVerdict-keeps : (r w mark : ℕ) (old new : Part → Type 0) (q : Place) (v : Verdict)
@@ -44,8 +44,8 @@ IsVerdict-keeps r w mark old new q v l low h = record {
 
 pub IsClosed-keeps : (r w mark : ℕ) (old new : Part → Type 0) (c : Closed) → AreLater mark old new → c.end + w < mark → IsClosed r w old c → IsClosed r w new c
 IsClosed-keeps r w mark old new c l low h = record {
-  period = IsPeriod-keeps w mark old new (place_of c) l low h.period;
-  verdict = IsVerdict-keeps r w mark old new (place_of c) c.verdict l low h.verdict;
+  period = IsPeriod-keeps w mark old new (closed_place c) l low h.period;
+  verdict = IsVerdict-keeps r w mark old new (closed_place c) c.verdict l low h.verdict;
 }
 
 -- a period has one verdict
@@ -55,9 +55,9 @@ IsVerdict-one r w parts q u v values h k =
     let same : h.finding ≡ k.finding = IsFound-one r w parts q h.finding k.finding values h.found k.found in
     IsJudged-one (Repeats r w parts q) k.finding u v (subst (λ (f : Finding). IsJudged (Repeats r w parts q) f u) same h.judged) k.judged
 
-pub IsClosed-one : (r w : ℕ) (parts : Part → Type 0) (c d : Closed) → ((p : Part) → parts p → IsPartValue p) → place_of c ≡ place_of d → IsClosed r w parts c → IsClosed r w parts d → c ≡ d
+pub IsClosed-one : (r w : ℕ) (parts : Part → Type 0) (c d : Closed) → ((p : Part) → parts p → IsPartValue p) → closed_place c ≡ closed_place d → IsClosed r w parts c → IsClosed r w parts d → c ≡ d
 IsClosed-one r w parts c d values e h k =
-    let v : c.verdict ≡ d.verdict = IsVerdict-one r w parts (place_of d) c.verdict d.verdict values (subst (λ (q : Place). IsVerdict r w parts q c.verdict) e h.verdict) k.verdict in
+    let v : c.verdict ≡ d.verdict = IsVerdict-one r w parts (closed_place d) c.verdict d.verdict values (subst (λ (q : Place). IsVerdict r w parts q c.verdict) e h.verdict) k.verdict in
     let f : c.end ≡ d.end = ap (λ (q : Place). q.end) e in
     let g : c.key ≡ d.key = ap (λ (q : Place). q.key) e in
     λ i. record { end = f i; key = g i; verdict = v i }
@@ -72,10 +72,20 @@ whole_item repeats (Complete x) item v h e = elim h [
   | inr y ↦ let g : Whole x ≡ Whole item = sym y.1 ∙ e in cc
 ]
 
+-- what is said again repeats
+pub again_repeats : (repeats : NavItem → Type 0) (f : Finding) (v : Verdict) → IsJudged repeats f v → v ≡ Again → (item : NavItem) × repeats item
+again_repeats repeats Differs v h e = absurd (let g : Contradicted ≡ Again = sym h ∙ e in cc)
+again_repeats repeats Misses v h e = absurd (let g : Partial ≡ Again = sym h ∙ e in cc)
+again_repeats repeats LacksHealth v h e = absurd (let g : NoHealth ≡ Again = sym h ∙ e in cc)
+again_repeats repeats (Complete x) v h e = elim h [
+  | inl y ↦ (x, y.0)
+  | inr y ↦ absurd (let g : Whole x ≡ Again = sym y.1 ∙ e in cc)
+]
+
 pub item_fits_period : (r w : ℕ) (parts : Part → Type 0) (c : Closed) (item : NavItem) → IsReference r → ((p : Part) → parts p → IsPartValue p) → ((p : Part) → parts p → IsPart p.sat p.body)
     → HasRanges item → IsClosed r w parts c → c.verdict ≡ Whole item → IsItem item
 item_fits_period r w parts c item reference values are ranges h e =
-    let q = place_of c in
+    let q = closed_place c in
     let f = whole_item (Repeats r w parts q) h.verdict.finding item c.verdict h.verdict.judged e in
     item_fits r q.key (IsMember w parts q) (IsHealthBefore w parts q.key q.end) (IsHealthBehind w parts q.key q.end) item reference
     (record { of_key = λ p m. m.of_key; is_part = λ p m. are p m.here; is_value = λ p m. values p m.here }) ranges

@@ -5,7 +5,8 @@ pub mod Items
 pub mod Verdicts
 pub mod PeriodLists
 pub mod Digests
-pub mod Alike
 pub mod Mirrors
+pub mod KeyTests
+pub mod DigestsOf
 pub mod PeriodsOf
 pub mod Touching

@@ -166,16 +166,3 @@ health_numbers v = v.0 ∷ health_number v.1 v.2 ∷ []
 -- of a sending the stamp, the satellite, and the number of its time
 abbrev pub sending_numbers : Sending → List ℕ
 sending_numbers s = s.stamp ∷ place_of s.sat.system ∷ s.sat.number ∷ gal_sending s.wn s.second ∷ []
-
--- each number of a body by which it is compared is within its digits
-abbrev pub IsBodyValue : Body → Type 0
-IsBodyValue (OfClock clock side tag) = IsGpsSide side × IsSentTag tag
-IsBodyValue (OfHealth health tag) = IsGalHealth health × IsSentTag tag
-IsBodyValue (OfGpsIon ionosphere second) = IsGpsIon ionosphere × IsSecond second
-IsBodyValue (OfGalIon ionosphere wn second) = IsGalIon ionosphere × IsSecond second
-IsBodyValue _ = Unit {0}
-
--- what holds of every value of the type: the stamp has 32 bits, and what is compared is within its digits
-pub record IsPartValue (p : Part) : Type 0 where
-  pub stamp : p.stamp < 2 ^ 32
-  pub body : IsBodyValue p.body

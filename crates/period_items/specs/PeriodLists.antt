@@ -8,25 +8,25 @@ use Rattle.period_items.specs.declared.closed.Closed.{Closed}
 use Rattle.period_items.specs.declared.closed.Verdict.{Verdict}
 use Rattle.period_items.specs.declared.closed.Verdict.TheVariants.{Whole, Partial, Contradicted, NoHealth, Again}
 use Rattle.period_items.specs.Periods.{IsPeriod, IsBefore}
-use Rattle.period_items.specs.Verdicts.{IsClosed, place_of}
+use Rattle.period_items.specs.Verdicts.{IsClosed, closed_place}
 
 -- each comes before all that follow it
 abbrev pub IsAscending : List Closed → Type 0
 IsAscending [] = Unit {0}
-IsAscending (c ∷ cs) = AllByRecursion (λ d. IsBefore (place_of c) (place_of d)) cs × IsAscending cs
+IsAscending (c ∷ cs) = AllByRecursion (λ d. IsBefore (closed_place c) (closed_place d)) cs × IsAscending cs
 
 -- the list, strictly ascending, of exactly the periods of the parts, each with its verdict
 pub record ArePeriods (r window : ℕ) (parts : Part → Type 0) (periods : List Closed) : Type 0 where
   pub ascending : IsAscending periods
   pub each : (c : Closed) → Contains periods c → IsClosed r window parts c
-  pub every : (place : Place) → IsPeriod window parts place → (c : Closed) × Contains periods c × (place_of c ≡ place)
+  pub every : (place : Place) → IsPeriod window parts place → (c : Closed) × Contains periods c × (closed_place c ≡ place)
 
 -- the list, strictly ascending, of exactly the periods whose end and the window after it are below the mark
 pub record AreClosed (r window : ℕ) (parts : Part → Type 0) (mark : ℕ) (periods : List Closed) : Type 0 where
   pub ascending : IsAscending periods
   pub each : (c : Closed) → Contains periods c → IsClosed r window parts c
   pub low : (c : Closed) → Contains periods c → c.end + window < mark
-  pub every : (place : Place) → IsPeriod window parts place → place.end + window < mark → (c : Closed) × Contains periods c × (place_of c ≡ place)
+  pub every : (place : Place) → IsPeriod window parts place → place.end + window < mark → (c : Closed) × Contains periods c × (closed_place c ≡ place)
 
 -- those of a list whose end and the window after it are below the mark
 abbrev pub closed_at : ℕ → ℕ → List Closed → List Closed

@@ -13,9 +13,11 @@ use Rattle.period_items.specs.declared.closed.Closed.{Closed}
 use Rattle.period_items.specs.declared.digest.Digest.{Digest}
 use Rattle.period_items.specs.Parts.{key_of}
 use Rattle.period_items.specs.Periods.{place_numbers}
-use Rattle.period_items.specs.Verdicts.{place_of}
+use Rattle.period_items.specs.Verdicts.{closed_place}
 use Rattle.period_items.specs.PeriodLists.{closed_at}
-use Rattle.period_items.specs.Mirrors.{is_of, earlier, best_among, digest_of, digest_join, digest_finding, health_at, item_of, is_complete, verdict_of}
+use Rattle.period_items.specs.DigestsOf.{digest_of, digest_join, digest_finding, health_at, item_of, is_complete, verdict_of}
+use Rattle.period_items.specs.KeyTests.{is_of}
+use Rattle.period_items.specs.Mirrors.{earlier, best_among}
 
 -- no part of the key in the window after a stamp
 abbrev pub quiet_at : ℕ → Key → ℕ → Part → Bool
@@ -115,7 +117,7 @@ is_before = earlier place_numbers
 -- a period more, in its place; none where there is one at the place
 abbrev pub insert : Closed → List Closed → List Closed
 insert c [] = c ∷ []
-insert c (d ∷ ds) = if is_before (place_of c) (place_of d) then c ∷ d ∷ ds else (if is_before (place_of d) (place_of c) then d ∷ insert c ds else d ∷ ds)
+insert c (d ∷ ds) = if is_before (closed_place c) (closed_place d) then c ∷ d ∷ ds else (if is_before (closed_place d) (closed_place c) then d ∷ insert c ds else d ∷ ds)
 
 abbrev pub insert_at : ℕ → ℕ → List Part → Option Place → List Closed → List Closed
 insert_at r window parts None cs = cs

@@ -127,10 +127,10 @@ pub record IsVerdict (r window : ℕ) (parts : Part → Type 0) (place : Place) 
   pub judged : IsJudged (Repeats r window parts place) finding verdict
 
 -- the end and the key of a period
-abbrev pub place_of : Closed → Place
-place_of c = record { end = c.end; key = c.key }
+abbrev pub closed_place : Closed → Place
+closed_place c = record { end = c.end; key = c.key }
 
 -- a period, with its verdict
 pub record IsClosed (r window : ℕ) (parts : Part → Type 0) (closed : Closed) : Type 0 where
-  pub period : IsPeriod window parts (place_of closed)
-  pub verdict : IsVerdict r window parts (place_of closed) closed.verdict
+  pub period : IsPeriod window parts (closed_place closed)
+  pub verdict : IsVerdict r window parts (closed_place closed) closed.verdict

@@ -25,8 +25,8 @@ pub enum Verdict {
     Contradicted,
     /// No health of the Galileo satellite was heard within the window of the end.
     NoHealth,
-    /// All of its parts were heard and agree, and in all but the second of sending they say again what the last
-    /// complete period of the same ephemeris said.
+    /// All of its parts were heard and agree, and in all but the second of sending they say again
+    /// what the last complete period of the same ephemeris said.
     Again,
 }
 

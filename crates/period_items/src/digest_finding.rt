@@ -1,10 +1,14 @@
 ghost use Rattle.std.specs.Prelude.{◌≡◌, ◌+◌, ◌*◌, ◌≤◌, pos, ◌-ℤ◌, None, Some};
 ghost use Rattle.gnss_week.specs.Functions.{galileo_week_to};
 ghost use Rattle.gnss_week.specs.Weeks.{week_of};
-ghost use Rattle.period_items.specs.Items.{gps_ion_moment, gps_moment, sent_second, tag_second, toe_week_of};
-ghost use Rattle.period_items.specs.Mirrors.{digest_finding, gal_finding, gal_item, gps_finding, gps_item, or_else, seen_differs, seen_only};
+ghost use Rattle.period_items.specs.Items.{gps_ion_moment, gps_moment, sent_second, tag_second};
+ghost use Rattle.period_items.specs.Items.{toe_week_of};
+ghost use Rattle.period_items.specs.DigestsOf.{digest_finding, gal_finding, gal_item, gps_finding};
+ghost use Rattle.period_items.specs.DigestsOf.{gps_item};
+ghost use Rattle.period_items.specs.Mirrors.{or_else, seen_differs, seen_only};
 ghost use Rattle.period_items.specs.declared.digest.Digest.TheVariants.{Ion as IonForm};
-ghost use Rattle.period_items.specs.declared.key.Key.TheVariants.{GpsIon as OfGpsIon, GalIon as OfGalIon};
+ghost use Rattle.period_items.specs.declared.key.Key.TheVariants.{GpsIon as OfGpsIon};
+ghost use Rattle.period_items.specs.declared.key.Key.TheVariants.{GalIon as OfGalIon};
 ghost use Rattle.nav_eph.specs.Conditions.{wn_of};
 
 use crate::closed::Finding;
@@ -144,7 +148,8 @@ fn complete_gps(
     fit: (u32, U<1>),
     tag: (u32, SentTag),
 ) -> Finding
-    ensures { result ≡ gps_item r sat (Some clock) (Some a) (Some b) (Some side) (Some fit) (Some tag) }
+    ensures { result
+        ≡ gps_item r sat (Some clock) (Some a) (Some b) (Some side) (Some fit) (Some tag) }
 {
     let (toe_week, sent) = toe_and_sent(tag.1, gps_moment_near(r, &tag.1), gps_toe(&a));
     Finding::Complete(NavItem::Gps(GpsEph {
@@ -222,7 +227,8 @@ fn find_gal(
     }
 }
 
-// The moment at which GPS sent an ionosphere: the nearest to the stamp, counted from the week `r` on.
+// The moment at which GPS sent an ionosphere: the nearest to the stamp, counted from the week `r`
+// on.
 fn gps_ion_moment_near(r: RefWeek, sending: &Sending) -> Moment
     ensures { result ≡ gps_ion_moment r sending.now }
 {
@@ -253,7 +259,8 @@ fn gal_ionosphere(r: RefWeek, sending: Sending, content: GalIon) -> Finding
 }
 
 impl Digest {
-    /// What the members of a key, and the health near the end of their period, come to, near the week `r`.
+    /// What the members of a key, and the health near the end of their period, come to, near the
+    /// week `r`.
     pub fn finding(self, r: RefWeek, key: Key, health: Option<(u32, GalHealth, SentTag)>) -> Finding
         ensures { result ≡ digest_finding r key self health }
     {

@@ -1,6 +1,8 @@
 ghost use Rattle.std.specs.Prelude.{◌≡◌, [], ◌∷◌, if◌then◌else◌};
 ghost use Rattle.period_items.specs.Parts.{fit_numbers, sending_numbers, side_numbers, tag_numbers};
-ghost use Rattle.period_items.specs.Mirrors.{best_join, digest_join, earlier, gal_join, gps_join, is_below, later, seen_join};
+ghost use Rattle.period_items.specs.DigestsOf.{digest_join, gal_join, gps_join};
+ghost use Rattle.period_items.specs.Mirrors.{best_join, earlier};
+ghost use Rattle.period_items.specs.Mirrors.{is_below, later, seen_join};
 
 use crate::digest::{Digest, GalDigest, GpsDigest, Seen};
 use crate::key::Sending;

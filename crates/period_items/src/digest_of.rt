@@ -1,6 +1,6 @@
 ghost use Rattle.std.specs.Prelude.{◌≡◌};
 ghost use Rattle.period_items.specs.Parts.{sent_in, toe_in};
-ghost use Rattle.period_items.specs.Mirrors.{digest_of};
+ghost use Rattle.period_items.specs.DigestsOf.{digest_of};
 
 use crate::digest::{Digest, GalDigest, GpsDigest, Seen};
 use crate::key::Sending;

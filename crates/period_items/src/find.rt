@@ -1,9 +1,12 @@
 //! What a period among kept parts comes to.
 
 ghost use Rattle.std.specs.Prelude.{◌≡◌, None, if◌then◌else◌, nat_lt};
-ghost use Rattle.period_items.specs.Alike.{is_alike};
-ghost use Rattle.period_items.specs.Mirrors.{best_with, digest_of, is_complete, item_of, verdict_of};
-ghost use Rattle.period_items.specs.PeriodsOf.{complete_before, complete_below, finding_at, is_above, is_member, item_before, join_some, last_item, members_digest, verdict_at};
+ghost use Rattle.period_items.specs.DigestsOf.{digest_of, is_complete, item_of};
+ghost use Rattle.period_items.specs.Mirrors.{best_with};
+ghost use Rattle.period_items.specs.DigestsOf.{verdict_of};
+ghost use Rattle.period_items.specs.PeriodsOf.{complete_before, complete_below, finding_at};
+ghost use Rattle.period_items.specs.PeriodsOf.{is_above, is_member, item_before, join_some};
+ghost use Rattle.period_items.specs.PeriodsOf.{last_item, members_digest, verdict_at};
 
 use crate::closed::{Finding, Verdict};
 use crate::digest::Digest;
@@ -50,7 +53,8 @@ fn joined_with(
     end: u32,
     before: Option<u32>,
 ) -> Option<Digest>
-    ensures { result ≡ (if is_member key.now end before part.now then join_some all (digest_of part.now) else all) }
+    ensures { result ≡ (if is_member key.now end before part.now
+        then join_some all (digest_of part.now) else all) }
 {
     if belongs(key, end, before, part) {
         joined(all, Digest::of(part))
@@ -70,8 +74,8 @@ fn digest_members(parts: &[Part], key: &Key, end: u32, before: Option<u32>) -> O
     all
 }
 
-// What a period comes to by itself.
-fn find(parts: &[Part], r: RefWeek, window: u32, place: &Place) -> Finding
+/// What the period of some parts at a place comes to by itself, near the week `r`.
+pub fn finding_on(parts: &[Part], r: RefWeek, window: u32, place: &Place) -> Finding
     ensures { result ≡ finding_at r window parts.now place.now }
 {
     let before = last_end_before(parts, window, &place.key, place.end);
@@ -85,14 +89,8 @@ fn find(parts: &[Part], r: RefWeek, window: u32, place: &Place) -> Finding
     }
 }
 
-// Two items are equal in every field but the second of sending.
-fn says_again(before: &NavItem, item: &NavItem) -> bool
-    ensures { result ≡ is_alike before.now item.now }
-{
-    before.is_alike(item)
-}
-
-/// What is said of a finding, where `before` is the item of the last complete period of the same ephemeris.
+/// What is said of a finding, where `before` is the item of the last complete period of the same
+/// ephemeris.
 pub fn judge(before: Option<NavItem>, finding: Finding) -> Verdict
     ensures { result ≡ verdict_of before finding }
 {
@@ -103,7 +101,7 @@ pub fn judge(before: Option<NavItem>, finding: Finding) -> Verdict
         Finding::Complete(item) => match before {
             None => Verdict::Whole(item),
             Some(known) => {
-                if says_again(&known, &item) {
+                if known.is_alike(&item) {
                     Verdict::Again
                 } else {
                     Verdict::Whole(item)
@@ -153,7 +151,7 @@ fn is_complete_below(
         key: *key,
     };
     (stamp < end && is_quiet(parts, window, key, stamp))
-        && is_whole(&find(parts, r, window, &place))
+        && is_whole(&finding_on(parts, r, window, &place))
 }
 
 // The end of the key's last complete period below the end so far, and one more stamp.
@@ -166,7 +164,8 @@ fn complete_with(
     key: &Key,
     end: u32,
 ) -> Option<u32>
-    ensures { result ≡ best_with (complete_below r window parts.now key.now end) (λ a b. nat_lt b a) best stamp }
+    ensures { result
+        ≡ best_with (complete_below r window parts.now key.now end) (λ a b. nat_lt b a) best stamp }
 {
     match stamp {
         None => best,
@@ -202,7 +201,7 @@ fn last_known(parts: &[Part], r: RefWeek, window: u32, key: &Key, end: u32) -> O
                 end: stamp,
                 key: *key,
             };
-            item_found(find(parts, r, window, &place))
+            item_found(finding_on(parts, r, window, &place))
         }
     }
 }
@@ -223,6 +222,6 @@ fn known_before(parts: &[Part], r: RefWeek, window: u32, place: &Place) -> Optio
 pub fn verdict_on(parts: &[Part], r: RefWeek, window: u32, place: &Place) -> Verdict
     ensures { result ≡ verdict_at r window parts.now place.now }
 {
-    let finding = find(parts, r, window, place);
+    let finding = finding_on(parts, r, window, place);
     judge(known_before(parts, r, window, place), finding)
 }

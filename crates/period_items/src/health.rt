@@ -1,6 +1,9 @@
 ghost use Rattle.std.specs.Prelude.{◌≡◌, None};
 ghost use Rattle.period_items.specs.Parts.{health_numbers, health_of};
-ghost use Rattle.period_items.specs.Mirrors.{behind_end, best_among, best_with, earlier, health_at, is_better, later, satellite_health, up_to_end};
+ghost use Rattle.period_items.specs.DigestsOf.{health_at};
+ghost use Rattle.period_items.specs.Mirrors.{behind_end, best_among, best_with, earlier};
+ghost use Rattle.period_items.specs.DigestsOf.{satellite_health};
+ghost use Rattle.period_items.specs.Mirrors.{is_better, later, up_to_end};
 
 use crate::key::Key;
 use crate::order::is_same_sat;
@@ -19,7 +22,8 @@ fn read_health(part: &Part, sat: Sat) -> Option<(u32, GalHealth, SentTag)>
     }
 }
 
-// One health comes before another: by its stamp, and then by the number of its digits and the tag's.
+// One health comes before another: by its stamp, and then by the number of its digits and the
+// tag's.
 fn is_earlier(one: &(u32, GalHealth, SentTag), other: &(u32, GalHealth, SentTag)) -> bool
     ensures { result ≡ earlier health_numbers one.now other.now }
 {
@@ -93,7 +97,8 @@ fn first_with(
 
 // The satellite's last health up to the end, within the window.
 fn last_up_to(parts: &[Part], window: u32, sat: Sat, end: u32) -> Option<(u32, GalHealth, SentTag)>
-    ensures { result ≡ best_among (health_of sat) (up_to_end window end) (later health_numbers) parts.now None }
+    ensures { result
+        ≡ best_among (health_of sat) (up_to_end window end) (later health_numbers) parts.now None }
 {
     let mut best: Option<(u32, GalHealth, SentTag)> = None;
     for part in parts {
@@ -103,13 +108,14 @@ fn last_up_to(parts: &[Part], window: u32, sat: Sat, end: u32) -> Option<(u32, G
 }
 
 // The satellite's first health behind the end, within the window.
-fn first_behind(
+pub(crate) fn first_behind(
     parts: &[Part],
     window: u32,
     sat: Sat,
     end: u32,
 ) -> Option<(u32, GalHealth, SentTag)>
-    ensures { result ≡ best_among (health_of sat) (behind_end window end) (earlier health_numbers) parts.now None }
+    ensures { result ≡ best_among (health_of sat) (behind_end window end)
+        (earlier health_numbers) parts.now None }
 {
     let mut best: Option<(u32, GalHealth, SentTag)> = None;
     for part in parts {
@@ -128,8 +134,8 @@ fn sat_health(parts: &[Part], window: u32, sat: Sat, end: u32) -> Option<(u32, G
     }
 }
 
-// The health that counts for a period of the key with that end: that of a Galileo key's satellite, with
-// its stamp and its tag.
+// The health that counts for a period of the key with that end: that of a Galileo key's satellite,
+// with its stamp and its tag.
 pub(crate) fn health_near(
     parts: &[Part],
     window: u32,

@@ -5,8 +5,8 @@ use nav_eph::{GalIon, GpsIon, Sat};
 /// What parts are parts of: an issue of a satellite's ephemeris, or a content of the ionosphere.
 #[derive(Clone, Copy, PartialEq, Eq, Debug)]
 pub enum Key {
-    /// A GPS satellite, and the issue of its orbit: the iode of both halves, and the low eight bits of
-    /// iodc (IS-GPS-200, 20.3.4.4).
+    /// A GPS satellite, and the issue of its orbit: the iode of both halves, and the low eight bits
+    /// of iodc (IS-GPS-200, 20.3.4.4).
     Gps(Sat, U<8>),
     /// A Galileo satellite, and the issue of the four words (Galileo OS SIS ICD, 5.1.9.2).
     Gal(Sat, U<10>),

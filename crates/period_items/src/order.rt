@@ -2,7 +2,7 @@ ghost use Rattle.std.specs.Prelude.{◌≡◌, ◌∷◌, [], ◌==◌, ◌&&◌
 ghost use Rattle.nav_eph.specs.Satellite.{place_of};
 ghost use Rattle.period_items.specs.Parts.{key_of, same_sat};
 ghost use Rattle.period_items.specs.Periods.{key_numbers};
-ghost use Rattle.period_items.specs.Mirrors.{is_of, same_key};
+ghost use Rattle.period_items.specs.KeyTests.{is_of, same_key};
 ghost use Rattle.period_items.specs.PeriodsOf.{is_before, place_at, stamp_of};
 
 use crate::key::{Key, Place};

@@ -42,7 +42,8 @@ fn end_with(
     key: &Key,
     end: u32,
 ) -> Option<u32>
-    ensures { result ≡ best_with (end_below parts.now window key.now end) (λ a b. nat_lt b a) best stamp }
+    ensures { result
+        ≡ best_with (end_below parts.now window key.now end) (λ a b. nat_lt b a) best stamp }
 {
     match stamp {
         None => best,

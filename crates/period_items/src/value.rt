@@ -1,8 +1,9 @@
-ghost use Rattle.period_items.specs.Parts.{IsPartValue};
+ghost use Rattle.nav_eph.specs.Values.{IsPartValue};
 
 use nav_eph::{Body, Part};
 
-/// Does nothing: each part has a stamp of 32 bits, and each number by which it is compared within its digits.
+/// Does nothing: each part has a stamp of 32 bits, and each number by which it is compared within
+/// its digits.
 pub fn note_value(part: &Part)
     ensures { IsPartValue part.now }
 {

@@ -25,7 +25,8 @@ pub fn one_more_stamp()
         → StaysEnd window (Contains stamps) (Contains (stamps ++ stamp ∷ [])) e }
 {}
 
-/// Later stamps leave the ends whose window they do not reach, with their stamps, and bring no end before them.
+/// Later stamps leave the ends whose window they do not reach, with their stamps, and bring no end
+/// before them.
 pub fn later_stamps_change_no_closed_end()
     ensures end_stays { (window mark : ℕ) (stamps later : List ℕ) (e : ℕ)
         → All (λ s. mark ≤ s) later → e + window < mark → IsEnd window (Contains stamps) e

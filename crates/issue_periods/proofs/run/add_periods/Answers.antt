@@ -1,9 +1,21 @@
-use Rattle.std.proofs.Common.{refl}
-use Rattle.issue_periods.proofs.SettleLemmas.{settles_at, runs}
+use Rattle.std.proofs.Common.{◌≡◌, ℕ, None, List, sym, subst, ◌∙◌, refl, take_all}
+use Rattle.nav_eph.specs.declared.part.Part.{Part}
+use Rattle.period_items.specs.declared.closed.Closed.{Closed}
+use Rattle.period_items.specs.PeriodsOf.{closed_of, periods_of}
+use Rattle.issue_periods.specs.Given.{settled}
+use Rattle.issue_periods.proofs.SettleLemmas.{standing, settled_parts, closed_of-last}
 use Rattle.issue_periods.proofs.run.add_periods.Goals as goal
 
 pub returns : goal.returns
 returns g c =
-    runs (g.A.Assembly.stands_for c.taking.assembly) (g.A.Assembly.stands_for c.settle.new.assembly) (g.A.Assembly.reference c.args.assembly.now) (g.A.Assembly.window c.args.assembly.now) 18446744073709551615 c.taking.part-index
-    c.args.parts.now c.args.periods.now.items c.settle.new.given.items (g.met.A.Assembly.parts_are_values c.taking.assembly) c.taking.invariant.stands c.taking-test.false c.requires.window refl c.requires.periods
-    (settles_at (g.A.Assembly.stands_for c.taking.assembly) (g.A.Assembly.stands_for c.settle.new.assembly) _ _ _ _ 18446744073709551615 c.args.periods.now.items c.settle.new.given.items c.taking.invariant.reference c.taking.invariant.window c.in_ok-settle.ensures.ok)
+    let r = g.A.Assembly.reference c.args.assembly.now in
+    let w = g.A.Assembly.window c.args.assembly.now in
+    let now = g.A.Assembly.stands_for c.taking.assembly in
+    let parts = c.args.parts.now in
+    let stands : now (standing parts 0 None) = subst (λ (ps : List Part). now (standing ps 0 None)) (take_all c.taking.part-index parts c.taking-test.false) c.taking.invariant.stands in
+    let m : ℕ = 18446744073709551615 in
+    let gave : c.give_all.new.given.items ≡ closed_of r w m parts =
+    subst (λ (x : ℕ). c.give_all.new.given.items ≡ closed_of r x m parts) c.taking.invariant.window
+    (subst (λ (x : ℕ). c.give_all.new.given.items ≡ closed_of x (g.A.Assembly.window c.taking.assembly) m parts) c.taking.invariant.reference
+    (c.in_ok-give_all.ensures parts (settled_parts now (g.A.Assembly.reference c.taking.assembly) (g.A.Assembly.window c.taking.assembly) parts stands))) in
+    gave ∙ closed_of-last r w m parts (g.met.A.Assembly.parts_are_values c.taking.assembly (standing parts 0 None) stands) c.requires.window refl

@@ -1,5 +1,5 @@
 use Rattle.std.proofs.Common.{◌≤◌, arith}
-use Rattle.issue_periods.specs.Plain.{StandsFor}
+use Rattle.issue_periods.specs.Plain.{PlainStandsFor}
 use Rattle.issue_periods.specs.Standing.{Stood, nothing_yet, taking}
 use Rattle.issue_periods.proofs.SettleLemmas.{stood_asked}
 use Rattle.issue_periods.proofs.tests.next_closed_period.Goals as goal
@@ -27,8 +27,8 @@ next_closed-requires-2 g c =
     let two = taking c.in_ok-second.second one in
     let first = c.in_ok-take.ensures.ok nothing_yet c.new-assembly.ensures.stands in
     let second = c.in_ok-take-2.ensures.ok one first in
-    let start : Stood (StandsFor c.take-3.new.self) (λ at. at.mark ≤ 7212) = (taking c.in_ok-third.third two, c.in_ok-take-3.ensures.ok two second, omega arith) in
-    let s = stood_asked (StandsFor c.take-3.new.self) (StandsFor c.next_closed.new.self) 7212 c.in_ok-next_closed.field-0 start c.in_ok-next_closed.ensures.given c.in_ok-next_closed.ensures.reached in
+    let start : Stood (PlainStandsFor c.take-3.new.self) (λ at. at.mark ≤ 7212) = (taking c.in_ok-third.third two, c.in_ok-take-3.ensures.ok two second, omega arith) in
+    let s = stood_asked (PlainStandsFor c.take-3.new.self) (PlainStandsFor c.next_closed.new.self) 7212 c.in_ok-next_closed.field-0 start c.in_ok-next_closed.ensures.given c.in_ok-next_closed.ensures.reached in
     (s.0, s.1, omega (arith, s.2))
 
 pub next_closed-requires-3 : goal.next_closed-requires-3
@@ -37,9 +37,9 @@ next_closed-requires-3 g c =
     let two = taking c.in_ok-second.second one in
     let first = c.in_ok-take.ensures.ok nothing_yet c.new-assembly.ensures.stands in
     let second = c.in_ok-take-2.ensures.ok one first in
-    let start : Stood (StandsFor c.take-3.new.self) (λ at. at.mark ≤ 7212) = (taking c.in_ok-third.third two, c.in_ok-take-3.ensures.ok two second, omega arith) in
-    let s = stood_asked (StandsFor c.take-3.new.self) (StandsFor c.next_closed.new.self) 7212 c.in_ok-next_closed.field-0 start c.in_ok-next_closed.ensures.given c.in_ok-next_closed.ensures.reached in
-    stood_asked (StandsFor c.next_closed.new.self) (StandsFor c.next_closed-2.new.self) 7213 c.in_ok-next_closed-2.field-0 (s.0, s.1, omega (arith, s.2)) c.in_ok-next_closed-2.ensures.given c.in_ok-next_closed-2.ensures.reached
+    let start : Stood (PlainStandsFor c.take-3.new.self) (λ at. at.mark ≤ 7212) = (taking c.in_ok-third.third two, c.in_ok-take-3.ensures.ok two second, omega arith) in
+    let s = stood_asked (PlainStandsFor c.take-3.new.self) (PlainStandsFor c.next_closed.new.self) 7212 c.in_ok-next_closed.field-0 start c.in_ok-next_closed.ensures.given c.in_ok-next_closed.ensures.reached in
+    stood_asked (PlainStandsFor c.next_closed.new.self) (PlainStandsFor c.next_closed-2.new.self) 7213 c.in_ok-next_closed-2.field-0 (s.0, s.1, omega (arith, s.2)) c.in_ok-next_closed-2.ensures.given c.in_ok-next_closed-2.ensures.reached
 
 pub next_closed-requires-4 : goal.next_closed-requires-4
 next_closed-requires-4 g c =
@@ -47,8 +47,8 @@ next_closed-requires-4 g c =
     let two = taking c.in_ok-second.second one in
     let first = c.in_ok-take.ensures.ok nothing_yet c.new-assembly.ensures.stands in
     let second = c.in_ok-take-2.ensures.ok one first in
-    let start : Stood (StandsFor c.take-3.new.self) (λ at. at.mark ≤ 7212) = (taking c.in_ok-third.third two, c.in_ok-take-3.ensures.ok two second, omega arith) in
-    let s = stood_asked (StandsFor c.take-3.new.self) (StandsFor c.next_closed.new.self) 7212 c.in_ok-next_closed.field-0 start c.in_ok-next_closed.ensures.given c.in_ok-next_closed.ensures.reached in
-    let t = stood_asked (StandsFor c.next_closed.new.self) (StandsFor c.next_closed-2.new.self) 7213 c.in_ok-next_closed-2.field-0 (s.0, s.1, omega (arith, s.2)) c.in_ok-next_closed-2.ensures.given c.in_ok-next_closed-2.ensures.reached in
-    let u = stood_asked (StandsFor c.next_closed-2.new.self) (StandsFor c.next_closed-3.new.self) 7213 c.in_ok-next_closed-3.field-0 t c.in_ok-next_closed-3.ensures.given c.in_ok-next_closed-3.ensures.reached in
+    let start : Stood (PlainStandsFor c.take-3.new.self) (λ at. at.mark ≤ 7212) = (taking c.in_ok-third.third two, c.in_ok-take-3.ensures.ok two second, omega arith) in
+    let s = stood_asked (PlainStandsFor c.take-3.new.self) (PlainStandsFor c.next_closed.new.self) 7212 c.in_ok-next_closed.field-0 start c.in_ok-next_closed.ensures.given c.in_ok-next_closed.ensures.reached in
+    let t = stood_asked (PlainStandsFor c.next_closed.new.self) (PlainStandsFor c.next_closed-2.new.self) 7213 c.in_ok-next_closed-2.field-0 (s.0, s.1, omega (arith, s.2)) c.in_ok-next_closed-2.ensures.given c.in_ok-next_closed-2.ensures.reached in
+    let u = stood_asked (PlainStandsFor c.next_closed-2.new.self) (PlainStandsFor c.next_closed-3.new.self) 7213 c.in_ok-next_closed-3.field-0 t c.in_ok-next_closed-3.ensures.given c.in_ok-next_closed-3.ensures.reached in
     (u.0, u.1, omega (arith, u.2))

@@ -1,6 +1,6 @@
 use Rattle.std.proofs.Common.{◌≡◌, arith}
 use Rattle.gnss_week.specs.Functions.{galileo_week_to}
-use Rattle.gnss_week.proofs.WeekFunctions.{galileo_week-only}
+use Rattle.gnss_week.proofs.Surface.{galileo_week-only}
 use Rattle.period_items.proofs.digest_finding.gal_moment_at.Goals as goal
 
 pub returns-clause-same : goal.returns-clause-same

@@ -1,6 +1,6 @@
 use Rattle.std.proofs.Common.{◌≡◌, ◌+◌, ◌*◌, ap, ◌∙◌, arith}
 use Rattle.gnss_week.specs.Functions.{moment_near}
-use Rattle.gnss_week.proofs.WeekFunctions.{moment_near-only}
+use Rattle.gnss_week.proofs.Surface.{moment_near-only}
 use Rattle.period_items.proofs.digest_finding.gps_ion_moment_near.Goals as goal
 
 pub returns : goal.returns

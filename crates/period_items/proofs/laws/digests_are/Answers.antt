@@ -1,0 +1,33 @@
+use Rattle.std.proofs.Common.{Contains, List, [], ◌∷◌, ◌++◌, inl, inr, sym, ◌≡◌}
+use Rattle.nav_eph.specs.declared.part.Part.{Part}
+use Rattle.period_laws.proofs.Surface.{In-from_contains, contains_from_In, In-append_left, In-append_right, In-append_cases}
+use Rattle.period_items.specs.Periods.{IsMember}
+use Rattle.period_items.specs.Verdicts.{IsHealthBefore, IsHealthBehind}
+use Rattle.period_items.specs.DigestsOf.{health_at}
+use Rattle.period_items.proofs.ValueLemmas.{IsUnion}
+use Rattle.period_items.proofs.DigestLemmas.{digest_of-is, digest_join-is, IsDigest-same}
+use Rattle.period_items.proofs.DigestFindings.{digest_finding-is}
+use Rattle.period_items.proofs.HealthLemmas.{health_at-is}
+use Rattle.period_items.proofs.laws.digests_are.Goals as goal
+
+union_of : (some more : List Part) → IsUnion (Contains some) (Contains more) (Contains (some ++ more))
+union_of some more = record {
+  left = λ p i. contains_from_In (some ++ more) p (In-append_left some more p (In-from_contains some p i));
+  right = λ p i. contains_from_In (some ++ more) p (In-append_right some more p (In-from_contains more p i));
+  cases = λ p i. elim (In-append_cases some more p (In-from_contains (some ++ more) p i)) [
+    | inl a ↦ inl (contains_from_In some p a)
+    | inr b ↦ inr (contains_from_In more p b)
+  ];
+}
+
+pub returns : goal.returns
+returns c = record {
+  one = λ p key d k e. IsDigest-same key (λ q. q ≡ p) (Contains (p ∷ [])) d (record {
+    to = λ q same. contains_from_In (p ∷ []) q (inl (sym same));
+    from = λ q i. elim (In-from_contains (p ∷ []) q i) [ inl same ↦ sym same | inr none ↦ absurd none ];
+  }) (digest_of-is p key d k e);
+  joined = λ key some more x y a b. digest_join-is key (Contains some) (Contains more) (Contains (some ++ more)) x y (union_of some more) a b;
+  finding = λ r w parts q d h. digest_finding-is r q.key (IsMember w (Contains parts) q)
+      (IsHealthBefore w (Contains parts) q.key q.end) (IsHealthBehind w (Contains parts) q.key q.end) d (health_at w parts q.key q.end) h
+      (health_at-is w parts q.key q.end);
+}
