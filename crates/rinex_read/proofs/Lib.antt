@@ -8,6 +8,7 @@ pub mod FormLemmas
 pub mod HeaderLemmas
 pub mod ItemLemmas
 pub mod LineLemmas
+pub mod ListedLemmas
 pub mod RangeLemmas
 pub mod RecordLemmas
 pub mod RecordSteps

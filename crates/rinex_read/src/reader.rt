@@ -5,6 +5,7 @@ ghost use Rattle.nav_io.specs.Causes.{Rose};
 ghost use Rattle.rinex_read.specs.declared.judged.HeaderState.TheVariants.{Passed};
 ghost use Rattle.rinex_read.specs.Files.{read_at};
 ghost use Rattle.rinex_read.specs.Mirrors.{EndsWith, HeaderRefused, IsRecord, TakesLine, state_of};
+ghost use Rattle.rinex_read.specs.RoundTrip.{IsWholeRead};
 ghost use Rattle.rinex_read.specs.States.{BreaksRecord, GivesRead, HeaderSteps, RefusedBy, is_waiting};
 ghost use Rattle.rinex_read.specs.declared.judged.HeaderState.{HeaderState};
 
@@ -101,10 +102,12 @@ fn take_line<F: FileForm>(
     number: u32,
 ) -> Option<ItemRead>
     ensures none { IfNone result (TakesLine F.form kept.old first.old kept.new first.new line.now number []) }
+    ensures whole { IfSome result (λ read. IsWholeRead read) }
     ensures some { IfSome result (λ read. IsRecord read
         × TakesLine F.form kept.old first.old kept.new first.new line.now number (read ∷ [])) }
 {
     F::looks_at_kept();
+    F::gives_items();
     if !begins::<F>(line) {
         if !kept.is_empty() {
             kept.push(line);
@@ -127,7 +130,9 @@ fn take_line<F: FileForm>(
 fn take_end<F: FileForm>(kept: &mut RecordLines, first: u32) -> ItemRead
     ensures kept { kept.new ≡ [] }
     ensures read { EndsWith F.form kept.old first result }
+    ensures whole { IsWholeRead result }
 {
+    F::gives_items();
     if kept.is_empty() {
         return ItemRead::End;
     }
@@ -184,6 +189,7 @@ fn next_record<F: FileForm, S: Source>(
     requires numbered { lines.old.number ≤ lines.old.taken }
     ensures read { IfOk result (λ read. (header : HeaderState) → GivesRead F.form read (S.left source.old) (S.left source.new)
         (state_of header kept.old first.old lines.old) (state_of header kept.new first.new lines.new)) }
+    ensures whole { IfOk result (λ read. IsWholeRead read) }
     ensures fault { IfErr result (λ fault. (header : HeaderState) → BreaksRecord F.form (S.left source.old) (S.left source.new)
         (state_of header kept.old first.old lines.old) (state_of header kept.new first.new lines.new) fault) }
     ensures failed { IsErrOf result LineFault.ReadFault
@@ -215,6 +221,7 @@ impl<F: FileForm> RecordReader<F> {
     ghost use Rattle.nav_io.specs.Causes.{Rose};
     ghost use Rattle.rinex_read.specs.declared.judged.HeaderState.TheVariants.{Passed, NotRinexNav, OtherVersion};
     ghost use Rattle.rinex_read.specs.States.{IsNew, GivesRead, BreaksRecord, PassesHeader, BreaksHeader};
+    ghost use Rattle.rinex_read.specs.RoundTrip.{IsWholeRead};
 
     /// A reader of which nothing was read.
     pub fn new() -> RecordReader<F>
@@ -279,6 +286,9 @@ impl<F: FileForm> RecordReader<F> {
         // The record is that of the file, whatever bytes follow.
         ensures read { IfOk result (λ read.
             GivesRead F.form read (S.left source.old) (S.left source.new) self.old self.new) }
+
+        // An item that is read has fields within their digits, and its parts fit together.
+        ensures whole { IfOk result (λ read. IsWholeRead read) }
 
         ensures header { self.new.header ≡ Passed }
 
