@@ -23,5 +23,8 @@ mod parity;
 mod tests;
 mod word;
 
-pub use crate::laws::{one_choice, one_word};
+pub use crate::laws::{
+    good_is_decided, made_function, one_choice, one_source, one_word, solved_function,
+    source_function,
+};
 pub use crate::word::{check_word, make_solved, make_word};

@@ -1,3 +1,5 @@
 pub mod DigitLemmas
 pub mod NumberLemmas
 pub mod SameFields
+pub mod RankLemmas
+pub mod Surface

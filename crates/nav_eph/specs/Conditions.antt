@@ -1,11 +1,13 @@
 -- What holds of parts and of whole values.
-use Rattle.std.specs.Prelude.{◌≡◌, ℕ, ◌<◌}
+use Rattle.std.specs.Prelude.{◌≡◌, ℕ, ◌<◌, Bool}
+use Rattle.nav_eph.specs.Ranks.{part_rank, same_numbers}
 use Rattle.nav_eph.specs.Satellite.{Satellite}
 use Rattle.nav_eph.specs.declared.sat.System.{System}
 use Rattle.nav_eph.specs.declared.sat.System.TheVariants.{Gps, Gal}
 use Rattle.nav_eph.specs.declared.tag.SentTag.{SentTag}
 use Rattle.nav_eph.specs.declared.tag.SentTag.TheVariants.{Sent, Toe}
 use Rattle.nav_eph.specs.declared.part.Body.{Body}
+use Rattle.nav_eph.specs.declared.part.Part.{Part}
 use Rattle.nav_eph.specs.declared.part.Body.TheVariants.{GpsClock, GpsA, GpsB, GalW1, GalW2, GalW3, GalW4, GalHealth, GpsIon, GalIon}
 
 -- the system whose satellites send a body
@@ -35,3 +37,7 @@ HasGpsWeek _ = Unit {0}
 pub record IsPart (sat : Satellite) (body : Body) : Type 0 where
   pub system : sat.system ≡ system_of body
   pub week : HasGpsWeek body
+
+-- that two parts are equal as a test: all numbers of the two are the same
+abbrev pub same_part : Part → Part → Bool
+same_part a b = same_numbers (part_rank a) (part_rank b)

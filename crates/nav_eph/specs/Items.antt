@@ -1,6 +1,7 @@
 -- What holds of ephemerides and of what is said of the ionosphere, and when two of them are alike.
-use Rattle.std.specs.Prelude.{◌≡◌, ℕ, pos, neg_ℤ, ◌≤ℤ◌}
+use Rattle.std.specs.Prelude.{◌≡◌, ℕ, ◌+◌, ◌*◌, pos, neg_ℤ, ◌≤ℤ◌, Bool}
 use Rattle.gnss_week.specs.Weeks.{IsWeek, week_of}
+use Rattle.nav_eph.specs.Ranks.{rank, same_numbers, whole_rank}
 use Rattle.nav_eph.specs.Satellite.{Satellite}
 use Rattle.nav_eph.specs.declared.sat.System.{System}
 use Rattle.nav_eph.specs.declared.sat.System.TheVariants.{Gps, Gal}
@@ -14,6 +15,8 @@ use Rattle.nav_eph.specs.declared.ion.IonContent.{IonContent}
 use Rattle.nav_eph.specs.declared.ion.IonContent.TheVariants.{Gps as OfGps, Gal as OfGal}
 use Rattle.nav_eph.specs.declared.items.SentSecond.{SentSecond}
 use Rattle.nav_eph.specs.declared.items.SentSecond.TheVariants.{Unknown, At}
+use Rattle.nav_eph.specs.declared.items.GpsEph.{GpsEph}
+use Rattle.nav_eph.specs.declared.items.GalEph.{GalEph}
 use Rattle.nav_eph.specs.declared.items.NavItem.{NavItem}
 use Rattle.nav_eph.specs.declared.items.NavItem.TheVariants.{Gps as GpsItem, Gal as GalItem, Ion as IonItem}
 
@@ -55,3 +58,19 @@ unsent (IonItem e) = IonItem e
 -- the two are equal in every field but the time of sending
 abbrev pub IsAlike : NavItem → NavItem → Type 0
 IsAlike a b = unsent a ≡ unsent b
+
+-- the same as a test: all numbers of the two but the second of sending are the same
+abbrev pub is_alike : NavItem → NavItem → Bool
+is_alike a b = same_numbers (rank a) (rank b)
+
+-- that two items are equal as a test: all numbers of the two are the same
+abbrev pub same_item : NavItem → NavItem → Bool
+same_item a b = same_numbers (whole_rank a) (whole_rank b)
+
+-- the moment of the time of an ephemeris of GPS: in the week of toe, toe being in steps of 16 s
+abbrev pub gps_toe_moment : GpsEph → ℕ
+gps_toe_moment e = 604800 * e.toe_week + 16 * e.a.toe
+
+-- the moment of the time of an ephemeris of Galileo: in the week of toe, toe being in steps of 60 s
+abbrev pub galileo_toe_moment : GalEph → ℕ
+galileo_toe_moment e = 604800 * e.toe_week + 60 * e.w1.toe

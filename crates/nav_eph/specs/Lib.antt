@@ -4,5 +4,7 @@ pub mod Digits
 pub mod Items
 pub mod Numbers
 pub mod Ranges
+pub mod Ranks
 pub mod Satellite
 pub mod Steps
+pub mod Values

@@ -1,5 +1,7 @@
 ghost use Rattle.std.specs.Prelude.{◌≡◌, ℕ, ◌↔◌, IsSome, IfSome, IsTrue};
-ghost use Rattle.nav_eph.specs.Items.{IsAlike, IsGalEph, IsGpsEph, IsIonEph, IsSentSecond, unsent};
+ghost use Rattle.nav_eph.specs.Items.{IsAlike, is_alike, same_item, unsent};
+ghost use Rattle.nav_eph.specs.Items.{IsGalEph, IsGpsEph, IsIonEph, IsSentSecond};
+ghost use Rattle.nav_eph.specs.Items.{galileo_toe_moment, gps_toe_moment};
 
 use crate::galileo::{GalHealth, GalWord1, GalWord2, GalWord3, GalWord4};
 use crate::gps::{GpsClock, GpsOrbitA, GpsOrbitB, GpsSide};
@@ -137,6 +139,14 @@ impl GpsEph {
             sent,
         })
     }
+
+    /// The moment of its toe (IS-GPS-200, 20.3.3.4.1): in the week of toe, in seconds from 1980-01-06.
+    pub fn toe(&self) -> Moment
+        ensures { result ≡ gps_toe_moment self.now }
+    {
+        let week = self.toe_week.value() as u64;
+        Moment::from_seconds(604_800 * week + 16 * self.a.toe.value() as u64)
+    }
 }
 
 impl GalEph {
@@ -191,6 +201,14 @@ impl GalEph {
             sent,
         })
     }
+
+    /// The moment of its toe (Galileo OS SIS ICD, 5.1.1): in the week of toe, in seconds from 1980-01-06.
+    pub fn toe(&self) -> Moment
+        ensures { result ≡ galileo_toe_moment self.now }
+    {
+        let week = self.toe_week.value() as u64;
+        Moment::from_seconds(604_800 * week + 60 * self.w1.toe.value() as u64)
+    }
 }
 
 impl IonEph {
@@ -222,8 +240,8 @@ impl IonEph {
 }
 
 impl NavItem {
-    /// It equals another in every field.
-    pub fn is_same(&self, other: &NavItem) -> bool
+    // It equals another in every field.
+    fn equals(&self, other: &NavItem) -> bool
         ensures { IsTrue result ↔ (self.now ≡ other.now) }
     {
         match (self, other) {
@@ -232,6 +250,14 @@ impl NavItem {
             (NavItem::Ion(a), NavItem::Ion(b)) => same_ion(a, b),
             _ => false,
         }
+    }
+
+    /// It equals another in every field.
+    pub fn is_same(&self, other: &NavItem) -> bool
+        ensures exactly { IsTrue result ↔ (self.now ≡ other.now) }
+        ensures answer { result ≡ same_item self.now other.now }
+    {
+        self.equals(other)
     }
 
     // The item with no time of sending.
@@ -251,10 +277,18 @@ impl NavItem {
         }
     }
 
-    /// It equals another in every field but the time of sending.
-    pub fn is_alike(&self, other: &NavItem) -> bool
+    // It equals another in every field but the time of sending.
+    fn equals_unsent(&self, other: &NavItem) -> bool
         ensures { IsTrue result ↔ IsAlike self.now other.now }
     {
-        self.without_sending().is_same(&other.without_sending())
+        self.without_sending().equals(&other.without_sending())
+    }
+
+    /// It equals another in every field but the time of sending.
+    pub fn is_alike(&self, other: &NavItem) -> bool
+        ensures exactly { IsTrue result ↔ IsAlike self.now other.now }
+        ensures answer { result ≡ is_alike self.now other.now }
+    {
+        self.equals_unsent(other)
     }
 }

@@ -1,7 +1,13 @@
-ghost use Rattle.std.specs.Prelude.{◌≡◌, ℕ};
+ghost use Rattle.std.specs.Prelude.{◌≡◌, ℕ, ◌↔◌, true};
 ghost use Rattle.gnss_week.specs.Weeks.{IsSecond};
 ghost use Rattle.nav_eph.specs.Bodies.{IsGalHealth, IsGalIon, IsGpsIon, IsGpsSide, IsSentTag};
-ghost use Rattle.nav_eph.specs.Numbers.{gal_ion_number, gal_sending, gps_ion_number, gps_sending, health_number, side_number, tag_number};
+ghost use Rattle.nav_eph.specs.Conditions.{same_part};
+ghost use Rattle.nav_eph.specs.Items.{IsAlike, is_alike, same_item};
+ghost use Rattle.nav_eph.specs.Ranks.{rank};
+ghost use Rattle.nav_eph.specs.Numbers.{gal_ion_number, gal_sending, gps_ion_number, gps_sending};
+ghost use Rattle.nav_eph.specs.Numbers.{health_number, side_number, tag_number};
+ghost use Rattle.nav_eph.specs.declared.items.NavItem.{NavItem};
+ghost use Rattle.nav_eph.specs.declared.part.Part.{Part};
 ghost use Rattle.nav_eph.specs.declared.gps.GpsSide.{GpsSide};
 ghost use Rattle.nav_eph.specs.declared.galileo.GalHealth.{GalHealth};
 ghost use Rattle.nav_eph.specs.declared.ion.GpsIon.{GpsIon};
@@ -46,4 +52,17 @@ pub fn one_gps_sending()
 pub fn one_galileo_sending()
     ensures { (v w s t : ℕ) → IsSecond s → IsSecond t →
         gal_sending v s ≡ gal_sending w t → (v ≡ w) × (s ≡ t) }
+{}
+
+/// `same_item` is equality of items, and `same_part` equality of parts.
+pub fn equality_is_decided()
+    ensures items { (a b : NavItem) → (same_item a b ≡ true) ↔ (a ≡ b) }
+    ensures parts { (a b : Part) → (same_part a b ≡ true) ↔ (a ≡ b) }
+{}
+
+/// `is_alike` is equality of items in every field but the time of sending, and so is equality of their
+/// numbers but for it.
+pub fn alike_is_decided()
+    ensures alike { (a b : NavItem) → (is_alike a b ≡ true) ↔ IsAlike a b }
+    ensures numbers { (a b : NavItem) → (rank a ≡ rank b) ↔ IsAlike a b }
 {}

@@ -42,8 +42,8 @@ pub use crate::gps::{GpsClock, GpsOrbitA, GpsOrbitB, GpsSide};
 pub use crate::ion::{GalIon, GpsIon, IonContent};
 pub use crate::items::{GalEph, GpsEph, IonEph, NavItem, SentSecond};
 pub use crate::laws::{
-    one_galileo_ionosphere, one_galileo_sending, one_gps_ionosphere, one_gps_sending,
-    one_health_and_tag, one_side, one_tag,
+    alike_is_decided, equality_is_decided, one_galileo_ionosphere, one_galileo_sending,
+    one_gps_ionosphere, one_gps_sending, one_health_and_tag, one_side, one_tag,
 };
 pub use crate::part::{Body, Part};
 pub use crate::sat::{Sat, System};

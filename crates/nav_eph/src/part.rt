@@ -1,9 +1,10 @@
 ghost use Rattle.std.specs.Prelude.{◌≡◌, ℕ, ◌<◌, ◌↔◌, IsSome, IfSome, IsTrue};
-ghost use Rattle.nav_eph.specs.Conditions.{HasGpsWeek, IsPart, system_of};
+ghost use Rattle.nav_eph.specs.Conditions.{HasGpsWeek, IsPart, same_part, system_of};
 
 use crate::galileo::{GalHealth, GalWord1, GalWord2, GalWord3, GalWord4};
 use crate::gps::{GpsClock, GpsOrbitA, GpsOrbitB, GpsSide};
 use crate::ion::{GalIon, GpsIon};
+use crate::same::{same_body, same_sat};
 use crate::sat::{Sat, System};
 use crate::tag::SentTag;
 use gnss_week::Second;
@@ -90,5 +91,26 @@ impl Part {
             return None;
         }
         Some(Part { stamp, sat, body })
+    }
+
+    // It equals another in every field.
+    fn equals(&self, other: &Part) -> bool
+        ensures { IsTrue result ↔ (self.now ≡ other.now) }
+    {
+        if self.stamp != other.stamp {
+            return false;
+        }
+        if !same_sat(&self.sat, &other.sat) {
+            return false;
+        }
+        same_body(&self.body, &other.body)
+    }
+
+    /// It equals another in every field.
+    pub fn is_same(&self, other: &Part) -> bool
+        ensures exactly { IsTrue result ↔ (self.now ≡ other.now) }
+        ensures answer { result ≡ same_part self.now other.now }
+    {
+        self.equals(other)
     }
 }

@@ -4,7 +4,9 @@ use crate::galileo::{GalHealth, GalWord1, GalWord2, GalWord3, GalWord4};
 use crate::gps::{GpsClock, GpsOrbitA, GpsOrbitB, GpsSide};
 use crate::ion::{GalIon, GpsIon, IonContent};
 use crate::items::{GalEph, GpsEph, IonEph, SentSecond};
+use crate::part::Body;
 use crate::sat::Sat;
+use crate::tag::SentTag;
 
 // Two clocks of GPS are equal in every field.
 fn same_clock(a: &GpsClock, b: &GpsClock) -> bool
@@ -102,7 +104,7 @@ fn same_sent(a: &SentSecond, b: &SentSecond) -> bool
 }
 
 // Two satellites are equal in every field.
-fn same_sat(a: &Sat, b: &Sat) -> bool
+pub(crate) fn same_sat(a: &Sat, b: &Sat) -> bool
     ensures { IsTrue result ↔ (a.now ≡ b.now) }
 {
     *a == *b
@@ -175,4 +177,34 @@ pub(crate) fn same_ion(a: &IonEph, b: &IonEph) -> bool
         return false;
     }
     same_content(&a.content, &b.content)
+}
+
+// Two tags are equal in every field.
+fn same_tag(a: &SentTag, b: &SentTag) -> bool
+    ensures { IsTrue result ↔ (a.now ≡ b.now) }
+{
+    *a == *b
+}
+
+// Two bodies are equal in every field.
+pub(crate) fn same_body(a: &Body, b: &Body) -> bool
+    ensures { IsTrue result ↔ (a.now ≡ b.now) }
+{
+    match (a, b) {
+        (Body::GpsClock(c, s, t), Body::GpsClock(d, r, u)) => {
+            same_clock(c, d) && same_side(s, r) && same_tag(t, u)
+        }
+        (Body::GpsA(c, f), Body::GpsA(d, g)) => same_orbit_a(c, d) && *f == *g,
+        (Body::GpsB(c), Body::GpsB(d)) => same_orbit_b(c, d),
+        (Body::GalW1(c), Body::GalW1(d)) => same_word1(c, d),
+        (Body::GalW2(c), Body::GalW2(d)) => same_word2(c, d),
+        (Body::GalW3(c), Body::GalW3(d)) => same_word3(c, d),
+        (Body::GalW4(c), Body::GalW4(d)) => same_word4(c, d),
+        (Body::GalHealth(h, t), Body::GalHealth(g, u)) => same_health(h, g) && same_tag(t, u),
+        (Body::GpsIon(c, s), Body::GpsIon(d, t)) => same_gps_ion(c, d) && *s == *t,
+        (Body::GalIon(c, w, s), Body::GalIon(d, v, t)) => {
+            same_gal_ion(c, d) && *w == *v && *s == *t
+        }
+        _ => false,
+    }
 }
