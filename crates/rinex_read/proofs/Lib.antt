@@ -19,3 +19,4 @@ pub mod TakeLemmas
 pub mod TakenLemmas
 pub mod WholeLemmas
 pub mod WrittenLemmas
+pub mod Surface

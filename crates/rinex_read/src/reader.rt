@@ -239,11 +239,11 @@ impl<F: FileForm> RecordReader<F> {
     /// Reads the header of a file.
     ///
     /// Its first line has `RINEX VERSION / TYPE` in columns 61-80 and `N` in column 21, and in columns 1-9 a version of the
-    /// form, for [`Records`] `4.` and one digit or two; the lines up to the next with `END OF HEADER` in columns 61-73 are passed (RINEX 4.01, header
-    /// section). `NotRinexNav`: the first line is another one, or no line ends the header; each further call answers the
-    /// same. `Version`: another version; each further call answers the same. `Line`: as for `next_item`; after a failed read
-    /// a further call goes on with the same header, and `TooLong` stays. The other answers come only where at most
-    /// 4,294,967,295 bytes were taken.
+    /// form, for [`Records`] `4.` and one digit or two; the lines up to the next with `END OF HEADER` in columns 61-73 are
+    /// passed (RINEX 4.01, header section). `NotRinexNav`: the first line is another one, or no line ends the header; each
+    /// further call answers the same. `Version`: another version; each further call answers the same. `Line`: as for
+    /// `next_item`; after a failed read a further call goes on with the same header, and `TooLong` stays. The other answers
+    /// come only where at most 4,294,967,295 bytes were taken.
     pub fn read_header<S: Source>(&mut self, source: &mut S) -> Result<(), HeaderFault>
         // What is to come behind the header are the records of the file, whatever bytes follow.
         ensures header { OnOk result (PassesHeader F.form (S.left source.old) (S.left source.new) self.old self.new) }
@@ -277,9 +277,10 @@ impl<F: FileForm> RecordReader<F> {
 
     /// The next record of a file whose header was read.
     ///
-    /// A record is a line that begins one, for [`Records`] with `>`, and the lines up to the next such line or the end. Its line is the number
-    /// of its first line in the file, counted from 1. `ReadFault`: a read failed, and the source's count of faults says
-    /// so; a further call goes on with the same record. `TooLong`: 4,294,967,295 bytes were taken and one more was there.
+    /// A record is a line that begins one, for [`Records`] with `>`, and the lines up to the next such line or the end. Its
+    /// line is the number of its first line in the file, counted from 1. `ReadFault`: a read failed, and the source's count
+    /// of faults says so; a further call goes on with the same record. `TooLong`: 4,294,967,295 bytes were taken and one
+    /// more was there.
     pub fn next_item<S: Source>(&mut self, source: &mut S) -> Result<ItemRead, LineFault>
         requires header { self.old.header ≡ Passed }
 
