@@ -28,20 +28,20 @@ record_lines_are i = record {
 pub header_begins : (h : HeaderWords) → NoneBegins rinex4 (header_lines h)
 header_begins h = none_begins (header_lines h) (header_untitled (codes "     4.01") h refl)
 
-last : ends_header (codes "                                                            END OF HEADER") ≡ true
+pub header_ends : ends_header (codes "                                                            END OF HEADER") ≡ true
 unfolding ends_header stands_at
-last = refl
+header_ends = refl
 
 -- the label of the line with the date
 date_label : (date : List ℕ) → length date ≡ 19 → get_or (date ++ codes " PGM / RUN BY / DATE") 20 32 ≡ 80
 date_label date is =
     ap (λ n. get_or (date ++ codes " PGM / RUN BY / DATE") n 32) (omega arith) ∙ get_or-append-add date (codes " PGM / RUN BY / DATE") 1 32
 
-date_passes : (date : List ℕ) → length date ≡ 19 → ends_header (codes "navbridge                               " ++ (date ++ codes " PGM / RUN BY / DATE")) ≡ false
+pub date_passes : (date : List ℕ) → length date ≡ 19 → ends_header (codes "navbridge                               " ++ (date ++ codes " PGM / RUN BY / DATE")) ≡ false
 unfolding ends_header stands_at
 date_passes date is = rw (date_label date is) refl
 
-leap_passes : (leap : ℕ) → ends_header (codes "    " ++ (leap_text leap ++ codes "                                                      LEAP SECONDS")) ≡ false
+pub leap_passes : (leap : ℕ) → ends_header (codes "    " ++ (leap_text leap ++ codes "                                                      LEAP SECONDS")) ≡ false
 unfolding ends_header stands_at
 leap_passes leap = refl
 
@@ -50,4 +50,4 @@ unfolding header_lines_by is_navigation is_version stands_at columns
 header_again h is rest =
     let date = date_passes h.date is.date in
     let leap = leap_passes h.leap in
-    rw (date, leap, last) refl
+    rw (date, leap, header_ends) refl
