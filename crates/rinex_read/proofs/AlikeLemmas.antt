@@ -27,7 +27,7 @@ le_suc k x = ⊎_elim
     (λ (high : k ≤ x). le-leb (suc k) (suc x) (omega arith) ∙ sym (le-leb k x high))
     (cases_lt x k)
 
-all_alike : (n k : ℕ) (ls ms : List (List ℕ)) → k ≤ n → AreAlike n ls ms → nat_le k (length ls) ≡ nat_le k (length ms)
+pub all_alike : (n k : ℕ) (ls ms : List (List ℕ)) → k ≤ n → AreAlike n ls ms → nat_le k (length ls) ≡ nat_le k (length ms)
 all_alike n zero ls ms h a = le-leb 0 (length ls) (omega arith) ∙ sym (le-leb 0 (length ms) (omega arith))
 all_alike zero (suc k) ls ms h a = absurd (omega arith)
 all_alike (suc n) (suc k) [] [] h a = refl
@@ -151,7 +151,7 @@ judged_alike (t ∷ ls) (u ∷ ms) a =
     let s4 = ionosphere_alike galileo_ionosphere_kind t u ls ms galileo_ionosphere_laid a.0 a.1 in
     rw (k1, k2, k3, k4, s1, s2, s3, s4) refl
 
-looked_alike : (n : ℕ) (ls : List (List ℕ)) → AreAlike n (map padded (take n ls)) ls
+pub looked_alike : (n : ℕ) (ls : List (List ℕ)) → AreAlike n (map padded (take n ls)) ls
 looked_alike zero ls = tt
 looked_alike (suc n) [] = tt
 looked_alike (suc n) (l ∷ ls) = (padded_alike l, looked_alike n ls)

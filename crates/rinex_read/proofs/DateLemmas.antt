@@ -2,8 +2,8 @@
 use Rattle.std.proofs.Common.{◌≡◌, ◌≢◌, ℕ, ◌+◌, ◌/◌, ◌%◌, ◌^◌, ◌<◌, List, [], ◌∷◌, ◌++◌, if◌then◌else◌, Ok, refl, ap, sym, ◌∙◌, arith, append-nil, ne_eqb}
 use Rattle.scaled_decimal.specs.NumberText.{digits}
 use Rattle.scaled_decimal.specs.NumberReading.{trim_start, trim_end, span}
-use Rattle.scaled_decimal.proofs.SpanLemmas.{span-digits}
-use Rattle.scaled_decimal.proofs.TextLemmas.{kept_behind, no_blank}
+use Rattle.scaled_decimal.proofs.Surface.{span-digits}
+use Rattle.scaled_decimal.proofs.Surface.{kept_behind, no_blank}
 use Rattle.gnss_week.specs.declared.calendar.Civil.{Civil}
 use Rattle.gnss_week.specs.Functions.{IsShort}
 use Rattle.rinex_write.specs.Texts.{date_text}

@@ -5,9 +5,9 @@ use Rattle.std.proofs.lemmas.Int.{ints}
 use Rattle.scaled_decimal.specs.declared.scales.Scale.{Scale}
 use Rattle.scaled_decimal.specs.ScaleValue.{size_of, AreWithin, IsScale}
 use Rattle.scaled_decimal.specs.NumberReading.{number, seen}
-use Rattle.scaled_decimal.proofs.SizeLemmas.{is_scale}
-use Rattle.scaled_decimal.proofs.TextLemmas.{text_seen}
-use Rattle.scaled_decimal.proofs.ColumnLemmas.{length-number_text}
+use Rattle.scaled_decimal.proofs.Surface.{is_scale}
+use Rattle.scaled_decimal.proofs.Surface.{text_seen}
+use Rattle.scaled_decimal.proofs.Surface.{length-number_text}
 use Rattle.rinex_write.specs.declared.columns.Rule.{Rule}
 use Rattle.rinex_write.specs.declared.columns.Rule.TheVariants.{Plain, OrZero, Ura, Sisa, Fit, Sent, Unread}
 use Rattle.rinex_write.specs.declared.columns.Column.{Column}

@@ -1,21 +1,22 @@
 -- What is read of the text of a header and of a list of items is that list, where each record stands for its item.
-use Rattle.std.proofs.Common.{◌≡◌, ℕ, ◌+◌, ◌==◌, Bool, true, false, if◌then◌else◌, List, [], ◌∷◌, ◌++◌, length, map, Ok, refl, ap, sym, ◌∙◌, arith, append_assoc, append-nil, length-append, ne_eqb}
+use Rattle.std.proofs.Common.{◌≡◌, ℕ, ◌+◌, ◌==◌, Bool, true, false, if◌then◌else◌, List, [], ◌∷◌, ◌++◌, length, map, codes, Ok, refl, ap, sym, ◌∙◌, arith, append_assoc, append-nil, length-append, ne_eqb}
 use Rattle.std.specs.List.{flat_map}
 use Rattle.scaled_decimal.specs.NumberText.{AreShown}
 use Rattle.nav_io.specs.Lines.{ends, without_cr}
-use Rattle.nav_io.specs.LineLaws.{pieces-line}
+use Rattle.nav_io.proofs.Surface.{pieces-line}
 use Rattle.nav_eph.specs.declared.items.NavItem.{NavItem}
 use Rattle.nav_eph.specs.Ranges.{IsItem}
 use Rattle.rinex_write.specs.declared.header.HeaderWords.{HeaderWords}
-use Rattle.rinex_write.specs.Texts.{text_of, item_lines, header_lines, rinex_text}
+use Rattle.rinex_write.specs.Texts.{IsHeader, AreLines, text_of, item_lines, header_lines, rinex_text}
+use Rattle.rinex_write.proofs.Surface.{lines_more, header_shown, length-header}
 use Rattle.rinex_read.specs.declared.judged.ItemRead.{ItemRead}
 use Rattle.rinex_read.specs.declared.judged.ItemRead.TheVariants.{Item}
 use Rattle.rinex_read.specs.Lines.{lines_of}
 use Rattle.rinex_read.specs.Forms.{Form, begins, rinex4}
 use Rattle.rinex_read.specs.Files.{header_of, up_to_next, read_at, reads, reads_behind, file_reads, items_of, items_read, rinex_list}
-use Rattle.rinex_read.specs.RoundTrip.{IsHeader, AreItems, AreLines, NoneBegins, AreRecordLines, StandFor, AllStand, AreHeaderLines, numbered_by, numbered}
+use Rattle.rinex_read.specs.RoundTrip.{AreItems, NoneBegins, AreRecordLines, StandFor, AllStand, AreHeaderLines, numbered_by, numbered}
 use Rattle.rinex_read.proofs.RecordLemmas.{item_again}
-use Rattle.rinex_read.proofs.WrittenLemmas.{lines_more, record_lines_are, header_shown, header_begins, header_again, length-header}
+use Rattle.rinex_read.proofs.WrittenLemmas.{record_lines_are, header_begins, header_again}
 
 shown_ends : (l : List ℕ) → AreShown l → ends l ≡ false
 shown_ends [] h = refl
@@ -108,12 +109,15 @@ all_stand : (is : List NavItem) → AreItems is → AllStand rinex4 item_lines i
 all_stand [] h = tt
 all_stand (i ∷ is) h = (item_stands i h.0, all_stand is h.1)
 
+version_shown : AreShown (codes "     4.01")
+version_shown = (omega arith, (omega arith, (omega arith, (omega arith, (omega arith, (omega arith, (omega arith, (omega arith, (omega arith, tt)))))))))
+
 pub header_stands : (h : HeaderWords) → IsHeader h → AreHeaderLines rinex4 (header_lines h)
-header_stands h is = record { shown = header_shown h is; passed = λ more. header_again h is more ∙ ap (λ n. Ok (record { number = n; lines = more })) (sym (length-header h)) }
+header_stands h is = record { shown = header_shown (codes "     4.01") h version_shown is; passed = λ more. header_again h is more ∙ ap (λ n. Ok (record { number = n; lines = more })) (sym (length-header (codes "     4.01") h)) }
 
 pub file_again : (h : HeaderWords) (is : List NavItem) → IsHeader h → AreItems is → file_reads rinex4 (rinex_text h is) ≡ Ok (numbered 4 is)
 file_again h is header items =
-    written_again rinex4 (header_lines h) item_lines is (header_stands h header) (all_stand is items) ∙ ap (λ n. Ok (numbered n is)) (length-header h)
+    written_again rinex4 (header_lines h) item_lines is (header_stands h header) (all_stand is items) ∙ ap (λ n. Ok (numbered n is)) (length-header (codes "     4.01") h)
 
 pub list_again : (h : HeaderWords) (is : List NavItem) → IsHeader h → AreItems is → rinex_list (rinex_text h is) ≡ is
 list_again h is header items = ap items_read (file_again h is header items) ∙ items_are item_lines 4 is
@@ -123,10 +127,10 @@ pub joined_reads : (h k : HeaderWords) (is js : List NavItem) → IsHeader h →
     → file_reads rinex4 (rinex_text h is ++ rinex_text k js) ≡ Ok (numbered 4 is ++ numbered (8 + length (flat_map item_lines is)) js)
 joined_reads h k is js first second items more =
     let n = length (header_lines h) + length (flat_map item_lines is) in
-    let lines = ap lines_of (sym (append-nil (rinex_text k js))) ∙ file_lines rinex4 (header_lines k) item_lines js [] (header_shown k second) (all_stand js more) in
-    let count : n + length (header_lines k) ≡ 8 + length (flat_map item_lines is) = omega (arith, length-header h, length-header k) in
+    let lines = ap lines_of (sym (append-nil (rinex_text k js))) ∙ file_lines rinex4 (header_lines k) item_lines js [] (header_shown (codes "     4.01") k version_shown second) (all_stand js more) in
+    let count : n + length (header_lines k) ≡ 8 + length (flat_map item_lines is) = omega (arith, length-header (codes "     4.01") h, length-header (codes "     4.01") k) in
     file_and rinex4 (header_lines h) item_lines is (rinex_text k js) (header_stands h first) (all_stand is items)
-    ∙ ap (λ m. Ok (numbered m is ++ reads rinex4 n (lines_of (rinex_text k js)))) (length-header h)
+    ∙ ap (λ m. Ok (numbered m is ++ reads rinex4 n (lines_of (rinex_text k js)))) (length-header (codes "     4.01") h)
     ∙ ap (λ ls. Ok (numbered 4 is ++ reads rinex4 n ls)) lines
     ∙ ap (λ rs. Ok (numbered 4 is ++ rs)) (passed rinex4 n (header_lines k) (flat_map item_lines js ++ []) (header_begins k)
     ∙ ap (λ m. reads rinex4 m (flat_map item_lines js ++ [])) count

@@ -3,7 +3,7 @@ use Rattle.std.proofs.Common.{◌≡◌, ℕ, ◌+◌, ◌^◌, ◌<◌, Bool, t
 use Rattle.std.specs.Prelude.{Option}
 use Rattle.nav_io.specs.Lines.{Line}
 use Rattle.nav_io.specs.LinesState.{LinesState, Reads, GivesEnd}
-use Rattle.nav_io.specs.ReadsLaws.{reads_none}
+use Rattle.nav_io.proofs.Surface.{reads_none}
 use Rattle.nav_io.specs.LineAnswers.{Breaks}
 use Rattle.nav_io.specs.declared.lines.LineFault.{LineFault}
 use Rattle.nav_io.specs.declared.lines.LineFault.TheVariants.{ReadFault, TooLong}

@@ -8,6 +8,7 @@ pub mod FormLemmas
 pub mod HeaderLemmas
 pub mod ItemLemmas
 pub mod LineLemmas
+pub mod ListedLemmas
 pub mod RangeLemmas
 pub mod RecordLemmas
 pub mod RecordSteps
@@ -18,3 +19,4 @@ pub mod TakeLemmas
 pub mod TakenLemmas
 pub mod WholeLemmas
 pub mod WrittenLemmas
+pub mod Surface

@@ -7,7 +7,7 @@ use Rattle.rinex_write.specs.declared.columns.Rule.TheVariants.{Plain, Ura, Sisa
 use Rattle.rinex_write.specs.declared.columns.Column.{Column}
 use Rattle.rinex_write.specs.Columns.{IsField, AreFields, joined_rows}
 use Rattle.rinex_write.specs.Layouts.{signed, unsigned, up_to, flags, gps_rows, galileo_rows, gps_ionosphere_rows, galileo_ionosphere_rows}
-use Rattle.rinex_write.proofs.Rows.{no_column}
+use Rattle.rinex_write.proofs.Surface.{no_column}
 use Rattle.rinex_read.specs.Judging.{field}
 use Rattle.rinex_read.specs.Mirrors.{IsUnsignedAt, IsSignedAt, IsBelowAt, IsWeekAt, IsSisaAt, IsSentAt, AreGpsFields, AreGalileoFields, AreGpsIonosphereFields, AreGalileoIonosphereFields}
 

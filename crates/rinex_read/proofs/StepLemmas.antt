@@ -3,7 +3,7 @@ use Rattle.std.specs.Prelude.{◌≡◌, ◌++◌, ℕ, true, List, [], Option, 
 use Rattle.std.proofs.Common.{sym, ap, ◌∙◌, append_assoc}
 use Rattle.nav_io.specs.Lines.{Line}
 use Rattle.nav_io.specs.LinesState.{LinesState, Reads}
-use Rattle.nav_io.specs.ReadsLaws.{reads_none, reads_more}
+use Rattle.nav_io.proofs.Surface.{reads_none, reads_more}
 use Rattle.rinex_read.specs.declared.judged.ItemRead.{ItemRead}
 use Rattle.rinex_read.specs.Forms.{Form}
 use Rattle.rinex_read.specs.States.{RecordsState, records_to_come, file_to_come, Steps, HeaderSteps}

@@ -9,7 +9,7 @@ use Rattle.gnss_week.specs.Dates.{GivesMoment}
 use Rattle.gnss_week.specs.declared.calendar.Civil.{Civil}
 use Rattle.gnss_week.specs.declared.calendar.WeekFault.{WeekFault}
 use Rattle.gnss_week.specs.declared.calendar.WeekFault.TheVariants as weeks
-use Rattle.gnss_week.proofs.DateFunctions.{moment_to-answer}
+use Rattle.gnss_week.proofs.Surface.{moment_to-answer}
 use Rattle.nav_eph.specs.Satellite.{Satellite, IsSat, most}
 use Rattle.nav_eph.specs.declared.sat.System.{System}
 use Rattle.nav_eph.specs.declared.sat.System.TheVariants.{Gps, Gal}

@@ -1,7 +1,10 @@
 -- Forms of navigation files: what tells the files of one version from those of another.
 use Rattle.std.specs.Prelude.{◌≡◌, ℕ, ◌==◌, ◌&&◌, Bool, false, List, [], ◌∷◌, map, take, get_or}
 use Rattle.scaled_decimal.specs.NumberReading.{trim_start, trim_end, is_decimal}
+use Rattle.nav_eph.specs.declared.items.NavItem.{NavItem}
+use Rattle.nav_eph.specs.Ranges.{IsItem}
 use Rattle.rinex_read.specs.declared.judged.Judged.{Judged}
+use Rattle.rinex_read.specs.declared.judged.Judged.TheVariants as judgments
 use Rattle.rinex_read.specs.Lines.{columns}
 use Rattle.rinex_read.specs.Kept.{padded}
 use Rattle.rinex_read.specs.Judging.{judged}
@@ -18,6 +21,10 @@ pub record Form : Type 0 where
 -- lines of a record behind the ninth, and characters of a line behind the 80th, are not looked at
 abbrev pub LooksAtKept : Form → Type 0
 LooksAtKept f = (lines : List (List ℕ)) → f.judged (map padded (take 9 lines)) ≡ f.judged lines
+
+-- each item for which lines stand has fields within their digits, and its parts fit together
+abbrev pub GivesItems : Form → Type 0
+GivesItems f = (lines : List (List ℕ)) (item : NavItem) → f.judged lines ≡ judgments.Item item → IsItem item
 
 -- the version, in columns 1-9 without blanks at the ends, is one of the form
 unfoldable pub is_version : Form → List ℕ → Bool

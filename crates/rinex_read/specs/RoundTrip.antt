@@ -1,31 +1,18 @@
 -- What the laws of written and read files take and say.
-use Rattle.std.specs.Prelude.{◌≡◌, ℕ, ◌+◌, ◌<◌, true, false, List, [], ◌∷◌, ◌++◌, length, Ok}
-use Rattle.scaled_decimal.specs.NumberText.{AreShown}
+use Rattle.std.specs.Prelude.{◌≡◌, ℕ, ◌+◌, true, false, List, [], ◌∷◌, ◌++◌, length, Ok}
 use Rattle.nav_eph.specs.declared.items.NavItem.{NavItem}
 use Rattle.nav_eph.specs.Ranges.{IsItem}
-use Rattle.rinex_write.specs.declared.header.HeaderWords.{HeaderWords}
-use Rattle.rinex_write.specs.Texts.{item_lines}
+use Rattle.rinex_write.specs.Texts.{AreLines, item_lines}
 use Rattle.rinex_read.specs.declared.judged.Judged.TheVariants as judgments
 use Rattle.rinex_read.specs.declared.judged.ItemRead.{ItemRead}
-use Rattle.rinex_read.specs.declared.judged.ItemRead.TheVariants.{Item}
+use Rattle.rinex_read.specs.declared.judged.ItemRead.TheVariants.{Item, Refused, PassedOver, End}
 use Rattle.rinex_read.specs.Forms.{Form, begins}
 use Rattle.rinex_read.specs.Files.{header_of}
-
--- the date of a header has 19 characters that are shown, and the leap seconds at most two digits
-pub record IsHeader (h : HeaderWords) : Type 0 where
-  pub date : length h.date ≡ 19
-  pub shown : AreShown h.date
-  pub leap : h.leap < 100
 
 -- each field of each item is within its digits, and its parts fit together
 abbrev pub AreItems : List NavItem → Type 0
 AreItems [] = Unit {0}
 AreItems (i ∷ is) = IsItem i × AreItems is
-
--- lines in which each character is shown
-abbrev pub AreLines : List (List ℕ) → Type 0
-AreLines [] = Unit {0}
-AreLines (l ∷ ls) = AreShown l × AreLines ls
 
 -- lines of which none begins a record of the form
 abbrev pub NoneBegins : Form → List (List ℕ) → Type 0
@@ -64,3 +51,10 @@ numbered_by write n (i ∷ is) = Item (n + 1) i ∷ numbered_by write (n + lengt
 -- the same of the records of version 4
 abbrev pub numbered : ℕ → List NavItem → List ItemRead
 numbered = numbered_by item_lines
+
+-- what was read is no item, or one whose fields are within their digits and whose parts fit together
+abbrev pub IsWholeRead : ItemRead → Type 0
+IsWholeRead (Item line item) = IsItem item
+IsWholeRead (Refused line reason) = Unit {0}
+IsWholeRead (PassedOver line) = Unit {0}
+IsWholeRead End = Unit {0}

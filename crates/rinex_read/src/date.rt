@@ -1,7 +1,6 @@
 //! The dates of records.
 
 ghost use Rattle.std.specs.Prelude.{◌≡◌, ◌+◌, ◌^◌, ◌<◌, ◌≤◌, length, IfOk};
-ghost use Rattle.scaled_decimal.specs.NumberReading.{trim_start, trim_end, is_decimal, span};
 ghost use Rattle.gnss_week.specs.Functions.{moment_to};
 ghost use Rattle.rinex_read.specs.Lines.{columns};
 ghost use Rattle.rinex_read.specs.Judging.{date_of, moment_at, moment_said, whole_number};
@@ -9,83 +8,7 @@ ghost use Rattle.rinex_read.specs.Judging.{date_of, moment_at, moment_said, whol
 use crate::line::{Line, columns};
 use crate::reason::Reason;
 use gnss_week::{Civil, Moment, WeekFault, moment_of};
-
-// Digits that were read: their number, how many they are, and how many characters follow.
-#[derive(Clone, Copy)]
-struct Digits<'a> {
-    number: u16,
-    count: usize,
-    rest: &'a [u8],
-}
-
-// The text without the blanks before it.
-fn trim_start(text: &[u8]) -> &[u8]
-    ensures value { result.now ≡ trim_start text.now }
-    ensures shorter { length result.now ≤ length text.now }
-{
-    for start in 0..text.len() {
-        if text[start] != b' ' {
-            return &text[start..];
-        }
-    }
-    &text[text.len()..]
-}
-
-// The text without the blanks after it.
-fn trim_end(text: &[u8]) -> &[u8]
-    ensures value { result.now ≡ trim_end text.now }
-    ensures shorter { length result.now ≤ length text.now }
-{
-    let mut end = text.len();
-    while end > 0 {
-        if text[end - 1] != b' ' {
-            return &text[..end];
-        }
-        end -= 1;
-    }
-    &text[..0]
-}
-
-/// The text without the blanks at its ends.
-pub(crate) fn trimmed(text: &[u8]) -> &[u8]
-    ensures value { result.now ≡ trim_end (trim_start text.now) }
-    ensures shorter { length result.now ≤ length text.now }
-{
-    trim_end(trim_start(text))
-}
-
-/// The character is a decimal digit.
-pub(crate) fn is_decimal(c: u8) -> bool
-    ensures { result ≡ is_decimal c }
-{
-    c.is_ascii_digit()
-}
-
-// Digits at the front of a text.
-fn read_digits(text: &[u8]) -> Digits<'_>
-    requires { length text.now ≤ 4 }
-    ensures read { record { number = result.number; count = result.count; rest = result.rest.now } ≡ span 0 0 text.now }
-    ensures number { result.number < 10 ^ result.count }
-    ensures count { result.count ≤ length text.now }
-{
-    let mut number = 0;
-    for place in 0..text.len() {
-        let c = text[place];
-        if !is_decimal(c) {
-            return Digits {
-                number,
-                count: place,
-                rest: &text[place..],
-            };
-        }
-        number = number * 10 + u16::from(c - b'0');
-    }
-    Digits {
-        number,
-        count: text.len(),
-        rest: &text[text.len()..],
-    }
-}
+use scaled_decimal::{leading_digits, trimmed};
 
 // The number that decimal digits are, with blanks at their ends or none.
 #[tactic(auto, unfolding(crate::specs::Judging::whole_number))]
@@ -94,9 +17,9 @@ fn whole_number(text: &[u8]) -> Result<u16, Reason>
     ensures value { result ≡ whole_number text.now }
     ensures few { IfOk result (λ n. n < 10 ^ length text.now) }
 {
-    let digits = read_digits(trimmed(text));
+    let digits = leading_digits(trimmed(text));
     if digits.rest.is_empty() && digits.count >= 1 {
-        Ok(digits.number)
+        Ok(digits.number as u16)
     } else {
         Err(Reason::NotANumber)
     }

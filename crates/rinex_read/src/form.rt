@@ -1,11 +1,11 @@
 //! Forms of navigation files: what tells the files of one version from those of another.
 
 ghost use Rattle.std.specs.Prelude.{◌≡◌};
-ghost use Rattle.rinex_read.specs.Forms.{Form, LooksAtKept, is_four, rinex4};
+ghost use Rattle.rinex_read.specs.Forms.{is_four};
 
-use crate::date::is_decimal;
 use crate::judged::Judged;
 use crate::record::RecordLines;
+use scaled_decimal::is_decimal;
 
 /// A form of navigation files, read by a [`RecordReader`](crate::RecordReader).
 ///
@@ -13,7 +13,7 @@ use crate::record::RecordLines;
 /// the lines of a record stand for.
 pub trait FileForm {
     ghost use Rattle.std.specs.Prelude.{◌≡◌};
-    ghost use Rattle.rinex_read.specs.Forms.{Form, LooksAtKept};
+    ghost use Rattle.rinex_read.specs.Forms.{Form, GivesItems, LooksAtKept};
 
     ghost form: { Form };
 
@@ -32,6 +32,11 @@ pub trait FileForm {
     /// Of the lines of a record only what [`RecordLines`] keeps is looked at. It does nothing: its contract is the law.
     fn looks_at_kept()
         ensures { LooksAtKept form };
+
+    /// Each item for which lines stand has fields within their digits, and its parts fit together. It does nothing: its
+    /// contract is the law.
+    fn gives_items()
+        ensures { GivesItems form };
 }
 
 // `4.` and one digit or two.
@@ -67,4 +72,6 @@ impl FileForm for Rinex4 {
     }
 
     fn looks_at_kept() {}
+
+    fn gives_items() {}
 }

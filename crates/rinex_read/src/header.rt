@@ -6,10 +6,10 @@ ghost use Rattle.rinex_read.specs.Files.{ends_header, is_navigation};
 ghost use Rattle.rinex_read.specs.Forms.{is_version};
 ghost use Rattle.rinex_read.specs.Mirrors.{header_after};
 
-use crate::date::trimmed;
 use crate::form::FileForm;
 use crate::judged::HeaderState;
 use crate::line::{Line, columns, padded, stands_at};
+use scaled_decimal::trimmed;
 
 // The line is the first one of a navigation file.
 #[tactic(auto, unfolding(crate::specs::Files::is_navigation))]

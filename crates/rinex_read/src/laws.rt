@@ -6,7 +6,7 @@ ghost use Rattle.nav_io.specs.declared.lines.LineFault.TheVariants.{ReadFault, T
 ghost use Rattle.rinex_read.specs.declared.judged.ItemRead.{ItemRead};
 ghost use Rattle.rinex_read.specs.declared.judged.ItemRead.TheVariants.{End};
 ghost use Rattle.rinex_read.specs.Kept.{padded};
-ghost use Rattle.rinex_read.specs.States.{BreaksHeader, BreaksRecord, GivesRead, HeaderSteps, IsNew, PassesHeader, RecordsState, Steps, file_to_come, is_waiting};
+ghost use Rattle.rinex_read.specs.States.{BreaksHeader, BreaksRecord, GivesRead, HeaderSteps, IsNew, PassesHeader, RecordsState, Steps, file_to_come, is_waiting, records_to_come};
 ghost use Rattle.rinex_read.specs.Forms.{rinex4};
 ghost use Rattle.rinex_read.specs.declared.judged.HeaderFault.{HeaderFault};
 ghost use Rattle.rinex_read.specs.declared.judged.HeaderFault.TheVariants as faults;
@@ -14,11 +14,11 @@ ghost use Rattle.std.specs.List.{flat_map};
 ghost use Rattle.nav_eph.specs.declared.items.NavItem.{NavItem};
 ghost use Rattle.nav_eph.specs.Ranges.{IsItem};
 ghost use Rattle.rinex_write.specs.declared.header.HeaderWords.{HeaderWords};
-ghost use Rattle.rinex_write.specs.Texts.{header_lines, item_lines, rinex_text, text_of};
+ghost use Rattle.rinex_write.specs.Texts.{IsHeader, header_lines, item_lines, rinex_text, text_of};
 ghost use Rattle.rinex_read.specs.declared.judged.Judged.TheVariants as judgments;
 ghost use Rattle.rinex_read.specs.Judging.{judged};
-ghost use Rattle.rinex_read.specs.Files.{file_reads, items_of, rinex_list};
-ghost use Rattle.rinex_read.specs.RoundTrip.{AllStand, AreHeaderLines, AreItems, IsHeader, StandFor, numbered, numbered_by};
+ghost use Rattle.rinex_read.specs.Files.{file_reads, items_of, list_by, reads, rinex_list};
+ghost use Rattle.rinex_read.specs.RoundTrip.{AllStand, AreHeaderLines, AreItems, StandFor, numbered, numbered_by};
 
 use crate::form::FileForm;
 
@@ -53,6 +53,16 @@ pub fn items_are_whole()
     ensures { (lines : List (List ℕ)) (item : NavItem) → judged lines ≡ judgments.Item item
         → IsItem item }
 {}
+
+/// Each item of a file has fields within their digits, and its parts fit together.
+pub fn listed_items_are_whole<F: FileForm>()
+    ensures list { (bytes : List ℕ) → AreItems (list_by F.form bytes) }
+    ensures records { (number : ℕ) (lines : List (List ℕ)) → AreItems (items_of (reads F.form number lines)) }
+    ensures to_come { (state : RecordsState) (following : List ℕ)
+        → AreItems (items_of (records_to_come F.form state following)) }
+{
+    F::gives_items();
+}
 
 /// Of the lines of a record, those behind the ninth and the characters behind the 80th are not looked at; a shorter line
 /// is as if blanks followed it.

@@ -3,6 +3,8 @@
 //!
 //! [`Records`] reads the header of a [`Source`](nav_io::Source) and then its records one by one, in buffers of fixed size:
 //! an item, a record that is refused, with the first [`Reason`], or one of another kind, each with the number of its `>` line.
+//! It is the reader of files of version 4, a [`RecordReader`] over the form [`Rinex4`]: which versions a header may name,
+//! what begins a record and how it is judged is a [`FileForm`], and all that is promised here is promised of each form.
 //! [`RecordLines`] judges the lines of a single record. What is read is exact: each number gives the nearest raw integer,
 //! halves to even, as it was sent, and the record that `rinex_write` writes of an item is read as that item
 //! ([`records_are_read`], [`files_are_read`], [`joined_files_are_read`]).
@@ -43,10 +45,11 @@ pub use crate::form::{FileForm, Rinex4};
 pub use crate::judged::{HeaderFault, HeaderState, ItemRead, Judged};
 pub use crate::laws::{
     columns_behind_the_last_are_not_looked_at, files_are_read, header_lines_are_read,
-    items_are_whole, joined_files_are_read, readers_begin_with_the_file, record_lines_stand,
-    records_are_read, steps_follow_one_another, the_end_stays, too_many_bytes_stay_too_many,
-    written_files_are_read,
+    items_are_whole, joined_files_are_read, listed_items_are_whole, readers_begin_with_the_file,
+    record_lines_stand, records_are_read, steps_follow_one_another, the_end_stays,
+    too_many_bytes_stay_too_many, written_files_are_read,
 };
+pub use crate::line::columns;
 pub use crate::reader::{RecordReader, Records};
 pub use crate::reason::Reason;
 pub use crate::record::RecordLines;

@@ -20,8 +20,8 @@ pub(crate) fn padded(line: &[u8]) -> Line
     columns
 }
 
-/// The characters in so many columns from a place on, places being counted from 0.
-pub(crate) fn columns(line: &Line, place: usize, count: usize) -> &[u8]
+/// The characters in so many columns of a line from a place on, places being counted from 0.
+pub fn columns(line: &[u8; 80], place: usize, count: usize) -> &[u8]
     requires { place + count ≤ 80 }
     ensures text { result.now ≡ columns place count line.now }
     ensures len { length result.now ≡ count }

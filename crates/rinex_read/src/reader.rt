@@ -5,6 +5,7 @@ ghost use Rattle.nav_io.specs.Causes.{Rose};
 ghost use Rattle.rinex_read.specs.declared.judged.HeaderState.TheVariants.{Passed};
 ghost use Rattle.rinex_read.specs.Files.{read_at};
 ghost use Rattle.rinex_read.specs.Mirrors.{EndsWith, HeaderRefused, IsRecord, TakesLine, state_of};
+ghost use Rattle.rinex_read.specs.RoundTrip.{IsWholeRead};
 ghost use Rattle.rinex_read.specs.States.{BreaksRecord, GivesRead, HeaderSteps, RefusedBy, is_waiting};
 ghost use Rattle.rinex_read.specs.declared.judged.HeaderState.{HeaderState};
 
@@ -101,10 +102,12 @@ fn take_line<F: FileForm>(
     number: u32,
 ) -> Option<ItemRead>
     ensures none { IfNone result (TakesLine F.form kept.old first.old kept.new first.new line.now number []) }
+    ensures whole { IfSome result (λ read. IsWholeRead read) }
     ensures some { IfSome result (λ read. IsRecord read
         × TakesLine F.form kept.old first.old kept.new first.new line.now number (read ∷ [])) }
 {
     F::looks_at_kept();
+    F::gives_items();
     if !begins::<F>(line) {
         if !kept.is_empty() {
             kept.push(line);
@@ -127,7 +130,9 @@ fn take_line<F: FileForm>(
 fn take_end<F: FileForm>(kept: &mut RecordLines, first: u32) -> ItemRead
     ensures kept { kept.new ≡ [] }
     ensures read { EndsWith F.form kept.old first result }
+    ensures whole { IsWholeRead result }
 {
+    F::gives_items();
     if kept.is_empty() {
         return ItemRead::End;
     }
@@ -184,6 +189,7 @@ fn next_record<F: FileForm, S: Source>(
     requires numbered { lines.old.number ≤ lines.old.taken }
     ensures read { IfOk result (λ read. (header : HeaderState) → GivesRead F.form read (S.left source.old) (S.left source.new)
         (state_of header kept.old first.old lines.old) (state_of header kept.new first.new lines.new)) }
+    ensures whole { IfOk result (λ read. IsWholeRead read) }
     ensures fault { IfErr result (λ fault. (header : HeaderState) → BreaksRecord F.form (S.left source.old) (S.left source.new)
         (state_of header kept.old first.old lines.old) (state_of header kept.new first.new lines.new) fault) }
     ensures failed { IsErrOf result LineFault.ReadFault
@@ -215,6 +221,7 @@ impl<F: FileForm> RecordReader<F> {
     ghost use Rattle.nav_io.specs.Causes.{Rose};
     ghost use Rattle.rinex_read.specs.declared.judged.HeaderState.TheVariants.{Passed, NotRinexNav, OtherVersion};
     ghost use Rattle.rinex_read.specs.States.{IsNew, GivesRead, BreaksRecord, PassesHeader, BreaksHeader};
+    ghost use Rattle.rinex_read.specs.RoundTrip.{IsWholeRead};
 
     /// A reader of which nothing was read.
     pub fn new() -> RecordReader<F>
@@ -232,11 +239,11 @@ impl<F: FileForm> RecordReader<F> {
     /// Reads the header of a file.
     ///
     /// Its first line has `RINEX VERSION / TYPE` in columns 61-80 and `N` in column 21, and in columns 1-9 a version of the
-    /// form, for [`Records`] `4.` and one digit or two; the lines up to the next with `END OF HEADER` in columns 61-73 are passed (RINEX 4.01, header
-    /// section). `NotRinexNav`: the first line is another one, or no line ends the header; each further call answers the
-    /// same. `Version`: another version; each further call answers the same. `Line`: as for `next_item`; after a failed read
-    /// a further call goes on with the same header, and `TooLong` stays. The other answers come only where at most
-    /// 4,294,967,295 bytes were taken.
+    /// form, for [`Records`] `4.` and one digit or two; the lines up to the next with `END OF HEADER` in columns 61-73 are
+    /// passed (RINEX 4.01, header section). `NotRinexNav`: the first line is another one, or no line ends the header; each
+    /// further call answers the same. `Version`: another version; each further call answers the same. `Line`: as for
+    /// `next_item`; after a failed read a further call goes on with the same header, and `TooLong` stays. The other answers
+    /// come only where at most 4,294,967,295 bytes were taken.
     pub fn read_header<S: Source>(&mut self, source: &mut S) -> Result<(), HeaderFault>
         // What is to come behind the header are the records of the file, whatever bytes follow.
         ensures header { OnOk result (PassesHeader F.form (S.left source.old) (S.left source.new) self.old self.new) }
@@ -270,15 +277,19 @@ impl<F: FileForm> RecordReader<F> {
 
     /// The next record of a file whose header was read.
     ///
-    /// A record is a line that begins one, for [`Records`] with `>`, and the lines up to the next such line or the end. Its line is the number
-    /// of its first line in the file, counted from 1. `ReadFault`: a read failed, and the source's count of faults says
-    /// so; a further call goes on with the same record. `TooLong`: 4,294,967,295 bytes were taken and one more was there.
+    /// A record is a line that begins one, for [`Records`] with `>`, and the lines up to the next such line or the end. Its
+    /// line is the number of its first line in the file, counted from 1. `ReadFault`: a read failed, and the source's count
+    /// of faults says so; a further call goes on with the same record. `TooLong`: 4,294,967,295 bytes were taken and one
+    /// more was there.
     pub fn next_item<S: Source>(&mut self, source: &mut S) -> Result<ItemRead, LineFault>
         requires header { self.old.header ≡ Passed }
 
         // The record is that of the file, whatever bytes follow.
         ensures read { IfOk result (λ read.
             GivesRead F.form read (S.left source.old) (S.left source.new) self.old self.new) }
+
+        // An item that is read has fields within their digits, and its parts fit together.
+        ensures whole { IfOk result (λ read. IsWholeRead read) }
 
         ensures header { self.new.header ≡ Passed }
 

@@ -5,10 +5,10 @@ ghost use Rattle.rinex_read.specs.Lines.{stands_at};
 ghost use Rattle.rinex_read.specs.Judging.{is_kind, named, same_sat, sat_of, satellite_of};
 ghost use Rattle.rinex_read.specs.Mirrors.{kind_by};
 
-use crate::date::is_decimal;
 use crate::line::{Line, columns, stands_at};
 use crate::reason::Reason;
 use nav_eph::{Sat, System};
+use scaled_decimal::is_decimal;
 
 /// The kinds of records that are read.
 #[derive(Clone, Copy)]

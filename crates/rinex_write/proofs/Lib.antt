@@ -2,3 +2,5 @@ mod Worked
 pub mod Rows
 pub mod ItemFields
 pub mod RowsLeft
+pub mod WrittenLemmas
+pub mod Surface

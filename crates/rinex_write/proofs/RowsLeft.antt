@@ -103,7 +103,7 @@ record_joined title four date with_title with_four with_date new rows zs h e f g
     cc
 
 -- the pieces of a header are its lines
-pub header_joined : (first program date label before leap after end : List ℕ)
-    → (((((([] ++ (first ++ 10 ∷ [])) ++ program) ++ date) ++ (label ++ 10 ∷ before)) ++ leap) ++ (after ++ 10 ∷ [])) ++ (end ++ 10 ∷ [])
-    ≡ text_of (first ∷ (program ++ (date ++ label)) ∷ (before ++ (leap ++ after)) ∷ end ∷ [])
-header_joined first program date label before leap after end = simp append_assoc
+pub header_joined : (version first program date label before leap after end : List ℕ)
+    → ((((((([] ++ version) ++ (first ++ 10 ∷ [])) ++ program) ++ date) ++ (label ++ 10 ∷ before)) ++ leap) ++ (after ++ 10 ∷ [])) ++ (end ++ 10 ∷ [])
+    ≡ text_of ((version ++ first) ∷ (program ++ (date ++ label)) ∷ (before ++ (leap ++ after)) ∷ end ∷ [])
+header_joined version first program date label before leap after end = simp append_assoc

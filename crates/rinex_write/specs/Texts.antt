@@ -1,7 +1,7 @@
 -- The text of a navigation file: the lines of its header and of its records, each with an LF behind it (RINEX 4.01).
-use Rattle.std.specs.Prelude.{ℕ, ◌+◌, ◌/◌, ◌%◌, nat_lt, if◌then◌else◌, List, [], ◌∷◌, ◌++◌, codes, ℤ}
+use Rattle.std.specs.Prelude.{◌≡◌, ℕ, ◌+◌, ◌/◌, ◌%◌, ◌<◌, ◌==◌, nat_lt, Bool, false, if◌then◌else◌, List, [], ◌∷◌, ◌++◌, length, get_or, codes, ℤ}
 use Rattle.std.specs.List.{flat_map}
-use Rattle.scaled_decimal.specs.NumberText.{digits}
+use Rattle.scaled_decimal.specs.NumberText.{digits, AreShown}
 use Rattle.gnss_week.specs.declared.calendar.Civil.{Civil}
 use Rattle.gnss_week.specs.Functions.{civil_to}
 use Rattle.nav_eph.specs.Satellite.{Satellite}
@@ -49,24 +49,71 @@ abbrev pub ionosphere_lines : Satellite → ℕ → IonContent → List (List �
 ionosphere_lines sat moment (OfGps i) = record_lines gps_ionosphere_kind sat (codes "    ") moment (gps_ionosphere_fields i)
 ionosphere_lines sat moment (OfGal i) = record_lines galileo_ionosphere_kind sat (codes "    ") moment (galileo_ionosphere_fields i)
 
+-- its title and the lines behind that
+abbrev pub ionosphere_title : Satellite → IonContent → List ℕ
+ionosphere_title sat (OfGps i) = title_line gps_ionosphere_kind sat
+ionosphere_title sat (OfGal i) = title_line galileo_ionosphere_kind sat
+
+abbrev pub ionosphere_body : ℕ → IonContent → List (List ℕ)
+ionosphere_body moment (OfGps i) = row_lines (codes "    " ++ date_text (civil_to moment)) gps_ionosphere_kind.rows (gps_ionosphere_fields i)
+ionosphere_body moment (OfGal i) =
+    row_lines (codes "    " ++ date_text (civil_to moment)) galileo_ionosphere_kind.rows (galileo_ionosphere_fields i)
+
 -- the record of an item; the date of an ephemeris is that of its clock, behind its satellite
 unfoldable pub item_lines : NavItem → List (List ℕ)
 item_lines (GpsItem e) = record_lines gps_kind e.sat (satellite_text e.sat ++ 32 ∷ []) (gps_epoch e) (gps_fields e)
 item_lines (GalItem e) = record_lines galileo_kind e.sat (satellite_text e.sat ++ 32 ∷ []) (galileo_epoch e) (galileo_fields e)
 item_lines (IonItem e) = ionosphere_lines e.sat e.moment e.content
 
+-- the title of the record of an item
+unfoldable pub title_of : NavItem → List ℕ
+title_of (GpsItem e) = title_line gps_kind e.sat
+title_of (GalItem e) = title_line galileo_kind e.sat
+title_of (IonItem e) = ionosphere_title e.sat e.content
+
+-- the lines of the record of an item behind its title
+unfoldable pub body_lines : NavItem → List (List ℕ)
+body_lines (GpsItem e) = row_lines ((satellite_text e.sat ++ 32 ∷ []) ++ date_text (civil_to (gps_epoch e))) gps_kind.rows (gps_fields e)
+body_lines (GalItem e) =
+    row_lines ((satellite_text e.sat ++ 32 ∷ []) ++ date_text (civil_to (galileo_epoch e))) galileo_kind.rows (galileo_fields e)
+body_lines (IonItem e) = ionosphere_body e.moment e.content
+
 -- the leap seconds in two columns, the first blank below 10
 abbrev pub leap_text : ℕ → List ℕ
 leap_text n = (if nat_lt n 10 then 32 else (48 + n / 10)) ∷ (48 + n % 10) ∷ []
 
--- the header: version and kinds of the file; program and date; leap seconds; the end
-unfoldable pub header_lines : HeaderWords → List (List ℕ)
-header_lines h =
-    codes "     4.01           N: GNSS NAV DATA    M: MIXED            RINEX VERSION / TYPE"
+-- the header, with the version in columns 1-9: version and kinds of the file; program and date; leap seconds; the end
+unfoldable pub header_lines_by : List ℕ → HeaderWords → List (List ℕ)
+header_lines_by version h =
+    (version ++ codes "           N: GNSS NAV DATA    M: MIXED            RINEX VERSION / TYPE")
     ∷ (codes "navbridge                               " ++ (h.date ++ codes " PGM / RUN BY / DATE"))
     ∷ (codes "    " ++ (leap_text h.leap ++ codes "                                                      LEAP SECONDS"))
     ∷ codes "                                                            END OF HEADER"
     ∷ []
+
+-- the header of version 4.01
+abbrev pub header_lines : HeaderWords → List (List ℕ)
+header_lines h = header_lines_by (codes "     4.01") h
+
+-- the date of a header has 19 characters that are shown, and the leap seconds at most two digits
+pub record IsHeader (h : HeaderWords) : Type 0 where
+  pub date : length h.date ≡ 19
+  pub shown : AreShown h.date
+  pub leap : h.leap < 100
+
+-- lines in which each character is shown
+abbrev pub AreLines : List (List ℕ) → Type 0
+AreLines [] = Unit {0}
+AreLines (l ∷ ls) = AreShown l × AreLines ls
+
+-- the line begins with `>`
+abbrev pub begins_record : List ℕ → Bool
+begins_record line = get_or line 0 32 == 62
+
+-- lines of which none begins with `>`
+abbrev pub NoneTitled : List (List ℕ) → Type 0
+NoneTitled [] = Unit {0}
+NoneTitled (l ∷ ls) = (begins_record l ≡ false) × NoneTitled ls
 
 -- the text of a file
 abbrev pub rinex_text : HeaderWords → List NavItem → List ℕ

@@ -4,7 +4,7 @@ ghost use Rattle.std.specs.Prelude.{◌≡◌, ◌<◌, ◌≤◌, MatchResult};
 ghost use Rattle.std.specs.Io.KnownBytes.{Appends};
 ghost use Rattle.nav_io.specs.Causes.{HasCause};
 ghost use Rattle.nav_io.specs.Front.{AppendsFront};
-ghost use Rattle.rinex_write.specs.Texts.{header_lines, leap_text, text_of};
+ghost use Rattle.rinex_write.specs.Texts.{header_lines, header_lines_by, leap_text, text_of};
 
 use crate::record::{Record, append};
 use nav_io::{Failed, Sink};
@@ -27,15 +27,16 @@ fn leap_columns(leap: u8) -> [u8; 2]
     [tens, b'0' + leap % 10]
 }
 
-// The text of a header.
-fn header_text(words: &HeaderWords) -> Record
+// The text of a header, with the version in columns 1-9.
+fn header_text(version: &[u8; 9], words: &HeaderWords) -> Record
     requires { words.now.leap < 100 }
-    ensures { result.items ≡ text_of (header_lines words.now) }
+    ensures { result.items ≡ text_of (header_lines_by version.now words.now) }
 {
     let mut text = Record::new();
+    append(&mut text, version);
     append(
         &mut text,
-        b"     4.01           N: GNSS NAV DATA    M: MIXED            RINEX VERSION / TYPE\n",
+        b"           N: GNSS NAV DATA    M: MIXED            RINEX VERSION / TYPE\n",
     );
     append(&mut text, b"navbridge                               ");
     append(&mut text, &words.date);
@@ -52,12 +53,33 @@ fn header_text(words: &HeaderWords) -> Record
     text
 }
 
-/// Appends the header of a navigation file to a sink, by one write (RINEX 4.01, table A2).
+/// Appends the header of a navigation file of a version to a sink, by one write (RINEX 4.01, table A2; RINEX 3.05, table
+/// A5). The version stands in columns 1-9, as `     4.01`.
 ///
 /// # Errors
 ///
 /// `Failed` only where the sink's count of faults rose in this call, or stands at its last value; a front of the header
 /// was appended then.
+pub fn write_header_of<T: Sink>(
+    version: &[u8; 9],
+    words: &HeaderWords,
+    out: &mut T,
+) -> Result<(), Failed>
+    requires { words.now.leap < 100 }
+    ensures bytes { MatchResult result
+        (λ _. Appends (T.written out.old) (T.written out.new) (text_of (header_lines_by version.now words.now)))
+        (λ _. AppendsFront (T.written out.old) (T.written out.new)
+        (text_of (header_lines_by version.now words.now))) }
+    ensures cause { HasCause (T.faults out.old) (T.faults out.new) result }
+{
+    out.write(&header_text(version, words))
+}
+
+/// Appends the header of a navigation file of version 4.01 to a sink, by one write (RINEX 4.01, table A2).
+///
+/// # Errors
+///
+/// As of [`write_header_of`].
 pub fn write_header<T: Sink>(words: &HeaderWords, out: &mut T) -> Result<(), Failed>
     requires { words.now.leap < 100 }
     ensures bytes { MatchResult result
@@ -65,5 +87,5 @@ pub fn write_header<T: Sink>(words: &HeaderWords, out: &mut T) -> Result<(), Fai
         (λ _. AppendsFront (T.written out.old) (T.written out.new) (text_of (header_lines words.now))) }
     ensures cause { HasCause (T.faults out.old) (T.faults out.new) result }
 {
-    out.write(&header_text(words))
+    write_header_of(b"     4.01", words, out)
 }

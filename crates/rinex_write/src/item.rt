@@ -1,6 +1,6 @@
 //! The records of items.
 
-ghost use Rattle.std.specs.Prelude.{◌≡◌, ◌≤◌, ◌∷◌, ◌++◌, [], List, ℕ, map, length, MatchResult, codes};
+ghost use Rattle.std.specs.Prelude.{◌≡◌, ◌≤◌, ◌∷◌, ◌++◌, [], List, ℕ, map, length, drop, MatchResult, codes};
 ghost use Rattle.std.specs.Io.KnownBytes.{Appends};
 ghost use Rattle.nav_io.specs.Causes.{HasCause};
 ghost use Rattle.nav_io.specs.Front.{AppendsFront};
@@ -10,7 +10,7 @@ ghost use Rattle.rinex_write.specs.Columns.{joined_rows};
 ghost use Rattle.rinex_write.specs.Fields.{gps_epoch, galileo_epoch, gps_fields, galileo_fields, gps_ionosphere_fields, galileo_ionosphere_fields};
 ghost use Rattle.rinex_write.specs.Layouts.{Kind, gps_kind, galileo_kind, gps_ionosphere_kind, galileo_ionosphere_kind};
 ghost use Rattle.rinex_write.specs.Mirrors.{AreReady, IsTable};
-ghost use Rattle.rinex_write.specs.Texts.{text_of, title_line, record_lines, satellite_text, item_lines, ionosphere_lines};
+ghost use Rattle.rinex_write.specs.Texts.{body_lines, ionosphere_lines, item_lines, record_lines, satellite_text, text_of, title_line};
 
 use crate::fields::{galileo_fields, galileo_ionosphere_fields, gps_fields, gps_ionosphere_fields};
 use crate::layouts::{
@@ -201,4 +201,32 @@ pub fn write_item<T: Sink>(item: &NavItem, out: &mut T) -> Result<(), Failed>
     ensures cause { HasCause (T.faults out.old) (T.faults out.new) result }
 {
     out.write(&item_record(item))
+}
+
+// How many bytes the first line of a record has, with its LF.
+const TITLE_LINE: usize = 15;
+
+// The record of an item, whose first line is so long.
+fn titled_record(item: &NavItem) -> Record
+    ensures title { 15 ≤ length result.items }
+    ensures body { drop 15 result.items ≡ text_of (body_lines item.now) }
+{
+    item_record(item)
+}
+
+/// Appends the record of an item without its first line to a sink, by one write: the record as RINEX 3 has it (RINEX
+/// 3.05, GPS and Galileo navigation message files). The lines are those of [`write_item`].
+///
+/// # Errors
+///
+/// `Failed` only where the sink's count of faults rose in this call, or stands at its last value; a front of these lines
+/// was appended then.
+pub fn write_body<T: Sink>(item: &NavItem, out: &mut T) -> Result<(), Failed>
+    ensures bytes { MatchResult result
+        (λ _. Appends (T.written out.old) (T.written out.new) (text_of (body_lines item.now)))
+        (λ _. AppendsFront (T.written out.old) (T.written out.new) (text_of (body_lines item.now))) }
+    ensures cause { HasCause (T.faults out.old) (T.faults out.new) result }
+{
+    let record = titled_record(item);
+    out.write(&record[TITLE_LINE..])
 }

@@ -33,9 +33,12 @@ mod test_items;
 mod tests;
 
 pub use crate::columns::{Column, Rule};
-pub use crate::header::{HeaderWords, write_header};
-pub use crate::item::write_item;
-pub use crate::laws::{columns_are_good, fields_fit_their_columns};
+pub use crate::header::{HeaderWords, write_header, write_header_of};
+pub use crate::item::{write_body, write_item};
+pub use crate::laws::{
+    columns_are_good, fields_fit_their_columns, headers_are_lines, records_are_a_title_and_a_body,
+    texts_follow_one_another,
+};
 pub use crate::layouts::{
     Layout, galileo_ionosphere_layout, galileo_layout, gps_ionosphere_layout, gps_layout,
 };

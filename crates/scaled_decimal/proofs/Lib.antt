@@ -12,3 +12,5 @@ pub mod PrintLemmas
 pub mod FillLemmas
 pub mod WalkLemmas
 pub mod ReadLemmas
+pub mod GrammarLemmas
+pub mod Surface

@@ -1,5 +1,5 @@
 -- Digits that were written are read back, and so is the body of a text.
-use Rattle.std.proofs.Common.{◌≡◌, ℕ, zero, suc, ◌+◌, ◌-◌, ◌*◌, ◌/◌, ◌%◌, ◌^◌, ◌<◌, ◌≤◌, Bool, true, false, ◌&&◌, nat_le, if◌then◌else◌, List, [], ◌∷◌, ◌++◌, Some, None, Option, option_map, sym, ap, ◌∙◌, arith, ℤ, pos, negsuc, ◌-ℤ◌, ◌≤ℤ◌, append_assoc, append-nil, pow-suc}
+use Rattle.std.proofs.Common.{◌≡◌, ℕ, zero, suc, ◌+◌, ◌-◌, ◌*◌, ◌/◌, ◌%◌, ◌^◌, ◌<◌, ◌≤◌, Bool, true, false, ◌&&◌, nat_le, if◌then◌else◌, List, [], ◌∷◌, ◌++◌, Some, None, Option, option_map, sym, ap, ◌∙◌, arith, ℤ, pos, negsuc, ◌-ℤ◌, ◌≤ℤ◌, append_assoc, append-nil, pow-suc, le-leb}
 use Rattle.std.proofs.lemmas.Int.{ints}
 use Rattle.scaled_decimal.specs.NumberText.{Parts, digits, body, exponent_text}
 use Rattle.scaled_decimal.specs.NumberReading.{Span, span, is_decimal, is_nothing, Mantissa, mantissa, with_places, after_whole, Reading, reading, exponent_after, exponent_digits, signed}
@@ -58,3 +58,13 @@ pub reading_body : (p : Parts) → IsPrintable p → reading (body p) ≡ Some (
 reading_body p h =
     ap read_from (mantissa_read p.digits (exponent_text p.exponent) h.digits)
     ∙ ap (option_map (λ e. record { digits = p.digits; exponent = e -ℤ pos 12 })) (exponent_read p.exponent h.from h.to)
+
+-- a mantissa of 1 to 18 digits and an exponent are a reading
+pub reading_is : (text : List ℕ) (m : Mantissa) (e x : ℤ) → m ≡ mantissa text → 1 ≤ m.count → m.count ≤ 18 → exponent_after m.rest ≡ Some e
+    → x ≡ e -ℤ pos m.places → reading text ≡ Some (record { digits = m.number; exponent = x })
+reading_is text m e x is from to after exponent =
+    ap read_from (sym is)
+    ∙ ap (λ b. if b && nat_le m.count 18 then option_map (λ i. record { digits = m.number; exponent = i -ℤ pos m.places }) (exponent_after m.rest) else None) (le-leb 1 m.count from)
+    ∙ ap (λ b. if b then option_map (λ i. record { digits = m.number; exponent = i -ℤ pos m.places }) (exponent_after m.rest) else None) (le-leb m.count 18 to)
+    ∙ ap (option_map (λ i. record { digits = m.number; exponent = i -ℤ pos m.places })) after
+    ∙ ap (λ i. Some (record { digits = m.number; exponent = i })) (sym exponent)

@@ -8,6 +8,7 @@ use Rattle.scaled_decimal.proofs.InReachLemmas.{IsPrintable, parts_printable, in
 use Rattle.scaled_decimal.proofs.NearestLemmas.{one_nearest, nearest_is}
 use Rattle.scaled_decimal.proofs.PowerLemmas.{ten_under_pos}
 use Rattle.scaled_decimal.proofs.SpanLemmas.{reading_body}
+use Rattle.scaled_decimal.proofs.GrammarLemmas.{read_is, is_read}
 
 -- what ends in no blank is kept behind anything
 pub kept_behind : (xs : List ℕ) (y : ℕ) (ys : List ℕ) → trim_end (y ∷ ys) ≡ y ∷ ys → trim_end (xs ++ y ∷ ys) ≡ xs ++ y ∷ ys
@@ -82,7 +83,7 @@ pub text_stands : (s : Fraction) (z : ℤ) → IsScale s → unsigned_abs z ≤ 
 unfolding number_text
 text_stands s z scale small = record {
   decimal = record { minus = minus_of z; value = parts_reading (parts_at s (unsigned_abs z)) };
-  read = decimal_read z (parts_at s (unsigned_abs z)) (parts_at_printable s (unsigned_abs z) scale small);
+  read = read_is _ _ (decimal_read z (parts_at s (unsigned_abs z)) (parts_at_printable s (unsigned_abs z) scale small));
   nearest = number_is s (unsigned_abs z) scale small;
   sign = sign_is z;
 }
@@ -107,7 +108,7 @@ seen_stands s text z some e = go (trim_end (trim_start text)) refl e
         let abs : nearest_to (at_size s d.value) ≡ unsigned_abs z = sym (abs-signed d.minus (nearest_to (at_size s d.value))) ∙ ap unsigned_abs same in
         record {
           decimal = d;
-          read = read;
+          read = read_is (trim_end (trim_start text)) d read;
           nearest = subst (IsNearest (at_size s d.value)) abs (nearest_is (at_size s d.value) (at_size_under s d.value some));
           sign = sym same ∙ ap (signed d.minus) abs;
         }
@@ -129,9 +130,9 @@ stands_seen s text z some h = go (trim_end (trim_start text)) refl
         (nearest_is (at_size s h.decimal.value) (at_size_under s h.decimal.value some)) h.nearest
 
     go : (t : List ℕ) → trim_end (trim_start text) ≡ t → seen_trimmed s t ≡ number z
-    go [] t = let none : decimal_of [] ≡ Some h.decimal = ap decimal_of (sym t) ∙ h.read in absurd (cc)
+    go [] t = let none : decimal_of [] ≡ Some h.decimal = ap decimal_of (sym t) ∙ is_read (trim_end (trim_start text)) h.decimal h.read in absurd (cc)
     go (c ∷ cs) t =
-        ap (seen_decimal s) (ap decimal_of (sym t) ∙ h.read)
+        ap (seen_decimal s) (ap decimal_of (sym t) ∙ is_read (trim_end (trim_start text)) h.decimal h.read)
         ∙ ap (λ n. number (signed h.decimal.minus n)) near ∙ ap number (sym h.sign)
 
 -- a text stands for one number at most

@@ -73,13 +73,3 @@ number_fits n j h small =
 
 pub digit_below : (c : ℕ) → is_decimal c ≡ true → c - 48 < 10
 digit_below c h = grind arith
-
--- a mantissa of 1 to 18 digits and an exponent are a reading
-pub reading_is : (text : List ℕ) (m : Mantissa) (e x : ℤ) → m ≡ mantissa text → 1 ≤ m.count → m.count ≤ 18 → exponent_after m.rest ≡ Some e
-    → x ≡ e -ℤ pos m.places → reading text ≡ Some (record { digits = m.number; exponent = x })
-reading_is text m e x is from to after exponent =
-    ap read_from (sym is)
-    ∙ ap (λ b. if b && nat_le m.count 18 then option_map (λ i. record { digits = m.number; exponent = i -ℤ pos m.places }) (exponent_after m.rest) else None) (le-leb 1 m.count from)
-    ∙ ap (λ b. if b then option_map (λ i. record { digits = m.number; exponent = i -ℤ pos m.places }) (exponent_after m.rest) else None) (le-leb m.count 18 to)
-    ∙ ap (option_map (λ i. record { digits = m.number; exponent = i -ℤ pos m.places })) after
-    ∙ ap (λ i. Some (record { digits = m.number; exponent = i })) (sym exponent)

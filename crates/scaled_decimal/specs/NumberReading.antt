@@ -1,8 +1,10 @@
 -- The number that a text says at a scale (RINEX 4.01, D19.12, read leniently).
 -- After blanks at both ends: a sign or none; digits, with at most one point among, before or after them, 1 to 18 in all;
 -- then nothing, or one of `D d E e`, a sign or none, and one to three digits.
-use Rattle.std.specs.Prelude.{◌≡◌, ℕ, ◌+◌, ◌-◌, ◌*◌, ◌&&◌, ◌||◌, ◌==◌, nat_le, if◌then◌else◌, Bool, true, false, List, [], ◌∷◌, Option, Some, None, Result, Ok, Err, option_map, ℤ, pos, neg_ℤ, ◌-ℤ◌, int_le, unsigned_abs}
+use Rattle.std.specs.Prelude.{◌≡◌, ℕ, ◌+◌, ◌-◌, ◌*◌, ◌&&◌, ◌==◌, nat_le, if◌then◌else◌, Bool, true, false, List, [], ◌∷◌, Option, Some, None, Result, Ok, Err, option_map, ℤ, pos, ◌-ℤ◌, int_le, unsigned_abs}
 use Rattle.scaled_decimal.specs.Fractions.{Fraction, scaled, divided, ten_to, IsNearest, nearest_to}
+pub use Rattle.scaled_decimal.specs.Values.{Reading, Decimal, signed, is_letter}
+use Rattle.scaled_decimal.specs.Grammar.{IsDecimalText}
 use Rattle.scaled_decimal.specs.declared.reading.DecimalFault.{DecimalFault}
 use Rattle.scaled_decimal.specs.declared.reading.DecimalFault.TheVariants as faults
 
@@ -58,10 +60,6 @@ after_whole n k (c ∷ cs) = if c == 46 then with_places k (span n k cs)
 abbrev pub mantissa : List ℕ → Mantissa
 mantissa cs = let s = span 0 0 cs in after_whole s.number s.count s.rest
 
-abbrev pub signed : Bool → ℕ → ℤ
-signed true n = neg_ℤ (pos n)
-signed false n = pos n
-
 abbrev pub is_nothing : List ℕ → Bool
 is_nothing [] = true
 is_nothing (c ∷ cs) = false
@@ -79,18 +77,10 @@ signed_exponent (c ∷ cs) =
     else if c == 43 then exponent_digits false cs
     else exponent_digits false (c ∷ cs)
 
-abbrev pub is_letter : ℕ → Bool
-is_letter c = c == 68 || c == 100 || c == 69 || c == 101
-
 -- the exponent that follows a mantissa, 0 where nothing does
 abbrev pub exponent_after : List ℕ → Option ℤ
 exponent_after [] = Some (pos 0)
 exponent_after (c ∷ cs) = if is_letter c then signed_exponent cs else None
-
--- digits x 10^exponent
-pub record Reading : Type 0 where
-  pub digits : ℕ
-  pub exponent : ℤ
 
 -- the value of a text without a sign, or None where it is not in the grammar
 abbrev pub reading : List ℕ → Option Reading
@@ -99,11 +89,6 @@ reading cs =
     if nat_le 1 m.count && nat_le m.count 18
     then option_map (λ e. record { digits = m.number; exponent = e -ℤ pos m.places }) (exponent_after m.rest)
     else None
-
--- the value of a text with its sign
-pub record Decimal : Type 0 where
-  pub minus : Bool
-  pub value : Reading
 
 abbrev pub with_sign : Bool → Option Reading → Option Decimal
 with_sign minus r = option_map (λ v. record { minus = minus; value = v }) r
@@ -123,7 +108,7 @@ at_size s r = divided (scaled r.digits (ten_to r.exponent)) s
 -- the text is in the grammar, and z is the whole number nearest to its value divided by the size s
 pub record StandsFor (s : Fraction) (text : List ℕ) (z : ℤ) : Type 0 where
   pub decimal : Decimal
-  pub read : decimal_of (trim_end (trim_start text)) ≡ Some decimal
+  pub read : IsDecimalText (trim_end (trim_start text)) decimal
   pub nearest : IsNearest (at_size s decimal.value) (unsigned_abs z)
   pub sign : z ≡ signed decimal.minus (unsigned_abs z)
 

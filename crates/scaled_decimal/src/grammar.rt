@@ -4,12 +4,15 @@ ghost use Rattle.std.specs.Prelude.{◌≡◌, ◌+◌, ◌^◌, ◌<◌, ◌≤
 ghost use Rattle.scaled_decimal.specs.Mirrors.{IsExponentRead, IsDecimalRead};
 ghost use Rattle.scaled_decimal.specs.NumberReading.{trim_start, trim_end, is_decimal, span, mantissa, exponent_digits, signed_exponent, exponent_after, reading, decimal_of};
 
-/// Digits that were read: their number, how many they are, and what follows.
+/// Digits at the front of a text.
 #[derive(Clone, Copy)]
-struct Span<'a> {
-    number: u64,
-    count: usize,
-    rest: &'a [u8],
+pub struct Span<'a> {
+    /// The number that they are, read from the left.
+    pub number: u64,
+    /// How many they are.
+    pub count: usize,
+    /// What follows.
+    pub rest: &'a [u8],
 }
 
 /// Digits with at most one point: the number without the point, how many digits, how many after the point, what follows.
@@ -58,14 +61,15 @@ fn trim_end(text: &[u8]) -> &[u8]
 }
 
 /// The text without the blanks at its ends.
-pub(crate) fn trimmed(text: &[u8]) -> &[u8]
+pub fn trimmed(text: &[u8]) -> &[u8]
     ensures value { result.now ≡ trim_end (trim_start text.now) }
     ensures shorter { length result.now ≤ length text.now }
 {
     trim_end(trim_start(text))
 }
 
-fn is_decimal(c: u8) -> bool
+/// The character is a decimal digit.
+pub fn is_decimal(c: u8) -> bool
     ensures { result ≡ is_decimal c }
 {
     c.is_ascii_digit()
@@ -75,7 +79,8 @@ fn is_decimal(c: u8) -> bool
 fn read_digits(number: u64, count: usize, text: &[u8]) -> Span<'_>
     requires number { number < 10 ^ count }
     requires count { count + length text.now ≤ 19 }
-    ensures read { record { number = result.number; count = result.count; rest = result.rest.now } ≡ span number count text.now }
+    ensures read { record { number = result.number; count = result.count; rest = result.rest.now }
+        ≡ span number count text.now }
     ensures number { result.number < 10 ^ result.count }
     ensures count { result.count + length result.rest.now ≡ count + length text.now }
     ensures more { count ≤ result.count }
@@ -99,10 +104,26 @@ fn read_digits(number: u64, count: usize, text: &[u8]) -> Span<'_>
     }
 }
 
+/// The digits at the front of a text.
+pub fn leading_digits(text: &[u8]) -> Span<'_>
+    requires { length text.now ≤ 19 }
+    ensures read { record { number = result.number; count = result.count; rest = result.rest.now }
+        ≡ span 0 0 text.now }
+    ensures number { result.number < 10 ^ result.count }
+    ensures count { result.count + length result.rest.now ≡ length text.now }
+{
+    read_digits(0, 0, text)
+}
+
 // Digits with at most one point, at the front of a text.
 fn read_mantissa(text: &[u8]) -> Mantissa<'_>
     requires { length text.now ≤ 19 }
-    ensures read { record { number = result.number; count = result.count; places = result.places; rest = result.rest.now } ≡ mantissa text.now }
+    ensures read { record {
+      number = result.number;
+      count = result.count;
+      places = result.places;
+      rest = result.rest.now;
+    } ≡ mantissa text.now }
     ensures number { result.number < 10 ^ result.count }
     ensures places { result.places ≤ 19 }
     ensures rest { length result.rest.now ≤ 19 }
@@ -130,9 +151,10 @@ fn read_mantissa(text: &[u8]) -> Mantissa<'_>
 // One to three digits to the end of a text.
 fn exponent_digits(minus: bool, text: &[u8]) -> Option<i32>
     requires { length text.now ≤ 19 }
-    ensures { MatchOption result (exponent_digits minus text.now ≡ None) (λ e. (exponent_digits minus text.now ≡ Some e) × IsExponentRead e) }
+    ensures { MatchOption result (exponent_digits minus text.now ≡ None)
+        (λ e. (exponent_digits minus text.now ≡ Some e) × IsExponentRead e) }
 {
-    let digits = read_digits(0, 0, text);
+    let digits = leading_digits(text);
     if digits.rest.is_empty() && digits.count >= 1 && digits.count <= 3 {
         let exponent = digits.number as i32;
         Some(if minus { -exponent } else { exponent })
@@ -144,7 +166,8 @@ fn exponent_digits(minus: bool, text: &[u8]) -> Option<i32>
 // An exponent with a sign or none.
 fn signed_exponent(text: &[u8]) -> Option<i32>
     requires { length text.now ≤ 19 }
-    ensures { MatchOption result (signed_exponent text.now ≡ None) (λ e. (signed_exponent text.now ≡ Some e) × IsExponentRead e) }
+    ensures { MatchOption result (signed_exponent text.now ≡ None)
+        (λ e. (signed_exponent text.now ≡ Some e) × IsExponentRead e) }
 {
     match text {
         [] => None,
@@ -157,7 +180,8 @@ fn signed_exponent(text: &[u8]) -> Option<i32>
 // The exponent that follows a mantissa, 0 where nothing does.
 fn exponent_after(text: &[u8]) -> Option<i32>
     requires { length text.now ≤ 19 }
-    ensures { MatchOption result (exponent_after text.now ≡ None) (λ e. (exponent_after text.now ≡ Some e) × IsExponentRead e) }
+    ensures { MatchOption result (exponent_after text.now ≡ None)
+        (λ e. (exponent_after text.now ≡ Some e) × IsExponentRead e) }
 {
     match text {
         [] => Some(0),
@@ -169,7 +193,9 @@ fn exponent_after(text: &[u8]) -> Option<i32>
 // The value of a text without a sign.
 fn reading(minus: bool, text: &[u8]) -> Option<Decimal>
     requires { length text.now ≤ 19 }
-    ensures { MatchOption result (reading text.now ≡ None) (λ d. (reading text.now ≡ Some (record { digits = d.digits; exponent = d.exponent })) × IsDecimalRead d.digits d.exponent × (d.minus ≡ minus)) }
+    ensures { MatchOption result (reading text.now ≡ None)
+        (λ d. (reading text.now ≡ Some (record { digits = d.digits; exponent = d.exponent }))
+        × IsDecimalRead d.digits d.exponent × (d.minus ≡ minus)) }
 {
     let mantissa = read_mantissa(text);
     if mantissa.count < 1 || mantissa.count > 18 {
@@ -186,7 +212,11 @@ fn reading(minus: bool, text: &[u8]) -> Option<Decimal>
 /// The value of a text without blanks at its ends; None where it is not in the grammar.
 pub(crate) fn decimal_of(text: &[u8]) -> Option<Decimal>
     requires { length text.now ≤ 19 }
-    ensures { MatchOption result (decimal_of text.now ≡ None) (λ d. (decimal_of text.now ≡ Some (record { minus = d.minus; value = record { digits = d.digits; exponent = d.exponent } })) × IsDecimalRead d.digits d.exponent) }
+    ensures { MatchOption result (decimal_of text.now ≡ None)
+        (λ d. (decimal_of text.now ≡ Some (record {
+          minus = d.minus;
+          value = record { digits = d.digits; exponent = d.exponent };
+        })) × IsDecimalRead d.digits d.exponent) }
 {
     match text {
         [] => None,

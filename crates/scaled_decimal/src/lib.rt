@@ -21,9 +21,10 @@ mod scales;
 #[cfg(test)]
 mod tests;
 
+pub use crate::grammar::{Span, is_decimal, leading_digits, trimmed};
 pub use crate::laws::{
     accepted_scales_are_scales, one_number_is_nearest, one_text, texts_are_read, texts_are_seen,
-    texts_stand,
+    texts_of_the_grammar_are_read, texts_stand,
 };
 pub use crate::printing::print;
 pub use crate::reading::{DecimalFault, read};

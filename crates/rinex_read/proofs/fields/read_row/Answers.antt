@@ -3,7 +3,7 @@ use Rattle.std.proofs.lemmas.Int.{to_z-of_z}
 use Rattle.scaled_decimal.specs.ScaleValue.{size_of}
 use Rattle.scaled_decimal.specs.NumberReading.{seen}
 use Rattle.rinex_write.specs.declared.columns.Column.{Column}
-use Rattle.rinex_write.proofs.Rows.{no_column}
+use Rattle.rinex_write.proofs.Surface.{no_column}
 use Rattle.rinex_read.specs.declared.reason.Reason.{Reason}
 use Rattle.rinex_read.specs.Lines.{columns}
 use Rattle.rinex_read.specs.Fields.{taken, field_at, read_row}

@@ -2,7 +2,7 @@ use Rattle.std.proofs.Common.{◌≡◌, arith, rules, slice_index_or, pos, Fits
 use Rattle.std.proofs.lemmas.Int.{to_z-of_z}
 use Rattle.scaled_decimal.specs.ScaleValue.{size_of}
 use Rattle.scaled_decimal.specs.NumberText.{number_text}
-use Rattle.scaled_decimal.proofs.ColumnLemmas.{length-number_text}
+use Rattle.scaled_decimal.proofs.Surface.{length-number_text}
 use Rattle.rinex_write.specs.declared.columns.Column.{Column}
 use Rattle.rinex_write.specs.Columns.{shown}
 use Rattle.rinex_write.proofs.Rows.{field_left, row_after, no_column}

@@ -1,7 +1,8 @@
 use Rattle.std.proofs.Common.{◌≡◌, pos, ◌-ℤ◌, refl, arith, w32, to_z, of_z}
 use Rattle.std.proofs.lemmas.Int.{ints}
 use Rattle.scaled_decimal.specs.Mirrors.{IsExponentRead}
-use Rattle.scaled_decimal.proofs.WalkLemmas.{reading_is, number_fits}
+use Rattle.scaled_decimal.proofs.SpanLemmas.{reading_is}
+use Rattle.scaled_decimal.proofs.WalkLemmas.{number_fits}
 use Rattle.scaled_decimal.proofs.grammar.reading.Goals as goal
 
 pub returns : goal.returns

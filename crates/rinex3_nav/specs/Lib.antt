@@ -1,0 +1,2 @@
+pub mod Form3
+pub mod Texts3

@@ -1,0 +1,1 @@
+//! Records of an independent program, and the odd spellings of others.
