@@ -13,9 +13,10 @@ use std::process::ExitCode;
 
 #[cfg(test)]
 mod capture_tests;
+mod capture_words;
 mod laws;
-mod line;
-mod run;
+#[cfg(test)]
+mod rows;
 mod statuses;
 #[cfg(test)]
 mod tests;

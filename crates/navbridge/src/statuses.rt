@@ -5,11 +5,12 @@ ghost use Rattle.std.specs.String.{string_bytes};
 ghost use Rattle.std.specs.Io.KnownBytes.{Appends, IsAtEnd};
 ghost use Rattle.nav_io.specs.Causes.{Rose};
 ghost use Rattle.navbridge.specs.Job.{IsJob, GivesJob};
-ghost use Rattle.navbridge.specs.Line.{line_of};
-ghost use Rattle.navbridge.specs.Run.{output_of, RunsPart};
+ghost use Rattle.bridge_engine.specs.FrameLines.{line_of};
+ghost use Rattle.bridge_engine.specs.FrameRuns.{output_of, RunsPart};
 
-use crate::run::{BridgeFault, run_frames};
+use crate::capture_words::capture_job;
 use crate::words::{Job, job_of};
+use bridge_engine::{BridgeFault, run_capture, run_frames};
 use nav_io::{Sink, Source};
 use std::alloc::Global;
 
@@ -26,7 +27,7 @@ use std::alloc::Global;
 /// After 3, 4 and 8 the output has a front of the lines of the bytes that were taken. The job
 /// `--from stream --to frames` writes nothing to the report.
 pub fn bridge<S: Source, T: Sink, U: Sink>(
-    _alloc: Global,
+    alloc: Global,
     words: &[String],
     input: &mut S,
     output: &mut T,
@@ -65,14 +66,29 @@ pub fn bridge<S: Source, T: Sink, U: Sink>(
     ensures too_long { result ≡ 8 → RunsPart line_of (S.left input.old) (S.left input.new)
         (T.written output.old) (T.written output.new) BridgeFault.TooLong }
 {
-    let Some(Job::StreamToFrames) = job_of(words) else {
-        return 2;
-    };
-    match run_frames(input, output) {
-        Ok(_) => 0,
-        Err(BridgeFault::ReadFault) => 3,
-        Err(BridgeFault::WriteFault) => 4,
-        Err(BridgeFault::TooLong) => 8,
-        Err(_) => unreachable!(),
+    if let Some(Job::StreamToFrames) = job_of(words) {
+        return match run_frames(input, output) {
+            Ok(_) => 0,
+            Err(fault) => status_of(fault),
+        };
+    }
+    match capture_job(words) {
+        Some(job) => match run_capture(alloc, job.week, &job.to, input, output, report) {
+            Ok(_) => 0,
+            Err(fault) => status_of(fault),
+        },
+        None => 2,
+    }
+}
+
+// The status of a run that ended so.
+fn status_of(fault: BridgeFault) -> u8 {
+    match fault {
+        BridgeFault::ReadFault => 3,
+        BridgeFault::WriteFault => 4,
+        BridgeFault::NotThisForm => 5,
+        BridgeFault::NoMemory => 6,
+        BridgeFault::ReportFault => 7,
+        BridgeFault::TooLong => 8,
     }
 }
