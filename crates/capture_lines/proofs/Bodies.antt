@@ -17,7 +17,7 @@ use Rattle.inav_page.specs.declared.signal.Signal.{Signal}
 use Rattle.inav_page.specs.declared.signal.Signal.TheVariants.{E1b, E5b}
 use Rattle.capture_lines.specs.Texts.{two_digits, signal_letter}
 use Rattle.capture_lines.specs.Reading.{satellite_in, signal_in, lnav_with, half_with, frame_with, lnav_in, half_in, frame_in, form_in}
-use Rattle.capture_lines.proofs.Stamps.{digit_range}
+use Rattle.capture_lines.proofs.NumberTexts.{digit_range}
 use Rattle.capture_lines.specs.declared.item.LineItem.{LineItem}
 use Rattle.capture_lines.specs.declared.item.LineItem.TheVariants.{Pass, Lnav, Half, Frame, Malformed}
 
@@ -251,7 +251,7 @@ body_of_frame stamp digits = by (nat_le 12 (length digits)) (nat_le (length digi
     by true false e f = tt
 
 -- a text that begins with a front
-begun : (rest front : List ℕ) → starts_with nat_eq rest front ≡ true → rest ≡ front ++ drop (length front) rest
+pub begun : (rest front : List ℕ) → starts_with nat_eq rest front ≡ true → rest ≡ front ++ drop (length front) rest
 begun rest front h = (starts_is Decides-eqb rest front true (sym h)).0 refl
 
 -- what is read of the bytes behind the stamp has that body

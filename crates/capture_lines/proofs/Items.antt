@@ -1,19 +1,19 @@
 -- A line and the item that is read of it: each determines whether the other fits.
-use Rattle.std.proofs.Common.{◌≡◌, ℕ, ◌<◌, ◌==◌, Bool, true, false, ◌||◌, inl, inr, List, [], ◌∷◌, ◌++◌, take, drop, slice_index, Option, Some, None, cond, refl, sym, ap, ◌∙◌, arith}
+use Rattle.std.proofs.Common.{◌≡◌, ℕ, ◌<◌, ◌==◌, ◌≤◌, nat_le, length, Bool, true, false, ◌&&◌, ◌||◌, inl, inr, List, [], ◌∷◌, ◌++◌, take, drop, slice_index, Option, Some, None, cond, refl, sym, ap, ◌∙◌, arith}
 use Rattle.std.proofs.lemmas.Bool.{and_parts, eqb-true}
 use Rattle.std.proofs.lemmas.List.Elements.{All-cons, All-head, All-nil, All-tail}
 use Rattle.std.proofs.lemmas.List.{take-append-drop}
 use Rattle.std.proofs.Math.Seq.{take-append_seam, drop-append_seam}
-use borrow.Author.Tests.{eq-eqb, ne_eqb}
+use borrow.Author.Tests.{eq-eqb, leb-true, ne_eqb}
 use Rattle.std.proofs.lemmas.Str.Parse.{digit_from_value}
 use Rattle.std.specs.Prelude.{All}
 use Rattle.std.specs.List.{prefix_len, list_all}
 use Rattle.std.specs.Char.{is_ascii_digit, digit_value}
-use Rattle.capture_lines.specs.Spellings.{IsStampText, IsSpelling, IsPassed, IsMalformed, StandsFor}
-use Rattle.capture_lines.specs.Reading.{is_passed, stamp_in, form_in, item_with, item_of}
+use Rattle.capture_lines.specs.Spellings.{IsNumberText, IsSpelling, IsComment, IsPassed, IsMalformed, StandsFor}
+use Rattle.capture_lines.specs.Reading.{is_comment, is_passed, number_in, form_in, item_with, item_of}
 use Rattle.capture_lines.specs.declared.item.LineItem.{LineItem}
 use Rattle.capture_lines.specs.declared.item.LineItem.TheVariants.{Pass, Lnav, Half, Frame, Malformed}
-use Rattle.capture_lines.proofs.Stamps.{digits_in_front, front_digits, stamp_of_text, text_of_stamp}
+use Rattle.capture_lines.proofs.NumberTexts.{digits_in_front, front_digits, number_of_text, text_of_number}
 use Rattle.capture_lines.proofs.Bodies.{HasBody, lnav_of_body, half_of_body, frame_of_body, body_of_form}
 
 -- the digits in front of a line, and what stands behind them
@@ -39,23 +39,33 @@ blanks_pass (x ∷ xs) h =
     let first = eq-eqb x 32 (All-head (λ c. c ≡ 32) x xs h) in
     rw (first, blanks_pass xs (All-tail (λ c. c ≡ 32) x xs h)) refl
 
--- a line that is passed
-pub passed : (line : List ℕ) → is_passed line ≡ true → IsPassed line
-passed [] h = inr (All-nil (λ c. c ≡ 32))
-passed (x ∷ xs) h = by (x == 35) refl h
+-- a comment
+commented : (line : List ℕ) → is_comment line ≡ true → IsComment line
+commented [] h = inr (All-nil (λ c. c ≡ 32))
+commented (x ∷ xs) h = by (x == 35) refl h
   where
-    by : (b : Bool) → (x == 35) ≡ b → (b || list_all (λ c. c == 32) (x ∷ xs)) ≡ true → IsPassed (x ∷ xs)
+    by : (b : Bool) → (x == 35) ≡ b → (b || list_all (λ c. c == 32) (x ∷ xs)) ≡ true → IsComment (x ∷ xs)
     by true e h = inl (xs, ap (λ (c : ℕ). c ∷ xs) (eqb-true x 35 e))
     by false e h = inr (blanks (x ∷ xs) h)
 
 -- and back
-pub passes : (line : List ℕ) → IsPassed line → is_passed line ≡ true
-passes line (inl h) = rw h.1 refl
-passes line (inr h) = by (slice_index line 0 == 35) (blanks_pass line h)
+comments : (line : List ℕ) → IsComment line → is_comment line ≡ true
+comments line (inl h) = rw h.1 refl
+comments line (inr h) = by (slice_index line 0 == 35) (blanks_pass line h)
   where
     by : (b : Bool) → list_all (λ c. c == 32) line ≡ true → (b || list_all (λ c. c == 32) line) ≡ true
     by true e = refl
     by false e = e
+
+-- a line that is passed
+pub passed : (line : List ℕ) → is_passed line ≡ true → IsPassed line
+passed line h =
+    let parts = and_parts (nat_le (length line) 2200) (is_comment line) h in
+    (leb-true (length line) 2200 parts.0, commented line parts.1)
+
+-- and back
+pub passes : (line : List ℕ) → IsPassed line → is_passed line ≡ true
+passes line h = let is = comments line h.1 in let short = h.0 in rw is (grind (arith))
 
 -- ---- from a spelling to its item
 
@@ -65,16 +75,20 @@ digit_first x xs h =
     let digit = digit_from_value x h in
     let not_sign = ne_eqb x 35 (λ e. omega arith) in
     let not_blank = ne_eqb x 32 (λ e. omega arith) in
-    rw (not_sign, not_blank) refl
+    rw (not_sign, not_blank) (no (nat_le (length (x ∷ xs)) 2200))
+  where
+    no : (b : Bool) → (b && false) ≡ false
+    no true = refl
+    no false = refl
 
 -- a stamp and a blank in front of a body
-pub item_behind : (stamp : ℕ) (time body : List ℕ) → IsStampText stamp time → item_of (time ++ 32 ∷ body) ≡ form_in stamp (32 ∷ body)
+pub item_behind : (stamp : ℕ) (time body : List ℕ) → IsNumberText stamp time → item_of (time ++ 32 ∷ body) ≡ form_in stamp (32 ∷ body)
 unfolding item_of
 item_behind stamp [] body is = absurd (let some = is.numeral.0 in omega arith)
 item_behind stamp (x ∷ xs) body is =
     let count = digits_in_front (x ∷ xs) body 32 is.numeral.1 refl in
     let whole = digit_first x (xs ++ 32 ∷ body) is.numeral.1.0 in
-    rw (whole, count, take-append_seam (x ∷ xs) (32 ∷ body), drop-append_seam (x ∷ xs) (32 ∷ body), stamp_of_text stamp (x ∷ xs) is) refl
+    rw (whole, count, take-append_seam (x ∷ xs) (32 ∷ body), drop-append_seam (x ∷ xs) (32 ∷ body), number_of_text stamp (x ∷ xs) is) refl
 
 -- a spelling is read as its item
 pub spelled : (item : LineItem) (line : List ℕ) → IsSpelling item line → item_of line ≡ item
@@ -112,7 +126,7 @@ malformed line e = record {
     no Malformed h is = h
 
 -- an item with its body, behind a text of its stamp
-spelling : (line time rest : List ℕ) (stamp : ℕ) (item : LineItem) → line ≡ time ++ rest → IsStampText stamp time → item_of line ≡ item
+spelling : (line time rest : List ℕ) (stamp : ℕ) (item : LineItem) → line ≡ time ++ rest → IsNumberText stamp time → item_of line ≡ item
     → HasBody stamp item rest → StandsFor item line
 spelling line time rest stamp Pass split is read body = absurd body
 spelling line time rest stamp (Lnav own sat bits) split is read body = record {
@@ -149,17 +163,17 @@ spelling line time rest stamp Malformed split is read body = malformed line read
 -- a line stands for what is read of it
 pub stands : (line : List ℕ) → StandsFor (item_of line) line
 unfolding item_of
-stands line = by (is_passed line) (stamp_in (front line)) refl refl
+stands line = by (is_passed line) (number_in (front line)) refl refl
   where
-    whole : (p : Bool) (o : Option ℕ) → is_passed line ≡ p → stamp_in (front line) ≡ o → item_of line ≡ cond p Pass (item_with o (behind line))
+    whole : (p : Bool) (o : Option ℕ) → is_passed line ≡ p → number_in (front line) ≡ o → item_of line ≡ cond p Pass (item_with o (behind line))
     whole p o ep eo = rw (ep, eo) refl
 
-    by : (p : Bool) (o : Option ℕ) → is_passed line ≡ p → stamp_in (front line) ≡ o → StandsFor (cond p Pass (item_with o (behind line))) line
+    by : (p : Bool) (o : Option ℕ) → is_passed line ≡ p → number_in (front line) ≡ o → StandsFor (cond p Pass (item_with o (behind line))) line
     by true o ep eo = passed line ep
     by false None ep eo = malformed line (whole false None ep eo)
     by false (Some stamp) ep eo =
         spelling line (front line) (behind line) stamp (form_in stamp (behind line)) (sym (take-append-drop (prefix_len is_ascii_digit line) line))
-        (text_of_stamp stamp (front line) (front_digits line) eo) (whole false (Some stamp) ep eo) (body_of_form stamp (behind line))
+        (text_of_number stamp (front line) (front_digits line) eo) (whole false (Some stamp) ep eo) (body_of_form stamp (behind line))
 
 -- and for nothing else
 pub only : (line : List ℕ) (item : LineItem) → StandsFor item line → item ≡ item_of line

@@ -1,4 +1,5 @@
-pub mod Stamps
+pub mod NumberTexts
+pub mod Heads
 pub mod Bodies
 pub mod Items
 pub mod Lateness

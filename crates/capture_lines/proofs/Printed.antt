@@ -12,7 +12,7 @@ use Rattle.hex.proofs.HexLemmas.{decode_of-ok}
 use Rattle.inav_page.specs.declared.signal.Signal.{Signal}
 use Rattle.inav_page.specs.declared.signal.Signal.TheVariants.{E1b, E5b}
 use Rattle.capture_lines.specs.Texts.{two_digits, signal_letter}
-use Rattle.capture_lines.specs.Spellings.{IsPrinted, IsSpelling, IsStampText}
+use Rattle.capture_lines.specs.Spellings.{IsPrinted, IsSpelling, IsNumberText}
 use Rattle.capture_lines.specs.declared.item.LineItem.{LineItem}
 use Rattle.capture_lines.specs.declared.item.LineItem.TheVariants.{Pass, Lnav, Half, Frame, Malformed}
 
@@ -57,7 +57,7 @@ behind : (text rest : List ℕ) → list_all passes text ≡ true → All IsPrin
 behind text rest known h = All-append IsPrinted text rest (tested text known) h
 
 -- a text of a stamp in front of the rest of a line
-line_printed : (stamp : ℕ) (time rest line : List ℕ) → IsStampText stamp time → line ≡ time ++ rest → All IsPrinted rest → All IsPrinted line
+line_printed : (stamp : ℕ) (time rest line : List ℕ) → IsNumberText stamp time → line ≡ time ++ rest → All IsPrinted rest → All IsPrinted line
 line_printed stamp time rest line is split h =
     subst (λ (xs : List ℕ). All IsPrinted xs) (sym split) (All-append IsPrinted time rest (decimal_printed time is.numeral.1) h)
 

@@ -9,7 +9,7 @@ use Rattle.nav_eph.specs.declared.sat.System.TheVariants.{Gps, Gal}
 use Rattle.inav_page.specs.declared.signal.Signal.{Signal}
 use Rattle.capture_lines.specs.Texts.{lnav_line, half_line, frame_line, lnav_text, half_text, frame_text}
 use Rattle.capture_lines.specs.Spellings.{IsEnded, IsLnavLine, IsHalfLine, IsFrameLine}
-use Rattle.capture_lines.proofs.Stamps.{decimal_is_text}
+use Rattle.capture_lines.proofs.NumberTexts.{decimal_is_text}
 
 pub lnav_written : (stamp : ℕ) (sat : Satellite) (bits : List ℕ) → stamp < 2 ^ 32 → sat.system ≡ Gps → IsSat sat.system sat.number → IsBytes bits
     → length bits ≡ 38 → IsEnded (IsLnavLine stamp sat bits) (lnav_text stamp sat bits)

@@ -15,12 +15,16 @@ use Rattle.capture_lines.specs.declared.item.LineItem.{LineItem}
 use Rattle.capture_lines.specs.declared.item.LineItem.TheVariants.{Pass, Lnav, Half, Frame, Malformed}
 
 -- whether the line begins with `#` or has no byte but blanks
-abbrev pub is_passed : List ℕ → Bool
-is_passed line = slice_index line 0 == 35 || list_all (λ c. c == 32) line
+abbrev pub is_comment : List ℕ → Bool
+is_comment line = slice_index line 0 == 35 || list_all (λ c. c == 32) line
 
--- the stamp that digits write
-unfoldable pub stamp_in : List ℕ → Option ℕ
-stamp_in digits =
+-- whether it is such a line of at most 2,200 bytes
+abbrev pub is_passed : List ℕ → Bool
+is_passed line = nat_le (length line) 2200 && is_comment line
+
+-- the number that one to ten digits write
+unfoldable pub number_in : List ℕ → Option ℕ
+number_in digits =
     if nat_lt 0 (length digits) && (nat_le (length digits) 10 && nat_lt (digits_value 10 digits) (2 ^ 32))
     then Some (digits_value 10 digits) else None
 
@@ -90,4 +94,4 @@ item_with None rest = Malformed
 unfoldable pub item_of : List ℕ → LineItem
 item_of line =
     if is_passed line then Pass
-    else item_with (stamp_in (take (prefix_len is_ascii_digit line) line)) (drop (prefix_len is_ascii_digit line) line)
+    else item_with (number_in (take (prefix_len is_ascii_digit line) line)) (drop (prefix_len is_ascii_digit line) line)

@@ -11,18 +11,18 @@ use Rattle.capture_lines.specs.declared.item.LineItem.{LineItem}
 use Rattle.capture_lines.specs.declared.item.LineItem.TheVariants.{Pass, Lnav, Half, Frame, Malformed}
 
 -- one to ten decimal digits, of a number up to 4,294,967,295
-pub record IsStampText (stamp : ℕ) (text : List ℕ) : Type 0 where
+pub record IsNumberText (number : ℕ) (text : List ℕ) : Type 0 where
   pub numeral : IsNumeral 10 text
   pub short : length text ≤ 10
-  pub value : digits_value 10 text ≡ stamp
-  pub fits : stamp < 2 ^ 32
+  pub value : digits_value 10 text ≡ number
+  pub fits : number < 2 ^ 32
 
 -- the line of a subframe: a satellite of GPS and 76 hexadecimal digits, of either case
 pub record IsLnavLine (stamp : ℕ) (sat : Satellite) (bits line : List ℕ) : Type 0 where
   pub time : List ℕ
   pub digits : List ℕ
   pub line_is : line ≡ lnav_line time sat.number digits
-  pub time_is : IsStampText stamp time
+  pub time_is : IsNumberText stamp time
   pub system : sat.system ≡ Gps
   pub number : IsSat Gps sat.number
   pub digits_are : decode_of digits ≡ Ok bits
@@ -33,7 +33,7 @@ pub record IsHalfLine (stamp : ℕ) (sat : Satellite) (signal : Signal) (bits li
   pub time : List ℕ
   pub digits : List ℕ
   pub line_is : line ≡ half_line time sat.number signal digits
-  pub time_is : IsStampText stamp time
+  pub time_is : IsNumberText stamp time
   pub system : sat.system ≡ Gal
   pub number : IsSat Gal sat.number
   pub digits_are : decode_of digits ≡ Ok bits
@@ -44,7 +44,7 @@ pub record IsFrameLine (stamp : ℕ) (bytes line : List ℕ) : Type 0 where
   pub time : List ℕ
   pub digits : List ℕ
   pub line_is : line ≡ frame_line time digits
-  pub time_is : IsStampText stamp time
+  pub time_is : IsNumberText stamp time
   pub digits_are : decode_of digits ≡ Ok bytes
   pub shortest : 6 ≤ length bytes
   pub longest : length bytes ≤ 1029
@@ -58,8 +58,12 @@ IsSpelling (Frame stamp bytes) line = IsFrameLine stamp bytes.items line
 IsSpelling Malformed line = ⊥
 
 -- the line begins with `#`, or is empty, or has blanks alone
+abbrev pub IsComment : List ℕ → Type 0
+IsComment line = ((rest : List ℕ) × (line ≡ 35 ∷ rest)) ⊎ All (λ c. c ≡ 32) line
+
+-- it is such a line of at most 2,200 bytes; one that is longer is malformed
 abbrev pub IsPassed : List ℕ → Type 0
-IsPassed line = ((rest : List ℕ) × (line ≡ 35 ∷ rest)) ⊎ All (λ c. c ≡ 32) line
+IsPassed line = (length line ≤ 2200) × IsComment line
 
 -- every other line
 pub record IsMalformed (line : List ℕ) : Type 0 where

@@ -1,25 +1,85 @@
 //! The first line of a capture.
 
-ghost use Rattle.std.specs.Prelude.{◌≡◌, ◌↔◌, IsSome, IfSome};
-ghost use Rattle.capture_lines.specs.Heads.{head_of, plain_head};
+ghost use Rattle.std.specs.Prelude.{◌≡◌, ◌↔◌, ◌≤◌, nat_eq, codes, IsSome, IfSome};
+ghost use Rattle.std.specs.List.{starts_with};
+ghost use Rattle.capture_lines.specs.Heads.{IsHead, head_of, number_behind, own_head, ranged};
+ghost use Rattle.capture_lines.specs.Heads.{whole_number_in};
+ghost use Rattle.capture_lines.specs.declared.head.CaptureHead.{CaptureHead};
+
+use crate::numbers::{digit_count, number_of};
+use gnss_week::RefWeek;
 
 /// What the first line of a capture says.
 #[derive(Clone, Copy, PartialEq, Eq, Debug)]
 pub struct CaptureHead {
-    /// How many seconds a line may come behind a later one, and how long parts of one issue belong together.
+    /// How many seconds a line may come behind a later one, and how long parts of one issue belong
+    /// together.
     pub window: u32,
+    /// The week near which the capture was heard, counted from 1980-01-06; `None` where the line
+    /// names none.
+    pub week: Option<RefWeek>,
 }
 
-/// What the first line says, without its end; `None` exactly where it is not `NAVCAP 1`. The window is 7,200 seconds.
+/// What the first line says, without its end: `NAVCAP 1`, which has a window of 7,200 seconds and
+/// no week, or `NAVCAP 2 <week> <window>`, with the week 1024 to 8191 and the window 60 to 14,400
+/// seconds, each in one to ten decimal digits. One space stands between the words, and nothing
+/// before the first or behind the last. `None` exactly for every other line.
 #[tactic(auto, unfolding(crate::specs::Heads::head_of))]
 pub fn read_first(line: &[u8]) -> Option<CaptureHead>
     ensures head { result ≡ head_of line.now }
-    ensures exactly { IsSome result ↔ (line.now ≡ plain_head) }
-    ensures window { IfSome result (λ head. head.window ≡ 7200) }
+    ensures exactly { IsSome result ↔ ((head : CaptureHead) × IsHead head line.now) }
+    ensures range { IfSome result (λ head. (60 ≤ head.window) × (head.window ≤ 14400)) }
 {
     if line == b"NAVCAP 1".as_slice() {
-        Some(CaptureHead { window: 7200 })
-    } else {
-        None
+        return Some(CaptureHead {
+            window: 7200,
+            week: None,
+        });
     }
+    if !line.starts_with(b"NAVCAP 2 ") {
+        return None;
+    }
+    week_and_window(&line[9..])
+}
+
+// The head behind `NAVCAP 2 `.
+#[tactic(auto, unfolding(crate::specs::Heads::own_head))]
+fn week_and_window(rest: &[u8]) -> Option<CaptureHead>
+    ensures { result ≡ own_head rest.now }
+{
+    let count = digit_count(rest);
+    let week = number_of(rest, count)?;
+    let window = number_behind_a_space(&rest[count..])?;
+    in_range(week, window)
+}
+
+// The number behind one space.
+#[tactic(auto, unfolding(crate::specs::Heads::number_behind, crate::specs::Heads::whole_number_in))]
+fn number_behind_a_space(rest: &[u8]) -> Option<u32>
+    ensures { result ≡ number_behind rest.now }
+{
+    if rest.is_empty() || rest[0] != b' ' {
+        return None;
+    }
+    let text = &rest[1..];
+    let count = digit_count(text);
+    if count != text.len() {
+        return None;
+    }
+    number_of(text, count)
+}
+
+// The head of a week and a window, where both are in their ranges.
+#[tactic(auto, unfolding(crate::specs::Heads::ranged))]
+fn in_range(week: u32, window: u32) -> Option<CaptureHead>
+    ensures { result ≡ ranged week window }
+{
+    let week = RefWeek::new(week)?;
+    if !(60..=14_400).contains(&window) {
+        return None;
+    }
+    Some(CaptureHead {
+        window,
+        week: Some(week),
+    })
 }

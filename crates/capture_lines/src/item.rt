@@ -11,7 +11,8 @@ pub(crate) const LONGEST_FRAME: usize = 1029;
 /// What a line of a capture stands for.
 #[derive(PartialEq, Eq, Debug, Drop)]
 pub enum LineItem {
-    /// A line that is passed: it begins with `#`, is empty, or has blanks alone.
+    /// A line that is passed: one of at most 2,200 bytes that begins with `#`, is empty, or has
+    /// blanks alone.
     Pass,
     /// A subframe of the LNAV message of GPS.
     Lnav {

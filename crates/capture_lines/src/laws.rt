@@ -5,13 +5,23 @@ ghost use Rattle.hex.specs.Hex.{IsBytes};
 ghost use Rattle.nav_eph.specs.Satellite.{IsSat, Satellite};
 ghost use Rattle.nav_eph.specs.declared.sat.System.TheVariants.{Gal, Gps};
 ghost use Rattle.inav_page.specs.declared.signal.Signal.{Signal};
+ghost use Rattle.capture_lines.specs.Heads.{IsHead, head_of};
 ghost use Rattle.capture_lines.specs.Late.{IsLate, greatest_stamp, stamp_of};
 ghost use Rattle.capture_lines.specs.Reading.{item_of};
-ghost use Rattle.capture_lines.specs.Spellings.{IsEnded, IsFrameLine, IsHalfLine, IsLnavLine, IsPrinted, IsSpelling, StandsFor};
+ghost use Rattle.capture_lines.specs.Spellings.{IsEnded, IsFrameLine, IsHalfLine, IsLnavLine};
+ghost use Rattle.capture_lines.specs.Spellings.{IsPrinted, IsSpelling, StandsFor};
 ghost use Rattle.capture_lines.specs.Texts.{frame_text, half_text, lnav_text};
+ghost use Rattle.capture_lines.specs.declared.head.CaptureHead.{CaptureHead};
 ghost use Rattle.capture_lines.specs.declared.item.LineItem.{LineItem};
 
-/// Every line stands for exactly one thing: an item of which it is a spelling, nothing, or it is malformed.
+/// A first line says what a head says exactly where it is one of the spellings of the head; so it
+/// is one of one head at most.
+pub fn each_first_line_is_one_head()
+    ensures { (line : List ℕ) (head : CaptureHead) → (head_of line ≡ Some head) ↔ IsHead head line }
+{}
+
+/// Every line stands for exactly one thing: an item of which it is a spelling, nothing, or it is
+/// malformed.
 pub fn each_line_stands_for_one_thing()
     ensures some { (line : List ℕ) → StandsFor (item_of line) line }
     ensures only { (line : List ℕ) (item : LineItem) → StandsFor item line → item ≡ item_of line }
@@ -28,9 +38,11 @@ pub fn late_is_behind_the_greatest_stamp()
         → IsLate window before stamp ↔ (stamp + window < greatest_stamp before) }
 {}
 
-/// A spelling of an item has printed characters and blanks alone, so no end of a line, and at most 2,200 of them.
+/// A spelling of an item has printed characters and blanks alone, so no end of a line, and at most
+/// 2,200 of them.
 pub fn spellings_are_lines()
-    ensures printed { (item : LineItem) (line : List ℕ) → IsSpelling item line → All IsPrinted line }
+    ensures printed { (item : LineItem) (line : List ℕ) → IsSpelling item line
+        → All IsPrinted line }
     ensures short { (item : LineItem) (line : List ℕ) → IsSpelling item line → length line ≤ 2200 }
 {}
 

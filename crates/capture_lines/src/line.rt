@@ -2,11 +2,12 @@
 
 ghost use Rattle.std.specs.Prelude.{◌≡◌, ◌≤◌, ◌==◌, length, nat_eq, slice_index};
 ghost use Rattle.std.specs.List.{list_all, starts_with};
-ghost use Rattle.capture_lines.specs.Reading.{form_in, frame_in, half_in, is_passed, item_of, lnav_in, satellite_in, signal_in};
+ghost use Rattle.capture_lines.specs.Reading.{form_in, frame_in, half_in, is_passed, item_of};
+ghost use Rattle.capture_lines.specs.Reading.{lnav_in, satellite_in, signal_in};
 ghost use Rattle.capture_lines.specs.Spellings.{StandsFor};
 
 use crate::item::{LONGEST_FRAME, LineItem};
-use crate::stamp::{digit_count, stamp_of};
+use crate::numbers::{digit_count, number_of};
 use arrayvec::ArrayVec;
 use hex::{FromHex, decode_to_slice};
 use inav_page::Signal;
@@ -18,12 +19,16 @@ const FEWEST_DIGITS: usize = 12;
 
 const MOST_DIGITS: usize = 2058;
 
+// The most bytes of a line that is passed.
+const LONGEST_COMMENT: usize = 2200;
+
 /// What a line of a capture stands for, without its end.
 ///
-/// A line is `stamp L G05 hex` (76 digits), `stamp P E11 B hex` (30 digits; `5` for E5b in place of `B`) or
-/// `stamp R hex` (12 to 2,058 digits, an even number), its words separated by one space. The stamp has one to ten decimal
-/// digits and is at most 4,294,967,295; hexadecimal digits are of either case. A line that begins with `#`, is empty or has
-/// blanks alone is `Pass`; every other line is `Malformed`.
+/// A line is `stamp L G05 hex` (76 digits), `stamp P E11 B hex` (30 digits; `5` for E5b in place of
+/// `B`) or `stamp R hex` (12 to 2,058 digits, an even number), its words separated by one space.
+/// The stamp has one to ten decimal digits and is at most 4,294,967,295; hexadecimal digits are of
+/// either case. A line of at most 2,200 bytes that begins with `#`, is empty or has blanks alone is
+/// `Pass`; every other line is `Malformed`.
 #[tactic(auto, unfolding(crate::specs::Reading::item_of))]
 pub fn read_line(line: &[u8]) -> LineItem
     ensures item { result ≡ item_of line.now }
@@ -33,7 +38,7 @@ pub fn read_line(line: &[u8]) -> LineItem
         return LineItem::Pass;
     }
     let count = digit_count(line);
-    match stamp_of(line, count) {
+    match number_of(line, count) {
         Some(stamp) => form(stamp, &line[count..]),
         None => LineItem::Malformed,
     }
@@ -43,7 +48,7 @@ pub fn read_line(line: &[u8]) -> LineItem
 fn is_passed_line(line: &[u8]) -> bool
     ensures { result ≡ is_passed line.now }
 {
-    begins_comment(line) || has_blanks_alone(line)
+    line.len() <= LONGEST_COMMENT && (begins_comment(line) || has_blanks_alone(line))
 }
 
 // Whether the line has no byte but blanks.

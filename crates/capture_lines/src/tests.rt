@@ -1,4 +1,5 @@
-//! Lines as they are read and written. The bits are those of a subframe, a page half and a frame of an independent program.
+//! Lines as they are read and written. The bits are those of a subframe, a page half and a frame of
+//! an independent program.
 
 ghost use Rattle.std.specs.Prelude.{◌≡◌};
 
@@ -6,6 +7,7 @@ use crate::{
     CaptureHead, LineItem, LineText, read_first, read_line, write_half_line, write_lnav, write_rtcm,
 };
 use arrayvec::ArrayVec;
+use gnss_week::RefWeek;
 use inav_page::Signal;
 use nav_bits::Bits;
 use nav_eph::{Sat, System};
@@ -65,18 +67,97 @@ fn frame(stamp: u32) -> LineItem {
 }
 
 #[test]
-fn reads_the_first_line(rt: HostRuntime) {
-    assert_eq!(rt; read_first(b"NAVCAP 1"), Some(CaptureHead { window: 7200 }));
-    let others: [&[u8]; 7] = [
+fn reads_a_plain_first_line(rt: HostRuntime) {
+    let plain = CaptureHead {
+        window: 7200,
+        week: None,
+    };
+    assert_eq!(rt; read_first(b"NAVCAP 1"), Some(plain));
+    let others: [&[u8]; 8] = [
         b"",
         b"NAVCAP",
         b"NAVCAP 1 ",
         b" NAVCAP 1",
         b"NAVCAP 2",
         b"navcap 1",
+        b"NAVCAP 1 2295 60",
         b"# x",
     ];
     for line in others.iter() {
+        assert_eq!(rt; read_first(line), None);
+    }
+}
+
+#[derive(Drop)]
+struct HeadRow {
+    line: &'static [u8],
+    week: u32,
+    window: u32,
+}
+
+#[test]
+fn reads_first_lines_with_week_and_window(rt: HostRuntime) {
+    let rows = [
+        HeadRow {
+            line: b"NAVCAP 2 2295 60",
+            week: 2295,
+            window: 60,
+        },
+        HeadRow {
+            line: b"NAVCAP 2 1024 14400",
+            week: 1024,
+            window: 14400,
+        },
+        HeadRow {
+            line: b"NAVCAP 2 8191 7200",
+            week: 8191,
+            window: 7200,
+        },
+        HeadRow {
+            line: b"NAVCAP 2 0000002295 0000000060",
+            week: 2295,
+            window: 60,
+        },
+        HeadRow {
+            line: b"NAVCAP 2 02295 061",
+            week: 2295,
+            window: 61,
+        },
+    ];
+    for row in rows.iter() {
+        let head = CaptureHead {
+            window: row.window,
+            week: RefWeek::new(row.week),
+        };
+        assert_eq!(rt; read_first(row.line), Some(head));
+    }
+}
+
+#[test]
+fn refuses_odd_first_lines(rt: HostRuntime) {
+    let rows: [&[u8]; 20] = [
+        b"NAVCAP 2 1023 60",
+        b"NAVCAP 2 8192 60",
+        b"NAVCAP 2 2295 59",
+        b"NAVCAP 2 2295 14401",
+        b"NAVCAP 2 4294969591 60",
+        b"NAVCAP 2 2295 4294967356",
+        b"NAVCAP 2 00000002295 60",
+        b"NAVCAP 2 2295 00000000060",
+        b"NAVCAP 2  2295 60",
+        b"NAVCAP 2 2295  60",
+        b"NAVCAP 2 2295 60 ",
+        b" NAVCAP 2 2295 60",
+        b"NAVCAP 2 2295",
+        b"NAVCAP 2 2295 ",
+        b"NAVCAP 2 ",
+        b"NAVCAP 2 2295\t60",
+        b"NAVCAP 2 +2295 60",
+        b"NAVCAP 2 2295 60\r",
+        b"NAVCAP 3 2295 60",
+        b"navcap 2 2295 60",
+    ];
+    for line in rows.iter() {
         assert_eq!(rt; read_first(line), None);
     }
 }
@@ -158,8 +239,16 @@ fn reads_frames_of_1029_bytes(rt: HostRuntime) {
     line[3] = b' ';
     assert!(rt; read_line(&line[..2062]) != LineItem::Malformed);
     assert!(rt; read_line(&line) == LineItem::Malformed);
-    let comment = [b'#'; 2200];
-    assert!(rt; read_line(&comment) == LineItem::Pass);
+}
+
+#[test]
+fn passes_comments_of_2200_bytes(rt: HostRuntime) {
+    let comment = [b'#'; 2201];
+    assert!(rt; read_line(&comment[..2200]) == LineItem::Pass);
+    assert!(rt; read_line(&comment) == LineItem::Malformed);
+    let blanks = [b' '; 2201];
+    assert!(rt; read_line(&blanks[..2200]) == LineItem::Pass);
+    assert!(rt; read_line(&blanks) == LineItem::Malformed);
 }
 
 #[test]

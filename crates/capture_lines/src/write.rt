@@ -4,10 +4,11 @@ ghost use Rattle.std.specs.Prelude.{◌≡◌, ◌+◌, ◌*◌, ◌<◌, ◌≤
 ghost use Rattle.arrayvec.specs.ArrayVec.{array_vec_len};
 ghost use Rattle.hex.specs.Hex.{IsBytes, encode_lower};
 ghost use Rattle.nav_eph.specs.declared.sat.System.TheVariants.{Gps, Gal};
-ghost use Rattle.capture_lines.specs.Texts.{frame_text, half_text, lnav_text, signal_letter, two_digits};
+ghost use Rattle.capture_lines.specs.Texts.{frame_text, half_text, lnav_text, signal_letter};
+ghost use Rattle.capture_lines.specs.Texts.{two_digits};
 ghost use Rattle.capture_lines.specs.Spellings.{IsFrameLine, IsHalfLine, IsEnded, IsLnavLine};
 
-use crate::stamp::push_decimal;
+use crate::numbers::push_decimal;
 use arrayvec::ArrayVec;
 use hex::encode_to_slice;
 use inav_page::Signal;
@@ -17,8 +18,9 @@ use nav_eph::Sat;
 /// Room for a line and its end.
 pub type LineText = ArrayVec<u8, 2201>;
 
-/// Writes the line of a subframe of a satellite of GPS, heard at that second of the logger, into an empty text:
-/// `stamp L G05 hex`, LF at the end. The stamp has no leading zeros, the 76 hexadecimal digits are in lower case.
+/// Writes the line of a subframe of a satellite of GPS, heard at that second of the logger, into an
+/// empty text: `stamp L G05 hex`, LF at the end. The stamp has no leading zeros, the 76 hexadecimal
+/// digits are in lower case.
 pub fn write_lnav(stamp: u32, sat: Sat, bits: &Bits<38>, into: &mut LineText)
     requires empty { into.old.items ≡ [] }
     requires system { sat.system ≡ Gps }
@@ -33,8 +35,9 @@ pub fn write_lnav(stamp: u32, sat: Sat, bits: &Bits<38>, into: &mut LineText)
     into.push(b'\n');
 }
 
-/// Writes the line of a page half of a satellite of Galileo into an empty text: `stamp P E11 B hex`, with `5` for E5b in
-/// place of `B`, LF at the end. The stamp has no leading zeros, the 30 hexadecimal digits are in lower case.
+/// Writes the line of a page half of a satellite of Galileo into an empty text: `stamp P E11 B
+/// hex`, with `5` for E5b in place of `B`, LF at the end. The stamp has no leading zeros, the 30
+/// hexadecimal digits are in lower case.
 pub fn write_half_line(stamp: u32, sat: Sat, signal: Signal, bits: &Bits<15>, into: &mut LineText)
     requires empty { into.old.items ≡ [] }
     requires system { sat.system ≡ Gal }
@@ -51,8 +54,8 @@ pub fn write_half_line(stamp: u32, sat: Sat, signal: Signal, bits: &Bits<15>, in
     into.push(b'\n');
 }
 
-/// Writes the line of a frame of 6 to 1,029 bytes into an empty text: `stamp R hex`, LF at the end. The stamp has no
-/// leading zeros, the hexadecimal digits, two for each byte, are in lower case.
+/// Writes the line of a frame of 6 to 1,029 bytes into an empty text: `stamp R hex`, LF at the end.
+/// The stamp has no leading zeros, the hexadecimal digits, two for each byte, are in lower case.
 pub fn write_rtcm(stamp: u32, frame: &[u8], into: &mut LineText)
     requires empty { into.old.items ≡ [] }
     requires shortest { 6 ≤ length frame.now }

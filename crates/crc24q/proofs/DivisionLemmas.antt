@@ -7,8 +7,8 @@ use lib.Arith.{bin_ind}
 use lib.Bits.{xor_shifted}
 use Rattle.crc24q.specs.Division.{generator, times_generator, IsCrc}
 use Rattle.crc24q.specs.Register.{turned, shift, with_byte_of}
-use Rattle.crc24q.specs.SumLaws.{regroup, cancel, same_from_zero, xor-mul_pow}
-use Rattle.crc24q.specs.RegisterLaws.{turned-lt, shift-xor, shift_small}
+use Rattle.crc24q.proofs.SumLaws.{regroup, cancel, same_from_zero, xor-mul_pow}
+use Rattle.crc24q.proofs.RegisterLaws.{turned-lt, shift-xor, shift_small}
 
 -- x times a multiple and, where the first digit of r is 1, the generator
 step_of : ℕ → List Bool → List Bool
@@ -122,7 +122,7 @@ other true false = true
 other false z = z
 
 -- the coefficients of a sum
-sum_of : List Bool → List Bool → List Bool
+pub sum_of : List Bool → List Bool → List Bool
 sum_of [] b = b
 sum_of (x ∷ a) [] = x ∷ a
 sum_of (x ∷ a) (y ∷ b) = other x y ∷ sum_of a b
@@ -134,7 +134,7 @@ digit_sum true false = refl
 digit_sum false true = refl
 digit_sum false false = refl
 
-times_sum : (a b : List Bool) → times_generator (sum_of a b) ≡ bit_xor (times_generator a) (times_generator b)
+pub times_sum : (a b : List Bool) → times_generator (sum_of a b) ≡ bit_xor (times_generator a) (times_generator b)
 unfolding times_generator sum_of
 times_sum [] b = sym (xor_zero_l (times_generator b))
 times_sum (x ∷ a) [] = sym (xor_zero_r (times_generator (x ∷ a)))

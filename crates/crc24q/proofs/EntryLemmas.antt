@@ -4,7 +4,7 @@ use Rattle.crc24q.specs.Register.{turned, shift}
 use Rattle.crc24q.specs.declared.tables.TheConstants.{MOVED_8, MOVED_16, MOVED_24, MOVED_32}
 use Rattle.crc24q.specs.declared.powers.TheConstants.{POWERS}
 use Rattle.crc24q.proofs.TableLemmas.{are_entries, are_images, are_steps, entry_is, image_is, step_is}
-use Rattle.crc24q.specs.RegisterLaws.{shift-add}
+use Rattle.crc24q.proofs.RegisterLaws.{shift-add}
 
 -- eight places on, and a byte at the head of the register eight places on
 unfoldable pub eight_on : ℕ → ℕ

@@ -1,6 +1,10 @@
+pub mod SumLaws
+pub mod RegisterLaws
 pub mod TableLemmas
 pub mod EntryLemmas
 pub mod DivisionLemmas
 pub mod LookupLemmas
 pub mod StepLemmas
 pub mod MessageLemmas
+pub mod BitLemmas
+pub mod Surface

@@ -5,7 +5,7 @@ use Rattle.std.specs.Int.Bits.{bit_and, bit_xor, xor_zero_r}
 use lib.Bits.{xor_shifted}
 use Rattle.crc24q.specs.Division.{generator}
 use Rattle.crc24q.specs.Register.{turned, shift, with_byte_of, crc_from}
-use Rattle.crc24q.specs.RegisterLaws.{turned_small, shift-lt, shift-xor, shift-add, shift_small, crc_from-xor}
+use Rattle.crc24q.proofs.RegisterLaws.{turned_small, shift-lt, shift-xor, shift-add, shift_small, crc_from-xor}
 
 -- a sum of a byte at the head and a register
 head_sum : (r x : ℕ) → bit_xor r (x * 2 ^ 16) ≡ bit_xor (bit_xor (r / 2 ^ 16) x * 2 ^ 16) (r % 2 ^ 16)

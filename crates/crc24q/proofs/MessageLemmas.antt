@@ -10,7 +10,7 @@ use Rattle.nav_bits.specs.Bits.{bit, number_at}
 use Rattle.nav_bits.specs.Laws.{number_at-append, number_at-part, number_at-byte, number_at-lt}
 use Rattle.crc24q.specs.Division.{IsCrc}
 use Rattle.crc24q.specs.Register.{shift, with_byte_of, crc_from}
-use Rattle.crc24q.specs.RegisterLaws.{crc_from-append, crc_from-lt, crc_from-parts}
+use Rattle.crc24q.proofs.RegisterLaws.{crc_from-append, crc_from-lt, crc_from-parts}
 use Rattle.crc24q.proofs.DivisionLemmas.{zero_is, with_byte_grows, one_remainder}
 
 -- a byte of a list, whatever its number

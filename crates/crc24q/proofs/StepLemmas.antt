@@ -4,7 +4,7 @@ use Rattle.std.proofs.lemmas.List.{drop_more, drop_all}
 use Rattle.std.proofs.lemmas.Nat.{and_mask, shr-shr, shr_le}
 use Rattle.std.specs.Int.Bits.{bit_and, bit_xor}
 use Rattle.crc24q.specs.Register.{turned, shift, with_byte_of, crc_from}
-use Rattle.crc24q.specs.RegisterLaws.{turned_small, shift-lt, shift-xor, shift-add, shift-zero, crc_from-append}
+use Rattle.crc24q.proofs.RegisterLaws.{turned_small, shift-lt, shift-xor, shift-add, shift-zero, crc_from-append}
 use Rattle.crc24q.proofs.LookupLemmas.{next_digits}
 
 pub byte_step : (state next i : ℕ) (xs : List ℕ) → i < length xs → next ≡ with_byte_of state (get_or xs i 0) → crc_from next (drop (i + 1) xs) ≡ crc_from state (drop i xs)

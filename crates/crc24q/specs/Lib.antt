@@ -1,4 +1,3 @@
 pub mod Division
 pub mod Register
-pub mod SumLaws
-pub mod RegisterLaws
+pub mod BitLists

@@ -2,6 +2,7 @@
 
 ghost use Rattle.std.specs.Prelude.{◌≡◌, ℕ, ◌*◌, List, ◌++◌, length, bit_xor};
 ghost use Rattle.nav_bits.specs.Bits.{number_at};
+ghost use Rattle.crc24q.specs.BitLists.{bits_at, crc_of_bits, number_of_bits};
 ghost use Rattle.crc24q.specs.Division.{IsCrc};
 ghost use Rattle.crc24q.specs.Register.{shift, crc_from};
 
@@ -20,12 +21,29 @@ pub fn the_register_holds_the_crc()
     ensures { (bytes : List ℕ) → IsCrc (number_at bytes 0 (8 * length bytes)) (crc_from 0 bytes) }
 {}
 
-/// The CRC of joined bytes: that of the first ones, moved past the second ones, and that of the second ones.
+/// The CRC of a list of bits is a function of it: the remainder of the polynomial with these
+/// coefficients. The polynomial of a run of bits in some bytes is the number that stands there.
+pub fn bits_have_their_crc()
+    ensures crc { (bits : List ℕ) → IsCrc (number_of_bits bits) (crc_of_bits bits) }
+    ensures run { (bytes : List ℕ) (from count : ℕ) →
+        number_of_bits (bits_at bytes from count) ≡ number_at bytes from count }
+{}
+
+/// The CRC is linear: that of a sum of polynomials is the sum of their CRCs.
+pub fn crc_of_a_sum()
+    ensures { (p r q s : ℕ) → IsCrc p r → IsCrc q s → IsCrc (bit_xor p q) (bit_xor r s) }
+{}
+
+/// The CRC of joined bytes: that of the first ones, moved past the second ones, and that of the
+/// second ones.
 pub fn crc_of_joined_bytes()
-    ensures { (xs ys : List ℕ) → crc_from 0 (xs ++ ys) ≡ bit_xor (shift (8 * length ys) (crc_from 0 xs)) (crc_from 0 ys) }
+    ensures { (xs ys : List ℕ) → crc_from 0 (xs ++ ys) ≡
+        bit_xor (shift (8 * length ys) (crc_from 0 xs)) (crc_from 0 ys) }
 {}
 
 /// A run of bits that is the same as some bytes has the CRC of these bytes.
 pub fn bits_of_bytes_have_their_crc()
-    ensures { (bytes run : List ℕ) (from r : ℕ) → number_at run from (8 * length bytes) ≡ number_at bytes 0 (8 * length bytes) → IsCrc (number_at run from (8 * length bytes)) r → r ≡ crc_from 0 bytes }
+    ensures { (bytes run : List ℕ) (from r : ℕ) →
+        number_at run from (8 * length bytes) ≡ number_at bytes 0 (8 * length bytes) →
+        IsCrc (number_at run from (8 * length bytes)) r → r ≡ crc_from 0 bytes }
 {}

@@ -1,9 +1,9 @@
-//! CRC-24Q, the cyclic redundancy check of RTCM frames and of Galileo I/NAV pages (RTCM 10403.3, section 4; Galileo OS
-//! SIS ICD, section 5.1.9.4).
+//! CRC-24Q, the cyclic redundancy check of RTCM frames and of Galileo I/NAV pages (RTCM 10403.3,
+//! section 4; Galileo OS SIS ICD, section 5.1.9.4).
 //!
-//! A message of bits is a polynomial over the field of two elements, its first bit the highest power. The CRC is the
-//! remainder of x^24 times it by the generator 0x1864CFB: start 0, no reflection, no final change. It goes by tables,
-//! four bytes at a time.
+//! A message of bits is a polynomial over the field of two elements, its first bit the highest
+//! power. The CRC is the remainder of x^24 times it by the generator 0x1864CFB: start 0, no
+//! reflection, no final change. It goes by tables, four bytes at a time.
 //!
 //! ```rust
 //! let crc = crc24q::crc_bytes(&[0xd3, 0, 0]);
@@ -21,8 +21,8 @@ mod tables;
 mod tests;
 
 pub use crate::laws::{
-    bits_of_bytes_have_their_crc, crc_of_joined_bytes, every_polynomial_has_a_crc, one_crc,
-    the_register_holds_the_crc,
+    bits_have_their_crc, bits_of_bytes_have_their_crc, crc_of_a_sum, crc_of_joined_bytes,
+    every_polynomial_has_a_crc, one_crc, the_register_holds_the_crc,
 };
 pub use crate::message::{crc_bits, crc_bytes};
 pub use crate::register::with_byte;

@@ -2,6 +2,7 @@
 
 ghost use Rattle.std.specs.Prelude.{◌≡◌, ℕ, ◌+◌, ◌*◌, ◌^◌, ◌<◌, ◌≤◌, length};
 ghost use Rattle.nav_bits.specs.Bits.{number_at};
+ghost use Rattle.crc24q.specs.BitLists.{bits_at, crc_of_bits};
 ghost use Rattle.crc24q.specs.Division.{IsCrc};
 ghost use Rattle.crc24q.specs.Register.{crc_from};
 
@@ -11,7 +12,8 @@ use nav_bits::{Bits, U};
 
 /// The CRC of some bytes, the most significant bit of each first. It is 0 for no bytes.
 ///
-/// RTCM 10403.3, section 4: the last three bytes of a frame are the CRC of all before them, the high byte first.
+/// RTCM 10403.3, section 4: the last three bytes of a frame are the CRC of all before them, the
+/// high byte first.
 pub fn crc_bytes(bytes: &[u8]) -> U<24>
     ensures value { result ≡ crc_from 0 bytes.now }
     ensures crc { IsCrc (number_at bytes.now 0 (8 * length bytes.now)) result }
@@ -19,12 +21,15 @@ pub fn crc_bytes(bytes: &[u8]) -> U<24>
     U::from_digits(u64::from(after_bytes(bytes)))
 }
 
-/// The CRC of the `count` bits from bit `from` on, bit 0 being the most significant bit of the first byte.
+/// The CRC of the `count` bits from bit `from` on, bit 0 being the most significant bit of the
+/// first byte.
 ///
-/// Galileo OS SIS ICD, section 5.1.9.4: the CRC of a nominal page is that of its 196 bits before the CRC.
+/// Galileo OS SIS ICD, section 5.1.9.4: the CRC of a nominal page is that of its 196 bits before
+/// the CRC.
 pub fn crc_bits<const N: usize>(bits: &Bits<N>, from: usize, count: usize) -> U<24>
     requires { from + count ≤ 8 * N }
-    ensures { IsCrc (number_at bits.now from count) result }
+    ensures value { result ≡ crc_of_bits (bits_at bits.now from count) }
+    ensures crc { IsCrc (number_at bits.now from count) result }
 {
     let bytes = bits.bytes();
     U::from_digits(u64::from(crc_of_run(bytes, from, count)))

@@ -7,8 +7,8 @@ use crate::tables::{moved_8, moved_16, moved_24, moved_32};
 
 /// The register with one more byte.
 ///
-/// From 0 on, the register after the last byte of a message is its CRC. A caller that keeps the states after each byte
-/// gets the CRC of any part of the message by [`shifted`](crate::shifted).
+/// From 0 on, the register after the last byte of a message is its CRC. A caller that keeps the
+/// states after each byte gets the CRC of any part of the message by [`shifted`](crate::shifted).
 pub fn with_byte(state: u32, byte: u8) -> u32
     requires { state < 2 ^ 24 }
     ensures value { result ≡ with_byte_of state byte }
@@ -17,7 +17,8 @@ pub fn with_byte(state: u32, byte: u8) -> u32
     moved_8((state >> 16) as u8 ^ byte) ^ (state & 0xffff) << 8
 }
 
-// The register with four more bytes. After three of them nothing of the earlier state is left but these look-ups.
+// The register with four more bytes. After three of them nothing of the earlier state is left but
+// these look-ups.
 fn with_four(state: u32, a: u8, b: u8, c: u8, d: u8) -> u32
     requires { state < 2 ^ 24 }
     ensures value { result ≡ crc_from state (a ∷ b ∷ c ∷ d ∷ []) }

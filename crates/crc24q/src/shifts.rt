@@ -9,10 +9,12 @@ use crate::tables::moved_8;
 
 const GENERATOR: u32 = 0x1864CFB;
 
-/// The register after `count` bytes 0, going on from `state`: up to 1,028 of them, as many as a frame may have.
+/// The register after `count` bytes 0, going on from `state`: up to 1,028 of them, as many as a
+/// frame may have.
 ///
-/// A register is linear: after `count` bytes of any value it is the sum (`^`) of this and of the CRC of these bytes
-/// alone. So the CRC of a part of some bytes follows from the states before and after the part, whatever its length.
+/// A register is linear: after `count` bytes of any value it is the sum (`^`) of this and of the
+/// CRC of these bytes alone. So the CRC of a part of some bytes follows from the states before and
+/// after the part, whatever its length.
 pub fn shifted(state: u32, count: usize) -> u32
     requires state { state < 2 ^ 24 }
     requires count { count < 1029 }

@@ -17,6 +17,14 @@ gps_week_to r n = first_from 1024 (r - 512) n
 unfoldable pub galileo_week_to : ℕ → ℕ → ℕ
 galileo_week_to r n = first_from 4096 (max 1024 (r - 2048)) (n + 1024)
 
+-- w is one of the weeks that the digits of GPS tell apart near the week r
+abbrev pub near_gps : ℕ → ℕ → Bool
+near_gps r w = nat_le r (w + 512) && nat_le w (r + 511)
+
+-- w is one of the weeks that the digits of Galileo tell apart near the week r
+abbrev pub near_galileo : ℕ → ℕ → Bool
+near_galileo r w = nat_le (max 1024 (r - 2048)) w && nat_le w (max 1024 (r - 2048) + 4095)
+
 -- the moment nearest to t with that second of the week
 unfoldable pub moment_near : ℕ → ℕ → ℕ
 moment_near t second = first_from 604800 (t - 302399) second

@@ -26,6 +26,16 @@ week_of m = m / 604800
 abbrev pub second_of : ℕ → ℕ
 second_of m = m % 604800
 
+-- w is one of the 1024 weeks that ten digits of GPS tell apart near the week r
+pub record IsNearGps (r w : ℕ) : Type 0 where
+  pub from : r ≤ w + 512
+  pub to : w ≤ r + 511
+
+-- w is one of the 4096 weeks that twelve digits of Galileo tell apart near the week r
+pub record IsNearGalileo (r w : ℕ) : Type 0 where
+  pub from : max 1024 (r - 2048) ≤ w
+  pub to : w ≤ max 1024 (r - 2048) + 4095
+
 -- w is the GPS week that the ten-bit number n means for a reader near the week r (IS-GPS-200, 20.3.3.3.1.1)
 pub record IsGpsWeek (r n w : ℕ) : Type 0 where
   pub same : w % 1024 ≡ n % 1024

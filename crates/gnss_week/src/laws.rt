@@ -1,7 +1,9 @@
-ghost use Rattle.std.specs.Prelude.{◌≡◌, ℕ, ◌<◌, ◌≤◌, Result, Ok};
-ghost use Rattle.gnss_week.specs.Weeks.{IsGalileoWeek, IsGpsWeek, IsMoment, IsNearestMoment, IsReference, IsSecond};
+ghost use Rattle.std.specs.Prelude.{◌≡◌, ℕ, ◌+◌, ◌%◌, ◌<◌, ◌≤◌, ◌↔◌, Result, Ok, true};
+ghost use Rattle.gnss_week.specs.Weeks.{IsGalileoWeek, IsGpsWeek, IsNearGalileo, IsNearGps};
+ghost use Rattle.gnss_week.specs.Weeks.{IsMoment, IsNearestMoment, IsReference, IsSecond};
 ghost use Rattle.gnss_week.specs.Dates.{GivesMoment, IsCivilOf};
-ghost use Rattle.gnss_week.specs.Functions.{IsShort, civil_to, galileo_week_to, gps_week_to, moment_near, moment_to};
+ghost use Rattle.gnss_week.specs.Functions.{galileo_week_to, gps_week_to, near_galileo, near_gps};
+ghost use Rattle.gnss_week.specs.Functions.{IsShort, civil_to, moment_near, moment_to};
 ghost use Rattle.gnss_week.specs.declared.calendar.Civil.{Civil};
 ghost use Rattle.gnss_week.specs.declared.calendar.WeekFault.{WeekFault};
 
@@ -56,6 +58,16 @@ pub fn gps_week_function()
 pub fn galileo_week_function()
     ensures meant { (r n : ℕ) → IsReference r → n < 4096 → IsGalileoWeek r n (galileo_week_to r n) }
     ensures only { (r n w : ℕ) → IsGalileoWeek r n w → w ≡ galileo_week_to r n }
+{}
+
+/// `near_gps` and `near_galileo` say which weeks lie near a reference week; the weeks that their numbers
+/// mean are among these, and the number of each of these means it.
+pub fn near_weeks()
+    ensures gps { (r w : ℕ) → (near_gps r w ≡ true) ↔ IsNearGps r w }
+    ensures galileo { (r w : ℕ) → (near_galileo r w ≡ true) ↔ IsNearGalileo r w }
+    ensures gps_number { (r w : ℕ) → IsNearGps r w → gps_week_to r (w % 1024) ≡ w }
+    ensures galileo_number { (r w : ℕ) → IsNearGalileo r w →
+        galileo_week_to r ((w + 3072) % 4096) ≡ w }
 {}
 
 /// The nearest moment with a second of the week is `moment_near`.

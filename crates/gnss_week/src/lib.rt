@@ -6,7 +6,8 @@
 //! reader is to take the nearest one. Here are
 //!
 //! - [`RefWeek`], [`Week`], [`Second`] and [`Moment`], numbers within their ranges;
-//! - [`gps_week`] and [`gal_week`], the weeks that cut numbers mean near a reference week;
+//! - [`gps_week`] and [`gal_week`], the weeks that cut numbers mean near a reference week,
+//!   and [`is_near_gps`] and [`is_near_galileo`], which weeks they can mean;
 //! - [`nearest_moment`], the nearest moment with a second of the week;
 //! - [`civil`] and [`moment_of`], between moments and dates of the calendar.
 //!
@@ -35,9 +36,9 @@ pub use crate::calendar::{Civil, WeekFault};
 pub use crate::dates::{civil, moment_of};
 pub use crate::laws::{
     date_again, date_function, galileo_week_function, gps_week_function, moment_again,
-    moment_function, nearest_moment_function, one_answer, one_date, one_galileo_week, one_gps_week,
-    one_moment, one_nearest_moment, short_dates,
+    moment_function, near_weeks, nearest_moment_function, one_answer, one_date, one_galileo_week,
+    one_gps_week, one_moment, one_nearest_moment, short_dates,
 };
 pub use crate::moment::{Moment, Second};
 pub use crate::numbers::{RefWeek, Week};
-pub use crate::weeks::{gal_week, gps_week, nearest_moment};
+pub use crate::weeks::{gal_week, gps_week, is_near_galileo, is_near_gps, nearest_moment};

@@ -123,3 +123,67 @@ fn dates_without_a_moment(rt: HostRuntime) {
         assert_eq!(rt; moment(date), Err(fault));
     }
 }
+
+// A reference week, a week, and whether the digits of GPS and of Galileo tell it apart there.
+#[derive(Clone, Copy)]
+struct NearRow {
+    reference: u32,
+    week: u32,
+    gps: bool,
+    galileo: bool,
+}
+
+#[test]
+fn weeks_near_a_reference_week(rt: HostRuntime) -> Result<(), Fail> {
+    let rows = [
+        NearRow {
+            reference: 2295,
+            week: 1783,
+            gps: true,
+            galileo: true,
+        },
+        NearRow {
+            reference: 2295,
+            week: 1782,
+            gps: false,
+            galileo: true,
+        },
+        NearRow {
+            reference: 2295,
+            week: 2806,
+            gps: true,
+            galileo: true,
+        },
+        NearRow {
+            reference: 2295,
+            week: 2807,
+            gps: false,
+            galileo: true,
+        },
+        NearRow {
+            reference: 2295,
+            week: 1023,
+            gps: false,
+            galileo: false,
+        },
+        NearRow {
+            reference: 2295,
+            week: 5119,
+            gps: false,
+            galileo: true,
+        },
+        NearRow {
+            reference: 2295,
+            week: 5120,
+            gps: false,
+            galileo: false,
+        },
+    ];
+    for row in &rows {
+        let reference = RefWeek::new(row.reference).ok_or("a reference week")?;
+        let week = Week::new(row.week).ok_or("a week")?;
+        assert!(rt; is_near_gps(reference, week) == row.gps);
+        assert!(rt; is_near_galileo(reference, week) == row.galileo);
+    }
+    Ok(())
+}

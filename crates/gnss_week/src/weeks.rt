@@ -1,4 +1,7 @@
-ghost use Rattle.gnss_week.specs.Weeks.{IsGalileoWeek, IsGpsWeek, IsNearestMoment, IsWeek, week_of};
+ghost use Rattle.std.specs.Prelude.{◌≡◌, ◌↔◌, IsTrue};
+ghost use Rattle.gnss_week.specs.Functions.{near_galileo, near_gps};
+ghost use Rattle.gnss_week.specs.Weeks.{IsGalileoWeek, IsGpsWeek, IsNearGalileo, IsNearGps};
+ghost use Rattle.gnss_week.specs.Weeks.{IsNearestMoment, IsWeek, week_of};
 
 use crate::moment::{Moment, SECONDS_OF_WEEK, Second};
 use crate::numbers::{RefWeek, Week};
@@ -46,4 +49,25 @@ pub fn nearest_moment(near: Moment, second: Second) -> Moment
     let low = near.value() - (turn / 2 - 1);
     let ahead = (second.value() as u64 + turn - low % turn) % turn;
     Moment::from_seconds(low + ahead)
+}
+
+/// `week` is one of the 1024 weeks that the ten digits of GPS tell apart near the week `r`: from
+/// `r` - 512 to `r` + 511 (IS-GPS-200, 20.3.3.3.1.1).
+pub fn is_near_gps(r: RefWeek, week: Week) -> bool
+    ensures exactly { IsTrue result ↔ IsNearGps r week }
+    ensures answer { result ≡ near_gps r week }
+{
+    let half = GPS_TURN / 2;
+    week.value() + half >= r.value() && week.value() < r.value() + half
+}
+
+/// `week` is one of the 4096 weeks that the twelve digits of Galileo tell apart near the week `r`:
+/// those from `r` - 2048 on, or from 1024 on where that is later (Galileo OS SIS ICD, 5.1.2).
+pub fn is_near_galileo(r: RefWeek, week: Week) -> bool
+    ensures exactly { IsTrue result ↔ IsNearGalileo r week }
+    ensures answer { result ≡ near_galileo r week }
+{
+    let half = GALILEO_TURN / 2;
+    let first = r.value().max(GALILEO_START + half) - half;
+    week.value() >= first && week.value() - first < GALILEO_TURN
 }

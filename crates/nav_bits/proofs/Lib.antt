@@ -3,3 +3,6 @@ pub mod BytePart
 pub mod Halves
 pub mod PutFields
 pub mod TwosComplement
+pub mod WholeNumbers
+pub mod PackedFields
+pub mod Surface

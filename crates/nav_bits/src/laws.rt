@@ -1,6 +1,9 @@
-ghost use Rattle.std.specs.Prelude.{◌≡◌, ℕ, ◌+◌, ◌*◌, ◌^◌, ◌<◌, ◌≤◌, List, slice_index};
+ghost use Rattle.std.specs.Prelude.{◌≡◌, ℕ, ◌+◌, ◌*◌, ◌^◌, ◌%◌, ◌<◌, ◌≤◌, List, slice_index, ℤ};
+ghost use Rattle.std.specs.Int.{bytes_high_first};
 ghost use Rattle.nav_bits.specs.Bits.{number_at};
-ghost use Rattle.nav_bits.specs.Signed.{signed_of};
+ghost use Rattle.nav_bits.specs.Fields.{Field, StandFrom, table_width};
+ghost use Rattle.nav_bits.specs.Packed.{AllFit, AreBytes, ZerosFrom, packed};
+ghost use Rattle.nav_bits.specs.Signed.{IsSigned, signed_of, unsigned_of};
 
 /// The number of two runs of digits, one behind the other.
 pub fn append()
@@ -17,4 +20,39 @@ pub fn byte()
 /// No two runs of digits stand for the same number in two's complement.
 pub fn one_number_for_digits()
     ensures { (w m n : ℕ) → 1 ≤ w → m < 2 ^ w → n < 2 ^ w → signed_of w m ≡ signed_of w n → m ≡ n }
+{}
+
+/// What `w` digits stand for in two's complement is within the range of `w` digits.
+pub fn signed_numbers_fit()
+    ensures { (w n : ℕ) → 1 ≤ w → n < 2 ^ w → IsSigned w (signed_of w n) }
+{}
+
+/// The digits of a number in two's complement stand for it, and are no more than it has.
+pub fn digits_of_signed_numbers()
+    ensures stand { (w : ℕ) (z : ℤ) → 1 ≤ w → IsSigned w z → signed_of w (unsigned_of w z) ≡ z }
+    ensures fit { (w : ℕ) (z : ℤ) → 1 ≤ w → IsSigned w z → unsigned_of w z < 2 ^ w }
+{}
+
+/// The bytes of a number have its digits, and no two lists of so many bytes have the same number.
+pub fn byte_lists()
+    ensures bytes { (n x : ℕ) → AreBytes n (bytes_high_first n x) }
+    ensures number { (n x : ℕ) → number_at (bytes_high_first n x) 0 (8 * n) ≡ x % 2 ^ (8 * n) }
+    ensures one { (n : ℕ) (a b : List ℕ) → AreBytes n a → AreBytes n b →
+        number_at a 0 (8 * n) ≡ number_at b 0 (8 * n) → a ≡ b }
+{}
+
+/// The packed fields of a table that fills the bytes stand in them, and what is reserved is 0.
+pub fn packed_stand()
+    ensures fields { (n : ℕ) (fields : List Field) → AllFit fields → table_width fields ≡ 8 * n →
+        StandFrom (packed n fields) 0 0 fields }
+    ensures zeros { (n : ℕ) (fields : List Field) → AllFit fields → table_width fields ≡ 8 * n →
+        ZerosFrom (packed n fields) 0 0 fields }
+    ensures bytes { (n : ℕ) (fields : List Field) → AreBytes n (packed n fields) }
+{}
+
+/// No other bytes hold the fields of a table that fills them, with 0 in what is reserved.
+pub fn packed_are_the_only()
+    ensures { (n : ℕ) (fields : List Field) (bytes : List ℕ) → AllFit fields → table_width fields ≡ 8 * n →
+        AreBytes n bytes → StandFrom bytes 0 0 fields → ZerosFrom bytes 0 0 fields →
+        bytes ≡ packed n fields }
 {}

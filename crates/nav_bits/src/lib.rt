@@ -9,6 +9,8 @@
 //! - [`Bits`], some bytes as bits, with the numbers that stand at any places of them;
 //! - [`Layout`] and [`BitForm`], what a value that stands in bits promises: what was packed is
 //!   unpacked, and packing changes its own bits alone;
+//! - `packed` in the definitions, the bytes in which the fields of a table stand one behind the other
+//!   with what is reserved 0, and [`packed_are_the_only`], that no other bytes are such;
 //! - [`put_numbers`], which writes a table of fields, and `join` and `split` of [`U`] and [`S`], for
 //!   fields in two ranges.
 //!
@@ -35,7 +37,10 @@ mod unsigned;
 
 pub use crate::bits::Bits;
 pub use crate::fields::put_numbers;
-pub use crate::laws::{append, byte, one_number_for_digits};
+pub use crate::laws::{
+    append, byte, byte_lists, digits_of_signed_numbers, one_number_for_digits, packed_are_the_only,
+    packed_stand, signed_numbers_fit,
+};
 pub use crate::layout::{BitForm, Layout};
 pub use crate::signed::S;
 pub use crate::unsigned::U;

@@ -4,7 +4,7 @@ use Rattle.std.proofs.Common.{◌≡◌, ℕ, zero, suc, ◌+◌, ◌-◌, ◌^�
 use Rattle.std.proofs.lemmas.Bool.{cases_lt}
 use Rattle.std.proofs.lemmas.List.{take-take, length-take-le, take_more, get_or-drop, get_or_append_left, get_or_push, length_push}
 use Rattle.crc24q.specs.Register.{with_byte_of, crc_from}
-use Rattle.crc24q.specs.RegisterLaws.{with_byte_of-lt, crc_from-append}
+use Rattle.crc24q.proofs.Surface.{with_byte_of-lt, crc_from-append}
 use Rattle.rtcm_frame.specs.States.{AreStates}
 
 pub state-lt : (bytes states : List ℕ) → AreStates bytes states → (i : ℕ) → i < length states → get_or states i 0 < 2 ^ 24

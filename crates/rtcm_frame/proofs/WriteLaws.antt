@@ -4,7 +4,7 @@ use Rattle.std.proofs.lemmas.Bool.{eq-eqb}
 use Rattle.std.proofs.lemmas.List.{take_at, drop_at, take_all}
 use Rattle.byteorder.specs.Endian.{big_number}
 use Rattle.crc24q.specs.Register.{crc_from}
-use Rattle.crc24q.specs.RegisterLaws.{crc_from-lt}
+use Rattle.crc24q.proofs.Surface.{crc_from-lt}
 use Rattle.rtcm_frame.specs.Frames.{frame_size, is_right}
 use Rattle.rtcm_frame.specs.State.{payload_of}
 use Rattle.rtcm_frame.specs.Writing.{three_bytes, body_of, frame_bytes}

@@ -1,6 +1,6 @@
 use Rattle.std.proofs.Common.{◌<◌, ◌^◌, subst, sym}
 use Rattle.crc24q.proofs.LookupLemmas.{one_byte}
-use Rattle.crc24q.specs.RegisterLaws.{with_byte_of-lt}
+use Rattle.crc24q.proofs.RegisterLaws.{with_byte_of-lt}
 use Rattle.crc24q.proofs.register.with_byte.Goals as goal
 
 pub returns-clause-value : goal.returns-clause-value

@@ -1,6 +1,6 @@
 use Rattle.std.proofs.Common.{◌<◌, ◌^◌, [], ◌∷◌, subst, sym}
 use Rattle.crc24q.proofs.LookupLemmas.{four_looked_up}
-use Rattle.crc24q.specs.RegisterLaws.{crc_from-lt}
+use Rattle.crc24q.proofs.RegisterLaws.{crc_from-lt}
 use Rattle.crc24q.proofs.register.with_four.Goals as goal
 
 pub returns-clause-value : goal.returns-clause-value

@@ -1,6 +1,6 @@
 use Rattle.std.proofs.Common.{◌<◌, ◌^◌, subst, sym}
 use Rattle.crc24q.proofs.LookupLemmas.{one_place, one_place_back}
-use Rattle.crc24q.specs.RegisterLaws.{turned-lt}
+use Rattle.crc24q.proofs.RegisterLaws.{turned-lt}
 use Rattle.crc24q.proofs.shifts.moved_1.Goals as goal
 
 pub returns-then-longer-clause-value : goal.returns-then-longer-clause-value

@@ -1,6 +1,6 @@
 use Rattle.std.proofs.Common.{◌<◌, ◌^◌, subst, sym}
 use Rattle.crc24q.proofs.LookupLemmas.{four_places}
-use Rattle.crc24q.specs.RegisterLaws.{shift-lt}
+use Rattle.crc24q.proofs.RegisterLaws.{shift-lt}
 use Rattle.crc24q.proofs.shifts.moved_4.Goals as goal
 
 pub returns-clause-value : goal.returns-clause-value

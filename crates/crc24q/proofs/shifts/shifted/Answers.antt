@@ -2,7 +2,7 @@ use Rattle.std.proofs.Common.{◌≡◌, ℕ, ◌%◌, get_or, ◌+◌, ◌-◌,
 use Rattle.std.specs.Int.Bits.{bit_and, bit_xor}
 use Rattle.std.proofs.lemmas.Nat.{and_mask}
 use Rattle.crc24q.specs.Register.{shift}
-use Rattle.crc24q.specs.RegisterLaws.{shift-lt, shift-zero}
+use Rattle.crc24q.proofs.RegisterLaws.{shift-lt, shift-zero}
 use Rattle.crc24q.proofs.StepLemmas.{digit_step, shifted_fits, no_digits}
 use Rattle.crc24q.proofs.shifts.shifted.Goals as goal
 

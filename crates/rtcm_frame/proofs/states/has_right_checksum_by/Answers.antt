@@ -3,7 +3,7 @@ use Rattle.std.proofs.lemmas.List.{length-take-le, take_rest}
 use Rattle.std.specs.Int.Bits.{bit_xor}
 use Rattle.byteorder.specs.Endian.{big_number}
 use Rattle.crc24q.specs.Register.{crc_from, shift}
-use Rattle.crc24q.specs.RegisterLaws.{crc_of_part}
+use Rattle.crc24q.proofs.Surface.{crc_of_part}
 use Rattle.rtcm_frame.specs.Frames.{is_right}
 use Rattle.rtcm_frame.proofs.states.has_right_checksum_by.Goals as goal
 

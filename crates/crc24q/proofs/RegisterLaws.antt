@@ -6,7 +6,7 @@ use Rattle.std.specs.Int.Bits.{bit_xor, xor_assoc, xor_zero_r}
 use Rattle.std.proofs.lemmas.Nat.{xor_comm, xor_block, xor_lt, xor_shr, shl_below}
 use Rattle.crc24q.specs.Division.{generator}
 use Rattle.crc24q.specs.Register.{turned, shift, with_byte_of, crc_from}
-use Rattle.crc24q.specs.SumLaws.{regroup, cancel, xor-mul_pow, digits-mul}
+use Rattle.crc24q.proofs.SumLaws.{regroup, cancel, xor-mul_pow, digits-mul}
 
 pub turned-xor : (a b : ℕ) → a < 2 ^ 24 → b < 2 ^ 24 → turned (bit_xor a b) ≡ bit_xor (turned a) (turned b)
 unfolding turned

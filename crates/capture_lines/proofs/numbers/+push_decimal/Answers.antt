@@ -1,6 +1,6 @@
 use Rattle.std.proofs.Common.{append_assoc, refl, arith}
 use Rattle.capture_lines.proofs.Decimals.{last_digit, one_digit_more}
-use Rattle.capture_lines.proofs.stamp.+push_decimal.Goals as goal
+use Rattle.capture_lines.proofs.numbers.+push_decimal.Goals as goal
 
 pub push_decimal-requires : goal.push_decimal-requires
 push_decimal-requires t c = let more = one_digit_more c.args.number (omega arith) (omega arith) in (omega arith, omega arith)

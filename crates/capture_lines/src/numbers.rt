@@ -1,18 +1,19 @@
-//! Stamps: seconds of the logger, in decimal digits.
+//! Numbers in decimal digits: stamps, which are seconds of the logger, and the week and the window
+//! of a head.
 
 ghost use Rattle.std.specs.Prelude.{◌≡◌, ◌+◌, ◌^◌, ◌<◌, ◌≤◌, ◌++◌, length, take, decimal};
 ghost use Rattle.std.specs.List.{prefix_len};
 ghost use Rattle.std.specs.Char.{is_ascii_digit};
 ghost use Rattle.std.specs.Str.Parse.{digits_value};
 ghost use Rattle.arrayvec.specs.ArrayVec.{array_vec_len};
-ghost use Rattle.capture_lines.specs.Reading.{stamp_in};
+ghost use Rattle.capture_lines.specs.Reading.{number_in};
 
 use crate::LineText;
 
-// The most digits of a stamp.
+// The most digits of a number.
 const MOST_DIGITS: usize = 10;
 
-// The greatest stamp.
+// The greatest number.
 const GREATEST: u64 = 4_294_967_295;
 
 // How many digits the line begins with.
@@ -22,11 +23,11 @@ pub(crate) fn digit_count(line: &[u8]) -> usize
     line.iter().take_while(|byte| byte.is_ascii_digit()).count()
 }
 
-// The stamp of the digits that the line begins with.
-#[tactic(auto, unfolding(crate::specs::Reading::stamp_in))]
-pub(crate) fn stamp_of(line: &[u8], count: usize) -> Option<u32>
+// The number of the digits that the line begins with.
+#[tactic(auto, unfolding(crate::specs::Reading::number_in))]
+pub(crate) fn number_of(line: &[u8], count: usize) -> Option<u32>
     requires { count ≡ prefix_len is_ascii_digit line.now }
-    ensures { result ≡ stamp_in (take count line.now) }
+    ensures { result ≡ number_in (take count line.now) }
 {
     if count == 0 || count > MOST_DIGITS {
         return None;

@@ -11,8 +11,8 @@ use Rattle.std.specs.Prelude.{decimal}
 use Rattle.std.specs.List.{prefix_len}
 use Rattle.std.specs.Char.{is_ascii_digit, digit_value}
 use Rattle.std.specs.Str.Parse.{AllDigits, digits_value}
-use Rattle.capture_lines.specs.Spellings.{IsStampText}
-use Rattle.capture_lines.specs.Reading.{stamp_in}
+use Rattle.capture_lines.specs.Spellings.{IsNumberText}
+use Rattle.capture_lines.specs.Reading.{number_in}
 
 -- a decimal digit is one of ASCII
 pub digit_passes : (c : ℕ) → digit_value c < 10 → is_ascii_digit c ≡ true
@@ -52,9 +52,9 @@ front_digits (x ∷ xs) = by (is_ascii_digit x) refl (front_digits xs)
     by false e rest = tt
 
 -- a stamp's text is read as the stamp
-pub stamp_of_text : (stamp : ℕ) (text : List ℕ) → IsStampText stamp text → stamp_in text ≡ Some stamp
-unfolding stamp_in
-stamp_of_text stamp text h =
+pub number_of_text : (stamp : ℕ) (text : List ℕ) → IsNumberText stamp text → number_in text ≡ Some stamp
+unfolding number_in
+number_of_text stamp text h =
     let some = h.numeral.0 in
     let short = h.short in
     let value = h.value in
@@ -62,12 +62,12 @@ stamp_of_text stamp text h =
     grind (arith)
 
 -- digits that are read as a stamp are a text of it
-pub text_of_stamp : (stamp : ℕ) (text : List ℕ) → AllDigits 10 text → stamp_in text ≡ Some stamp → IsStampText stamp text
-unfolding stamp_in
-text_of_stamp stamp text digits read = by (nat_lt 0 (length text)) (nat_le (length text) 10) (nat_lt (digits_value 10 text) (2 ^ 32)) refl refl refl read
+pub text_of_number : (stamp : ℕ) (text : List ℕ) → AllDigits 10 text → number_in text ≡ Some stamp → IsNumberText stamp text
+unfolding number_in
+text_of_number stamp text digits read = by (nat_lt 0 (length text)) (nat_le (length text) 10) (nat_lt (digits_value 10 text) (2 ^ 32)) refl refl refl read
   where
     by : (a b c : Bool) → nat_lt 0 (length text) ≡ a → nat_le (length text) 10 ≡ b → nat_lt (digits_value 10 text) (2 ^ 32) ≡ c
-        → cond (a && (b && c)) (Some (digits_value 10 text)) None ≡ Some stamp → IsStampText stamp text
+        → cond (a && (b && c)) (Some (digits_value 10 text)) None ≡ Some stamp → IsNumberText stamp text
     by true true true ea eb ec e =
         let value : digits_value 10 text ≡ stamp = cc e in
         record { numeral = (grind (arith), digits); short = grind (arith); value = value; fits = grind (arith) }
@@ -76,7 +76,7 @@ text_of_stamp stamp text digits read = by (nat_lt 0 (length text)) (nat_le (leng
     by true true false ea eb ec e = cc e
 
 -- what is written of a stamp is a text of it
-pub decimal_is_text : (stamp : ℕ) → stamp < 2 ^ 32 → IsStampText stamp (decimal stamp)
+pub decimal_is_text : (stamp : ℕ) → stamp < 2 ^ 32 → IsNumberText stamp (decimal stamp)
 decimal_is_text stamp fits =
     let is = decimal_is_IsNumeral stamp (omega arith) in
     record { numeral = is.0; short = length-decimal-le 10 stamp (omega arith) (omega arith) (omega arith); value = is.1; fits = fits }

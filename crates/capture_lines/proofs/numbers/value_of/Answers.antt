@@ -1,8 +1,8 @@
 use Rattle.std.proofs.Common.{arith}
 use Rattle.std.specs.Char.{is_ascii_digit}
 use Rattle.std.proofs.lemmas.List.Sums.{prefix_len-le-length}
-use Rattle.capture_lines.proofs.Stamps.{digit_at, digit_range, next_value}
-use Rattle.capture_lines.proofs.stamp.value_of.Goals as goal
+use Rattle.capture_lines.proofs.NumberTexts.{digit_at, digit_range, next_value}
+use Rattle.capture_lines.proofs.numbers.value_of.Goals as goal
 
 pub bounds-line-i : goal.bounds-line-i
 bounds-line-i c = let most = prefix_len-le-length is_ascii_digit c.args.line.now in omega arith
