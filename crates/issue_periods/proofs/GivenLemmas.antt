@@ -3,21 +3,21 @@ use Rattle.std.proofs.Common.{◌≡◌, ℕ, ◌+◌, ◌<◌, ◌≤◌, ◌�
 use Rattle.std.specs.List.{AllByRecursion}
 use Rattle.std.proofs.lemmas.Bool.{cases_lt}
 use Rattle.nav_eph.specs.declared.part.Part.{Part}
-use Rattle.period_laws.proofs.Membership.{In, In-from_contains, contains_from_In, In-append_left, In-append_right}
-use Rattle.period_laws.proofs.Lists.{one_more}
-use Rattle.issue_periods.specs.declared.key.Place.{Place}
-use Rattle.issue_periods.specs.declared.closed.Closed.{Closed}
-use Rattle.issue_periods.specs.Parts.{IsPartValue}
-use Rattle.issue_periods.specs.Periods.{IsBefore}
-use Rattle.issue_periods.specs.Verdicts.{IsClosed, place_of}
-use Rattle.issue_periods.specs.PeriodLists.{IsAscending, IsPrefix}
+use Rattle.period_laws.proofs.Surface.{In, In-from_contains, contains_from_In, In-append_left, In-append_right}
+use Rattle.period_laws.proofs.Surface.{one_more}
+use Rattle.period_items.specs.declared.key.Place.{Place}
+use Rattle.period_items.specs.declared.closed.Closed.{Closed}
+use Rattle.period_items.specs.Parts.{IsPartValue}
+use Rattle.period_items.specs.Periods.{IsBefore}
+use Rattle.period_items.specs.Verdicts.{IsClosed, place_of}
+use Rattle.period_items.specs.PeriodLists.{IsAscending, IsPrefix}
 use Rattle.issue_periods.specs.Standing.{IsAfter, IsNext, NoneDue}
 use Rattle.issue_periods.specs.Given.{GivenBelow, HasGiven, last_from}
-use Rattle.issue_periods.specs.PeriodsOf.{closed_of}
-use Rattle.issue_periods.proofs.KeyLemmas.{cases_place}
-use Rattle.issue_periods.proofs.PeriodLemmas.{AreLater, IsPeriod-was, IsClosed-one}
-use Rattle.issue_periods.proofs.ListLemmas.{before_irr, before_trans, All-in, all_of, Precedes}
-use Rattle.issue_periods.proofs.ExistLemmas.{period_key, closed_of-are, closed_of-only}
+use Rattle.period_items.specs.PeriodsOf.{closed_of}
+use Rattle.period_items.proofs.Surface.{cases_place}
+use Rattle.period_items.proofs.Surface.{AreLater, IsPeriod-was, IsClosed-one}
+use Rattle.period_items.proofs.Surface.{before_irr, before_trans, All-in, all_of, Precedes}
+use Rattle.period_items.proofs.Surface.{period_key, closed_of-are, closed_of-only}
 
 -- later than the last one
 pub after_trans : (last : Option Place) (a b : Place) → IsAfter last a → IsBefore a b → IsAfter last b

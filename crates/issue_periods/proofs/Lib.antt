@@ -1,18 +1,5 @@
-pub mod Orders
-pub mod Folds
-pub mod KeyLemmas
-pub mod ValueLemmas
-pub mod ValueFindings
-pub mod ValueItems
-pub mod DigestLemmas
-pub mod DigestFindings
-pub mod HealthLemmas
-pub mod PeriodLemmas
-pub mod ListLemmas
-pub mod SearchLemmas
-pub mod ExistLemmas
-pub mod TouchLemmas
-pub mod GivenLemmas
-pub mod SettleLemmas
-pub mod PlainLemmas
-pub mod Examples
+mod DueLemmas
+mod GivenLemmas
+mod SettleLemmas
+mod PlainLemmas
+pub mod Surface

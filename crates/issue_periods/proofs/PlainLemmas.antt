@@ -3,23 +3,23 @@ use Rattle.std.proofs.Common.{◌≡◌, ℕ, ◌+◌, ◌<◌, ◌≤◌, inl, 
 use Rattle.std.proofs.lemmas.Bool.{and_parts, and_from, both_ways}
 use Rattle.std.proofs.lemmas.List.Elements.{All-contains, All-push, All-weaker}
 use Rattle.nav_eph.specs.declared.part.Part.{Part}
-use Rattle.period_laws.proofs.Membership.{In, In-from_contains, contains_from_In}
-use Rattle.period_laws.proofs.EndLemmas.{Same}
-use Rattle.issue_periods.specs.declared.key.Place.{Place}
-use Rattle.issue_periods.specs.Values.{IsBest, IsFirstBy}
-use Rattle.issue_periods.specs.Parts.{IsPartValue}
-use Rattle.issue_periods.specs.Periods.{IsBefore, place_numbers}
+use Rattle.period_laws.proofs.Surface.{In, In-from_contains, contains_from_In}
+use Rattle.period_laws.proofs.Surface.{Same}
+use Rattle.period_items.specs.declared.key.Place.{Place}
+use Rattle.period_items.specs.Values.{IsBest, IsFirstBy}
+use Rattle.period_items.specs.Parts.{IsPartValue}
+use Rattle.period_items.specs.Periods.{IsBefore, place_numbers}
 use Rattle.issue_periods.specs.Standing.{Standing, IsAfter, IsDue, IsNext, NoneDue, taking, reaching, giving}
-use Rattle.issue_periods.specs.Mirrors.{best_among}
-use Rattle.issue_periods.specs.PeriodsOf.{quiet, place_at, is_before, verdict_at, closed_with}
+use Rattle.period_items.specs.Mirrors.{best_among}
+use Rattle.period_items.specs.PeriodsOf.{quiet, place_at, is_before, verdict_at, closed_with}
 use Rattle.issue_periods.specs.Plain.{PlainState, StandsFor, is_after, due, count_after, left_of, plain_left}
-use Rattle.issue_periods.proofs.Orders.{earlier_decides, is_below-true, below-is_below}
-use Rattle.issue_periods.proofs.Folds.{Passing, best_among-is, IsBest-same}
-use Rattle.issue_periods.proofs.PeriodLemmas.{AreLater, IsPeriod-same, IsClosed-same}
-use Rattle.issue_periods.proofs.ListLemmas.{before_irr}
-use Rattle.issue_periods.proofs.SearchLemmas.{end_from_quiet, quiet_from_end, verdict_at-is}
-use Rattle.issue_periods.proofs.ExistLemmas.{place_at-is, is-place_at}
-use Rattle.issue_periods.proofs.TouchLemmas.{with_part}
+use Rattle.period_items.proofs.Surface.{earlier_decides, is_below-true, below-is_below}
+use Rattle.period_items.proofs.Surface.{Passing, best_among-is, IsBest-same}
+use Rattle.period_items.proofs.Surface.{AreLater, IsPeriod-same, IsClosed-same}
+use Rattle.period_items.proofs.Surface.{before_irr}
+use Rattle.period_items.proofs.Surface.{all_values, end_from_quiet, quiet_from_end, verdict_at-is}
+use Rattle.period_items.proofs.Surface.{place_at-is, is-place_at}
+use Rattle.period_items.proofs.Surface.{with_part}
 use Rattle.issue_periods.proofs.GivenLemmas.{after_trans, NoneDue-take, NoneDue-give}
 
 -- behind the last one given, tested
@@ -77,7 +77,7 @@ next_is s at mark q h e =
     record {
       due = IsDue-same s.window mark (Contains s.parts) (Contains at.parts) at.last q (same_parts s at h) here;
       verdict = IsClosed-same s.reference s.window (Contains s.parts) (Contains at.parts) (closed_with q (verdict_at s.reference s.window s.parts q)) (same_parts s at h)
-          (record { period = b.here.period; verdict = verdict_at-is s.reference s.window s.parts q b.here.period });
+          (record { period = b.here.period; verdict = verdict_at-is s.reference s.window s.parts q (all_values s.parts h.values) b.here.period });
       least = λ z due l. b.first z (subst (λ (o : Option Place). IsDue s.window (Contains s.parts) mark o z) (sym h.at_last) (IsDue-same s.window mark (Contains at.parts) (Contains s.parts) at.last z (same_back s at h) due)) l;
     }
 

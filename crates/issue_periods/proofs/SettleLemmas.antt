@@ -2,15 +2,15 @@
 use Rattle.std.proofs.Common.{◌≡◌, ℕ, ◌+◌, ◌<◌, ◌≤◌, ◌^◌, take, length, Bool, cond, List, [], ◌∷◌, ◌++◌, Option, None, Some, IfSome, IfNone, Contains, All, refl, sym, subst, ◌∙◌, arith, le-ltb, take_all}
 use Rattle.std.proofs.lemmas.List.Elements.{All-cons, All-nil, All-push}
 use Rattle.nav_eph.specs.declared.part.Part.{Part}
-use Rattle.issue_periods.specs.declared.key.Place.{Place}
-use Rattle.issue_periods.specs.declared.closed.Closed.{Closed}
-use Rattle.issue_periods.specs.Parts.{IsPartValue}
-use Rattle.issue_periods.specs.Verdicts.{place_of}
-use Rattle.issue_periods.specs.PeriodLists.{IsPrefix, closed_at}
+use Rattle.period_items.specs.declared.key.Place.{Place}
+use Rattle.period_items.specs.declared.closed.Closed.{Closed}
+use Rattle.period_items.specs.Parts.{IsPartValue}
+use Rattle.period_items.specs.Verdicts.{place_of}
+use Rattle.period_items.specs.PeriodLists.{IsPrefix, closed_at}
 use Rattle.issue_periods.specs.Standing.{Standing, Stood, Tells, Carries, IsNext, NoneDue, giving, reaching, taking, nothing_yet}
 use Rattle.issue_periods.specs.Given.{HasGiven, last_from, settled}
-use Rattle.issue_periods.specs.PeriodsOf.{closed_of, periods_of}
-use Rattle.issue_periods.proofs.ExistLemmas.{all_values, later_parts, closed_of-later, closed_of-rise, closed_of-all}
+use Rattle.period_items.specs.PeriodsOf.{closed_of, periods_of}
+use Rattle.period_items.proofs.Surface.{all_values, later_parts, closed_of-later, closed_of-rise, closed_of-all}
 use Rattle.issue_periods.proofs.GivenLemmas.{closed_given, HasGiven-more, HasGiven-rise, given_is, given_front, last_from-push}
 
 -- the parts, a mark and the last one of a list

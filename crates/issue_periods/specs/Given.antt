@@ -1,13 +1,13 @@
 -- What was given so far, in a loop that asks until nothing is closed that was not given.
 use Rattle.std.specs.Prelude.{◌≡◌, ℕ, ◌+◌, ◌<◌, ◌⊎◌, List, [], ◌∷◌, Option, None, Some, Contains}
 use Rattle.nav_eph.specs.declared.part.Part.{Part}
-use Rattle.issue_periods.specs.declared.key.Place.{Place}
-use Rattle.issue_periods.specs.declared.closed.Closed.{Closed}
-use Rattle.issue_periods.specs.Periods.{IsPeriod, IsBefore}
-use Rattle.issue_periods.specs.Verdicts.{IsClosed, place_of}
-use Rattle.issue_periods.specs.PeriodLists.{IsAscending}
+use Rattle.period_items.specs.declared.key.Place.{Place}
+use Rattle.period_items.specs.declared.closed.Closed.{Closed}
+use Rattle.period_items.specs.Periods.{IsPeriod, IsBefore}
+use Rattle.period_items.specs.Verdicts.{IsClosed, place_of}
+use Rattle.period_items.specs.PeriodLists.{IsAscending}
 use Rattle.issue_periods.specs.Standing.{Standing, IsAfter}
-use Rattle.issue_periods.specs.PeriodsOf.{closed_of}
+use Rattle.period_items.specs.PeriodsOf.{closed_of}
 
 -- the last period given is closed at the mark
 abbrev pub GivenBelow : ℕ → ℕ → Option Place → Type 0

@@ -1,14 +1,4 @@
-pub mod Values
-pub mod Parts
-pub mod Periods
-pub mod Items
-pub mod Verdicts
-pub mod PeriodLists
 pub mod Standing
-pub mod Digests
-pub mod Mirrors
-pub mod PeriodsOf
 pub mod Given
-pub mod Touching
 pub mod Plain
 pub mod PlainValues

@@ -1,10 +1,10 @@
 -- What the plain assembly keeps, and what it stands for.
 use Rattle.std.specs.Prelude.{◌≡◌, ℕ, ◌+◌, ◌≤◌, Bool, true, ◌&&◌, nat_lt, if◌then◌else◌, List, [], ◌∷◌, Option, None, Some, All, Contains}
 use Rattle.nav_eph.specs.declared.part.Part.{Part}
-use Rattle.issue_periods.specs.declared.key.Place.{Place}
-use Rattle.issue_periods.specs.Parts.{IsPartValue}
+use Rattle.period_items.specs.declared.key.Place.{Place}
+use Rattle.period_items.specs.Parts.{IsPartValue}
 use Rattle.issue_periods.specs.Standing.{Standing, NoneDue}
-use Rattle.issue_periods.specs.PeriodsOf.{quiet, is_before, place_at}
+use Rattle.period_items.specs.PeriodsOf.{quiet, is_before, place_at}
 
 -- what contracts see of the plain assembly
 pub record PlainState : Type 0 where

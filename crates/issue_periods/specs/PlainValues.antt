@@ -1,7 +1,7 @@
 -- The plain assembly keeps values of the type of parts.
 use Rattle.std.proofs.Common.{All}
 use Rattle.std.proofs.lemmas.List.Elements.{All-contains}
-use Rattle.issue_periods.specs.Parts.{IsPartValue}
+use Rattle.period_items.specs.Parts.{IsPartValue}
 use Rattle.issue_periods.specs.Standing.{Standing}
 use Rattle.issue_periods.specs.Plain.{PlainState, StandsFor}
 use Rattle.std.proofs.Common.{get_or}

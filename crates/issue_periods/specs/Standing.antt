@@ -1,10 +1,10 @@
 -- What an assembly stands for, and what it gives next.
 use Rattle.std.specs.Prelude.{ℕ, ◌+◌, ◌<◌, List, [], ◌∷◌, ◌++◌, Option, None, Some}
 use Rattle.nav_eph.specs.declared.part.Part.{Part}
-use Rattle.issue_periods.specs.declared.key.Place.{Place}
-use Rattle.issue_periods.specs.declared.closed.Closed.{Closed}
-use Rattle.issue_periods.specs.Periods.{IsPeriod, IsBefore}
-use Rattle.issue_periods.specs.Verdicts.{IsClosed, place_of}
+use Rattle.period_items.specs.declared.key.Place.{Place}
+use Rattle.period_items.specs.declared.closed.Closed.{Closed}
+use Rattle.period_items.specs.Periods.{IsPeriod, IsBefore}
+use Rattle.period_items.specs.Verdicts.{IsClosed, place_of}
 
 -- the parts taken, the greatest mark given, and the last period given
 pub record Standing : Type 0 where

@@ -1,10 +1,10 @@
 ghost use Rattle.std.specs.Prelude.{◌≡◌, ℕ, ◌+◌, ◌<◌, ◌≤◌, Contains, All, IfOk, IfSome, IfNone, OnOk, OnErr};
-ghost use Rattle.issue_periods.specs.Parts.{IsPartValue};
-ghost use Rattle.issue_periods.specs.Verdicts.{place_of};
+ghost use Rattle.period_items.specs.Parts.{IsPartValue};
+ghost use Rattle.period_items.specs.Verdicts.{place_of};
 ghost use Rattle.issue_periods.specs.Standing.{Standing, Stood, Tells, Carries, IsNext, NoneDue, giving, reaching, taking, unchanged};
 
-use crate::closed::Closed;
 use nav_eph::Part;
+use period_items::Closed;
 use std::alloc::AllocError;
 
 /// What puts parts together into periods.

@@ -24,35 +24,23 @@
 #![tactic(auto)]
 
 mod assembly;
-mod closed;
-mod digest;
-mod digest_finding;
-mod digest_join;
-mod digest_of;
-mod find;
-mod health;
+mod due;
 mod kept;
-mod key;
 mod laws;
-mod order;
 mod plain;
 mod run;
 #[cfg(test)]
 mod samples;
-mod search;
 mod settling;
 #[cfg(test)]
 mod tests;
-mod value;
 
 pub use crate::assembly::Assembly;
-pub use crate::closed::{Closed, Finding, Verdict};
-pub use crate::digest::{Digest, GalDigest, GpsDigest, Seen};
-pub use crate::key::{Key, Place, Sending};
-pub use crate::laws::{
-    closed_stays, items_fit_together, old_is_far, one_more_part, order_is_nothing, periods_are,
-};
-pub use crate::order::key_of_part;
+pub use crate::laws::old_is_far;
 pub use crate::plain::PlainAssembly;
 pub use crate::run::{add_periods, follow};
 pub use crate::settling::settle;
+pub use period_items::{
+    Closed, Key, Place, Verdict, closed_stays, items_fit_together, key_of_part, one_more_part,
+    order_is_nothing, periods_are,
+};

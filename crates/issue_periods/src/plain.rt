@@ -3,14 +3,11 @@
 ghost use Rattle.std.specs.Prelude.{◌≡◌, ◌≤◌, ◌<◌, ◌+◌, ◌^◌};
 
 use crate::assembly::Assembly;
-use crate::closed::Closed;
-use crate::find::verdict;
+use crate::due::first_due;
 use crate::kept::keep;
-use crate::key::Place;
-use crate::search::first_due;
-use crate::value::note_value;
 use gnss_week::RefWeek;
 use nav_eph::Part;
+use period_items::{Closed, Place, note_value, verdict_on};
 use std::alloc::{AllocError, Global};
 use std::marker::Model;
 
@@ -103,7 +100,7 @@ impl Assembly for PlainAssembly {
                 Ok(None)
             }
             Some(place) => {
-                let said = verdict(&self.parts, self.reference, self.window, &place);
+                let said = verdict_on(&self.parts, self.reference, self.window, &place);
                 self.mark = mark;
                 self.last = Some(place);
                 Ok(Some(Closed {

@@ -1,15 +1,14 @@
 ghost use Rattle.std.specs.Prelude.{◌≡◌, ◌<◌, ◌^◌, ◌≤◌, ◌∷◌, ◌++◌, ℕ, List, [], OnOk, OnErr};
 ghost use Rattle.nav_eph.specs.declared.part.Part.{Part};
-ghost use Rattle.issue_periods.specs.PeriodLists.{IsPrefix};
-ghost use Rattle.issue_periods.specs.PeriodsOf.{closed_of, periods_of};
+ghost use Rattle.period_items.specs.PeriodLists.{IsPrefix};
+ghost use Rattle.period_items.specs.PeriodsOf.{closed_of, periods_of};
 ghost use Rattle.issue_periods.specs.Standing.{Stood, nothing_yet};
 ghost use Rattle.issue_periods.specs.Given.{settled};
 
 use crate::assembly::Assembly;
-use crate::closed::Closed;
 use crate::settling::settle;
-use crate::value::note_value;
 use nav_eph::Part;
+use period_items::{Closed, note_value};
 use std::alloc::AllocError;
 
 /// Takes a part, and adds to a list what is closed at a mark then: one step of a run over what was heard.

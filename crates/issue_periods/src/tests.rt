@@ -21,6 +21,7 @@ fn letter(verdict: &Verdict) -> char {
         Verdict::Partial => 'p',
         Verdict::Contradicted => 'c',
         Verdict::NoHealth => 'n',
+        Verdict::Again => 'a',
     }
 }
 

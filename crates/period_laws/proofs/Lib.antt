@@ -1,4 +1,5 @@
-pub mod Membership
-pub mod EndLemmas
-pub mod JoinLemmas
-pub mod Lists
+mod Membership
+mod EndLemmas
+mod JoinLemmas
+mod Lists
+pub mod Surface

@@ -1,6 +1,6 @@
 use Rattle.std.proofs.Common.{Contains, ◌++◌}
-use Rattle.issue_periods.proofs.ExistLemmas.{later_parts}
-use Rattle.issue_periods.proofs.TouchLemmas.{old_far}
+use Rattle.period_items.proofs.Surface.{later_parts}
+use Rattle.issue_periods.proofs.DueLemmas.{old_far}
 use Rattle.issue_periods.proofs.laws.old_is_far.Goals as goal
 
 pub returns : goal.returns

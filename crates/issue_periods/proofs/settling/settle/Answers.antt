@@ -1,9 +1,9 @@
 use Rattle.std.proofs.Common.{ℕ, List, Contains, refl, sym, subst, ◌∙◌}
 use Rattle.std.proofs.lemmas.Result.{err_from_is_err_and}
-use Rattle.issue_periods.specs.declared.closed.Closed.{Closed}
-use Rattle.issue_periods.specs.Verdicts.{place_of}
-use Rattle.issue_periods.specs.PeriodLists.{IsPrefix}
-use Rattle.issue_periods.specs.PeriodsOf.{closed_of}
+use Rattle.period_items.specs.declared.closed.Closed.{Closed}
+use Rattle.period_items.specs.Verdicts.{place_of}
+use Rattle.period_items.specs.PeriodLists.{IsPrefix}
+use Rattle.period_items.specs.PeriodsOf.{closed_of}
 use Rattle.issue_periods.specs.Standing.{Tells, Carries, IsNext, NoneDue, giving, reaching}
 use Rattle.issue_periods.proofs.SettleLemmas.{Gives, gives_start, gives_more, gives_all, gives_front, stood_giving}
 use Rattle.issue_periods.proofs.settling.settle.Goals as goal

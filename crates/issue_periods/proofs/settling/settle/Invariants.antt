@@ -2,7 +2,7 @@ use Rattle.std.proofs.Common.{◌≡◌, ℕ, ◌≤◌, List}
 use Rattle.nav_eph.specs.declared.part.Part.{Part}
 use Rattle.issue_periods.specs.Standing.{Stood}
 use Rattle.issue_periods.specs.Given.{settled}
-use Rattle.issue_periods.specs.PeriodsOf.{closed_of}
+use Rattle.period_items.specs.PeriodsOf.{closed_of}
 use Rattle.issue_periods.proofs.SettleLemmas.{Gives}
 use Rattle.issue_periods.proofs.settling.settle.Given as goal
 

@@ -1,10 +1,10 @@
 use Rattle.std.proofs.Common.{◌≡◌, ℕ, ◌<◌, ◌≤◌, Some, None, List, Contains, refl, sym, subst, ◌∙◌}
 use Rattle.nav_eph.specs.declared.part.Part.{Part}
-use Rattle.issue_periods.specs.declared.closed.Verdict.{Verdict}
+use Rattle.period_items.specs.declared.closed.Verdict.{Verdict}
 use Rattle.issue_periods.specs.contracts.plain.PlainAssembly.{the_view}
 use Rattle.issue_periods.specs.Standing.{IsNext, NoneDue}
-use Rattle.issue_periods.specs.Mirrors.{best_among}
-use Rattle.issue_periods.specs.PeriodsOf.{place_at, is_before, verdict_at}
+use Rattle.period_items.specs.Mirrors.{best_among}
+use Rattle.period_items.specs.PeriodsOf.{place_at, is_before, verdict_at}
 use Rattle.issue_periods.specs.Plain.{PlainState, StandsFor, due, plain_left}
 use Rattle.issue_periods.proofs.PlainLemmas.{next_is, none_is, none_again, none_old, stands_reached, stands_searched, stands_given, fewer_left, given_after}
 use Rattle.issue_periods.proofs.plain.PlainAssemblyAssembly.next_closed.Goals as goal
@@ -43,8 +43,8 @@ returns-in-Some-clause-next c = λ at h.
     let q = c.in-Some.place in
     let e = subst (λ (ps : List Part). best_among place_at (due ps s.window c.args.mark s.last) is_before ps None ≡ Some q) c.deref.ensures.value (sym c.first_due.ensures ∙ c.in-Some.is) in
     let k = subst (λ (x : PlainState). StandsFor x at) (sym c.self.view_is) h in
-    let said : c.verdict-said.result ≡ verdict_at s.reference s.window s.parts q = subst (λ (ps : List Part). c.verdict-said.result ≡ verdict_at s.reference s.window ps q) c.deref-in-Some.ensures.value c.verdict-said.ensures in
-    subst (λ (x : PlainState). IsNext x.reference x.window (Contains at.parts) c.args.mark at.last (record { end = q.end; key = q.key; verdict = c.verdict-said.result })) c.self.view_is
+    let said : c.verdict_on-said.result ≡ verdict_at s.reference s.window s.parts q = subst (λ (ps : List Part). c.verdict_on-said.result ≡ verdict_at s.reference s.window ps q) c.deref-in-Some.ensures.value c.verdict_on-said.ensures in
+    subst (λ (x : PlainState). IsNext x.reference x.window (Contains at.parts) c.args.mark at.last (record { end = q.end; key = q.key; verdict = c.verdict_on-said.result })) c.self.view_is
     (subst (λ (v : Verdict). IsNext s.reference s.window (Contains at.parts) c.args.mark at.last (record { end = q.end; key = q.key; verdict = v })) (sym said) (next_is s at c.args.mark q k e))
 
 pub returns-in-Some-clause-given : goal.returns-in-Some-clause-given

@@ -1,0 +1,20 @@
+mod Orders
+mod Folds
+mod KeyLemmas
+mod AlikeLemmas
+mod ValueLemmas
+mod ValueFindings
+mod ValueItems
+mod DigestLemmas
+mod DigestFindings
+mod HealthLemmas
+mod PeriodLemmas
+mod AgainLemmas
+mod VerdictLemmas
+mod ListLemmas
+mod SearchLemmas
+mod LastLemmas
+mod ExistLemmas
+mod TouchLemmas
+mod Examples
+pub mod Surface

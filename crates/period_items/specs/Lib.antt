@@ -1,0 +1,11 @@
+pub mod Values
+pub mod Parts
+pub mod Periods
+pub mod Items
+pub mod Verdicts
+pub mod PeriodLists
+pub mod Digests
+pub mod Alike
+pub mod Mirrors
+pub mod PeriodsOf
+pub mod Touching
