@@ -4,7 +4,7 @@ use Rattle.std.specs.Prelude.{Option}
 use Rattle.std.proofs.lemmas.Bool.{both_ways}
 use Rattle.std.specs.Io.KnownBytes.{Consumes, IsAtEnd}
 use Rattle.nav_io.specs.Lines.{Line, ends, lines_by, line_of}
-use Rattle.nav_io.specs.LineLaws.{pieces-open}
+use Rattle.nav_io.proofs.LineLaws.{pieces-open}
 use Rattle.nav_io.specs.LinesState.{LinesState, Reads, GivesLine, BreaksRead, BreaksLong}
 use Rattle.nav_io.specs.LineAnswers.{Answers}
 use Rattle.nav_io.specs.declared.lines.LineKind.{LineKind}

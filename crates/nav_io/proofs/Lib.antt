@@ -2,6 +2,10 @@ mod Cuts
 mod Fronts
 mod LaterCalls
 mod LineEnds
+pub mod LineLaws
 mod PieceLaws
 mod Reading
+pub mod ReadsLaws
 mod Rests
+pub mod Surface
+mod WrittenLines

@@ -4,7 +4,7 @@ use Rattle.std.proofs.lemmas.List.{take-append-drop, take-take, drop-take, drop-
 use Rattle.std.proofs.lemmas.Bool.{eqb-true, lt-ltb, le-ltb, cases_lt}
 use Rattle.memchr.specs.Find.{IsFirstByte, is_byte}
 use Rattle.nav_io.specs.Lines.{ends, without_cr, line_of}
-use Rattle.nav_io.specs.LineLaws.{ends-append}
+use Rattle.nav_io.proofs.LineLaws.{ends-append}
 use Rattle.nav_io.specs.Mirrors.{EndsAt, kind_of}
 use Rattle.nav_io.specs.declared.lines.LineKind.TheVariants.{Text, Long}
 

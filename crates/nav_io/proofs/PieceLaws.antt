@@ -4,7 +4,7 @@ use Rattle.std.proofs.lemmas.Bool.{eqb-true, false≢true}
 use Rattle.std.proofs.lemmas.List.Elements.{All-nil, All-cons, All-head, All-tail}
 use Rattle.nav_io.specs.Lines.{ends, with_front, pieces}
 use Rattle.nav_io.specs.Pieces.{with_ends, HasOpenEnd, ArePieces}
-use Rattle.nav_io.specs.LineLaws.{pieces-line, pieces-open}
+use Rattle.nav_io.proofs.LineLaws.{pieces-line, pieces-open}
 
 abbrev HasNoEnd : List ℕ → Type 0
 HasNoEnd piece = ends piece ≡ false

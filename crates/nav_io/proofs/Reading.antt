@@ -5,11 +5,11 @@ use Rattle.std.specs.Io.KnownBytes.{IsAtEnd, Keeps}
 use Rattle.std.proofs.KnownBytes.{Consumes-nil, Consumes-kept}
 use Rattle.std.proofs.lemmas.List.{take-append-drop, drop-drop, drop_at, take_at, take_all, drop_all}
 use Rattle.nav_io.specs.Lines.{Line, ends, line_of, lines_by}
-use Rattle.nav_io.specs.LineLaws.{pieces-line, pieces-last, lines_by-cut, ends-append, ends-take, ends-drop}
+use Rattle.nav_io.proofs.LineLaws.{pieces-line, pieces-last, lines_by-cut, ends-append, ends-take, ends-drop}
 use Rattle.nav_io.specs.LinesState.{LinesState, Reads, GivesLine, BreaksRead, BreaksLong}
 use Rattle.nav_io.specs.LineAnswers.{Answers}
 use Rattle.nav_io.specs.Mirrors.{EndsAt, kind_of, PassesLine, PassesLast, PassesNone, GivesLast, KeepsOpen, Fills}
-use Rattle.nav_io.specs.ReadsLaws.{reads_more, count_none}
+use Rattle.nav_io.proofs.ReadsLaws.{reads_more, count_none}
 use Rattle.nav_io.specs.declared.lines.LineKind.{LineKind}
 use Rattle.nav_io.specs.declared.lines.LineKind.TheVariants.{Text, Long, End}
 

@@ -1,10 +1,8 @@
 pub mod Causes
 pub mod Front
 pub mod LineAnswers
-pub mod LineLaws
 pub mod Lines
 pub mod LinesState
 pub mod Memory
 pub mod Mirrors
 pub mod Pieces
-pub mod ReadsLaws

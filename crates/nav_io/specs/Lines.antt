@@ -1,5 +1,5 @@
 -- The lines of bytes: what stands between the ends of lines, each an LF (10), without the CR (13) at its end.
-use Rattle.std.specs.Prelude.{ℕ, ◌==◌, nat_lt, Bool, true, false, if◌then◌else◌, List, [], ◌∷◌, length, take, map}
+use Rattle.std.specs.Prelude.{◌≡◌, ◌≤◌, ℕ, ◌==◌, nat_lt, Bool, true, false, if◌then◌else◌, List, [], ◌∷◌, length, take, map}
 
 -- whether a line ends in the bytes
 abbrev pub ends : List ℕ → Bool
@@ -37,3 +37,9 @@ line_of piece = record { text = take 2200 (without_cr piece); long = nat_lt 2200
 -- the lines of the bytes; where more may come, those that have ended
 abbrev pub lines_by : Bool → List ℕ → List Line
 lines_by more bytes = map line_of (pieces more bytes)
+
+-- a line that is given whole: no byte of it is an LF, its last is no CR, and it has at most 2,200
+pub record IsOneLine (line : List ℕ) : Type 0 where
+  pub none : ends line ≡ false
+  pub last : without_cr line ≡ line
+  pub short : length line ≤ 2200

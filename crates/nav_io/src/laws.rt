@@ -1,7 +1,7 @@
 //! Laws of the lines of bytes and of their reader: each function does nothing, and its contract is the law.
 
-ghost use Rattle.std.specs.Prelude.{◌≡◌, ◌^◌, ◌<◌, ◌++◌, ◌∷◌, ℕ, true, false, List, [], Option, Some};
-ghost use Rattle.nav_io.specs.Lines.{Line, ends, pieces, lines_by};
+ghost use Rattle.std.specs.Prelude.{◌≡◌, ◌^◌, ◌<◌, ◌++◌, ◌∷◌, ℕ, Bool, true, false, List, [], Option, Some};
+ghost use Rattle.nav_io.specs.Lines.{IsOneLine, Line, ends, pieces, lines_by};
 ghost use Rattle.nav_io.specs.Pieces.{ArePieces};
 ghost use Rattle.nav_io.specs.LinesState.{LinesState, Reads, GivesLine, BreaksRead, BreaksLong};
 ghost use Rattle.nav_io.specs.LineAnswers.{Answers};
@@ -20,6 +20,12 @@ pub fn ended_pieces_are_those_up_to_the_last_end()
     ensures some { (front rest : List ℕ) → ends rest ≡ false
         → pieces true (front ++ 10 ∷ rest) ≡ pieces false (front ++ 10 ∷ []) }
     ensures none { (bytes : List ℕ) → ends bytes ≡ false → pieces true bytes ≡ [] }
+{}
+
+/// A line that was written, with its LF behind it, is given as it is, whatever follows.
+pub fn written_lines_are_given()
+    ensures { (more : Bool) (line rest : List ℕ) → IsOneLine line
+        → lines_by more (line ++ 10 ∷ rest) ≡ record { text = line; long = false } ∷ lines_by more rest }
 {}
 
 /// The lines that calls gave are the first of those of what was held and taken; before the end, they have ended.
@@ -54,8 +60,8 @@ pub fn too_many_bytes_stay_too_many()
         → old.taken ≡ 2 ^ 32 → BreaksRead left left_new old new → ⊥ }
 {}
 
-/// After a read that gave no byte no read fails, and the bytes do not become too many. Where no line is held either, no further call
-/// answers anything but the end.
+/// After a read that gave no byte no read fails, and the bytes do not become too many. Where no line is held either, no
+/// further call answers anything but the end.
 pub fn the_end_stays()
     ensures read { (left left_new : Option (List ℕ)) (old new : LinesState)
         → old.ended ≡ true → BreaksRead left left_new old new → ⊥ }

@@ -36,6 +36,7 @@ mod laws;
 mod line_tests;
 mod lines;
 mod memory;
+mod pieces;
 #[cfg(test)]
 mod tests;
 
@@ -43,10 +44,11 @@ pub use crate::edge::{ReadSource, WriteSink};
 pub use crate::laws::{
     ended_pieces_are_those_up_to_the_last_end, lines_given_are_the_first,
     lines_given_are_those_of_the_bytes, pieces_are_those_between_the_ends, the_end_stays,
-    too_many_bytes_stay_too_many,
+    too_many_bytes_stay_too_many, written_lines_are_given,
 };
 pub use crate::lines::{LineFault, LineKind, Lines};
 pub use crate::memory::{MemSink, MemSource};
+pub use crate::pieces::{MOST_TAKEN, read_piece};
 
 /// A read or a write failed. The object's count of faults says so.
 #[derive(Clone, Copy, Debug, PartialEq, Eq)]

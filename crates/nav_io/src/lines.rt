@@ -6,13 +6,11 @@ ghost use Rattle.nav_io.specs.Causes.{HasCause, Rose};
 ghost use Rattle.nav_io.specs.Lines.{ends, without_cr};
 ghost use Rattle.nav_io.specs.Mirrors.{EndsAt};
 
+use crate::pieces::{MOST_TAKEN, read_piece};
 use crate::{Failed, Source};
 use arrayvec::ArrayVec;
 use memchr::memchr;
 use std::marker::Model;
-
-// How many bytes are taken at most before they are too many.
-const MOST_TAKEN: u64 = 4_294_967_295;
 
 // How many bytes a line has at most that is not long.
 const LONGEST: usize = 2200;
@@ -240,8 +238,7 @@ impl Lines {
         self.text_start = 0;
         self.text_len = 0;
         let kept = self.held.len();
-        let most = (MOST_TAKEN + 1 - self.taken).min(4096) as usize;
-        match read_piece(source, most, &mut self.piece) {
+        match read_piece(source, self.taken, &mut self.piece) {
             Ok(count) => {
                 append(&mut self.held, &self.piece[..count]);
                 self.taken += count as u64;
@@ -292,21 +289,4 @@ fn append(held: &mut ArrayVec<u8, HELD>, piece: &[u8])
     if held.try_extend_from_slice(piece).is_err() {
         unreachable!();
     }
-}
-
-// Reads a piece of at most so many bytes.
-fn read_piece<S: Source>(source: &mut S, most: usize, piece: &mut [u8]) -> Result<usize, Failed>
-    requires some { 0 < most }
-    requires fits { most ≤ length piece.old }
-    ensures within { IfOk result (λ count. count ≤ most) }
-    ensures count { IfOk result (λ count. length (take count piece.new) ≡ count) }
-    ensures bytes { MatchResult result
-        (λ count. Consumes (S.left source.old) (S.left source.new) (take count piece.new)
-        × (count ≡ 0 → IsAtEnd (S.left source.new)))
-        (λ _. Keeps (S.left source.old) (S.left source.new)) }
-    ensures cause { HasCause (S.faults source.old) (S.faults source.new) result }
-    ensures never { IsTrue (S.never_fails source.old)
-        → IsOk result × IsTrue (S.never_fails source.new) }
-{
-    source.read(&mut piece[..most])
 }

@@ -1,45 +1,21 @@
--- The list that is read from the text of a list of items is that list.
-use Rattle.std.proofs.Common.{◌≡◌, ℕ, ◌+◌, ◌≤◌, ◌==◌, ◌&&◌, Bool, true, false, if◌then◌else◌, List, [], ◌∷◌, ◌++◌, length, get_or, drop, map, codes, Ok, refl, ap, sym, ◌∙◌, arith, ℤ, append_assoc, append-nil, length-append, ne_eqb, nat_le, nat_lt, ◌/◌}
-use Rattle.std.proofs.lemmas.Bool.{and_parts, leb-true}
+-- What is read of the text of a header and of a list of items is that list, where each record stands for its item.
+use Rattle.std.proofs.Common.{◌≡◌, ℕ, ◌+◌, ◌==◌, Bool, true, false, if◌then◌else◌, List, [], ◌∷◌, ◌++◌, length, map, Ok, refl, ap, sym, ◌∙◌, arith, append_assoc, append-nil, length-append, ne_eqb}
 use Rattle.std.specs.List.{flat_map}
-use Rattle.std.proofs.lemmas.List.{get_or-append-add}
-use Rattle.scaled_decimal.specs.ScaleValue.{size_of}
-use Rattle.scaled_decimal.specs.NumberText.{digits, AreShown}
-use Rattle.scaled_decimal.proofs.ColumnLemmas.{AreShown-number_text}
-use Rattle.gnss_week.specs.Functions.{civil_to}
+use Rattle.scaled_decimal.specs.NumberText.{AreShown}
 use Rattle.nav_io.specs.Lines.{ends, without_cr}
 use Rattle.nav_io.specs.LineLaws.{pieces-line}
-use Rattle.nav_eph.specs.Satellite.{Satellite}
-use Rattle.nav_eph.specs.declared.sat.System.{System}
-use Rattle.nav_eph.specs.declared.sat.System.TheVariants.{Gps, Gal}
-use Rattle.nav_eph.specs.declared.ion.IonContent.{IonContent}
-use Rattle.nav_eph.specs.declared.ion.IonContent.TheVariants.{Gps as OfGps, Gal as OfGal}
 use Rattle.nav_eph.specs.declared.items.NavItem.{NavItem}
-use Rattle.nav_eph.specs.declared.items.NavItem.TheVariants.{Gps as GpsItem, Gal as GalItem, Ion as IonItem}
 use Rattle.nav_eph.specs.Ranges.{IsItem}
-use Rattle.rinex_write.specs.declared.columns.Column.{Column}
 use Rattle.rinex_write.specs.declared.header.HeaderWords.{HeaderWords}
-use Rattle.rinex_write.specs.Columns.{column_text, shown, row_text, row_lines}
-use Rattle.rinex_write.specs.Layouts.{Kind, gps_kind, galileo_kind, gps_ionosphere_kind, galileo_ionosphere_kind}
-use Rattle.rinex_write.specs.Fields.{gps_fields, galileo_fields, gps_ionosphere_fields, galileo_ionosphere_fields, gps_epoch, galileo_epoch}
-use Rattle.rinex_write.specs.Texts.{text_of, letter_of, satellite_text, date_text, title_line, record_lines, ionosphere_lines, item_lines, leap_text, header_lines, rinex_text}
+use Rattle.rinex_write.specs.Texts.{text_of, item_lines, header_lines, rinex_text}
 use Rattle.rinex_read.specs.declared.judged.ItemRead.{ItemRead}
 use Rattle.rinex_read.specs.declared.judged.ItemRead.TheVariants.{Item}
-use Rattle.rinex_read.specs.Lines.{columns, stands_at, begins, lines_of}
-use Rattle.rinex_read.specs.Judging.{judged}
-use Rattle.rinex_read.specs.Files.{is_navigation, is_version, ends_header, header_of, up_to_next, read_at, reads, reads_behind, file_reads, items_of, items_read, rinex_list}
-use Rattle.rinex_read.specs.RoundTrip.{IsHeader, AreItems, numbered}
+use Rattle.rinex_read.specs.Lines.{lines_of}
+use Rattle.rinex_read.specs.Forms.{Form, begins, rinex4}
+use Rattle.rinex_read.specs.Files.{header_of, up_to_next, read_at, reads, reads_behind, file_reads, items_of, items_read, rinex_list}
+use Rattle.rinex_read.specs.RoundTrip.{IsHeader, AreItems, AreLines, NoneBegins, AreRecordLines, StandFor, AllStand, AreHeaderLines, numbered_by, numbered}
 use Rattle.rinex_read.proofs.RecordLemmas.{item_again}
-
--- lines of which none begins a record
-abbrev NoneBegins : List (List ℕ) → Type 0
-NoneBegins [] = Unit {0}
-NoneBegins (l ∷ ls) = (begins l ≡ false) × NoneBegins ls
-
--- lines in which each character is shown
-abbrev AreLines : List (List ℕ) → Type 0
-AreLines [] = Unit {0}
-AreLines (l ∷ ls) = AreShown l × AreLines ls
+use Rattle.rinex_read.proofs.WrittenLemmas.{lines_more, record_lines_are, header_shown, header_begins, header_again, length-header}
 
 shown_ends : (l : List ℕ) → AreShown l → ends l ≡ false
 shown_ends [] h = refl
@@ -59,323 +35,102 @@ lines_again (l ∷ ls) rest h =
     ∙ ap (λ t. t ∷ lines_of (text_of ls ++ rest)) (shown_cr l h.0)
     ∙ ap (λ t. l ∷ t) (lines_again ls rest h.1)
 
-lines_more : (a b : List (List ℕ)) → AreLines a → AreLines b → AreLines (a ++ b)
-lines_more [] b p q = q
-lines_more (l ∷ a) b p q = (p.0, lines_more a b p.1 q)
-
-shown_more : (a b : List ℕ) → AreShown a → AreShown b → AreShown (a ++ b)
-shown_more [] b p q = q
-shown_more (c ∷ a) b p q = (p.0, shown_more a b p.1 q)
-
--- the texts of a row are shown
-row_shown : (cs : List Column) (zs : List ℤ) → AreShown (row_text cs zs)
-row_shown [] zs = tt
-row_shown (c ∷ cs) [] = tt
-row_shown (c ∷ cs) (z ∷ zs) = shown_more (column_text c z) (row_text cs zs) (AreShown-number_text (size_of c.scale) (shown c.rule z)) (row_shown cs zs)
-
-blanks_shown : AreShown (codes "    ")
-blanks_shown = (omega arith, (omega arith, (omega arith, (omega arith, tt))))
-
-rows_shown : (rows : List (List Column)) (start : List ℕ) (zs : List ℤ) → AreShown start → AreLines (row_lines start rows zs)
-rows_shown [] start zs h = tt
-rows_shown (r ∷ rs) start zs h = (shown_more start (row_text r zs) h (row_shown r zs), rows_shown rs (codes "    ") (drop (length r) zs) blanks_shown)
-
-rows_begin : (rows : List (List Column)) (c : ℕ) (start : List ℕ) (zs : List ℤ) → (c == 62) ≡ false → NoneBegins (row_lines (c ∷ start) rows zs)
-rows_begin [] c start zs h = tt
-rows_begin (r ∷ rs) c start zs h = (h, rows_begin rs 32 (32 ∷ 32 ∷ 32 ∷ []) (drop (length r) zs) refl)
-
-digit_shown : (x : ℕ) → 32 ≤ 48 + x
-digit_shown x = omega arith
-
-date_shown : (m : ℕ) → AreShown (date_text (civil_to m))
-unfolding date_text digits
-date_shown m = (
-  digit_shown _,
-  (
-    digit_shown _,
-    (
-      digit_shown _,
-      (
-        digit_shown _,
-        (
-          omega arith,
-          (
-            digit_shown _,
-            (
-              digit_shown _,
-              (
-                omega arith,
-                (
-                  digit_shown _,
-                  (
-                    digit_shown _,
-                    (
-                      omega arith,
-                      (
-                        digit_shown _,
-                        (
-                          digit_shown _,
-                          (
-                            omega arith,
-                            (
-                              digit_shown _,
-                              (
-                                digit_shown _,
-                                (
-                                  omega arith,
-                                  (digit_shown _, (digit_shown _, tt)),
-                                ),
-                              ),
-                            ),
-                          ),
-                        ),
-                      ),
-                    ),
-                  ),
-                ),
-              ),
-            ),
-          ),
-        ),
-      ),
-    ),
-  ),
-)
-
-letter_shown : (s : System) → 32 ≤ letter_of s
-letter_shown Gps = omega arith
-letter_shown Gal = omega arith
-
-letter_begins : (s : System) → (letter_of s == 62) ≡ false
-letter_begins Gps = refl
-letter_begins Gal = refl
-
-satellite_shown : (sat : Satellite) → AreShown (satellite_text sat)
-unfolding digits
-satellite_shown sat = (letter_shown sat.system, (digit_shown _, (digit_shown _, tt)))
-
--- the texts of a kind are shown
-record IsShownKind (k : Kind) : Type 0 where
-  pub class : AreShown k.class
-  pub message : AreShown k.message
-
-gps_shown : IsShownKind gps_kind
-unfolding gps_kind
-gps_shown = record {
-  class = (omega arith, (omega arith, (omega arith, tt)));
-  message = (omega arith, (omega arith, (omega arith, (omega arith, tt))));
-}
-
-galileo_shown : IsShownKind galileo_kind
-unfolding galileo_kind
-galileo_shown = record {
-  class = (omega arith, (omega arith, (omega arith, tt)));
-  message = (omega arith, (omega arith, (omega arith, (omega arith, tt))));
-}
-
-gps_ionosphere_shown : IsShownKind gps_ionosphere_kind
-unfolding gps_ionosphere_kind
-gps_ionosphere_shown = record {
-  class = (omega arith, (omega arith, (omega arith, tt)));
-  message = (omega arith, (omega arith, (omega arith, (omega arith, tt))));
-}
-
-galileo_ionosphere_shown : IsShownKind galileo_ionosphere_kind
-unfolding galileo_ionosphere_kind
-galileo_ionosphere_shown = record {
-  class = (omega arith, (omega arith, (omega arith, tt)));
-  message = (omega arith, (omega arith, (omega arith, (omega arith, tt))));
-}
-
-title_shown : (k : Kind) (sat : Satellite) → IsShownKind k → AreShown (title_line k sat)
-title_shown k sat h =
-    (omega arith, (omega arith, shown_more k.class _ h.class (omega arith, shown_more (satellite_text sat) _ (satellite_shown sat) (omega arith, h.message))))
-
--- what holds of the lines of a record: its title begins one, no other of its lines does, and all are shown
-record AreRecordLines (lines : List (List ℕ)) : Type 0 where
-  pub title : List ℕ
-  pub others : List (List ℕ)
-  pub lines_are : lines ≡ title ∷ others
-  pub first : begins title ≡ true
-  pub rest : NoneBegins others
-  pub shown : AreLines lines
-
-ephemeris_lines : (k : Kind) (sat : Satellite) (moment : ℕ) (fields : List ℤ) → IsShownKind k → AreRecordLines (record_lines k sat (satellite_text sat ++ 32 ∷ []) moment fields)
-ephemeris_lines k sat moment fields h =
-    let start = (satellite_text sat ++ 32 ∷ []) ++ date_text (civil_to moment) in
-    let start_shown = shown_more (satellite_text sat ++ 32 ∷ []) _ (shown_more (satellite_text sat) _ (satellite_shown sat) (omega arith, tt)) (date_shown moment) in
-    record {
-      title = title_line k sat;
-      others = row_lines start k.rows fields;
-      lines_are = refl;
-      first = refl;
-      rest = rows_begin k.rows (letter_of sat.system) _ fields (letter_begins sat.system);
-      shown = (title_shown k sat h, rows_shown k.rows start fields start_shown);
-    }
-
-blank_lines : (k : Kind) (sat : Satellite) (moment : ℕ) (fields : List ℤ) → IsShownKind k → AreRecordLines (record_lines k sat (codes "    ") moment fields)
-blank_lines k sat moment fields h =
-    let start = codes "    " ++ date_text (civil_to moment) in
-    record {
-      title = title_line k sat;
-      others = row_lines start k.rows fields;
-      lines_are = refl;
-      first = refl;
-      rest = rows_begin k.rows 32 _ fields refl;
-      shown = (title_shown k sat h, rows_shown k.rows start fields (shown_more (codes "    ") _ blanks_shown (date_shown moment)));
-    }
-
-content_lines : (sat : Satellite) (moment : ℕ) (content : IonContent) → AreRecordLines (ionosphere_lines sat moment content)
-content_lines sat moment (OfGps i) = blank_lines gps_ionosphere_kind sat moment (gps_ionosphere_fields i) gps_ionosphere_shown
-content_lines sat moment (OfGal i) = blank_lines galileo_ionosphere_kind sat moment (galileo_ionosphere_fields i) galileo_ionosphere_shown
-
-record_lines_are : (i : NavItem) → AreRecordLines (item_lines i)
-unfolding item_lines
-record_lines_are (GpsItem e) = ephemeris_lines gps_kind e.sat (gps_epoch e) (gps_fields e) gps_shown
-record_lines_are (GalItem e) = ephemeris_lines galileo_kind e.sat (galileo_epoch e) (galileo_fields e) galileo_shown
-record_lines_are (IonItem e) = content_lines e.sat e.moment e.content
-
 -- lines that begin no record are passed
-passed : (n : ℕ) (ls rest : List (List ℕ)) → NoneBegins ls → reads n (ls ++ rest) ≡ reads (n + length ls) rest
-passed n [] rest h = ap (λ m. reads m rest) (omega arith)
-passed n (l ∷ ls) rest h =
-    ap (λ b. if b then read_at (n + 1) (judged (l ∷ up_to_next (ls ++ rest))) ∷ reads (n + 1) (ls ++ rest) else reads (n + 1) (ls ++ rest)) h.0
-    ∙ passed (n + 1) ls rest h.1 ∙ ap (λ m. reads m rest) (omega arith)
+passed : (f : Form) (n : ℕ) (ls rest : List (List ℕ)) → NoneBegins f ls → reads f n (ls ++ rest) ≡ reads f (n + length ls) rest
+passed f n [] rest h = ap (λ m. reads f m rest) (omega arith)
+passed f n (l ∷ ls) rest h =
+    ap (λ b. if b then read_at (n + 1) (f.judged (l ∷ up_to_next f (ls ++ rest))) ∷ reads f (n + 1) (ls ++ rest) else reads f (n + 1) (ls ++ rest)) h.0
+    ∙ passed f (n + 1) ls rest h.1 ∙ ap (λ m. reads f m rest) (omega arith)
 
-up_to_more : (ls rest : List (List ℕ)) → NoneBegins ls → up_to_next (ls ++ rest) ≡ ls ++ up_to_next rest
-up_to_more [] rest h = refl
-up_to_more (l ∷ ls) rest h =
-    ap (λ b. if b then [] else l ∷ up_to_next (ls ++ rest)) h.0 ∙ ap (λ t. l ∷ t) (up_to_more ls rest h.1)
+up_to_more : (f : Form) (ls rest : List (List ℕ)) → NoneBegins f ls → up_to_next f (ls ++ rest) ≡ ls ++ up_to_next f rest
+up_to_more f [] rest h = refl
+up_to_more f (l ∷ ls) rest h =
+    ap (λ b. if b then [] else l ∷ up_to_next f (ls ++ rest)) h.0 ∙ ap (λ t. l ∷ t) (up_to_more f ls rest h.1)
 
--- the record of an item is read, whatever lines follow
-item_read : (n : ℕ) (i : NavItem) (rest : List (List ℕ)) → IsItem i → reads n (item_lines i ++ rest) ≡ Item (n + 1) i ∷ reads (n + length (item_lines i)) rest
-item_read n i rest is =
-    let h = record_lines_are i in
-    let count : n + 1 + length h.others ≡ n + length (item_lines i) = omega (arith, ap length h.lines_are) in
-    ap (λ ls. reads n (ls ++ rest)) h.lines_are
-    ∙ ap (λ b. if b then read_at (n + 1) (judged (h.title ∷ up_to_next (h.others ++ rest))) ∷ reads (n + 1) (h.others ++ rest) else reads (n + 1) (h.others ++ rest)) h.first
-    ∙ ap (λ ls. read_at (n + 1) (judged (h.title ∷ ls)) ∷ reads (n + 1) (h.others ++ rest)) (up_to_more h.others rest h.rest)
-    ∙ ap (λ ls. read_at (n + 1) (judged (ls ++ up_to_next rest)) ∷ reads (n + 1) (h.others ++ rest)) (sym h.lines_are)
-    ∙ ap (λ j. read_at (n + 1) j ∷ reads (n + 1) (h.others ++ rest)) (item_again i (up_to_next rest) is)
-    ∙ ap (λ rs. Item (n + 1) i ∷ rs) (passed (n + 1) h.others rest h.rest ∙ ap (λ m. reads m rest) count)
+-- a record that stands for an item is read, whatever lines follow
+item_read : (f : Form) (n : ℕ) (lines : List (List ℕ)) (i : NavItem) (rest : List (List ℕ)) → StandFor f lines i → reads f n (lines ++ rest) ≡ Item (n + 1) i ∷ reads f (n + length lines) rest
+item_read f n lines i rest is =
+    let h = is.are in
+    let count : n + 1 + length h.others ≡ n + length lines = omega (arith, ap length h.lines_are) in
+    ap (λ ls. reads f n (ls ++ rest)) h.lines_are
+    ∙ ap (λ b. if b then read_at (n + 1) (f.judged (h.title ∷ up_to_next f (h.others ++ rest))) ∷ reads f (n + 1) (h.others ++ rest) else reads f (n + 1) (h.others ++ rest)) h.first
+    ∙ ap (λ ls. read_at (n + 1) (f.judged (h.title ∷ ls)) ∷ reads f (n + 1) (h.others ++ rest)) (up_to_more f h.others rest h.rest)
+    ∙ ap (λ ls. read_at (n + 1) (f.judged (ls ++ up_to_next f rest)) ∷ reads f (n + 1) (h.others ++ rest)) (sym h.lines_are)
+    ∙ ap (λ j. read_at (n + 1) j ∷ reads f (n + 1) (h.others ++ rest)) (is.judged (up_to_next f rest))
+    ∙ ap (λ rs. Item (n + 1) i ∷ rs) (passed f (n + 1) h.others rest h.rest ∙ ap (λ m. reads f m rest) count)
 
-items_again : (n : ℕ) (is : List NavItem) (rest : List (List ℕ)) → AreItems is
-    → reads n (flat_map item_lines is ++ rest) ≡ numbered n is ++ reads (n + length (flat_map item_lines is)) rest
-items_again n [] rest h = ap (λ m. reads m rest) (omega arith)
-items_again n (i ∷ is) rest h =
-    let first = length (item_lines i) in
-    let count : n + first + length (flat_map item_lines is) ≡ n + length (flat_map item_lines (i ∷ is)) = omega (arith, length-append (item_lines i) (flat_map item_lines is)) in
-    ap (reads n) (append_assoc (item_lines i) (flat_map item_lines is) rest)
-    ∙ item_read n i (flat_map item_lines is ++ rest) h.0
-    ∙ ap (λ rs. Item (n + 1) i ∷ rs) (items_again (n + first) is rest h.1 ∙ ap (λ m. numbered (n + first) is ++ reads m rest) count)
+items_again : (f : Form) (write : NavItem → List (List ℕ)) (n : ℕ) (is : List NavItem) (rest : List (List ℕ)) → AllStand f write is
+    → reads f n (flat_map write is ++ rest) ≡ numbered_by write n is ++ reads f (n + length (flat_map write is)) rest
+items_again f write n [] rest h = ap (λ m. reads f m rest) (omega arith)
+items_again f write n (i ∷ is) rest h =
+    let first = length (write i) in
+    let count : n + first + length (flat_map write is) ≡ n + length (flat_map write (i ∷ is)) = omega (arith, length-append (write i) (flat_map write is)) in
+    ap (reads f n) (append_assoc (write i) (flat_map write is) rest)
+    ∙ item_read f n (write i) i (flat_map write is ++ rest) h.0
+    ∙ ap (λ rs. Item (n + 1) i ∷ rs) (items_again f write (n + first) is rest h.1 ∙ ap (λ m. numbered_by write (n + first) is ++ reads f m rest) count)
 
-items_shown : (is : List NavItem) → AreLines (flat_map item_lines is)
-items_shown [] = tt
-items_shown (i ∷ is) = lines_more (item_lines i) (flat_map item_lines is) (record_lines_are i).shown (items_shown is)
+all_shown : (f : Form) (write : NavItem → List (List ℕ)) (is : List NavItem) → AllStand f write is → AreLines (flat_map write is)
+all_shown f write [] h = tt
+all_shown f write (i ∷ is) h = lines_more (write i) (flat_map write is) h.0.are.shown (all_shown f write is h.1)
 
--- the header
-abbrev are_shown : List ℕ → Bool
-are_shown [] = true
-are_shown (c ∷ cs) = nat_le 32 c && are_shown cs
-
-shown_by : (l : List ℕ) → are_shown l ≡ true → AreShown l
-shown_by [] h = tt
-shown_by (c ∷ cs) h = let both = and_parts (nat_le 32 c) (are_shown cs) h in (leb-true 32 c both.0, shown_by cs both.1)
-
-leap_shown : (n : ℕ) → AreShown (leap_text n)
-leap_shown n = (tens (nat_lt n 10), (digit_shown _, tt))
-  where
-    tens : (b : Bool) → 32 ≤ (if b then 32 else (48 + n / 10))
-    tens true = omega arith
-    tens false = omega arith
-
-header_shown : (h : HeaderWords) → IsHeader h → AreLines (header_lines h)
-unfolding header_lines
-header_shown h is = (
-  shown_by (codes "     4.01           N: GNSS NAV DATA    M: MIXED            RINEX VERSION / TYPE") refl,
-  (
-    shown_more (codes "navbridge                               ") (h.date ++ codes " PGM / RUN BY / DATE") (shown_by (codes "navbridge                               ") refl)
-        (shown_more h.date (codes " PGM / RUN BY / DATE") is.shown (shown_by (codes " PGM / RUN BY / DATE") refl)),
-    (
-      shown_more (codes "    ") (leap_text h.leap ++ codes "                                                      LEAP SECONDS") blanks_shown
-          (shown_more (leap_text h.leap) (codes "                                                      LEAP SECONDS") (leap_shown h.leap) (shown_by (codes "                                                      LEAP SECONDS") refl)),
-      (shown_by (codes "                                                            END OF HEADER") refl, tt),
-    ),
-  ),
-)
-
-header_begins : (h : HeaderWords) → NoneBegins (header_lines h)
-unfolding header_lines
-header_begins h = (refl, (refl, (refl, (refl, tt))))
-
-length-header : (h : HeaderWords) → length (header_lines h) ≡ 4
-unfolding header_lines
-length-header h = refl
-
-last : ends_header (codes "                                                            END OF HEADER") ≡ true
-unfolding ends_header stands_at
-last = refl
-
--- the label of the line with the date
-date_label : (date : List ℕ) → length date ≡ 19 → get_or (date ++ codes " PGM / RUN BY / DATE") 20 32 ≡ 80
-date_label date is =
-    ap (λ n. get_or (date ++ codes " PGM / RUN BY / DATE") n 32) (omega arith) ∙ get_or-append-add date (codes " PGM / RUN BY / DATE") 1 32
-
-date_passes : (date : List ℕ) → length date ≡ 19 → ends_header (codes "navbridge                               " ++ (date ++ codes " PGM / RUN BY / DATE")) ≡ false
-unfolding ends_header stands_at
-date_passes date is = rw (date_label date is) refl
-
-leap_passes : (leap : ℕ) → ends_header (codes "    " ++ (leap_text leap ++ codes "                                                      LEAP SECONDS")) ≡ false
-unfolding ends_header stands_at
-leap_passes leap = refl
-
-header_again : (h : HeaderWords) (rest : List (List ℕ)) → IsHeader h → header_of 0 (header_lines h ++ rest) ≡ Ok (record { number = 4; lines = rest })
-unfolding header_lines is_navigation is_version stands_at columns
-header_again h rest is =
-    let date = date_passes h.date is.date in
-    let leap = leap_passes h.leap in
-    rw (date, leap, last) refl
-
-file_shown : (h : HeaderWords) (is : List NavItem) → IsHeader h → AreLines (header_lines h ++ flat_map item_lines is)
-file_shown h is header = lines_more (header_lines h) (flat_map item_lines is) (header_shown h header) (items_shown is)
-
-file_lines : (h : HeaderWords) (is : List NavItem) (rest : List ℕ) → IsHeader h → lines_of (rinex_text h is ++ rest) ≡ header_lines h ++ (flat_map item_lines is ++ lines_of rest)
-file_lines h is rest header =
-    lines_again (header_lines h ++ flat_map item_lines is) rest (file_shown h is header) ∙ append_assoc (header_lines h) (flat_map item_lines is) (lines_of rest)
+file_lines : (f : Form) (header : List (List ℕ)) (write : NavItem → List (List ℕ)) (is : List NavItem) (rest : List ℕ) → AreLines header → AllStand f write is
+    → lines_of (text_of (header ++ flat_map write is) ++ rest) ≡ header ++ (flat_map write is ++ lines_of rest)
+file_lines f header write is rest h all =
+    lines_again (header ++ flat_map write is) rest (lines_more header (flat_map write is) h (all_shown f write is all)) ∙ append_assoc header (flat_map write is) (lines_of rest)
 
 -- the records of a file and of what follows it
-file_and : (h : HeaderWords) (is : List NavItem) (rest : List ℕ) → IsHeader h → AreItems is
-    → file_reads (rinex_text h is ++ rest) ≡ Ok (numbered 4 is ++ reads (4 + length (flat_map item_lines is)) (lines_of rest))
-file_and h is rest header items =
-    ap (λ ls. reads_behind (header_of 0 ls)) (file_lines h is rest header)
-    ∙ ap reads_behind (header_again h (flat_map item_lines is ++ lines_of rest) header)
-    ∙ ap Ok (items_again 4 is (lines_of rest) items)
+file_and : (f : Form) (header : List (List ℕ)) (write : NavItem → List (List ℕ)) (is : List NavItem) (rest : List ℕ) → AreHeaderLines f header → AllStand f write is
+    → file_reads f (text_of (header ++ flat_map write is) ++ rest) ≡ Ok (numbered_by write (length header) is ++ reads f (length header + length (flat_map write is)) (lines_of rest))
+file_and f header write is rest h all =
+    ap (λ ls. reads_behind f (header_of f 0 ls)) (file_lines f header write is rest h.shown all)
+    ∙ ap (reads_behind f) (h.passed (flat_map write is ++ lines_of rest))
+    ∙ ap Ok (items_again f write (length header) is (lines_of rest) all)
 
-items_numbered : (n : ℕ) (is : List NavItem) (rs : List ItemRead) → items_of (numbered n is ++ rs) ≡ is ++ items_of rs
-items_numbered n [] rs = refl
-items_numbered n (i ∷ is) rs = ap (λ js. i ∷ js) (items_numbered (n + length (item_lines i)) is rs)
+items_numbered : (write : NavItem → List (List ℕ)) (n : ℕ) (is : List NavItem) (rs : List ItemRead) → items_of (numbered_by write n is ++ rs) ≡ is ++ items_of rs
+items_numbered write n [] rs = refl
+items_numbered write n (i ∷ is) rs = ap (λ js. i ∷ js) (items_numbered write (n + length (write i)) is rs)
+
+-- the items of what is numbered are these items
+pub items_are : (write : NavItem → List (List ℕ)) (n : ℕ) (is : List NavItem) → items_of (numbered_by write n is) ≡ is
+items_are write n is = ap items_of (sym (append-nil (numbered_by write n is))) ∙ items_numbered write n is [] ∙ append-nil is
 
 -- what is read of a file that was written
-pub file_again : (h : HeaderWords) (is : List NavItem) → IsHeader h → AreItems is → file_reads (rinex_text h is) ≡ Ok (numbered 4 is)
+pub written_again : (f : Form) (header : List (List ℕ)) (write : NavItem → List (List ℕ)) (is : List NavItem) → AreHeaderLines f header → AllStand f write is
+    → file_reads f (text_of (header ++ flat_map write is)) ≡ Ok (numbered_by write (length header) is)
+written_again f header write is h all =
+    ap (file_reads f) (sym (append-nil (text_of (header ++ flat_map write is)))) ∙ file_and f header write is [] h all ∙ ap Ok (append-nil (numbered_by write (length header) is))
+
+-- records and headers of version 4 as they are written
+pub item_stands : (i : NavItem) → IsItem i → StandFor rinex4 (item_lines i) i
+item_stands i is = record { are = record_lines_are i; judged = λ more. item_again i more is }
+
+all_stand : (is : List NavItem) → AreItems is → AllStand rinex4 item_lines is
+all_stand [] h = tt
+all_stand (i ∷ is) h = (item_stands i h.0, all_stand is h.1)
+
+pub header_stands : (h : HeaderWords) → IsHeader h → AreHeaderLines rinex4 (header_lines h)
+header_stands h is = record { shown = header_shown h is; passed = λ more. header_again h is more ∙ ap (λ n. Ok (record { number = n; lines = more })) (sym (length-header h)) }
+
+pub file_again : (h : HeaderWords) (is : List NavItem) → IsHeader h → AreItems is → file_reads rinex4 (rinex_text h is) ≡ Ok (numbered 4 is)
 file_again h is header items =
-    ap file_reads (sym (append-nil (rinex_text h is))) ∙ file_and h is [] header items ∙ ap Ok (append-nil (numbered 4 is))
+    written_again rinex4 (header_lines h) item_lines is (header_stands h header) (all_stand is items) ∙ ap (λ n. Ok (numbered n is)) (length-header h)
 
 pub list_again : (h : HeaderWords) (is : List NavItem) → IsHeader h → AreItems is → rinex_list (rinex_text h is) ≡ is
-list_again h is header items =
-    ap items_read (file_again h is header items) ∙ ap items_of (sym (append-nil (numbered 4 is))) ∙ items_numbered 4 is [] ∙ append-nil is
+list_again h is header items = ap items_read (file_again h is header items) ∙ items_are item_lines 4 is
 
 -- what is read of two files one behind the other
 pub joined_reads : (h k : HeaderWords) (is js : List NavItem) → IsHeader h → IsHeader k → AreItems is → AreItems js
-    → file_reads (rinex_text h is ++ rinex_text k js) ≡ Ok (numbered 4 is ++ numbered (8 + length (flat_map item_lines is)) js)
+    → file_reads rinex4 (rinex_text h is ++ rinex_text k js) ≡ Ok (numbered 4 is ++ numbered (8 + length (flat_map item_lines is)) js)
 joined_reads h k is js first second items more =
-    let n = 4 + length (flat_map item_lines is) in
-    let lines = ap lines_of (sym (append-nil (rinex_text k js))) ∙ file_lines k js [] second in
-    let count : n + length (header_lines k) ≡ 8 + length (flat_map item_lines is) = omega (arith, length-header k) in
-    file_and h is (rinex_text k js) first items
-    ∙ ap (λ ls. Ok (numbered 4 is ++ reads n ls)) lines
-    ∙ ap (λ rs. Ok (numbered 4 is ++ rs)) (passed n (header_lines k) (flat_map item_lines js ++ []) (header_begins k)
-    ∙ ap (λ m. reads m (flat_map item_lines js ++ [])) count
-    ∙ items_again (8 + length (flat_map item_lines is)) js [] more
+    let n = length (header_lines h) + length (flat_map item_lines is) in
+    let lines = ap lines_of (sym (append-nil (rinex_text k js))) ∙ file_lines rinex4 (header_lines k) item_lines js [] (header_shown k second) (all_stand js more) in
+    let count : n + length (header_lines k) ≡ 8 + length (flat_map item_lines is) = omega (arith, length-header h, length-header k) in
+    file_and rinex4 (header_lines h) item_lines is (rinex_text k js) (header_stands h first) (all_stand is items)
+    ∙ ap (λ m. Ok (numbered m is ++ reads rinex4 n (lines_of (rinex_text k js)))) (length-header h)
+    ∙ ap (λ ls. Ok (numbered 4 is ++ reads rinex4 n ls)) lines
+    ∙ ap (λ rs. Ok (numbered 4 is ++ rs)) (passed rinex4 n (header_lines k) (flat_map item_lines js ++ []) (header_begins k)
+    ∙ ap (λ m. reads rinex4 m (flat_map item_lines js ++ [])) count
+    ∙ items_again rinex4 item_lines (8 + length (flat_map item_lines is)) js [] (all_stand js more)
     ∙ append-nil (numbered (8 + length (flat_map item_lines is)) js))
 
 pub joined_list : (h k : HeaderWords) (is js : List NavItem) → IsHeader h → IsHeader k → AreItems is → AreItems js
@@ -383,5 +138,5 @@ pub joined_list : (h k : HeaderWords) (is js : List NavItem) → IsHeader h → 
 joined_list h k is js first second items more =
     let m = 8 + length (flat_map item_lines is) in
     ap items_read (joined_reads h k is js first second items more)
-    ∙ items_numbered 4 is (numbered m js)
-    ∙ ap (λ xs. is ++ xs) (ap items_of (sym (append-nil (numbered m js))) ∙ items_numbered m js [] ∙ append-nil js)
+    ∙ items_numbered item_lines 4 is (numbered m js)
+    ∙ ap (λ xs. is ++ xs) (items_are item_lines m js)

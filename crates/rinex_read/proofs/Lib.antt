@@ -4,6 +4,7 @@ pub mod ColumnLemmas
 pub mod DateLemmas
 pub mod FieldLemmas
 pub mod FileLemmas
+pub mod FormLemmas
 pub mod HeaderLemmas
 pub mod ItemLemmas
 pub mod LineLemmas
@@ -12,6 +13,8 @@ pub mod RecordLemmas
 pub mod RecordSteps
 pub mod RowLemmas
 pub mod StayLemmas
+pub mod StepLemmas
 pub mod TakeLemmas
 pub mod TakenLemmas
 pub mod WholeLemmas
+pub mod WrittenLemmas

@@ -13,10 +13,10 @@ use Rattle.rinex_read.specs.declared.judged.ItemRead.TheVariants as items
 use Rattle.rinex_read.specs.declared.judged.Judged.{Judged}
 use Rattle.rinex_read.specs.declared.judged.Judged.TheVariants as judgments
 use Rattle.rinex_read.specs.Lines.{text_of_line, told_lines}
-use Rattle.rinex_read.specs.Judging.{judged}
+use Rattle.rinex_read.specs.Forms.{Form}
 use Rattle.rinex_read.specs.Files.{read_at}
 use Rattle.rinex_read.specs.States.{RecordsState, held_reads, Steps, held_count, lines_left, GivesRecord, GivesRead, BreaksRecord}
-use Rattle.rinex_read.specs.StepLaws.{steps_more}
+use Rattle.rinex_read.proofs.StepLemmas.{steps_more}
 use Rattle.rinex_read.specs.Mirrors.{TakesLine, TakesEnd, EndsWith, IsRecord}
 
 -- a line that was given, of whatever kind
@@ -32,42 +32,42 @@ line_given End p q s t other g = absurd (other refl)
 pub end_given : (kind : LineKind) (p q : Option (List ℕ)) (s t : LinesState) → kind ≡ End → Answers kind p q s t → GivesEnd p q s t
 end_given kind p q s t e g = subst (λ k. Answers k p q s t) e g
 
-line_step : (p q : Option (List ℕ)) (s t : RecordsState) (given : List ItemRead) (h : HasLine p q s.lines t.lines) → TakesLine s.kept s.first t.kept t.first t.lines.text t.lines.number given
-    → t.header ≡ s.header → Steps p q s t given
-line_step p q s t given h takes header = record {
+line_step : (f : Form) (p q : Option (List ℕ)) (s t : RecordsState) (given : List ItemRead) (h : HasLine p q s.lines t.lines) → TakesLine f s.kept s.first t.kept t.first t.lines.text t.lines.number given
+    → t.header ≡ s.header → Steps f p q s t given
+line_step f p q s t given h takes header = record {
   lines = record { text = t.lines.text; long = h.long } ∷ [];
   reads = h.gives.reads;
   header = header;
   stream = λ following may.
-      ap (λ (ls : List Line). held_reads s.kept s.first s.lines.number (map text_of_line ls)) (h.gives.reads.stream false following (λ e. (refl, may e)))
+      ap (λ (ls : List Line). held_reads f s.kept s.first s.lines.number (map text_of_line ls)) (h.gives.reads.stream false following (λ e. (refl, may e)))
       ∙ takes.answers s.lines.number (told_lines (t.lines.rest ++ following)) h.gives.number;
 }
 
-end_step : (p q : Option (List ℕ)) (s t : RecordsState) (given : List ItemRead) (g : GivesEnd p q s.lines t.lines) → TakesEnd s.kept s.first given → t.kept ≡ [] → t.header ≡ s.header → Steps p q s t given
-end_step p q s t given g takes none header = record {
+end_step : (f : Form) (p q : Option (List ℕ)) (s t : RecordsState) (given : List ItemRead) (g : GivesEnd p q s.lines t.lines) → TakesEnd f s.kept s.first given → t.kept ≡ [] → t.header ≡ s.header → Steps f p q s t given
+end_step f p q s t given g takes none header = record {
   lines = [];
   reads = g.reads;
   header = header;
   stream = λ following may.
       let nothing : t.lines.rest ++ following ≡ [] = rw (g.rest, may g.ended) refl in
-      ap (λ (ls : List Line). held_reads s.kept s.first s.lines.number (map text_of_line ls)) (g.reads.stream false following (λ e. (refl, may e)))
-      ∙ ap (λ (bytes : List ℕ). held_reads s.kept s.first s.lines.number (told_lines bytes)) nothing
+      ap (λ (ls : List Line). held_reads f s.kept s.first s.lines.number (map text_of_line ls)) (g.reads.stream false following (λ e. (refl, may e)))
+      ∙ ap (λ (bytes : List ℕ). held_reads f s.kept s.first s.lines.number (told_lines bytes)) nothing
       ∙ takes.answers s.lines.number
       ∙ sym (append-nil given)
-      ∙ ap (λ (bytes : List ℕ). given ++ held_reads [] t.first t.lines.number (told_lines bytes)) (sym nothing)
-      ∙ ap (λ (ks : List (List ℕ)). given ++ held_reads ks t.first t.lines.number (told_lines (t.lines.rest ++ following))) (sym none);
+      ∙ ap (λ (bytes : List ℕ). given ++ held_reads f [] t.first t.lines.number (told_lines bytes)) (sym nothing)
+      ∙ ap (λ (ks : List (List ℕ)). given ++ held_reads f ks t.first t.lines.number (told_lines (t.lines.rest ++ following))) (sym none);
 }
 
-read_step : (p q : Option (List ℕ)) (s t : RecordsState) → Reads p q s.lines t.lines [] → t.kept ≡ s.kept → t.first ≡ s.first → t.lines.number ≡ s.lines.number → t.header ≡ s.header → Steps p q s t []
-read_step p q s t r kept first number header = record {
+read_step : (f : Form) (p q : Option (List ℕ)) (s t : RecordsState) → Reads p q s.lines t.lines [] → t.kept ≡ s.kept → t.first ≡ s.first → t.lines.number ≡ s.lines.number → t.header ≡ s.header → Steps f p q s t []
+read_step f p q s t r kept first number header = record {
   lines = [];
   reads = r;
   header = header;
   stream = λ following may.
-      ap (λ (ls : List Line). held_reads s.kept s.first s.lines.number (map text_of_line ls)) (r.stream false following (λ e. (refl, may e)))
-      ∙ ap (λ (ks : List (List ℕ)). held_reads ks s.first s.lines.number (told_lines (t.lines.rest ++ following))) (sym kept)
-      ∙ ap (λ (f : ℕ). held_reads t.kept f s.lines.number (told_lines (t.lines.rest ++ following))) (sym first)
-      ∙ ap (λ (n : ℕ). held_reads t.kept t.first n (told_lines (t.lines.rest ++ following))) (sym number);
+      ap (λ (ls : List Line). held_reads f s.kept s.first s.lines.number (map text_of_line ls)) (r.stream false following (λ e. (refl, may e)))
+      ∙ ap (λ (ks : List (List ℕ)). held_reads f ks s.first s.lines.number (told_lines (t.lines.rest ++ following))) (sym kept)
+      ∙ ap (λ (k : ℕ). held_reads f t.kept k s.lines.number (told_lines (t.lines.rest ++ following))) (sym first)
+      ∙ ap (λ (n : ℕ). held_reads f t.kept t.first n (told_lines (t.lines.rest ++ following))) (sym number);
 }
 
 held_few : (ks : List (List ℕ)) → held_count ks ≤ 1
@@ -78,11 +78,11 @@ held_none : (ks : List (List ℕ)) → ks ≡ [] → held_count ks ≡ 0
 held_none [] e = refl
 held_none (k ∷ ks) e = absurd (cc)
 
-gives_record : (read : ItemRead) (o q : Option (List ℕ)) (s t : RecordsState) → IsRecord read → GivesRecord o q s t read → GivesRead read o q s t
-gives_record (items.Item line item) o q s t is g = g
-gives_record (items.Refused line reason) o q s t is g = g
-gives_record (items.PassedOver line) o q s t is g = g
-gives_record items.End o q s t is g = absurd is
+gives_record : (f : Form) (read : ItemRead) (o q : Option (List ℕ)) (s t : RecordsState) → IsRecord read → GivesRecord f o q s t read → GivesRead f read o q s t
+gives_record f (items.Item line item) o q s t is g = g
+gives_record f (items.Refused line reason) o q s t is g = g
+gives_record f (items.PassedOver line) o q s t is g = g
+gives_record f items.End o q s t is g = absurd is
 
 read_is_record : (n : ℕ) (j : Judged) → IsRecord (read_at n j)
 read_is_record n (judgments.Item item) = tt
@@ -90,57 +90,57 @@ read_is_record n (judgments.Refused reason) = tt
 read_is_record n judgments.PassedOver = tt
 
 -- a line that ended a record
-pub line_gives : (o p q : Option (List ℕ)) (old now new : RecordsState) (read : ItemRead) → Steps o p old now [] → lines_left now ≤ lines_left old → HasLine p q now.lines new.lines
-    → TakesLine now.kept now.first new.kept new.first new.lines.text new.lines.number (read ∷ []) → IsRecord read → new.header ≡ now.header → GivesRead read o q old new
-line_gives o p q old now new read steps near h takes is header =
-    gives_record read o q old new is (record {
-      steps = steps_more o p q old now new [] (read ∷ []) steps (line_step p q now new (read ∷ []) h takes header);
+pub line_gives : (f : Form) (o p q : Option (List ℕ)) (old now new : RecordsState) (read : ItemRead) → Steps f o p old now [] → lines_left now ≤ lines_left old → HasLine p q now.lines new.lines
+    → TakesLine f now.kept now.first new.kept new.first new.lines.text new.lines.number (read ∷ []) → IsRecord read → new.header ≡ now.header → GivesRead f read o q old new
+line_gives f o p q old now new read steps near h takes is header =
+    gives_record f read o q old new is (record {
+      steps = steps_more f o p q old now new [] (read ∷ []) steps (line_step f p q now new (read ∷ []) h takes header);
       low = h.gives.low;
       nearer = omega (arith, held_few new.kept, h.gives.number, h.gives.numbered, h.gives.low, near);
     })
 
 -- a line that ended none
-pub line_keeps : (o p q : Option (List ℕ)) (old now new : RecordsState) → Steps o p old now [] → lines_left now ≤ lines_left old → HasLine p q now.lines new.lines
-    → TakesLine now.kept now.first new.kept new.first new.lines.text new.lines.number [] → new.header ≡ now.header → Steps o q old new [] × (lines_left new ≤ lines_left old)
-line_keeps o p q old now new steps near h takes header =
-    (steps_more o p q old now new [] [] steps (line_step p q now new [] h takes header), omega (arith, held_few new.kept, h.gives.number, h.gives.numbered, h.gives.low, near))
+pub line_keeps : (f : Form) (o p q : Option (List ℕ)) (old now new : RecordsState) → Steps f o p old now [] → lines_left now ≤ lines_left old → HasLine p q now.lines new.lines
+    → TakesLine f now.kept now.first new.kept new.first new.lines.text new.lines.number [] → new.header ≡ now.header → Steps f o q old new [] × (lines_left new ≤ lines_left old)
+line_keeps f o p q old now new steps near h takes header =
+    (steps_more f o p q old now new [] [] steps (line_step f p q now new [] h takes header), omega (arith, held_few new.kept, h.gives.number, h.gives.numbered, h.gives.low, near))
 
 -- the end
-pub end_gives : (o p q : Option (List ℕ)) (old now new : RecordsState) (read : ItemRead) → Steps o p old now [] → lines_left now ≤ lines_left old → GivesEnd p q now.lines new.lines
-    → EndsWith now.kept now.first read → new.kept ≡ [] → new.header ≡ now.header → GivesRead read o q old new
-end_gives o p q old now new read steps near g ends none header = go now.kept refl ends
+pub end_gives : (f : Form) (o p q : Option (List ℕ)) (old now new : RecordsState) (read : ItemRead) → Steps f o p old now [] → lines_left now ≤ lines_left old → GivesEnd p q now.lines new.lines
+    → EndsWith f now.kept now.first read → new.kept ≡ [] → new.header ≡ now.header → GivesRead f read o q old new
+end_gives f o p q old now new read steps near g ends none header = go now.kept refl ends
   where
-    go : (ks : List (List ℕ)) → now.kept ≡ ks → EndsWith ks now.first read → GivesRead read o q old new
-    go [] e f =
-        let takes : TakesEnd now.kept now.first [] = record { answers = λ n. ap (λ (ks : List (List ℕ)). held_reads ks now.first n []) e } in
-        subst (λ r. GivesRead r o q old new) (sym f) (record {
-          steps = steps_more o p q old now new [] [] steps (end_step p q now new [] g takes none header);
+    go : (ks : List (List ℕ)) → now.kept ≡ ks → EndsWith f ks now.first read → GivesRead f read o q old new
+    go [] e same =
+        let takes : TakesEnd f now.kept now.first [] = record { answers = λ n. ap (λ (ks : List (List ℕ)). held_reads f ks now.first n []) e } in
+        subst (λ r. GivesRead f r o q old new) (sym same) (record {
+          steps = steps_more f o p q old now new [] [] steps (end_step f p q now new [] g takes none header);
           kept = none;
           rest = g.rest;
           ended = g.ended;
           low = g.low;
         })
-    go (k ∷ ks) e f =
-        let takes : TakesEnd now.kept now.first (read ∷ []) = record {
-          answers = λ n. ap (λ (xs : List (List ℕ)). held_reads xs now.first n []) e
-              ∙ ap (λ (xs : List (List ℕ)). read_at now.first (judged xs) ∷ []) (append-nil (k ∷ ks)) ∙ ap (λ r. r ∷ []) (sym f);
+    go (k ∷ ks) e same =
+        let takes : TakesEnd f now.kept now.first (read ∷ []) = record {
+          answers = λ n. ap (λ (xs : List (List ℕ)). held_reads f xs now.first n []) e
+              ∙ ap (λ (xs : List (List ℕ)). read_at now.first (f.judged xs) ∷ []) (append-nil (k ∷ ks)) ∙ ap (λ r. r ∷ []) (sym same);
         } in
         let held : held_count now.kept ≡ 1 = ap held_count e in
-        gives_record read o q old new (subst IsRecord (sym f) (read_is_record now.first (judged (k ∷ ks)))) (record {
-          steps = steps_more o p q old now new [] (read ∷ []) steps (end_step p q now new (read ∷ []) g takes none header);
+        gives_record f read o q old new (subst IsRecord (sym same) (read_is_record now.first (f.judged (k ∷ ks)))) (record {
+          steps = steps_more f o p q old now new [] (read ∷ []) steps (end_step f p q now new (read ∷ []) g takes none header);
           low = g.low;
           nearer = omega (arith, held, held_none new.kept none, g.number, near);
         })
 
 -- a fault
-pub breaks : (fault : LineFault) (o p q : Option (List ℕ)) (old now new : RecordsState) → Steps o p old now [] → Breaks fault p q now.lines new.lines
-    → new.kept ≡ now.kept → new.first ≡ now.first → new.header ≡ now.header → BreaksRecord o q old new fault
-breaks ReadFault o p q old now new steps b kept first header = record {
-  steps = steps_more o p q old now new [] [] steps (read_step p q now new b.reads kept first b.number header);
+pub breaks : (f : Form) (fault : LineFault) (o p q : Option (List ℕ)) (old now new : RecordsState) → Steps f o p old now [] → Breaks fault p q now.lines new.lines
+    → new.kept ≡ now.kept → new.first ≡ now.first → new.header ≡ now.header → BreaksRecord f o q old new fault
+breaks f ReadFault o p q old now new steps b kept first header = record {
+  steps = steps_more f o p q old now new [] [] steps (read_step f p q now new b.reads kept first b.number header);
   by = (b.more, b.low);
 }
-breaks TooLong o p q old now new steps b kept first header = record {
-  steps = steps_more o p q old now new [] [] steps (read_step p q now new b.reads kept first b.number header);
+breaks f TooLong o p q old now new steps b kept first header = record {
+  steps = steps_more f o p q old now new [] [] steps (read_step f p q now new b.reads kept first b.number header);
   by = b.too_many;
 }
 

@@ -14,8 +14,8 @@ use Rattle.rinex_read.specs.declared.reason.Reason.{Reason}
 use Rattle.rinex_read.specs.declared.reason.Reason.TheVariants as reasons
 use Rattle.rinex_read.specs.Lines.{columns}
 use Rattle.rinex_read.specs.Fields.{◌>>=◌, in_range, flag_of, sent_or_unknown, taken, field_at, read_row, read_rows}
-use Rattle.rinex_read.specs.declared.title.Form.{Form}
-use Rattle.rinex_read.specs.declared.title.Form.TheVariants.{GpsEphemeris, GalileoEphemeris, GpsIonosphere, GalileoIonosphere}
+use Rattle.rinex_read.specs.declared.title.RecordKind.{RecordKind}
+use Rattle.rinex_read.specs.declared.title.RecordKind.TheVariants.{GpsEphemeris, GalileoEphemeris, GpsIonosphere, GalileoIonosphere}
 use Rattle.rinex_read.specs.Mirrors.{Gives, IsLayout, kind_by}
 use Rattle.rinex_read.proofs.FieldLemmas.{le_from}
 
@@ -197,12 +197,12 @@ pub galileo_ionosphere_zero : have_zero (joined_rows galileo_ionosphere_rows) �
 unfolding galileo_ionosphere_rows
 galileo_ionosphere_zero = refl
 
-pub form_zero : (f : Form) → have_zero (joined_rows (kind_by f).rows) ≡ true
+pub kind_zero : (f : RecordKind) → have_zero (joined_rows (kind_by f).rows) ≡ true
 unfolding gps_kind galileo_kind gps_ionosphere_kind galileo_ionosphere_kind
-form_zero GpsEphemeris = gps_zero
-form_zero GalileoEphemeris = galileo_zero
-form_zero GpsIonosphere = gps_ionosphere_zero
-form_zero GalileoIonosphere = galileo_ionosphere_zero
+kind_zero GpsEphemeris = gps_zero
+kind_zero GalileoEphemeris = galileo_zero
+kind_zero GpsIonosphere = gps_ionosphere_zero
+kind_zero GalileoIonosphere = galileo_ionosphere_zero
 
 gps_layout_is : IsLayout (joined_rows gps_rows) (map length gps_rows)
 unfolding gps_rows
@@ -220,14 +220,14 @@ galileo_ionosphere_layout_is : IsLayout (joined_rows galileo_ionosphere_rows) (m
 unfolding galileo_ionosphere_rows
 galileo_ionosphere_layout_is = record { good = refl; count = refl; few = omega arith; fit = refl }
 
-pub layout_is : (f : Form) → IsLayout (joined_rows (kind_by f).rows) (map length (kind_by f).rows)
+pub layout_is : (f : RecordKind) → IsLayout (joined_rows (kind_by f).rows) (map length (kind_by f).rows)
 unfolding gps_kind galileo_kind gps_ionosphere_kind galileo_ionosphere_kind
 layout_is GpsEphemeris = gps_layout_is
 layout_is GalileoEphemeris = galileo_layout_is
 layout_is GpsIonosphere = gps_ionosphere_layout_is
 layout_is GalileoIonosphere = galileo_ionosphere_layout_is
 
-pub some_rows : (f : Form) → 1 ≤ length (map length (kind_by f).rows)
+pub some_rows : (f : RecordKind) → 1 ≤ length (map length (kind_by f).rows)
 unfolding gps_kind galileo_kind gps_ionosphere_kind galileo_ionosphere_kind gps_rows galileo_rows gps_ionosphere_rows galileo_ionosphere_rows
 some_rows GpsEphemeris = omega arith
 some_rows GalileoEphemeris = omega arith

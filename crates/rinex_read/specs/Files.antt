@@ -1,6 +1,6 @@
--- Navigation files as read: the header, the records with the numbers of their lines, and the list of items (RINEX 4.01).
-use Rattle.std.specs.Prelude.{ℕ, ◌+◌, ◌==◌, ◌&&◌, Bool, false, if◌then◌else◌, List, [], ◌∷◌, codes, Result, Ok, Err}
-use Rattle.scaled_decimal.specs.NumberReading.{trim_start, trim_end, is_decimal}
+-- Navigation files of a form as read: the header, the records with the numbers of their lines, and the list of items (RINEX
+-- 4.01 and 3.05, header section and navigation records).
+use Rattle.std.specs.Prelude.{ℕ, ◌+◌, ◌&&◌, Bool, if◌then◌else◌, List, [], ◌∷◌, codes, Result, Ok, Err}
 use Rattle.nav_eph.specs.declared.items.NavItem.{NavItem}
 use Rattle.rinex_read.specs.declared.judged.Judged.{Judged}
 use Rattle.rinex_read.specs.declared.judged.Judged.TheVariants as judgments
@@ -8,22 +8,12 @@ use Rattle.rinex_read.specs.declared.judged.ItemRead.{ItemRead}
 use Rattle.rinex_read.specs.declared.judged.ItemRead.TheVariants.{Item, Refused, PassedOver, End}
 use Rattle.rinex_read.specs.declared.judged.HeaderFault.{HeaderFault}
 use Rattle.rinex_read.specs.declared.judged.HeaderFault.TheVariants.{NotRinexNav, Version}
-use Rattle.rinex_read.specs.Lines.{columns, stands_at, begins, lines_of}
-use Rattle.rinex_read.specs.Judging.{judged}
+use Rattle.rinex_read.specs.Lines.{stands_at, lines_of}
+use Rattle.rinex_read.specs.Forms.{Form, is_version, begins, rinex4}
 
 -- the first line says that this is a navigation file: the label in columns 61-80, and `N` in column 21
 unfoldable pub is_navigation : List ℕ → Bool
 is_navigation line = stands_at 60 (codes "RINEX VERSION / TYPE") line && stands_at 20 (codes "N") line
-
--- `4.` and one digit or two
-abbrev pub is_four : List ℕ → Bool
-is_four (a ∷ b ∷ c ∷ []) = a == 52 && b == 46 && is_decimal c
-is_four (a ∷ b ∷ c ∷ d ∷ []) = a == 52 && b == 46 && is_decimal c && is_decimal d
-is_four _ = false
-
--- the version, in columns 1-9 without blanks at the ends, is 4
-unfoldable pub is_version : List ℕ → Bool
-is_version line = is_four (trim_end (trim_start (columns 0 9 line)))
 
 -- the line ends the header: its label begins so in column 61
 unfoldable pub ends_header : List ℕ → Bool
@@ -40,15 +30,15 @@ header_passed n [] = Err NotRinexNav
 header_passed n (l ∷ ls) = if ends_header l then Ok (record { number = n + 1; lines = ls }) else header_passed (n + 1) ls
 
 -- what stands behind the header with which these lines begin
-abbrev pub header_of : ℕ → List (List ℕ) → Result Body HeaderFault
-header_of n [] = Err NotRinexNav
-header_of n (l ∷ ls) =
-    if is_navigation l then (if is_version l then header_passed (n + 1) ls else Err Version) else Err NotRinexNav
+abbrev pub header_of : Form → ℕ → List (List ℕ) → Result Body HeaderFault
+header_of f n [] = Err NotRinexNav
+header_of f n (l ∷ ls) =
+    if is_navigation l then (if is_version f l then header_passed (n + 1) ls else Err Version) else Err NotRinexNav
 
 -- the lines up to the next that begins a record
-abbrev pub up_to_next : List (List ℕ) → List (List ℕ)
-up_to_next [] = []
-up_to_next (l ∷ ls) = if begins l then [] else l ∷ up_to_next ls
+abbrev pub up_to_next : Form → List (List ℕ) → List (List ℕ)
+up_to_next f [] = []
+up_to_next f (l ∷ ls) = if begins f l then [] else l ∷ up_to_next f ls
 
 -- what is read of a record that begins at line n
 abbrev pub read_at : ℕ → Judged → ItemRead
@@ -58,18 +48,19 @@ read_at n judgments.PassedOver = PassedOver n
 
 -- what is read of the records of lines, where n lines went before: a record is a line that begins one and the lines up to
 -- the next such line or the end
-abbrev pub reads : ℕ → List (List ℕ) → List ItemRead
-reads n [] = []
-reads n (l ∷ ls) = if begins l then read_at (n + 1) (judged (l ∷ up_to_next ls)) ∷ reads (n + 1) ls else reads (n + 1) ls
+abbrev pub reads : Form → ℕ → List (List ℕ) → List ItemRead
+reads f n [] = []
+reads f n (l ∷ ls) =
+    if begins f l then read_at (n + 1) (f.judged (l ∷ up_to_next f ls)) ∷ reads f (n + 1) ls else reads f (n + 1) ls
 
 -- what is read of the records behind a header
-abbrev pub reads_behind : Result Body HeaderFault → Result (List ItemRead) HeaderFault
-reads_behind (Ok body) = Ok (reads body.number body.lines)
-reads_behind (Err fault) = Err fault
+abbrev pub reads_behind : Form → Result Body HeaderFault → Result (List ItemRead) HeaderFault
+reads_behind f (Ok body) = Ok (reads f body.number body.lines)
+reads_behind f (Err fault) = Err fault
 
 -- what is read of the bytes of a file
-abbrev pub file_reads : List ℕ → Result (List ItemRead) HeaderFault
-file_reads bytes = reads_behind (header_of 0 (lines_of bytes))
+abbrev pub file_reads : Form → List ℕ → Result (List ItemRead) HeaderFault
+file_reads f bytes = reads_behind f (header_of f 0 (lines_of bytes))
 
 -- the items among what is read
 abbrev pub items_of : List ItemRead → List NavItem
@@ -84,5 +75,9 @@ items_read (Ok rs) = items_of rs
 items_read (Err fault) = []
 
 -- the list of the items of a file
+abbrev pub list_by : Form → List ℕ → List NavItem
+list_by f bytes = items_read (file_reads f bytes)
+
+-- of a file of version 4
 abbrev pub rinex_list : List ℕ → List NavItem
-rinex_list bytes = items_read (file_reads bytes)
+rinex_list = list_by rinex4

@@ -1,9 +1,9 @@
 pub mod Fields
 pub mod Files
+pub mod Forms
 pub mod Judging
 pub mod Kept
 pub mod Lines
 pub mod Mirrors
 pub mod RoundTrip
 pub mod States
-pub mod StepLaws

@@ -12,10 +12,6 @@ unfoldable pub stands_at : ℕ → List ℕ → List ℕ → Bool
 stands_at a [] line = true
 stands_at a (c ∷ cs) line = (get_or line a 32 == c) && stands_at (a + 1) cs line
 
--- the line begins a record: its first character is `>`
-abbrev pub begins : List ℕ → Bool
-begins line = get_or line 0 32 == 62
-
 -- the lines of the bytes of a file
 abbrev pub lines_of : List ℕ → List (List ℕ)
 lines_of bytes = map without_cr (pieces false bytes)

@@ -7,15 +7,16 @@ use Rattle.rinex_write.specs.Columns.{are_good}
 use Rattle.rinex_write.specs.Layouts.{Kind, gps_kind, galileo_kind, gps_ionosphere_kind, galileo_ionosphere_kind}
 use Rattle.rinex_read.specs.declared.reason.Reason.{Reason}
 use Rattle.rinex_read.specs.declared.reason.Reason.TheVariants as reasons
-use Rattle.rinex_read.specs.declared.title.Form.{Form}
-use Rattle.rinex_read.specs.declared.title.Form.TheVariants.{GpsEphemeris, GalileoEphemeris, GpsIonosphere, GalileoIonosphere}
+use Rattle.rinex_read.specs.declared.title.RecordKind.{RecordKind}
+use Rattle.rinex_read.specs.declared.title.RecordKind.TheVariants.{GpsEphemeris, GalileoEphemeris, GpsIonosphere, GalileoIonosphere}
 use Rattle.rinex_read.specs.Fields.{◌>>=◌, read_row}
 use Rattle.rinex_read.specs.declared.judged.ItemRead.{ItemRead}
 use Rattle.rinex_read.specs.declared.judged.ItemRead.TheVariants.{Item, Refused, PassedOver, End}
 use Rattle.rinex_read.specs.declared.judged.HeaderState.{HeaderState}
 use Rattle.rinex_read.specs.declared.judged.HeaderState.TheVariants.{New, Open, Passed, NotRinexNav, OtherVersion}
-use Rattle.rinex_read.specs.Judging.{field, natural, Said, judged}
-use Rattle.rinex_read.specs.Files.{is_navigation, is_version, ends_header, read_at}
+use Rattle.rinex_read.specs.Judging.{field, natural, Said}
+use Rattle.rinex_read.specs.Files.{is_navigation, ends_header, read_at}
+use Rattle.rinex_read.specs.Forms.{Form, is_version}
 use Rattle.nav_io.specs.LinesState.{LinesState}
 use Rattle.rinex_read.specs.declared.judged.HeaderFault.{HeaderFault}
 use Rattle.rinex_read.specs.declared.judged.HeaderFault.TheVariants as faults
@@ -23,7 +24,7 @@ use Rattle.rinex_read.specs.States.{RecordsState, held_reads}
 use Rattle.rinex_read.specs.declared.said.RecordSaid.{RecordSaid}
 
 -- the kinds of the forms
-abbrev pub kind_by : Form → Kind
+abbrev pub kind_by : RecordKind → Kind
 kind_by GpsEphemeris = gps_kind
 kind_by GalileoEphemeris = galileo_kind
 kind_by GpsIonosphere = gps_ionosphere_kind
@@ -183,12 +184,12 @@ pub record AreGalileoIonosphereFields (zs : List ℤ) : Type 0 where
   pub regions : IsUnsignedAt 5 zs 3
 
 -- A line was taken: what is held with it and any lines behind it gives these records, and then what is held now gives.
-pub record TakesLine (kept : List (List ℕ)) (first : ℕ) (kept_new : List (List ℕ)) (first_new : ℕ) (line : List ℕ) (number : ℕ) (given : List ItemRead) : Type 0 where
-  pub answers : (n : ℕ) (more : List (List ℕ)) → number ≡ n + 1 → held_reads kept first n (line ∷ more) ≡ given ++ held_reads kept_new first_new number more
+pub record TakesLine (f : Form) (kept : List (List ℕ)) (first : ℕ) (kept_new : List (List ℕ)) (first_new : ℕ) (line : List ℕ) (number : ℕ) (given : List ItemRead) : Type 0 where
+  pub answers : (n : ℕ) (more : List (List ℕ)) → number ≡ n + 1 → held_reads f kept first n (line ∷ more) ≡ given ++ held_reads f kept_new first_new number more
 
 -- No line is left: what is held gives these records.
-pub record TakesEnd (kept : List (List ℕ)) (first : ℕ) (given : List ItemRead) : Type 0 where
-  pub answers : (n : ℕ) → held_reads kept first n [] ≡ given
+pub record TakesEnd (f : Form) (kept : List (List ℕ)) (first : ℕ) (given : List ItemRead) : Type 0 where
+  pub answers : (n : ℕ) → held_reads f kept first n [] ≡ given
 
 -- what was read is a record, of which there is one
 abbrev pub IsRecord : ItemRead → Type 0
@@ -198,25 +199,17 @@ IsRecord (PassedOver line) = Unit {0}
 IsRecord End = ⊥
 
 -- the end where nothing was held, and else the record that was
-abbrev pub EndsWith : List (List ℕ) → ℕ → ItemRead → Type 0
-EndsWith [] first read = read ≡ End
-EndsWith (k ∷ ks) first read = read ≡ read_at first (judged (k ∷ ks))
+abbrev pub EndsWith : Form → List (List ℕ) → ℕ → ItemRead → Type 0
+EndsWith f [] first read = read ≡ End
+EndsWith f (k ∷ ks) first read = read ≡ read_at first (f.judged (k ∷ ks))
 
 -- how far the header is read with one more line
-abbrev pub header_after : HeaderState → List ℕ → HeaderState
-header_after New line = if is_navigation line then (if is_version line then Open else OtherVersion) else NotRinexNav
-header_after Open line = if ends_header line then Passed else Open
-header_after Passed line = Passed
-header_after NotRinexNav line = NotRinexNav
-header_after OtherVersion line = OtherVersion
-
--- lines of the header are still to come
-abbrev pub is_waiting : HeaderState → Bool
-is_waiting New = true
-is_waiting Open = true
-is_waiting Passed = false
-is_waiting NotRinexNav = false
-is_waiting OtherVersion = false
+abbrev pub header_after : Form → HeaderState → List ℕ → HeaderState
+header_after f New line = if is_navigation line then (if is_version f line then Open else OtherVersion) else NotRinexNav
+header_after f Open line = if ends_header line then Passed else Open
+header_after f Passed line = Passed
+header_after f NotRinexNav line = NotRinexNav
+header_after f OtherVersion line = OtherVersion
 
 -- a reader of records of these parts
 abbrev pub state_of : HeaderState → List (List ℕ) → ℕ → LinesState → RecordsState

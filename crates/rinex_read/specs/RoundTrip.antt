@@ -1,12 +1,15 @@
 -- What the laws of written and read files take and say.
-use Rattle.std.specs.Prelude.{◌≡◌, ℕ, ◌+◌, ◌<◌, List, [], ◌∷◌, length}
+use Rattle.std.specs.Prelude.{◌≡◌, ℕ, ◌+◌, ◌<◌, true, false, List, [], ◌∷◌, ◌++◌, length, Ok}
 use Rattle.scaled_decimal.specs.NumberText.{AreShown}
 use Rattle.nav_eph.specs.declared.items.NavItem.{NavItem}
 use Rattle.nav_eph.specs.Ranges.{IsItem}
 use Rattle.rinex_write.specs.declared.header.HeaderWords.{HeaderWords}
 use Rattle.rinex_write.specs.Texts.{item_lines}
+use Rattle.rinex_read.specs.declared.judged.Judged.TheVariants as judgments
 use Rattle.rinex_read.specs.declared.judged.ItemRead.{ItemRead}
 use Rattle.rinex_read.specs.declared.judged.ItemRead.TheVariants.{Item}
+use Rattle.rinex_read.specs.Forms.{Form, begins}
+use Rattle.rinex_read.specs.Files.{header_of}
 
 -- the date of a header has 19 characters that are shown, and the leap seconds at most two digits
 pub record IsHeader (h : HeaderWords) : Type 0 where
@@ -19,7 +22,45 @@ abbrev pub AreItems : List NavItem → Type 0
 AreItems [] = Unit {0}
 AreItems (i ∷ is) = IsItem i × AreItems is
 
--- each item, with the number of the first line of its record, where n lines go before
+-- lines in which each character is shown
+abbrev pub AreLines : List (List ℕ) → Type 0
+AreLines [] = Unit {0}
+AreLines (l ∷ ls) = AreShown l × AreLines ls
+
+-- lines of which none begins a record of the form
+abbrev pub NoneBegins : Form → List (List ℕ) → Type 0
+NoneBegins f [] = Unit {0}
+NoneBegins f (l ∷ ls) = (begins f l ≡ false) × NoneBegins f ls
+
+-- lines of a record: the first one begins it, no other of them begins one, and all are shown
+pub record AreRecordLines (f : Form) (lines : List (List ℕ)) : Type 0 where
+  pub title : List ℕ
+  pub others : List (List ℕ)
+  pub lines_are : lines ≡ title ∷ others
+  pub first : begins f title ≡ true
+  pub rest : NoneBegins f others
+  pub shown : AreLines lines
+
+-- lines of a record that stand for an item, whatever lines follow
+pub record StandFor (f : Form) (lines : List (List ℕ)) (item : NavItem) : Type 0 where
+  pub are : AreRecordLines f lines
+  pub judged : (more : List (List ℕ)) → f.judged (lines ++ more) ≡ judgments.Item item
+
+-- the lines that are written of each item stand for it
+abbrev pub AllStand : Form → (NavItem → List (List ℕ)) → List NavItem → Type 0
+AllStand f write [] = Unit {0}
+AllStand f write (i ∷ is) = StandFor f (write i) i × AllStand f write is
+
+-- lines of a header: all are shown, and they are passed whatever lines follow
+pub record AreHeaderLines (f : Form) (lines : List (List ℕ)) : Type 0 where
+  pub shown : AreLines lines
+  pub passed : (more : List (List ℕ)) → header_of f 0 (lines ++ more) ≡ Ok (record { number = length lines; lines = more })
+
+-- each item, with the number of the first line of its record, where n lines go before and these lines are written of it
+abbrev pub numbered_by : (NavItem → List (List ℕ)) → ℕ → List NavItem → List ItemRead
+numbered_by write n [] = []
+numbered_by write n (i ∷ is) = Item (n + 1) i ∷ numbered_by write (n + length (write i)) is
+
+-- the same of the records of version 4
 abbrev pub numbered : ℕ → List NavItem → List ItemRead
-numbered n [] = []
-numbered n (i ∷ is) = Item (n + 1) i ∷ numbered (n + length (item_lines i)) is
+numbered = numbered_by item_lines

@@ -2,10 +2,12 @@
 
 ghost use Rattle.std.specs.Prelude.{◌≡◌};
 ghost use Rattle.rinex_read.specs.Kept.{padded};
-ghost use Rattle.rinex_read.specs.Files.{ends_header, is_four, is_navigation, is_version};
+ghost use Rattle.rinex_read.specs.Files.{ends_header, is_navigation};
+ghost use Rattle.rinex_read.specs.Forms.{is_version};
 ghost use Rattle.rinex_read.specs.Mirrors.{header_after};
 
-use crate::date::{is_decimal, trimmed};
+use crate::date::trimmed;
+use crate::form::FileForm;
 use crate::judged::HeaderState;
 use crate::line::{Line, columns, padded, stands_at};
 
@@ -17,23 +19,12 @@ fn is_navigation(line: &Line) -> bool
     stands_at(line, 60, b"RINEX VERSION / TYPE") && stands_at(line, 20, b"N")
 }
 
-// `4.` and one digit or two.
-fn is_four(text: &[u8]) -> bool
-    ensures { result ≡ is_four text.now }
+// The version of the line is one of the form.
+#[tactic(auto, unfolding(crate::specs::Forms::is_version))]
+fn is_version<F: FileForm>(line: &Line) -> bool
+    ensures { result ≡ is_version F.form line.now }
 {
-    match text {
-        [a, b, c] => *a == b'4' && *b == b'.' && is_decimal(*c),
-        [a, b, c, d] => *a == b'4' && *b == b'.' && is_decimal(*c) && is_decimal(*d),
-        _ => false,
-    }
-}
-
-// The version of the line is 4.
-#[tactic(auto, unfolding(crate::specs::Files::is_version))]
-fn is_version(line: &Line) -> bool
-    ensures { result ≡ is_version line.now }
-{
-    is_four(trimmed(columns(line, 0, 9)))
+    F::names(trimmed(columns(line, 0, 9)))
 }
 
 // The line ends a header.
@@ -45,14 +36,14 @@ fn ends_header(line: &Line) -> bool
 }
 
 // The same of a line as it is kept.
-fn after_kept(state: HeaderState, line: &Line) -> HeaderState
-    ensures { result ≡ header_after state line.now }
+fn after_kept<F: FileForm>(state: HeaderState, line: &Line) -> HeaderState
+    ensures { result ≡ header_after F.form state line.now }
 {
     match state {
         HeaderState::New => {
             if !is_navigation(line) {
                 HeaderState::NotRinexNav
-            } else if is_version(line) {
+            } else if is_version::<F>(line) {
                 HeaderState::Open
             } else {
                 HeaderState::OtherVersion
@@ -72,8 +63,8 @@ fn after_kept(state: HeaderState, line: &Line) -> HeaderState
 }
 
 /// How far a header is read with one more line.
-pub(crate) fn header_after(state: HeaderState, line: &[u8]) -> HeaderState
-    ensures { result ≡ header_after state line.now }
+pub(crate) fn header_after<F: FileForm>(state: HeaderState, line: &[u8]) -> HeaderState
+    ensures { result ≡ header_after F.form state line.now }
 {
-    after_kept(state, &padded(line))
+    after_kept::<F>(state, &padded(line))
 }

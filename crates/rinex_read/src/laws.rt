@@ -2,20 +2,45 @@
 
 ghost use Rattle.std.specs.Prelude.{◌≡◌, ℕ, ◌+◌, ◌^◌, ◌<◌, ◌++◌, [], List, Option, Ok, true, length, map, take};
 ghost use Rattle.nav_io.specs.declared.lines.LineFault.{LineFault};
-ghost use Rattle.nav_io.specs.declared.lines.LineFault.TheVariants.{ReadFault};
+ghost use Rattle.nav_io.specs.declared.lines.LineFault.TheVariants.{ReadFault, TooLong};
 ghost use Rattle.rinex_read.specs.declared.judged.ItemRead.{ItemRead};
 ghost use Rattle.rinex_read.specs.declared.judged.ItemRead.TheVariants.{End};
 ghost use Rattle.rinex_read.specs.Kept.{padded};
-ghost use Rattle.rinex_read.specs.States.{BreaksRecord, GivesRead, HeaderSteps, IsNew, RecordsState, Steps, file_to_come};
+ghost use Rattle.rinex_read.specs.States.{BreaksHeader, BreaksRecord, GivesRead, HeaderSteps, IsNew, PassesHeader, RecordsState, Steps, file_to_come, is_waiting};
+ghost use Rattle.rinex_read.specs.Forms.{rinex4};
+ghost use Rattle.rinex_read.specs.declared.judged.HeaderFault.{HeaderFault};
+ghost use Rattle.rinex_read.specs.declared.judged.HeaderFault.TheVariants as faults;
 ghost use Rattle.std.specs.List.{flat_map};
 ghost use Rattle.nav_eph.specs.declared.items.NavItem.{NavItem};
 ghost use Rattle.nav_eph.specs.Ranges.{IsItem};
 ghost use Rattle.rinex_write.specs.declared.header.HeaderWords.{HeaderWords};
-ghost use Rattle.rinex_write.specs.Texts.{item_lines, rinex_text};
+ghost use Rattle.rinex_write.specs.Texts.{header_lines, item_lines, rinex_text, text_of};
 ghost use Rattle.rinex_read.specs.declared.judged.Judged.TheVariants as judgments;
 ghost use Rattle.rinex_read.specs.Judging.{judged};
-ghost use Rattle.rinex_read.specs.Files.{file_reads, rinex_list};
-ghost use Rattle.rinex_read.specs.RoundTrip.{IsHeader, AreItems, numbered};
+ghost use Rattle.rinex_read.specs.Files.{file_reads, items_of, rinex_list};
+ghost use Rattle.rinex_read.specs.RoundTrip.{AllStand, AreHeaderLines, AreItems, IsHeader, StandFor, numbered, numbered_by};
+
+use crate::form::FileForm;
+
+/// The record that is written of an item is one record of version 4 and stands for that item, whatever lines follow.
+pub fn record_lines_stand()
+    ensures { (item : NavItem) → IsItem item → StandFor rinex4 (item_lines item) item }
+{}
+
+/// The header that is written is a header of version 4, whatever lines follow.
+pub fn header_lines_are_read()
+    ensures { (h : HeaderWords) → IsHeader h → AreHeaderLines rinex4 (header_lines h) }
+{}
+
+/// A file of a form that is written of a header and of records that stand for items is read as these items, each with the
+/// number of its first line, and no record is refused or passed over.
+pub fn written_files_are_read<F: FileForm>()
+    ensures { (header : List (List ℕ)) (write : NavItem → List (List ℕ)) (items : List NavItem)
+        → AreHeaderLines F.form header → AllStand F.form write items
+        → (file_reads F.form (text_of (header ++ flat_map write items))
+        ≡ Ok (numbered_by write (length header) items))
+        × (items_of (numbered_by write (length header) items) ≡ items) }
+{}
 
 /// The record that is written of an item stands for that item, whatever lines follow.
 pub fn records_are_read()
@@ -29,8 +54,8 @@ pub fn items_are_whole()
         → IsItem item }
 {}
 
-/// Of the lines of a record, those behind the ninth and the characters behind the 80th are not looked at; a shorter line is as if blanks
-/// followed it.
+/// Of the lines of a record, those behind the ninth and the characters behind the 80th are not looked at; a shorter line
+/// is as if blanks followed it.
 pub fn columns_behind_the_last_are_not_looked_at()
     ensures { (lines : List (List ℕ)) → judged (map padded (take 9 lines)) ≡ judged lines }
 {}
@@ -40,7 +65,7 @@ pub fn files_are_read()
     ensures list { (h : HeaderWords) (items : List NavItem) → IsHeader h → AreItems items
         → rinex_list (rinex_text h items) ≡ items }
     ensures records { (h : HeaderWords) (items : List NavItem) → IsHeader h → AreItems items
-        → file_reads (rinex_text h items) ≡ Ok (numbered 4 items) }
+        → file_reads rinex4 (rinex_text h items) ≡ Ok (numbered 4 items) }
 {}
 
 /// The list of two texts one behind the other is the two lists one behind the other.
@@ -50,39 +75,51 @@ pub fn joined_files_are_read()
         → rinex_list (rinex_text h some ++ rinex_text k more) ≡ some ++ more }
     ensures records { (h k : HeaderWords) (some more : List NavItem) → IsHeader h → IsHeader k
         → AreItems some → AreItems more
-        → file_reads (rinex_text h some ++ rinex_text k more)
+        → file_reads rinex4 (rinex_text h some ++ rinex_text k more)
         ≡ Ok (numbered 4 some ++ numbered (8 + length (flat_map item_lines some)) more) }
 {}
 
 /// From the first call on, what is to come is what the file says, whatever bytes it has.
-pub fn readers_begin_with_the_file()
-    ensures { (s : RecordsState) (bytes : List ℕ) → IsNew s → file_to_come s bytes ≡ file_reads bytes }
-{}
+pub fn readers_begin_with_the_file<F: FileForm>()
+    ensures { (s : RecordsState) (bytes : List ℕ) → IsNew s → file_to_come F.form s bytes
+        ≡ file_reads F.form bytes }
+{
+    F::looks_at_kept();
+}
 
 /// Steps of a reader, one after another, are one step.
-pub fn steps_follow_one_another()
+pub fn steps_follow_one_another<F: FileForm>()
+    ensures none { (left : Option (List ℕ)) (state : RecordsState) → Steps F.form left left state state [] }
     ensures records { (left middle left_new : Option (List ℕ)) (old now new : RecordsState)
-        (some more : List ItemRead) → Steps left middle old now some → Steps middle left_new now new more
-        → Steps left left_new old new (some ++ more) }
+        (some more : List ItemRead) → Steps F.form left middle old now some
+        → Steps F.form middle left_new now new more → Steps F.form left left_new old new (some ++ more) }
+    ensures header_none { (left : Option (List ℕ)) (state : RecordsState)
+        → HeaderSteps F.form left left state state }
     ensures header { (left middle left_new : Option (List ℕ)) (old now new : RecordsState)
-        → HeaderSteps left middle old now → HeaderSteps middle left_new now new
-        → HeaderSteps left left_new old new }
+        → HeaderSteps F.form left middle old now → HeaderSteps F.form middle left_new now new
+        → HeaderSteps F.form left left_new old new }
 {}
 
 /// After the end no further call answers anything else.
-pub fn the_end_stays()
+pub fn the_end_stays<F: FileForm>()
     ensures read { (read : ItemRead) (left left_new : Option (List ℕ)) (old new : RecordsState)
         → old.kept ≡ [] → old.lines.rest ≡ [] → old.lines.ended ≡ true
-        → GivesRead read left left_new old new → read ≡ End }
+        → GivesRead F.form read left left_new old new → read ≡ End }
     ensures fault { (fault : LineFault) (left left_new : Option (List ℕ)) (old new : RecordsState)
         → old.lines.ended ≡ true → old.lines.taken < 2 ^ 32
-        → BreaksRecord left left_new old new fault → ⊥ }
+        → BreaksRecord F.form left left_new old new fault → ⊥ }
 {}
 
-/// Once the bytes were too many, no further call answers a record or a failed read.
-pub fn too_many_bytes_stay_too_many()
+/// Once the bytes were too many, no further call answers a record, a header or another fault.
+pub fn too_many_bytes_stay_too_many<F: FileForm>()
     ensures read { (read : ItemRead) (left left_new : Option (List ℕ)) (old new : RecordsState)
-        → old.lines.taken ≡ 2 ^ 32 → GivesRead read left left_new old new → ⊥ }
+        → old.lines.taken ≡ 2 ^ 32 → GivesRead F.form read left left_new old new → ⊥ }
     ensures fault { (left left_new : Option (List ℕ)) (old new : RecordsState)
-        → old.lines.taken ≡ 2 ^ 32 → BreaksRecord left left_new old new ReadFault → ⊥ }
+        → old.lines.taken ≡ 2 ^ 32 → BreaksRecord F.form left left_new old new ReadFault → ⊥ }
+    ensures header { (left left_new : Option (List ℕ)) (old new : RecordsState)
+        → old.lines.taken ≡ 2 ^ 32 → is_waiting old.header ≡ true
+        → PassesHeader F.form left left_new old new → ⊥ }
+    ensures refused { (fault : HeaderFault) (left left_new : Option (List ℕ)) (old new : RecordsState)
+        → old.lines.taken ≡ 2 ^ 32 → is_waiting old.header ≡ true
+        → BreaksHeader F.form left left_new old new fault → fault ≡ faults.Line TooLong }
 {}

@@ -23,14 +23,15 @@
 mod accuracy;
 mod date;
 mod fields;
+mod form;
 mod header;
 mod items;
 mod judged;
 mod laws;
 mod line;
+mod reader;
 mod reason;
 mod record;
-mod records;
 mod said;
 #[cfg(test)]
 mod test_items;
@@ -38,12 +39,14 @@ mod test_items;
 mod tests;
 mod title;
 
+pub use crate::form::{FileForm, Rinex4};
 pub use crate::judged::{HeaderFault, HeaderState, ItemRead, Judged};
 pub use crate::laws::{
-    columns_behind_the_last_are_not_looked_at, files_are_read, items_are_whole,
-    joined_files_are_read, readers_begin_with_the_file, records_are_read, steps_follow_one_another,
-    the_end_stays, too_many_bytes_stay_too_many,
+    columns_behind_the_last_are_not_looked_at, files_are_read, header_lines_are_read,
+    items_are_whole, joined_files_are_read, readers_begin_with_the_file, record_lines_stand,
+    records_are_read, steps_follow_one_another, the_end_stays, too_many_bytes_stay_too_many,
+    written_files_are_read,
 };
+pub use crate::reader::{RecordReader, Records};
 pub use crate::reason::Reason;
 pub use crate::record::RecordLines;
-pub use crate::records::Records;

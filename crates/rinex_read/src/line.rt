@@ -2,7 +2,10 @@
 
 ghost use Rattle.std.specs.Prelude.{◌≡◌, ◌+◌, ◌≤◌, length};
 ghost use Rattle.rinex_read.specs.Kept.{padded};
-ghost use Rattle.rinex_read.specs.Lines.{begins, columns, stands_at};
+ghost use Rattle.rinex_read.specs.Lines.{columns, stands_at};
+ghost use Rattle.rinex_read.specs.Forms.{begins};
+
+use crate::form::FileForm;
 
 /// The first 80 characters of a line, blanks where it is shorter.
 pub(crate) type Line = [u8; 80];
@@ -39,12 +42,12 @@ pub(crate) fn stands_at(line: &Line, place: usize, text: &[u8]) -> bool
     true
 }
 
-/// The line begins a record.
-pub(crate) fn begins(line: &[u8]) -> bool
-    ensures { result ≡ begins line.now }
+/// The line begins a record of the form.
+pub(crate) fn begins<F: FileForm>(line: &[u8]) -> bool
+    ensures { result ≡ begins F.form line.now }
 {
     match line {
-        [first, ..] => *first == b'>',
-        [] => false,
+        [first, ..] => F::starts(*first),
+        [] => F::starts(b' '),
     }
 }

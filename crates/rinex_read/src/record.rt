@@ -9,7 +9,7 @@ use crate::judged::Judged;
 use crate::line::{Line, padded};
 use crate::reason::Reason;
 use crate::said::{ephemeris_said, ionosphere_said};
-use crate::title::{Form, is_kind};
+use crate::title::{RecordKind, is_kind};
 use nav_eph::NavItem;
 use std::marker::Model;
 
@@ -37,7 +37,7 @@ impl Model for RecordLines {
 fn gps_read(title: &Line, lines: &[Line]) -> Result<NavItem, Reason>
     ensures { result ≡ gps_read title.now lines.now }
 {
-    let said = ephemeris_said(Form::GpsEphemeris, title, lines)?;
+    let said = ephemeris_said(RecordKind::GpsEphemeris, title, lines)?;
     gps_item(said.sat, said.moment, said.fields.as_slice())
 }
 
@@ -45,7 +45,7 @@ fn gps_read(title: &Line, lines: &[Line]) -> Result<NavItem, Reason>
 fn galileo_read(title: &Line, lines: &[Line]) -> Result<NavItem, Reason>
     ensures { result ≡ galileo_read title.now lines.now }
 {
-    let said = ephemeris_said(Form::GalileoEphemeris, title, lines)?;
+    let said = ephemeris_said(RecordKind::GalileoEphemeris, title, lines)?;
     galileo_item(said.sat, said.moment, said.fields.as_slice())
 }
 
@@ -53,7 +53,7 @@ fn galileo_read(title: &Line, lines: &[Line]) -> Result<NavItem, Reason>
 fn gps_ionosphere_read(title: &Line, lines: &[Line]) -> Result<NavItem, Reason>
     ensures { result ≡ gps_ionosphere_read title.now lines.now }
 {
-    let said = ionosphere_said(Form::GpsIonosphere, title, lines)?;
+    let said = ionosphere_said(RecordKind::GpsIonosphere, title, lines)?;
     gps_ionosphere_item(said.sat, said.moment, said.fields.as_slice())
 }
 
@@ -61,7 +61,7 @@ fn gps_ionosphere_read(title: &Line, lines: &[Line]) -> Result<NavItem, Reason>
 fn galileo_ionosphere_read(title: &Line, lines: &[Line]) -> Result<NavItem, Reason>
     ensures { result ≡ galileo_ionosphere_read title.now lines.now }
 {
-    let said = ionosphere_said(Form::GalileoIonosphere, title, lines)?;
+    let said = ionosphere_said(RecordKind::GalileoIonosphere, title, lines)?;
     galileo_ionosphere_item(said.sat, said.moment, said.fields.as_slice())
 }
 
@@ -80,16 +80,16 @@ fn outcome(read: Result<NavItem, Reason>) -> Judged
 fn judge_lines(title: &Line, lines: &[Line]) -> Judged
     ensures { result ≡ judged (title.now ∷ lines.now) }
 {
-    if is_kind(Form::GpsEphemeris, title) {
+    if is_kind(RecordKind::GpsEphemeris, title) {
         return outcome(gps_read(title, lines));
     }
-    if is_kind(Form::GalileoEphemeris, title) {
+    if is_kind(RecordKind::GalileoEphemeris, title) {
         return outcome(galileo_read(title, lines));
     }
-    if is_kind(Form::GpsIonosphere, title) {
+    if is_kind(RecordKind::GpsIonosphere, title) {
         return outcome(gps_ionosphere_read(title, lines));
     }
-    if is_kind(Form::GalileoIonosphere, title) {
+    if is_kind(RecordKind::GalileoIonosphere, title) {
         return outcome(galileo_ionosphere_read(title, lines));
     }
     Judged::PassedOver
@@ -133,6 +133,21 @@ impl RecordLines {
         ensures means { (more : List (List ℕ)) → judged (self.new ++ more) ≡ judged (self.old ++ line.now ∷ more) }
     {
         self.keep(line);
+    }
+
+    /// The lines that are kept, each with blanks behind it where it is shorter than 80 characters.
+    pub fn lines(&self) -> &[[u8; 80]]
+        ensures { result.now ≡ self.now }
+    {
+        &self.lines[..self.count]
+    }
+
+    /// What a title and the lines behind it stand for: as [`judge`](RecordLines::judge) of a record that has the title as
+    /// its first line.
+    pub fn judge_behind(&self, title: &[u8]) -> Judged
+        ensures { result ≡ judged (title.now ∷ self.now) }
+    {
+        judge_lines(&padded(title), &self.lines[..self.count])
     }
 
     /// What the lines stand for (RINEX 4.01, navigation records: EPH LNAV and INAV, and ION).

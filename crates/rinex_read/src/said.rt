@@ -10,7 +10,7 @@ use crate::date::moment_in;
 use crate::fields::{Fields, read_fields};
 use crate::line::Line;
 use crate::reason::Reason;
-use crate::title::{Form, same_sat, sat_of};
+use crate::title::{RecordKind, same_sat, sat_of};
 use gnss_week::Moment;
 use nav_eph::{Sat, System};
 use rinex_write::{
@@ -30,44 +30,44 @@ pub(crate) struct RecordSaid {
 
 // The layout of a kind.
 #[tactic(auto, unfolding(rinex_write::specs::Layouts::gps_kind, rinex_write::specs::Layouts::galileo_kind, rinex_write::specs::Layouts::gps_ionosphere_kind, rinex_write::specs::Layouts::galileo_ionosphere_kind))]
-fn layout_of(form: Form) -> Layout
-    ensures columns { result.columns.now ≡ joined_rows (kind_by form).rows }
-    ensures rows { result.rows.now ≡ map length (kind_by form).rows }
+fn layout_of(kind: RecordKind) -> Layout
+    ensures columns { result.columns.now ≡ joined_rows (kind_by kind).rows }
+    ensures rows { result.rows.now ≡ map length (kind_by kind).rows }
 {
-    match form {
-        Form::GpsEphemeris => gps_layout(),
-        Form::GalileoEphemeris => galileo_layout(),
-        Form::GpsIonosphere => gps_ionosphere_layout(),
-        Form::GalileoIonosphere => galileo_ionosphere_layout(),
+    match kind {
+        RecordKind::GpsEphemeris => gps_layout(),
+        RecordKind::GalileoEphemeris => galileo_layout(),
+        RecordKind::GpsIonosphere => gps_ionosphere_layout(),
+        RecordKind::GalileoIonosphere => galileo_ionosphere_layout(),
     }
 }
 
 // The system of a kind.
 #[tactic(auto, unfolding(rinex_write::specs::Layouts::gps_kind, rinex_write::specs::Layouts::galileo_kind, rinex_write::specs::Layouts::gps_ionosphere_kind, rinex_write::specs::Layouts::galileo_ionosphere_kind))]
-fn system_of(form: Form) -> System
-    ensures { result ≡ (kind_by form).system }
+fn system_of(kind: RecordKind) -> System
+    ensures { result ≡ (kind_by kind).system }
 {
-    match form {
-        Form::GpsEphemeris | Form::GpsIonosphere => System::Gps,
-        Form::GalileoEphemeris | Form::GalileoIonosphere => System::Gal,
+    match kind {
+        RecordKind::GpsEphemeris | RecordKind::GpsIonosphere => System::Gps,
+        RecordKind::GalileoEphemeris | RecordKind::GalileoIonosphere => System::Gal,
     }
 }
 
 // How many lines a kind has behind the title.
-fn count_of(form: Form) -> usize
-    ensures count { result ≡ length (kind_by form).rows }
+fn count_of(kind: RecordKind) -> usize
+    ensures count { result ≡ length (kind_by kind).rows }
     ensures some { 1 ≤ result }
 {
-    layout_of(form).rows.len()
+    layout_of(kind).rows.len()
 }
 
 // The fields of the lines of a record.
-fn fields_of(form: Form, lines: &[Line]) -> Result<Fields, Reason>
-    requires { length (kind_by form).rows ≤ length lines.now }
-    ensures read { Gives (λ fields. fields.items) result (read_rows (kind_by form).rows 23 lines.now) }
-    ensures are { IfOk result (λ fields. AreFields (joined_rows (kind_by form).rows) fields.items) }
+fn fields_of(kind: RecordKind, lines: &[Line]) -> Result<Fields, Reason>
+    requires { length (kind_by kind).rows ≤ length lines.now }
+    ensures read { Gives (λ fields. fields.items) result (read_rows (kind_by kind).rows 23 lines.now) }
+    ensures are { IfOk result (λ fields. AreFields (joined_rows (kind_by kind).rows) fields.items) }
 {
-    let layout = layout_of(form);
+    let layout = layout_of(kind);
     read_fields(&layout, lines)
 }
 
@@ -87,15 +87,19 @@ fn is_named_week(moment: Moment) -> bool
 
 /// What an ephemeris says.
 #[tactic(auto, unfolding(crate::specs::Judging::ephemeris_said))]
-pub(crate) fn ephemeris_said(form: Form, title: &Line, lines: &[Line]) -> Result<RecordSaid, Reason>
-    ensures said { Gives view_said result (ephemeris_said (kind_by form) title.now lines.now) }
-    ensures are { IfOk result (λ said. AreFields (joined_rows (kind_by form).rows) said.fields.items) }
+pub(crate) fn ephemeris_said(
+    kind: RecordKind,
+    title: &Line,
+    lines: &[Line],
+) -> Result<RecordSaid, Reason>
+    ensures said { Gives view_said result (ephemeris_said (kind_by kind) title.now lines.now) }
+    ensures are { IfOk result (λ said. AreFields (joined_rows (kind_by kind).rows) said.fields.items) }
 {
-    let sat = sat_of(system_of(form), title)?;
-    need(count_of(form) <= lines.len(), Reason::Short)?;
+    let sat = sat_of(system_of(kind), title)?;
+    need(count_of(kind) <= lines.len(), Reason::Short)?;
     need(same_sat(title, &lines[0]), Reason::BadSat)?;
     let moment = moment_in(&lines[0])?;
-    let fields = fields_of(form, lines)?;
+    let fields = fields_of(kind, lines)?;
     Ok(RecordSaid {
         sat,
         moment,
@@ -106,18 +110,18 @@ pub(crate) fn ephemeris_said(form: Form, title: &Line, lines: &[Line]) -> Result
 /// What an ionosphere says.
 #[tactic(auto, unfolding(crate::specs::Judging::ionosphere_said))]
 pub(crate) fn ionosphere_said(
-    form: Form,
+    kind: RecordKind,
     title: &Line,
     lines: &[Line],
 ) -> Result<RecordSaid, Reason>
-    ensures said { Gives view_said result (ionosphere_said (kind_by form) title.now lines.now) }
-    ensures are { IfOk result (λ said. AreFields (joined_rows (kind_by form).rows) said.fields.items) }
+    ensures said { Gives view_said result (ionosphere_said (kind_by kind) title.now lines.now) }
+    ensures are { IfOk result (λ said. AreFields (joined_rows (kind_by kind).rows) said.fields.items) }
 {
-    let sat = sat_of(system_of(form), title)?;
-    need(count_of(form) <= lines.len(), Reason::Short)?;
+    let sat = sat_of(system_of(kind), title)?;
+    need(count_of(kind) <= lines.len(), Reason::Short)?;
     let moment = moment_in(&lines[0])?;
     need(is_named_week(moment), Reason::Week)?;
-    let fields = fields_of(form, lines)?;
+    let fields = fields_of(kind, lines)?;
     Ok(RecordSaid {
         sat,
         moment,

@@ -12,7 +12,7 @@ use nav_eph::{Sat, System};
 
 /// The kinds of records that are read.
 #[derive(Clone, Copy)]
-pub(crate) enum Form {
+pub(crate) enum RecordKind {
     /// An ephemeris of GPS, of its LNAV message.
     GpsEphemeris,
     /// An ephemeris of Galileo, of its I/NAV message.
@@ -35,14 +35,14 @@ fn has_title(title: &Line, class: &[u8], letter: &[u8], message: &[u8]) -> bool
 
 /// The title is one of that kind.
 #[tactic(auto, unfolding(rinex_write::specs::Layouts::gps_kind, rinex_write::specs::Layouts::galileo_kind, rinex_write::specs::Layouts::gps_ionosphere_kind, rinex_write::specs::Layouts::galileo_ionosphere_kind))]
-pub(crate) fn is_kind(form: Form, title: &Line) -> bool
-    ensures { result ≡ is_kind (kind_by form) title.now }
+pub(crate) fn is_kind(kind: RecordKind, title: &Line) -> bool
+    ensures { result ≡ is_kind (kind_by kind) title.now }
 {
-    match form {
-        Form::GpsEphemeris => has_title(title, b"EPH", b"G", b"LNAV"),
-        Form::GalileoEphemeris => has_title(title, b"EPH", b"E", b"INAV"),
-        Form::GpsIonosphere => has_title(title, b"ION", b"G", b"LNAV"),
-        Form::GalileoIonosphere => has_title(title, b"ION", b"E", b"IFNV"),
+    match kind {
+        RecordKind::GpsEphemeris => has_title(title, b"EPH", b"G", b"LNAV"),
+        RecordKind::GalileoEphemeris => has_title(title, b"EPH", b"E", b"INAV"),
+        RecordKind::GpsIonosphere => has_title(title, b"ION", b"G", b"LNAV"),
+        RecordKind::GalileoIonosphere => has_title(title, b"ION", b"E", b"IFNV"),
     }
 }
 

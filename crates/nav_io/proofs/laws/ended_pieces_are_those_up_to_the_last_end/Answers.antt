@@ -1,5 +1,5 @@
 use Rattle.nav_io.proofs.PieceLaws.{ended_are}
-use Rattle.nav_io.specs.LineLaws.{pieces-open}
+use Rattle.nav_io.proofs.LineLaws.{pieces-open}
 use Rattle.nav_io.proofs.laws.ended_pieces_are_those_up_to_the_last_end.Goals as goal
 
 pub returns : goal.returns

@@ -1,5 +1,5 @@
 use Rattle.nav_io.proofs.LaterCalls.{given_first, given_ended}
-use Rattle.nav_io.specs.ReadsLaws.{reads_more}
+use Rattle.nav_io.proofs.ReadsLaws.{reads_more}
 use Rattle.nav_io.proofs.laws.lines_given_are_the_first.Goals as goal
 
 pub returns : goal.returns

@@ -5,7 +5,7 @@ use Rattle.rinex_read.specs.declared.reason.Reason.{Reason}
 use Rattle.rinex_read.specs.Fields.{read_rows}
 use Rattle.rinex_read.specs.Mirrors.{Gives, IsLayout, flat_rows, kind_by}
 use Rattle.rinex_read.proofs.RowLemmas.{flat_is}
-use Rattle.rinex_read.proofs.TakenLemmas.{are_from, form_zero, layout_is}
+use Rattle.rinex_read.proofs.TakenLemmas.{are_from, kind_zero, layout_is}
 use Rattle.rinex_read.proofs.said.fields_of.Goals as goal
 
 laid_out : (rows : List (List Column)) (cs : List Column) (ns : List ℕ) → cs ≡ joined_rows rows → ns ≡ map length rows → IsLayout (joined_rows rows) (map length rows) → IsLayout cs ns
@@ -17,15 +17,15 @@ given view result rows cs ns a ls e f is =
     subst (Gives view result) (ap (λ ms. flat_rows ms cs a ls) f ∙ ap (λ ds. flat_rows (map length rows) ds a ls) e ∙ flat_is rows a ls) is
 
 pub read_fields-requires-clause-layout : goal.read_fields-requires-clause-layout
-read_fields-requires-clause-layout c = laid_out (kind_by c.args.form).rows _ _ c.layout_of-layout.ensures.columns c.layout_of-layout.ensures.rows (layout_is c.args.form)
+read_fields-requires-clause-layout c = laid_out (kind_by c.args.kind).rows _ _ c.layout_of-layout.ensures.columns c.layout_of-layout.ensures.rows (layout_is c.args.kind)
 
 pub returns-clause-read : goal.returns-clause-read
 returns-clause-read c =
-    given (λ fields. fields.items) c.read_fields.result (kind_by c.args.form).rows c.layout_of-layout.result.columns.now c.layout_of-layout.result.rows.now 23 c.args.lines.now
+    given (λ fields. fields.items) c.read_fields.result (kind_by c.args.kind).rows c.layout_of-layout.result.columns.now c.layout_of-layout.result.rows.now 23 c.args.lines.now
     c.layout_of-layout.ensures.columns c.layout_of-layout.ensures.rows c.read_fields.ensures
 
 pub returns-clause-are : goal.returns-clause-are
 returns-clause-are c =
-    are_from (λ fields. fields.items) c.read_fields.result (kind_by c.args.form).rows 23 c.args.lines.now (form_zero c.args.form)
-    (given (λ fields. fields.items) c.read_fields.result (kind_by c.args.form).rows c.layout_of-layout.result.columns.now c.layout_of-layout.result.rows.now 23 c.args.lines.now
+    are_from (λ fields. fields.items) c.read_fields.result (kind_by c.args.kind).rows 23 c.args.lines.now (kind_zero c.args.kind)
+    (given (λ fields. fields.items) c.read_fields.result (kind_by c.args.kind).rows c.layout_of-layout.result.columns.now c.layout_of-layout.result.rows.now 23 c.args.lines.now
     c.layout_of-layout.ensures.columns c.layout_of-layout.ensures.rows c.read_fields.ensures)

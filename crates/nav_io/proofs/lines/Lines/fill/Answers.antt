@@ -9,7 +9,7 @@ pub append-requires : goal.append-requires
 append-requires g c =
     let i = c.self.inside in
     let kept = few c.keep_open.new.held.items (drop i.start i.held.items) c.keep_open.ensures in
-    omega (arith, kept.0, c.in-Ok.ensures.count, c.in-Ok.ensures.within, c.min-most.ensures)
+    omega (arith, kept.0, c.in-Ok.ensures.count, c.in-Ok.ensures.within)
 
 pub invariant_of-self : goal.invariant_of-self
 invariant_of-self g c =
@@ -21,7 +21,7 @@ invariant_of-self g c =
       omega arith,
       omega arith,
       omega (arith, kept.1, all, c.in-Ok.ensures.count, c.self.invariant.2, length-drop i.start i.held.items),
-      omega (arith, c.in-Ok.ensures.within, c.min-most.ensures, low),
+      omega (arith, c.in-Ok.ensures.most, low),
     )
 
 pub invariant_of-self-in-Err : goal.invariant_of-self-in-Err

@@ -1,33 +1,38 @@
 //! The records of a source.
 
-ghost use Rattle.std.specs.Prelude.{◌≡◌, ◌≤◌, ◌↔◌, ◌∷◌, [], ℕ, true, false, IsTrue, IsErrOf, IfOk, IfErr, IfSome, IfNone, OnOk, MatchResult};
+ghost use Rattle.std.specs.Prelude.{◌≡◌, ◌≤◌, ◌<◌, ◌^◌, ◌↔◌, ◌∷◌, [], ℕ, true, false, IsTrue, IsErrOf, IfOk, IfErr, IfSome, IfNone, OnOk, MatchResult};
 ghost use Rattle.nav_io.specs.Causes.{Rose};
 ghost use Rattle.rinex_read.specs.declared.judged.HeaderState.TheVariants.{Passed};
 ghost use Rattle.rinex_read.specs.Files.{read_at};
-ghost use Rattle.rinex_read.specs.Mirrors.{EndsWith, HeaderRefused, IsRecord, TakesLine, is_waiting, state_of};
-ghost use Rattle.rinex_read.specs.States.{BreaksRecord, GivesRead, HeaderSteps, RefusedBy};
+ghost use Rattle.rinex_read.specs.Mirrors.{EndsWith, HeaderRefused, IsRecord, TakesLine, state_of};
+ghost use Rattle.rinex_read.specs.States.{BreaksRecord, GivesRead, HeaderSteps, RefusedBy, is_waiting};
 ghost use Rattle.rinex_read.specs.declared.judged.HeaderState.{HeaderState};
 
+use crate::form::{FileForm, Rinex4};
 use crate::header::header_after;
 use crate::judged::{HeaderFault, HeaderState, ItemRead, Judged};
 use crate::line::begins;
 use crate::record::RecordLines;
 use nav_io::{LineFault, LineKind, Lines, Source};
-use std::marker::Model;
+use std::marker::{Model, PhantomData};
 
-/// Reads the records of a RINEX navigation file one by one, in buffers of fixed size.
+/// Reads the records of a RINEX navigation file of one form one by one, in buffers of fixed size.
 ///
 /// A contract sees how far the `header` was read, the lines `kept` of the record that was begun and the number of the
 /// `first` of them, and the reader of `lines`; from these follows what is still to be read whatever bytes follow.
 #[derive(Drop)]
-pub struct Records {
+pub struct RecordReader<F: FileForm> {
+    of: PhantomData<F>,
     lines: Lines,
     kept: RecordLines,
     first: u32,
     header: HeaderState,
 }
 
-impl Model for Records {
+/// Reads the records of a file of version 4.
+pub type Records = RecordReader<Rinex4>;
+
+impl<F: FileForm> Model for RecordReader<F> {
     ghost use Rattle.std.specs.Prelude.{◌≤◌};
     ghost use Rattle.rinex_read.specs.States.{RecordsState};
 
@@ -89,12 +94,18 @@ fn answer_of(header: HeaderState) -> Result<(), HeaderFault>
 }
 
 // Takes the next line of a file: of the record that was begun, or of another one, which ends that.
-fn take_line(kept: &mut RecordLines, first: &mut u32, line: &[u8], number: u32) -> Option<ItemRead>
-    ensures none { IfNone result (TakesLine kept.old first.old kept.new first.new line.now number []) }
+fn take_line<F: FileForm>(
+    kept: &mut RecordLines,
+    first: &mut u32,
+    line: &[u8],
+    number: u32,
+) -> Option<ItemRead>
+    ensures none { IfNone result (TakesLine F.form kept.old first.old kept.new first.new line.now number []) }
     ensures some { IfSome result (λ read. IsRecord read
-        × TakesLine kept.old first.old kept.new first.new line.now number (read ∷ [])) }
+        × TakesLine F.form kept.old first.old kept.new first.new line.now number (read ∷ [])) }
 {
-    if !begins(line) {
+    F::looks_at_kept();
+    if !begins::<F>(line) {
         if !kept.is_empty() {
             kept.push(line);
         }
@@ -105,7 +116,7 @@ fn take_line(kept: &mut RecordLines, first: &mut u32, line: &[u8], number: u32) 
         *first = number;
         return None;
     }
-    let read = read_at(*first, kept.judge());
+    let read = read_at(*first, F::judge(kept));
     *kept = RecordLines::new();
     kept.push(line);
     *first = number;
@@ -113,30 +124,30 @@ fn take_line(kept: &mut RecordLines, first: &mut u32, line: &[u8], number: u32) 
 }
 
 // Ends the record that was begun, where one was.
-fn take_end(kept: &mut RecordLines, first: u32) -> ItemRead
+fn take_end<F: FileForm>(kept: &mut RecordLines, first: u32) -> ItemRead
     ensures kept { kept.new ≡ [] }
-    ensures read { EndsWith kept.old first result }
+    ensures read { EndsWith F.form kept.old first result }
 {
     if kept.is_empty() {
         return ItemRead::End;
     }
-    let read = read_at(first, kept.judge());
+    let read = read_at(first, F::judge(kept));
     *kept = RecordLines::new();
     read
 }
 
 // Reads the lines of a header that are still to come.
-fn pass_header<S: Source>(
+fn pass_header<F: FileForm, S: Source>(
     lines: &mut Lines,
     header: &mut HeaderState,
     source: &mut S,
 ) -> Result<(), HeaderFault>
     requires waiting { is_waiting header.old ≡ true }
     requires numbered { lines.old.number ≤ lines.old.taken }
-    ensures steps { (first : ℕ) → HeaderSteps (S.left source.old) (S.left source.new)
+    ensures steps { (first : ℕ) → HeaderSteps F.form (S.left source.old) (S.left source.new)
         (state_of header.old [] first lines.old) (state_of header.new [] first lines.new) }
-    ensures answer { MatchResult result (λ _. header.new ≡ Passed)
-        (λ fault. RefusedBy fault (state_of header.new [] 0 lines.new)) }
+    ensures answer { MatchResult result (λ _. (header.new ≡ Passed) × (lines.new.taken < 2 ^ 32))
+        (λ fault. RefusedBy fault (state_of header.old [] 0 lines.old) (state_of header.new [] 0 lines.new)) }
     ensures failed { IsErrOf result (HeaderFault.Line LineFault.ReadFault)
         → Rose (S.faults source.old) (S.faults source.new) }
     ensures quiet { (IsErrOf result (HeaderFault.Line LineFault.ReadFault) → ⊥)
@@ -154,7 +165,7 @@ fn pass_header<S: Source>(
                     *header = HeaderState::NotRinexNav;
                     return Err(HeaderFault::NotRinexNav);
                 }
-                *header = header_after(*header, lines.text());
+                *header = header_after::<F>(*header, lines.text());
                 if !is_waiting(*header) {
                     return answer_of(*header);
                 }
@@ -164,16 +175,16 @@ fn pass_header<S: Source>(
 }
 
 // The next record of lines, of which some of a record that was begun may be kept.
-fn next_record<S: Source>(
+fn next_record<F: FileForm, S: Source>(
     lines: &mut Lines,
     kept: &mut RecordLines,
     first: &mut u32,
     source: &mut S,
 ) -> Result<ItemRead, LineFault>
     requires numbered { lines.old.number ≤ lines.old.taken }
-    ensures read { IfOk result (λ read. (header : HeaderState) → GivesRead read (S.left source.old) (S.left source.new)
+    ensures read { IfOk result (λ read. (header : HeaderState) → GivesRead F.form read (S.left source.old) (S.left source.new)
         (state_of header kept.old first.old lines.old) (state_of header kept.new first.new lines.new)) }
-    ensures fault { IfErr result (λ fault. (header : HeaderState) → BreaksRecord (S.left source.old) (S.left source.new)
+    ensures fault { IfErr result (λ fault. (header : HeaderState) → BreaksRecord F.form (S.left source.old) (S.left source.new)
         (state_of header kept.old first.old lines.old) (state_of header kept.new first.new lines.new) fault) }
     ensures failed { IsErrOf result LineFault.ReadFault
         → Rose (S.faults source.old) (S.faults source.new) }
@@ -189,9 +200,9 @@ fn next_record<S: Source>(
             Err(fault) => return Err(fault),
             Ok(kind) => {
                 if is_end(kind) {
-                    return Ok(take_end(kept, *first));
+                    return Ok(take_end::<F>(kept, *first));
                 }
-                if let Some(read) = take_line(kept, first, lines.text(), lines.number()) {
+                if let Some(read) = take_line::<F>(kept, first, lines.text(), lines.number()) {
                     return Ok(read);
                 }
             }
@@ -199,17 +210,18 @@ fn next_record<S: Source>(
     }
 }
 
-impl Records {
+impl<F: FileForm> RecordReader<F> {
     ghost use Rattle.std.specs.Prelude.{◌≡◌, IsTrue, IsOk, IsErrOf, IfOk, IfErr, OnOk};
     ghost use Rattle.nav_io.specs.Causes.{Rose};
     ghost use Rattle.rinex_read.specs.declared.judged.HeaderState.TheVariants.{Passed, NotRinexNav, OtherVersion};
     ghost use Rattle.rinex_read.specs.States.{IsNew, GivesRead, BreaksRecord, PassesHeader, BreaksHeader};
 
-    /// Records of which nothing was read.
-    pub fn new() -> Records
+    /// A reader of which nothing was read.
+    pub fn new() -> RecordReader<F>
         ensures { IsNew result }
     {
-        Records {
+        RecordReader {
+            of: PhantomData,
             lines: Lines::new(),
             kept: RecordLines::new(),
             first: 0,
@@ -219,18 +231,19 @@ impl Records {
 
     /// Reads the header of a file.
     ///
-    /// Its first line has `RINEX VERSION / TYPE` in columns 61-80 and `N` in column 21, and in columns 1-9 the version, `4.`
-    /// and one digit or two; the lines up to the next with `END OF HEADER` in columns 61-73 are passed (RINEX 4.01, header
+    /// Its first line has `RINEX VERSION / TYPE` in columns 61-80 and `N` in column 21, and in columns 1-9 a version of the
+    /// form, for [`Records`] `4.` and one digit or two; the lines up to the next with `END OF HEADER` in columns 61-73 are passed (RINEX 4.01, header
     /// section). `NotRinexNav`: the first line is another one, or no line ends the header; each further call answers the
     /// same. `Version`: another version; each further call answers the same. `Line`: as for `next_item`; after a failed read
-    /// a further call goes on with the same header.
+    /// a further call goes on with the same header, and `TooLong` stays. The other answers come only where at most
+    /// 4,294,967,295 bytes were taken.
     pub fn read_header<S: Source>(&mut self, source: &mut S) -> Result<(), HeaderFault>
         // What is to come behind the header are the records of the file, whatever bytes follow.
-        ensures header { OnOk result (PassesHeader (S.left source.old) (S.left source.new) self.old self.new) }
+        ensures header { OnOk result (PassesHeader F.form (S.left source.old) (S.left source.new) self.old self.new) }
 
         // The header is refused, whatever bytes follow, or after a fault the same file is to come.
         ensures fault { IfErr result (λ fault.
-            BreaksHeader (S.left source.old) (S.left source.new) self.old self.new fault) }
+            BreaksHeader F.form (S.left source.old) (S.left source.new) self.old self.new fault) }
 
         // A header that was read or refused is answered again, and nothing is read.
         ensures passed { self.old.header ≡ Passed
@@ -252,12 +265,12 @@ impl Records {
             return answer_of(self.header);
         }
         self.kept = RecordLines::new();
-        pass_header(&mut self.lines, &mut self.header, source)
+        pass_header::<F, S>(&mut self.lines, &mut self.header, source)
     }
 
     /// The next record of a file whose header was read.
     ///
-    /// A record is a line that begins with `>` and the lines up to the next such line or the end. Its line is the number
+    /// A record is a line that begins one, for [`Records`] with `>`, and the lines up to the next such line or the end. Its line is the number
     /// of its first line in the file, counted from 1. `ReadFault`: a read failed, and the source's count of faults says
     /// so; a further call goes on with the same record. `TooLong`: 4,294,967,295 bytes were taken and one more was there.
     pub fn next_item<S: Source>(&mut self, source: &mut S) -> Result<ItemRead, LineFault>
@@ -265,13 +278,13 @@ impl Records {
 
         // The record is that of the file, whatever bytes follow.
         ensures read { IfOk result (λ read.
-            GivesRead read (S.left source.old) (S.left source.new) self.old self.new) }
+            GivesRead F.form read (S.left source.old) (S.left source.new) self.old self.new) }
 
         ensures header { self.new.header ≡ Passed }
 
         // After a fault the same records are to come.
         ensures fault { IfErr result (λ fault.
-            BreaksRecord (S.left source.old) (S.left source.new) self.old self.new fault) }
+            BreaksRecord F.form (S.left source.old) (S.left source.new) self.old self.new fault) }
 
         // A read fails only by the source's own count.
         ensures failed { IsErrOf result LineFault.ReadFault
@@ -282,6 +295,6 @@ impl Records {
         ensures never { IsTrue (S.never_fails source.old)
             → (IsErrOf result LineFault.ReadFault → ⊥) × IsTrue (S.never_fails source.new) }
     {
-        next_record(&mut self.lines, &mut self.kept, &mut self.first, source)
+        next_record::<F, S>(&mut self.lines, &mut self.kept, &mut self.first, source)
     }
 }

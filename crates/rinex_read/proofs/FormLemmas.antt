@@ -1,0 +1,136 @@
+-- What a form goes by: the lines as they are kept, and long lines as they are cut.
+use Rattle.std.proofs.Common.{◌≡◌, ℕ, zero, suc, ◌+◌, ◌<◌, ◌≤◌, ◌==◌, ◌&&◌, Bool, true, false, if◌then◌else◌, List, [], ◌∷◌, ◌++◌, length, get_or, take, map, codes, Ok, Err, refl, ap, sym, ◌∙◌, ⊎_elim, arith, append_assoc}
+use Rattle.std.proofs.lemmas.Bool.{cases_lt, lt-ltb, le-ltb}
+use Rattle.std.proofs.lemmas.List.{get_or-take}
+use Rattle.scaled_decimal.specs.NumberReading.{trim_start, trim_end}
+use Rattle.nav_io.specs.Lines.{line_of, pieces, without_cr}
+use Rattle.rinex_read.specs.declared.judged.HeaderFault.TheVariants.{NotRinexNav, Version}
+use Rattle.rinex_read.specs.Lines.{stands_at, lines_of, text_of_line, told_lines}
+use Rattle.rinex_read.specs.Kept.{padded, kept_with}
+use Rattle.rinex_read.specs.Forms.{Form, LooksAtKept, is_version, begins}
+use Rattle.rinex_read.specs.Files.{is_navigation, ends_header, header_passed, header_of, up_to_next, read_at, reads, reads_behind}
+use Rattle.rinex_read.proofs.ColumnLemmas.{IsAlike, columns_alike, stands_alike, padded_alike, alike_itself}
+use Rattle.rinex_read.proofs.AlikeLemmas.{AreAlike, are_itself}
+
+-- one line in place of another that is alike
+replaced_alike : (n : ℕ) (ks : List (List ℕ)) (l m : List ℕ) (more : List (List ℕ)) → IsAlike l m → AreAlike n (ks ++ l ∷ more) (ks ++ m ∷ more)
+replaced_alike zero ks l m more h = tt
+replaced_alike (suc n) [] l m more h = (h, are_itself n more)
+replaced_alike (suc n) (k ∷ ks) l m more h = (alike_itself k, replaced_alike n ks l m more h)
+
+-- lines behind the first n
+behind_alike : (n : ℕ) (ks xs ys : List (List ℕ)) → n ≤ length ks → AreAlike n (ks ++ xs) (ks ++ ys)
+behind_alike zero ks xs ys h = tt
+behind_alike (suc n) [] xs ys h = absurd (omega arith)
+behind_alike (suc n) (k ∷ ks) xs ys h = (alike_itself k, behind_alike n ks xs ys (omega arith))
+
+-- lines that are alike are kept alike
+same_kept : (n : ℕ) (ls ms : List (List ℕ)) → AreAlike n ls ms → map padded (take n ls) ≡ map padded (take n ms)
+same_kept zero ls ms a = refl
+same_kept (suc n) [] [] a = refl
+same_kept (suc n) [] (m ∷ ms) a = absurd a
+same_kept (suc n) (l ∷ ls) [] a = absurd a
+same_kept (suc n) (l ∷ ls) (m ∷ ms) a =
+    ap (λ t. t ∷ map padded (take n ls)) (columns_alike 80 0 l m a.0 (omega arith)) ∙ ap (λ t. padded m ∷ t) (same_kept n ls ms a.1)
+
+-- and judged alike
+form_alike : (f : Form) → LooksAtKept f → (ls ms : List (List ℕ)) → AreAlike 9 ls ms → f.judged ls ≡ f.judged ms
+form_alike f law ls ms a = sym (law ls) ∙ ap f.judged (same_kept 9 ls ms a) ∙ law ms
+
+-- what is kept of lines is judged as the lines are, whatever lines follow
+pub form_kept : (f : Form) → LooksAtKept f → (ks : List (List ℕ)) (l : List ℕ) (more : List (List ℕ)) → f.judged (kept_with ks l ++ more) ≡ f.judged (ks ++ l ∷ more)
+form_kept f law ks l more = ⊎_elim
+    (λ (room : length ks < 9).
+    ap (λ b. f.judged ((if b then ks ++ padded l ∷ [] else ks) ++ more)) (lt-ltb (length ks) 9 room)
+    ∙ ap f.judged (append_assoc ks (padded l ∷ []) more)
+    ∙ form_alike f law (ks ++ padded l ∷ more) (ks ++ l ∷ more) (replaced_alike 9 ks (padded l) l more (padded_alike l)))
+    (λ (full : 9 ≤ length ks).
+    ap (λ b. f.judged ((if b then ks ++ padded l ∷ [] else ks) ++ more)) (le-ltb (length ks) 9 full)
+    ∙ form_alike f law (ks ++ more) (ks ++ l ∷ more) (behind_alike 9 ks more (l ∷ more) full))
+    (cases_lt (length ks) 9)
+
+-- long lines are cut
+abbrev cut : List ℕ → List ℕ
+cut l = take 2200 l
+
+cut_alike : (l : List ℕ) → IsAlike (cut l) l
+cut_alike l = record { same = λ i h. get_or-take 2200 l i 32 (omega arith) }
+
+cuts_alike : (n : ℕ) (ls : List (List ℕ)) → AreAlike n (map cut ls) ls
+cuts_alike zero ls = tt
+cuts_alike (suc n) [] = tt
+cuts_alike (suc n) (l ∷ ls) = (cut_alike l, cuts_alike n ls)
+
+begins_cut : (f : Form) (l : List ℕ) → begins f (cut l) ≡ begins f l
+begins_cut f l = ap f.starts ((cut_alike l).same 0 (omega arith))
+
+up_to_cut : (f : Form) (ls : List (List ℕ)) → up_to_next f (map cut ls) ≡ map cut (up_to_next f ls)
+up_to_cut f [] = refl
+up_to_cut f (l ∷ ls) =
+    ap (λ b. if b then [] else cut l ∷ up_to_next f (map cut ls)) (begins_cut f l)
+    ∙ ap (λ t. if begins f l then [] else cut l ∷ t) (up_to_cut f ls) ∙ by (begins f l)
+  where
+    by : (b : Bool) → (if b then [] else cut l ∷ map cut (up_to_next f ls)) ≡ map cut (if b then [] else l ∷ up_to_next f ls)
+    by true = refl
+    by false = refl
+
+reads_cut : (f : Form) → LooksAtKept f → (n : ℕ) (ls : List (List ℕ)) → reads f n (map cut ls) ≡ reads f n ls
+reads_cut f law n [] = refl
+reads_cut f law n (l ∷ ls) =
+    let next = reads_cut f law (n + 1) ls in
+    ap (λ b. if b then read_at (n + 1) (f.judged (cut l ∷ up_to_next f (map cut ls))) ∷ reads f (n + 1) (map cut ls) else reads f (n + 1) (map cut ls)) (begins_cut f l)
+    ∙ ap (λ t. if begins f l then read_at (n + 1) (f.judged (cut l ∷ t)) ∷ reads f (n + 1) (map cut ls) else reads f (n + 1) (map cut ls)) (up_to_cut f ls)
+    ∙ ap (λ j. if begins f l then read_at (n + 1) j ∷ reads f (n + 1) (map cut ls) else reads f (n + 1) (map cut ls))
+    (form_alike f law (cut l ∷ map cut (up_to_next f ls)) (l ∷ up_to_next f ls) (cuts_alike 9 (l ∷ up_to_next f ls)))
+    ∙ ap (λ rs. if begins f l then read_at (n + 1) (f.judged (l ∷ up_to_next f ls)) ∷ rs else rs) next
+
+pub ends_alike : (l m : List ℕ) → IsAlike l m → ends_header l ≡ ends_header m
+unfolding ends_header
+ends_alike l m h = stands_alike (codes "END OF HEADER") 60 l m h (omega arith)
+
+pub navigation_alike : (l m : List ℕ) → IsAlike l m → is_navigation l ≡ is_navigation m
+unfolding is_navigation
+navigation_alike l m h =
+    let label = stands_alike (codes "RINEX VERSION / TYPE") 60 l m h (omega arith) in
+    let kind = stands_alike (codes "N") 20 l m h (omega arith) in
+    rw (label, kind) refl
+
+pub version_alike : (f : Form) (l m : List ℕ) → IsAlike l m → is_version f l ≡ is_version f m
+unfolding is_version
+version_alike f l m h = ap (λ t. f.names (trim_end (trim_start t))) (columns_alike 9 0 l m h (omega arith))
+
+passed_cut : (f : Form) → LooksAtKept f → (n : ℕ) (ls : List (List ℕ)) → reads_behind f (header_passed n (map cut ls)) ≡ reads_behind f (header_passed n ls)
+passed_cut f law n [] = refl
+passed_cut f law n (l ∷ ls) =
+    ap (λ b. reads_behind f (if b then Ok (record { number = n + 1; lines = map cut ls }) else header_passed (n + 1) (map cut ls))) (ends_alike (cut l) l (cut_alike l))
+    ∙ by (ends_header l) (passed_cut f law (n + 1) ls)
+  where
+    by : (b : Bool) → reads_behind f (header_passed (n + 1) (map cut ls)) ≡ reads_behind f (header_passed (n + 1) ls)
+        → reads_behind f (if b then Ok (record { number = n + 1; lines = map cut ls }) else header_passed (n + 1) (map cut ls))
+        ≡ reads_behind f (if b then Ok (record { number = n + 1; lines = ls }) else header_passed (n + 1) ls)
+    by true e = ap Ok (reads_cut f law (n + 1) ls)
+    by false e = e
+
+header_cut : (f : Form) → LooksAtKept f → (n : ℕ) (ls : List (List ℕ)) → reads_behind f (header_of f n (map cut ls)) ≡ reads_behind f (header_of f n ls)
+header_cut f law n [] = refl
+header_cut f law n (l ∷ ls) =
+    let next = passed_cut f law (n + 1) ls in
+    ap (λ b. reads_behind f (if b then (if is_version f (cut l) then header_passed (n + 1) (map cut ls) else Err Version) else Err NotRinexNav)) (navigation_alike (cut l) l (cut_alike l))
+    ∙ ap (λ b. reads_behind f (if is_navigation l then (if b then header_passed (n + 1) (map cut ls) else Err Version) else Err NotRinexNav)) (version_alike f (cut l) l (cut_alike l))
+    ∙ by (is_navigation l) (is_version f l) next
+  where
+    by : (a b : Bool) → reads_behind f (header_passed (n + 1) (map cut ls)) ≡ reads_behind f (header_passed (n + 1) ls)
+        → reads_behind f (if a then (if b then header_passed (n + 1) (map cut ls) else Err Version) else Err NotRinexNav)
+        ≡ reads_behind f (if a then (if b then header_passed (n + 1) ls else Err Version) else Err NotRinexNav)
+    by true true e = e
+    by true false e = refl
+    by false b e = refl
+
+told_cut : (ps : List (List ℕ)) → map text_of_line (map line_of ps) ≡ map cut (map without_cr ps)
+unfolding line_of
+told_cut [] = refl
+told_cut (p ∷ ps) = ap (λ t. cut (without_cr p) ∷ t) (told_cut ps)
+
+-- what is read of the lines that a reader of lines gives is what is read of the file
+pub file_told : (f : Form) → LooksAtKept f → (n : ℕ) (bytes : List ℕ) → reads_behind f (header_of f n (told_lines bytes)) ≡ reads_behind f (header_of f n (lines_of bytes))
+file_told f law n bytes = ap (λ ls. reads_behind f (header_of f n ls)) (told_cut (pieces false bytes)) ∙ header_cut f law n (lines_of bytes)
