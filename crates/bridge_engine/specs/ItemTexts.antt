@@ -6,11 +6,11 @@ use Rattle.nav_eph.specs.declared.items.NavItem.{NavItem}
 use Rattle.nav_eph.specs.declared.items.NavItem.TheVariants.{Gps as GpsItem, Gal as GalItem, Ion as IonItem}
 use Rattle.rtcm_frame.specs.Writing.{frame_bytes}
 use Rattle.rinex_write.specs.Texts.{item_lines, letter_of, text_of}
-use Rattle.issue_periods.specs.declared.key.Key.{Key}
-use Rattle.issue_periods.specs.declared.key.Key.TheVariants.{Gps, Gal, GpsIon, GalIon}
-use Rattle.issue_periods.specs.declared.closed.Closed.{Closed}
-use Rattle.issue_periods.specs.declared.closed.Verdict.{Verdict}
-use Rattle.issue_periods.specs.declared.closed.Verdict.TheVariants.{Whole, Partial, Contradicted, NoHealth}
+use Rattle.period_items.specs.declared.key.Key.{Key}
+use Rattle.period_items.specs.declared.key.Key.TheVariants.{Gps, Gal, GpsIon, GalIon}
+use Rattle.period_items.specs.declared.closed.Closed.{Closed}
+use Rattle.period_items.specs.declared.closed.Verdict.{Verdict}
+use Rattle.period_items.specs.declared.closed.Verdict.TheVariants.{Whole, Partial, Contradicted, NoHealth, Again}
 use Rattle.bridge_engine.specs.Wanted.{bytes_1019, bytes_1046}
 use Rattle.bridge_engine.specs.Texts.{hex_digits}
 
@@ -50,6 +50,7 @@ verdict_text (Whole item) = codes "whole"
 verdict_text Partial = codes "partial"
 verdict_text Contradicted = codes "contradicted"
 verdict_text NoHealth = codes "nohealth"
+verdict_text Again = codes "again"
 
 -- the line of a period in a list: its end, what it is a period of, and what is said of it
 unfoldable pub list_period : Closed → List ℕ

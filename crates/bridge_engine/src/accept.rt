@@ -33,7 +33,7 @@ pub(crate) fn accept(line: &[u8], words: Option<RefWeek>) -> Option<Accepted>
     ensures most { IfSome result (λ a. a.window ≤ 14400) }
 {
     let head = read_first(line)?;
-    let week = week_of(words, None)?;
+    let week = week_of(words, head.week)?;
     Some(Accepted {
         window: head.window,
         week,

@@ -8,7 +8,7 @@ ghost use Rattle.bridge_engine.specs.Notes.{total};
 ghost use Rattle.bridge_engine.specs.Settled.{said, total_said, with_counts};
 
 use crate::text::{Text, append, append_decimal};
-use issue_periods::Verdict;
+use period_items::Verdict;
 
 /// What a run over a capture counts.
 #[derive(Clone, Copy, Debug, PartialEq, Eq)]
@@ -93,6 +93,7 @@ impl Said {
             Verdict::Partial => self.partial += 1,
             Verdict::Contradicted => self.contradicted += 1,
             Verdict::NoHealth => self.nohealth += 1,
+            Verdict::Again => self.again += 1,
         }
     }
 }

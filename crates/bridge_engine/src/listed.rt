@@ -5,8 +5,8 @@ ghost use Rattle.arrayvec.specs.ArrayVec.{array_vec_len};
 ghost use Rattle.bridge_engine.specs.ItemTexts.{issue_text, key_text, list_period, satellite_text, verdict_text};
 
 use crate::text::{Text, append, append_decimal, append_hex};
-use issue_periods::{Closed, Key, Verdict};
 use nav_eph::{Sat, System};
+use period_items::{Closed, Key, Verdict};
 
 // Appends a satellite: the letter of its system, and two digits.
 pub(crate) fn append_satellite(text: &mut Text, sat: Sat)
@@ -65,6 +65,7 @@ fn verdict_word(verdict: &Verdict) -> &'static [u8]
         Verdict::Partial => b"partial",
         Verdict::Contradicted => b"contradicted",
         Verdict::NoHealth => b"nohealth",
+        Verdict::Again => b"again",
     }
 }
 

@@ -2,7 +2,7 @@
 
 ghost use Rattle.std.specs.Prelude.{◌≡◌, ◌+◌, ◌^◌, ◌<◌, ◌≤◌, ℕ, List, Option, length, OnOk, OnErr};
 ghost use Rattle.nav_eph.specs.declared.part.Part.{Part};
-ghost use Rattle.issue_periods.specs.PeriodsOf.{closed_of, periods_of};
+ghost use Rattle.period_items.specs.PeriodsOf.{closed_of, periods_of};
 ghost use Rattle.issue_periods.specs.Standing.{Stood};
 ghost use Rattle.bridge_engine.specs.Captures.{texts_of};
 ghost use Rattle.bridge_engine.specs.Runs.{AppendsBetween};

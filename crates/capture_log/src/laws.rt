@@ -2,9 +2,9 @@
 
 ghost use Rattle.std.specs.Prelude.{◌≡◌, ℕ, ◌^◌, ◌<◌, ◌++◌, ◌↔◌, List, Some, All, Contains};
 ghost use Rattle.nav_eph.specs.declared.part.Part.{Part};
-ghost use Rattle.issue_periods.specs.Parts.{IsPartValue};
-ghost use Rattle.issue_periods.specs.PeriodLists.{ArePeriods, IsPrefix};
-ghost use Rattle.issue_periods.specs.PeriodsOf.{closed_of, periods_of};
+ghost use Rattle.period_items.specs.Parts.{IsPartValue};
+ghost use Rattle.period_items.specs.PeriodLists.{ArePeriods, IsPrefix};
+ghost use Rattle.period_items.specs.PeriodsOf.{closed_of, periods_of};
 ghost use Rattle.nav_io.specs.Lines.{Line};
 ghost use Rattle.capture_lines.specs.Late.{stamp_of};
 ghost use Rattle.capture_lines.specs.declared.item.LineItem.{LineItem};

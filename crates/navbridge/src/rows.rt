@@ -44,7 +44,7 @@ struct Run {
 }
 
 // A run over a capture, whose words are written with `;` between them.
-fn run(alloc: Global, words: &str, input: &str) -> Result<Run, AllocError> {
+fn convert(alloc: Global, words: &str, input: &str) -> Result<Run, AllocError> {
     let mut list = Vec::new(alloc);
     for word in words.split(';') {
         list.push(String::from_str(alloc, word)?)?;
@@ -75,7 +75,7 @@ fn lists_periods(rt: HostRuntime) -> Result<(), Fail> {
         ),
     ];
     for (input, want) in cases {
-        let run = run(rt.alloc(), words, input)?;
+        let run = convert(rt.alloc(), words, input)?;
         assert_eq!(rt; run.status, 0);
         assert_eq!(rt; run.output.bytes(), want.as_bytes());
     }
