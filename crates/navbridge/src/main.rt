@@ -16,7 +16,11 @@ mod capture_tests;
 mod capture_words;
 mod laws;
 #[cfg(test)]
+mod bits;
+#[cfg(test)]
 mod rows;
+#[cfg(test)]
+mod texts;
 mod statuses;
 #[cfg(test)]
 mod tests;
