@@ -8,3 +8,4 @@ pub mod Captures
 pub mod Runs
 pub mod Notes
 pub mod Settled
+pub mod Follows

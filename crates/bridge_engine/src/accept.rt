@@ -18,11 +18,12 @@ pub(crate) struct Accepted {
 fn week_of(words: Option<RefWeek>, named: Option<RefWeek>) -> Option<RefWeek>
     ensures { result ≡ week_for words named }
 {
-    match (words, named) {
-        (None, named) => named,
-        (Some(week), None) => Some(week),
-        (Some(week), Some(named)) if week == named => Some(week),
-        _ => None,
+    let Some(week) = words else {
+        return named;
+    };
+    match named {
+        None => Some(week),
+        Some(other) => { if week == other { Some(week) } else { None } }
     }
 }
 

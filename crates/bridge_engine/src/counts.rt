@@ -117,6 +117,7 @@ pub(crate) fn counts_with(lines: u32, tally: &Tally, said: &Said) -> CaptureCoun
 }
 
 // Appends a line of a counts text: a name of at most 16 bytes, and the number.
+#[tactic(auto, unfolding(crate::specs::Reports::count_line))]
 pub(crate) fn append_count(text: &mut Text, name: &[u8], number: u64)
     requires name { length name.now ≤ 16 }
     requires room { array_vec_len text.old + 58 ≤ 640 }
@@ -130,6 +131,7 @@ pub(crate) fn append_count(text: &mut Text, name: &[u8], number: u64)
 }
 
 /// The text of the counts of a capture: a line for each, its name, a space and the number, in the order of the fields.
+#[tactic(auto, unfolding(crate::specs::Captures::counts_text))]
 pub(crate) fn capture_counts_text(counts: &CaptureCounts) -> Text
     ensures { result.items ≡ counts_text counts.now }
 {

@@ -1,5 +1,15 @@
 //! A capture, line by line, for one outlet.
 
+ghost use Rattle.std.specs.Prelude.{◌≡◌, ◌+◌, ◌^◌, ◌<◌, ◌≤◌, [], ℕ, length, IsTrue, IsSome, IsErrOf, IfOk, IfErr, IfSome, OnOk, OnErr, None, Some};
+ghost use Rattle.std.specs.Io.KnownBytes.{Appends};
+ghost use Rattle.nav_io.specs.Causes.{Rose};
+ghost use Rattle.nav_io.specs.Front.{AppendsFront};
+ghost use Rattle.bridge_engine.specs.Captures.{back_text, capture_of, counts_of, counts_text, least_output, output_of, report_of_capture, settled_output};
+ghost use Rattle.bridge_engine.specs.Follows.{Follows, FollowsAll, FollowsBroken, GivesHead, GivesNoHead, HasItsCause, fault_by, faults_of};
+ghost use Rattle.bridge_engine.specs.Notes.{total};
+ghost use Rattle.bridge_engine.specs.Runs.{RunsExactly, RunsPart, RunsWhole, TakesTooMany};
+ghost use Rattle.bridge_engine.specs.Settled.{total_said};
+
 use crate::accept::{Accepted, accept};
 use crate::counts::{CaptureCounts, Said, Tally, capture_counts_text, counts_with};
 use crate::fault::BridgeFault;
@@ -14,7 +24,9 @@ use nav_io::{Failed, LineFault, LineKind, Lines, Sink, Source};
 use std::alloc::Global;
 
 // The fault of a run whose lines ended so.
-fn fault_of(fault: LineFault) -> BridgeFault {
+fn fault_of(fault: LineFault) -> BridgeFault
+    ensures { result ≡ fault_by fault }
+{
     match fault {
         LineFault::ReadFault => BridgeFault::ReadFault,
         LineFault::TooLong => BridgeFault::TooLong,
@@ -26,7 +38,18 @@ fn first_line<S: Source>(
     lines: &mut Lines,
     week: Option<RefWeek>,
     input: &mut S,
-) -> Result<Accepted, BridgeFault> {
+) -> Result<Accepted, BridgeFault>
+    requires first { (lines.old.number ≡ 0) × (lines.old.rest ≡ []) }
+    ensures accepted { IfOk result (GivesHead week (S.left input.old) (S.left input.new) lines.old lines.new) }
+    ensures broken { IfErr result (GivesNoHead week (S.left input.old) (S.left input.new) lines.old lines.new) }
+    ensures least { IfOk result (λ a. 60 ≤ a.window) }
+    ensures most { IfOk result (λ a. a.window ≤ 14400) }
+    ensures read { IsErrOf result BridgeFault.ReadFault
+        → Rose (S.faults input.old) (S.faults input.new) }
+    ensures quiet { OnOk result (S.faults input.new ≡ S.faults input.old) }
+    ensures never { IsTrue (S.never_fails input.old)
+        → (IsErrOf result BridgeFault.ReadFault → ⊥) × IsTrue (S.never_fails input.new) }
+{
     match lines.next(input) {
         Ok(LineKind::Text) => match accept(lines.text(), week) {
             Some(accepted) => Ok(accepted),
@@ -45,7 +68,33 @@ pub(crate) fn follow_capture<O: Outlet, S: Source, T: Sink, U: Sink>(
     input: &mut S,
     output: &mut T,
     report: &mut U,
-) -> Result<CaptureCounts, BridgeFault> {
+) -> Result<CaptureCounts, BridgeFault>
+    ensures whole { OnOk result (RunsWhole (output_of (O.target outlet.now) week)
+        (report_of_capture week) (S.left input.old) (S.left input.new)
+        (T.written output.old) (T.written output.new) (U.written report.old) (U.written report.new)) }
+    ensures counts { IfOk result (λ counts. IfSome (S.left input.old) (λ bytes.
+        IfSome (capture_of week bytes) (λ capture. counts ≡ counts_of capture))) }
+    ensures exact { IsErrOf result BridgeFault.ReadFault
+        → RunsExactly (settled_output (O.target outlet.now) week)
+        (S.left input.old) (S.left input.new) (T.written output.old) (T.written output.new) }
+    ensures part { OnErr result (RunsPart (output_of (O.target outlet.now) week)
+        (least_output (O.target outlet.now) week) (report_of_capture week)
+        (S.left input.old) (S.left input.new) (T.written output.old) (T.written output.new)
+        (U.written report.old) (U.written report.new)) }
+    ensures form { IsErrOf result BridgeFault.NotThisForm
+        → (output.new ≡ output.old) × (report.new ≡ report.old) }
+    ensures refused { IfSome (S.left input.old) (λ bytes.
+        IsErrOf result BridgeFault.NotThisForm → capture_of week bytes ≡ None) }
+    ensures accepted { IfSome (S.left input.old) (λ bytes.
+        (IsErrOf result BridgeFault.WriteFault → IsSome (capture_of week bytes))
+        × (IsErrOf result BridgeFault.ReportFault → IsSome (capture_of week bytes))) }
+    ensures cause { HasItsCause
+        (faults_of (S.faults input.old) (T.faults output.old) (U.faults report.old))
+        (faults_of (S.faults input.new) (T.faults output.new) (U.faults report.new)) result }
+    ensures never { IsTrue (S.never_fails input.old) → IsErrOf result BridgeFault.ReadFault → ⊥ }
+    ensures too_long { IsErrOf result BridgeFault.TooLong
+        → TakesTooMany (S.left input.old) (S.left input.new) }
+{
     let mut lines = Lines::new();
     let head = first_line(&mut lines, week, input)?;
     if outlet.begin(output).is_err() {
@@ -85,7 +134,25 @@ pub(crate) fn follow_lines<A: Assembly, O: Outlet, S: Source, T: Sink, U: Sink>(
     report: &mut U,
     tally: &mut Tally,
     said: &mut Said,
-) -> Result<(), BridgeFault> {
+) -> Result<(), BridgeFault>
+    requires first { lines.old.number ≡ 1 }
+    requires held { length lines.old.rest ≤ 4096 }
+    requires window { A.window assembly.old ≡ window }
+    requires start { Follows (A.stands_for assembly.old) (A.reference assembly.old) window
+        (O.target outlet.now) [] (T.written output.old) (T.written output.old)
+        (U.written report.old) (U.written report.old) halves.old tally.old said.old 0 }
+    ensures all { OnOk result (FollowsAll (A.reference assembly.old) window (O.target outlet.now)
+        (S.left input.old) (S.left input.new) lines.old lines.new
+        (T.written output.old) (T.written output.new) (U.written report.old) (U.written report.new)
+        tally.new said.new) }
+    ensures broken { IfErr result (FollowsBroken (A.reference assembly.old) window
+        (O.target outlet.now) (S.left input.old) (S.left input.new) lines.old lines.new
+        (T.written output.old) (T.written output.new) (U.written report.old) (U.written report.new)) }
+    ensures cause { HasItsCause
+        (faults_of (S.faults input.old) (T.faults output.old) (U.faults report.old))
+        (faults_of (S.faults input.new) (T.faults output.new) (U.faults report.new)) result }
+    ensures never { IsTrue (S.never_fails input.old) → IsErrOf result BridgeFault.ReadFault → ⊥ }
+{
     let mut greatest = 0;
     'lines: loop {
         let item = match next_item(lines, input) {
@@ -109,7 +176,19 @@ fn end_run<O: Outlet, T: Sink, U: Sink>(
     counts: &CaptureCounts,
     output: &mut T,
     report: &mut U,
-) -> Result<(), BridgeFault> {
+) -> Result<(), BridgeFault>
+    ensures text { OnOk result (Appends (T.written output.old) (T.written output.new)
+        (back_text (O.target outlet.now) counts.now)) }
+    ensures report { OnOk result
+        (Appends (U.written report.old) (U.written report.new) (counts_text counts.now)) }
+    ensures part { OnErr result (AppendsFront (T.written output.old) (T.written output.new)
+        (back_text (O.target outlet.now) counts.now)) }
+    ensures report_part { OnErr result
+        (AppendsFront (U.written report.old) (U.written report.new) (counts_text counts.now)) }
+    ensures cause { HasItsCause
+        (faults_of 0 (T.faults output.old) (U.faults report.old))
+        (faults_of 0 (T.faults output.new) (U.faults report.new)) result }
+{
     if outlet.end(counts, output).is_err() {
         return Err(BridgeFault::WriteFault);
     }

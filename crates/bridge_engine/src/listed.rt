@@ -71,6 +71,7 @@ fn verdict_word(verdict: &Verdict) -> &'static [u8]
 
 /// The line of a period in a list: `<end> EPH <satellite> <issue> <verdict>`, or `<end> ION G <16 digits> <verdict>`, of
 /// Galileo `<end> ION E <11 digits> <verdict>`, and LF.
+#[tactic(auto, unfolding(crate::specs::ItemTexts::list_period))]
 pub(crate) fn period_line(closed: &Closed) -> Text
     ensures { result.items ≡ list_period closed.now }
 {

@@ -43,6 +43,7 @@ fn report_front(subject: &[u8], number: u64) -> Text
 }
 
 /// A line of a report: what is spoken of, as `line` or `frame`, its number, and the reason in a word.
+#[tactic(auto, unfolding(crate::specs::Reports::report_line))]
 pub(crate) fn report_text(subject: &[u8], number: u64, reason: &[u8]) -> Text
     requires subject { length subject.now ≤ 16 }
     requires reason { length reason.now ≤ 32 }
@@ -55,6 +56,7 @@ pub(crate) fn report_text(subject: &[u8], number: u64, reason: &[u8]) -> Text
 }
 
 /// A line of a report on something that is refused.
+#[tactic(auto, unfolding(crate::specs::Reports::report_line))]
 pub(crate) fn refused_text(subject: &[u8], number: u64, refusal: &Refusal) -> Text
     requires { length subject.now ≤ 16 }
     ensures { result.items ≡ report_line subject.now number (refusal_text refusal.now) }

@@ -15,6 +15,7 @@ use rtcm_frame::write_frame;
 
 /// Appends the frame of an ephemeris to a sink, by one write: message 1019 or 1046 (RTCM 10403.3, 3.5). Nothing is written of
 /// an ionosphere.
+#[tactic(auto, unfolding(crate::specs::ItemTexts::rtcm_item))]
 pub(crate) fn write_message<T: Sink>(item: &NavItem, out: &mut T) -> Result<(), Failed>
     ensures bytes { MatchResult result
         (λ _. Appends (T.written out.old) (T.written out.new) (rtcm_item item.now))

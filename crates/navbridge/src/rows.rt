@@ -8,8 +8,11 @@ use std::test::Fail;
 
 // The words of the jobs, with `;` between them.
 pub(crate) const TO_LIST: &str = "--from=capture;--to=list;--week=2295";
+
 pub(crate) const TO_RTCM: &str = "--from=capture;--to=rtcm;--week=2295";
+
 pub(crate) const TO_COUNT: &str = "--from=capture;--to=count;--week=2295";
+
 pub(crate) const TO_RINEX: &str =
     "--from=capture;--to=rinex;--week=2295;--date=20240101 000000 UTC;--leap=18";
 
@@ -27,6 +30,8 @@ pub(crate) struct Outcome {
     pub(crate) status: u8,
     pub(crate) output: MemSink,
     pub(crate) report: MemSink,
+    // how many bytes of the input are left
+    pub(crate) left: usize,
 }
 
 // Which reads and writes fail, by their numbers, and after how many bytes each read ends.
@@ -75,10 +80,12 @@ pub(crate) fn convert_failing(
     let mut output = MemSink::new(alloc, 65_536, writes)?;
     let mut report = MemSink::new(alloc, 65_536, reports)?;
     let status = bridge(alloc, &words, &mut input, &mut output, &mut report);
+    let left = input.left().len();
     Ok(Outcome {
         status,
         output,
         report,
+        left,
     })
 }
 
@@ -267,16 +274,31 @@ fn lists_periods_of_galileo(rt: HostRuntime) -> Result<(), Fail> {
 #[test]
 fn lists_ionospheres(rt: HostRuntime) -> Result<(), Fail> {
     let cases = [
-        ("18 L G05 {PAGE_18}\n", "> ION G05 LNAV\n    2023 12 31 00 00 18"),
-        ("18 L G07 {PAGE_18}\n18 L G05 {PAGE_18}\n", "> ION G05 LNAV\n    2023 12 31 00 00 18"),
-        ("18 L G05 {PAGE_18}\n12 L G07 {PAGE_18}\n", "> ION G07 LNAV\n    2023 12 31 00 00 18"),
+        (
+            "18 L G05 {PAGE_18}\n",
+            "> ION G05 LNAV\n    2023 12 31 00 00 18",
+        ),
+        (
+            "18 L G07 {PAGE_18}\n18 L G05 {PAGE_18}\n",
+            "> ION G05 LNAV\n    2023 12 31 00 00 18",
+        ),
+        (
+            "18 L G05 {PAGE_18}\n12 L G07 {PAGE_18}\n",
+            "> ION G07 LNAV\n    2023 12 31 00 00 18",
+        ),
     ];
     for (lines, record) in cases {
         let input = concat_text(rt.alloc(), "NAVCAP 1\n", lines)?;
         let run = convert(rt.alloc(), TO_LIST, input.as_str())?;
-        assert_eq!(rt; run.output.bytes(), b"18 ION G 0b0000002c000000 whole\n".as_slice());
+        assert_eq!(rt;
+            run.output.bytes(),
+            b"18 ION G 0b0000002c000000 whole\n".as_slice()
+        );
         let run = convert(rt.alloc(), TO_RINEX, input.as_str())?;
-        assert!(rt; run.output.bytes()[HEADER.len()..].starts_with(record.as_bytes()), "{lines}");
+        assert!(rt;
+            run.output.bytes()[HEADER.len()..].starts_with(record.as_bytes()),
+            "{lines}"
+        );
     }
     Ok(())
 }

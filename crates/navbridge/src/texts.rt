@@ -1,7 +1,7 @@
 //! Texts of captures that a run writes, whole.
 
-use crate::rows::{HEADER, TO_COUNT, TO_RINEX, TO_RTCM, WORDS, concat_text, convert};
 use crate::bits::expand;
+use crate::rows::{HEADER, TO_COUNT, TO_RINEX, TO_RTCM, WORDS, concat_text, convert};
 use std::test::Fail;
 
 // A capture of one ephemeris of GPS.
@@ -84,7 +84,11 @@ fn writes_frames(rt: HostRuntime) -> Result<(), Fail> {
     let mut hex = Vec::new(rt.alloc());
     for byte in run.output.bytes() {
         for digit in [byte / 16, byte % 16] {
-            hex.push(if digit < 10 { b'0' + digit } else { b'a' - 10 + digit })?;
+            hex.push(if digit < 10 {
+                b'0' + digit
+            } else {
+                b'a' - 10 + digit
+            })?;
         }
     }
     assert_eq!(rt; hex, expand(rt.alloc(), "{FRAME}")?);
