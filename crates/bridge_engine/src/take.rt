@@ -1,6 +1,8 @@
 //! Taking what a line brings: parts go to the assembly, refusals to the report, and the rest is counted.
 
-ghost use Rattle.std.specs.Prelude.{◌≡◌, ◌+◌, ◌^◌, ◌<◌, ◌≤◌, ◌∷◌, [], OnOk, IfOk};
+ghost use Rattle.std.specs.Prelude.{◌≡◌, ◌+◌, ◌^◌, ◌<◌, ◌≤◌, ◌∷◌, [], OnOk, OnErr};
+ghost use Rattle.std.specs.Io.KnownBytes.{Appends};
+ghost use Rattle.nav_io.specs.Front.{AppendsFront};
 ghost use Rattle.issue_periods.specs.Standing.{Stood};
 ghost use Rattle.capture_log.specs.Log.{noted};
 ghost use Rattle.bridge_engine.specs.Notes.{AreFrom, IfHeard, IsReporting, Takes, total, weight, weights};
@@ -13,7 +15,13 @@ use issue_periods::Assembly;
 use nav_io::{Failed, Sink};
 
 // Writes a line of the report, by one write.
-fn write_line<U: Sink>(line: &[u8], report: &mut U) -> Result<(), BridgeFault> {
+fn write_line<U: Sink>(line: &[u8], report: &mut U) -> Result<(), BridgeFault>
+    ensures text { OnOk result
+        (Appends (U.written report.old) (U.written report.new) line.now) }
+    ensures part { OnErr result
+        (AppendsFront (U.written report.old) (U.written report.new) line.now) }
+    ensures cause { IsReporting (U.faults report.old) (U.faults report.new) result }
+{
     match report.write(line) {
         Ok(()) => Ok(()),
         Err(Failed) => Err(BridgeFault::ReportFault),
