@@ -1,3 +1,2 @@
 pub mod Job
-pub mod Line
-pub mod Run
+pub mod CaptureJobs

@@ -12,13 +12,20 @@ use std::io::ErrorKind;
 use std::process::ExitCode;
 
 #[cfg(test)]
+mod bits;
+#[cfg(test)]
 mod capture_tests;
+mod capture_words;
+#[cfg(test)]
+mod failures;
 mod laws;
-mod line;
-mod run;
+#[cfg(test)]
+mod rows;
 mod statuses;
 #[cfg(test)]
 mod tests;
+#[cfg(test)]
+mod texts;
 mod words;
 
 // No memory for the list of words.

@@ -1,7 +1,7 @@
 //! Whole jobs over memory: what they write, and their statuses.
 
-use crate::run::{BridgeFault, FrameCounts, run_frames};
 use crate::statuses::bridge;
+use bridge_engine::{BridgeFault, FrameCounts, run_frames};
 use nav_io::{MemSink, MemSource};
 use std::alloc::{AllocError, Global};
 use std::test::Fail;

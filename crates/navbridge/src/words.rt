@@ -32,10 +32,10 @@ pub fn job_of(words: &[String]) -> Option<Job>
 
 // The option that some words begin with, and the words after it.
 #[derive(Clone, Copy)]
-struct Front<'a> {
-    name: &'a [u8],
-    value: &'a [u8],
-    rest: &'a [String],
+pub(crate) struct Front<'a> {
+    pub(crate) name: &'a [u8],
+    pub(crate) value: &'a [u8],
+    pub(crate) rest: &'a [String],
 }
 
 // Whether these are the options of the job from a stream to frames, in this order.
@@ -54,7 +54,7 @@ fn is_option(option: &Front, name: &[u8], value: &[u8]) -> bool
 }
 
 // The option that the words begin with, where they begin with one.
-fn first_option(words: &[String]) -> Option<Front<'_>>
+pub(crate) fn first_option(words: &[String]) -> Option<Front<'_>>
     ensures { MatchOption result
         ((option : Choice) (rest : List (List ℕ)) → ¬ Begins (map string_bytes words.now) option rest)
         (λ front. Begins (map string_bytes words.now) (choice front.name.now front.value.now)

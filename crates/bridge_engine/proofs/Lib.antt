@@ -1,0 +1,5 @@
+mod Breakings
+mod Feeding
+mod Goings
+mod Numbers
+mod SoFar

@@ -1,0 +1,119 @@
+-- A capture while it is read, behind its first line. Private functions cite these.
+use Rattle.std.specs.Prelude.{◌≡◌, ℕ, ◌+◌, ◌*◌, ◌^◌, ◌<◌, ◌≤◌, ◌⊎◌, true, List, [], ◌∷◌, ◌++◌, length, Option, Some, None, Result, Ok, Err}
+use Rattle.std.specs.Io.KnownBytes.{Appends}
+use Rattle.nav_io.specs.Causes.{Rose}
+use Rattle.nav_io.specs.Front.{AppendsFront}
+use Rattle.nav_io.specs.Lines.{Line}
+use Rattle.nav_io.specs.LinesState.{LinesState, Reads, GivesLine, GivesEnd, BreaksRead, BreaksLong}
+use Rattle.nav_io.specs.declared.lines.LineFault.{LineFault}
+use Rattle.nav_io.specs.declared.lines.LineFault.TheVariants as lines
+use Rattle.inav_page.specs.Keeping.{Keeping}
+use Rattle.issue_periods.specs.Standing.{Standing}
+use Rattle.period_items.specs.PeriodsOf.{periods_of, closed_of}
+use Rattle.capture_log.specs.Events.{nothing_known}
+use Rattle.capture_log.specs.Log.{items_of, known_from, log_of, mark_after, parts_of}
+use Rattle.bridge_engine.specs.declared.target.CaptureTo.{CaptureTo}
+use Rattle.bridge_engine.specs.declared.counts.Tally.{Tally}
+use Rattle.bridge_engine.specs.declared.counts.Said.{Said}
+use Rattle.bridge_engine.specs.declared.fault.BridgeFault.{BridgeFault}
+use Rattle.bridge_engine.specs.declared.fault.BridgeFault.TheVariants.{ReadFault, WriteFault, ReportFault, TooLong, NoMemory, NotThisForm}
+use Rattle.bridge_engine.specs.Captures.{accepted_line, texts_of}
+use Rattle.bridge_engine.specs.declared.accept.Accepted.{Accepted}
+use Rattle.bridge_engine.specs.Notes.{KeepsHalves, line_report, tallied, total}
+use Rattle.bridge_engine.specs.Runs.{AppendsBetween}
+use Rattle.bridge_engine.specs.Settled.{Settled, said_of}
+
+-- nothing was counted
+abbrev pub no_tally : Tally
+no_tally = record { malformed = 0; late = 0; refused = 0; unused = 0 }
+
+-- what is kept, counted and known of the lines so far
+pub record Counted (window : ℕ) (lines : List Line) (keeping : Keeping) (tally : Tally) (greatest : ℕ) : Type 0 where
+  pub keeps : KeepsHalves keeping window (known_from window nothing_known (items_of lines))
+  pub greatest_is : greatest ≡ (known_from window nothing_known (items_of lines)).greatest
+  pub counts : tally ≡ tallied no_tally (log_of window lines)
+  pub few : length keeping.kept ≤ length lines
+  pub room : 2 * total tally ≤ length lines * (length lines + 3)
+
+-- Of these lines the parts were taken, what they bring was reported and counted, and what is closed at their mark was written.
+pub record Follows (now : Standing → Type 0) (r window : ℕ) (to : CaptureTo) (lines : List Line) (start written reported reported_new : Option (List ℕ)) (keeping : Keeping) (tally : Tally) (said : Said) (greatest : ℕ) : Type 0 where
+  pub settled : Settled now r window to (parts_of window lines) (mark_after window lines) start written said
+  pub report : Appends reported reported_new (line_report (log_of window lines))
+  pub counted : Counted window lines keeping tally greatest
+
+-- All lines were given and taken, all periods were written, and all that they bring was reported and counted.
+pub record FollowsAll (r window : ℕ) (to : CaptureTo) (left left_new : Option (List ℕ)) (old new : LinesState) (start written reported reported_new : Option (List ℕ)) (tally : Tally) (said : Said) : Type 0 where
+  pub given : List Line
+  pub reads : Reads left left_new old new given
+  pub rest : new.rest ≡ []
+  pub ended : new.ended ≡ true
+  pub low : new.taken < 2 ^ 32
+  pub number : new.number ≡ old.number + length given
+  pub text : Appends start written (texts_of to (periods_of r window (parts_of window given)))
+  pub report : Appends reported reported_new (line_report (log_of window given))
+  pub counts : tally ≡ tallied no_tally (log_of window given)
+  pub verdicts : said ≡ said_of (periods_of r window (parts_of window given))
+
+-- The lines that were given were taken, and what is closed by them was written; then the input broke off.
+pub record FollowsEnded (r window : ℕ) (to : CaptureTo) (left left_new : Option (List ℕ)) (old new : LinesState) (start written reported reported_new : Option (List ℕ)) : Type 0 where
+  pub given : List Line
+  pub reads : Reads left left_new old new given
+  pub text : Appends start written (texts_of to (closed_of r window (mark_after window given) (parts_of window given)))
+  pub report : Appends reported reported_new (line_report (log_of window given))
+
+-- The lines that were given were taken but for the last, or all of them at the end; of that what is closed was written, and a front of what is closed by all lines and
+-- whatever may follow them.
+pub record FollowsPart (r window : ℕ) (to : CaptureTo) (left left_new : Option (List ℕ)) (old new : LinesState) (start written reported reported_new : Option (List ℕ)) : Type 0 where
+  pub given : List Line
+  pub last : List Line
+  pub few : length last ≤ 1
+  pub reads : Reads left left_new old new (given ++ last)
+  pub held : length new.rest ≤ 4096
+  pub text : AppendsBetween start written (texts_of to (closed_of r window (mark_after window given) (parts_of window given)))
+      (texts_of to (periods_of r window (parts_of window (given ++ last))))
+  pub report : AppendsFront reported reported_new (line_report (log_of window (given ++ last)))
+
+-- How following ends: by a fault of the input, exactly what is closed by the lines given was written; by every other one a front.
+abbrev pub FollowsBroken : ℕ → ℕ → CaptureTo → Option (List ℕ) → Option (List ℕ) → LinesState → LinesState → Option (List ℕ) → Option (List ℕ) → Option (List ℕ) → Option (List ℕ) → BridgeFault → Type 0
+FollowsBroken r window to left left_new old new start written reported reported_new ReadFault = FollowsEnded r window to left left_new old new start written reported reported_new
+FollowsBroken r window to left left_new old new start written reported reported_new TooLong =
+    (new.taken ≡ 2 ^ 32) × FollowsEnded r window to left left_new old new start written reported reported_new
+FollowsBroken r window to left left_new old new start written reported reported_new NotThisForm = ⊥
+FollowsBroken r window to left left_new old new start written reported reported_new fault = FollowsPart r window to left left_new old new start written reported reported_new
+
+-- the counts of faults that a run may raise, and that none rose where it is done
+pub record Faults : Type 0 where
+  pub input : ℕ
+  pub output : ℕ
+  pub report : ℕ
+
+-- each fault has its cause
+abbrev pub HasItsCause : {T : Type 0} → Faults → Faults → Result T BridgeFault → Type 0
+HasItsCause before now (Ok x) = now ≡ before
+HasItsCause before now (Err ReadFault) = Rose before.input now.input
+HasItsCause before now (Err WriteFault) = Rose before.output now.output
+HasItsCause before now (Err ReportFault) = Rose before.report now.report
+HasItsCause before now (Err fault) = Unit {0}
+
+-- the three counts
+abbrev pub faults_of : ℕ → ℕ → ℕ → Faults
+faults_of input output report = record { input = input; output = output; report = report }
+
+-- the fault of a run whose lines broke off so
+abbrev pub fault_by : LineFault → BridgeFault
+fault_by lines.ReadFault = ReadFault
+fault_by lines.TooLong = TooLong
+
+-- the first line was given, and it is accepted
+pub record GivesHead (week : Option ℕ) (left left_new : Option (List ℕ)) (old new : LinesState) (head : Accepted) : Type 0 where
+  pub line : Line
+  pub gives : GivesLine left left_new old new line
+  pub accepted : accepted_line week line ≡ Some head
+
+-- it was given and is not accepted, or the input has none, or breaks off in it
+abbrev pub GivesNoHead : Option ℕ → Option (List ℕ) → Option (List ℕ) → LinesState → LinesState → BridgeFault → Type 0
+GivesNoHead week left left_new old new NotThisForm =
+    ((line : Line) × GivesLine left left_new old new line × (accepted_line week line ≡ None)) ⊎ GivesEnd left left_new old new
+GivesNoHead week left left_new old new ReadFault = BreaksRead left left_new old new
+GivesNoHead week left left_new old new TooLong = BreaksLong left left_new old new
+GivesNoHead week left left_new old new _ = ⊥

@@ -1,0 +1,43 @@
+-- What a run over a stream of frames takes and writes. A run writes something for each frame: `line` says what.
+use Rattle.std.specs.Prelude.{◌≡◌, ◌+◌, ◌^◌, ◌<◌, ℕ, Bool, false, List, [], ◌++◌, length, Option}
+use Rattle.std.specs.List.{flat_map}
+use Rattle.std.specs.Io.KnownBytes.{Appends, Consumes, IsAtEnd}
+use Rattle.nav_io.specs.Front.{AppendsFront}
+use Rattle.rtcm_frame.specs.Frames.{frames}
+use Rattle.bridge_engine.specs.declared.fault.BridgeFault.{BridgeFault}
+use Rattle.bridge_engine.specs.declared.fault.BridgeFault.TheVariants.{TooLong}
+
+-- the lines of these frames
+abbrev pub text_of : (List ℕ → List ℕ) → List (List ℕ) → List ℕ
+text_of line all = flat_map line all
+
+-- a line for each frame of the bytes
+abbrev pub output_of : (List ℕ → List ℕ) → List ℕ → List ℕ
+output_of line bytes = text_of line (frames bytes)
+
+-- The run took these bytes, up to the end, and wrote a line for each frame.
+pub record RunsWhole (line : List ℕ → List ℕ) (left left_new written written_new : Option (List ℕ)) (count : ℕ) : Type 0 where
+  pub taken : List ℕ
+  pub consumes : Consumes left left_new taken
+  pub end : IsAtEnd left_new
+  pub text : Appends written written_new (output_of line taken)
+  pub counts : count ≡ length (frames taken)
+  pub fits : length taken < 2 ^ 32
+
+-- The run took these bytes, and wrote a front of their lines.
+pub record RunsPart (line : List ℕ → List ℕ) (left left_new written written_new : Option (List ℕ)) (fault : BridgeFault) : Type 0 where
+  pub taken : List ℕ
+  pub consumes : Consumes left left_new taken
+  pub text : AppendsFront written written_new (output_of line taken)
+  pub too_long : fault ≡ TooLong → length taken ≡ 2 ^ 32
+
+-- Between two rests: frames were given, and their lines written, which stand before those of the new rest, whatever bytes follow.
+pub record Goes (line : List ℕ → List ℕ) (more : Bool) (before after : List ℕ) (old new : Option (List ℕ)) (count counted : ℕ) : Type 0 where
+  pub given : List (List ℕ)
+  pub stream : (following : List ℕ) → (more ≡ false → following ≡ []) → frames (before ++ following) ≡ given ++ frames (after ++ following)
+  pub text : Appends old new (text_of line given)
+  pub counts : counted ≡ count + length given
+
+-- A write failed: whatever bytes follow, a front of the lines was written.
+pub record Breaks (line : List ℕ → List ℕ) (more : Bool) (before : List ℕ) (old new : Option (List ℕ)) : Type 0 where
+  pub text : (following : List ℕ) → (more ≡ false → following ≡ []) → AppendsFront old new (output_of line (before ++ following))

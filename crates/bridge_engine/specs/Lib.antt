@@ -1,0 +1,11 @@
+pub mod FrameLines
+pub mod FrameRuns
+pub mod Wanted
+pub mod Texts
+pub mod Reports
+pub mod ItemTexts
+pub mod Captures
+pub mod Runs
+pub mod Notes
+pub mod Settled
+pub mod Follows

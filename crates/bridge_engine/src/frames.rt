@@ -1,0 +1,180 @@
+//! The run over a stream: each frame of the input gives a line of the output.
+
+ghost use Rattle.std.specs.Prelude.{◌≡◌, ◌≢◌, ◌+◌, ◌^◌, ◌<◌, ◌≤◌, ◌⊎◌, [], ◌∷◌, ◌++◌, true, not, length, take, IsTrue, IsOk, IsErr, IfOk, IfErr, IfSome, OnOk, OnErr, IsErrOf};
+ghost use Rattle.std.specs.Io.KnownBytes.{Appends, Consumes, IsAtEnd, Keeps};
+ghost use Rattle.nav_io.specs.Causes.{HasCause, Rose};
+ghost use Rattle.rtcm_frame.specs.State.{IsSettled, IsWaiting};
+ghost use Rattle.bridge_engine.specs.FrameLines.{line_of};
+ghost use Rattle.bridge_engine.specs.FrameRuns.{output_of, RunsWhole, RunsPart, Goes, Breaks};
+
+use crate::fault::BridgeFault;
+use crate::line::frame_line;
+use nav_io::{Failed, Sink, Source};
+use rtcm_frame::Deframer;
+
+// How many bytes a run takes at most.
+const MOST: u64 = 4_294_967_295;
+
+// How many bytes are asked for at once.
+const PIECE: usize = 16_384;
+
+/// What a run over the frames of a stream counts.
+#[derive(Clone, Copy, Debug, PartialEq, Eq)]
+pub struct FrameCounts {
+    /// The frames of the input.
+    pub frames: u64,
+}
+
+/// Reads a stream to its end, and writes a line for each frame: [`frame_line`] says which.
+///
+/// The frames are those of RTCM 10403.3, section 4, whatever bytes stand between them. The answer is
+/// one of the faults `ReadFault`, `WriteFault` and `TooLong`, or the count of the frames. After a
+/// fault the output has a front of the lines of the bytes that were taken.
+pub fn run_frames<S: Source, T: Sink>(
+    input: &mut S,
+    output: &mut T,
+) -> Result<FrameCounts, BridgeFault>
+    ensures text { OnOk result (IfSome (S.left input.old) (λ bytes.
+        Appends (T.written output.old) (T.written output.new) (output_of line_of bytes))) }
+    ensures whole { IfOk result (λ counts. RunsWhole line_of (S.left input.old) (S.left input.new)
+        (T.written output.old) (T.written output.new) counts.frames) }
+    ensures part { IfErr result (λ fault. RunsPart line_of (S.left input.old) (S.left input.new)
+        (T.written output.old) (T.written output.new) fault) }
+
+    // Which faults are answered, and when.
+    ensures faults { IfErr result (λ fault. (fault ≡ BridgeFault.ReadFault)
+        ⊎ ((fault ≡ BridgeFault.WriteFault) ⊎ (fault ≡ BridgeFault.TooLong))) }
+    ensures read { IsErrOf result BridgeFault.ReadFault
+        → Rose (S.faults input.old) (S.faults input.new) }
+    ensures write { IsErrOf result BridgeFault.WriteFault
+        → Rose (T.faults output.old) (T.faults output.new) }
+    ensures never { IsTrue (S.never_fails input.old) → ¬ IsErrOf result BridgeFault.ReadFault }
+    ensures long { IfSome (S.left input.old) (λ bytes. 2 ^ 32 ≤ length bytes → IsErr result) }
+
+    // A run is done where nothing fails, and one that is done met no fault.
+    ensures complete { IfSome (S.left input.old) (λ bytes. length bytes < 2 ^ 32
+        → ¬ Rose (S.faults input.old) (S.faults input.new)
+        → ¬ Rose (T.faults output.old) (T.faults output.new) → IsOk result) }
+    ensures no_fault { OnOk result ((S.faults input.new ≡ S.faults input.old)
+        × (T.faults output.new ≡ T.faults output.old)) }
+{
+    let mut deframer = Deframer::new();
+    let mut buffer = [0; PIECE];
+    let mut taken = 0;
+    let mut frames = 0;
+    while taken <= MOST {
+        // One byte more than the most is asked for, so that its presence shows.
+        let most = (MOST - taken + 1).min(PIECE as u64) as usize;
+        match read_piece(input, &mut buffer, most) {
+            Err(Failed) => return Err(BridgeFault::ReadFault),
+            Ok(0) => {
+                deframer.finish();
+                return match take_frames(&mut deframer, output, &mut frames) {
+                    Ok(()) => Ok(FrameCounts { frames }),
+                    Err(Failed) => Err(BridgeFault::WriteFault),
+                };
+            }
+            Ok(count) => {
+                taken += count as u64;
+                match take_piece(&mut deframer, &buffer[..count], output, &mut frames) {
+                    Ok(()) => {}
+                    Err(Failed) => return Err(BridgeFault::WriteFault),
+                }
+            }
+        }
+    }
+    Err(BridgeFault::TooLong)
+}
+
+// Reads at most so many bytes into the front of the buffer.
+fn read_piece<S: Source>(input: &mut S, buffer: &mut [u8], most: usize) -> Result<usize, Failed>
+    requires some { 0 < most }
+    requires room { most ≤ length buffer.old }
+    ensures most { IfOk result (λ count. count ≤ most) }
+    ensures held { IfOk result (λ count. length (take count buffer.new) ≡ count) }
+    ensures bytes { IfOk result (λ count.
+        Consumes (S.left input.old) (S.left input.new) (take count buffer.new)) }
+    ensures end { IfOk result (λ count. count ≡ 0 → IsAtEnd (S.left input.new)) }
+    ensures err { OnErr result (Keeps (S.left input.old) (S.left input.new)) }
+    ensures cause { HasCause (S.faults input.old) (S.faults input.new) result }
+    ensures never { IsTrue (S.never_fails input.old)
+        → IsOk result × IsTrue (S.never_fails input.new) }
+{
+    input.read(&mut buffer[..most])
+}
+
+// Feeds a piece, and writes the lines of the frames that it decides.
+fn take_piece<T: Sink>(
+    deframer: &mut Deframer,
+    piece: &[u8],
+    output: &mut T,
+    frames: &mut u64,
+) -> Result<(), Failed>
+    requires settled { IsSettled deframer.old }
+    requires room { frames.old + length deframer.old.rest + length piece.now < 2 ^ 64 }
+    ensures goes { OnOk result (Goes line_of true (deframer.old.rest ++ piece.now) deframer.new.rest
+        (T.written output.old) (T.written output.new) frames.old frames.new) }
+    ensures settled { OnOk result (IsSettled deframer.new) }
+    ensures room { OnOk result (frames.new + length deframer.new.rest
+        ≤ frames.old + length deframer.old.rest + length piece.now) }
+    ensures breaks { OnErr result (Breaks line_of true (deframer.old.rest ++ piece.now)
+        (T.written output.old) (T.written output.new)) }
+    ensures cause { HasCause (T.faults output.old) (T.faults output.new) result }
+{
+    let mut fed = 0;
+    while fed < piece.len() {
+        fed += take_some(deframer, &piece[fed..], output, frames)?;
+    }
+    Ok(())
+}
+
+// Feeds what there is room for, and writes the lines of the frames that it decides; how many bytes were fed.
+fn take_some<T: Sink>(
+    deframer: &mut Deframer,
+    piece: &[u8],
+    output: &mut T,
+    frames: &mut u64,
+) -> Result<usize, Failed>
+    requires settled { IsSettled deframer.old }
+    requires some { 0 < length piece.now }
+    requires room { frames.old + length deframer.old.rest + length piece.now < 2 ^ 64 }
+    ensures some { IfOk result (λ count. 0 < count) }
+    ensures within { IfOk result (λ count. count ≤ length piece.now) }
+    ensures goes { IfOk result (λ count. Goes line_of true (deframer.old.rest ++ take count piece.now)
+        deframer.new.rest (T.written output.old) (T.written output.new) frames.old frames.new) }
+    ensures settled { OnOk result (IsSettled deframer.new) }
+    ensures room { IfOk result (λ count. frames.new + length deframer.new.rest
+        ≤ frames.old + length deframer.old.rest + count) }
+    ensures breaks { OnErr result (Breaks line_of true (deframer.old.rest ++ piece.now)
+        (T.written output.old) (T.written output.new)) }
+    ensures cause { HasCause (T.faults output.old) (T.faults output.new) result }
+{
+    let count = deframer.feed_some(piece);
+    take_frames(deframer, output, frames)?;
+    Ok(count)
+}
+
+// Writes the lines of the frames that are decided.
+fn take_frames<T: Sink>(
+    deframer: &mut Deframer,
+    output: &mut T,
+    frames: &mut u64,
+) -> Result<(), Failed>
+    requires { frames.old + length deframer.old.rest < 2 ^ 64 }
+    ensures goes { OnOk result (Goes line_of (not deframer.old.finished) deframer.old.rest
+        deframer.new.rest (T.written output.old) (T.written output.new) frames.old frames.new) }
+    ensures waiting { OnOk result (IsWaiting deframer.new.rest) }
+    ensures last { OnOk result (deframer.old.finished ≡ true → deframer.new.rest ≡ []) }
+    ensures finished { deframer.new.finished ≡ deframer.old.finished }
+    ensures room { OnOk result (frames.new + length deframer.new.rest
+        ≤ frames.old + length deframer.old.rest) }
+    ensures breaks { OnErr result (Breaks line_of (not deframer.old.finished) deframer.old.rest
+        (T.written output.old) (T.written output.new)) }
+    ensures cause { HasCause (T.faults output.old) (T.faults output.new) result }
+{
+    while let Some(frame) = deframer.next_frame() {
+        output.write(frame_line(&frame).as_slice())?;
+        *frames += 1;
+    }
+    Ok(())
+}

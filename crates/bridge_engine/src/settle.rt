@@ -1,0 +1,61 @@
+//! Writing what is closed.
+
+ghost use Rattle.std.specs.Prelude.{◌≡◌, ◌+◌, ◌^◌, ◌<◌, ◌≤◌, ℕ, List, Option, length, OnOk, OnErr};
+ghost use Rattle.nav_eph.specs.declared.part.Part.{Part};
+ghost use Rattle.period_items.specs.PeriodsOf.{closed_of, periods_of};
+ghost use Rattle.issue_periods.specs.Standing.{Stood};
+ghost use Rattle.bridge_engine.specs.Captures.{texts_of};
+ghost use Rattle.bridge_engine.specs.Runs.{AppendsBetween};
+ghost use Rattle.bridge_engine.specs.Settled.{IsWriting, Settled, total_said};
+
+use crate::counts::Said;
+use crate::fault::BridgeFault;
+use crate::outlet::Outlet;
+use issue_periods::Assembly;
+use nav_io::Sink;
+
+// Writes each period that is closed at the mark and was not written yet, and counts what is said of it.
+pub(crate) fn write_closed<A: Assembly, O: Outlet, T: Sink>(
+    outlet: &O,
+    assembly: &mut A,
+    mark: u64,
+    output: &mut T,
+    said: &mut Said,
+) -> Result<(), BridgeFault>
+    requires stood { Stood (A.stands_for assembly.old) (λ at. at.mark ≤ mark) }
+    requires room { (parts : List Part) (before : ℕ) (start : Option (List ℕ))
+        → Settled (A.stands_for assembly.old) (A.reference assembly.old) (A.window assembly.old)
+        (O.target outlet.now) parts before start (T.written output.old) said.old
+        → length (periods_of (A.reference assembly.old) (A.window assembly.old) parts) < 2 ^ 64 }
+    ensures reference { A.reference assembly.new ≡ A.reference assembly.old }
+    ensures window { A.window assembly.new ≡ A.window assembly.old }
+    ensures ok { OnOk result ((parts : List Part) (before : ℕ) (start : Option (List ℕ))
+        → before ≤ mark
+        → Settled (A.stands_for assembly.old) (A.reference assembly.old) (A.window assembly.old)
+        (O.target outlet.now) parts before start (T.written output.old) said.old
+        → Settled (A.stands_for assembly.new) (A.reference assembly.old) (A.window assembly.old)
+        (O.target outlet.now) parts mark start (T.written output.new) said.new) }
+    ensures err { OnErr result ((parts : List Part) (before : ℕ) (start : Option (List ℕ))
+        → before ≤ mark
+        → Settled (A.stands_for assembly.old) (A.reference assembly.old) (A.window assembly.old)
+        (O.target outlet.now) parts before start (T.written output.old) said.old
+        → AppendsBetween start (T.written output.new)
+        (texts_of (O.target outlet.now)
+        (closed_of (A.reference assembly.old) (A.window assembly.old) before parts))
+        (texts_of (O.target outlet.now)
+        (closed_of (A.reference assembly.old) (A.window assembly.old) mark parts))) }
+    ensures cause { IsWriting (T.faults output.old) (T.faults output.new) result }
+{
+    'giving: loop {
+        match assembly.next_closed(mark) {
+            Ok(Some(closed)) => {
+                if outlet.put(&closed, output).is_err() {
+                    return Err(BridgeFault::WriteFault);
+                }
+                said.count(&closed.verdict);
+            }
+            Ok(None) => return Ok(()),
+            Err(_) => return Err(BridgeFault::NoMemory),
+        }
+    }
+}

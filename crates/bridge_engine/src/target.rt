@@ -1,0 +1,14 @@
+use rinex_write::HeaderWords;
+
+/// What a capture is converted to.
+#[derive(Clone, Copy, PartialEq, Eq, Debug)]
+pub enum CaptureTo {
+    /// A navigation file (RINEX 4.01), whose header says these words.
+    Rinex(HeaderWords),
+    /// A frame for each ephemeris, of message 1019 or 1046 (RTCM 10403.3).
+    Rtcm,
+    /// A line for each period.
+    ToList,
+    /// The counts.
+    Count,
+}

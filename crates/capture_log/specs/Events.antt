@@ -1,0 +1,150 @@
+-- What one more line brings, when it is known what came before: that it is malformed or late, or what a reader makes of it.
+use Rattle.std.specs.Prelude.{ℕ, ◌+◌, ◌&&◌, Bool, nat_eq, nat_lt, max, if◌then◌else◌, List, [], ◌∷◌, length, Option, None, Some, unwrap_or, Result, Ok, Err}
+use Rattle.std.specs.List.{flat_map}
+use Rattle.nav_bits.specs.Bits.{number_at}
+use Rattle.nav_io.specs.Lines.{Line}
+use Rattle.nav_eph.specs.Satellite.{Satellite}
+use Rattle.nav_eph.specs.declared.part.Part.{Part}
+use Rattle.lnav_subframe.specs.declared.fault.LnavFault.{LnavFault}
+use Rattle.lnav_subframe.specs.declared.fault.LnavFault.TheVariants as subframes
+use Rattle.inav_page.specs.declared.signal.Signal.{Signal}
+use Rattle.inav_page.specs.Pages.{kept_of, kind_of}
+use Rattle.inav_page.specs.Heard.{StampedHalf, stamp_by}
+use Rattle.inav_page.specs.Keeping.{stamped}
+use Rattle.inav_word.specs.Reading.{reading_of}
+use Rattle.inav_word.specs.declared.parts.WordParts.{WordParts}
+use Rattle.inav_word.specs.declared.fault.WordFault.{WordFault}
+use Rattle.inav_word.specs.declared.fault.WordFault.TheVariants as words
+use Rattle.rtcm_frame.specs.Frames.{frame_size}
+use Rattle.rtcm_frame.specs.State.{payload_of}
+use Rattle.rtcm_eph.specs.Reading.{content_of, parts_of}
+use Rattle.rtcm_eph.specs.declared.fault.MessageFault.{MessageFault}
+use Rattle.rtcm_eph.specs.declared.fault.MessageFault.TheVariants as messages
+use Rattle.rtcm_eph.specs.declared.read.MessageParts.{MessageParts}
+use Rattle.rtcm_eph.specs.declared.read.MessageParts.TheVariants.{Gps as GpsParts, Gal as GalParts}
+use Rattle.capture_lines.specs.Late.{stamp_of}
+use Rattle.capture_lines.specs.Reading.{item_of}
+use Rattle.capture_lines.specs.declared.item.LineItem.{LineItem}
+use Rattle.capture_lines.specs.declared.item.LineItem.TheVariants.{Pass, Lnav, Half, Frame, Malformed as MalformedItem}
+use Rattle.capture_log.specs.Wanted.{subframe_of, words_of, has_half}
+use Rattle.capture_log.specs.declared.event.Refusal.TheVariants as refusals
+use Rattle.capture_log.specs.declared.event.Event.{Event}
+use Rattle.capture_log.specs.declared.event.Event.TheVariants.{Heard, Malformed, Late, Refused, Unused}
+
+-- what the reading of a subframe brings: its part, or why it is refused; another subframe or page is not used
+abbrev pub of_subframe : Result Part LnavFault → Event
+of_subframe (Ok part) = Heard part
+of_subframe (Err subframes.Preamble) = Refused refusals.Preamble
+of_subframe (Err (subframes.Parity word)) = Refused (refusals.Parity word)
+of_subframe (Err subframes.BadTow) = Refused refusals.Tow
+of_subframe (Err (subframes.Unused number page)) = Unused
+of_subframe (Err subframes.BadTime) = Refused refusals.Time
+
+-- how a word is refused, or that it is not used
+abbrev pub of_word_fault : WordFault → Event
+of_word_fault (words.OtherWord number) = Unused
+of_word_fault words.WrongSat = Refused refusals.Satellite
+of_word_fault words.BadTime = Refused refusals.Time
+of_word_fault words.SpareSisa = Refused refusals.Sisa
+
+-- the second part of a word, where there is one
+abbrev pub of_second : Option Part → List Event
+of_second None = []
+of_second (Some part) = Heard part ∷ []
+
+-- what the reading of a word brings: its one part or its two, in their order
+abbrev pub of_word : Result WordParts WordFault → List Event
+of_word (Ok parts) = Heard parts.first ∷ of_second parts.second
+of_word (Err fault) = of_word_fault fault ∷ []
+
+-- how a message is refused, or that it is not used
+abbrev pub of_message_fault : MessageFault → Event
+of_message_fault messages.NoNumber = Unused
+of_message_fault (messages.OtherMessage number) = Unused
+of_message_fault messages.Short = Refused refusals.Short
+of_message_fault messages.BadSat = Refused refusals.Satellite
+of_message_fault messages.BadTime = Refused refusals.Time
+of_message_fault messages.SpareSisa = Refused refusals.Sisa
+
+-- what the reading of a message brings: the parts of its ephemeris
+abbrev pub of_message : Result MessageParts MessageFault → List Event
+of_message (Ok (GpsParts clock a b)) = Heard clock ∷ Heard a ∷ Heard b ∷ []
+of_message (Ok (GalParts w1 w2 w3 w4 health)) = Heard w1 ∷ Heard w2 ∷ Heard w3 ∷ Heard w4 ∷ Heard health ∷ []
+of_message (Err fault) = of_message_fault fault ∷ []
+
+-- the bytes are one whole frame of right checksum and nothing else
+abbrev pub is_frame : List ℕ → Bool
+is_frame bytes = nat_lt 0 (length bytes) && nat_eq (frame_size bytes) (length bytes)
+
+-- what the bytes of a frame bring
+unfoldable pub of_frame : ℕ → List ℕ → List Event
+of_frame stamp bytes =
+    if is_frame bytes then of_message (parts_of stamp (content_of (payload_of bytes))) else Refused refusals.Frame ∷ []
+
+-- a page half as it was received: its kept bits, with its stamp, satellite and signal
+abbrev pub half_of : ℕ → Satellite → Signal → List ℕ → StampedHalf
+half_of stamp sat signal bits = stamped stamp sat signal (kept_of (number_at bits 0 120))
+
+-- its page type says alert
+abbrev pub is_alert : List ℕ → Bool
+is_alert bits = nat_eq (number_at bits 1 1) 1
+
+-- what the words of a half bring, each heard at the second of its odd part
+abbrev pub of_words : StampedHalf → List (List ℕ) → List Event
+of_words half words = flat_map (λ word. of_word (reading_of word half.sat (stamp_by (kind_of half.half) half.stamp))) words
+
+-- the words that a half makes with those that came before it; none where it came already
+abbrev pub new_words : List StampedHalf → StampedHalf → List (List ℕ)
+new_words before half = if has_half before half then [] else words_of before half
+
+-- what a half brings: an alert is not used
+abbrev pub of_half : List StampedHalf → ℕ → Satellite → Signal → List ℕ → List Event
+of_half before stamp sat signal bits =
+    if is_alert bits then Unused ∷ []
+    else of_words (half_of stamp sat signal bits) (new_words before (half_of stamp sat signal bits))
+
+-- what the lines so far let one know: their greatest stamp, and the halves that were accepted, each once
+pub record Known : Type 0 where
+  pub greatest : ℕ
+  pub halves : List StampedHalf
+
+-- before the first line
+abbrev pub nothing_known : Known
+nothing_known = record { greatest = 0; halves = [] }
+
+-- the stamp lies behind the greatest by more than the window
+abbrev pub is_late : ℕ → Known → ℕ → Bool
+is_late window known stamp = nat_lt (stamp + window) known.greatest
+
+-- what one more item brings
+unfoldable pub events_of : ℕ → Known → LineItem → List Event
+events_of window known Pass = []
+events_of window known MalformedItem = Malformed ∷ []
+events_of window known (Lnav stamp sat bits) =
+    if is_late window known stamp then Late ∷ [] else of_subframe (subframe_of bits sat stamp) ∷ []
+events_of window known (Half stamp sat signal bits) =
+    if is_late window known stamp then Late ∷ [] else of_half known.halves stamp sat signal bits
+events_of window known (Frame stamp bytes) =
+    if is_late window known stamp then Late ∷ [] else of_frame stamp bytes.items
+
+-- a half more, each once
+abbrev pub with_half : List StampedHalf → StampedHalf → List StampedHalf
+with_half halves half = if has_half halves half then halves else half ∷ halves
+
+-- the accepted halves with one more item
+abbrev pub halves_with : ℕ → Known → LineItem → List StampedHalf
+halves_with window known (Half stamp sat signal bits) =
+    if is_late window known stamp then known.halves
+    else (if is_alert bits then known.halves else with_half known.halves (half_of stamp sat signal bits))
+halves_with window known _ = known.halves
+
+-- what is known with one more item
+unfoldable pub known_with : ℕ → Known → LineItem → Known
+known_with window known item = record {
+  greatest = max known.greatest (unwrap_or (stamp_of item) 0);
+  halves = halves_with window known item;
+}
+
+-- the item of a line; one of more than 2,200 bytes is malformed
+abbrev pub item_line : Line → LineItem
+item_line line = if line.long then MalformedItem else item_of line.text

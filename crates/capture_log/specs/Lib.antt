@@ -1,0 +1,4 @@
+pub mod Wanted
+pub mod Events
+pub mod Log
+pub mod Heard

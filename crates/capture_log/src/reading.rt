@@ -1,0 +1,50 @@
+//! What readers answer, as events.
+
+ghost use Rattle.std.specs.Prelude.{◌≡◌};
+ghost use Rattle.capture_log.specs.Events.{of_message_fault, of_subframe, of_word_fault};
+
+use crate::event::{Event, Refusal};
+use inav_word::WordFault;
+use lnav_subframe::LnavFault;
+use nav_eph::Part;
+use rtcm_eph::MessageFault;
+
+/// What the reading of a subframe brings: its part, why it is refused, or that it is not used.
+pub fn subframe_event(reading: Result<Part, LnavFault>) -> Event
+    ensures { result ≡ of_subframe reading }
+{
+    match reading {
+        Ok(part) => Event::Heard(part),
+        Err(LnavFault::Preamble) => Event::Refused(Refusal::Preamble),
+        Err(LnavFault::Parity { word }) => Event::Refused(Refusal::Parity { word }),
+        Err(LnavFault::BadTow) => Event::Refused(Refusal::Tow),
+        Err(LnavFault::Unused { number: _, page: _ }) => Event::Unused,
+        Err(LnavFault::BadTime) => Event::Refused(Refusal::Time),
+    }
+}
+
+/// How a word is refused, or that it is not used.
+pub fn word_event(fault: WordFault) -> Event
+    ensures { result ≡ of_word_fault fault }
+{
+    match fault {
+        WordFault::OtherWord { number: _ } => Event::Unused,
+        WordFault::WrongSat => Event::Refused(Refusal::Satellite),
+        WordFault::BadTime => Event::Refused(Refusal::Time),
+        WordFault::SpareSisa => Event::Refused(Refusal::Sisa),
+    }
+}
+
+/// How a message is refused, or that it is not used.
+pub fn message_event(fault: MessageFault) -> Event
+    ensures { result ≡ of_message_fault fault }
+{
+    match fault {
+        MessageFault::NoNumber => Event::Unused,
+        MessageFault::OtherMessage { number: _ } => Event::Unused,
+        MessageFault::Short => Event::Refused(Refusal::Short),
+        MessageFault::BadSat => Event::Refused(Refusal::Satellite),
+        MessageFault::BadTime => Event::Refused(Refusal::Time),
+        MessageFault::SpareSisa => Event::Refused(Refusal::Sisa),
+    }
+}
