@@ -2,3 +2,5 @@ pub mod Tables
 pub mod Heads
 pub mod Contents
 pub mod RoundTrip
+pub mod MessageBytes
+pub mod Items

@@ -4,7 +4,7 @@ use Rattle.std.proofs.lemmas.Bool.Decides.{leb_tells}
 use Rattle.nav_bits.specs.Bits.{bit, number_at}
 use Rattle.nav_bits.specs.Fields.{Field, unsigned, signed, reserved, StandFrom}
 use Rattle.nav_bits.specs.Laws.{bit-lt, number_at-lt}
-use Rattle.nav_bits.proofs.TwosComplement.{signed_of-same}
+use Rattle.nav_bits.proofs.Surface.{signed_of-same}
 
 -- what holds below and above a place holds at both
 joined : (P : ℕ → Type 0) (from middle end : ℕ) → ((i : ℕ) → from ≤ i → i < middle → P i)

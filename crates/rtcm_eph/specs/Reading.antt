@@ -1,7 +1,9 @@
 -- What the payload of a frame stands for as an ephemeris message, or the first of its faults.
-use Rattle.std.specs.Prelude.{◌≡◌, ℕ, ◌*◌, ◌&&◌, ◌||◌, Bool, List, length, nat_eq, nat_le, nat_lt, if◌then◌else◌, Result, Ok, Err}
+use Rattle.std.specs.Prelude.{◌≡◌, ℕ, ◌*◌, ◌&&◌, ◌||◌, Bool, List, [], ◌∷◌, length, nat_eq, nat_le, nat_lt, if◌then◌else◌, Result, Ok, Err}
 use Rattle.nav_bits.specs.Bits.{number_at}
+use Rattle.gnss_week.specs.Functions.{galileo_week_to, gps_week_to}
 use Rattle.gnss_week.specs.Weeks.{IsGpsWeek, IsGalileoWeek}
+use Rattle.nav_eph.specs.declared.part.Part.{Part}
 use Rattle.nav_eph.specs.Conditions.{IsPart}
 use Rattle.nav_eph.specs.declared.sat.System.TheVariants.{Gps, Gal}
 use Rattle.nav_eph.specs.declared.tag.SentTag.TheVariants.{Toe}
@@ -183,13 +185,33 @@ gal_eph c week = record {
 }
 
 -- a content gives an item near the reference week r: its week is the one that the message's number means
-abbrev pub IsItem : ℕ → Content → NavItem → Type 0
-IsItem r (OfGps c) (GpsItem e) = IsGpsWeek r c.week e.toe_week × (e ≡ gps_eph c e.toe_week)
-IsItem r (OfGal c) (GalItem e) = IsGalileoWeek r c.week e.toe_week × (e ≡ gal_eph c e.toe_week)
-IsItem _ _ _ = ⊥
+abbrev pub IsItemOf : ℕ → Content → NavItem → Type 0
+IsItemOf r (OfGps c) (GpsItem e) = IsGpsWeek r c.week e.toe_week × (e ≡ gps_eph c e.toe_week)
+IsItemOf r (OfGal c) (GalItem e) = IsGalileoWeek r c.week e.toe_week × (e ≡ gal_eph c e.toe_week)
+IsItemOf _ _ _ = ⊥
 
 -- what asking for the item of a content, or of its lack by a fault, answers
 abbrev pub GivesItem : ℕ → Result Content MessageFault → Result NavItem MessageFault → Type 0
-GivesItem r (Ok content) (Ok item) = IsItem r content item
+GivesItem r (Ok content) (Ok item) = IsItemOf r content item
 GivesItem r (Err fault) (Err answer) = answer ≡ fault
 GivesItem _ _ _ = ⊥
+
+-- ---- the same as functions
+
+-- the item of a content near the reference week r
+abbrev pub item_with : ℕ → Content → NavItem
+item_with r (OfGps c) = GpsItem (gps_eph c (gps_week_to r c.week))
+item_with r (OfGal c) = GalItem (gal_eph c (galileo_week_to r c.week))
+
+abbrev pub item_of : ℕ → Result Content MessageFault → Result NavItem MessageFault
+item_of r (Ok content) = Ok (item_with r content)
+item_of r (Err fault) = Err fault
+
+-- the item that a payload brings near the reference week r, or its first fault
+unfoldable pub item_in : ℕ → List ℕ → Result NavItem MessageFault
+item_in r payload = item_of r (content_of payload)
+
+-- the parts of a message as one list, in the order of an ephemeris
+abbrev pub all_parts : MessageParts → List Part
+all_parts (GpsParts clock a b) = clock ∷ a ∷ b ∷ []
+all_parts (GalParts w1 w2 w3 w4 health) = w1 ∷ w2 ∷ w3 ∷ w4 ∷ health ∷ []

@@ -1,5 +1,5 @@
 -- What the laws of the round trip take: ephemerides as they are, and bytes.
-use Rattle.std.specs.Prelude.{ℕ, ◌+◌, ◌-◌, ◌<◌, ◌≤◌, List, length, max, slice_index}
+use Rattle.std.specs.Prelude.{ℕ, ◌<◌, ◌≤◌, List, length, slice_index}
 use Rattle.nav_bits.specs.Fields.{StandFrom}
 use Rattle.nav_eph.specs.Items.{IsGalEph, IsGpsEph}
 use Rattle.nav_eph.specs.Satellite.{IsSat}
@@ -24,16 +24,6 @@ pub record IsGal (e : GalEph) : Type 0 where
   pub toe : IsStep60 e.w1.toe
   pub toc : IsStep60 e.w4.toc
   pub sisa : IsSisa e.w3.sisa
-
--- w is one of the 1024 weeks that ten digits tell apart near the week r
-pub record IsNearGps (r w : ℕ) : Type 0 where
-  pub from : r ≤ w + 512
-  pub to : w ≤ r + 511
-
--- w is one of the 4096 weeks that twelve digits of Galileo tell apart near the week r
-pub record IsNearGalileo (r w : ℕ) : Type 0 where
-  pub from : max 1024 (r - 2048) ≤ w
-  pub to : w ≤ max 1024 (r - 2048) + 4095
 
 -- each number of the list is a byte
 pub record AreBytes (bytes : List ℕ) : Type 0 where

@@ -1,7 +1,9 @@
 -- The messages that are sent for ephemerides.
-use Rattle.std.specs.Prelude.{◌+◌, ◌%◌}
+use Rattle.std.specs.Prelude.{ℕ, ◌+◌, ◌%◌, List}
+use Rattle.nav_bits.specs.Packed.{packed}
 use Rattle.nav_eph.specs.declared.items.GpsEph.{GpsEph}
 use Rattle.nav_eph.specs.declared.items.GalEph.{GalEph}
+use Rattle.rtcm_eph.specs.Messages.{fields_1019, fields_1046}
 use Rattle.rtcm_eph.specs.declared.message1019.Message1019.{Message1019}
 use Rattle.rtcm_eph.specs.declared.message1046.Message1046.{Message1046}
 
@@ -75,3 +77,11 @@ message_1046 e = record {
   hs_e1b = e.health.hs_e1b;
   dvs_e1b = e.health.dvs_e1b;
 }
+
+-- the 61 bytes of message 1019 for an ephemeris of GPS
+unfoldable pub bytes_1019 : GpsEph → List ℕ
+bytes_1019 e = packed 61 (fields_1019 (message_1019 e))
+
+-- the 63 bytes of message 1046 for an ephemeris of Galileo, the reserved bits being 0
+unfoldable pub bytes_1046 : GalEph → List ℕ
+bytes_1046 e = packed 63 (fields_1046 (message_1046 e))

@@ -1,6 +1,10 @@
-ghost use Rattle.std.specs.Prelude.{◌≡◌, ℕ, ◌<◌, List, length, take, Result, Ok};
+ghost use Rattle.std.specs.Prelude.{◌≡◌, ℕ, ◌<◌, ◌^◌, List, All, IfOk, length, take, Result, Ok};
 ghost use Rattle.nav_bits.specs.Bits.{bit, number_at};
 ghost use Rattle.nav_bits.specs.Fields.{StandFrom};
+ghost use Rattle.nav_bits.specs.Packed.{AreBytes as AreSoManyBytes, ZerosFrom};
+ghost use Rattle.nav_eph.specs.Conditions.{IsPart};
+ghost use Rattle.nav_eph.specs.Ranges.{HasGalRanges, HasGpsRanges, IsItem};
+ghost use Rattle.nav_eph.specs.Values.{IsPartValue};
 ghost use Rattle.nav_eph.specs.declared.items.GpsEph.{GpsEph};
 ghost use Rattle.nav_eph.specs.declared.items.GalEph.{GalEph};
 ghost use Rattle.nav_eph.specs.declared.items.NavItem.{NavItem};
@@ -10,8 +14,11 @@ ghost use Rattle.rtcm_eph.specs.declared.fault.MessageFault.{MessageFault};
 ghost use Rattle.rtcm_eph.specs.declared.message1019.Message1019.{Message1019};
 ghost use Rattle.rtcm_eph.specs.declared.message1046.Message1046.{Message1046};
 ghost use Rattle.rtcm_eph.specs.Messages.{fields_1019, fields_1046, message1019_at, message1046_at};
-ghost use Rattle.rtcm_eph.specs.Reading.{GivesItem, content_of};
-ghost use Rattle.rtcm_eph.specs.RoundTrip.{AreBytes, Begins1019, Begins1046, IsGal, IsGps, IsNearGalileo, IsNearGps};
+ghost use Rattle.rtcm_eph.specs.declared.read.MessageParts.{MessageParts};
+ghost use Rattle.rtcm_eph.specs.Reading.{GivesItem, all_parts, content_of, item_in, parts_of};
+ghost use Rattle.rtcm_eph.specs.Writing.{bytes_1019, bytes_1046, message_1019, message_1046};
+ghost use Rattle.rtcm_eph.specs.RoundTrip.{AreBytes, Begins1019, Begins1046, IsGal, IsGps};
+ghost use Rattle.gnss_week.specs.Weeks.{IsNearGalileo, IsNearGps, IsReference};
 
 /// The bits in which the table of message 1019 stands are those of one message: its fields by places.
 pub fn one_message_1019()
@@ -54,4 +61,48 @@ pub fn read_1046_is_sent()
     ensures { (e : GalEph) (payload sent : List ℕ) (r : ℕ) →
         GivesItem r (content_of payload) (Ok (Gal e)) → Begins1046 sent e →
         (i : ℕ) → i < 502 → bit payload i ≡ bit sent i }
+{}
+
+/// In the bytes of a message its table stands, and what is reserved is 0.
+pub fn message_bytes()
+    ensures fields_1019 { (e : GpsEph) → HasGpsRanges e →
+        StandFrom (bytes_1019 e) 0 0 (fields_1019 (message_1019 e)) }
+    ensures fields_1046 { (e : GalEph) → HasGalRanges e →
+        StandFrom (bytes_1046 e) 0 0 (fields_1046 (message_1046 e)) }
+    ensures zeros_1046 { (e : GalEph) → HasGalRanges e →
+        ZerosFrom (bytes_1046 e) 0 0 (fields_1046 (message_1046 e)) }
+    ensures size_1019 { (e : GpsEph) → AreSoManyBytes 61 (bytes_1019 e) }
+    ensures size_1046 { (e : GalEph) → AreSoManyBytes 63 (bytes_1046 e) }
+{}
+
+/// No other 61 or 63 bytes hold the table of a message with 0 in what is reserved.
+pub fn messages_are_the_functions()
+    ensures message_1019 { (e : GpsEph) (bits : List ℕ) → HasGpsRanges e → AreSoManyBytes 61 bits →
+        StandFrom bits 0 0 (fields_1019 (message_1019 e)) →
+        ZerosFrom bits 0 0 (fields_1019 (message_1019 e)) → bits ≡ bytes_1019 e }
+    ensures message_1046 { (e : GalEph) (bits : List ℕ) → HasGalRanges e → AreSoManyBytes 63 bits →
+        StandFrom bits 0 0 (fields_1046 (message_1046 e)) →
+        ZerosFrom bits 0 0 (fields_1046 (message_1046 e)) → bits ≡ bytes_1046 e }
+{}
+
+/// The answer to asking for the item of a payload is `item_in`, and an item that it gives fits together.
+pub fn item_function()
+    ensures answer { (r : ℕ) (payload : List ℕ) → IsReference r →
+        GivesItem r (content_of payload) (item_in r payload) }
+    ensures only { (r : ℕ) (payload : List ℕ) (answer : Result NavItem MessageFault) →
+        GivesItem r (content_of payload) answer → answer ≡ item_in r payload }
+    ensures whole { (r : ℕ) (payload : List ℕ) → IsReference r → IfOk (item_in r payload) IsItem }
+{}
+
+/// The parts that a message brings have the stamp with which it was heard, are such as their satellite can
+/// send, and have their fields within their digits.
+pub fn message_parts()
+    ensures stamps { (payload : List ℕ) (stamp : ℕ) (parts : MessageParts) →
+        parts_of stamp (content_of payload) ≡ Ok parts →
+        All (λ part. part.stamp ≡ stamp) (all_parts parts) }
+    ensures sendable { (payload : List ℕ) (stamp : ℕ) (parts : MessageParts) →
+        parts_of stamp (content_of payload) ≡ Ok parts →
+        All (λ part. IsPart part.sat part.body) (all_parts parts) }
+    ensures values { (payload : List ℕ) (stamp : ℕ) (parts : MessageParts) → stamp < 2 ^ 32 →
+        parts_of stamp (content_of payload) ≡ Ok parts → All IsPartValue (all_parts parts) }
 {}

@@ -2,7 +2,9 @@ ghost use Rattle.std.specs.Prelude.{◌≡◌, ℕ, ◌≤◌, ◌<◌, IfOk, le
 ghost use Rattle.nav_bits.specs.Bits.{number_at};
 ghost use Rattle.nav_eph.specs.declared.sat.System.TheVariants.{Gal, Gps};
 ghost use Rattle.rtcm_eph.specs.Messages.{message1019_at, message1046_at};
-ghost use Rattle.rtcm_eph.specs.Reading.{ArePartsOf, GivesItem, IsItem, IsOfSystem, content_of, gal_parts, gps_parts, parts_of};
+ghost use Rattle.nav_eph.specs.Ranges.{IsItem};
+ghost use Rattle.rtcm_eph.specs.Reading.{ArePartsOf, GivesItem, IsItemOf, IsOfSystem, content_of};
+ghost use Rattle.rtcm_eph.specs.Reading.{gal_parts, gps_parts, item_in, parts_of};
 
 use crate::content::{Content, GalContent, GpsContent};
 use crate::fault::MessageFault;
@@ -167,7 +169,7 @@ pub fn read_message(payload: &[u8], stamp: u32) -> Result<MessageParts, MessageF
 
 // The item of a content, its week near the reference week.
 fn item_of(content: &Content, r: RefWeek) -> NavItem
-    ensures { IsItem r content.now result }
+    ensures { IsItemOf r content.now result }
 {
     match content {
         Content::Gps(c) => NavItem::Gps(GpsEph {
@@ -199,8 +201,11 @@ fn item_of(content: &Content, r: RefWeek) -> NavItem
 ///
 /// The error is the first fault, as [`MessageFault`] orders them.
 pub fn read_item(payload: &[u8], r: RefWeek) -> Result<NavItem, MessageFault>
-    ensures { GivesItem r (content_of payload.now) result }
+    ensures item { GivesItem r (content_of payload.now) result }
+    ensures answer { result ≡ item_in r payload.now }
+    ensures whole { IfOk result IsItem }
 {
+    let _reference = r.value();
     match read_content(payload) {
         Ok(content) => Ok(item_of(&content, r)),
         Err(fault) => Err(fault),
