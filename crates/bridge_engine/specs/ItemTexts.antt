@@ -11,7 +11,7 @@ use Rattle.period_items.specs.declared.key.Key.TheVariants.{Gps, Gal, GpsIon, Ga
 use Rattle.period_items.specs.declared.closed.Closed.{Closed}
 use Rattle.period_items.specs.declared.closed.Verdict.{Verdict}
 use Rattle.period_items.specs.declared.closed.Verdict.TheVariants.{Whole, Partial, Contradicted, NoHealth, Again}
-use Rattle.bridge_engine.specs.Wanted.{bytes_1019, bytes_1046}
+use Rattle.rtcm_eph.specs.Writing.{bytes_1019, bytes_1046}
 use Rattle.bridge_engine.specs.Texts.{hex_digits}
 
 -- the frame of an ephemeris, message 1019 or 1046 (RTCM 10403.3, 3.5); nothing of an ionosphere

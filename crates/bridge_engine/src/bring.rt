@@ -4,7 +4,7 @@ ghost use Rattle.std.specs.Prelude.{◌≡◌, ◌+◌, ◌^◌, ◌<◌, ◌≤
 ghost use Rattle.nav_eph.specs.declared.sat.System.TheVariants.{Gps, Gal};
 ghost use Rattle.inav_word.specs.Reading.{reading_of};
 ghost use Rattle.issue_periods.specs.Standing.{Stood};
-ghost use Rattle.capture_log.specs.Wanted.{subframe_of};
+ghost use Rattle.lnav_subframe.specs.Reading.{subframe_of};
 ghost use Rattle.capture_log.specs.Events.{Known, of_frame, of_half, of_subframe, of_word};
 ghost use Rattle.capture_log.specs.Log.{noted};
 ghost use Rattle.bridge_engine.specs.Notes.{IsReporting, KeepsHalves, of_heard, Takes, TookHalf, total};

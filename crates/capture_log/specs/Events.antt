@@ -9,7 +9,7 @@ use Rattle.lnav_subframe.specs.declared.fault.LnavFault.{LnavFault}
 use Rattle.lnav_subframe.specs.declared.fault.LnavFault.TheVariants as subframes
 use Rattle.inav_page.specs.declared.signal.Signal.{Signal}
 use Rattle.inav_page.specs.Pages.{kept_of, kind_of}
-use Rattle.inav_page.specs.Heard.{StampedHalf, stamp_by}
+use Rattle.inav_page.specs.Heard.{StampedHalf, stamp_by, words_of, has_half}
 use Rattle.inav_page.specs.Keeping.{stamped}
 use Rattle.inav_word.specs.Reading.{reading_of}
 use Rattle.inav_word.specs.declared.parts.WordParts.{WordParts}
@@ -26,7 +26,7 @@ use Rattle.capture_lines.specs.Late.{stamp_of}
 use Rattle.capture_lines.specs.Reading.{item_of}
 use Rattle.capture_lines.specs.declared.item.LineItem.{LineItem}
 use Rattle.capture_lines.specs.declared.item.LineItem.TheVariants.{Pass, Lnav, Half, Frame, Malformed as MalformedItem}
-use Rattle.capture_log.specs.Wanted.{subframe_of, words_of, has_half}
+use Rattle.lnav_subframe.specs.Reading.{subframe_of}
 use Rattle.capture_log.specs.declared.event.Refusal.TheVariants as refusals
 use Rattle.capture_log.specs.declared.event.Event.{Event}
 use Rattle.capture_log.specs.declared.event.Event.TheVariants.{Heard, Malformed, Late, Refused, Unused}

@@ -10,7 +10,7 @@ use Rattle.inav_word.specs.Reading.{reading_of}
 use Rattle.capture_lines.specs.Late.{stamp_of, IsAccepted}
 use Rattle.capture_lines.specs.declared.item.LineItem.{LineItem}
 use Rattle.capture_lines.specs.declared.item.LineItem.TheVariants.{Lnav, Half, Frame}
-use Rattle.capture_log.specs.Wanted.{subframe_of}
+use Rattle.lnav_subframe.specs.Reading.{subframe_of}
 use Rattle.capture_log.specs.Events.{of_subframe, of_frame, of_word, half_of, is_alert}
 use Rattle.capture_log.specs.declared.event.Event.TheVariants.{Heard}
 

@@ -1,4 +1,3 @@
-pub mod Wanted
 pub mod Events
 pub mod Log
 pub mod Heard
