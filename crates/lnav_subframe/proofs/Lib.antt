@@ -4,3 +4,4 @@ pub mod Agree
 pub mod Again
 pub mod Functions
 pub mod Values
+pub mod Bytes

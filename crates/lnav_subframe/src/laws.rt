@@ -6,6 +6,8 @@ ghost use Rattle.nav_eph.specs.Satellite.{Satellite};
 ghost use Rattle.nav_eph.specs.declared.part.Part.{Part};
 ghost use Rattle.lnav_subframe.specs.declared.fault.LnavFault.{LnavFault};
 ghost use Rattle.lnav_subframe.specs.declared.out.SubframeOut.{SubframeOut};
+ghost use Rattle.nav_bits.specs.Packed.{AreBytes};
+ghost use Rattle.lnav_subframe.specs.Bytes.{HasDigits, subframe_bytes};
 ghost use Rattle.lnav_subframe.specs.Reading.{IsFirstFault, StandsFor, subframe_of};
 ghost use Rattle.lnav_subframe.specs.Writing.{AllReadAs, HasTime, IsWritable, IsWritten, read_again};
 
@@ -45,4 +47,10 @@ pub fn subframe_parts()
         sat.system ≡ Gps → subframe_of bits sat stamp ≡ Ok part → IsPart part.sat part.body }
     ensures value { (bits : List ℕ) (sat : Satellite) (stamp : ℕ) (part : Part) →
         stamp < 2 ^ 32 → subframe_of bits sat stamp ≡ Ok part → IsPartValue part }
+{}
+
+/// No other 38 bytes than `subframe_bytes` are those in which a subframe is written with a count.
+pub fn subframes_are_the_function()
+    ensures { (body : SubframeOut) (count : ℕ) (bits : List ℕ) → HasDigits body → count < 100800 →
+        AreBytes 38 bits → IsWritten body count bits → bits ≡ subframe_bytes body count }
 {}

@@ -1,5 +1,8 @@
 ghost use Rattle.std.specs.Prelude.{◌≡◌, ◌<◌};
+ghost use Rattle.nav_eph.specs.Bodies.{IsGpsIon, IsGpsSide};
+ghost use Rattle.nav_eph.specs.Ranges.{IsGpsClock, IsGpsOrbitA, IsGpsOrbitB};
 ghost use Rattle.nav_eph.specs.Steps.{IsStep16};
+ghost use Rattle.lnav_subframe.specs.Bytes.{HasDigits, subframe_bytes};
 ghost use Rattle.lnav_subframe.specs.Writing.{AllReadAs, HasTime, Holds, IsWritable, IsWritten, page18_of, read_again, subframe1_of, subframe2_of, subframe3_of};
 
 use crate::clock::Subframe1;
@@ -112,6 +115,54 @@ fn data_bits(body: &SubframeOut, count: U<17>) -> Bits<38>
     bits
 }
 
+// Each field of a clock is within its digits.
+fn clock_digits(clock: GpsClock)
+    ensures { IsGpsClock clock }
+{}
+
+// Each field of a side is within its digits.
+fn side_digits(side: GpsSide)
+    ensures { IsGpsSide side }
+{}
+
+// Each field of a first half of an orbit is within its digits.
+fn orbit_a_digits(orbit: GpsOrbitA)
+    ensures { IsGpsOrbitA orbit }
+{}
+
+// Each field of a second half of an orbit is within its digits.
+fn orbit_b_digits(orbit: GpsOrbitB)
+    ensures { IsGpsOrbitB orbit }
+{}
+
+// Each field of an ionosphere is within its digits.
+fn ion_digits(ion: GpsIon)
+    ensures { IsGpsIon ion }
+{}
+
+// Each field of a subframe is within its digits.
+fn digits(body: &SubframeOut)
+    ensures { HasDigits body.now }
+{
+    match *body {
+        SubframeOut::Clock { clock, side, wn } => {
+            clock_digits(clock);
+            side_digits(side);
+            let _wn = wn.value();
+        }
+        SubframeOut::OrbitA { orbit, fit } => {
+            orbit_a_digits(orbit);
+            let _fit = fit.value();
+        }
+        SubframeOut::OrbitB { orbit } => orbit_b_digits(orbit),
+        SubframeOut::Ion { ion } => ion_digits(ion),
+        SubframeOut::Other { number, page } => {
+            let _number = number.value();
+            let _page = page.value();
+        }
+    }
+}
+
 /// The 300 bits of a subframe of the LNAV message (IS-GPS-200, figure 20-1) and four bits that are 0.
 /// `count` is the number of 6 s intervals of the week that have passed when the next subframe starts. The
 /// TLM message, alert, anti-spoof, AODO and what is reserved are 0, the data ID of subframes 4 and 5
@@ -121,6 +172,10 @@ pub fn write_subframe(body: &SubframeOut, count: U<17>) -> Bits<38>
     requires page { IsWritable body.now }
     ensures written { IsWritten body.now count result }
     ensures again { AllReadAs result (read_again body.now count) }
+    ensures bytes { result ≡ subframe_bytes body.now count }
 {
-    words_of(&data_bits(body, count))
+    let bits = words_of(&data_bits(body, count));
+    digits(body);
+    bits.are_bytes();
+    bits
 }

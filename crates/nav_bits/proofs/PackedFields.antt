@@ -117,7 +117,7 @@ packed_number bytes from n (f ∷ fs) fit is =
     (both.0, stand_more bytes from f fs fit both.1 rest.1, zeros_more bytes from f fs both.1 rest.2)
 
 -- where each field stands, the packed number stands
-number_packed : (bytes : List ℕ) (from : ℕ) (fs : List Field) → AllFit fs → StandFrom bytes 0 from fs → ZerosFrom bytes 0 from fs
+pub number_packed : (bytes : List ℕ) (from : ℕ) (fs : List Field) → AllFit fs → StandFrom bytes 0 from fs → ZerosFrom bytes 0 from fs
     → number_at bytes 0 (from + table_width fs) ≡ pack (number_at bytes 0 from) fs
 number_packed bytes from [] fit stand zeros = let e : from + 0 ≡ from = omega arith in ap (number_at bytes 0) e
 number_packed bytes from (f ∷ fs) fit stand zeros =
