@@ -74,7 +74,8 @@ fn after_last_bits(mut state: u32, bytes: &[u8], byte: usize, skip: usize, count
     requires skip { skip < 8 }
     requires count { count < 8 }
     requires inside { 8 * byte + skip + count ≤ 8 * length bytes.now }
-    ensures { (p : ℕ) → IsCrc p state → IsCrc (p * 2 ^ count + number_at bytes.now (8 * byte + skip) count) result }
+    ensures { (p : ℕ) → IsCrc p state →
+        IsCrc (p * 2 ^ count + number_at bytes.now (8 * byte + skip) count) result }
 {
     for k in 0..count {
         let place = skip + k;

@@ -32,7 +32,8 @@ fn with_four(state: u32, a: u8, b: u8, c: u8, d: u8) -> u32
 
 // The register from 0 on after the bytes that go by fours.
 fn after_fours(bytes: &[u8]) -> u32
-    ensures value { crc_from result (drop (4 * (length bytes.now / 4)) bytes.now) ≡ crc_from 0 bytes.now }
+    ensures value { crc_from result (drop (4 * (length bytes.now / 4)) bytes.now) ≡
+        crc_from 0 bytes.now }
     ensures fits { result < 2 ^ 24 }
 {
     let mut state = 0;

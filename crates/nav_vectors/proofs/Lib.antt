@@ -9,3 +9,4 @@ pub mod SameSubframes
 pub mod SamePages
 pub mod OneText
 pub mod Counts
+pub mod Short

@@ -9,14 +9,14 @@ use Rattle.nav_vectors.specs.Lines.{IsHalfLine, IsLine, IsSubframeLine, gps_sat,
 use Rattle.nav_vectors.specs.Capture.{AreLines, IsCapture, lines_of}
 use Rattle.nav_vectors.proofs.SameBits.{OneSigned}
 use Rattle.nav_vectors.proofs.SameSubframes.{OneWord, OneChoice, same_subframe}
-use Rattle.nav_vectors.proofs.SamePages.{OneCrc, same_page}
+use Rattle.nav_vectors.proofs.SamePages.{OneSplit, same_page}
 
 -- the laws of the crates below
 pub record Laws : Type 0 where
   pub signed : OneSigned
   pub word : OneWord
   pub choice : OneChoice
-  pub crc : OneCrc
+  pub split : OneSplit
 
 one_subframe_line : Laws → (seed n r stamp number : ℕ) (a b : List ℕ) → IsSubframeLine seed n r stamp number a → IsSubframeLine seed n r stamp number b → a ≡ b
 one_subframe_line laws seed n r stamp number a b x y =
@@ -27,7 +27,7 @@ one_subframe_line laws seed n r stamp number a b x y =
 
 one_half_line : Laws → (seed n r stamp number : ℕ) (signal : Signal) (a b : List ℕ) → IsHalfLine seed n r stamp number signal a → IsHalfLine seed n r stamp number signal b → a ≡ b
 one_half_line laws seed n r stamp number signal a b x y =
-    let page = same_page laws.signed laws.crc (gal_of seed n number) (gal_ion_of seed n) number ((r - 1024) % 4096) (2 * (stamp / 2)) (stamp / 2 % 15) x.even x.odd y.even y.odd x.page y.page in
+    let page = same_page laws.signed laws.split (gal_of seed n number) (gal_ion_of seed n) number ((r - 1024) % 4096) (2 * (stamp / 2)) (stamp / 2 % 15) x.even x.odd y.even y.odd x.page y.page in
     x.line_is
     ∙ ap (λ even. half_text stamp (gal_sat number) signal (if nat_eq (stamp % 2) 0 then even else x.odd)) page.0
     ∙ ap (λ odd. half_text stamp (gal_sat number) signal (if nat_eq (stamp % 2) 0 then y.even else odd)) page.1

@@ -7,7 +7,7 @@ use Rattle.std.proofs.lemmas.List.{same_lists, get_or_default}
 use Rattle.nav_bits.specs.Bits.{number_at, signed_at}
 use Rattle.nav_bits.specs.Signed.{signed_of}
 use Rattle.nav_bits.specs.Laws.{number_at-append, number_at-lt, number_at-byte}
-use Rattle.nav_vectors.specs.Lines.{AreBytes}
+use Rattle.nav_bits.specs.Packed.{AreBytes}
 
 -- no two numbers of so many digits are the same in two's complement
 abbrev pub OneSigned : Type 0

@@ -1,19 +1,18 @@
 -- The bits of a word and of its page are those of the fields.
 use Rattle.std.proofs.Common.{◌≡◌, ℕ, zero, suc, ◌+◌, ◌*◌, ◌/◌, ◌%◌, ◌^◌, ◌<◌, List, [], ◌∷◌, refl, sym, ap, ◌∙◌, subst, arith}
-use Rattle.std.proofs.lemmas.Nat.{div-mul-add}
 use Rattle.nav_bits.specs.Bits.{number_at}
 use Rattle.nav_bits.specs.Fields.{Field, unsigned, signed, reserved, StandFrom, table_width}
 use Rattle.nav_eph.specs.declared.ion.GalIon.{GalIon}
-use Rattle.crc24q.specs.Division.{IsCrc}
 use Rattle.inav_word.specs.Words.{fields_word1, fields_word2, fields_word3, fields_word4, fields_word5}
 use Rattle.inav_word.specs.Writing.{word1_of, word2_of, word3_of, word4_of, word5_of}
-use Rattle.inav_page.specs.Pages.{bytes_of_half, digits_at, protected_of, IsSplit}
+use Rattle.inav_page.specs.Pages.{bytes_of_half, even_of, odd_of, IsSplit}
 use Rattle.nav_vectors.specs.declared.values.GalValues.{GalValues}
-use Rattle.nav_vectors.specs.Lines.{AreBytes, AreHalves, ArePage, IsWordOf}
+use Rattle.nav_bits.specs.Packed.{AreBytes}
+use Rattle.nav_vectors.specs.Lines.{AreHalves, ArePage, IsWordOf}
 use Rattle.nav_vectors.proofs.SameBits.{OneSigned, same_bytes, same_joined, same_signed_at}
 
-abbrev pub OneCrc : Type 0
-OneCrc = (p r s : ℕ) → IsCrc p r → IsCrc p s → r ≡ s
+abbrev pub OneSplit : Type 0
+OneSplit = (word : List ℕ) (even odd : ℕ) → IsSplit word even odd → (even ≡ even_of word) × (odd ≡ odd_of word)
 
 -- the reserved places of a table are 0
 abbrev AreZero : List ℕ → ℕ → List Field → Type 0
@@ -53,33 +52,18 @@ same_word law v ion number wn second (suc (suc (suc (suc zero)))) a b size size'
     same_bytes 16 a b size size' (same_table law a b 0 (fields_word5 (word5_of v.health ion wn second)) x.0 y.0 (x.1, tt) (y.1, tt))
 same_word law v ion number wn second (suc (suc (suc (suc (suc m))))) a b size size' x y = x ∙ sym y
 
--- the first 82 bits of an odd half do not rest on its CRC
-front_of : (odd data_bits crc : ℕ) → crc < 2 ^ 24 → odd ≡ 2 ^ 119 + data_bits * 2 ^ 102 + crc * 2 ^ 14 → digits_at odd 0 82 ≡ (2 ^ 81 + data_bits * 2 ^ 64) % 2 ^ 82
-front_of odd data_bits crc fits is =
-    let low : crc * 2 ^ 14 < 2 ^ 38 = omega arith in
-    let cut : odd ≡ (2 ^ 81 + data_bits * 2 ^ 64) * 2 ^ 38 + crc * 2 ^ 14 = omega arith in
-    ap (λ n. n % 2 ^ 82) (ap (λ n. n / 2 ^ 38) cut ∙ div-mul-add (2 ^ 81 + data_bits * 2 ^ 64) (2 ^ 38) (crc * 2 ^ 14) low)
-
 -- the same halves
-same_split : OneCrc → (word : List ℕ) (even odd even' odd' : ℕ) → IsSplit word even odd → IsSplit word even' odd' → (even ≡ even') × (odd ≡ odd')
-same_split law word even odd even' odd' x y =
-    let evens : even ≡ even' = x.even_is ∙ sym y.even_is in
-    let front : digits_at odd 0 82 ≡ digits_at odd' 0 82 =
-    front_of odd (number_at word 112 16) (digits_at odd 82 24) x.crc.fits x.odd_is ∙ sym (front_of odd' (number_at word 112 16) (digits_at odd' 82 24) y.crc.fits y.odd_is) in
-    let whole : protected_of even odd ≡ protected_of even' odd' =
-    ap (λ e. digits_at e 0 114 * 2 ^ 82 + digits_at odd 0 82) evens ∙ ap (λ n. digits_at even' 0 114 * 2 ^ 82 + n) front in
-    let crc : digits_at odd 82 24 ≡ digits_at odd' 82 24 =
-    law (protected_of even' odd') (digits_at odd 82 24) (digits_at odd' 82 24) (subst (λ p. IsCrc p (digits_at odd 82 24)) whole x.crc) y.crc in
-    (evens, x.odd_is ∙ ap (λ n. 2 ^ 119 + number_at word 112 16 * 2 ^ 102 + n * 2 ^ 14) crc ∙ sym y.odd_is)
-
-same_halves : OneCrc → (word a b a' b' : List ℕ) → AreHalves word a b → AreHalves word a' b' → (a ≡ a') × (b ≡ b')
+same_halves : OneSplit → (word a b a' b' : List ℕ) → AreHalves word a b → AreHalves word a' b' → (a ≡ a') × (b ≡ b')
 same_halves law word a b a' b' x y =
-    let split = same_split law word x.even x.odd y.even y.odd x.split y.split in
-    (x.even_is ∙ ap bytes_of_half split.0 ∙ sym y.even_is, x.odd_is ∙ ap bytes_of_half split.1 ∙ sym y.odd_is)
+    let one = law word x.even x.odd x.split in
+    let other = law word y.even y.odd y.split in (
+      x.even_is ∙ ap bytes_of_half (one.0 ∙ sym other.0) ∙ sym y.even_is,
+      x.odd_is ∙ ap bytes_of_half (one.1 ∙ sym other.1) ∙ sym y.odd_is,
+    )
 
 -- the same page
-pub same_page : OneSigned → OneCrc → (v : GalValues) (ion : GalIon) (number wn second m : ℕ) (a b a' b' : List ℕ)
+pub same_page : OneSigned → OneSplit → (v : GalValues) (ion : GalIon) (number wn second m : ℕ) (a b a' b' : List ℕ)
     → ArePage v ion number wn second m a b → ArePage v ion number wn second m a' b' → (a ≡ a') × (b ≡ b')
-same_page law crc v ion number wn second m a b a' b' x y =
+same_page law split v ion number wn second m a b a' b' x y =
     let words : y.word ≡ x.word = same_word law v ion number wn second m y.word x.word y.size x.size y.word_is x.word_is in
-    same_halves crc x.word a b a' b' x.halves (subst (λ w. AreHalves w a' b') words y.halves)
+    same_halves split x.word a b a' b' x.halves (subst (λ w. AreHalves w a' b') words y.halves)

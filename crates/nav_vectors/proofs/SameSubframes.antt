@@ -6,7 +6,7 @@ use Rattle.lnav_parity.specs.Parity.{IsGood, IsSource, IsSolved}
 use Rattle.lnav_subframe.specs.declared.out.SubframeOut.{SubframeOut}
 use Rattle.lnav_subframe.specs.Words.{IsWord, last_before, word_of}
 use Rattle.lnav_subframe.specs.Writing.{AreWords, IsWritten}
-use Rattle.nav_vectors.specs.Lines.{AreBytes}
+use Rattle.nav_bits.specs.Packed.{AreBytes}
 use Rattle.nav_vectors.proofs.SameBits.{OneSigned, equal_or_not, same_bytes, same_inside, same_joined}
 use Rattle.nav_vectors.proofs.SameFields.{same_data_bits}
 

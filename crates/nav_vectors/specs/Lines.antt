@@ -1,7 +1,8 @@
 -- What is sent at each second of the hour, and the line that says it.
-use Rattle.std.specs.Prelude.{◌≡◌, ℕ, zero, suc, ◌+◌, ◌-◌, ◌*◌, ◌/◌, ◌%◌, ◌<◌, nat_eq, if◌then◌else◌, List, [], ◌∷◌, ◌++◌, length, replicate, slice_index}
+use Rattle.std.specs.Prelude.{◌≡◌, ℕ, zero, suc, ◌+◌, ◌-◌, ◌*◌, ◌/◌, ◌%◌, nat_eq, if◌then◌else◌, List, [], ◌∷◌, ◌++◌, replicate}
 use Rattle.nav_bits.specs.Bits.{number_at}
 use Rattle.nav_bits.specs.Fields.{StandFrom}
+use Rattle.nav_bits.specs.Packed.{AreBytes}
 use Rattle.nav_eph.specs.Satellite.{Satellite}
 use Rattle.nav_eph.specs.declared.sat.System.TheVariants.{Gps, Gal}
 use Rattle.nav_eph.specs.declared.ion.GpsIon.{GpsIon}
@@ -27,11 +28,6 @@ gps_sat number = record { system = Gps; number = number }
 
 abbrev pub gal_sat : ℕ → Satellite
 gal_sat number = record { system = Gal; number = number }
-
--- so many bytes
-pub record AreBytes (count : ℕ) (bytes : List ℕ) : Type 0 where
-  pub count_is : length bytes ≡ count
-  pub fit : (i : ℕ) → slice_index bytes i < 256
 
 -- Subframes go round in frames of five, and pages in 25 frames. Subframe 4 is page 18 in frame 17, counted from 0, and page
 -- 1 in the others; subframe 5 is page 1. Subframe k of the hour, in the week r:

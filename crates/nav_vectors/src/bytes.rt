@@ -1,7 +1,7 @@
 //! The bytes of some bits.
 
 ghost use Rattle.std.specs.Prelude.{◌≡◌, ℕ, ◌<◌, length, slice_index};
-ghost use Rattle.nav_vectors.specs.Lines.{AreBytes};
+ghost use Rattle.nav_bits.specs.Packed.{AreBytes};
 
 use nav_bits::Bits;
 

@@ -7,15 +7,17 @@ use crate::sending::order_of_lines;
 use gnss_week::RefWeek;
 use std::alloc::{AllocError, Global};
 
-// The most bytes that the lines of a satellite of GPS and one of Galileo take: 605 of 88 bytes and 7,260 of 44.
+// The most bytes that the lines of a satellite of GPS and one of Galileo take: 605 of 88 bytes and
+// 7,260 of 44.
 const ROOM: usize = 605 * 88 + 7260 * 44;
 
-/// A capture of an hour in the week `r`: the subframes of the satellites 1 to `sats` of GPS and the page halves of those of
-/// Galileo on both their signals, whose values are drawn from the seed.
+/// A capture of an hour in the week `r`: the subframes of the satellites 1 to `sats` of GPS and the
+/// page halves of those of Galileo on both their signals, whose values are drawn from the seed.
 ///
-/// It begins with `NAVCAP 1`, has `7,865 sats` lines behind that, and about 370,000 bytes for each of `sats`. Each
-/// satellite sends one ephemeris, issued once, and all those of a system the same ionosphere. The lines come in blocks of
-/// 16, each in the reversed order of time, and at the end those of the first 30 seconds come once more, in order.
+/// It begins with `NAVCAP 1`, has `7,865 sats` lines behind that, and about 370,000 bytes for each
+/// of `sats`. Each satellite sends one ephemeris, issued once, and all those of a system the same
+/// ionosphere. The lines come in blocks of 16, each in the reversed order of time, and at the end
+/// those of the first 30 seconds come once more, in order.
 ///
 /// The error is want of memory.
 pub fn make_capture(alloc: Global, seed: u32, sats: u8, r: RefWeek) -> Result<Vec<u8>, AllocError>

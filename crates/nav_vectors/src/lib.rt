@@ -1,8 +1,10 @@
-//! Captures of broadcast messages that are generated: loads for tests and measurements, whose every byte is known.
+//! Captures of broadcast messages that are generated: loads for tests and measurements, whose every
+//! byte is known.
 //!
-//! [`make_capture`] gives what a logger could have heard in one hour: every 6 seconds a subframe of each satellite of GPS
-//! (IS-GPS-200, 20.3), every second half a page of each satellite of Galileo on E1-B and on E5b (Galileo OS SIS ICD, 4.3).
-//! What the satellites broadcast is drawn from a seed, so that a capture is named by three small numbers.
+//! [`make_capture`] gives what a logger could have heard in one hour: every 6 seconds a subframe of
+//! each satellite of GPS (IS-GPS-200, 20.3), every second half a page of each satellite of Galileo
+//! on E1-B and on E5b (Galileo OS SIS ICD, 4.3). What the satellites broadcast is drawn from a
+//! seed, so that a capture is named by three small numbers.
 //!
 //! ```rust
 //! use gnss_week::RefWeek;
@@ -27,4 +29,4 @@ mod tests;
 mod values;
 
 pub use crate::capture::make_capture;
-pub use crate::laws::{lines_are_counted, one_capture};
+pub use crate::laws::{captures_are_short, lines_are_counted, one_capture};

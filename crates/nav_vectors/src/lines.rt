@@ -76,7 +76,8 @@ fn write_subframe_line(senders: &Senders, stamp: u32, number: u8, line: &mut Lin
     requires low { 1 ≤ number }
     requires high { number ≤ senders.now.sats }
     requires empty { line.old.items ≡ [] }
-    ensures { IsSubframeLine senders.now.seed senders.now.sats senders.now.week stamp number line.new.items }
+    ensures { IsSubframeLine senders.now.seed senders.now.sats senders.now.week stamp number
+        line.new.items }
 {
     let k = stamp / 6;
     let values = &senders.gps[usize::from(number) - 1];
@@ -104,7 +105,8 @@ fn page_at(senders: &Senders, number: u8, j: u32) -> Page
     requires page { j < 1800 }
     requires low { 1 ≤ number }
     requires high { number ≤ senders.now.sats }
-    ensures { ArePage (gal_of senders.now.seed senders.now.sats number) (gal_ion_of senders.now.seed senders.now.sats) number
+    ensures { ArePage (gal_of senders.now.seed senders.now.sats number)
+        (gal_ion_of senders.now.seed senders.now.sats) number
         ((senders.now.week - 1024) % 4096) (2 * j) (j % 15) result.even result.odd }
 {
     if j % 15 > 4 {
@@ -122,7 +124,8 @@ fn write_page_line(senders: &Senders, stamp: u32, number: u8, signal: Signal, li
     requires low { 1 ≤ number }
     requires high { number ≤ senders.now.sats }
     requires empty { line.old.items ≡ [] }
-    ensures { IsHalfLine senders.now.seed senders.now.sats senders.now.week stamp number signal line.new.items }
+    ensures { IsHalfLine senders.now.seed senders.now.sats senders.now.week stamp number signal
+        line.new.items }
 {
     let page = page_at(senders, number, stamp / 2);
     let half = if stamp % 2 == 0 { page.even } else { page.odd };
@@ -156,7 +159,8 @@ pub(crate) fn push_lines(
     requires tables { AreTables senders.now }
     requires sats { senders.now.sats ≤ 32 }
     requires of { All (IsOf senders.now.sats) order.now }
-    ensures { OnOk result (GrowsByLines senders.now.seed senders.now.sats senders.now.week order.now text.old.items text.new.items) }
+    ensures { OnOk result (GrowsByLines senders.now.seed senders.now.sats senders.now.week order.now
+        text.old.items text.new.items) }
 {
     let mut line = LineText::new();
     'lines: for sending in order {

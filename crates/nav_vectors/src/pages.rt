@@ -1,6 +1,7 @@
 //! The pages that the satellites of Galileo send.
 
-ghost use Rattle.std.specs.Prelude.{◌≡◌, ℕ, ◌+◌, ◌-◌, ◌*◌, ◌/◌, ◌%◌, ◌<◌, ◌≤◌, IfOk, length, slice_index_or};
+ghost use Rattle.std.specs.Prelude.{◌≡◌, ℕ, ◌+◌, ◌-◌, ◌*◌, ◌/◌, ◌%◌, ◌<◌, ◌≤◌, IfOk, length};
+ghost use Rattle.std.specs.Prelude.{slice_index_or};
 ghost use Rattle.nav_eph.specs.declared.sat.System.TheVariants.{Gal};
 ghost use Rattle.std.specs.List.{HoldsAt};
 ghost use Rattle.gnss_week.specs.Weeks.{IsReference};
@@ -26,7 +27,8 @@ pub struct Page {
     pub odd: Bits<15>,
 }
 
-// The pages of a satellite that are not empty: those of words 1 to 4, and one of word 5 for each round of 15 pages.
+// The pages of a satellite that are not empty: those of words 1 to 4, and one of word 5 for each
+// round of 15 pages.
 pub(crate) const PAGES: usize = 124;
 
 // The satellite of Galileo with that number.

@@ -35,7 +35,8 @@ pub struct Senders {
 fn draw_all_gps(alloc: Global, state: &mut u64, sats: u8) -> Result<Vec<GpsValues>, AllocError>
     ensures after { OnOk result (state.new ≡ state_after state.old (24 * sats)) }
     ensures count { IfOk result (λ all. length all.items ≡ sats) }
-    ensures values { IfOk result (λ all. (i : ℕ) → i < sats → HoldsAt (λ v. v ≡ gps_values (state_after state.old (24 * i))) all.items i) }
+    ensures values { IfOk result (λ all. (i : ℕ) → i < sats →
+        HoldsAt (λ v. v ≡ gps_values (state_after state.old (24 * i))) all.items i) }
 {
     let mut all = Vec::new(alloc);
     'satellites: for _i in 0..sats {
@@ -48,7 +49,8 @@ fn draw_all_gps(alloc: Global, state: &mut u64, sats: u8) -> Result<Vec<GpsValue
 fn draw_all_gal(alloc: Global, state: &mut u64, sats: u8) -> Result<Vec<GalValues>, AllocError>
     ensures after { OnOk result (state.new ≡ state_after state.old (21 * sats)) }
     ensures count { IfOk result (λ all. length all.items ≡ sats) }
-    ensures values { IfOk result (λ all. (i : ℕ) → i < sats → HoldsAt (λ v. v ≡ gal_values (state_after state.old (21 * i))) all.items i) }
+    ensures values { IfOk result (λ all. (i : ℕ) → i < sats →
+        HoldsAt (λ v. v ≡ gal_values (state_after state.old (21 * i))) all.items i) }
 {
     let mut all = Vec::new(alloc);
     'satellites: for _i in 0..sats {

@@ -5,7 +5,8 @@ use gnss_week::RefWeek;
 use std::alloc::{AllocError, Global};
 use std::test::Fail;
 
-// Lines of the capture of one satellite of each system in week 2295 from the seed 7, with their numbers, from 1 on.
+// Lines of the capture of one satellite of each system in week 2295 from the seed 7, with their
+// numbers, from 1 on.
 const LINES: [(usize, &[u8]); 33] = [
     (1, b"NAVCAP 1"),
     (2, b"6 P E01 5 04cd4170f0140701e1322e8e2e35c0"),
