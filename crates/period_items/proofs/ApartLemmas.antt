@@ -1,5 +1,5 @@
 -- Parts that are farther than a window before others change none of their periods, nor do the others change theirs.
-use Rattle.std.proofs.Common.{◌≡◌, ℕ, ◌+◌, ◌<◌, ◌≤◌, ◌⊎◌, inl, inr, List, ◌++◌, Option, Some, None, Contains, All, refl, subst, arith}
+use Rattle.std.proofs.Common.{ℕ, ◌+◌, ◌<◌, ◌≤◌, ◌⊎◌, inl, inr, List, ◌++◌, Contains, All, refl, subst, arith}
 use Rattle.std.proofs.lemmas.List.Elements.{All-contains}
 use Rattle.period_laws.specs.Ends.{IsEndOf}
 use Rattle.period_laws.proofs.Surface.{Same, turned, covered, AreApart, left_end, right_end, end_cases, left_end_of, end_of_left, right_end_of, end_of_right, none_across}
@@ -12,7 +12,6 @@ use Rattle.nav_eph.specs.declared.part.Part.{Part}
 use Rattle.period_items.specs.declared.key.Key.{Key}
 use Rattle.period_items.specs.declared.key.Key.TheVariants.{Gps, Gal, GpsIon, GalIon}
 use Rattle.period_items.specs.declared.key.Place.{Place}
-use Rattle.period_items.specs.declared.closed.Finding.{Finding}
 use Rattle.period_items.specs.declared.closed.Finding.TheVariants.{Complete}
 use Rattle.period_items.specs.PeriodsOf.{end_place}
 use Rattle.period_items.specs.Values.{HasValue}
