@@ -1,5 +1,5 @@
 -- The steps of a run: from "all that is closed at the mark before was given" to "all that is closed at this mark was given".
-use Rattle.std.proofs.Common.{◌≡◌, ℕ, ◌+◌, ◌<◌, ◌≤◌, ◌^◌, take, length, Bool, cond, List, [], ◌∷◌, ◌++◌, Option, None, Some, IfSome, IfNone, Contains, All, refl, sym, ap, subst, ◌∙◌, arith, le-ltb, take_all}
+use Rattle.std.proofs.Common.{◌≡◌, ℕ, ◌+◌, ◌<◌, ◌≤◌, ◌^◌, Bool, cond, List, [], ◌∷◌, ◌++◌, Option, None, Some, IfSome, IfNone, Contains, All, refl, sym, ap, subst, ◌∙◌, arith, le-ltb}
 use Rattle.std.proofs.lemmas.List.{append_assoc, append-nil}
 use Rattle.std.proofs.lemmas.List.Elements.{All-append}
 use Rattle.nav_eph.specs.declared.part.Part.{Part}

@@ -348,11 +348,12 @@ fn issues_heard_again(rt: HostRuntime) -> Result<(), Fail> {
     )?;
 
     // What was said before the last time is new again.
+    let other = clock_with_health(7_213, 1)?;
     lists(
         &rt,
         alloc,
-        &[a0, b0, c0, clock_with_health(7_213, 1)?, b1, c1, a2, b2, c2],
-        &[(12, 'w'), (7_225, 'w'), (14_426, 'w')],
+        &[a0, b0, c0, other, b1, c1, a3, b3, c3],
+        &[(12, 'w'), (7_225, 'w'), (21_640, 'w')],
     )
 }
 

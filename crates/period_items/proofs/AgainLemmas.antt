@@ -1,5 +1,5 @@
 -- The key's last complete period before an end, and what repeats it: the same for the same set, kept by later parts, and one.
-use Rattle.std.proofs.Common.{◌≡◌, ℕ, ◌+◌, ◌<◌, ◌≤◌, ◌⊎◌, inl, inr, sym, subst, ◌∙◌, arith}
+use Rattle.std.proofs.Common.{◌≡◌, ℕ, ◌+◌, ◌<◌, inl, inr, sym, subst, ◌∙◌, arith}
 use Rattle.period_laws.proofs.Surface.{Same, turned}
 use Rattle.nav_eph.specs.declared.items.NavItem.{NavItem}
 use Rattle.nav_eph.specs.declared.part.Part.{Part}
@@ -8,10 +8,9 @@ use Rattle.period_items.specs.declared.key.Place.{Place}
 use Rattle.period_items.specs.declared.closed.Finding.{Finding}
 use Rattle.period_items.specs.declared.closed.Finding.TheVariants.{Differs, Misses, LacksHealth, Complete}
 use Rattle.period_items.specs.declared.closed.Verdict.{Verdict}
-use Rattle.period_items.specs.declared.closed.Verdict.TheVariants.{Whole, Again}
 use Rattle.nav_eph.specs.Values.{IsPartValue}
 use Rattle.period_items.specs.PeriodsOf.{end_place}
-use Rattle.period_items.specs.Verdicts.{IsFound, IsComplete, IsLastBefore, Repeats, IsJudged}
+use Rattle.period_items.specs.Verdicts.{IsComplete, IsLastBefore, Repeats, IsJudged}
 use Rattle.period_items.proofs.PeriodLemmas.{AreLater, IsPeriod-same, IsPeriod-keeps, IsPeriod-was, IsFound-same, IsFound-keeps, IsFound-was, IsFound-one}
 
 pub IsComplete-same : (r w : ℕ) (a b : Part → Type 0) (key : Key) (e : ℕ) (item : NavItem)

@@ -1,5 +1,5 @@
 -- Parts that are farther than a window before others change none of their periods, nor do the others change theirs.
-use Rattle.std.proofs.Common.{◌≡◌, ℕ, ◌+◌, ◌<◌, ◌≤◌, ◌⊎◌, inl, inr, List, ◌++◌, Option, Some, None, Contains, All, refl, subst, arith}
+use Rattle.std.proofs.Common.{ℕ, ◌+◌, ◌<◌, ◌≤◌, ◌⊎◌, inl, inr, List, ◌++◌, Contains, All, refl, subst, arith}
 use Rattle.std.proofs.lemmas.List.Elements.{All-contains}
 use Rattle.period_laws.specs.Ends.{IsEndOf}
 use Rattle.period_laws.proofs.Surface.{Same, turned, covered, AreApart, left_end, right_end, end_cases, left_end_of, end_of_left, right_end_of, end_of_right, none_across}
@@ -7,15 +7,17 @@ use Rattle.period_laws.proofs.Surface.{In-from_contains, contains_from_In, In-ap
 use Rattle.nav_eph.specs.Satellite.{Satellite}
 use Rattle.nav_eph.specs.declared.galileo.GalHealth.{GalHealth}
 use Rattle.nav_eph.specs.declared.tag.SentTag.{SentTag}
+use Rattle.nav_eph.specs.declared.items.NavItem.{NavItem}
 use Rattle.nav_eph.specs.declared.part.Part.{Part}
 use Rattle.period_items.specs.declared.key.Key.{Key}
 use Rattle.period_items.specs.declared.key.Key.TheVariants.{Gps, Gal, GpsIon, GalIon}
 use Rattle.period_items.specs.declared.key.Place.{Place}
-use Rattle.period_items.specs.declared.closed.Finding.{Finding}
+use Rattle.period_items.specs.declared.closed.Finding.TheVariants.{Complete}
+use Rattle.period_items.specs.PeriodsOf.{end_place}
 use Rattle.period_items.specs.Values.{HasValue}
 use Rattle.period_items.specs.Parts.{health_of}
 use Rattle.period_items.specs.Periods.{IsHeardAt, IsPeriod, IsMember}
-use Rattle.period_items.specs.Verdicts.{IsFound, IsHealthBefore, IsHealthBehind}
+use Rattle.period_items.specs.Verdicts.{IsComplete, IsFound, IsHealthBefore, IsHealthBehind}
 use Rattle.period_items.proofs.PeriodLemmas.{heard_to, IsUpToEnd-to, IsBehindEnd-to, none_same, health_stamp}
 use Rattle.period_items.proofs.ValueFindings.{IsFoundIn-same}
 use Rattle.period_items.proofs.TouchLemmas.{known_parts}
@@ -217,3 +219,25 @@ found_right r w mark first second all q h hq =
           (IsHealthBefore w second q.key q.end) (IsHealthBehind w second q.key q.end) f (turned (IsMember w second q) (IsMember w all q) m)
           (turned (IsHealthBefore w second q.key q.end) (IsHealthBefore w all q.key q.end) b) (turned (IsHealthBehind w second q.key q.end) (IsHealthBehind w all q.key q.end) a) x;
     }
+
+-- complete periods are those of either
+pub complete_left : (r w mark : ℕ) (first second all : Part → Type 0) (key : Key) (e : ℕ) (item : NavItem) → Splits w mark first second all
+    → IsComplete r w first key e item → IsComplete r w all key e item
+complete_left r w mark first second all key e item h c = record {
+  period = left_period w mark first second all (end_place key e) h c.period;
+  found = (found_left r w mark first second all (end_place key e) h c.period).to (Complete item) c.found;
+}
+
+pub complete_right : (r w mark : ℕ) (first second all : Part → Type 0) (key : Key) (e : ℕ) (item : NavItem) → Splits w mark first second all
+    → IsComplete r w second key e item → IsComplete r w all key e item
+complete_right r w mark first second all key e item h c = record {
+  period = right_period w mark first second all (end_place key e) h c.period;
+  found = (found_right r w mark first second all (end_place key e) h c.period).to (Complete item) c.found;
+}
+
+pub complete_cases : (r w mark : ℕ) (first second all : Part → Type 0) (key : Key) (e : ℕ) (item : NavItem) → Splits w mark first second all
+    → IsComplete r w all key e item → IsComplete r w first key e item ⊎ IsComplete r w second key e item
+complete_cases r w mark first second all key e item h c = elim (period_cases w mark first second all (end_place key e) h c.period) [
+  | inl p ↦ inl (record { period = p; found = (found_left r w mark first second all (end_place key e) h p).from (Complete item) c.found })
+  | inr p ↦ inr (record { period = p; found = (found_right r w mark first second all (end_place key e) h p).from (Complete item) c.found })
+]

@@ -1,5 +1,5 @@
 -- The search for the key's last complete period before an end, and the verdict by what it finds.
-use Rattle.std.proofs.Common.{◌≡◌, ℕ, ◌<◌, ◌≤◌, ◌↔◌, inl, inr, Bool, true, false, ◌&&◌, nat_lt, if◌then◌else◌, List, Option, None, Some, Contains, refl, sym, ap, subst, ◌∙◌, arith, ltb-true, lt-ltb}
+use Rattle.std.proofs.Common.{◌≡◌, ℕ, ◌<◌, ◌↔◌, inl, inr, Bool, true, false, nat_lt, if◌then◌else◌, List, Option, None, Some, Contains, refl, sym, ap, subst, ◌∙◌, ltb-true, lt-ltb}
 use Rattle.std.proofs.lemmas.Bool.{and_parts, and_from, both_ways, cases_lt}
 use Rattle.nav_eph.specs.Items.{IsAlike}
 use Rattle.nav_eph.specs.declared.items.NavItem.{NavItem}
@@ -12,11 +12,11 @@ use Rattle.period_items.specs.declared.closed.Finding.{Finding}
 use Rattle.period_items.specs.declared.closed.Finding.TheVariants.{Differs, Misses, LacksHealth, Complete}
 use Rattle.period_items.specs.declared.closed.Verdict.TheVariants.{Whole, Again}
 use Rattle.nav_eph.specs.Items.{is_alike}
-use Rattle.period_items.specs.Values.{IsBest, IsFirstBy}
+use Rattle.period_items.specs.Values.{IsBest}
 use Rattle.nav_eph.specs.Values.{IsPartValue}
 use Rattle.period_items.specs.Periods.{IsPeriod}
 use Rattle.period_items.specs.Verdicts.{IsOfEphemeris, IsFound, IsComplete, IsLastBefore, Repeats, IsJudged, IsVerdict}
-use Rattle.period_items.specs.DigestsOf.{item_of, is_complete, verdict_on_item, verdict_of}
+use Rattle.period_items.specs.DigestsOf.{item_of, is_complete, verdict_of}
 use Rattle.period_items.specs.PeriodsOf.{quiet, stamp_of, end_below, end_place, complete_below, complete_before, item_at, last_item, item_before, finding_at, verdict_at}
 use Rattle.period_items.proofs.Folds.{Passing, best_among-is, IsBest-same}
 use Rattle.nav_eph.proofs.Surface.{is_alike-decides}

@@ -1,14 +1,10 @@
 -- Periods of sets of parts, and what they come to by themselves: the same for the same set, kept by later parts where they are closed.
-use Rattle.std.proofs.Common.{◌≡◌, ℕ, ◌+◌, ◌<◌, ◌≤◌, ◌⊎◌, inl, inr, Bool, true, false, None, Some, if◌then◌else◌, sym, ap, subst, ◌∙◌, arith}
+use Rattle.std.proofs.Common.{◌≡◌, ℕ, ◌+◌, ◌<◌, ◌≤◌, ◌⊎◌, inl, inr, Bool, true, false, None, Some, if◌then◌else◌, ap, subst, arith}
 use Rattle.period_laws.specs.Ends.{IsLaterSet}
 use Rattle.period_laws.proofs.Surface.{Same, turned, IsEnd-same, IsEndOf-same, IsEnd-later, IsEnd-was, IsEndOf-later, IsEndOf-was}
 use Rattle.nav_eph.specs.Satellite.{Satellite}
 use Rattle.nav_eph.specs.declared.galileo.GalHealth.{GalHealth}
 use Rattle.nav_eph.specs.declared.tag.SentTag.{SentTag}
-use Rattle.gnss_week.specs.Weeks.{IsReference}
-use Rattle.nav_eph.specs.Conditions.{IsPart}
-use Rattle.nav_eph.specs.Ranges.{HasRanges, IsItem}
-use Rattle.nav_eph.specs.declared.items.NavItem.{NavItem}
 use Rattle.nav_eph.specs.declared.part.Part.{Part}
 use Rattle.nav_eph.specs.declared.part.Body.{Body}
 use Rattle.nav_eph.specs.declared.part.Body.TheVariants.{GpsClock as OfClock, GpsA as OfOrbitA, GpsB as OfOrbitB, GalW1 as OfWord1, GalW2 as OfWord2, GalW3 as OfWord3, GalW4 as OfWord4, GalHealth as OfHealth, GpsIon as OfGpsIon, GalIon as OfGalIon}
@@ -16,17 +12,12 @@ use Rattle.period_items.specs.declared.key.Key.{Key}
 use Rattle.period_items.specs.declared.key.Key.TheVariants.{Gps, Gal, GpsIon, GalIon}
 use Rattle.period_items.specs.declared.key.Place.{Place}
 use Rattle.period_items.specs.declared.closed.Finding.{Finding}
-use Rattle.period_items.specs.declared.closed.Finding.TheVariants.{Differs, Misses, LacksHealth, Complete}
-use Rattle.period_items.specs.declared.closed.Verdict.{Verdict}
-use Rattle.period_items.specs.declared.closed.Verdict.TheVariants.{Whole, Partial, Contradicted, NoHealth}
-use Rattle.period_items.specs.declared.closed.Closed.{Closed}
 use Rattle.period_items.specs.Values.{HasValue}
 use Rattle.nav_eph.specs.Values.{IsPartValue}
 use Rattle.period_items.specs.Parts.{health_of, health_in, same_sat}
 use Rattle.period_items.specs.Periods.{IsHeardAt, IsPeriod, IsMember}
-use Rattle.period_items.specs.Verdicts.{IsFound, IsUpToEnd, IsBehindEnd, IsHealthBefore, IsHealthBehind, IsJudged, IsVerdict, IsClosed, closed_place}
+use Rattle.period_items.specs.Verdicts.{IsFound, IsUpToEnd, IsBehindEnd, IsHealthBefore, IsHealthBehind}
 use Rattle.period_items.proofs.Folds.{some_is, none_some}
-use Rattle.period_items.proofs.ValueItems.{item_fits}
 use Rattle.period_items.proofs.ValueFindings.{IsHealthValue, IsFoundIn-one, IsFoundIn-same, health_value}
 
 pub heard_to : (a b : Part → Type 0) (key : Key) (s : ℕ) → ((p : Part) → a p → b p) → IsHeardAt a key s → IsHeardAt b key s

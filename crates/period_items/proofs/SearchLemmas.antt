@@ -8,17 +8,15 @@ use Rattle.period_laws.proofs.Surface.{In, In-from_contains, contains_from_In}
 use Rattle.period_laws.proofs.Surface.{Same, own_end}
 use Rattle.period_items.specs.declared.key.Key.{Key}
 use Rattle.period_items.specs.declared.key.Place.{Place}
-use Rattle.period_items.specs.declared.closed.Finding.{Finding}
-use Rattle.period_items.specs.declared.closed.Finding.TheVariants.{Differs, Misses, LacksHealth, Complete}
 use Rattle.period_items.specs.declared.digest.Digest.{Digest}
 use Rattle.period_items.specs.Values.{IsBest}
 use Rattle.period_items.specs.Parts.{key_of}
 use Rattle.period_items.specs.Periods.{IsHeardAt, IsPeriod, IsMember}
 use Rattle.period_items.specs.Digests.{IsDigest}
-use Rattle.period_items.specs.Verdicts.{IsFound, IsHealthBefore, IsHealthBehind, IsJudged, IsVerdict}
-use Rattle.period_items.specs.DigestsOf.{digest_of, health_at, verdict_of}
+use Rattle.period_items.specs.Verdicts.{IsFound, IsHealthBefore, IsHealthBehind}
+use Rattle.period_items.specs.DigestsOf.{digest_of, health_at}
 use Rattle.period_items.specs.KeyTests.{is_of}
-use Rattle.period_items.specs.PeriodsOf.{quiet_at, quiet, stamp_of, end_below, end_before, is_above, is_member, join_some, members_digest, finding_with, finding_at, verdict_at}
+use Rattle.period_items.specs.PeriodsOf.{quiet_at, quiet, stamp_of, end_below, end_before, is_above, is_member, join_some, members_digest, finding_with, finding_at}
 use Rattle.period_items.proofs.Orders.{Decides}
 use Rattle.period_items.proofs.Folds.{some_is, none_some, Passing, best_among-is, IsBest-same}
 use Rattle.period_items.proofs.KeyLemmas.{is_of-is, is-is_of}

@@ -1,4 +1,5 @@
 -- What other crates cite: lemmas over sets of parts, which a law over lists can't say.
+pub use Rattle.period_laws.proofs.Surface.{Same, turned}
 pub use Rattle.period_items.proofs.Orders.{Decides, earlier_decides, is_below-true, below-is_below}
 pub use Rattle.period_items.proofs.Folds.{some_is, none_some, Grows, best_join-is, Passing, best_among-is, IsBest-same}
 pub use Rattle.period_items.proofs.KeyLemmas.{same_sat-is, is-same_sat, same_key-is, is-same_key, is_of-is, is-is_of, IsKeyValue, key_value, cases_key, cases_place, same_place}
@@ -15,4 +16,4 @@ pub use Rattle.period_items.proofs.SearchLemmas.{stamp_of-is, is-stamp_of, IsAbo
 pub use Rattle.period_items.proofs.LastLemmas.{IsKnownBefore, last_item-is, Compares, compares_known, judged_by, verdict_at-is}
 pub use Rattle.period_items.proofs.ExistLemmas.{all_values, later_parts, period_key, place_at-is, is-place_at, periods_of-are, periods_of-only, closed_of-are, closed_of-only, closed_of-later, closed_of-rise, closed_of-front, closed_of-all}
 pub use Rattle.period_items.proofs.TouchLemmas.{known_parts, IsWithPart, with_part, joined_part, rest_stays, two_at_most}
-pub use Rattle.period_items.proofs.ApartLemmas.{Splits, splits_same, splits_lists, left_low, right_high, left_period, right_period, period_cases, left_members, right_members, found_left, found_right}
+pub use Rattle.period_items.proofs.ApartLemmas.{Splits, splits_same, splits_lists, left_low, right_high, left_period, right_period, period_cases, left_members, right_members, found_left, found_right, complete_left, complete_right, complete_cases}

@@ -1,6 +1,5 @@
 -- One more part: what it touches becomes one period with it, all else stays.
-use Rattle.std.proofs.Common.{◌≡◌, ℕ, ◌+◌, ◌*◌, ◌<◌, ◌≤◌, ◌⊎◌, inl, inr, List, [], ◌∷◌, ◌++◌, Option, None, Some, Contains, refl, sym, ap, subst, ◌∙◌, arith}
-use Rattle.std.proofs.lemmas.Bool.{cases_lt}
+use Rattle.std.proofs.Common.{◌≡◌, ℕ, ◌+◌, ◌<◌, ◌≤◌, ◌⊎◌, inl, inr, List, [], ◌∷◌, ◌++◌, Option, None, Some, Contains, refl, sym, ap, subst, ◌∙◌}
 use Rattle.nav_eph.specs.declared.part.Part.{Part}
 use Rattle.period_laws.specs.Ends.{IsEndOf}
 use Rattle.period_laws.specs.Joining.{IsWith, IsTouchedEnd, IsJoinedEnd}

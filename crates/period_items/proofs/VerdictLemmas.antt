@@ -1,5 +1,5 @@
 -- Verdicts: the same for the same set, kept by later parts where the period is closed, and one.
-use Rattle.std.proofs.Common.{◌≡◌, ℕ, ◌+◌, ◌<◌, inl, inr, sym, ap, subst, ◌∙◌, arith}
+use Rattle.std.proofs.Common.{◌≡◌, ℕ, ◌+◌, ◌<◌, inl, inr, sym, ap, subst, ◌∙◌}
 use Rattle.period_laws.proofs.Surface.{Same, turned}
 use Rattle.gnss_week.specs.Weeks.{IsReference}
 use Rattle.nav_eph.specs.Conditions.{IsPart}

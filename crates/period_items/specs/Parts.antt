@@ -1,8 +1,6 @@
 -- What parts are parts of: keys, contents, and what stands beside the contents.
-use Rattle.std.specs.Prelude.{ℕ, ◌%◌, ◌^◌, ◌<◌, List, [], ◌∷◌, Option, None, Some, Bool, if◌then◌else◌, ◌==◌, ◌&&◌}
-use Rattle.gnss_week.specs.Weeks.{IsSecond}
+use Rattle.std.specs.Prelude.{ℕ, ◌%◌, List, [], ◌∷◌, Option, None, Some, Bool, if◌then◌else◌, ◌==◌, ◌&&◌}
 use Rattle.nav_eph.specs.Satellite.{Satellite, place_of}
-use Rattle.nav_eph.specs.Bodies.{IsGpsSide, IsSentTag, IsGalHealth, IsGpsIon, IsGalIon}
 use Rattle.nav_eph.specs.Numbers.{side_number, tag_number, health_number, gal_sending}
 use Rattle.nav_eph.specs.declared.gps.GpsClock.{GpsClock}
 use Rattle.nav_eph.specs.declared.gps.GpsSide.{GpsSide}

@@ -1,8 +1,6 @@
-use Rattle.std.proofs.Common.{◌≡◌, ℕ, None, List, sym, subst, ◌∙◌, refl, take_all}
+use Rattle.std.proofs.Common.{◌≡◌, ℕ, None, List, subst, ◌∙◌, refl, take_all}
 use Rattle.nav_eph.specs.declared.part.Part.{Part}
-use Rattle.period_items.specs.declared.closed.Closed.{Closed}
-use Rattle.period_items.specs.PeriodsOf.{closed_of, periods_of}
-use Rattle.issue_periods.specs.Given.{settled}
+use Rattle.period_items.specs.PeriodsOf.{closed_of}
 use Rattle.issue_periods.proofs.SettleLemmas.{standing, settled_parts, closed_of-last}
 use Rattle.issue_periods.proofs.run.add_periods.Goals as goal
 

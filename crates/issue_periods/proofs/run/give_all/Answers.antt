@@ -1,5 +1,4 @@
 use Rattle.std.proofs.Common.{ℕ, Contains, refl, sym, subst, ◌∙◌, arith}
-use Rattle.period_items.specs.declared.closed.Closed.{Closed}
 use Rattle.period_items.specs.Verdicts.{closed_place}
 use Rattle.issue_periods.specs.Standing.{Tells, Carries, IsNext, NoneDue, giving, reaching}
 use Rattle.issue_periods.proofs.SettleLemmas.{Gives, closed_of-none, gives_start, gives_more, gives_all, next_at, none_at, stood_giving}
