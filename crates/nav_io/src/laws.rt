@@ -25,7 +25,8 @@ pub fn ended_pieces_are_those_up_to_the_last_end()
 /// A line that was written, with its LF behind it, is given as it is, whatever follows.
 pub fn written_lines_are_given()
     ensures { (more : Bool) (line rest : List ℕ) → IsOneLine line
-        → lines_by more (line ++ 10 ∷ rest) ≡ record { text = line; long = false } ∷ lines_by more rest }
+        → lines_by more (line ++ 10 ∷ rest)
+        ≡ record { text = line; long = false } ∷ lines_by more rest }
 {}
 
 /// The lines that calls gave are the first of those of what was held and taken; before the end, they have ended.

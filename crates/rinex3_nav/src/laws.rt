@@ -14,7 +14,8 @@ use crate::form::Rinex3;
 
 /// The record that is written of an ephemeris is one record and stands for that ephemeris, whatever lines follow.
 pub fn records_are_read()
-    ensures { (items : List NavItem) → AreItems items → AllStand rinex3 item3_lines (ephemerides items) }
+    ensures { (items : List NavItem) → AreItems items
+        → AllStand rinex3 item3_lines (ephemerides items) }
 {}
 
 /// The header that is written is a header of RINEX 3, whatever lines follow.
@@ -28,7 +29,8 @@ pub fn files_are_read()
     ensures list { (h : HeaderWords) (items : List NavItem) → IsHeader h → AreItems items
         → rinex3_list (rinex3_text h items) ≡ ephemerides items }
     ensures records { (h : HeaderWords) (items : List NavItem) → IsHeader h → AreItems items
-        → file_reads rinex3 (rinex3_text h items) ≡ Ok (numbered_by item3_lines 4 (ephemerides items)) }
+        → file_reads rinex3 (rinex3_text h items) ≡ Ok (numbered_by item3_lines 4
+        (ephemerides items)) }
 {
     rinex_read::written_files_are_read::<Rinex3>();
 }

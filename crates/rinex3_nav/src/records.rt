@@ -46,7 +46,8 @@ impl Records3 {
     /// 1-9 without blanks at the ends (RINEX 3.05, table A5).
     pub fn read_header3<S: Source>(&mut self, source: &mut S) -> Result<(), HeaderFault>
         // What is to come behind the header are the records of the file, whatever bytes follow.
-        ensures header { OnOk result (PassesHeader rinex3 (S.left source.old) (S.left source.new) self.old self.new) }
+        ensures header { OnOk result (PassesHeader rinex3 (S.left source.old)
+            (S.left source.new) self.old self.new) }
 
         // The header is refused, whatever bytes follow, or after a fault the same file is to come.
         ensures fault { IfErr result (λ fault.
@@ -56,9 +57,11 @@ impl Records3 {
         ensures passed { self.old.header ≡ Passed
             → IsOk result × (self.new ≡ self.old) × (source.new ≡ source.old) }
         ensures refused { self.old.header ≡ NotRinexNav
-            → IsErrOf result HeaderFault.NotRinexNav × (self.new ≡ self.old) × (source.new ≡ source.old) }
+            → IsErrOf result HeaderFault.NotRinexNav × (self.new ≡ self.old)
+            × (source.new ≡ source.old) }
         ensures version { self.old.header ≡ OtherVersion
-            → IsErrOf result HeaderFault.Version × (self.new ≡ self.old) × (source.new ≡ source.old) }
+            → IsErrOf result HeaderFault.Version × (self.new ≡ self.old)
+            × (source.new ≡ source.old) }
 
         // A read fails only by the source's own count.
         ensures failed { IsErrOf result (HeaderFault.Line LineFault.ReadFault)
@@ -66,7 +69,8 @@ impl Records3 {
         ensures quiet { (IsErrOf result (HeaderFault.Line LineFault.ReadFault) → ⊥)
             → (S.faults source.new ≡ S.faults source.old) }
         ensures never { IsTrue (S.never_fails source.old)
-            → (IsErrOf result (HeaderFault.Line LineFault.ReadFault) → ⊥) × IsTrue (S.never_fails source.new) }
+            → (IsErrOf result (HeaderFault.Line LineFault.ReadFault) → ⊥)
+            × IsTrue (S.never_fails source.new) }
     {
         self.records.read_header(source)
     }

@@ -38,7 +38,8 @@ pub fn write_header3<T: Sink>(words: &HeaderWords, out: &mut T) -> Result<(), Fa
 pub fn write_item3<T: Sink>(item: &NavItem, out: &mut T) -> Result<(), Failed>
     ensures bytes { MatchResult result
         (λ _. Appends (T.written out.old) (T.written out.new) (text_of (item3_lines item.now)))
-        (λ _. AppendsFront (T.written out.old) (T.written out.new) (text_of (item3_lines item.now))) }
+        (λ _. AppendsFront (T.written out.old) (T.written out.new) (text_of
+        (item3_lines item.now))) }
     ensures cause { HasCause (T.faults out.old) (T.faults out.new) result }
 {
     match item {

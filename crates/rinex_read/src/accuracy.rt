@@ -27,7 +27,7 @@ fn first_from(n: u64, numbers: &[u64]) -> usize
 }
 
 /// The index of user range accuracy of a value in centimetres.
-#[tactic(auto, unfolding(rinex_write::specs::Accuracies::ura_of, rinex_write::specs::Accuracies::ura_greatest))]
+#[tactic(auto, unfolding(rinex_write::specs::Accuracies::ura_of, rinex_write::specs::Accuracies::ura_greatest,))]
 pub(crate) fn ura_of(value: i64) -> i64
     ensures { result ≡ ura_of value }
 {

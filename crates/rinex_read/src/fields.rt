@@ -94,8 +94,10 @@ fn read_row(
     requires good { are_good columns_of_row.now ≡ true }
     requires line { place + 19 * length columns_of_row.now ≤ 80 }
     requires room { array_vec_len fields.old + length columns_of_row.now ≤ 29 }
-    ensures read { ReadsTo result fields.new.items (with_front fields.old.items (read_row columns_of_row.now place line.now)) }
-    ensures count { OnOk result (length fields.new.items ≡ length fields.old.items + length columns_of_row.now) }
+    ensures read { ReadsTo result fields.new.items (with_front fields.old.items
+        (read_row columns_of_row.now place line.now)) }
+    ensures count { OnOk result (length fields.new.items
+        ≡ length fields.old.items + length columns_of_row.now) }
 {
     for (i, column) in columns_of_row.iter().enumerate() {
         let field = field(column, columns(line, place + 19 * i, 19))?;
@@ -108,7 +110,8 @@ fn read_row(
 pub(crate) fn read_fields(layout: &Layout, lines: &[Line]) -> Result<Fields, Reason>
     requires layout { IsLayout layout.now.columns.now layout.now.rows.now }
     requires lines { length layout.now.rows.now ≤ length lines.now }
-    ensures { Gives (λ fields. fields.items) result (flat_rows layout.now.rows.now layout.now.columns.now 23 lines.now) }
+    ensures { Gives (λ fields. fields.items) result
+        (flat_rows layout.now.rows.now layout.now.columns.now 23 lines.now) }
 {
     let mut fields = Fields::new();
     let mut at = 0;

@@ -276,7 +276,8 @@ fn word4_of(toc: u64, fields: &[i64]) -> GalWord4
 // The health of a Galileo satellite.
 fn health_said(fields: &[i64]) -> GalHealth
     requires { AreGalileoFields fields.now }
-    ensures { result ≡ health_said (field fields.now 24) (field fields.now 25) (natural fields.now 23) }
+    ensures { result ≡ health_said (field fields.now 24) (field fields.now 25)
+        (natural fields.now 23) }
 {
     let number: U<9> = unsigned(fields, 23);
     let number = number.value();
@@ -369,7 +370,8 @@ pub(crate) fn gps_ionosphere_item(
     fields: &[i64],
 ) -> Result<NavItem, Reason>
     requires { AreGpsIonosphereFields fields.now }
-    ensures { result ≡ gps_ionosphere_item (record { sat = sat; moment = moment; fields = fields.now }) }
+    ensures { result ≡ gps_ionosphere_item
+        (record { sat = sat; moment = moment; fields = fields.now }) }
 {
     let content = IonContent::Gps(gps_ionosphere_of(fields));
     Ok(NavItem::Ion(IonEph {
@@ -386,7 +388,8 @@ pub(crate) fn galileo_ionosphere_item(
     fields: &[i64],
 ) -> Result<NavItem, Reason>
     requires { AreGalileoIonosphereFields fields.now }
-    ensures { result ≡ galileo_ionosphere_item (record { sat = sat; moment = moment; fields = fields.now }) }
+    ensures { result ≡ galileo_ionosphere_item
+        (record { sat = sat; moment = moment; fields = fields.now }) }
 {
     let content = IonContent::Gal(galileo_ionosphere_of(fields));
     Ok(NavItem::Ion(IonEph {

@@ -57,7 +57,8 @@ pub fn items_are_whole()
 /// Each item of a file has fields within their digits, and its parts fit together.
 pub fn listed_items_are_whole<F: FileForm>()
     ensures list { (bytes : List ℕ) → AreItems (list_by F.form bytes) }
-    ensures records { (number : ℕ) (lines : List (List ℕ)) → AreItems (items_of (reads F.form number lines)) }
+    ensures records { (number : ℕ) (lines : List (List ℕ))
+        → AreItems (items_of (reads F.form number lines)) }
     ensures to_come { (state : RecordsState) (following : List ℕ)
         → AreItems (items_of (records_to_come F.form state following)) }
 {
@@ -99,10 +100,12 @@ pub fn readers_begin_with_the_file<F: FileForm>()
 
 /// Steps of a reader, one after another, are one step.
 pub fn steps_follow_one_another<F: FileForm>()
-    ensures none { (left : Option (List ℕ)) (state : RecordsState) → Steps F.form left left state state [] }
+    ensures none { (left : Option (List ℕ)) (state : RecordsState)
+        → Steps F.form left left state state [] }
     ensures records { (left middle left_new : Option (List ℕ)) (old now new : RecordsState)
         (some more : List ItemRead) → Steps F.form left middle old now some
-        → Steps F.form middle left_new now new more → Steps F.form left left_new old new (some ++ more) }
+        → Steps F.form middle left_new now new more
+        → Steps F.form left left_new old new (some ++ more) }
     ensures header_none { (left : Option (List ℕ)) (state : RecordsState)
         → HeaderSteps F.form left left state state }
     ensures header { (left middle left_new : Option (List ℕ)) (old now new : RecordsState)
@@ -129,7 +132,8 @@ pub fn too_many_bytes_stay_too_many<F: FileForm>()
     ensures header { (left left_new : Option (List ℕ)) (old new : RecordsState)
         → old.lines.taken ≡ 2 ^ 32 → is_waiting old.header ≡ true
         → PassesHeader F.form left left_new old new → ⊥ }
-    ensures refused { (fault : HeaderFault) (left left_new : Option (List ℕ)) (old new : RecordsState)
+    ensures refused { (fault : HeaderFault) (left left_new : Option (List ℕ))
+        (old new : RecordsState)
         → old.lines.taken ≡ 2 ^ 32 → is_waiting old.header ≡ true
         → BreaksHeader F.form left left_new old new fault → fault ≡ faults.Line TooLong }
 {}

@@ -39,7 +39,12 @@ impl<F: FileForm> Model for RecordReader<F> {
 
     ghost Value = { RecordsState };
 
-    ghost view = { λ r. record { header = r.header; kept = r.kept; first = r.first; lines = r.lines } };
+    ghost view = { λ r. record {
+      header = r.header;
+      kept = r.kept;
+      first = r.first;
+      lines = r.lines;
+    } };
 
     ghost invariant = { λ r. r.lines.number ≤ r.lines.taken };
 }
@@ -101,7 +106,8 @@ fn take_line<F: FileForm>(
     line: &[u8],
     number: u32,
 ) -> Option<ItemRead>
-    ensures none { IfNone result (TakesLine F.form kept.old first.old kept.new first.new line.now number []) }
+    ensures none { IfNone result
+        (TakesLine F.form kept.old first.old kept.new first.new line.now number []) }
     ensures whole { IfSome result (λ read. IsWholeRead read) }
     ensures some { IfSome result (λ read. IsRecord read
         × TakesLine F.form kept.old first.old kept.new first.new line.now number (read ∷ [])) }
@@ -152,13 +158,15 @@ fn pass_header<F: FileForm, S: Source>(
     ensures steps { (first : ℕ) → HeaderSteps F.form (S.left source.old) (S.left source.new)
         (state_of header.old [] first lines.old) (state_of header.new [] first lines.new) }
     ensures answer { MatchResult result (λ _. (header.new ≡ Passed) × (lines.new.taken < 2 ^ 32))
-        (λ fault. RefusedBy fault (state_of header.old [] 0 lines.old) (state_of header.new [] 0 lines.new)) }
+        (λ fault. RefusedBy fault (state_of header.old [] 0 lines.old)
+        (state_of header.new [] 0 lines.new)) }
     ensures failed { IsErrOf result (HeaderFault.Line LineFault.ReadFault)
         → Rose (S.faults source.old) (S.faults source.new) }
     ensures quiet { (IsErrOf result (HeaderFault.Line LineFault.ReadFault) → ⊥)
         → (S.faults source.new ≡ S.faults source.old) }
     ensures never { IsTrue (S.never_fails source.old)
-        → (IsErrOf result (HeaderFault.Line LineFault.ReadFault) → ⊥) × IsTrue (S.never_fails source.new) }
+        → (IsErrOf result (HeaderFault.Line LineFault.ReadFault) → ⊥)
+        × IsTrue (S.never_fails source.new) }
     ensures numbered { lines.new.number ≤ lines.new.taken }
 {
     'header: loop {
@@ -187,11 +195,15 @@ fn next_record<F: FileForm, S: Source>(
     source: &mut S,
 ) -> Result<ItemRead, LineFault>
     requires numbered { lines.old.number ≤ lines.old.taken }
-    ensures read { IfOk result (λ read. (header : HeaderState) → GivesRead F.form read (S.left source.old) (S.left source.new)
-        (state_of header kept.old first.old lines.old) (state_of header kept.new first.new lines.new)) }
+    ensures read { IfOk result (λ read. (header : HeaderState)
+        → GivesRead F.form read (S.left source.old) (S.left source.new)
+        (state_of header kept.old first.old lines.old)
+        (state_of header kept.new first.new lines.new)) }
     ensures whole { IfOk result (λ read. IsWholeRead read) }
-    ensures fault { IfErr result (λ fault. (header : HeaderState) → BreaksRecord F.form (S.left source.old) (S.left source.new)
-        (state_of header kept.old first.old lines.old) (state_of header kept.new first.new lines.new) fault) }
+    ensures fault { IfErr result (λ fault. (header : HeaderState)
+        → BreaksRecord F.form (S.left source.old) (S.left source.new)
+        (state_of header kept.old first.old lines.old)
+        (state_of header kept.new first.new lines.new) fault) }
     ensures failed { IsErrOf result LineFault.ReadFault
         → Rose (S.faults source.old) (S.faults source.new) }
     ensures quiet { OnOk result (S.faults source.new ≡ S.faults source.old) }
@@ -246,7 +258,8 @@ impl<F: FileForm> RecordReader<F> {
     /// come only where at most 4,294,967,295 bytes were taken.
     pub fn read_header<S: Source>(&mut self, source: &mut S) -> Result<(), HeaderFault>
         // What is to come behind the header are the records of the file, whatever bytes follow.
-        ensures header { OnOk result (PassesHeader F.form (S.left source.old) (S.left source.new) self.old self.new) }
+        ensures header { OnOk result (PassesHeader F.form (S.left source.old)
+            (S.left source.new) self.old self.new) }
 
         // The header is refused, whatever bytes follow, or after a fault the same file is to come.
         ensures fault { IfErr result (λ fault.
@@ -256,9 +269,11 @@ impl<F: FileForm> RecordReader<F> {
         ensures passed { self.old.header ≡ Passed
             → IsOk result × (self.new ≡ self.old) × (source.new ≡ source.old) }
         ensures refused { self.old.header ≡ NotRinexNav
-            → IsErrOf result HeaderFault.NotRinexNav × (self.new ≡ self.old) × (source.new ≡ source.old) }
+            → IsErrOf result HeaderFault.NotRinexNav × (self.new ≡ self.old)
+            × (source.new ≡ source.old) }
         ensures version { self.old.header ≡ OtherVersion
-            → IsErrOf result HeaderFault.Version × (self.new ≡ self.old) × (source.new ≡ source.old) }
+            → IsErrOf result HeaderFault.Version × (self.new ≡ self.old)
+            × (source.new ≡ source.old) }
 
         // A read fails only by the source's own count.
         ensures failed { IsErrOf result (HeaderFault.Line LineFault.ReadFault)
@@ -266,7 +281,8 @@ impl<F: FileForm> RecordReader<F> {
         ensures quiet { (IsErrOf result (HeaderFault.Line LineFault.ReadFault) → ⊥)
             → (S.faults source.new ≡ S.faults source.old) }
         ensures never { IsTrue (S.never_fails source.old)
-            → (IsErrOf result (HeaderFault.Line LineFault.ReadFault) → ⊥) × IsTrue (S.never_fails source.new) }
+            → (IsErrOf result (HeaderFault.Line LineFault.ReadFault) → ⊥)
+            × IsTrue (S.never_fails source.new) }
     {
         if !is_waiting(self.header) {
             return answer_of(self.header);

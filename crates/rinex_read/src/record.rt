@@ -130,7 +130,8 @@ impl RecordLines {
         ensures kept { self.new ≡ kept_with self.old line.now }
 
         // The lines that are kept are judged as those that were pushed, whatever lines follow.
-        ensures means { (more : List (List ℕ)) → judged (self.new ++ more) ≡ judged (self.old ++ line.now ∷ more) }
+        ensures means { (more : List (List ℕ)) → judged (self.new ++ more)
+            ≡ judged (self.old ++ line.now ∷ more) }
     {
         self.keep(line);
     }

@@ -29,7 +29,7 @@ pub(crate) struct RecordSaid {
 }
 
 // The layout of a kind.
-#[tactic(auto, unfolding(rinex_write::specs::Layouts::gps_kind, rinex_write::specs::Layouts::galileo_kind, rinex_write::specs::Layouts::gps_ionosphere_kind, rinex_write::specs::Layouts::galileo_ionosphere_kind))]
+#[tactic(auto, unfolding(rinex_write::specs::Layouts::gps_kind, rinex_write::specs::Layouts::galileo_kind, rinex_write::specs::Layouts::gps_ionosphere_kind, rinex_write::specs::Layouts::galileo_ionosphere_kind,))]
 fn layout_of(kind: RecordKind) -> Layout
     ensures columns { result.columns.now ≡ joined_rows (kind_by kind).rows }
     ensures rows { result.rows.now ≡ map length (kind_by kind).rows }
@@ -43,7 +43,7 @@ fn layout_of(kind: RecordKind) -> Layout
 }
 
 // The system of a kind.
-#[tactic(auto, unfolding(rinex_write::specs::Layouts::gps_kind, rinex_write::specs::Layouts::galileo_kind, rinex_write::specs::Layouts::gps_ionosphere_kind, rinex_write::specs::Layouts::galileo_ionosphere_kind))]
+#[tactic(auto, unfolding(rinex_write::specs::Layouts::gps_kind, rinex_write::specs::Layouts::galileo_kind, rinex_write::specs::Layouts::gps_ionosphere_kind, rinex_write::specs::Layouts::galileo_ionosphere_kind,))]
 fn system_of(kind: RecordKind) -> System
     ensures { result ≡ (kind_by kind).system }
 {
@@ -64,7 +64,8 @@ fn count_of(kind: RecordKind) -> usize
 // The fields of the lines of a record.
 fn fields_of(kind: RecordKind, lines: &[Line]) -> Result<Fields, Reason>
     requires { length (kind_by kind).rows ≤ length lines.now }
-    ensures read { Gives (λ fields. fields.items) result (read_rows (kind_by kind).rows 23 lines.now) }
+    ensures read { Gives (λ fields. fields.items) result (read_rows
+        (kind_by kind).rows 23 lines.now) }
     ensures are { IfOk result (λ fields. AreFields (joined_rows (kind_by kind).rows) fields.items) }
 {
     let layout = layout_of(kind);
@@ -93,7 +94,8 @@ pub(crate) fn ephemeris_said(
     lines: &[Line],
 ) -> Result<RecordSaid, Reason>
     ensures said { Gives view_said result (ephemeris_said (kind_by kind) title.now lines.now) }
-    ensures are { IfOk result (λ said. AreFields (joined_rows (kind_by kind).rows) said.fields.items) }
+    ensures are { IfOk result (λ said. AreFields (joined_rows
+        (kind_by kind).rows) said.fields.items) }
 {
     let sat = sat_of(system_of(kind), title)?;
     need(count_of(kind) <= lines.len(), Reason::Short)?;
@@ -115,7 +117,8 @@ pub(crate) fn ionosphere_said(
     lines: &[Line],
 ) -> Result<RecordSaid, Reason>
     ensures said { Gives view_said result (ionosphere_said (kind_by kind) title.now lines.now) }
-    ensures are { IfOk result (λ said. AreFields (joined_rows (kind_by kind).rows) said.fields.items) }
+    ensures are { IfOk result (λ said. AreFields (joined_rows
+        (kind_by kind).rows) said.fields.items) }
 {
     let sat = sat_of(system_of(kind), title)?;
     need(count_of(kind) <= lines.len(), Reason::Short)?;

@@ -28,13 +28,14 @@ fn has_title(title: &Line, class: &[u8], letter: &[u8], message: &[u8]) -> bool
     requires class { length class.now ≤ 4 }
     requires letter { length letter.now ≤ 4 }
     requires message { length message.now ≤ 4 }
-    ensures { result ≡ (stands_at 2 class.now title.now && stands_at 6 letter.now title.now && stands_at 10 message.now title.now) }
+    ensures { result ≡ (stands_at 2 class.now title.now && stands_at 6 letter.now title.now
+        && stands_at 10 message.now title.now) }
 {
     stands_at(title, 2, class) && stands_at(title, 6, letter) && stands_at(title, 10, message)
 }
 
 /// The title is one of that kind.
-#[tactic(auto, unfolding(rinex_write::specs::Layouts::gps_kind, rinex_write::specs::Layouts::galileo_kind, rinex_write::specs::Layouts::gps_ionosphere_kind, rinex_write::specs::Layouts::galileo_ionosphere_kind))]
+#[tactic(auto, unfolding(rinex_write::specs::Layouts::gps_kind, rinex_write::specs::Layouts::galileo_kind, rinex_write::specs::Layouts::gps_ionosphere_kind, rinex_write::specs::Layouts::galileo_ionosphere_kind,))]
 pub(crate) fn is_kind(kind: RecordKind, title: &Line) -> bool
     ensures { result ≡ is_kind (kind_by kind) title.now }
 {

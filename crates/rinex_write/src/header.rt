@@ -67,7 +67,8 @@ pub fn write_header_of<T: Sink>(
 ) -> Result<(), Failed>
     requires { words.now.leap < 100 }
     ensures bytes { MatchResult result
-        (λ _. Appends (T.written out.old) (T.written out.new) (text_of (header_lines_by version.now words.now)))
+        (λ _. Appends (T.written out.old) (T.written out.new) (text_of
+        (header_lines_by version.now words.now)))
         (λ _. AppendsFront (T.written out.old) (T.written out.new)
         (text_of (header_lines_by version.now words.now))) }
     ensures cause { HasCause (T.faults out.old) (T.faults out.new) result }
@@ -84,7 +85,8 @@ pub fn write_header<T: Sink>(words: &HeaderWords, out: &mut T) -> Result<(), Fai
     requires { words.now.leap < 100 }
     ensures bytes { MatchResult result
         (λ _. Appends (T.written out.old) (T.written out.new) (text_of (header_lines words.now)))
-        (λ _. AppendsFront (T.written out.old) (T.written out.new) (text_of (header_lines words.now))) }
+        (λ _. AppendsFront (T.written out.old) (T.written out.new) (text_of
+        (header_lines words.now))) }
     ensures cause { HasCause (T.faults out.old) (T.faults out.new) result }
 {
     write_header_of(b"     4.01", words, out)

@@ -197,7 +197,8 @@ fn item_record(item: &NavItem) -> Record
 pub fn write_item<T: Sink>(item: &NavItem, out: &mut T) -> Result<(), Failed>
     ensures bytes { MatchResult result
         (λ _. Appends (T.written out.old) (T.written out.new) (text_of (item_lines item.now)))
-        (λ _. AppendsFront (T.written out.old) (T.written out.new) (text_of (item_lines item.now))) }
+        (λ _. AppendsFront (T.written out.old) (T.written out.new) (text_of
+        (item_lines item.now))) }
     ensures cause { HasCause (T.faults out.old) (T.faults out.new) result }
 {
     out.write(&item_record(item))
@@ -224,7 +225,8 @@ fn titled_record(item: &NavItem) -> Record
 pub fn write_body<T: Sink>(item: &NavItem, out: &mut T) -> Result<(), Failed>
     ensures bytes { MatchResult result
         (λ _. Appends (T.written out.old) (T.written out.new) (text_of (body_lines item.now)))
-        (λ _. AppendsFront (T.written out.old) (T.written out.new) (text_of (body_lines item.now))) }
+        (λ _. AppendsFront (T.written out.old) (T.written out.new) (text_of
+        (body_lines item.now))) }
     ensures cause { HasCause (T.faults out.old) (T.faults out.new) result }
 {
     let record = titled_record(item);

@@ -57,5 +57,6 @@ pub fn headers_are_lines()
 
 /// The text of two lists of lines one behind the other is the two texts one behind the other.
 pub fn texts_follow_one_another()
-    ensures { (lines more : List (List ℕ)) → text_of (lines ++ more) ≡ text_of lines ++ text_of more }
+    ensures { (lines more : List (List ℕ)) → text_of (lines ++ more)
+        ≡ text_of lines ++ text_of more }
 {}

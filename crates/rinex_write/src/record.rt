@@ -119,7 +119,8 @@ pub(crate) fn append_table(text: &mut Record, layout: &Layout, fields: &[i64])
     requires table { IsTable layout.now.rows.now layout.now.columns.now }
     requires ready { AreReady layout.now.columns.now fields.now }
     requires room { array_vec_len text.old ≤ 100 }
-    ensures { (rows : List (List TableColumn)) → layout.now.columns.now ≡ joined_rows rows → layout.now.rows.now ≡ map length rows
+    ensures { (rows : List (List TableColumn)) → layout.now.columns.now ≡ joined_rows rows
+        → layout.now.rows.now ≡ map length rows
         → text.new.items ≡ text.old.items ++ text_of (row_lines [] rows fields.now) }
 {
     if let [first, more @ ..] = layout.rows {

@@ -64,7 +64,8 @@ fn hundredths(ten: i32) -> u128
 /// The size of a scale.
 pub(crate) fn ratio_of(scale: &Scale) -> Ratio
     requires { AreWithin scale.now.factor scale.now.two scale.now.ten }
-    ensures same { (size_of scale.now).over * (result.under * 10 ^ 20) ≡ result.over * (size_of scale.now).under }
+    ensures same { (size_of scale.now).over * (result.under * 10 ^ 20)
+        ≡ result.over * (size_of scale.now).under }
     ensures some { 0 < result.under }
     ensures under { result.under ≤ 2 ^ 59 }
     ensures least { result.under ≤ result.over }

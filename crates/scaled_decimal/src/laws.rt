@@ -27,10 +27,12 @@ pub fn one_text()
 
 /// At each accepted scale the text of a number stands for that number and for no other.
 pub fn texts_stand()
-    ensures for_it { (s : Scale) (z : ℤ) → AreWithin s.factor s.two s.ten → unsigned_abs z ≤ 4294967295
+    ensures for_it { (s : Scale) (z : ℤ) → AreWithin s.factor s.two s.ten
+        → unsigned_abs z ≤ 4294967295
         → StandsFor (size_of s) (number_text (size_of s) z) z }
     ensures for_no_other { (s : Scale) (y z : ℤ) → AreWithin s.factor s.two s.ten
-        → unsigned_abs z ≤ 4294967295 → StandsFor (size_of s) (number_text (size_of s) z) y → y ≡ z }
+        → unsigned_abs z ≤ 4294967295 → StandsFor (size_of s) (number_text (size_of s) z) y → y
+        ≡ z }
 {}
 
 /// A reader sees the number that a text stands for, if it stands for one, and sees blanks alone as blank.
@@ -51,6 +53,8 @@ pub fn texts_are_read()
 
 /// Of the texts without blanks at their ends, those of the grammar are read, with their value, and no others.
 pub fn texts_of_the_grammar_are_read()
-    ensures read { (text : List ℕ) (d : Decimal) → (decimal_of text ≡ Some d) ↔ IsDecimalText text d }
-    ensures refused { (text : List ℕ) → decimal_of text ≡ None → (d : Decimal) → IsDecimalText text d → ⊥ }
+    ensures read { (text : List ℕ) (d : Decimal) → (decimal_of text ≡ Some d)
+        ↔ IsDecimalText text d }
+    ensures refused { (text : List ℕ) → decimal_of text ≡ None → (d : Decimal)
+        → IsDecimalText text d → ⊥ }
 {}

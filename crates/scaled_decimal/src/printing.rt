@@ -76,7 +76,8 @@ fn shifted(over: u128, under: u128, place: u32) -> Ratio
 // Digits with a carry: 10^13 is 10^12 with the next exponent.
 fn carried(digits: u64, exponent: i32) -> Parts
     requires { exponent ≤ℤ pos 16 }
-    ensures { record { digits = result.digits; exponent = result.exponent } ≡ carried digits exponent }
+    ensures { record { digits = result.digits; exponent = result.exponent }
+        ≡ carried digits exponent }
 {
     if digits == 10_000_000_000_000 {
         Parts {
@@ -93,7 +94,8 @@ fn parts_of(number: u64, scale: &Scale) -> Parts
     requires some { 0 < number }
     requires small { number ≤ 4294967295 }
     requires scale { AreWithin scale.now.factor scale.now.two scale.now.ten }
-    ensures { record { digits = result.digits; exponent = result.exponent } ≡ parts_to (scaled number (size_of scale.now)) }
+    ensures { record { digits = result.digits; exponent = result.exponent }
+        ≡ parts_to (scaled number (size_of scale.now)) }
 {
     let size = ratio_of(scale);
     let over = u128::from(number) * size.over;
@@ -119,7 +121,8 @@ fn fill_digits(into: &mut [u8], number: u64)
 // Writes the last digits of a number into some columns of a text.
 fn put_digits(text: &mut [u8], from: usize, count: usize, number: u64)
     requires { from + count ≤ length text.old }
-    ensures { text.new ≡ take from text.old ++ (digits count number ++ drop (from + count) text.old) }
+    ensures { text.new ≡ take from text.old ++ (digits count number ++ drop
+        (from + count) text.old) }
 {
     fill_digits(&mut text[from..from + count], number);
 }
@@ -132,7 +135,8 @@ fn exponent_sign(exponent: i32) -> u8
 
 // The text of a sign, digits and an exponent.
 fn text_of(sign: u8, parts: &Parts) -> [u8; 19]
-    ensures { result ≡ sign ∷ body (record { digits = parts.now.digits; exponent = parts.now.exponent }) }
+    ensures { result ≡ sign ∷ body
+        (record { digits = parts.now.digits; exponent = parts.now.exponent }) }
 {
     let mut text = *b" 0.000000000000D+00";
     text[0] = sign;
@@ -147,7 +151,8 @@ fn text_of(sign: u8, parts: &Parts) -> [u8; 19]
 fn parts_at(number: u64, scale: &Scale) -> Parts
     requires small { number ≤ 4294967295 }
     requires scale { AreWithin scale.now.factor scale.now.two scale.now.ten }
-    ensures { record { digits = result.digits; exponent = result.exponent } ≡ parts_at (size_of scale.now) number }
+    ensures { record { digits = result.digits; exponent = result.exponent }
+        ≡ parts_at (size_of scale.now) number }
 {
     if number == 0 {
         Parts {

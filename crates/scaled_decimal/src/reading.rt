@@ -79,7 +79,9 @@ fn shifts(exponent: i32) -> (u32, u32)
 fn value_at(decimal: &Decimal, scale: &Scale) -> Option<u128>
     requires decimal { IsDecimalRead decimal.now.digits decimal.now.exponent }
     requires scale { AreWithin scale.now.factor scale.now.two scale.now.ten }
-    ensures { let value = at_size (size_of scale.now) (record { digits = decimal.now.digits; exponent = decimal.now.exponent }) in MatchOption result (4294967295 < nearest_to value) (λ n. n ≡ nearest_to value) }
+    ensures { let value = at_size (size_of scale.now)
+        (record { digits = decimal.now.digits; exponent = decimal.now.exponent })
+        in MatchOption result (4294967295 < nearest_to value) (λ n. n ≡ nearest_to value) }
 {
     let size = ratio_of(scale);
     let (up, down) = shifts(decimal.exponent + 20);
@@ -90,7 +92,10 @@ fn value_at(decimal: &Decimal, scale: &Scale) -> Option<u128>
 fn magnitude(decimal: &Decimal, scale: &Scale) -> Option<u64>
     requires decimal { IsDecimalRead decimal.now.digits decimal.now.exponent }
     requires scale { AreWithin scale.now.factor scale.now.two scale.now.ten }
-    ensures { let value = at_size (size_of scale.now) (record { digits = decimal.now.digits; exponent = decimal.now.exponent }) in MatchOption result (4294967295 < nearest_to value) (λ n. (n ≡ nearest_to value) × (n ≤ 4294967295)) }
+    ensures { let value = at_size (size_of scale.now)
+        (record { digits = decimal.now.digits; exponent = decimal.now.exponent })
+        in MatchOption result (4294967295 < nearest_to value) (λ n. (n ≡ nearest_to value)
+        × (n ≤ 4294967295)) }
 {
     let number = value_at(decimal, scale)?;
     if number > GREATEST {

@@ -23,7 +23,8 @@ impl Scale {
     /// A scale; None exactly where the factor is not within 1 to 60, `two` not within -59 to 16 or `ten` not within
     /// -2 to 0.
     pub fn new(pi: bool, factor: u32, two: i32, ten: i32) -> Option<Scale>
-        ensures { SomeIff result (AreWithin factor two ten) (record { pi = pi; factor = factor; two = two; ten = ten }) }
+        ensures { SomeIff result (AreWithin factor two ten)
+            (record { pi = pi; factor = factor; two = two; ten = ten }) }
     {
         if factor < 1 || factor > 60 {
             return None;
