@@ -1,12 +1,12 @@
 -- The header that is written is read.
-use Rattle.std.proofs.Common.{◌≡◌, ℕ, ◌+◌, ◌==◌, ◌/◌, nat_lt, true, false, if◌then◌else◌, List, [], ◌∷◌, ◌++◌, length, codes, Ok, refl, ap, sym, ◌∙◌, arith}
+use Rattle.std.proofs.Common.{◌≡◌, ℕ, List, ◌++◌, codes, Ok, refl, ap, sym, ◌∙◌, arith}
 use Rattle.scaled_decimal.specs.NumberText.{AreShown}
 use Rattle.rinex_write.specs.declared.header.HeaderWords.{HeaderWords}
-use Rattle.rinex_write.specs.Texts.{IsHeader, leap_text, header_lines_by}
+use Rattle.rinex_write.specs.Texts.{IsHeader, header_lines_by}
 use Rattle.rinex_write.proofs.Surface.{header_shown, length-header}
 use Rattle.rinex_read.specs.Lines.{columns, stands_at}
 use Rattle.rinex_read.specs.Forms.{is_version}
-use Rattle.rinex_read.specs.Files.{is_navigation, ends_header, header_of}
+use Rattle.rinex_read.specs.Files.{is_navigation, header_of}
 use Rattle.rinex_read.specs.RoundTrip.{AreHeaderLines}
 use Rattle.rinex_read.proofs.Surface.{date_passes, leap_passes, header_ends}
 use Rattle.rinex3_nav.specs.Form3.{rinex3}

@@ -1,5 +1,5 @@
 -- The records that are written of ephemerides stand for them.
-use Rattle.std.proofs.Common.{◌≡◌, ℕ, ◌+◌, ◌≤◌, ◌==◌, ◌&&◌, nat_le, not, true, false, if◌then◌else◌, List, [], ◌∷◌, ◌++◌, length, get_or, drop, codes, refl, ap, sym, ◌∙◌, arith, le-leb, ℤ, pos}
+use Rattle.std.proofs.Common.{◌≡◌, ℕ, ◌≤◌, ◌==◌, ◌&&◌, not, true, false, if◌then◌else◌, List, [], ◌∷◌, ◌++◌, length, get_or, drop, codes, refl, ap, sym, ◌∙◌, arith, le-leb, ℤ, pos}
 use Rattle.std.proofs.lemmas.Int.{ints}
 use Rattle.std.specs.List.{flat_map}
 use Rattle.scaled_decimal.specs.ScaleValue.{size_of, AreWithin}
@@ -19,12 +19,12 @@ use Rattle.rinex_write.specs.declared.columns.Column.{Column}
 use Rattle.rinex_write.specs.Columns.{row_text, row_lines}
 use Rattle.rinex_write.specs.Layouts.{gps_kind, galileo_kind, gps_rows, galileo_rows, semicircles, signed, toe_week}
 use Rattle.rinex_write.specs.Fields.{gps_fields, galileo_fields, gps_epoch, galileo_epoch}
-use Rattle.rinex_write.specs.Texts.{AreLines, letter_of, satellite_text, date_text, title_line, item_lines, title_of, body_lines}
+use Rattle.rinex_write.specs.Texts.{AreLines, letter_of, satellite_text, date_text, title_line, title_of, body_lines}
 use Rattle.rinex_write.proofs.Surface.{title_and_body, body_shown}
 use Rattle.rinex_read.specs.declared.judged.Judged.TheVariants as judgments
 use Rattle.rinex_read.specs.Lines.{columns}
 use Rattle.rinex_read.specs.Judging.{judged}
-use Rattle.rinex_read.specs.RoundTrip.{AreItems, NoneBegins, AreRecordLines, StandFor, AllStand}
+use Rattle.rinex_read.specs.RoundTrip.{AreItems, NoneBegins, AreRecordLines, AllStand}
 use Rattle.rinex_read.proofs.Surface.{columns_at, item_again}
 use Rattle.rinex3_nav.specs.Form3.{is_inav, says_inav, whole, titled, judged3, rinex3}
 use Rattle.rinex3_nav.specs.Texts3.{item3_lines, ephemerides}

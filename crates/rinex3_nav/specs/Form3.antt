@@ -1,6 +1,6 @@
 -- The form of RINEX 3 navigation files: versions, records, and what they stand for (RINEX 3.05, navigation message files; GPS
 -- LNAV and Galileo I/NAV).
-use Rattle.std.specs.Prelude.{ℕ, ◌/◌, ◌%◌, ◌==◌, ◌&&◌, ◌||◌, nat_le, not, Bool, true, false, if◌then◌else◌, List, [], ◌∷◌, ◌++◌, length, get_or, codes, Result, Ok, Err, ℤ, pos, unsigned_abs}
+use Rattle.std.specs.Prelude.{ℕ, ◌/◌, ◌%◌, ◌==◌, ◌&&◌, ◌||◌, nat_le, not, Bool, false, if◌then◌else◌, List, [], ◌∷◌, ◌++◌, length, get_or, codes, Result, Ok, Err, ℤ, pos, unsigned_abs}
 use Rattle.scaled_decimal.specs.declared.scales.Scale.{Scale}
 use Rattle.scaled_decimal.specs.declared.reading.DecimalFault.{DecimalFault}
 use Rattle.scaled_decimal.specs.ScaleValue.{size_of}

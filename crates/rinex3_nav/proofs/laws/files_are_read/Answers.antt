@@ -1,4 +1,4 @@
-use Rattle.std.proofs.Common.{◌≡◌, ℕ, List, ◌++◌, length, codes, Ok, ap, ◌∙◌}
+use Rattle.std.proofs.Common.{ℕ, List, ◌++◌, codes, Ok, ap, ◌∙◌}
 use Rattle.rinex_write.specs.Texts.{text_of}
 use Rattle.rinex_write.proofs.Surface.{length-header}
 use Rattle.rinex_read.specs.Files.{file_reads, items_read}
