@@ -1,2 +1,5 @@
 pub mod Lists
 pub mod Accepting
+pub mod WordEvents
+pub mod Knowing
+pub mod Bringing
