@@ -3,3 +3,5 @@ pub mod Accepting
 pub mod WordEvents
 pub mod Knowing
 pub mod Bringing
+pub mod AllItems
+pub mod HeardValues

@@ -19,7 +19,9 @@
 #![tactic(auto)]
 
 mod event;
+mod laws;
 mod reading;
 
 pub use crate::event::{Event, Refusal};
+pub use crate::laws::taken_parts_are_heard;
 pub use crate::reading::{message_event, subframe_event, word_event};
