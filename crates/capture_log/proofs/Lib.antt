@@ -5,3 +5,6 @@ pub mod Knowing
 pub mod Bringing
 pub mod AllItems
 pub mod HeardValues
+pub mod LaterParts
+pub mod Lasting
+pub mod AnyOrder
