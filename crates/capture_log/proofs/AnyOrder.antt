@@ -2,9 +2,9 @@
 use Rattle.std.proofs.Common.{◌≡◌, ℕ, ◌⊎◌, ◌↔◌, List, [], ◌∷◌, ◌++◌, All, Contains, Some, refl, sym, ap, subst, ◌∙◌}
 use Rattle.nav_eph.specs.Values.{IsPartValue}
 use Rattle.nav_eph.specs.declared.part.Part.{Part}
-use Rattle.period_items.specs.PeriodLists.{ArePeriods, items_in}
-use Rattle.period_items.specs.PeriodsOf.{periods_of}
-use Rattle.period_items.proofs.Surface.{ArePeriods-same}
+use Rattle.period_items.specs.PeriodLists.{ArePeriods, AreClosed}
+use Rattle.period_items.specs.PeriodsOf.{periods_of, closed_of}
+use Rattle.period_items.proofs.Surface.{ArePeriods-same, closed_at-are}
 use Rattle.capture_lines.specs.Late.{stamp_of, IsAccepted}
 use Rattle.capture_lines.specs.declared.item.LineItem.{LineItem}
 use Rattle.capture_log.specs.Events.{nothing_known}
@@ -50,3 +50,11 @@ periods_heard taken r w number items h =
     ArePeriods-same r w (Contains parts) (IsPartHeard w items) (periods_of r w parts)
     (record { to = λ p. (taken w number items p).0; from = λ p. (taken w number items p).1 })
     h
+
+-- and so are those that are closed
+pub closed_heard : (r w mark number : ℕ) (items : List LineItem)
+    → ArePeriods r w (IsPartHeard w items) (periods_of r w (parts_in (log_from w nothing_known number items)))
+    → AreClosed r w (IsPartHeard w items) mark (closed_of r w mark (parts_in (log_from w nothing_known number items)))
+unfolding closed_of
+closed_heard r w mark number items h =
+    closed_at-are r w (IsPartHeard w items) mark (periods_of r w (parts_in (log_from w nothing_known number items))) h

@@ -1,7 +1,7 @@
 -- Lines behind lines: the log goes on, and what is closed stays.
 use Rattle.std.proofs.Common.{◌≡◌, ℕ, suc, ◌+◌, ◌-◌, ◌^◌, ◌<◌, ◌≤◌, List, [], ◌∷◌, ◌++◌, length, map, All, Option, None, Some, refl, sym, ap, subst, ◌∙◌, append_assoc, arith}
 use Rattle.std.proofs.lemmas.Bool.{cond_both}
-use Rattle.std.proofs.lemmas.List.{map-append}
+use Rattle.std.proofs.lemmas.List.{map-append, length-map}
 use Rattle.std.proofs.lemmas.List.Concat.{flat_map-append}
 use Rattle.std.proofs.lemmas.List.Elements.{All-map, All-from_recursion}
 use Rattle.nav_io.specs.Lines.{Line}
@@ -66,6 +66,20 @@ mark_rises w lines more =
     ap (λ items. (known_from w nothing_known items).greatest) (map-append item_line lines more)
     ∙ ap (λ known. known.greatest) (known_append w nothing_known (items_of lines) (items_of more)) in
     omega (arith, up, same)
+
+-- the log and what is known go on
+pub lines_log : (w : ℕ) (lines more : List Line)
+    → log_of w (lines ++ more) ≡ log_of w lines ++ log_from w (known_from w nothing_known (items_of lines)) (2 + length lines) (items_of more)
+lines_log w lines more =
+    let then = known_from w nothing_known (items_of lines) in
+    ap (log_from w nothing_known 2) (map-append item_line lines more)
+    ∙ log_append w nothing_known 2 (items_of lines) (items_of more)
+    ∙ ap (λ n. log_of w lines ++ log_from w then (2 + n) (items_of more)) (length-map lines item_line)
+
+pub lines_known : (w : ℕ) (lines more : List Line)
+    → known_from w nothing_known (items_of (lines ++ more)) ≡ known_from w (known_from w nothing_known (items_of lines)) (items_of more)
+lines_known w lines more =
+    ap (known_from w nothing_known) (map-append item_line lines more) ∙ known_append w nothing_known (items_of lines) (items_of more)
 
 -- ---- the stamps of lines
 

@@ -33,11 +33,11 @@ stamp_by-le : (kind : HalfKind) (stamp : ℕ) → stamp ≤ stamp_by kind stamp
 stamp_by-le Even stamp = omega arith
 stamp_by-le Odd stamp = omega arith
 
-no_part : (event : Event) (part : Part) → (event ≡ Heard part → ⊥) → In (event ∷ []) (Heard part) → ⊥
+pub no_part : (event : Event) (part : Part) → (event ≡ Heard part → ⊥) → In (event ∷ []) (Heard part) → ⊥
 no_part event part other (inl e) = other e
 no_part event part other (inr h) = absurd h
 
-single : (event : Event) (part : Part) → In (event ∷ []) (Heard part) → event ≡ Heard part
+pub single : (event : Event) (part : Part) → In (event ∷ []) (Heard part) → event ≡ Heard part
 single event part (inl e) = e
 single event part (inr h) = absurd h
 

@@ -8,3 +8,4 @@ pub mod HeardValues
 pub mod LaterParts
 pub mod Lasting
 pub mod AnyOrder
+pub mod Sendable
