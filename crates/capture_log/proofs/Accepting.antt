@@ -1,15 +1,13 @@
 -- What is accepted, and heard, with one more item.
-use Rattle.std.proofs.Common.{◌≡◌, ℕ, ◌+◌, ◌<◌, ◌⊎◌, ◌↔◌, max, inl, inr, Bool, true, false, List, [], ◌∷◌, ◌++◌, Contains, Some, unwrap_or, refl, sym, ap, subst, ◌∙◌, ⊎_elim, append_assoc, arith}
+use Rattle.std.proofs.Common.{◌≡◌, ℕ, ◌⊎◌, max, inl, inr, false, List, [], ◌∷◌, ◌++◌, Some, unwrap_or, refl, sym, ap, subst, ◌∙◌, ⊎_elim, append_assoc, arith}
 use Rattle.nav_eph.specs.Satellite.{Satellite}
 use Rattle.nav_eph.specs.declared.part.Part.{Part}
 use Rattle.inav_page.specs.declared.signal.Signal.{Signal}
-use Rattle.inav_page.specs.Heard.{StampedHalf, IsHeard}
+use Rattle.inav_page.specs.Heard.{StampedHalf}
 use Rattle.inav_page.proofs.Surface.{still_heard}
 use Rattle.capture_lines.specs.Late.{stamp_of, IsLate, IsAccepted, greatest_stamp}
 use Rattle.capture_lines.specs.declared.item.LineItem.{LineItem}
-use Rattle.capture_lines.specs.declared.item.LineItem.TheVariants.{Lnav, Half, Frame}
-use Rattle.lnav_subframe.specs.Reading.{subframe_of}
-use Rattle.capture_log.specs.declared.event.Event.TheVariants.{Heard}
+use Rattle.capture_lines.specs.declared.item.LineItem.TheVariants.{Lnav, Half}
 use Rattle.capture_log.specs.Events.{half_of, is_alert}
 use Rattle.capture_log.specs.Heard.{IsOfSubframe, IsOfFrame, IsHalfHeard, IsOfWord, IsPartHeard}
 use Rattle.capture_log.proofs.Lists.{last_or_not}

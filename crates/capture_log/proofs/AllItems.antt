@@ -1,15 +1,14 @@
 -- The parts in the log of all items are those heard of them.
-use Rattle.std.proofs.Common.{◌≡◌, ℕ, ◌+◌, ◌⊎◌, ◌↔◌, inl, inr, List, [], ◌∷◌, ◌++◌, Contains, refl, sym, ap, subst, ◌∙◌, ⊎_elim, append_assoc, append-nil}
+use Rattle.std.proofs.Common.{◌≡◌, ℕ, ◌+◌, ◌⊎◌, ◌↔◌, inl, inr, List, [], ◌∷◌, ◌++◌, Contains, refl, sym, ap, subst, ⊎_elim, append_assoc, append-nil}
 use Rattle.std.proofs.lemmas.List.Concat.{flat_map-append}
 use Rattle.nav_eph.specs.declared.part.Part.{Part}
-use Rattle.inav_page.specs.Heard.{StampedHalf}
 use Rattle.capture_lines.specs.Late.{IsAccepted}
 use Rattle.capture_lines.specs.declared.item.LineItem.{LineItem}
 use Rattle.capture_log.specs.declared.event.Event.{Event}
 use Rattle.capture_log.specs.declared.event.Event.TheVariants.{Heard, Malformed, Late, Refused, Unused}
 use Rattle.capture_log.specs.Events.{Known, nothing_known, known_with, events_of}
 use Rattle.capture_log.specs.Log.{noted, log_from, parts_of_event, parts_in}
-use Rattle.capture_log.specs.Heard.{IsOfSubframe, IsOfFrame, IsHalfHeard, IsOfWord, IsPartHeard}
+use Rattle.capture_log.specs.Heard.{IsOfSubframe, IsOfFrame, IsOfWord, IsPartHeard}
 use Rattle.capture_log.proofs.Lists.{In, in_from_contains, contains_from_in, in_left, in_right, in_append, in_middle}
 use Rattle.capture_log.proofs.Accepting.{front_accepted, part_keeps}
 use Rattle.capture_log.proofs.Knowing.{HalfLaws, Knows, knows_more}

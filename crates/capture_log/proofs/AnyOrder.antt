@@ -1,6 +1,5 @@
 -- Which items are heard decides what is heard, and not how they come.
-use Rattle.std.proofs.Common.{◌≡◌, ℕ, ◌⊎◌, ◌↔◌, List, [], ◌∷◌, ◌++◌, All, Contains, Some, refl, sym, ap, subst, ◌∙◌}
-use Rattle.nav_eph.specs.Values.{IsPartValue}
+use Rattle.std.proofs.Common.{◌≡◌, ℕ, ◌↔◌, List, Contains, Some}
 use Rattle.nav_eph.specs.declared.part.Part.{Part}
 use Rattle.period_items.specs.PeriodLists.{ArePeriods, AreClosed}
 use Rattle.period_items.specs.PeriodsOf.{periods_of, closed_of}
@@ -10,7 +9,7 @@ use Rattle.capture_lines.specs.declared.item.LineItem.{LineItem}
 use Rattle.capture_log.specs.Events.{nothing_known}
 use Rattle.capture_log.specs.Log.{log_from, parts_in}
 use Rattle.capture_log.specs.Heard.{IsPartHeard, SameItems, NoneLate}
-use Rattle.capture_log.proofs.Lists.{In, contains_from_in, in_middle}
+use Rattle.capture_log.proofs.Lists.{contains_from_in, in_middle}
 use Rattle.capture_log.proofs.Accepting.{part_keeps}
 
 -- what is accepted of some items is accepted of the same ones, where none is late

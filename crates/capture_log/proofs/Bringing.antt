@@ -1,14 +1,14 @@
 -- What one more item brings is what is heard with it and was not heard before.
-use Rattle.std.proofs.Common.{◌≡◌, ℕ, ◌⊎◌, inl, inr, Bool, true, false, if◌then◌else◌, List, [], ◌∷◌, ◌++◌, Contains, Some, refl, sym, ap, subst, ◌∙◌, ⊎_elim}
-use Rattle.std.proofs.lemmas.Bool.{cond_both, both_ways, false_from_ne_true}
+use Rattle.std.proofs.Common.{◌≡◌, ℕ, ◌⊎◌, inl, inr, true, false, if◌then◌else◌, List, [], ◌∷◌, ◌++◌, Contains, Some, refl, sym, ap, subst, ◌∙◌, ⊎_elim}
+use Rattle.std.proofs.lemmas.Bool.{cond_both, both_ways}
 use Rattle.nav_eph.specs.Satellite.{Satellite}
 use Rattle.nav_eph.specs.declared.part.Part.{Part}
 use Rattle.inav_page.specs.declared.signal.Signal.{Signal}
-use Rattle.inav_page.specs.Heard.{StampedHalf, AreWordsWith, IsHeard, IsHeardWith, has_half, words_of}
+use Rattle.inav_page.specs.Heard.{StampedHalf, IsHeard, IsHeardWith, has_half, words_of}
 use Rattle.inav_page.specs.Pages.{word_of}
 use Rattle.inav_page.proofs.Surface.{still_heard, heard_with_one_more}
 use Rattle.inav_word.specs.Reading.{reading_of}
-use Rattle.capture_lines.specs.Late.{stamp_of, IsLate, IsAccepted}
+use Rattle.capture_lines.specs.Late.{stamp_of, IsLate}
 use Rattle.capture_lines.specs.declared.item.LineItem.{LineItem}
 use Rattle.capture_lines.specs.declared.item.LineItem.TheVariants.{Pass, Lnav, Half, Frame, Malformed as MalformedItem}
 use Rattle.lnav_subframe.specs.Reading.{subframe_of}
@@ -17,7 +17,7 @@ use Rattle.capture_log.specs.declared.event.Event.TheVariants.{Heard, Malformed,
 use Rattle.capture_log.specs.Events.{Known, of_subframe, of_frame, of_word, half_of, is_alert, is_late, of_half, of_words, new_words, events_of}
 use Rattle.capture_log.specs.Heard.{IsOfSubframe, IsOfFrame, IsHalfHeard, IsOfWord, IsPartHeard}
 use Rattle.capture_log.proofs.Lists.{In, in_from_contains, contains_from_in}
-use Rattle.capture_log.proofs.Accepting.{IsNewest, still_accepted, last_accepted, accepted_cases, half_keeps, IsNewHalf, half_cases, new_half_one}
+use Rattle.capture_log.proofs.Accepting.{still_accepted, last_accepted, accepted_cases, half_keeps, IsNewHalf, half_cases, new_half_one}
 use Rattle.capture_log.proofs.WordEvents.{words_bring, pair_brings}
 use Rattle.capture_log.proofs.Knowing.{HalfLaws, Knows, in_time, not_late, half_heard}
 
@@ -139,9 +139,9 @@ module _ (laws : HalfLaws) (w : ℕ) (items : List LineItem) (known : Known) (kn
   subframe_new item h = elim (accepted_cases w items item (Lnav h.stamp h.sat h.bits) h.accepted) [
     | inl was ↦ inl (inl (record { stamp = h.stamp; sat = h.sat; bits = h.bits; accepted = was; is = h.is }))
     | inr new ↦
-      let timely : IsLate w items h.stamp → ⊥ =
-      λ late. new.in_time (subst (IsLate w items) (stamp_is h.stamp new.stamp new.stamp_is) late) in
-      inr (subst (λ i. In (events_of w known i) (Heard part)) (sym new.is) (brings_subframe h.stamp h.sat h.bits timely h.is))
+        let timely : IsLate w items h.stamp → ⊥ =
+        λ late. new.in_time (subst (IsLate w items) (stamp_is h.stamp new.stamp new.stamp_is) late) in
+        inr (subst (λ i. In (events_of w known i) (Heard part)) (sym new.is) (brings_subframe h.stamp h.sat h.bits timely h.is))
   ]
 
   brings_frame : (stamp : ℕ) (bytes : List ℕ) → (IsLate w items stamp → ⊥) → Contains (of_frame stamp bytes) (Heard part)
@@ -154,9 +154,9 @@ module _ (laws : HalfLaws) (w : ℕ) (items : List LineItem) (known : Known) (kn
   frame_new item h = elim (accepted_cases w items item h.item h.accepted) [
     | inl was ↦ inl (inr (inl (record { stamp = h.stamp; item = h.item; bytes = h.bytes; item_is = h.item_is; accepted = was; is = h.is })))
     | inr new ↦
-      let own : Some h.stamp ≡ Some new.stamp = ap stamp_of (sym h.item_is) ∙ new.stamp_is in
-      let timely : IsLate w items h.stamp → ⊥ = λ late. new.in_time (subst (IsLate w items) (stamp_is h.stamp new.stamp own) late) in
-      inr (subst (λ i. In (events_of w known i) (Heard part)) (sym (new.is ∙ h.item_is)) (brings_frame h.stamp h.bytes timely h.is))
+        let own : Some h.stamp ≡ Some new.stamp = ap stamp_of (sym h.item_is) ∙ new.stamp_is in
+        let timely : IsLate w items h.stamp → ⊥ = λ late. new.in_time (subst (IsLate w items) (stamp_is h.stamp new.stamp own) late) in
+        inr (subst (λ i. In (events_of w known i) (Heard part)) (sym (new.is ∙ h.item_is)) (brings_frame h.stamp h.bytes timely h.is))
   ]
 
   -- a half that is new brings the words that it makes with those before it

@@ -1,5 +1,5 @@
 -- What is read brings parts with the stamp of what was read, and all parts heard are values.
-use Rattle.std.proofs.Common.{◌≡◌, ℕ, ◌^◌, ◌<◌, ◌⊎◌, inl, inr, Bool, true, false, if◌then◌else◌, List, [], ◌∷◌, ◌++◌, All, Contains, Option, None, Some, Result, Ok, Err, refl, sym, ap, subst, ◌∙◌, ⊎_elim}
+use Rattle.std.proofs.Common.{◌≡◌, ℕ, ◌^◌, ◌<◌, ◌⊎◌, inl, inr, List, [], ◌∷◌, All, Option, None, Some, Result, Ok, Err, refl, sym, ap, subst, ⊎_elim}
 use Rattle.std.proofs.lemmas.Bool.{cond_both}
 use Rattle.std.proofs.lemmas.List.Elements.{All-contains}
 use Rattle.nav_eph.specs.Satellite.{Satellite}
@@ -21,12 +21,11 @@ use Rattle.rtcm_eph.specs.declared.read.MessageParts.{MessageParts}
 use Rattle.rtcm_eph.specs.declared.read.MessageParts.TheVariants.{Gps as GpsParts, Gal as GalParts}
 use Rattle.capture_lines.specs.Late.{stamp_of, IsAccepted}
 use Rattle.capture_lines.specs.declared.item.LineItem.{LineItem}
-use Rattle.capture_lines.specs.declared.item.LineItem.TheVariants.{Lnav, Half, Frame}
-use Rattle.capture_log.specs.declared.event.Event.{Event}
+use Rattle.capture_lines.specs.declared.item.LineItem.TheVariants.{Lnav, Half}
 use Rattle.capture_log.specs.declared.event.Event.TheVariants.{Heard, Refused}
 use Rattle.capture_log.specs.declared.event.Refusal.TheVariants as refusals
 use Rattle.capture_log.specs.Events.{of_subframe, of_word_fault, of_second, of_word, of_message_fault, of_message, is_frame, of_frame}
-use Rattle.capture_log.specs.Heard.{IsOfSubframe, IsOfFrame, IsHalfHeard, IsOfWord, IsPartHeard}
+use Rattle.capture_log.specs.Heard.{IsOfSubframe, IsOfFrame, IsOfWord, IsPartHeard}
 use Rattle.capture_log.proofs.Lists.{In, in_from_contains, contains_from_in, in_middle}
 
 -- ---- an event that is heard is that of a part read

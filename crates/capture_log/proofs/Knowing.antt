@@ -1,23 +1,16 @@
 -- What is known after some items, and what they brought, are what is heard of them.
-use Rattle.std.proofs.Common.{◌≡◌, ℕ, ◌+◌, ◌<◌, ◌⊎◌, ◌↔◌, max, nat_lt, inl, inr, Bool, true, false, if◌then◌else◌, List, [], ◌∷◌, ◌++◌, Contains, Some, unwrap_or, refl, sym, ap, subst, ◌∙◌, ⊎_elim, append_assoc, arith, lt-ltb, ltb-true, ltb-false}
+use Rattle.std.proofs.Common.{◌≡◌, ℕ, ◌+◌, ◌<◌, ◌⊎◌, ◌↔◌, max, inl, inr, true, false, if◌then◌else◌, List, [], ◌∷◌, ◌++◌, Contains, unwrap_or, refl, sym, ap, subst, ◌∙◌, ⊎_elim, lt-ltb, ltb-true}
 use Rattle.std.proofs.lemmas.Bool.{cond_both, both_ways, false_from_ne_true}
 use Rattle.nav_eph.specs.Satellite.{Satellite}
-use Rattle.nav_eph.specs.declared.part.Part.{Part}
 use Rattle.inav_page.specs.declared.signal.Signal.{Signal}
-use Rattle.inav_page.specs.Heard.{StampedHalf, AreWordsWith, IsHeard, IsHeardWith, has_half, words_of}
-use Rattle.inav_page.proofs.Surface.{still_heard, heard_with_one_more}
-use Rattle.inav_word.specs.Reading.{reading_of}
-use Rattle.capture_lines.specs.Late.{stamp_of, IsLate, IsAccepted, greatest_stamp}
+use Rattle.inav_page.specs.Heard.{StampedHalf, AreWordsWith, has_half, words_of}
+use Rattle.capture_lines.specs.Late.{stamp_of, IsLate, greatest_stamp}
 use Rattle.capture_lines.specs.declared.item.LineItem.{LineItem}
 use Rattle.capture_lines.specs.declared.item.LineItem.TheVariants.{Pass, Lnav, Half, Frame, Malformed as MalformedItem}
-use Rattle.lnav_subframe.specs.Reading.{subframe_of}
-use Rattle.capture_log.specs.declared.event.Event.{Event}
-use Rattle.capture_log.specs.declared.event.Event.TheVariants.{Heard, Malformed, Late, Refused, Unused}
-use Rattle.capture_log.specs.Events.{Known, of_subframe, of_frame, of_word, half_of, is_alert, is_late, of_half, of_words, new_words, with_half, halves_with, events_of, known_with}
-use Rattle.capture_log.specs.Heard.{IsOfSubframe, IsOfFrame, IsHalfHeard, IsOfWord, IsPartHeard}
+use Rattle.capture_log.specs.Events.{Known, half_of, is_alert, is_late, with_half, halves_with, known_with}
+use Rattle.capture_log.specs.Heard.{IsHalfHeard}
 use Rattle.capture_log.proofs.Lists.{In, in_from_contains, contains_from_in}
-use Rattle.capture_log.proofs.Accepting.{greatest_more, IsNewest, still_accepted, last_accepted, accepted_cases, half_keeps, part_keeps, IsNewHalf, half_cases, new_half_one}
-use Rattle.capture_log.proofs.WordEvents.{words_bring, pair_brings}
+use Rattle.capture_log.proofs.Accepting.{greatest_more, still_accepted, last_accepted, half_keeps, IsNewHalf, half_cases}
 
 -- what the crates below say of halves and of late lines
 pub record HalfLaws : Type 0 where

@@ -1,13 +1,12 @@
 -- Lines behind lines: the log goes on, and what is closed stays.
-use Rattle.std.proofs.Common.{◌≡◌, ℕ, suc, ◌+◌, ◌-◌, ◌^◌, ◌<◌, ◌≤◌, List, [], ◌∷◌, ◌++◌, length, map, All, Option, None, Some, refl, sym, ap, subst, ◌∙◌, append_assoc, arith}
+use Rattle.std.proofs.Common.{◌≡◌, ℕ, suc, ◌+◌, ◌^◌, ◌<◌, ◌≤◌, List, [], ◌∷◌, ◌++◌, length, All, Some, refl, sym, ap, subst, ◌∙◌, append_assoc, arith}
 use Rattle.std.proofs.lemmas.Bool.{cond_both}
 use Rattle.std.proofs.lemmas.List.{map-append, length-map}
 use Rattle.std.proofs.lemmas.List.Concat.{flat_map-append}
-use Rattle.std.proofs.lemmas.List.Elements.{All-map, All-from_recursion}
+use Rattle.std.proofs.lemmas.List.Elements.{All-map}
 use Rattle.nav_io.specs.Lines.{Line}
 use Rattle.nav_eph.specs.Values.{IsPartValue}
 use Rattle.nav_eph.specs.declared.part.Part.{Part}
-use Rattle.period_items.specs.declared.closed.Closed.{Closed}
 use Rattle.period_items.specs.PeriodLists.{IsPrefix}
 use Rattle.period_items.specs.PeriodsOf.{periods_of, closed_of}
 use Rattle.capture_lines.specs.Late.{stamp_of}
@@ -16,7 +15,7 @@ use Rattle.capture_lines.specs.declared.item.LineItem.{LineItem}
 use Rattle.capture_lines.specs.declared.item.LineItem.TheVariants.{Malformed as MalformedItem}
 use Rattle.capture_log.specs.Events.{Known, nothing_known, item_line, known_with, events_of}
 use Rattle.capture_log.specs.Log.{noted, items_of, known_from, log_from, log_of, mark_after, parts_of_event, parts_in, parts_of}
-use Rattle.capture_log.proofs.Lists.{In, all_in}
+use Rattle.capture_log.proofs.Lists.{all_in}
 use Rattle.capture_log.proofs.HeardValues.{StampsFit}
 use Rattle.capture_log.proofs.LaterParts.{ReadsStamps, greatest_from, log_later}
 

@@ -1,23 +1,22 @@
 -- No part comes from before the mark, so what further lines bring is later.
-use Rattle.std.proofs.Common.{◌≡◌, ℕ, ◌+◌, ◌-◌, ◌<◌, ◌≤◌, max, inl, inr, Bool, true, false, if◌then◌else◌, List, [], ◌∷◌, ◌++◌, All, Contains, refl, sym, ap, subst, ◌∙◌, ⊎_elim, append_assoc, arith, ltb-false}
+use Rattle.std.proofs.Common.{◌≡◌, ℕ, ◌+◌, ◌-◌, ◌≤◌, inl, inr, false, if◌then◌else◌, List, [], ◌∷◌, sym, subst, ⊎_elim, arith, ltb-false}
 use Rattle.std.proofs.lemmas.Bool.{cond_both}
-use Rattle.nav_eph.specs.Satellite.{Satellite}
 use Rattle.nav_eph.specs.declared.part.Part.{Part}
 use Rattle.inav_page.specs.declared.half.HalfKind.{HalfKind}
 use Rattle.inav_page.specs.declared.half.HalfKind.TheVariants.{Even, Odd}
 use Rattle.inav_page.specs.Pages.{kind_of}
-use Rattle.inav_page.specs.Heard.{StampedHalf, stamp_by, has_half, words_of}
+use Rattle.inav_page.specs.Heard.{StampedHalf, stamp_by}
 use Rattle.inav_word.specs.Reading.{reading_of}
 use Rattle.capture_lines.specs.declared.item.LineItem.{LineItem}
 use Rattle.capture_lines.specs.declared.item.LineItem.TheVariants.{Pass, Lnav, Half, Frame, Malformed as MalformedItem}
 use Rattle.lnav_subframe.specs.Reading.{subframe_of}
 use Rattle.capture_log.specs.declared.event.Event.{Event}
 use Rattle.capture_log.specs.declared.event.Event.TheVariants.{Heard, Malformed, Late, Unused}
-use Rattle.capture_log.specs.Events.{Known, of_subframe, of_frame, of_word, half_of, is_alert, is_late, of_half, of_words, new_words, events_of, known_with}
+use Rattle.capture_log.specs.Events.{Known, of_subframe, of_frame, of_word, half_of, is_alert, is_late, of_words, new_words, events_of, known_with}
 use Rattle.capture_log.specs.Log.{known_from, log_from, parts_in}
-use Rattle.capture_log.proofs.Lists.{In, in_flat_map, contains_from_in}
+use Rattle.capture_log.proofs.Lists.{In, in_flat_map}
 use Rattle.capture_log.proofs.HeardValues.{HoldsOfRead, of_subframe_part, of_word_part, of_frame_part}
-use Rattle.capture_log.proofs.AllItems.{first_or_later, parts_first}
+use Rattle.capture_log.proofs.AllItems.{first_or_later}
 
 abbrev pub Always : ℕ → Type 0
 Always stamp = Unit {0}

@@ -1,5 +1,5 @@
 -- Each part of a capture's lines is one that its satellite can send.
-use Rattle.std.proofs.Common.{◌≡◌, ℕ, ◌+◌, ◌⊎◌, inl, inr, if◌then◌else◌, List, [], ◌∷◌, All, Contains, Ok, refl, sym, subst, ⊎_elim}
+use Rattle.std.proofs.Common.{◌≡◌, ℕ, ◌+◌, inl, inr, if◌then◌else◌, List, [], ◌∷◌, All, Ok, refl, subst, ⊎_elim}
 use Rattle.std.proofs.lemmas.Bool.{cond_both}
 use Rattle.std.proofs.lemmas.List.Elements.{All-contains}
 use Rattle.nav_io.specs.Lines.{Line}

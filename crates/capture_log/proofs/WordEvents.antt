@@ -1,7 +1,6 @@
 -- What the words of a half bring: what they do by its two parts, whichever is even.
-use Rattle.std.proofs.Common.{◌≡◌, ℕ, ◌⊎◌, inl, inr, List, map, flat_map, Contains, refl, sym, ap, subst, ◌∙◌, ⊎_elim}
+use Rattle.std.proofs.Common.{◌≡◌, ℕ, inl, inr, List, map, flat_map, refl, sym, ap, subst, ◌∙◌, ⊎_elim}
 use Rattle.nav_eph.specs.Satellite.{Satellite}
-use Rattle.inav_page.specs.declared.half.HalfKind.{HalfKind}
 use Rattle.inav_page.specs.Pages.{kind_of, word_of}
 use Rattle.inav_page.specs.Heard.{StampedHalf, MakeWord, ArePartners, AreWordsWith, IsHeardWith, word_by, word_with, stamp_by}
 use Rattle.capture_log.proofs.Lists.{In, in_from_contains, contains_from_in, in_flat_map, flat_map_in, in_map, map_in}
