@@ -1,6 +1,6 @@
 -- The parts heard, by a look at all items of a capture at once: those of its accepted subframes, of the messages in its accepted frames, and of
 -- the words that its accepted halves make.
-use Rattle.std.specs.Prelude.{◌≡◌, ◌⊎◌, ◌↔◌, ℕ, Bool, false, List, Contains, Some}
+use Rattle.std.specs.Prelude.{◌≡◌, ◌⊎◌, ◌↔◌, ℕ, false, List, Contains, Some}
 use Rattle.nav_eph.specs.Satellite.{Satellite}
 use Rattle.nav_eph.specs.declared.part.Part.{Part}
 use Rattle.inav_page.specs.declared.signal.Signal.{Signal}
