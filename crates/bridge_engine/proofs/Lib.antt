@@ -1,5 +1,8 @@
 mod Breakings
+mod Digits
 mod Feeding
 mod Goings
+mod Noting
 mod Numbers
 mod SoFar
+mod Weighing
