@@ -1,11 +1,11 @@
 -- Events after events: what was taken, reported and counted of them.
 use Rattle.std.proofs.Common.{◌≡◌, ℕ, ◌+◌, List, [], ◌∷◌, ◌++◌, map, sum, refl, sym, ap, subst, ◌∙◌, arith, append_assoc, append-nil}
 use Rattle.std.specs.Prelude.{Option, Result, Ok, Err, OnOk, OnErr}
-use Rattle.std.specs.List.{flat_map}
+use Rattle.std.specs.List.{flat_map, sum_by}
 use Rattle.std.specs.Io.KnownBytes.{Appends}
 use Rattle.std.proofs.KnownBytes.{Appends-nil, Appends-trans}
 use Rattle.std.proofs.lemmas.Grind.{flat_map-append}
-use Rattle.std.proofs.lemmas.List.{map-append}
+use Rattle.std.proofs.lemmas.List.Sums.{sum-map, sum_by-append}
 use Rattle.nav_io.specs.Front.{AppendsFront}
 use Rattle.nav_eph.specs.declared.part.Part.{Part}
 use Rattle.issue_periods.specs.Standing.{Standing, Carries, adding}
@@ -26,8 +26,9 @@ pub line_report-append : (xs ys : List Noted) → line_report (xs ++ ys) ≡ lin
 line_report-append xs ys = flat_map-append _ xs ys
 
 pub count_in-append : (kind : Event → ℕ) (xs ys : List Noted) → count_in kind (xs ++ ys) ≡ count_in kind xs + count_in kind ys
-count_in-append kind [] ys = refl
-count_in-append kind (x ∷ xs) ys = omega (arith, count_in-append kind xs ys)
+count_in-append kind xs ys =
+    let f = λ (n : Noted). kind n.event in
+    sum-map f (xs ++ ys) ∙ sum_by-append f xs ys ∙ sym (ap (λ m. m + sum (map f ys)) (sum-map f xs) ∙ ap (λ m. sum_by f xs + m) (sum-map f ys))
 
 tally_is : (t : Tally) (malformed late refused unused : ℕ) → malformed ≡ t.malformed → late ≡ t.late → refused ≡ t.refused → unused ≡ t.unused
     → t ≡ record { malformed = malformed; late = late; refused = refused; unused = unused }
