@@ -1,8 +1,10 @@
 mod Breakings
 mod Digits
 mod Feeding
+mod FrameEvents
 mod Goings
 mod Noting
 mod Numbers
 mod SoFar
 mod Weighing
+mod WordsHeard

@@ -20,7 +20,7 @@ use lnav_subframe::read_subframe;
 use nav_bits::Bits;
 use nav_eph::Sat;
 use nav_io::Sink;
-use rtcm_eph::{MessageParts, read_message};
+use rtcm_eph::{MessageParts, message_parts, read_message};
 use rtcm_frame::frame_of;
 
 // Takes what a subframe brings.
@@ -77,6 +77,7 @@ pub(crate) fn take_frame<A: Assembly, U: Sink>(
         let refused = Event::Refused(Refusal::Frame);
         return take_event(&refused, number, least, assembly, report, tally);
     };
+    message_parts();
     match read_message(frame.payload(), stamp) {
         Ok(MessageParts::Gps { clock, a, b }) => {
             let events = [Event::Heard(clock), Event::Heard(a), Event::Heard(b)];
