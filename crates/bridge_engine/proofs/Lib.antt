@@ -3,6 +3,7 @@ mod Digits
 mod Feeding
 mod FrameEvents
 mod Goings
+mod ItemEvents
 mod Keeping
 mod Noting
 mod Numbers
