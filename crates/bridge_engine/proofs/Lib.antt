@@ -1,5 +1,12 @@
 mod Breakings
+mod Digits
 mod Feeding
+mod FrameEvents
 mod Goings
+mod ItemEvents
+mod Keeping
+mod Noting
 mod Numbers
 mod SoFar
+mod Weighing
+mod WordsHeard
