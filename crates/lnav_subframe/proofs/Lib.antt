@@ -5,3 +5,4 @@ pub mod Again
 pub mod Functions
 pub mod Values
 pub mod Bytes
+pub mod Stand
