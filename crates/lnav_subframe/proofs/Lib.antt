@@ -6,3 +6,4 @@ pub mod Functions
 pub mod Values
 pub mod Bytes
 pub mod Stand
+pub mod Surface
