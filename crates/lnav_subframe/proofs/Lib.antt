@@ -7,3 +7,4 @@ pub mod Values
 pub mod Bytes
 pub mod Stand
 pub mod Surface
+pub mod Order

@@ -1,4 +1,4 @@
-ghost use Rattle.std.specs.Prelude.{◌≡◌, ℕ, ◌<◌, ◌^◌, List, IfErr, IfOk, Ok, Result};
+ghost use Rattle.std.specs.Prelude.{◌≡◌, ℕ, ◌<◌, ◌^◌, ◌↔◌, List, IfErr, IfOk, Ok, Err, Result};
 ghost use Rattle.nav_eph.specs.Conditions.{IsPart};
 ghost use Rattle.nav_eph.specs.Values.{IsPartValue};
 ghost use Rattle.nav_eph.specs.declared.sat.System.TheVariants.{Gps};
@@ -8,6 +8,7 @@ ghost use Rattle.lnav_subframe.specs.declared.fault.LnavFault.{LnavFault};
 ghost use Rattle.lnav_subframe.specs.declared.out.SubframeOut.{SubframeOut};
 ghost use Rattle.nav_bits.specs.Packed.{AreBytes};
 ghost use Rattle.lnav_subframe.specs.Bytes.{HasDigits, subframe_bytes};
+ghost use Rattle.lnav_subframe.specs.Faults.{IsFirstInOrder};
 ghost use Rattle.lnav_subframe.specs.Reading.{IsFirstFault, StandsFor, heard, subframe_of};
 ghost use Rattle.lnav_subframe.specs.Writing.{AllReadAs, HasTime, IsWritable, IsWritten, read_again};
 
@@ -34,6 +35,12 @@ pub fn subframe_function()
     ensures only { (bits : List ℕ) (sat : Satellite) (stamp : ℕ) (r : Result Part LnavFault) →
         IfOk r (StandsFor bits sat stamp) → IfErr r (IsFirstFault bits) →
         r ≡ subframe_of bits sat stamp }
+{}
+
+/// Bits are refused with a fault exactly where it is the first that the subframe has.
+pub fn refused_by_the_first_fault()
+    ensures { (bits : List ℕ) (sat : Satellite) (stamp : ℕ) (fault : LnavFault) →
+        (subframe_of bits sat stamp ≡ Err fault) ↔ IsFirstInOrder bits fault }
 {}
 
 /// A part that is read has the stamp and the satellite with which it was heard, is one that a satellite of
