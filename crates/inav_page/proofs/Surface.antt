@@ -1,4 +1,4 @@
--- What crates above cite: laws on the words heard of halves of which any predicate is true.
+-- What crates above cite: laws on the words heard of halves of which any predicate is true, and the parts of a word.
 use Rattle.std.proofs.Common.{◌≡◌, ℕ, ◌<◌, Bool, true, false, List, [], ◌∷◌, ◌⊎◌, ◌↔◌, map, Contains, inl, inr, refl, sym, ap, ◌∙◌, ⊎_elim, arith}
 use Rattle.std.proofs.lemmas.Bool.{true≢false}
 use Rattle.inav_page.specs.declared.half.HalfKind.{HalfKind}
@@ -6,6 +6,7 @@ use Rattle.inav_page.specs.declared.half.HalfKind.TheVariants.{Even, Odd}
 use Rattle.inav_page.specs.Pages.{kind_of}
 use Rattle.inav_page.specs.Heard.{StampedHalf, IsAbove, IsAscending, AreWordsWith, IsHeard, IsHeardWith, word_with}
 use Rattle.inav_page.proofs.Membership.{IsIn, in_contains, contains_in}
+pub use Rattle.inav_page.proofs.PageNumbers.{only_parts, parts_split}
 
 abbrev is_odd : HalfKind → Bool
 is_odd Even = false

@@ -1,2 +1,3 @@
 pub mod WordBytes
 pub mod Values
+pub mod Surface

@@ -153,13 +153,13 @@ by_source bits a sat stamp r is p q =
     read_as bits (content a) sat stamp r is.preamble is.good
     (λ b is'. content_same a b (two_agree (upright bits) a b is.data_bits is'.data_bits)) p q
 
-same_word : (bits : List ℕ) (w v : ℕ) → IsFirstBad bits w → IsFirstBad bits v → w ≡ v
+pub same_word : (bits : List ℕ) (w v : ℕ) → IsFirstBad bits w → IsFirstBad bits v → w ≡ v
 same_word bits w v p q =
     let over : w < v → ⊥ = λ h. p.bad (q.before (w - 1) (omega (arith, p.low, h))) in
     let under : v < w → ⊥ = λ h. q.bad (p.before (v - 1) (omega (arith, q.low, h))) in
     omega (arith, over, under)
 
-good_before : (bits : List ℕ) (w : ℕ) → AreGood bits 10 → IsFirstBad bits w → ⊥
+pub good_before : (bits : List ℕ) (w : ℕ) → AreGood bits 10 → IsFirstBad bits w → ⊥
 good_before bits w good first = first.bad (good (w - 1) (omega (arith, first.low, first.high)))
 
 -- the answers to bits that do not begin as a subframe, and to bits with a bad word

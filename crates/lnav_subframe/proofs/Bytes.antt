@@ -71,14 +71,14 @@ data_stand (Other number page) count a has x =
       (x.1.1, (x.1.2, (x.1.3, (x.1.5, (x.1.6, (x.1.7, (x.1.8, tt))))))),
     )
 
-data_fits : (body : SubframeOut) (count : ℕ) → HasDigits body → count < 100800 → AllFit (data_table body count)
+pub data_fits : (body : SubframeOut) (count : ℕ) → HasDigits body → count < 100800 → AllFit (data_table body count)
 data_fits (Clock clock side wn) count has low = (lit< tt, (omega (arith, low), (lit< tt, (has.2, (has.1.l2_code, (has.1.ura, (has.1.health, (omega (arith, has.0.iodc), (has.1.l2p, (omega arith, has.0.tgd, (mod_below clock.iodc 256 (lit< tt), (omega (arith, has.0.toc), (omega arith, has.0.af2, (omega arith, has.0.af1, (omega arith, has.0.af0, tt)))))))))))))))
 data_fits (OrbitA orbit fit) count has low = (lit< tt, (omega (arith, low), (lit< tt, (has.0.iode, (omega arith, has.0.crs, (omega arith, has.0.delta_n, (high_signed-lt orbit.m0 has.0.m0, (mod_below (unsigned_of 32 orbit.m0) 16777216 (lit< tt), (omega arith, has.0.cuc, (omega (arith, has.0.e), (mod_below orbit.e 16777216 (lit< tt), (omega arith, has.0.cus, (omega (arith, has.0.root_a), (mod_below orbit.root_a 16777216 (lit< tt), (omega (arith, has.0.toe), (has.1, tt))))))))))))))))
 data_fits (OrbitB orbit) count has low = (lit< tt, (omega (arith, low), (lit< tt, (omega arith, has.cic, (high_signed-lt orbit.omega0 has.omega0, (mod_below (unsigned_of 32 orbit.omega0) 16777216 (lit< tt), (omega arith, has.cis, (high_signed-lt orbit.i0 has.i0, (mod_below (unsigned_of 32 orbit.i0) 16777216 (lit< tt), (omega arith, has.crc, (high_signed-lt orbit.omega has.omega, (mod_below (unsigned_of 32 orbit.omega) 16777216 (lit< tt), (omega arith, has.omega_dot, (has.iode, (omega arith, has.idot, tt)))))))))))))))
 data_fits (Ion ion) count has low = (lit< tt, (omega (arith, low), (lit< tt, (lit< tt, (lit< tt, (omega arith, has.alpha0, (omega arith, has.alpha1, (omega arith, has.alpha2, (omega arith, has.alpha3, (omega arith, has.beta0, (omega arith, has.beta1, (omega arith, has.beta2, (omega arith, has.beta3, tt)))))))))))))
 data_fits (Other number page) count has low = (lit< tt, (omega (arith, low), (has.0, (lit< tt, (has.1, tt)))))
 
-data_width : (body : SubframeOut) (count : ℕ) → table_width (data_table body count) ≡ 300
+pub data_width : (body : SubframeOut) (count : ℕ) → table_width (data_table body count) ≡ 300
 data_width (Clock clock side wn) count = refl
 data_width (OrbitA orbit fit) count = refl
 data_width (OrbitB orbit) count = refl
@@ -121,12 +121,12 @@ number-lt k bits last fits =
     cond_both (nat_eq k 1 || nat_eq k 9) (solved_of (bits / 4) last) (made_of bits last) (λ w. w < 2 ^ 30)
     (λ e. solved-lt (bits / 4) last (omega arith)) (λ e. made-lt bits last fits)
 
-words_fit : (d : ℕ → ℕ) (last k n : ℕ) → ((j : ℕ) → d j < 2 ^ 24) → AllFit (word_fields d last k n)
+pub words_fit : (d : ℕ → ℕ) (last k n : ℕ) → ((j : ℕ) → d j < 2 ^ 24) → AllFit (word_fields d last k n)
 unfolding word_fields
 words_fit d last k zero low = tt
 words_fit d last k (suc n) low = (number-lt k (d k) last (low k), words_fit d (word_number k (d k) last % 4) (suc k) n low)
 
-words_width : (d : ℕ → ℕ) (last k n : ℕ) → table_width (word_fields d last k n) ≡ 30 * n + 4
+pub words_width : (d : ℕ → ℕ) (last k n : ℕ) → table_width (word_fields d last k n) ≡ 30 * n + 4
 unfolding word_fields
 words_width d last k zero = refl
 words_width d last k (suc n) = omega (arith, words_width d (word_number k (d k) last % 4) (suc k) n)

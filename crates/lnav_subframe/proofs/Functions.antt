@@ -20,7 +20,7 @@ use Rattle.lnav_subframe.proofs.Faults.{first_fault}
 
 -- ---- the preamble
 
-preamble_true : (bits : List ℕ) → has_preamble bits ≡ true → HasPreamble bits
+pub preamble_true : (bits : List ℕ) → has_preamble bits ≡ true → HasPreamble bits
 unfolding has_preamble
 preamble_true bits e = one (nat_eq (number_at bits 0 8) 139) refl e
   where
@@ -28,7 +28,7 @@ preamble_true bits e = one (nat_eq (number_at bits 0 8) 139) refl e
     one true is e = inl (eqb-true _ _ is)
     one false is e = inr (eqb-true _ _ e)
 
-preamble_false : (bits : List ℕ) → has_preamble bits ≡ false → HasPreamble bits → ⊥
+pub preamble_false : (bits : List ℕ) → has_preamble bits ≡ false → HasPreamble bits → ⊥
 unfolding has_preamble
 preamble_false bits e (inl is) = true≢false (sym (rw is refl) ∙ e)
 preamble_false bits e (inr is) = true≢false (sym (rw is refl) ∙ e)
@@ -36,17 +36,17 @@ preamble_false bits e (inr is) = true≢false (sym (rw is refl) ∙ e)
 -- ---- the words
 
 -- the n words from the index k on are good
-abbrev Goods : List ℕ → ℕ → ℕ → Type 0
+abbrev pub Goods : List ℕ → ℕ → ℕ → Type 0
 Goods bits k n = (j : ℕ) → k ≤ j → j < k + n → IsGood (word_of bits j) (last_before bits j)
 
 -- word, counted from 1, is the first of the n words from the index k on that is not good
-record IsBad (bits : List ℕ) (k n word : ℕ) : Type 0 where
-  low : suc k ≤ word
-  high : word ≤ k + n
-  before : (j : ℕ) → k ≤ j → suc j < word → IsGood (word_of bits j) (last_before bits j)
-  bad : IsGood (word_of bits (word - 1)) (last_before bits (word - 1)) → ⊥
+pub record IsBad (bits : List ℕ) (k n word : ℕ) : Type 0 where
+  pub low : suc k ≤ word
+  pub high : word ≤ k + n
+  pub before : (j : ℕ) → k ≤ j → suc j < word → IsGood (word_of bits j) (last_before bits j)
+  pub bad : IsGood (word_of bits (word - 1)) (last_before bits (word - 1)) → ⊥
 
-abbrev Judged : List ℕ → ℕ → ℕ → Option ℕ → Type 0
+abbrev pub Judged : List ℕ → ℕ → ℕ → Option ℕ → Type 0
 Judged bits k n None = Goods bits k n
 Judged bits k n (Some word) = IsBad bits k n word
 
@@ -65,7 +65,7 @@ one_more bits k n (Some word) good rest = record {
   bad = rest.bad;
 }
 
-judged : (bits : List ℕ) (k n : ℕ) → Judged bits k n (bad_word_from bits k n)
+pub judged : (bits : List ℕ) (k n : ℕ) → Judged bits k n (bad_word_from bits k n)
 unfolding bad_word_from
 judged bits k zero = λ j low high. absurd (omega arith)
 judged bits k (suc n) =
@@ -80,7 +80,7 @@ judged bits k (suc n) =
           true≢false (sym ((good-decides (word_of bits k) (last_before bits k)).1 here) ∙ bad);
     })
 
-first_bad : (bits : List ℕ) (word : ℕ) → IsBad bits 0 10 word → IsFirstBad bits word
+pub first_bad : (bits : List ℕ) (word : ℕ) → IsBad bits 0 10 word → IsFirstBad bits word
 first_bad bits word is = record {
   low = is.low;
   high = is.high;

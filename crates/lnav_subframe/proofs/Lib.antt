@@ -5,3 +5,6 @@ pub mod Again
 pub mod Functions
 pub mod Values
 pub mod Bytes
+pub mod Stand
+pub mod Surface
+pub mod Order

@@ -3,3 +3,4 @@ pub mod Subframes
 pub mod Reading
 pub mod Writing
 pub mod Bytes
+pub mod Faults

@@ -1,4 +1,4 @@
-ghost use Rattle.std.specs.Prelude.{◌≡◌, ℕ, ◌<◌, ◌^◌, List, IfErr, IfOk, Ok, Result};
+ghost use Rattle.std.specs.Prelude.{◌≡◌, ℕ, ◌<◌, ◌^◌, ◌↔◌, List, IfErr, IfOk, Ok, Err, Result};
 ghost use Rattle.nav_eph.specs.Conditions.{IsPart};
 ghost use Rattle.nav_eph.specs.Values.{IsPartValue};
 ghost use Rattle.nav_eph.specs.declared.sat.System.TheVariants.{Gps};
@@ -8,7 +8,8 @@ ghost use Rattle.lnav_subframe.specs.declared.fault.LnavFault.{LnavFault};
 ghost use Rattle.lnav_subframe.specs.declared.out.SubframeOut.{SubframeOut};
 ghost use Rattle.nav_bits.specs.Packed.{AreBytes};
 ghost use Rattle.lnav_subframe.specs.Bytes.{HasDigits, subframe_bytes};
-ghost use Rattle.lnav_subframe.specs.Reading.{IsFirstFault, StandsFor, subframe_of};
+ghost use Rattle.lnav_subframe.specs.Faults.{IsFirstInOrder};
+ghost use Rattle.lnav_subframe.specs.Reading.{IsFirstFault, StandsFor, heard, subframe_of};
 ghost use Rattle.lnav_subframe.specs.Writing.{AllReadAs, HasTime, IsWritable, IsWritten, read_again};
 
 /// What was written is read as the same fields, with the second at which the subframe starts; a page that
@@ -36,6 +37,12 @@ pub fn subframe_function()
         r ≡ subframe_of bits sat stamp }
 {}
 
+/// Bits are refused with a fault exactly where it is the first that the subframe has.
+pub fn refused_by_the_first_fault()
+    ensures { (bits : List ℕ) (sat : Satellite) (stamp : ℕ) (fault : LnavFault) →
+        (subframe_of bits sat stamp ≡ Err fault) ↔ IsFirstInOrder bits fault }
+{}
+
 /// A part that is read has the stamp and the satellite with which it was heard, is one that a satellite of
 /// GPS can send, and has its fields within their digits.
 pub fn subframe_parts()
@@ -53,4 +60,15 @@ pub fn subframe_parts()
 pub fn subframes_are_the_function()
     ensures { (body : SubframeOut) (count : ℕ) (bits : List ℕ) → HasDigits body → count < 100800 →
         AreBytes 38 bits → IsWritten body count bits → bits ≡ subframe_bytes body count }
+{}
+
+/// The bytes of `subframe_bytes` are those of a subframe with these fields and this count, and they are read
+/// as it was written.
+pub fn subframe_bytes_are_written()
+    ensures written { (body : SubframeOut) (count : ℕ) → HasDigits body → count < 100800 →
+        IsWritten body count (subframe_bytes body count) }
+    ensures size { (body : SubframeOut) (count : ℕ) → AreBytes 38 (subframe_bytes body count) }
+    ensures read { (body : SubframeOut) (count : ℕ) (sat : Satellite) (stamp : ℕ) →
+        HasDigits body → count < 100800 → IsWritable body →
+        subframe_of (subframe_bytes body count) sat stamp ≡ heard sat stamp (read_again body count) }
 {}

@@ -40,7 +40,8 @@ pub use crate::clock::Subframe1;
 pub use crate::fault::LnavFault;
 pub use crate::head::Head;
 pub use crate::laws::{
-    one_answer, subframe_function, subframe_parts, subframes_are_the_function, written_is_read,
+    one_answer, refused_by_the_first_fault, subframe_bytes_are_written, subframe_function,
+    subframe_parts, subframes_are_the_function, written_is_read,
 };
 pub use crate::orbit::{Subframe2, Subframe3};
 pub use crate::out::SubframeOut;

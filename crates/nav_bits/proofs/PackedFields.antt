@@ -90,7 +90,7 @@ rest_zeros bytes from (reserved w) fs zeros = zeros.1
 -- ---- a table
 
 -- the fields behind a number of k digits make a number of no more digits than all have
-pack-lt : (n k : ℕ) (fs : List Field) → n < 2 ^ k → AllFit fs → pack n fs < 2 ^ (k + table_width fs)
+pub pack-lt : (n k : ℕ) (fs : List Field) → n < 2 ^ k → AllFit fs → pack n fs < 2 ^ (k + table_width fs)
 pack-lt n k [] low fit = let e : k + 0 ≡ k = omega arith in rw e low
 pack-lt n k (f ∷ fs) low fit =
     let w = width_of f in
@@ -105,7 +105,7 @@ more_places : (bytes : List ℕ) (from : ℕ) (f : Field) (fs : List Field)
 more_places bytes from f fs = let e : from + width_of f + table_width fs ≡ from + table_width (f ∷ fs) = omega (arith, width_is f fs) in ap (number_at bytes 0) e
 
 -- where the packed number stands, each field stands, and what stands in front is what it was packed behind
-packed_number : (bytes : List ℕ) (from n : ℕ) (fs : List Field) → AllFit fs → number_at bytes 0 (from + table_width fs) ≡ pack n fs
+pub packed_number : (bytes : List ℕ) (from n : ℕ) (fs : List Field) → AllFit fs → number_at bytes 0 (from + table_width fs) ≡ pack n fs
     → (number_at bytes 0 from ≡ n) × StandFrom bytes 0 from fs × ZerosFrom bytes 0 from fs
 packed_number bytes from n [] fit is = let e : from ≡ from + 0 = omega arith in (ap (number_at bytes 0) e ∙ is, tt, tt)
 packed_number bytes from n (f ∷ fs) fit is =

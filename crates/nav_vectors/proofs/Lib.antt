@@ -3,10 +3,7 @@ pub mod Orders
 pub mod Joined
 pub mod Pushes
 pub mod Places
-pub mod SameBits
-pub mod SameFields
-pub mod SameSubframes
-pub mod SamePages
-pub mod OneText
 pub mod Counts
 pub mod Short
+pub mod Fits
+pub mod TextIs

@@ -1,5 +1,5 @@
 -- How long lines are, and the text of a capture.
-use Rattle.std.proofs.Common.{◌≡◌, ℕ, ◌+◌, ◌-◌, ◌*◌, ◌/◌, ◌%◌, ◌^◌, ◌<◌, ◌≤◌, nat_eq, Bool, true, false, cond, List, [], ◌∷◌, ◌++◌, length, ap, ◌∙◌, arith, length-append}
+use Rattle.std.proofs.Common.{◌≡◌, ℕ, ◌*◌, ◌%◌, ◌^◌, ◌<◌, ◌≤◌, nat_eq, Bool, true, false, cond, List, [], ◌∷◌, ◌++◌, length, ap, ◌∙◌, arith, length-append}
 use Rattle.std.proofs.lemmas.Fmt.{length-decimal-le}
 use Rattle.std.proofs.lemmas.List.Elements.{All-head, All-tail}
 use Rattle.std.specs.Prelude.{All, codes, decimal}
@@ -8,15 +8,16 @@ use Rattle.hex.proofs.HexLemmas.{length-encode_with}
 use Rattle.nav_bits.proofs.Surface.{bytes_of-length}
 use Rattle.nav_eph.specs.Satellite.{Satellite}
 use Rattle.inav_page.specs.declared.signal.Signal.{Signal}
-use Rattle.inav_page.specs.Pages.{bytes_of_half}
 use Rattle.capture_lines.specs.Texts.{two_digits, signal_letter, half_text, lnav_text}
 use Rattle.nav_vectors.specs.declared.sending.Sending.{Sending}
 use Rattle.nav_vectors.specs.declared.sending.Sending.TheVariants.{Subframe, Half}
-use Rattle.nav_vectors.specs.Lines.{IsLine, IsHalfLine, gal_sat, gps_sat}
+use Rattle.nav_vectors.specs.Lines.{IsLine, gal_sat, gps_sat}
 use Rattle.nav_vectors.specs.Capture.{AreLines, IsCapture, lines_of}
 use Rattle.nav_vectors.specs.Mirrors.{IsOf}
 use Rattle.nav_vectors.proofs.Counts.{count_lines}
+use Rattle.nav_vectors.specs.Text.{capture_text}
 use Rattle.nav_vectors.proofs.Orders.{lines_are_of}
+use Rattle.nav_vectors.proofs.TextIs.{is_capture}
 
 stamp_short : (stamp : ℕ) → stamp < 3600 → length (decimal stamp) ≤ 10
 stamp_short stamp fits = length-decimal-le 10 stamp (omega arith) (omega arith) (omega arith)
@@ -80,3 +81,6 @@ capture_short seed n r text few is =
       lines_short seed n r (lines_of n) is.rest (lines_are_of n) is.lines,
       count_lines n,
     )
+
+pub text_short : (seed n r : ℕ) → n ≤ 32 → length (capture_text seed n r) < 2 ^ 32
+text_short seed n r few = capture_short seed n r (capture_text seed n r) few (is_capture seed n r (omega (arith, few)))

@@ -1,5 +1,6 @@
-ghost use Rattle.std.specs.Prelude.{◌≤◌, IfOk};
+ghost use Rattle.std.specs.Prelude.{◌≡◌, ◌≤◌, IfOk};
 ghost use Rattle.nav_vectors.specs.Capture.{IsCapture};
+ghost use Rattle.nav_vectors.specs.Text.{capture_text};
 
 use crate::lines::push_lines;
 use crate::senders::senders_of;
@@ -23,7 +24,8 @@ const ROOM: usize = 605 * 88 + 7260 * 44;
 pub fn make_capture(alloc: Global, seed: u32, sats: u8, r: RefWeek) -> Result<Vec<u8>, AllocError>
     requires low { 1 ≤ sats }
     requires high { sats ≤ 32 }
-    ensures { IfOk result (λ text. IsCapture seed sats r text.items) }
+    ensures capture { IfOk result (λ text. IsCapture seed sats r text.items) }
+    ensures text { IfOk result (λ text. text.items ≡ capture_text seed sats r) }
 {
     let senders = senders_of(alloc, seed, sats, r)?;
     let order = order_of_lines(alloc, sats)?;

@@ -16,7 +16,6 @@
 //! ```
 #![tactic(auto)]
 
-mod bytes;
 mod capture;
 mod generator;
 mod laws;
@@ -29,4 +28,4 @@ mod tests;
 mod values;
 
 pub use crate::capture::make_capture;
-pub use crate::laws::{captures_are_short, lines_are_counted, one_capture};
+pub use crate::laws::{captures_are_short, captures_are_the_text, lines_are_counted, one_capture};

@@ -8,7 +8,6 @@ ghost use Rattle.nav_vectors.specs.Values.{gal_ion_of, gal_of};
 ghost use Rattle.nav_vectors.specs.Lines.{ArePage, IsHalfLine, IsLine, IsSubframeLine, subframe_of};
 ghost use Rattle.nav_vectors.specs.Mirrors.{AreTables, GrowsByLines, IsOf};
 
-use crate::bytes::are_38_bytes;
 use crate::pages::{PAGES, Page, gal_sat};
 use crate::senders::Senders;
 use crate::sending::Sending;
@@ -83,7 +82,7 @@ fn write_subframe_line(senders: &Senders, stamp: u32, number: u8, line: &mut Lin
     let values = &senders.gps[usize::from(number) - 1];
     let body = subframe(values, &senders.ion, senders.week, k);
     let bits = write_subframe(&body, U::from_digits(u64::from(k) + 1));
-    are_38_bytes(&bits);
+    bits.are_bytes();
     write_lnav(stamp, gps_sat(number), &bits, line);
 }
 

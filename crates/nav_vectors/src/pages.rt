@@ -9,7 +9,6 @@ ghost use Rattle.nav_vectors.specs.declared.values.GalValues.{GalValues as GalVa
 ghost use Rattle.nav_vectors.specs.Lines.{AreHalves, IsWordOf};
 ghost use Rattle.nav_vectors.specs.Mirrors.{IsEmptyPage, IsPageIn};
 
-use crate::bytes::are_16_bytes;
 use crate::values::GalValues;
 use gnss_week::{RefWeek, Second};
 use inav_page::{split, write_half};
@@ -59,7 +58,7 @@ pub(crate) fn empty_page() -> Page
     ensures { IsEmptyPage result }
 {
     let word = Bits::<16>::zero();
-    are_16_bytes(&word);
+    word.are_bytes();
     halves_of(&word)
 }
 
@@ -102,7 +101,7 @@ fn page_in(values: &GalValues, ion: &GalIon, week: RefWeek, place: usize) -> Pag
     let second = Second::from_number(30 * (slot.saturating_sub(4) as u32) + 8);
     let number = (place / PAGES) as u8 + 1;
     let word = word_of(values, ion, number, galileo_week(week), second, slot.min(4));
-    are_16_bytes(&word);
+    word.are_bytes();
     halves_of(&word)
 }
 
