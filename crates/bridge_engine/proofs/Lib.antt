@@ -3,3 +3,4 @@ mod Feeding
 mod Goings
 mod Numbers
 mod SoFar
+mod Writing
