@@ -1,6 +1,11 @@
+mod Breaking
 mod Breakings
 mod Feeding
+mod Following
+mod Fronts
 mod Goings
+mod LineCounts
+mod Logs
 mod Numbers
 mod SoFar
 mod Writing
