@@ -56,7 +56,8 @@ fn first_line<S: Source>(
             Some(accepted) => Ok(accepted),
             None => Err(BridgeFault::NotThisForm),
         },
-        Ok(_) => Err(BridgeFault::NotThisForm),
+        Ok(LineKind::Long) => Err(BridgeFault::NotThisForm),
+        Ok(LineKind::End) => Err(BridgeFault::NotThisForm),
         Err(fault) => Err(fault_of(fault)),
     }
 }
