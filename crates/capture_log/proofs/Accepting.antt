@@ -1,5 +1,6 @@
 -- What is accepted, and heard, with one more item.
-use Rattle.std.proofs.Common.{◌≡◌, ℕ, ◌⊎◌, max, inl, inr, false, List, [], ◌∷◌, ◌++◌, Some, unwrap_or, refl, sym, ap, subst, ◌∙◌, ⊎_elim, append_assoc, arith}
+use Rattle.std.proofs.Common.{◌≡◌, ℕ, ◌⊎◌, max, inl, inr, false, List, [], ◌∷◌, ◌++◌, Some}
+use Rattle.std.proofs.Common.{unwrap_or, refl, sym, ap, subst, ◌∙◌, ⊎_elim, append_assoc, arith}
 use Rattle.nav_eph.specs.Satellite.{Satellite}
 use Rattle.nav_eph.specs.declared.part.Part.{Part}
 use Rattle.inav_page.specs.declared.signal.Signal.{Signal}
@@ -26,7 +27,8 @@ pub record IsNewest (w : ℕ) (items : List LineItem) (item other : LineItem) : 
   pub in_time : IsLate w items stamp → ⊥
 
 -- what is accepted in front stays accepted
-pub front_accepted : (w : ℕ) (items more : List LineItem) (other : LineItem) → IsAccepted w items other → IsAccepted w (items ++ more) other
+pub front_accepted : (w : ℕ) (items more : List LineItem) (other : LineItem)
+    → IsAccepted w items other → IsAccepted w (items ++ more) other
 front_accepted w items more other h = record {
   before = h.before;
   after = h.after ++ more;
@@ -36,10 +38,12 @@ front_accepted w items more other h = record {
   in_time = h.in_time;
 }
 
-pub still_accepted : (w : ℕ) (items : List LineItem) (item other : LineItem) → IsAccepted w items other → IsAccepted w (items ++ item ∷ []) other
+pub still_accepted : (w : ℕ) (items : List LineItem) (item other : LineItem)
+    → IsAccepted w items other → IsAccepted w (items ++ item ∷ []) other
 still_accepted w items item other h = front_accepted w items (item ∷ []) other h
 
-pub last_accepted : (w : ℕ) (items : List LineItem) (item : LineItem) (stamp : ℕ) → stamp_of item ≡ Some stamp → (IsLate w items stamp → ⊥)
+pub last_accepted : (w : ℕ) (items : List LineItem) (item : LineItem) (stamp : ℕ)
+    → stamp_of item ≡ Some stamp → (IsLate w items stamp → ⊥)
     → IsAccepted w (items ++ item ∷ []) item
 last_accepted w items item stamp is in_time = record {
   before = items;
@@ -50,7 +54,8 @@ last_accepted w items item stamp is in_time = record {
   in_time = in_time;
 }
 
-pub accepted_cases : (w : ℕ) (items : List LineItem) (item other : LineItem) → IsAccepted w (items ++ item ∷ []) other
+pub accepted_cases : (w : ℕ) (items : List LineItem) (item other : LineItem)
+    → IsAccepted w (items ++ item ∷ []) other
     → IsAccepted w items other ⊎ IsNewest w items item other
 accepted_cases w items item other h = elim (last_or_not items h.before h.after item other h.place) [
   | inl r ↦ inl (record { before = h.before; after = r.0; place = r.1; stamp = h.stamp; stamp_is = h.stamp_is; in_time = h.in_time })
@@ -114,7 +119,8 @@ pub record IsNewHalf (w : ℕ) (items : List LineItem) (item : LineItem) (half :
 some_one : (a b : ℕ) → Some a ≡ Some b → a ≡ b
 some_one a b e = cc
 
-pub half_cases : (w : ℕ) (items : List LineItem) (item : LineItem) (half : StampedHalf) → IsHalfHeard w (items ++ item ∷ []) half
+pub half_cases : (w : ℕ) (items : List LineItem) (item : LineItem) (half : StampedHalf)
+    → IsHalfHeard w (items ++ item ∷ []) half
     → IsHalfHeard w items half ⊎ IsNewHalf w items item half
 half_cases w items item half h = elim (accepted_cases w items item (Half h.stamp h.sat h.signal h.bits) h.accepted) [
   | inl was ↦ inl (record {
@@ -144,7 +150,8 @@ pub of_half_item : {X : Type 0} (f : ℕ → Satellite → Signal → List ℕ �
 of_half_item f s t a b g h xs ys e = cc
 
 -- all new halves of an item are one
-pub new_half_one : (w : ℕ) (items : List LineItem) (item : LineItem) (one other : StampedHalf) → IsNewHalf w items item one
+pub new_half_one : (w : ℕ) (items : List LineItem) (item : LineItem) (one other : StampedHalf)
+    → IsNewHalf w items item one
     → IsNewHalf w items item other → one ≡ other
 new_half_one w items item one other h k =
     h.half_is ∙ of_half_item half_of h.stamp k.stamp h.sat k.sat h.signal k.signal h.bits k.bits (sym h.is ∙ k.is) ∙ sym k.half_is

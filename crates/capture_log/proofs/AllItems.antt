@@ -1,15 +1,18 @@
 -- The parts in the log of all items are those heard of them.
-use Rattle.std.proofs.Common.{◌≡◌, ℕ, ◌+◌, ◌⊎◌, ◌↔◌, inl, inr, List, [], ◌∷◌, ◌++◌, Contains, refl, sym, ap, subst, ⊎_elim, append_assoc, append-nil}
+use Rattle.std.proofs.Common.{◌≡◌, ℕ, ◌+◌, ◌⊎◌, ◌↔◌, inl, inr, List, [], ◌∷◌, ◌++◌, Contains, refl}
+use Rattle.std.proofs.Common.{sym, ap, subst, ⊎_elim, append_assoc, append-nil}
 use Rattle.std.proofs.lemmas.List.Concat.{flat_map-append}
 use Rattle.nav_eph.specs.declared.part.Part.{Part}
 use Rattle.capture_lines.specs.Late.{IsAccepted}
 use Rattle.capture_lines.specs.declared.item.LineItem.{LineItem}
 use Rattle.capture_log.specs.declared.event.Event.{Event}
-use Rattle.capture_log.specs.declared.event.Event.TheVariants.{Heard, Malformed, Late, Refused, Unused}
+use Rattle.capture_log.specs.declared.event.Event.TheVariants.{Heard, Malformed, Late, Refused}
+use Rattle.capture_log.specs.declared.event.Event.TheVariants.{Unused}
 use Rattle.capture_log.specs.Events.{Known, nothing_known, known_with, events_of}
 use Rattle.capture_log.specs.Log.{noted, log_from, parts_of_event, parts_in}
 use Rattle.capture_log.specs.Heard.{IsOfSubframe, IsOfFrame, IsOfWord, IsPartHeard}
-use Rattle.capture_log.proofs.Lists.{In, in_from_contains, contains_from_in, in_left, in_right, in_append, in_middle}
+use Rattle.capture_log.proofs.Lists.{In, in_from_contains, contains_from_in, in_left, in_right}
+use Rattle.capture_log.proofs.Lists.{in_append, in_middle}
 use Rattle.capture_log.proofs.Accepting.{front_accepted, part_keeps}
 use Rattle.capture_log.proofs.Knowing.{HalfLaws, Knows, knows_more}
 use Rattle.capture_log.proofs.Bringing.{brought_heard, heard_cases}
@@ -27,14 +30,16 @@ event_to Unused part h = absurd h
 event_from : (event : Event) (part : Part) → event ≡ Heard part → In (parts_of_event event) part
 event_from event part e = subst (λ v. In (parts_of_event v) part) (sym e) (inl refl)
 
-pub noted_to : (number : ℕ) (events : List Event) (part : Part) → In (parts_in (noted number events)) part → In events (Heard part)
+pub noted_to : (number : ℕ) (events : List Event) (part : Part)
+    → In (parts_in (noted number events)) part → In events (Heard part)
 noted_to number [] part h = absurd h
 noted_to number (event ∷ events) part h = elim (in_append (parts_of_event event) (parts_in (noted number events)) part h) [
   | inl a ↦ inl (event_to event part a)
   | inr b ↦ inr (noted_to number events part b)
 ]
 
-pub noted_from : (number : ℕ) (events : List Event) (part : Part) → In events (Heard part) → In (parts_in (noted number events)) part
+pub noted_from : (number : ℕ) (events : List Event) (part : Part) → In events (Heard part)
+    → In (parts_in (noted number events)) part
 noted_from number [] part h = absurd h
 noted_from number (event ∷ events) part (inl e) =
     in_left (parts_of_event event) (parts_in (noted number events)) part (event_from event part e)
@@ -99,7 +104,8 @@ module _ (laws : HalfLaws) (w : ℕ) (part : Part) where
       subst (λ l. IsPartHeard w l part) (append_assoc before (item ∷ []) items) at
 
   heard_log : (before items : List LineItem) (known : Known) (number : ℕ) → Knows w before known
-      → IsPartHeard w (before ++ items) part → IsPartHeard w before part ⊎ In (parts_in (log_from w known number items)) part
+      → IsPartHeard w (before ++ items) part
+      → IsPartHeard w before part ⊎ In (parts_in (log_from w known number items)) part
   heard_log before [] known number knows h = inl (subst (λ l. IsPartHeard w l part) (append-nil before) h)
   heard_log before (item ∷ items) known number knows h =
       let one = before ++ item ∷ [] in

@@ -13,14 +13,16 @@ use Rattle.capture_log.proofs.Lists.{contains_from_in, in_middle}
 use Rattle.capture_log.proofs.Accepting.{part_keeps}
 
 -- what is accepted of some items is accepted of the same ones, where none is late
-accepted_there : (w : ℕ) (some other : List LineItem) → ((item : LineItem) (s : ℕ) → stamp_of item ≡ Some s → Contains some item → Contains other item)
+accepted_there : (w : ℕ) (some other : List LineItem)
+    → ((item : LineItem) (s : ℕ) → stamp_of item ≡ Some s → Contains some item → Contains other item)
     → NoneLate w other → (item : LineItem) → IsAccepted w some item → IsAccepted w other item
 accepted_there w some other same none item h =
     none item h.stamp h.stamp_is
     (same item h.stamp h.stamp_is (contains_from_in some item (in_middle h.before h.after some item h.place)))
 
 -- so the same is heard
-pub heard_there : (w : ℕ) (some other : List LineItem) → SameItems some other → NoneLate w some → NoneLate w other → (part : Part)
+pub heard_there : (w : ℕ) (some other : List LineItem) → SameItems some other → NoneLate w some
+    → NoneLate w other → (part : Part)
     → IsPartHeard w some part ↔ IsPartHeard w other part
 heard_there w some other same first second part = (
   λ h. part_keeps w some other (accepted_there w some other (λ item s is there. (same item s is).0 there) second) part h,
@@ -32,8 +34,10 @@ abbrev pub TakesHeard : Type 0
 TakesHeard = (w number : ℕ) (items : List LineItem) (part : Part)
     → Contains (parts_in (log_from w nothing_known number items)) part ↔ IsPartHeard w items part
 
-pub taken_there : (taken : TakesHeard) (w m n : ℕ) (some other : List LineItem) → SameItems some other → NoneLate w some → NoneLate w other
-    → (part : Part) → Contains (parts_in (log_from w nothing_known m some)) part ↔ Contains (parts_in (log_from w nothing_known n other)) part
+pub taken_there : (taken : TakesHeard) (w m n : ℕ) (some other : List LineItem)
+    → SameItems some other → NoneLate w some → NoneLate w other
+    → (part : Part)
+    → Contains (parts_in (log_from w nothing_known m some)) part ↔ Contains (parts_in (log_from w nothing_known n other)) part
 taken_there taken w m n some other same first second part =
     let there = heard_there w some other same first second part in (
       λ h. (taken w n other part).1 (there.0 ((taken w m some part).0 h)),

@@ -1,5 +1,6 @@
 -- What one more item brings is what is heard with it and was not heard before.
-use Rattle.std.proofs.Common.{◌≡◌, ℕ, ◌⊎◌, inl, inr, true, false, if◌then◌else◌, List, [], ◌∷◌, ◌++◌, Contains, Some, refl, sym, ap, subst, ◌∙◌, ⊎_elim}
+use Rattle.std.proofs.Common.{◌≡◌, ℕ, ◌⊎◌, inl, inr, true, false, if◌then◌else◌, List, [], ◌∷◌}
+use Rattle.std.proofs.Common.{◌++◌, Contains, Some, refl, sym, ap, subst, ◌∙◌, ⊎_elim}
 use Rattle.std.proofs.lemmas.Bool.{cond_both, both_ways}
 use Rattle.nav_eph.specs.Satellite.{Satellite}
 use Rattle.nav_eph.specs.declared.part.Part.{Part}
@@ -10,14 +11,17 @@ use Rattle.inav_page.proofs.Surface.{still_heard, heard_with_one_more}
 use Rattle.inav_word.specs.Reading.{reading_of}
 use Rattle.capture_lines.specs.Late.{stamp_of, IsLate}
 use Rattle.capture_lines.specs.declared.item.LineItem.{LineItem}
-use Rattle.capture_lines.specs.declared.item.LineItem.TheVariants.{Pass, Lnav, Half, Frame, Malformed as MalformedItem}
+use Rattle.capture_lines.specs.declared.item.LineItem.TheVariants.{Pass, Lnav, Half, Frame}
+use Rattle.capture_lines.specs.declared.item.LineItem.TheVariants.{Malformed as MalformedItem}
 use Rattle.lnav_subframe.specs.Reading.{subframe_of}
 use Rattle.capture_log.specs.declared.event.Event.{Event}
 use Rattle.capture_log.specs.declared.event.Event.TheVariants.{Heard, Malformed, Late, Unused}
-use Rattle.capture_log.specs.Events.{Known, of_subframe, of_frame, of_word, half_of, is_alert, is_late, of_half, of_words, new_words, events_of}
+use Rattle.capture_log.specs.Events.{Known, of_subframe, of_frame, of_word, half_of, is_alert}
+use Rattle.capture_log.specs.Events.{is_late, of_half, of_words, new_words, events_of}
 use Rattle.capture_log.specs.Heard.{IsOfSubframe, IsOfFrame, IsHalfHeard, IsOfWord, IsPartHeard}
 use Rattle.capture_log.proofs.Lists.{In, in_from_contains, contains_from_in}
-use Rattle.capture_log.proofs.Accepting.{still_accepted, last_accepted, accepted_cases, half_keeps, IsNewHalf, half_cases, new_half_one}
+use Rattle.capture_log.proofs.Accepting.{still_accepted, last_accepted, accepted_cases, half_keeps}
+use Rattle.capture_log.proofs.Accepting.{IsNewHalf, half_cases, new_half_one}
 use Rattle.capture_log.proofs.WordEvents.{words_bring, pair_brings}
 use Rattle.capture_log.proofs.Knowing.{HalfLaws, Knows, in_time, not_late, half_heard}
 
@@ -25,7 +29,8 @@ use Rattle.capture_log.proofs.Knowing.{HalfLaws, Knows, in_time, not_late, half_
 abbrev word_events : List ℕ → Satellite → ℕ → List Event
 word_events word sat stamp = of_word (reading_of word sat stamp)
 
-none_heard : (event : Event) (part : Part) → (event ≡ Heard part → ⊥) → In (event ∷ []) (Heard part) → ⊥
+none_heard : (event : Event) (part : Part) → (event ≡ Heard part → ⊥) → In (event ∷ []) (Heard part)
+    → ⊥
 none_heard event part no_part (inl e) = no_part e
 none_heard event part no_part (inr h) = absurd h
 
@@ -47,8 +52,10 @@ stamp_is a b e = cc
 
 module _ (laws : HalfLaws) (w : ℕ) (items : List LineItem) (known : Known) (knows : Knows w items known) (part : Part) where
   -- a word of a half and of those before it is heard
-  pair_heard : (item : LineItem) (taken even odd : StampedHalf) → IsHalfHeard w (items ++ item ∷ []) taken
-      → IsHeardWith (Contains known.halves) taken even odd → IsHeard (IsHalfHeard w (items ++ item ∷ [])) even odd
+  pair_heard : (item : LineItem) (taken even odd : StampedHalf)
+      → IsHalfHeard w (items ++ item ∷ []) taken
+      → IsHeardWith (Contains known.halves) taken even odd
+      → IsHeard (IsHalfHeard w (items ++ item ∷ [])) even odd
   pair_heard item taken even odd own h =
       let more = items ++ item ∷ [] in
       let still : (half : StampedHalf) → Contains known.halves half → IsHalfHeard w more half =
@@ -62,7 +69,8 @@ module _ (laws : HalfLaws) (w : ℕ) (items : List LineItem) (known : Known) (kn
 
   -- what the words of a half bring is heard
   words_heard : (item : LineItem) (taken : StampedHalf) → IsHalfHeard w (items ++ item ∷ []) taken
-      → In (of_words taken (words_of known.halves taken)) (Heard part) → IsPartHeard w (items ++ item ∷ []) part
+      → In (of_words taken (words_of known.halves taken)) (Heard part)
+      → IsPartHeard w (items ++ item ∷ []) part
   words_heard item taken own h =
       let pair = words_bring word_events (Contains known.halves) taken (words_of known.halves taken) (Heard part)
       (laws.words known.halves taken) h in
@@ -74,7 +82,8 @@ module _ (laws : HalfLaws) (w : ℕ) (items : List LineItem) (known : Known) (kn
       }))
 
   -- what the item brings is heard with it
-  pub brought_heard : (item : LineItem) → In (events_of w known item) (Heard part) → IsPartHeard w (items ++ item ∷ []) part
+  pub brought_heard : (item : LineItem) → In (events_of w known item) (Heard part)
+      → IsPartHeard w (items ++ item ∷ []) part
   unfolding events_of
   brought_heard Pass h = absurd h
   brought_heard MalformedItem h = absurd (none_heard Malformed part (no_malformed part) h)
@@ -130,7 +139,8 @@ module _ (laws : HalfLaws) (w : ℕ) (items : List LineItem) (known : Known) (kn
       (λ t. h)
 
   brings_subframe : (stamp : ℕ) (sat : Satellite) (bits : List ℕ) → (IsLate w items stamp → ⊥)
-      → of_subframe (subframe_of bits sat stamp) ≡ Heard part → In (events_of w known (Lnav stamp sat bits)) (Heard part)
+      → of_subframe (subframe_of bits sat stamp) ≡ Heard part
+      → In (events_of w known (Lnav stamp sat bits)) (Heard part)
   unfolding events_of
   brings_subframe stamp sat bits timely e = in_late stamp (of_subframe (subframe_of bits sat stamp) ∷ []) timely (inl e)
 
@@ -144,7 +154,8 @@ module _ (laws : HalfLaws) (w : ℕ) (items : List LineItem) (known : Known) (kn
         inr (subst (λ i. In (events_of w known i) (Heard part)) (sym new.is) (brings_subframe h.stamp h.sat h.bits timely h.is))
   ]
 
-  brings_frame : (stamp : ℕ) (bytes : List ℕ) → (IsLate w items stamp → ⊥) → Contains (of_frame stamp bytes) (Heard part)
+  brings_frame : (stamp : ℕ) (bytes : List ℕ) → (IsLate w items stamp → ⊥)
+      → Contains (of_frame stamp bytes) (Heard part)
       → In (events_of w known (Frame stamp (record { items = bytes }))) (Heard part)
   unfolding events_of
   brings_frame stamp bytes timely h = in_late stamp (of_frame stamp bytes) timely (in_from_contains (of_frame stamp bytes) (Heard part) h)
@@ -160,7 +171,8 @@ module _ (laws : HalfLaws) (w : ℕ) (items : List LineItem) (known : Known) (kn
   ]
 
   -- a half that is new brings the words that it makes with those before it
-  brings_words : (stamp : ℕ) (sat : Satellite) (signal : Signal) (bits : List ℕ) → (IsLate w items stamp → ⊥) → is_alert bits ≡ false
+  brings_words : (stamp : ℕ) (sat : Satellite) (signal : Signal) (bits : List ℕ)
+      → (IsLate w items stamp → ⊥) → is_alert bits ≡ false
       → has_half known.halves (half_of stamp sat signal bits) ≡ false
       → In (of_words (half_of stamp sat signal bits) (words_of known.halves (half_of stamp sat signal bits))) (Heard part)
       → In (events_of w known (Half stamp sat signal bits)) (Heard part)
@@ -177,7 +189,8 @@ module _ (laws : HalfLaws) (w : ℕ) (items : List LineItem) (known : Known) (kn
       (λ m. h)))
 
   -- the pair of a half that was heard was heard
-  pair_was : (taken even odd : StampedHalf) → IsHalfHeard w items taken → IsHeardWith (IsHalfHeard w items) taken even odd
+  pair_was : (taken even odd : StampedHalf) → IsHalfHeard w items taken
+      → IsHeardWith (IsHalfHeard w items) taken even odd
       → IsHeard (IsHalfHeard w items) even odd
   pair_was taken even odd there h =
       ⊎_elim
@@ -225,7 +238,8 @@ module _ (laws : HalfLaws) (w : ℕ) (items : List LineItem) (known : Known) (kn
       (brings_words new.stamp new.sat new.signal new.bits new.in_time new.nominal fresh_own own_words)))
 
   -- a word of which one half is the item's
-  word_of_new : (item : LineItem) (taken : StampedHalf) → IsNewHalf w items item taken → IsOfWord w (items ++ item ∷ []) part
+  word_of_new : (item : LineItem) (taken : StampedHalf) → IsNewHalf w items item taken
+      → IsOfWord w (items ++ item ∷ []) part
       → IsPartHeard w items part ⊎ In (events_of w known item) (Heard part)
   word_of_new item taken new h =
       let Either : StampedHalf → Type 0 = λ half. (taken ≡ half) ⊎ IsHalfHeard w items half in

@@ -1,5 +1,6 @@
 -- What is read brings parts with the stamp of what was read, and all parts heard are values.
-use Rattle.std.proofs.Common.{◌≡◌, ℕ, ◌^◌, ◌<◌, ◌⊎◌, inl, inr, List, [], ◌∷◌, All, Option, None, Some, Result, Ok, Err, refl, sym, ap, subst, ⊎_elim}
+use Rattle.std.proofs.Common.{◌≡◌, ℕ, ◌^◌, ◌<◌, ◌⊎◌, inl, inr, List, [], ◌∷◌, All, Option, None}
+use Rattle.std.proofs.Common.{Some, Result, Ok, Err, refl, sym, ap, subst, ⊎_elim}
 use Rattle.std.proofs.lemmas.Bool.{cond_both}
 use Rattle.std.proofs.lemmas.List.Elements.{All-contains}
 use Rattle.nav_eph.specs.Satellite.{Satellite}
@@ -24,7 +25,8 @@ use Rattle.capture_lines.specs.declared.item.LineItem.{LineItem}
 use Rattle.capture_lines.specs.declared.item.LineItem.TheVariants.{Lnav, Half}
 use Rattle.capture_log.specs.declared.event.Event.TheVariants.{Heard, Refused}
 use Rattle.capture_log.specs.declared.event.Refusal.TheVariants as refusals
-use Rattle.capture_log.specs.Events.{of_subframe, of_word_fault, of_second, of_word, of_message_fault, of_message, is_frame, of_frame}
+use Rattle.capture_log.specs.Events.{of_subframe, of_word_fault, of_second, of_word}
+use Rattle.capture_log.specs.Events.{of_message_fault, of_message, is_frame, of_frame}
 use Rattle.capture_log.specs.Heard.{IsOfSubframe, IsOfFrame, IsOfWord, IsPartHeard}
 use Rattle.capture_log.proofs.Lists.{In, in_from_contains, contains_from_in, in_middle}
 
@@ -33,7 +35,8 @@ use Rattle.capture_log.proofs.Lists.{In, in_from_contains, contains_from_in, in_
 heard_part : (a b : Part) → Heard a ≡ Heard b → a ≡ b
 heard_part a b e = cc
 
-pub subframe_read : (r : Result Part LnavFault) (part : Part) → of_subframe r ≡ Heard part → r ≡ Ok part
+pub subframe_read : (r : Result Part LnavFault) (part : Part) → of_subframe r ≡ Heard part
+    → r ≡ Ok part
 subframe_read (Ok own) part e = ap Ok (heard_part own part e)
 subframe_read (Err subframes.Preamble) part e = cc
 subframe_read (Err (subframes.Parity word)) part e = cc
@@ -47,7 +50,8 @@ word_fault words.WrongSat part e = cc
 word_fault words.BadTime part e = cc
 word_fault words.SpareSisa part e = cc
 
-second_read : (second : Option Part) (part : Part) → In (of_second second) (Heard part) → In (second_parts second) part
+second_read : (second : Option Part) (part : Part) → In (of_second second) (Heard part)
+    → In (second_parts second) part
 second_read None part h = absurd h
 second_read (Some own) part (inl e) = inl (heard_part own part e)
 second_read (Some own) part (inr h) = absurd h
@@ -58,7 +62,8 @@ pub record IsWordPart (r : Result WordParts WordFault) (part : Part) : Type 0 wh
   pub read : r ≡ Ok parts
   pub here : In (word_parts parts) part
 
-pub word_read : (r : Result WordParts WordFault) (part : Part) → In (of_word r) (Heard part) → IsWordPart r part
+pub word_read : (r : Result WordParts WordFault) (part : Part) → In (of_word r) (Heard part)
+    → IsWordPart r part
 word_read (Ok parts) part (inl e) = record { parts = parts; read = refl; here = inl (heard_part parts.first part e) }
 word_read (Ok parts) part (inr h) = record { parts = parts; read = refl; here = inr (second_read parts.second part h) }
 word_read (Err fault) part (inl e) = absurd (word_fault fault part e)
@@ -78,19 +83,22 @@ pub record IsMessagePart (r : Result MessageParts MessageFault) (part : Part) : 
   pub read : r ≡ Ok parts
   pub here : In (message_parts parts) part
 
-three_read : (a b c part : Part) → In (Heard a ∷ Heard b ∷ Heard c ∷ []) (Heard part) → In (a ∷ b ∷ c ∷ []) part
+three_read : (a b c part : Part) → In (Heard a ∷ Heard b ∷ Heard c ∷ []) (Heard part)
+    → In (a ∷ b ∷ c ∷ []) part
 three_read a b c part (inl e) = inl (heard_part a part e)
 three_read a b c part (inr (inl e)) = inr (inl (heard_part b part e))
 three_read a b c part (inr (inr (inl e))) = inr (inr (inl (heard_part c part e)))
 three_read a b c part (inr (inr (inr h))) = absurd h
 
-five_read : (a b c d e part : Part) → In (Heard a ∷ Heard b ∷ Heard c ∷ Heard d ∷ Heard e ∷ []) (Heard part)
+five_read : (a b c d e part : Part)
+    → In (Heard a ∷ Heard b ∷ Heard c ∷ Heard d ∷ Heard e ∷ []) (Heard part)
     → In (a ∷ b ∷ c ∷ d ∷ e ∷ []) part
 five_read a b c d e part (inl h) = inl (heard_part a part h)
 five_read a b c d e part (inr (inl h)) = inr (inl (heard_part b part h))
 five_read a b c d e part (inr (inr h)) = inr (inr (three_read c d e part h))
 
-pub message_read : (r : Result MessageParts MessageFault) (part : Part) → In (of_message r) (Heard part) → IsMessagePart r part
+pub message_read : (r : Result MessageParts MessageFault) (part : Part)
+    → In (of_message r) (Heard part) → IsMessagePart r part
 message_read (Ok (GpsParts clock a b)) part h =
     record { parts = GpsParts clock a b; read = refl; here = three_read clock a b part h }
 message_read (Ok (GalParts w1 w2 w3 w4 health)) part h =
@@ -116,10 +124,13 @@ frame_read stamp bytes part h =
 
 -- it holds of each part that is read at one
 pub record HoldsOfRead (At : ℕ → Type 0) (Is : ℕ → Part → Type 0) : Type 0 where
-  pub subframes : (bits : List ℕ) (sat : Satellite) (stamp : ℕ) (part : Part) → At stamp → subframe_of bits sat stamp ≡ Ok part → Is stamp part
-  pub words : (bits : List ℕ) (sat : Satellite) (stamp : ℕ) (parts : WordParts) → At stamp → reading_of bits sat stamp ≡ Ok parts
+  pub subframes : (bits : List ℕ) (sat : Satellite) (stamp : ℕ) (part : Part) → At stamp
+      → subframe_of bits sat stamp ≡ Ok part → Is stamp part
+  pub words : (bits : List ℕ) (sat : Satellite) (stamp : ℕ) (parts : WordParts) → At stamp
+      → reading_of bits sat stamp ≡ Ok parts
       → All (Is stamp) (word_parts parts)
-  pub messages : (payload : List ℕ) (stamp : ℕ) (parts : MessageParts) → At stamp → parts_of stamp (content_of payload) ≡ Ok parts
+  pub messages : (payload : List ℕ) (stamp : ℕ) (parts : MessageParts) → At stamp
+      → parts_of stamp (content_of payload) ≡ Ok parts
       → All (Is stamp) (message_parts parts)
 
 module _ (At : ℕ → Type 0) (Is : ℕ → Part → Type 0) (laws : HoldsOfRead At Is) where
@@ -134,7 +145,8 @@ module _ (At : ℕ → Type 0) (Is : ℕ → Part → Type 0) (laws : HoldsOfRea
       All-contains (Is stamp) (word_parts own.parts) part (laws.words bits sat stamp own.parts at own.read)
       (contains_from_in (word_parts own.parts) part own.here)
 
-  pub of_frame_part : (stamp : ℕ) (bytes : List ℕ) (part : Part) → At stamp → In (of_frame stamp bytes) (Heard part) → Is stamp part
+  pub of_frame_part : (stamp : ℕ) (bytes : List ℕ) (part : Part) → At stamp
+      → In (of_frame stamp bytes) (Heard part) → Is stamp part
   of_frame_part stamp bytes part at h =
       let own = frame_read stamp bytes part h in
       All-contains (Is stamp) (message_parts own.parts) part (laws.messages (payload_of bytes) stamp own.parts at own.read)
@@ -150,7 +162,8 @@ ReadsValues = HoldsOfRead (λ stamp. stamp < 2 ^ 32) (λ stamp part. IsPartValue
 abbrev pub StampsFit : List LineItem → Type 0
 StampsFit items = All (λ item. (s : ℕ) → stamp_of item ≡ Some s → s < 2 ^ 32) items
 
-accepted_fits : (w : ℕ) (items : List LineItem) (item : LineItem) (stamp : ℕ) → StampsFit items → IsAccepted w items item
+accepted_fits : (w : ℕ) (items : List LineItem) (item : LineItem) (stamp : ℕ) → StampsFit items
+    → IsAccepted w items item
     → stamp_of item ≡ Some stamp → stamp < 2 ^ 32
 accepted_fits w items item stamp fit h is =
     All-contains (λ i. (s : ℕ) → stamp_of i ≡ Some s → s < 2 ^ 32) items item fit

@@ -1,22 +1,30 @@
 -- What is known after some items, and what they brought, are what is heard of them.
-use Rattle.std.proofs.Common.{◌≡◌, ℕ, ◌+◌, ◌<◌, ◌⊎◌, ◌↔◌, max, inl, inr, true, false, if◌then◌else◌, List, [], ◌∷◌, ◌++◌, Contains, unwrap_or, refl, sym, ap, subst, ◌∙◌, ⊎_elim, lt-ltb, ltb-true}
+use Rattle.std.proofs.Common.{◌≡◌, ℕ, ◌+◌, ◌<◌, ◌⊎◌, ◌↔◌, max, inl, inr, true, false, if◌then◌else◌}
+use Rattle.std.proofs.Common.{List, [], ◌∷◌, ◌++◌, Contains, unwrap_or, refl, sym, ap, subst, ◌∙◌}
+use Rattle.std.proofs.Common.{⊎_elim, lt-ltb, ltb-true}
 use Rattle.std.proofs.lemmas.Bool.{cond_both, both_ways, false_from_ne_true}
 use Rattle.nav_eph.specs.Satellite.{Satellite}
 use Rattle.inav_page.specs.declared.signal.Signal.{Signal}
 use Rattle.inav_page.specs.Heard.{StampedHalf, AreWordsWith, has_half, words_of}
 use Rattle.capture_lines.specs.Late.{stamp_of, IsLate, greatest_stamp}
 use Rattle.capture_lines.specs.declared.item.LineItem.{LineItem}
-use Rattle.capture_lines.specs.declared.item.LineItem.TheVariants.{Pass, Lnav, Half, Frame, Malformed as MalformedItem}
-use Rattle.capture_log.specs.Events.{Known, half_of, is_alert, is_late, with_half, halves_with, known_with}
+use Rattle.capture_lines.specs.declared.item.LineItem.TheVariants.{Pass, Lnav, Half, Frame}
+use Rattle.capture_lines.specs.declared.item.LineItem.TheVariants.{Malformed as MalformedItem}
+use Rattle.capture_log.specs.Events.{Known, half_of, is_alert, is_late, with_half, halves_with}
+use Rattle.capture_log.specs.Events.{known_with}
 use Rattle.capture_log.specs.Heard.{IsHalfHeard}
 use Rattle.capture_log.proofs.Lists.{In, in_from_contains, contains_from_in}
-use Rattle.capture_log.proofs.Accepting.{greatest_more, still_accepted, last_accepted, half_keeps, IsNewHalf, half_cases}
+use Rattle.capture_log.proofs.Accepting.{greatest_more, still_accepted, last_accepted, half_keeps}
+use Rattle.capture_log.proofs.Accepting.{IsNewHalf, half_cases}
 
 -- what the crates below say of halves and of late lines
 pub record HalfLaws : Type 0 where
-  pub among : (halves : List StampedHalf) (half : StampedHalf) → (has_half halves half ≡ true) ↔ Contains halves half
-  pub words : (halves : List StampedHalf) (taken : StampedHalf) → AreWordsWith (Contains halves) taken (words_of halves taken)
-  pub late : (window : ℕ) (before : List LineItem) (stamp : ℕ) → IsLate window before stamp ↔ (stamp + window < greatest_stamp before)
+  pub among : (halves : List StampedHalf) (half : StampedHalf)
+      → (has_half halves half ≡ true) ↔ Contains halves half
+  pub words : (halves : List StampedHalf) (taken : StampedHalf)
+      → AreWordsWith (Contains halves) taken (words_of halves taken)
+  pub late : (window : ℕ) (before : List LineItem) (stamp : ℕ)
+      → IsLate window before stamp ↔ (stamp + window < greatest_stamp before)
 
 -- what is known after the items: their greatest stamp, and the halves heard
 pub record Knows (w : ℕ) (items : List LineItem) (known : Known) : Type 0 where
@@ -40,28 +48,33 @@ module _ (laws : HalfLaws) (w : ℕ) (items : List LineItem) (known : Known) (gr
 
 -- ---- the halves
 
-first_or_rest : (half : StampedHalf) (halves : List StampedHalf) (other : StampedHalf) → In (half ∷ halves) other → (half ≡ other) ⊎ Contains halves other
+first_or_rest : (half : StampedHalf) (halves : List StampedHalf) (other : StampedHalf)
+    → In (half ∷ halves) other → (half ≡ other) ⊎ Contains halves other
 first_or_rest half halves other (inl e) = inl e
 first_or_rest half halves other (inr h) = inr (contains_from_in halves other h)
 
 -- in a list with a half more
-put_half_to : (laws : HalfLaws) (halves : List StampedHalf) (half other : StampedHalf) → Contains (with_half halves half) other
+put_half_to : (laws : HalfLaws) (halves : List StampedHalf) (half other : StampedHalf)
+    → Contains (with_half halves half) other
     → (half ≡ other) ⊎ Contains halves other
 put_half_to laws halves half other =
     cond_both (has_half halves half) halves (half ∷ halves) (λ hs. Contains hs other → (half ≡ other) ⊎ Contains halves other)
     (λ there h. inr h)
     (λ not_there h. first_or_rest half halves other (in_from_contains (half ∷ halves) other h))
 
-put_half_old : (halves : List StampedHalf) (half other : StampedHalf) → Contains halves other → Contains (with_half halves half) other
+put_half_old : (halves : List StampedHalf) (half other : StampedHalf) → Contains halves other
+    → Contains (with_half halves half) other
 put_half_old halves half other h =
     cond_both (has_half halves half) halves (half ∷ halves) (λ hs. Contains hs other) (λ there. h) (λ not_there. contains_from_in (half ∷ halves) other (inr (in_from_contains halves other h)))
 
-put_half_new : (laws : HalfLaws) (halves : List StampedHalf) (half : StampedHalf) → Contains (with_half halves half) half
+put_half_new : (laws : HalfLaws) (halves : List StampedHalf) (half : StampedHalf)
+    → Contains (with_half halves half) half
 put_half_new laws halves half =
     cond_both (has_half halves half) halves (half ∷ halves) (λ hs. Contains hs half) (λ there. (laws.among halves half).0 there) (λ not_there. contains_from_in (half ∷ halves) half (inl refl))
 
 -- a half that is known stays known
-stays_known : (w : ℕ) (known : Known) (item : LineItem) (half : StampedHalf) → Contains known.halves half → Contains (halves_with w known item) half
+stays_known : (w : ℕ) (known : Known) (item : LineItem) (half : StampedHalf)
+    → Contains known.halves half → Contains (halves_with w known item) half
 stays_known w known Pass half h = h
 stays_known w known MalformedItem half h = h
 stays_known w known (Lnav stamp sat bits) half h = h
@@ -89,11 +102,13 @@ gets_known laws w known stamp sat signal bits timely nominal =
     (λ n. put_half_new laws known.halves own))
 
 module _ (laws : HalfLaws) (w : ℕ) (items : List LineItem) (known : Known) (knows : Knows w items known) where
-  still : (item : LineItem) (half : StampedHalf) → Contains known.halves half → IsHalfHeard w (items ++ item ∷ []) half
+  still : (item : LineItem) (half : StampedHalf) → Contains known.halves half
+      → IsHalfHeard w (items ++ item ∷ []) half
   still item half h = half_keeps w items (items ++ item ∷ []) (still_accepted w items item) half (knows.halves_to half h)
 
   -- the half of an item in time that is no alert is heard
-  pub half_heard : (stamp : ℕ) (sat : Satellite) (signal : Signal) (bits : List ℕ) → is_late w known stamp ≡ false → is_alert bits ≡ false
+  pub half_heard : (stamp : ℕ) (sat : Satellite) (signal : Signal) (bits : List ℕ)
+      → is_late w known stamp ≡ false → is_alert bits ≡ false
       → IsHalfHeard w (items ++ Half stamp sat signal bits ∷ []) (half_of stamp sat signal bits)
   half_heard stamp sat signal bits timely nominal = record {
     stamp = stamp;
@@ -105,7 +120,8 @@ module _ (laws : HalfLaws) (w : ℕ) (items : List LineItem) (known : Known) (kn
     half_is = refl;
   }
 
-  halves_known : (item : LineItem) (half : StampedHalf) → Contains (halves_with w known item) half → IsHalfHeard w (items ++ item ∷ []) half
+  halves_known : (item : LineItem) (half : StampedHalf) → Contains (halves_with w known item) half
+      → IsHalfHeard w (items ++ item ∷ []) half
   halves_known Pass half h = still Pass half h
   halves_known MalformedItem half h = still MalformedItem half h
   halves_known (Lnav stamp sat bits) half h = still (Lnav stamp sat bits) half h
@@ -127,7 +143,8 @@ module _ (laws : HalfLaws) (w : ℕ) (items : List LineItem) (known : Known) (kn
       h
 
   -- a half of the item is known with it
-  new_known : (item : LineItem) (half : StampedHalf) → IsNewHalf w items item half → Contains (halves_with w known item) half
+  new_known : (item : LineItem) (half : StampedHalf) → IsNewHalf w items item half
+      → Contains (halves_with w known item) half
   new_known item half h =
       let own = half_of h.stamp h.sat h.signal h.bits in
       let there : Contains (halves_with w known item) own =
@@ -135,7 +152,8 @@ module _ (laws : HalfLaws) (w : ℕ) (items : List LineItem) (known : Known) (kn
       (gets_known laws w known h.stamp h.sat h.signal h.bits (not_late laws w items known knows.greatest h.stamp h.in_time) h.nominal) in
       subst (Contains (halves_with w known item)) (sym h.half_is) there
 
-  known_halves : (item : LineItem) (half : StampedHalf) → IsHalfHeard w (items ++ item ∷ []) half → Contains (halves_with w known item) half
+  known_halves : (item : LineItem) (half : StampedHalf) → IsHalfHeard w (items ++ item ∷ []) half
+      → Contains (halves_with w known item) half
   known_halves item half h =
       ⊎_elim
       (λ (was : IsHalfHeard w items half). stays_known w known item half (knows.halves_from half was))

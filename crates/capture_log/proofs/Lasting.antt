@@ -1,5 +1,6 @@
 -- Lines behind lines: the log goes on, and what is closed stays.
-use Rattle.std.proofs.Common.{◌≡◌, ℕ, suc, ◌+◌, ◌^◌, ◌<◌, ◌≤◌, List, [], ◌∷◌, ◌++◌, length, All, Some, refl, sym, ap, subst, ◌∙◌, append_assoc, arith}
+use Rattle.std.proofs.Common.{◌≡◌, ℕ, suc, ◌+◌, ◌^◌, ◌<◌, ◌≤◌, List, [], ◌∷◌, ◌++◌, length, All}
+use Rattle.std.proofs.Common.{Some, refl, sym, ap, subst, ◌∙◌, append_assoc, arith}
 use Rattle.std.proofs.lemmas.Bool.{cond_both}
 use Rattle.std.proofs.lemmas.List.{map-append, length-map}
 use Rattle.std.proofs.lemmas.List.Concat.{flat_map-append}
@@ -14,7 +15,8 @@ use Rattle.capture_lines.specs.Reading.{item_of}
 use Rattle.capture_lines.specs.declared.item.LineItem.{LineItem}
 use Rattle.capture_lines.specs.declared.item.LineItem.TheVariants.{Malformed as MalformedItem}
 use Rattle.capture_log.specs.Events.{Known, nothing_known, item_line, known_with, events_of}
-use Rattle.capture_log.specs.Log.{noted, items_of, known_from, log_from, log_of, mark_after, parts_of_event, parts_in, parts_of}
+use Rattle.capture_log.specs.Log.{noted, items_of, known_from, log_from, log_of, mark_after}
+use Rattle.capture_log.specs.Log.{parts_of_event, parts_in, parts_of}
 use Rattle.capture_log.proofs.Lists.{all_in}
 use Rattle.capture_log.proofs.HeardValues.{StampsFit}
 use Rattle.capture_log.proofs.LaterParts.{ReadsStamps, greatest_from, log_later}
@@ -45,19 +47,22 @@ abbrev pub later_of : ℕ → List Line → List Line → List Part
 later_of w lines more =
     parts_in (log_from w (known_from w nothing_known (items_of lines)) (2 + length (items_of lines)) (items_of more))
 
-pub parts_append : (w : ℕ) (lines more : List Line) → parts_of w (lines ++ more) ≡ parts_of w lines ++ later_of w lines more
+pub parts_append : (w : ℕ) (lines more : List Line)
+    → parts_of w (lines ++ more) ≡ parts_of w lines ++ later_of w lines more
 parts_append w lines more =
     ap (λ items. parts_in (log_from w nothing_known 2 items)) (map-append item_line lines more)
     ∙ ap parts_in (log_append w nothing_known 2 (items_of lines) (items_of more))
     ∙ flat_map-append (λ n. parts_of_event n.event) (log_of w lines)
     (log_from w (known_from w nothing_known (items_of lines)) (2 + length (items_of lines)) (items_of more))
 
-pub later_from_mark : (laws : ReadsStamps) (w : ℕ) (lines more : List Line) → All (λ p. mark_after w lines ≤ p.stamp) (later_of w lines more)
+pub later_from_mark : (laws : ReadsStamps) (w : ℕ) (lines more : List Line)
+    → All (λ p. mark_after w lines ≤ p.stamp) (later_of w lines more)
 later_from_mark laws w lines more =
     all_in (λ p. mark_after w lines ≤ p.stamp) (later_of w lines more)
     (λ part h. log_later laws w (known_from w nothing_known (items_of lines)) (2 + length (items_of lines)) (items_of more) part h)
 
-pub mark_rises : (w : ℕ) (lines more : List Line) → mark_after w lines ≤ mark_after w (lines ++ more)
+pub mark_rises : (w : ℕ) (lines more : List Line)
+    → mark_after w lines ≤ mark_after w (lines ++ more)
 mark_rises w lines more =
     let then = known_from w nothing_known (items_of lines) in
     let up : then.greatest ≤ (known_from w then (items_of more)).greatest = greatest_from w then (items_of more) in
@@ -100,13 +105,16 @@ lines_fit fits lines =
 -- what is said of parts, and of further lines
 pub record Lasts : Type 0 where
   pub values : (w : ℕ) (lines : List Line) → All IsPartValue (parts_of w lines)
-  pub further : (w : ℕ) (lines more : List Line) → (later : List Part) × (parts_of w (lines ++ more) ≡ parts_of w lines ++ later)
+  pub further : (w : ℕ) (lines more : List Line)
+      → (later : List Part) × (parts_of w (lines ++ more) ≡ parts_of w lines ++ later)
       × All (λ p. mark_after w lines ≤ p.stamp) later
-  pub later : (r w mark : ℕ) (parts later : List Part) → All IsPartValue (parts ++ later) → All (λ p. mark ≤ p.stamp) later
+  pub later : (r w mark : ℕ) (parts later : List Part) → All IsPartValue (parts ++ later)
+      → All (λ p. mark ≤ p.stamp) later
       → closed_of r w mark (parts ++ later) ≡ closed_of r w mark parts
   pub rise : (r w mark higher : ℕ) (parts : List Part) → mark ≤ higher
       → IsPrefix (closed_of r w mark parts) (closed_of r w higher parts)
-  pub front : (r w mark : ℕ) (parts : List Part) → IsPrefix (closed_of r w mark parts) (periods_of r w parts)
+  pub front : (r w mark : ℕ) (parts : List Part)
+      → IsPrefix (closed_of r w mark parts) (periods_of r w parts)
 
 module _ (laws : Lasts) (r w : ℕ) (lines more : List Line) where
   pub closed_later : closed_of r w (mark_after w lines) (parts_of w (lines ++ more)) ≡ closed_of r w (mark_after w lines) (parts_of w lines)

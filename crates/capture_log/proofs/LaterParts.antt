@@ -1,5 +1,6 @@
 -- No part comes from before the mark, so what further lines bring is later.
-use Rattle.std.proofs.Common.{◌≡◌, ℕ, ◌+◌, ◌-◌, ◌≤◌, inl, inr, false, if◌then◌else◌, List, [], ◌∷◌, sym, subst, ⊎_elim, arith, ltb-false}
+use Rattle.std.proofs.Common.{◌≡◌, ℕ, ◌+◌, ◌-◌, ◌≤◌, inl, inr, false, if◌then◌else◌, List, [], ◌∷◌}
+use Rattle.std.proofs.Common.{sym, subst, ⊎_elim, arith, ltb-false}
 use Rattle.std.proofs.lemmas.Bool.{cond_both}
 use Rattle.nav_eph.specs.declared.part.Part.{Part}
 use Rattle.inav_page.specs.declared.half.HalfKind.{HalfKind}
@@ -8,14 +9,17 @@ use Rattle.inav_page.specs.Pages.{kind_of}
 use Rattle.inav_page.specs.Heard.{StampedHalf, stamp_by}
 use Rattle.inav_word.specs.Reading.{reading_of}
 use Rattle.capture_lines.specs.declared.item.LineItem.{LineItem}
-use Rattle.capture_lines.specs.declared.item.LineItem.TheVariants.{Pass, Lnav, Half, Frame, Malformed as MalformedItem}
+use Rattle.capture_lines.specs.declared.item.LineItem.TheVariants.{Pass, Lnav, Half, Frame}
+use Rattle.capture_lines.specs.declared.item.LineItem.TheVariants.{Malformed as MalformedItem}
 use Rattle.lnav_subframe.specs.Reading.{subframe_of}
 use Rattle.capture_log.specs.declared.event.Event.{Event}
 use Rattle.capture_log.specs.declared.event.Event.TheVariants.{Heard, Malformed, Late, Unused}
-use Rattle.capture_log.specs.Events.{Known, of_subframe, of_frame, of_word, half_of, is_alert, is_late, of_words, new_words, events_of, known_with}
+use Rattle.capture_log.specs.Events.{Known, of_subframe, of_frame, of_word, half_of, is_alert}
+use Rattle.capture_log.specs.Events.{is_late, of_words, new_words, events_of, known_with}
 use Rattle.capture_log.specs.Log.{known_from, log_from, parts_in}
 use Rattle.capture_log.proofs.Lists.{In, in_flat_map}
-use Rattle.capture_log.proofs.HeardValues.{HoldsOfRead, of_subframe_part, of_word_part, of_frame_part}
+use Rattle.capture_log.proofs.HeardValues.{HoldsOfRead, of_subframe_part, of_word_part}
+use Rattle.capture_log.proofs.HeardValues.{of_frame_part}
 use Rattle.capture_log.proofs.AllItems.{first_or_later}
 
 abbrev pub Always : ℕ → Type 0
@@ -32,7 +36,8 @@ stamp_by-le : (kind : HalfKind) (stamp : ℕ) → stamp ≤ stamp_by kind stamp
 stamp_by-le Even stamp = omega arith
 stamp_by-le Odd stamp = omega arith
 
-pub no_part : (event : Event) (part : Part) → (event ≡ Heard part → ⊥) → In (event ∷ []) (Heard part) → ⊥
+pub no_part : (event : Event) (part : Part) → (event ≡ Heard part → ⊥)
+    → In (event ∷ []) (Heard part) → ⊥
 no_part event part other (inl e) = other e
 no_part event part other (inr h) = absurd h
 
@@ -42,10 +47,12 @@ single event part (inr h) = absurd h
 
 module _ (laws : ReadsStamps) (w : ℕ) (known : Known) (part : Part) where
   -- in time, and at the stamp or later
-  from_mark : (stamp : ℕ) → is_late w known stamp ≡ false → stamp ≤ part.stamp → known.greatest - w ≤ part.stamp
+  from_mark : (stamp : ℕ) → is_late w known stamp ≡ false → stamp ≤ part.stamp
+      → known.greatest - w ≤ part.stamp
   from_mark stamp timely at = let low = ltb-false (stamp + w) known.greatest timely in omega arith
 
-  words_later : (taken : StampedHalf) (words : List (List ℕ)) → In (of_words taken words) (Heard part) → taken.stamp ≤ part.stamp
+  words_later : (taken : StampedHalf) (words : List (List ℕ))
+      → In (of_words taken words) (Heard part) → taken.stamp ≤ part.stamp
   words_later taken words h =
       let stamp = stamp_by (kind_of taken.half) taken.stamp in
       let word = in_flat_map (λ word. of_word (reading_of word taken.sat stamp)) words (Heard part) h in
@@ -54,7 +61,8 @@ module _ (laws : ReadsStamps) (w : ℕ) (known : Known) (part : Part) where
       subst (λ n. taken.stamp ≤ n) (sym same) low
 
   -- no part of an item comes from before the mark
-  pub events_later : (item : LineItem) → In (events_of w known item) (Heard part) → known.greatest - w ≤ part.stamp
+  pub events_later : (item : LineItem) → In (events_of w known item) (Heard part)
+      → known.greatest - w ≤ part.stamp
   unfolding events_of
   events_later Pass h = absurd h
   events_later MalformedItem h = absurd (no_part Malformed part (λ e. (cc)) h)
@@ -87,11 +95,13 @@ module _ (laws : ReadsStamps) (w : ℕ) (known : Known) (part : Part) where
       h
 
 -- the greatest stamp rises
-greatest_rises : (w : ℕ) (known : Known) (item : LineItem) → known.greatest ≤ (known_with w known item).greatest
+greatest_rises : (w : ℕ) (known : Known) (item : LineItem)
+    → known.greatest ≤ (known_with w known item).greatest
 unfolding known_with
 greatest_rises w known item = omega arith
 
-pub greatest_from : (w : ℕ) (known : Known) (items : List LineItem) → known.greatest ≤ (known_from w known items).greatest
+pub greatest_from : (w : ℕ) (known : Known) (items : List LineItem)
+    → known.greatest ≤ (known_from w known items).greatest
 greatest_from w known [] = omega arith
 greatest_from w known (item ∷ items) =
     let first : known.greatest ≤ (known_with w known item).greatest = greatest_rises w known item in

@@ -1,5 +1,6 @@
 -- Each part of a capture's lines is one that its satellite can send.
-use Rattle.std.proofs.Common.{◌≡◌, ℕ, ◌+◌, inl, inr, if◌then◌else◌, List, [], ◌∷◌, All, Ok, refl, subst, ⊎_elim}
+use Rattle.std.proofs.Common.{◌≡◌, ℕ, ◌+◌, inl, inr, if◌then◌else◌, List, [], ◌∷◌, All, Ok, refl}
+use Rattle.std.proofs.Common.{subst, ⊎_elim}
 use Rattle.std.proofs.lemmas.Bool.{cond_both}
 use Rattle.std.proofs.lemmas.List.Elements.{All-contains}
 use Rattle.nav_io.specs.Lines.{Line}
@@ -17,11 +18,14 @@ use Rattle.rtcm_eph.specs.declared.read.MessageParts.{MessageParts}
 use Rattle.capture_lines.specs.Reading.{item_of}
 use Rattle.capture_lines.specs.Spellings.{StandsFor}
 use Rattle.capture_lines.specs.declared.item.LineItem.{LineItem}
-use Rattle.capture_lines.specs.declared.item.LineItem.TheVariants.{Pass, Lnav, Half, Frame, Malformed as MalformedItem}
+use Rattle.capture_lines.specs.declared.item.LineItem.TheVariants.{Pass, Lnav, Half, Frame}
+use Rattle.capture_lines.specs.declared.item.LineItem.TheVariants.{Malformed as MalformedItem}
 use Rattle.lnav_subframe.specs.Reading.{subframe_of}
 use Rattle.capture_log.specs.declared.event.Event.{Event}
 use Rattle.capture_log.specs.declared.event.Event.TheVariants.{Heard, Malformed, Late, Unused}
-use Rattle.capture_log.specs.Events.{Known, nothing_known, of_subframe, of_frame, of_word, half_of, is_alert, is_late, of_words, new_words, events_of, known_with, item_line}
+use Rattle.capture_log.specs.Events.{Known, nothing_known, of_subframe, of_frame, of_word, half_of}
+use Rattle.capture_log.specs.Events.{is_alert, is_late, of_words, new_words, events_of, known_with}
+use Rattle.capture_log.specs.Events.{item_line}
 use Rattle.capture_log.specs.Log.{items_of, log_from, parts_in, parts_of}
 use Rattle.capture_log.proofs.Lists.{In, all_in, contains_from_in, in_flat_map, in_map}
 use Rattle.capture_log.proofs.HeardValues.{subframe_read, word_read, frame_read}
@@ -39,14 +43,18 @@ IsSendable part = IsPart part.sat part.body
 
 -- what is read of a satellite of its system can be sent by it
 pub record ReadsSendable : Type 0 where
-  pub subframes : (bits : List ℕ) (sat : Satellite) (stamp : ℕ) (part : Part) → sat.system ≡ Gps → subframe_of bits sat stamp ≡ Ok part → IsSendable part
-  pub words : (bits : List ℕ) (sat : Satellite) (stamp : ℕ) (parts : WordParts) → sat.system ≡ Gal → reading_of bits sat stamp ≡ Ok parts
+  pub subframes : (bits : List ℕ) (sat : Satellite) (stamp : ℕ) (part : Part) → sat.system ≡ Gps
+      → subframe_of bits sat stamp ≡ Ok part → IsSendable part
+  pub words : (bits : List ℕ) (sat : Satellite) (stamp : ℕ) (parts : WordParts) → sat.system ≡ Gal
+      → reading_of bits sat stamp ≡ Ok parts
       → All IsSendable (word_parts parts)
-  pub messages : (payload : List ℕ) (stamp : ℕ) (parts : MessageParts) → message_of stamp (content_of payload) ≡ Ok parts
+  pub messages : (payload : List ℕ) (stamp : ℕ) (parts : MessageParts)
+      → message_of stamp (content_of payload) ≡ Ok parts
       → All IsSendable (message_parts parts)
 
 module _ (laws : ReadsSendable) (w : ℕ) (known : Known) (part : Part) where
-  words_sendable : (taken : StampedHalf) (words : List (List ℕ)) → taken.sat.system ≡ Gal → In (of_words taken words) (Heard part) → IsSendable part
+  words_sendable : (taken : StampedHalf) (words : List (List ℕ)) → taken.sat.system ≡ Gal
+      → In (of_words taken words) (Heard part) → IsSendable part
   words_sendable taken words system h =
       let stamp = stamp_by (kind_of taken.half) taken.stamp in
       let word = in_flat_map (λ word. of_word (reading_of word taken.sat stamp)) words (Heard part) h in
@@ -54,13 +62,15 @@ module _ (laws : ReadsSendable) (w : ℕ) (known : Known) (part : Part) where
       All-contains IsSendable (word_parts own.parts) part (laws.words word.0 taken.sat stamp own.parts system own.read)
       (contains_from_in (word_parts own.parts) part own.here)
 
-  frame_sendable : (stamp : ℕ) (bytes : List ℕ) → In (of_frame stamp bytes) (Heard part) → IsSendable part
+  frame_sendable : (stamp : ℕ) (bytes : List ℕ) → In (of_frame stamp bytes) (Heard part)
+      → IsSendable part
   frame_sendable stamp bytes h =
       let own = frame_read stamp bytes part h in
       All-contains IsSendable (message_parts own.parts) part (laws.messages (payload_of bytes) stamp own.parts own.read)
       (contains_from_in (message_parts own.parts) part own.here)
 
-  events_sendable : (item : LineItem) → HasSystem item → In (events_of w known item) (Heard part) → IsSendable part
+  events_sendable : (item : LineItem) → HasSystem item → In (events_of w known item) (Heard part)
+      → IsSendable part
   unfolding events_of
   events_sendable Pass system h = absurd h
   events_sendable MalformedItem system h = absurd (no_part Malformed part (λ e. (cc)) h)
@@ -87,7 +97,8 @@ module _ (laws : ReadsSendable) (w : ℕ) (known : Known) (part : Part) where
       h
 
 log_sendable : (laws : ReadsSendable) (w : ℕ) (known : Known) (number : ℕ) (items : List LineItem) (part : Part)
-    → ((item : LineItem) → In items item → HasSystem item) → In (parts_in (log_from w known number items)) part → IsSendable part
+    → ((item : LineItem) → In items item → HasSystem item)
+    → In (parts_in (log_from w known number items)) part → IsSendable part
 log_sendable laws w known number [] part systems h = absurd h
 log_sendable laws w known number (item ∷ items) part systems h =
     ⊎_elim
@@ -104,11 +115,13 @@ item_system line (Half stamp sat signal bits) h = h.system
 item_system line (Frame stamp bytes) h = tt
 item_system line MalformedItem h = tt
 
-line_system : ((line : List ℕ) → StandsFor (item_of line) line) → (line : Line) → HasSystem (item_line line)
+line_system : ((line : List ℕ) → StandsFor (item_of line) line) → (line : Line)
+    → HasSystem (item_line line)
 line_system stands line =
     cond_both line.long MalformedItem (item_of line.text) HasSystem (λ long. tt) (λ short. item_system line.text (item_of line.text) (stands line.text))
 
-pub lines_sendable : (laws : ReadsSendable) → ((line : List ℕ) → StandsFor (item_of line) line) → (w : ℕ) (lines : List Line)
+pub lines_sendable : (laws : ReadsSendable) → ((line : List ℕ) → StandsFor (item_of line) line)
+    → (w : ℕ) (lines : List Line)
     → All IsSendable (parts_of w lines)
 lines_sendable laws stands w lines =
     all_in IsSendable (parts_of w lines)

@@ -1,5 +1,7 @@
--- What one more line brings, when it is known what came before: that it is malformed or late, or what a reader makes of it.
-use Rattle.std.specs.Prelude.{ℕ, ◌+◌, ◌&&◌, Bool, nat_eq, nat_lt, max, if◌then◌else◌, List, [], ◌∷◌, length, Option, None, Some, unwrap_or, Result, Ok, Err}
+-- What one more line brings, when it is known what came before: that it is malformed or late, or
+-- what a reader makes of it.
+use Rattle.std.specs.Prelude.{ℕ, ◌+◌, ◌&&◌, Bool, nat_eq, nat_lt, max, if◌then◌else◌, List, [], ◌∷◌}
+use Rattle.std.specs.Prelude.{length, Option, None, Some, unwrap_or, Result, Ok, Err}
 use Rattle.std.specs.List.{flat_map}
 use Rattle.nav_bits.specs.Bits.{number_at}
 use Rattle.nav_io.specs.Lines.{Line}
@@ -25,13 +27,16 @@ use Rattle.rtcm_eph.specs.declared.read.MessageParts.TheVariants.{Gps as GpsPart
 use Rattle.capture_lines.specs.Late.{stamp_of}
 use Rattle.capture_lines.specs.Reading.{item_of}
 use Rattle.capture_lines.specs.declared.item.LineItem.{LineItem}
-use Rattle.capture_lines.specs.declared.item.LineItem.TheVariants.{Pass, Lnav, Half, Frame, Malformed as MalformedItem}
+use Rattle.capture_lines.specs.declared.item.LineItem.TheVariants.{Pass, Lnav, Half, Frame}
+use Rattle.capture_lines.specs.declared.item.LineItem.TheVariants.{Malformed as MalformedItem}
 use Rattle.lnav_subframe.specs.Reading.{subframe_of}
 use Rattle.capture_log.specs.declared.event.Refusal.TheVariants as refusals
 use Rattle.capture_log.specs.declared.event.Event.{Event}
-use Rattle.capture_log.specs.declared.event.Event.TheVariants.{Heard, Malformed, Late, Refused, Unused}
+use Rattle.capture_log.specs.declared.event.Event.TheVariants.{Heard, Malformed, Late, Refused}
+use Rattle.capture_log.specs.declared.event.Event.TheVariants.{Unused}
 
--- what the reading of a subframe brings: its part, or why it is refused; another subframe or page is not used
+-- what the reading of a subframe brings: its part, or why it is refused; another subframe or page
+-- is not used
 abbrev pub of_subframe : Result Part LnavFault → Event
 of_subframe (Ok part) = Heard part
 of_subframe (Err subframes.Preamble) = Refused refusals.Preamble
@@ -69,7 +74,8 @@ of_message_fault messages.SpareSisa = Refused refusals.Sisa
 -- what the reading of a message brings: the parts of its ephemeris
 abbrev pub of_message : Result MessageParts MessageFault → List Event
 of_message (Ok (GpsParts clock a b)) = Heard clock ∷ Heard a ∷ Heard b ∷ []
-of_message (Ok (GalParts w1 w2 w3 w4 health)) = Heard w1 ∷ Heard w2 ∷ Heard w3 ∷ Heard w4 ∷ Heard health ∷ []
+of_message (Ok (GalParts w1 w2 w3 w4 health)) =
+    Heard w1 ∷ Heard w2 ∷ Heard w3 ∷ Heard w4 ∷ Heard health ∷ []
 of_message (Err fault) = of_message_fault fault ∷ []
 
 -- the bytes are one whole frame of right checksum and nothing else
@@ -79,7 +85,8 @@ is_frame bytes = nat_lt 0 (length bytes) && nat_eq (frame_size bytes) (length by
 -- what the bytes of a frame bring
 unfoldable pub of_frame : ℕ → List ℕ → List Event
 of_frame stamp bytes =
-    if is_frame bytes then of_message (parts_of stamp (content_of (payload_of bytes))) else Refused refusals.Frame ∷ []
+    if is_frame bytes then of_message (parts_of stamp (content_of (payload_of bytes)))
+    else Refused refusals.Frame ∷ []
 
 -- a page half as it was received: its kept bits, with its stamp, satellite and signal
 abbrev pub half_of : ℕ → Satellite → Signal → List ℕ → StampedHalf
@@ -91,7 +98,9 @@ is_alert bits = nat_eq (number_at bits 1 1) 1
 
 -- what the words of a half bring, each heard at the second of its odd part
 abbrev pub of_words : StampedHalf → List (List ℕ) → List Event
-of_words half words = flat_map (λ word. of_word (reading_of word half.sat (stamp_by (kind_of half.half) half.stamp))) words
+of_words half words =
+    flat_map (λ word. of_word (reading_of word half.sat (stamp_by (kind_of half.half) half.stamp)))
+    words
 
 -- the words that a half makes with those that came before it; none where it came already
 abbrev pub new_words : List StampedHalf → StampedHalf → List (List ℕ)
@@ -103,7 +112,8 @@ of_half before stamp sat signal bits =
     if is_alert bits then Unused ∷ []
     else of_words (half_of stamp sat signal bits) (new_words before (half_of stamp sat signal bits))
 
--- what the lines so far let one know: their greatest stamp, and the halves that were accepted, each once
+-- what the lines so far let one know: their greatest stamp, and the halves that were accepted, each
+-- once
 pub record Known : Type 0 where
   pub greatest : ℕ
   pub halves : List StampedHalf
@@ -135,7 +145,8 @@ with_half halves half = if has_half halves half then halves else half ∷ halves
 abbrev pub halves_with : ℕ → Known → LineItem → List StampedHalf
 halves_with window known (Half stamp sat signal bits) =
     if is_late window known stamp then known.halves
-    else (if is_alert bits then known.halves else with_half known.halves (half_of stamp sat signal bits))
+    else (if is_alert bits then known.halves
+    else with_half known.halves (half_of stamp sat signal bits))
 halves_with window known _ = known.halves
 
 -- what is known with one more item

@@ -1,4 +1,5 @@
--- The parts heard, by a look at all items of a capture at once: those of its accepted subframes, of the messages in its accepted frames, and of
+-- The parts heard, by a look at all items of a capture at once: those of its accepted subframes, of
+-- the messages in its accepted frames, and of
 -- the words that its accepted halves make.
 use Rattle.std.specs.Prelude.{◌≡◌, ◌⊎◌, ◌↔◌, ℕ, false, List, Contains, Some}
 use Rattle.nav_eph.specs.Satellite.{Satellite}
@@ -46,16 +47,21 @@ pub record IsOfWord (window : ℕ) (items : List LineItem) (part : Part) : Type 
   pub even : StampedHalf
   pub odd : StampedHalf
   pub heard : IsHeard (IsHalfHeard window items) even odd
-  pub is : Contains (of_word (reading_of (word_of even.half odd.half) odd.sat odd.stamp)) (Heard part)
+  pub is : Contains (of_word (reading_of (word_of even.half odd.half) odd.sat odd.stamp))
+      (Heard part)
 
 -- a part heard
 abbrev pub IsPartHeard : ℕ → List LineItem → Part → Type 0
-IsPartHeard window items part = IsOfSubframe window items part ⊎ (IsOfFrame window items part ⊎ IsOfWord window items part)
+IsPartHeard window items part =
+    IsOfSubframe window items part ⊎ (IsOfFrame window items part ⊎ IsOfWord window items part)
 
 -- the same lines with a stamp stand in both lists, in whatever order and however often
 abbrev pub SameItems : List LineItem → List LineItem → Type 0
-SameItems some other = (item : LineItem) (s : ℕ) → stamp_of item ≡ Some s → Contains some item ↔ Contains other item
+SameItems some other =
+    (item : LineItem) (s : ℕ) → stamp_of item ≡ Some s → Contains some item ↔ Contains other item
 
 -- none of them is late
 abbrev pub NoneLate : ℕ → List LineItem → Type 0
-NoneLate window items = (item : LineItem) (s : ℕ) → stamp_of item ≡ Some s → Contains items item → IsAccepted window items item
+NoneLate window items =
+    (item : LineItem) (s : ℕ) → stamp_of item ≡ Some s → Contains items item
+    → IsAccepted window items item

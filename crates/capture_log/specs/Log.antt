@@ -1,4 +1,5 @@
--- The log of a capture: what its lines bring, one after another, each event with the number of its line.
+-- The log of a capture: what its lines bring, one after another, each event with the number of its
+-- line.
 use Rattle.std.specs.Prelude.{ℕ, ◌+◌, ◌-◌, List, [], ◌∷◌, ◌++◌, map}
 use Rattle.std.specs.List.{flat_map}
 use Rattle.nav_io.specs.Lines.{Line}
@@ -30,7 +31,8 @@ known_from window known (item ∷ items) = known_from window (known_with window 
 abbrev pub log_from : ℕ → Known → ℕ → List LineItem → List Noted
 log_from window known number [] = []
 log_from window known number (item ∷ items) =
-    noted number (events_of window known item) ++ log_from window (known_with window known item) (number + 1) items
+    noted number (events_of window known item)
+    ++ log_from window (known_with window known item) (number + 1) items
 
 -- the parts of an event, and of a log
 abbrev pub parts_of_event : Event → List Part
@@ -48,6 +50,7 @@ log_of window lines = log_from window nothing_known 2 (items_of lines)
 abbrev pub parts_of : ℕ → List Line → List Part
 parts_of window lines = parts_in (log_of window lines)
 
--- the mark after the lines, below which no accepted line comes: the greatest stamp less the window, and not below 0
+-- the mark after the lines, below which no accepted line comes: the greatest stamp less the window,
+-- and not below 0
 abbrev pub mark_after : ℕ → List Line → ℕ
 mark_after window lines = (known_from window nothing_known (items_of lines)).greatest - window

@@ -1,6 +1,7 @@
 //! Laws of what is heard: each function does nothing, and its contract is the law.
 
-ghost use Rattle.std.specs.Prelude.{◌≡◌, ℕ, ◌+◌, ◌^◌, ◌<◌, ◌≤◌, ◌++◌, ◌↔◌, List, length, Some, All, Contains};
+ghost use Rattle.std.specs.Prelude.{◌≡◌, ℕ, ◌+◌, ◌^◌, ◌<◌, ◌≤◌, ◌++◌, ◌↔◌, List, length, Some, All};
+ghost use Rattle.std.specs.Prelude.{Contains};
 ghost use Rattle.nav_eph.specs.declared.part.Part.{Part};
 ghost use Rattle.nav_eph.specs.Conditions.{IsPart};
 ghost use Rattle.nav_eph.specs.Values.{IsPartValue};
