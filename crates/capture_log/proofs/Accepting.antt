@@ -27,15 +27,19 @@ pub record IsNewest (w : ℕ) (items : List LineItem) (item other : LineItem) : 
   pub stamp_is : stamp_of other ≡ Some stamp
   pub in_time : IsLate w items stamp → ⊥
 
-pub still_accepted : (w : ℕ) (items : List LineItem) (item other : LineItem) → IsAccepted w items other → IsAccepted w (items ++ item ∷ []) other
-still_accepted w items item other h = record {
+-- what is accepted in front stays accepted
+pub front_accepted : (w : ℕ) (items more : List LineItem) (other : LineItem) → IsAccepted w items other → IsAccepted w (items ++ more) other
+front_accepted w items more other h = record {
   before = h.before;
-  after = h.after ++ item ∷ [];
-  place = ap (λ l. l ++ item ∷ []) h.place ∙ append_assoc h.before (other ∷ h.after) (item ∷ []);
+  after = h.after ++ more;
+  place = ap (λ l. l ++ more) h.place ∙ append_assoc h.before (other ∷ h.after) more;
   stamp = h.stamp;
   stamp_is = h.stamp_is;
   in_time = h.in_time;
 }
+
+pub still_accepted : (w : ℕ) (items : List LineItem) (item other : LineItem) → IsAccepted w items other → IsAccepted w (items ++ item ∷ []) other
+still_accepted w items item other h = front_accepted w items (item ∷ []) other h
 
 pub last_accepted : (w : ℕ) (items : List LineItem) (item : LineItem) (stamp : ℕ) → stamp_of item ≡ Some stamp → (IsLate w items stamp → ⊥)
     → IsAccepted w (items ++ item ∷ []) item
