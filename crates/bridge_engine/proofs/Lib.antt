@@ -1,5 +1,7 @@
 mod Breaking
 mod Breakings
+mod CaptureEnds
+mod CaptureFronts
 mod Digits
 mod Feeding
 mod Following
