@@ -1,5 +1,6 @@
 mod Breaking
 mod Breakings
+mod CaptureClauses
 mod CaptureEnds
 mod CaptureFronts
 mod Digits
