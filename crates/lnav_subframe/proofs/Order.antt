@@ -1,6 +1,6 @@
 -- The fault of a reading is the first in the order of those that the subframe has.
 use Rattle.std.proofs.Common.{◌≡◌, ℕ, zero, suc, ◌-◌, ◌<◌, ◌≤◌, ◌&&◌, ◌↔◌, ◌⊎◌, List, Bool, true, false, nat_eq, nat_le, nat_lt, Option, None, Some, Result, Ok, Err, inl, inr, refl, sym, ap, ◌∙◌, subst, arith, ⊎_elim}
-use Rattle.std.proofs.lemmas.Bool.{cond_both, eqb-false, eqb-true, leb-false, leb-true, ltb-false, ltb-true, true≢false}
+use Rattle.std.proofs.lemmas.Bool.{and_parts, cond_both, eqb-false, eqb-true, leb-false, leb-true, ltb-false, ltb-true, true≢false}
 use Rattle.nav_eph.specs.Satellite.{Satellite}
 use Rattle.nav_eph.specs.declared.part.Part.{Part}
 use Rattle.nav_eph.specs.declared.part.Body.{Body}
@@ -49,10 +49,6 @@ bad_word bits word begins bad = record {
 }
 
 -- ---- the faults of the data bits
-
-and_parts : (a b : Bool) → (a && b) ≡ true → (a ≡ true) × (b ≡ true)
-and_parts true b e = (refl, e)
-and_parts false b e = absurd (true≢false (sym e))
 
 not_used : (h : Head) → nat_eq h.number 1 ≡ false → nat_eq h.number 2 ≡ false → nat_eq h.number 3 ≡ false → (nat_eq h.number 4 && nat_eq h.page 56) ≡ false
     → IsUsed h → ⊥

@@ -4,3 +4,4 @@ pub mod Contents
 pub mod RoundTrip
 pub mod MessageBytes
 pub mod Items
+pub mod Order

@@ -1,4 +1,4 @@
-ghost use Rattle.std.specs.Prelude.{◌≡◌, ℕ, ◌<◌, ◌^◌, List, All, IfOk, length, take, Result, Ok};
+ghost use Rattle.std.specs.Prelude.{◌≡◌, ℕ, ◌<◌, ◌^◌, ◌↔◌, List, All, IfOk, length, take, Result, Ok, Err};
 ghost use Rattle.nav_bits.specs.Bits.{bit, number_at};
 ghost use Rattle.nav_bits.specs.Fields.{StandFrom};
 ghost use Rattle.nav_bits.specs.Packed.{AreBytes as AreSoManyBytes, ZerosFrom};
@@ -13,6 +13,7 @@ ghost use Rattle.nav_eph.specs.declared.items.SentSecond.TheVariants.{Unknown};
 ghost use Rattle.rtcm_eph.specs.declared.fault.MessageFault.{MessageFault};
 ghost use Rattle.rtcm_eph.specs.declared.message1019.Message1019.{Message1019};
 ghost use Rattle.rtcm_eph.specs.declared.message1046.Message1046.{Message1046};
+ghost use Rattle.rtcm_eph.specs.Faults.{IsFirstFault};
 ghost use Rattle.rtcm_eph.specs.Messages.{fields_1019, fields_1046, message1019_at, message1046_at};
 ghost use Rattle.rtcm_eph.specs.declared.read.MessageParts.{MessageParts};
 ghost use Rattle.rtcm_eph.specs.Reading.{GivesItem, all_parts, content_of, item_in, parts_of};
@@ -105,4 +106,14 @@ pub fn message_parts()
         All (λ part. IsPart part.sat part.body) (all_parts parts) }
     ensures values { (payload : List ℕ) (stamp : ℕ) (parts : MessageParts) → stamp < 2 ^ 32 →
         parts_of stamp (content_of payload) ≡ Ok parts → All IsPartValue (all_parts parts) }
+{}
+
+/// A payload is refused with a fault exactly where it is the first that the payload has.
+pub fn refused_by_the_first_fault()
+    ensures content { (payload : List ℕ) (fault : MessageFault) →
+        (content_of payload ≡ Err fault) ↔ IsFirstFault payload fault }
+    ensures parts { (stamp : ℕ) (payload : List ℕ) (fault : MessageFault) →
+        (parts_of stamp (content_of payload) ≡ Err fault) ↔ IsFirstFault payload fault }
+    ensures item { (r : ℕ) (payload : List ℕ) (fault : MessageFault) →
+        (item_in r payload ≡ Err fault) ↔ IsFirstFault payload fault }
 {}

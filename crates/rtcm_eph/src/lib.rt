@@ -34,7 +34,8 @@ pub use crate::content::{Content, GalContent, GpsContent};
 pub use crate::fault::MessageFault;
 pub use crate::laws::{
     item_function, message_bytes, message_parts, messages_are_the_functions, one_message_1019,
-    one_message_1046, read_1019_is_sent, read_1046_is_sent, sent_1019_is_read, sent_1046_is_read,
+    one_message_1046, read_1019_is_sent, read_1046_is_sent, refused_by_the_first_fault,
+    sent_1019_is_read, sent_1046_is_read,
 };
 pub use crate::message1019::Message1019;
 pub use crate::message1046::Message1046;
