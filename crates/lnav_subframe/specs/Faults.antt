@@ -1,7 +1,8 @@
 -- The faults that a subframe may have, and the first of them.
 use Rattle.std.specs.Prelude.{◌≡◌, ℕ, ◌<◌, ◌≤◌, ◌⊎◌, List}
 use Rattle.lnav_subframe.specs.declared.fault.LnavFault.{LnavFault}
-use Rattle.lnav_subframe.specs.declared.fault.LnavFault.TheVariants.{Preamble, Parity, BadTow, Unused, BadTime}
+use Rattle.lnav_subframe.specs.declared.fault.LnavFault.TheVariants.{Preamble, Parity, BadTow}
+use Rattle.lnav_subframe.specs.declared.fault.LnavFault.TheVariants.{Unused, BadTime}
 use Rattle.lnav_subframe.specs.declared.head.Head.{Head}
 use Rattle.lnav_subframe.specs.Reading.{page_of}
 use Rattle.lnav_subframe.specs.Subframes.{head_at, subframe1_at, subframe2_at}
@@ -19,8 +20,9 @@ head_of bits = head_at (source_bits bits) 0
 abbrev pub IsUsed : Head → Type 0
 IsUsed h = (h.number ≡ 1) ⊎ (h.number ≡ 2) ⊎ (h.number ≡ 3) ⊎ ((h.number ≡ 4) × (h.page ≡ 56))
 
--- a subframe has a fault: it does not begin as one, the parity of a word is wrong, and of none before it, a week has no
--- subframe with its count, it is not used, or toc in subframe 1 or toe in subframe 2 is past the week
+-- A subframe has a fault: it does not begin as one; a word's parity is wrong, and it is the first such word;
+-- a week has no subframe with its count; it is not used; or toc in subframe 1, or toe in subframe 2, is past
+-- the week.
 abbrev pub HasFault : List ℕ → LnavFault → Type 0
 HasFault bits Preamble = HasPreamble bits → ⊥
 HasFault bits (Parity word) = IsFirstBad (upright bits) word

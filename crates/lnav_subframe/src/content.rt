@@ -1,6 +1,7 @@
 ghost use Rattle.std.specs.Prelude.{◌≡◌, ◌<◌};
 ghost use Rattle.gnss_week.specs.Weeks.{IsSecond};
-ghost use Rattle.lnav_subframe.specs.Reading.{content, read_1, read_2, read_3, read_18, start_second, page_of};
+ghost use Rattle.lnav_subframe.specs.Reading.{content, page_of, start_second};
+ghost use Rattle.lnav_subframe.specs.Reading.{read_1, read_2, read_3, read_18};
 
 use crate::clock::Subframe1;
 use crate::fault::LnavFault;

@@ -10,12 +10,14 @@ ghost use Rattle.nav_bits.specs.Packed.{AreBytes};
 ghost use Rattle.lnav_subframe.specs.Bytes.{HasDigits, subframe_bytes};
 ghost use Rattle.lnav_subframe.specs.Faults.{IsFirstInOrder};
 ghost use Rattle.lnav_subframe.specs.Reading.{IsFirstFault, StandsFor, heard, subframe_of};
-ghost use Rattle.lnav_subframe.specs.Writing.{AllReadAs, HasTime, IsWritable, IsWritten, read_again};
+ghost use Rattle.lnav_subframe.specs.Writing.{AllReadAs, HasTime, IsWritable, IsWritten};
+ghost use Rattle.lnav_subframe.specs.Writing.{read_again};
 
 /// What was written is read as the same fields, with the second at which the subframe starts; a page that
 /// is not used is refused as such, with its number and its page.
 pub fn written_is_read()
-    ensures { (body : SubframeOut) (count : ℕ) (bits : List ℕ) → count < 100800 → IsWritable body → HasTime body →
+    ensures { (body : SubframeOut) (count : ℕ) (bits : List ℕ) →
+        count < 100800 → IsWritable body → HasTime body →
         IsWritten body count bits → AllReadAs bits (read_again body count) }
 {}
 
@@ -70,5 +72,6 @@ pub fn subframe_bytes_are_written()
     ensures size { (body : SubframeOut) (count : ℕ) → AreBytes 38 (subframe_bytes body count) }
     ensures read { (body : SubframeOut) (count : ℕ) (sat : Satellite) (stamp : ℕ) →
         HasDigits body → count < 100800 → IsWritable body →
-        subframe_of (subframe_bytes body count) sat stamp ≡ heard sat stamp (read_again body count) }
+        subframe_of (subframe_bytes body count) sat stamp ≡
+        heard sat stamp (read_again body count) }
 {}

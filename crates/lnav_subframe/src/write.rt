@@ -3,7 +3,9 @@ ghost use Rattle.nav_eph.specs.Bodies.{IsGpsIon, IsGpsSide};
 ghost use Rattle.nav_eph.specs.Ranges.{IsGpsClock, IsGpsOrbitA, IsGpsOrbitB};
 ghost use Rattle.nav_eph.specs.Steps.{IsStep16};
 ghost use Rattle.lnav_subframe.specs.Bytes.{HasDigits, subframe_bytes};
-ghost use Rattle.lnav_subframe.specs.Writing.{AllReadAs, HasTime, Holds, IsWritable, IsWritten, page18_of, read_again, subframe1_of, subframe2_of, subframe3_of};
+ghost use Rattle.lnav_subframe.specs.Writing.{AllReadAs, HasTime, Holds, IsWritable, IsWritten};
+ghost use Rattle.lnav_subframe.specs.Writing.{page18_of, read_again};
+ghost use Rattle.lnav_subframe.specs.Writing.{subframe1_of, subframe2_of, subframe3_of};
 
 use crate::clock::Subframe1;
 use crate::head::Head;

@@ -4,28 +4,33 @@ use Rattle.nav_bits.specs.Bits.{number_at}
 use Rattle.rtcm_eph.specs.declared.message1019.Message1019.{Message1019}
 use Rattle.rtcm_eph.specs.declared.message1046.Message1046.{Message1046}
 use Rattle.rtcm_eph.specs.declared.fault.MessageFault.{MessageFault}
-use Rattle.rtcm_eph.specs.declared.fault.MessageFault.TheVariants.{NoNumber, OtherMessage, Short, BadSat, BadTime, SpareSisa}
+use Rattle.rtcm_eph.specs.declared.fault.MessageFault.TheVariants.{NoNumber, OtherMessage, Short}
+use Rattle.rtcm_eph.specs.declared.fault.MessageFault.TheVariants.{BadSat, BadTime, SpareSisa}
 use Rattle.rtcm_eph.specs.Messages.{message1019_at, message1046_at}
 
--- A payload of so many bytes that begins with this number, and whose fields are those if it is message 1019 or 1046,
--- has a fault: it is shorter than a number, or is another message, or shorter than its message; or its message names
--- no satellite, a toe or toc past the week, or a spare accuracy.
+-- A payload of so many bytes that begins with this number, and whose fields are those if it is message 1019
+-- or 1046, has a fault: it is shorter than a number; it is another message; it is shorter than its message; or
+-- its message names no satellite, a toe or toc past the week, or a spare accuracy.
 abbrev pub HasFaultBy : ℕ → ℕ → Message1019 → Message1046 → MessageFault → Type 0
 HasFaultBy bytes number gps gal NoNumber = bytes < 2
-HasFaultBy bytes number gps gal (OtherMessage other) = (other ≡ number) × (number ≡ 1019 → ⊥) × (number ≡ 1046 → ⊥)
-HasFaultBy bytes number gps gal Short = ((number ≡ 1019) × (bytes < 61)) ⊎ ((number ≡ 1046) × (bytes < 63))
+HasFaultBy bytes number gps gal (OtherMessage other) =
+    (other ≡ number) × (number ≡ 1019 → ⊥) × (number ≡ 1046 → ⊥)
+HasFaultBy bytes number gps gal Short =
+    ((number ≡ 1019) × (bytes < 61)) ⊎ ((number ≡ 1046) × (bytes < 63))
 HasFaultBy bytes number gps gal BadSat =
     ((number ≡ 1019) × ((gps.satellite < 1) ⊎ (32 < gps.satellite)))
     ⊎ ((number ≡ 1046) × ((gal.satellite < 1) ⊎ (36 < gal.satellite)))
 HasFaultBy bytes number gps gal BadTime =
     ((number ≡ 1019) × ((37800 ≤ gps.toe) ⊎ (37800 ≤ gps.toc)))
     ⊎ ((number ≡ 1046) × ((10080 ≤ gal.toe) ⊎ (10080 ≤ gal.toc)))
-HasFaultBy bytes number gps gal SpareSisa = (number ≡ 1046) × (126 ≤ gal.sisa) × (gal.sisa ≡ 255 → ⊥)
+HasFaultBy bytes number gps gal SpareSisa =
+    (number ≡ 1046) × (126 ≤ gal.sisa) × (gal.sisa ≡ 255 → ⊥)
 
 -- the payload has a fault
 abbrev pub HasFault : List ℕ → MessageFault → Type 0
 HasFault payload =
-    HasFaultBy (length payload) (number_at payload 0 12) (message1019_at payload 0) (message1046_at payload 0)
+    HasFaultBy (length payload) (number_at payload 0 12) (message1019_at payload 0)
+    (message1046_at payload 0)
 
 -- the order of the faults
 abbrev pub order_of : MessageFault → ℕ

@@ -1,4 +1,5 @@
-ghost use Rattle.std.specs.Prelude.{◌≡◌, ℕ, ◌<◌, ◌^◌, ◌↔◌, List, All, IfOk, length, take, Result, Ok, Err};
+ghost use Rattle.std.specs.Prelude.{◌≡◌, ℕ, ◌<◌, ◌^◌, ◌↔◌, List, All, IfOk, length, take};
+ghost use Rattle.std.specs.Prelude.{Result, Ok, Err};
 ghost use Rattle.nav_bits.specs.Bits.{bit, number_at};
 ghost use Rattle.nav_bits.specs.Fields.{StandFrom};
 ghost use Rattle.nav_bits.specs.Packed.{AreBytes as AreSoManyBytes, ZerosFrom};
@@ -37,7 +38,8 @@ pub fn one_message_1046()
 /// itself, but for when it was sent.
 pub fn sent_1019_is_read()
     ensures { (e : GpsEph) (payload : List ℕ) (r : ℕ) (answer : Result NavItem MessageFault) →
-        IsGps e → IsNearGps r e.toe_week → Begins1019 payload e → GivesItem r (content_of payload) answer →
+        IsGps e → IsNearGps r e.toe_week → Begins1019 payload e →
+        GivesItem r (content_of payload) answer →
         answer ≡ Ok (Gps (record e { sent = Unknown })) }
 {}
 
@@ -45,7 +47,8 @@ pub fn sent_1019_is_read()
 /// as itself, but for when it was sent.
 pub fn sent_1046_is_read()
     ensures { (e : GalEph) (payload : List ℕ) (r : ℕ) (answer : Result NavItem MessageFault) →
-        IsGal e → IsNearGalileo r e.toe_week → Begins1046 payload e → GivesItem r (content_of payload) answer →
+        IsGal e → IsNearGalileo r e.toe_week → Begins1046 payload e →
+        GivesItem r (content_of payload) answer →
         answer ≡ Ok (Gal (record e { sent = Unknown })) }
 {}
 
