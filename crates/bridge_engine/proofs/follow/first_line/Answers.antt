@@ -1,4 +1,4 @@
-use Rattle.std.proofs.Common.{◌≡◌, ℕ, List, Option, None, true, false, refl, sym, ap, subst, ◌∙◌, inl, inr}
+use Rattle.std.proofs.Common.{◌≡◌, ℕ, List, Option, None, true, false, refl, sym, ap, subst, ◌∙◌, inl}
 use Rattle.nav_io.specs.LineAnswers.{Answers}
 use Rattle.nav_io.specs.declared.lines.LineKind.{LineKind}
 use Rattle.capture_lines.specs.Heads.{head_of}

@@ -1,4 +1,4 @@
-use Rattle.std.proofs.Common.{◌≡◌, ℕ, List, [], ◌∷◌, ◌-◌, ◌++◌, sym, ap, ◌∙◌, append_assoc, append-nil, arith}
+use Rattle.std.proofs.Common.{◌≡◌, ℕ, List, [], ◌∷◌, ◌-◌, ◌++◌, sym, ap, ◌∙◌, append-nil, arith}
 use Rattle.bridge_engine.specs.Texts.{hex_digits}
 use Rattle.bridge_engine.proofs.Digits.{hex_digits-none, hex_digits_one}
 use Rattle.bridge_engine.proofs.text.append_hex.Goals as goal
