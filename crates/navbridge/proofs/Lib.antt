@@ -1,2 +1,4 @@
+mod Headlines
 mod Jobs
+mod OneJob
 mod Spellings
