@@ -1,5 +1,6 @@
--- The text of the generated capture, as a function of the seed, the number of satellites and the week.
-use Rattle.std.specs.Prelude.{ℕ, zero, suc, ◌+◌, ◌-◌, ◌*◌, ◌/◌, ◌%◌, nat_eq, if◌then◌else◌, List, [], ◌∷◌, ◌++◌, replicate, codes}
+-- The text of the generated capture, as a function of the seed, the number of satellites, the week.
+use Rattle.std.specs.Prelude.{ℕ, zero, suc, ◌+◌, ◌-◌, ◌*◌, ◌/◌, ◌%◌, nat_eq, if◌then◌else◌}
+use Rattle.std.specs.Prelude.{List, [], ◌∷◌, ◌++◌, replicate, codes}
 use Rattle.nav_eph.specs.declared.ion.GalIon.{GalIon}
 use Rattle.lnav_subframe.specs.Bytes.{subframe_bytes}
 use Rattle.inav_word.specs.Writing.{word1_bytes, word2_bytes, word3_bytes, word4_bytes, word5_bytes}
@@ -17,22 +18,25 @@ use Rattle.nav_vectors.specs.Capture.{lines_of}
 unfoldable pub subframe_line : ℕ → ℕ → ℕ → ℕ → ℕ → List ℕ
 subframe_line seed n r stamp number =
     lnav_text stamp (gps_sat number)
-    (subframe_bytes (subframe_of (gps_of seed number) (gps_ion_of seed n) r (stamp / 6)) (stamp / 6 + 1))
+    (subframe_bytes (subframe_of (gps_of seed number) (gps_ion_of seed n) r (stamp / 6))
+    (stamp / 6 + 1))
 
--- the word of a page, counted in its round of 15: words 1 to 5, word 5 with the week wn and the second at which it is
--- sent, and then words whose bits are all 0
+-- the word of a page, counted in its round of 15: words 1 to 5, word 5 with the week wn and the second at
+-- which it is sent, and then words whose bits are all 0
 abbrev pub word_of_page : GalValues → GalIon → ℕ → ℕ → ℕ → ℕ → List ℕ
 word_of_page v ion number wn second zero = word1_bytes v.w1
 word_of_page v ion number wn second (suc zero) = word2_bytes v.w2
 word_of_page v ion number wn second (suc (suc zero)) = word3_bytes v.w3
 word_of_page v ion number wn second (suc (suc (suc zero))) = word4_bytes v.w4 number
-word_of_page v ion number wn second (suc (suc (suc (suc zero)))) = word5_bytes v.health ion wn second
+word_of_page v ion number wn second (suc (suc (suc (suc zero)))) =
+    word5_bytes v.health ion wn second
 word_of_page v ion number wn second (suc (suc (suc (suc (suc m))))) = replicate 16 0
 
 -- the word of the page that a satellite of Galileo sends at a stamp
 abbrev pub word_at : ℕ → ℕ → ℕ → ℕ → ℕ → List ℕ
 word_at seed n r stamp number =
-    word_of_page (gal_of seed n number) (gal_ion_of seed n) number ((r - 1024) % 4096) (2 * (stamp / 2)) (stamp / 2 % 15)
+    word_of_page (gal_of seed n number) (gal_ion_of seed n) number ((r - 1024) % 4096)
+    (2 * (stamp / 2)) (stamp / 2 % 15)
 
 -- the line of the half of that page, the even one in the first of its two seconds
 unfoldable pub page_line : ℕ → ℕ → ℕ → ℕ → ℕ → Signal → List ℕ
