@@ -1,11 +1,14 @@
 //! A capture, line by line, for one outlet.
 
-ghost use Rattle.std.specs.Prelude.{◌≡◌, ◌⊎◌, ◌^◌, ◌<◌, ◌≤◌, [], length, IsTrue, IsErrOf, IfOk, IfErr, OnOk, OnErr};
+ghost use Rattle.std.specs.Prelude.{◌≡◌, ◌⊎◌, ◌^◌, ◌<◌, ◌≤◌, [], length};
+ghost use Rattle.std.specs.Prelude.{IsTrue, IsErrOf, IfOk, IfErr, OnOk, OnErr};
 ghost use Rattle.std.specs.Io.KnownBytes.{Appends};
 ghost use Rattle.nav_io.specs.Causes.{Rose};
 ghost use Rattle.nav_io.specs.Front.{AppendsFront};
 ghost use Rattle.bridge_engine.specs.Captures.{back_text, counts_text};
-ghost use Rattle.bridge_engine.specs.Follows.{CaptureBroken, CaptureDone, Follows, FollowsAll, FollowsBroken, GivesHead, GivesNoHead, HasItsCause, fault_by, faults_of};
+ghost use Rattle.bridge_engine.specs.Follows.{CaptureBroken, CaptureDone, Follows, FollowsAll};
+ghost use Rattle.bridge_engine.specs.Follows.{FollowsBroken, GivesHead, GivesNoHead, HasItsCause};
+ghost use Rattle.bridge_engine.specs.Follows.{fault_by, faults_of};
 
 use crate::accept::{Accepted, accept};
 use crate::counts::{CaptureCounts, Said, Tally, capture_counts_text, counts_with};
@@ -38,8 +41,10 @@ fn first_line<S: Source>(
     input: &mut S,
 ) -> Result<Accepted, BridgeFault>
     requires first { (lines.old.number ≡ 0) × (lines.old.rest ≡ []) }
-    ensures accepted { IfOk result (GivesHead week (S.left input.old) (S.left input.new) lines.old lines.new) }
-    ensures broken { IfErr result (GivesNoHead week (S.left input.old) (S.left input.new) lines.old lines.new) }
+    ensures accepted { IfOk result (GivesHead week
+        (S.left input.old) (S.left input.new) lines.old lines.new) }
+    ensures broken { IfErr result (GivesNoHead week
+        (S.left input.old) (S.left input.new) lines.old lines.new) }
     ensures least { IfOk result (λ a. 60 ≤ a.window) }
     ensures most { IfOk result (λ a. a.window ≤ 14400) }
     ensures read { IsErrOf result BridgeFault.ReadFault
@@ -118,8 +123,8 @@ pub(crate) fn follow_capture<O: Outlet, S: Source, T: Sink, U: Sink>(
     }
 }
 
-// Takes the lines behind the first, one after another, and writes what is closed by each; at the end of the input all that is
-// left.
+// Takes the lines behind the first, one after another, and writes what is closed by each; at the
+// end of the input all that is left.
 pub(crate) fn follow_lines<A: Assembly, O: Outlet, S: Source, T: Sink, U: Sink>(
     outlet: &O,
     window: u32,
