@@ -1,0 +1,2 @@
+mod RankOrder
+mod Changes
