@@ -1,2 +1,4 @@
 mod RankOrder
 mod Changes
+mod SatOrder
+mod HealthChanges

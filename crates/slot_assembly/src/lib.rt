@@ -19,6 +19,7 @@
 //! ```
 #![tactic(auto)]
 
+mod healths;
 mod order;
 mod slot;
 mod slots;
