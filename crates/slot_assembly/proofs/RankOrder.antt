@@ -1,5 +1,5 @@
 -- What the orders of places say.
-use Rattle.std.proofs.Common.{◌≡◌, ℕ, ◌<◌, ◌≤◌, inl, inr, Bool, true, false, List, [], ◌∷◌, refl, subst, arith, rules}
+use Rattle.std.proofs.Common.{◌≡◌, ℕ, ◌<◌, ◌≤◌, inl, inr, Bool, true, false, List, [], ◌∷◌, refl, sym, ap, subst, ◌∙◌, arith, rules}
 use Rattle.std.specs.Ordering.{is_gt}
 use Rattle.std.specs.BTreeMap.{is_at}
 use Rattle.std.specs.BTreeSet.{BTreeSet, IsKeyInRange, IsKeyRangeOf}
@@ -10,6 +10,8 @@ use Rattle.std.proofs.lemmas.Bool.Decides.{nat_tests}
 use Rattle.std.specs.BTreeMap.Range.{IsLeBy}
 use Rattle.period_items.specs.declared.key.Key.{Key}
 use Rattle.period_items.specs.declared.key.Key.TheVariants.{Gps, Gal, GpsIon, GalIon}
+use Rattle.period_items.specs.declared.key.Place.{Place}
+use Rattle.period_items.proofs.Surface.{IsKeyValue, same_place, before_irr}
 use Rattle.period_items.specs.Periods.{IsBefore, key_numbers}
 use Rattle.period_items.specs.Values.{IsBelow}
 use Rattle.slot_assembly.specs.declared.slot.Slot.{Slot}
@@ -75,3 +77,23 @@ next_apart ends xs rest r from start p same h e apart f i = elim (cases_lt f fro
       let least = subst (λ (ys : List ByKey). IfSome (slice_get ys 0) (λ x. IsLeBy key_cmp.it x (by_key r f))) e (k.2 (by_key r f) (from_on r from f l, tt) i) in
       absurd (both_ways (is_of_rank r p) apart (squeezed r from f p here.0.0 least))
 ]
+
+-- keys of one rank are one
+numbers_same : (a b : Key) → rank_of a ≡ rank_of b → key_numbers a ≡ key_numbers b
+numbers_same a b e = numbers_rank a ∙ ap (λ (r : Rank). r.class ∷ r.system ∷ r.number ∷ r.issue ∷ []) e ∙ sym (numbers_rank b)
+
+abbrev at_none : Key → Place
+at_none k = record { end = 0; key = k }
+
+pub one_rank : (a b : Key) → IsKeyValue a → IsKeyValue b → rank_of a ≡ rank_of b → a ≡ b
+one_rank a b v w e =
+    let n = numbers_same a b e in
+    ap (λ (q : Place). q.key) (same_place (at_none a) (at_none b) v w
+    (λ l. before_irr (at_none b) (subst (λ (xs : List ℕ). IsBelow (0 ∷ xs) (0 ∷ key_numbers b)) n l))
+    (λ l. before_irr (at_none b) (subst (λ (xs : List ℕ). IsBelow (0 ∷ key_numbers b) (0 ∷ xs)) n l)))
+
+pub at_rank : (r q : Rank) (a b : ℕ) → by_end r a ≡ by_end q b → (r ≡ q) × (a ≡ b)
+at_rank r q a b e = (
+  λ i. record { class = (e i).class; system = (e i).system; number = (e i).number; issue = (e i).issue },
+  ap (λ (x : ByEnd). x.end) e,
+)

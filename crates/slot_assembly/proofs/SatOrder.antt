@@ -59,3 +59,9 @@ oldest_first x y l = grind (arith, nat_tests)
 -- a place of a satellite, of which the stamp and the digits are known
 pub sat_same : (sat other : Satellite) (h : ℕ × GalHealth × SentTag) → is_of_sat sat (place_of_health other h) ≡ true → place_of_health other h ≡ place_of_health sat h
 sat_same sat other h e = grind (arith, nat_tests)
+
+pub stamps_le : (sat : Satellite) (s d : ℕ) (x : BySat) → IsLeBy sat_cmp.it (by_sat sat s d) x → is_of_sat sat x ≡ true → s ≤ x.stamp
+stamps_le sat s d x l o = grind (arith, nat_tests)
+
+pub stamps_ge : (sat : Satellite) (s d : ℕ) (x : BySat) → IsLeBy sat_cmp.it x (by_sat sat s d) → is_of_sat sat x ≡ true → x.stamp ≤ s
+stamps_ge sat s d x l o = grind (arith, nat_tests)

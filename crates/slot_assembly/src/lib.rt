@@ -19,7 +19,11 @@
 //! ```
 #![tactic(auto)]
 
+mod assembly;
 mod healths;
+mod known;
 mod order;
 mod slot;
 mod slots;
+
+pub use crate::assembly::SlotAssembly;
