@@ -1,0 +1,113 @@
+#!/usr/bin/env bash
+# Parts taken by the assembly in slots: microseconds for each part, and bytes at the peak.
+#
+#   bench/slots.sh [PARTS]      200,000 where none is said
+#
+# Two runs: partial periods of one key, each a window and a second after the one before; and as many ionospheres of
+# contents of their own, all open at once. A program over the crate is made in a folder of its own, proved and built
+# there, and timed as a whole.
+set -eu
+cd "$(git rev-parse --show-toplevel)"
+parts=${1:-200000}
+folder=$(mktemp -d)
+trap 'rm -rf "$folder"' EXIT
+(cd "$folder" && git init -q . && mkdir crates)
+crates="nav_bits gnss_week nav_eph period_laws period_items issue_periods slot_assembly"
+for name in $crates; do
+  grep "^$name:" crates.txt >> "$folder/crates.txt"
+  cp -r "crates/$name" "$folder/crates/"
+done
+echo 'slots: nav_bits gnss_week nav_eph period_items issue_periods slot_assembly' >> "$folder/crates.txt"
+mkdir -p "$folder/crates/slots/src" "$folder/crates/slots/proofs"
+touch "$folder/crates/slots/proofs/Lib.antt"
+cat > "$folder/crates/slots/src/main.rt" <<'PROGRAM'
+#![tactic(auto)]
+
+use gnss_week::{RefWeek, Second};
+use issue_periods::{Closed, add_periods};
+use nav_bits::{S, U};
+use nav_eph::{Body, GpsIon, GpsOrbitB, NavItem, Part, Sat, SentTag, System};
+use slot_assembly::SlotAssembly;
+use std::alloc::{AllocError, Global};
+use std::process::ExitCode;
+
+// A half of an orbit, always of one issue.
+fn half(sat: Sat, stamp: u32) -> Part {
+    let orbit = GpsOrbitB {
+        iode: U::from_digits(0),
+        cic: S::from_digits(0),
+        omega0: S::from_digits(0),
+        cis: S::from_digits(0),
+        i0: S::from_digits(0),
+        crc: S::from_digits(0),
+        omega: S::from_digits(0),
+        omega_dot: S::from_digits(0),
+        idot: S::from_digits(0),
+    };
+    Part { stamp, sat, body: Body::GpsB(orbit) }
+}
+
+// An ionosphere with a content of its own.
+fn ionosphere(sat: Sat, second: Second, number: u64) -> Part {
+    let content = GpsIon {
+        alpha0: S::from_digits(number % 128),
+        alpha1: S::from_digits(number / 128 % 128),
+        alpha2: S::from_digits(number / 16_384 % 128),
+        alpha3: S::from_digits(0),
+        beta0: S::from_digits(0),
+        beta1: S::from_digits(0),
+        beta2: S::from_digits(0),
+        beta3: S::from_digits(0),
+    };
+    Part { stamp: 0, sat, body: Body::GpsIon(content, second) }
+}
+
+fn some_parts(alloc: Global, sat: Sat, second: Second) -> Result<Vec<Part>, AllocError> {
+    let (_body, _tag): (Option<Body>, Option<SentTag>) = (None, None);
+    let mut parts = Vec::new(alloc);
+    let mut stamp: u32 = 0;
+    for number in 0..PARTSu64 {
+        let part = if IONOSPHERES { ionosphere(sat, second, number) } else { half(sat, stamp) };
+        parts.push(part)?;
+        stamp = stamp.wrapping_add(7_201);
+    }
+    Ok(parts)
+}
+
+fn count(alloc: Global, r: RefWeek, sat: Sat, second: Second) -> Result<usize, AllocError> {
+    let _item: Option<NavItem> = None;
+    let parts = some_parts(alloc, sat, second)?;
+    let mut assembly = SlotAssembly::new(alloc, r, 7_200);
+    let mut periods: Vec<Closed> = Vec::new(alloc);
+    add_periods(&mut assembly, &parts, &mut periods)?;
+    Ok(periods.len())
+}
+
+fn main(rt: HostRuntime) -> ExitCode {
+    match (RefWeek::new(2_295), Sat::new(System::Gps, 5), Second::new(18)) {
+        (Some(r), Some(sat), Some(second)) => match count(rt.alloc(), r, sat, second) {
+            Ok(periods) => ExitCode::from(if periods == PARTS { 0 } else { 2 }),
+            Err(_) => ExitCode::from(1),
+        },
+        _ => ExitCode::from(3),
+    }
+}
+PROGRAM
+main="$folder/crates/slots/src/main.rt"
+sed -i "s/PARTS/$parts/g" "$main"
+cp "$main" "$folder/main.rt"
+for kind in false true; do
+  sed "s/IONOSPHERES/$kind/" "$folder/main.rt" > "$main"
+  (cd "$folder/crates/slots" && rt run > "$folder/log" 2>&1) || { tail -20 "$folder/log"; exit 1; }
+  program="$folder/crates/slots/out/slots"
+  [ "$kind" = true ] && what="ionospheres open at once" || what="partial periods of one key"
+  python3 - "$program" "$parts" "$what" <<'TIME'
+import resource, subprocess, sys, time
+program, parts, what = sys.argv[1], int(sys.argv[2]), sys.argv[3]
+start = time.monotonic()
+subprocess.run([program], check=True)
+seconds = time.monotonic() - start
+peak = resource.getrusage(resource.RUSAGE_CHILDREN).ru_maxrss * 1024
+print(f"{parts} {what}: {1e6 * seconds / parts:.2f} microseconds a part, {peak / 1e6:.0f} MB, {peak // parts} bytes a part")
+TIME
+done

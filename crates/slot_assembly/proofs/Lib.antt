@@ -1,0 +1,11 @@
+mod RankOrder
+mod Changes
+mod SatOrder
+mod HealthChanges
+mod TakeLemmas
+mod JoinLemmas
+mod StepLemmas
+mod KeptLemmas
+mod KnownLemmas
+mod StandLemmas
+mod GiveLemmas

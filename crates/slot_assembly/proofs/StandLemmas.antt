@@ -1,0 +1,254 @@
+-- What the assembly stands for after each step.
+use Rattle.std.proofs.Common.{◌≡◌, ℕ, ◌+◌, ◌<◌, ◌≤◌, ◌⊎◌, inl, inr, List, [], ◌∷◌, ◌++◌, Option, None, Some, IsSome, All, Contains, refl, sym, ap, subst, ◌∙◌, arith, length}
+use Rattle.std.specs.List.Sorted.{IsStrictlySortedBy}
+use Rattle.std.specs.Map.{keys_of}
+use Rattle.std.proofs.lemmas.List.Elements.{All-push}
+use Rattle.std.proofs.lemmas.Bool.{cases_lt}
+use Rattle.nav_eph.specs.Values.{IsPartValue}
+use Rattle.nav_eph.specs.declared.galileo.GalHealth.{GalHealth}
+use Rattle.nav_eph.specs.declared.tag.SentTag.{SentTag}
+use Rattle.nav_eph.specs.declared.items.NavItem.{NavItem}
+use Rattle.nav_eph.specs.declared.part.Part.{Part}
+use Rattle.period_laws.specs.Ends.{IsEnd, IsEndOf}
+use Rattle.period_laws.proofs.Surface.{Same, IsEnd-same, IsEndOf-same}
+use Rattle.period_items.specs.declared.key.Key.{Key}
+use Rattle.period_items.specs.declared.key.Place.{Place}
+use Rattle.period_items.specs.declared.closed.Finding.{Finding}
+use Rattle.period_items.specs.Digests.{IsBestHealth}
+use Rattle.period_items.specs.DigestsOf.{digest_finding, verdict_of}
+use Rattle.period_items.specs.Parts.{key_of, health_in}
+use Rattle.period_items.specs.Periods.{IsHeardAt, IsPeriod, IsMember, IsBefore}
+use Rattle.period_items.specs.Verdicts.{IsFound, IsClosed}
+use Rattle.period_items.proofs.Surface.{some_is, none_some, IsKeyValue, key_value, period_key, all_values, before_irr, digest_finding-is, IsDigest-same, known_parts, with_part, joined_part, AreLater, judged_by, IsWithPart}
+use Rattle.issue_periods.specs.Given.{GivenBelow}
+use Rattle.issue_periods.specs.Standing.{Standing, IsAfter, IsDue, IsNext, NoneDue, taking, reaching, giving}
+use Rattle.issue_periods.proofs.Surface.{after_low, after_trans, NoneDue-take, NoneDue-give}
+use Rattle.slot_assembly.specs.declared.order.Rank.{Rank}
+use Rattle.slot_assembly.specs.declared.order.ByEnd.{ByEnd}
+use Rattle.slot_assembly.specs.declared.order.ByKey.{ByKey}
+use Rattle.slot_assembly.specs.declared.order.BySat.{BySat}
+use Rattle.slot_assembly.specs.declared.order.ByStamp.{ByStamp}
+use Rattle.slot_assembly.specs.declared.slot.Slot.{Slot}
+use Rattle.slot_assembly.specs.contracts.order.ByEndOrd.TheImpl.{cmp-value as end_cmp}
+use Rattle.slot_assembly.specs.contracts.order.RankOrd.TheImpl.{cmp-value as rank_cmp}
+use Rattle.slot_assembly.specs.Order.{rank_of}
+use Rattle.slot_assembly.specs.Slots.{kept_at, at_of, slot_place, IsOpen, AreIndexed, IsOneSlot, IsTaken, IsChanged, AreSameSlots, IsFirstDue}
+use Rattle.slot_assembly.specs.Healths.{heard_at, AreStamped, IsSameHealth, IsHeard, IsForgotten, IsChosen}
+use Rattle.slot_assembly.specs.Standing.{SlotsState, SlotsStandFor, IsSlot, AreSlots, AreKept, AreKnown, AreSameItems, IsRemembered, item_to_keep, known_for}
+use Rattle.slot_assembly.proofs.Changes.{left_open}
+use Rattle.slot_assembly.proofs.RankOrder.{at_rank, one_rank, at_is, is_at_own}
+use Rattle.slot_assembly.proofs.StepLemmas.{slots_taken}
+use Rattle.slot_assembly.proofs.KeptLemmas.{kept_keyed, kept_said, kept_forgotten, chosen_best}
+use Rattle.slot_assembly.proofs.KnownLemmas.{IsFirst, are_known_later, are_known_same, compares_kept, are_known_given}
+
+abbrev SlotList : Type 0
+SlotList = List (ByEnd × Slot)
+
+abbrev HeardList : Type 0
+HeardList = List (BySat × (ℕ × GalHealth × SentTag))
+
+-- where memory is wanting
+slots_same : (w : ℕ) (parts : Part → Type 0) (last : Option Place) (old new : SlotList) → AreSameSlots old new → AreSlots w parts last old → AreSlots w parts last new
+slots_same w parts last old new same h = record {
+  each = λ s i. h.each s (sym (same (at_of s)) ∙ i);
+  every = λ q k after. let f = h.every q k after in (f.0, same (at_of f.0) ∙ f.1, f.2);
+}
+
+kept_same : (w n : ℕ) (parts : Part → Type 0) (old new : HeardList) → IsSameHealth old new → AreKept w n parts old → AreKept w n parts new
+kept_same w n parts old new same h = record {
+  was_heard = λ x v i. h.was_heard x v (sym (same x) ∙ i);
+  recent = λ x i. h.recent x (subst IsSome (same x) i);
+  every = λ sat v i l. same _ ∙ h.every sat v i l;
+}
+
+pub stands_slots : (s : SlotsState) (at : Standing) (slots : SlotList) (ends : List ByKey) → AreSameSlots s.slots slots → AreIndexed slots ends → SlotsStandFor s at
+    → SlotsStandFor (record { reference = s.reference; window = s.window; slots = slots; ends = ends; heard = s.heard; stamps = s.stamps; mark = s.mark; last = s.last; none_at = s.none_at; known = s.known }) at
+stands_slots s at slots ends same i h = record {
+  slots = slots_same s.window (Contains at.parts) at.last s.slots slots same h.slots;
+  indexed = i;
+  kept = h.kept;
+  stamped = h.stamped;
+  known = h.known;
+  known_ordered = h.known_ordered;
+  at_mark = h.at_mark;
+  at_last = h.at_last;
+  given = h.given;
+  none_due = h.none_due;
+  none_by = h.none_by;
+  values = h.values;
+}
+
+pub stands_healths : (s : SlotsState) (at : Standing) (heard : HeardList) (stamps : List ByStamp) → IsSameHealth s.heard heard → AreStamped heard stamps → SlotsStandFor s at
+    → SlotsStandFor (record { reference = s.reference; window = s.window; slots = s.slots; ends = s.ends; heard = heard; stamps = stamps; mark = s.mark; last = s.last; none_at = s.none_at; known = s.known }) at
+stands_healths s at heard stamps same i h = record {
+  slots = h.slots;
+  indexed = h.indexed;
+  kept = kept_same s.window s.none_at (Contains at.parts) s.heard heard same h.kept;
+  stamped = i;
+  known = h.known;
+  known_ordered = h.known_ordered;
+  at_mark = h.at_mark;
+  at_last = h.at_last;
+  given = h.given;
+  none_due = h.none_due;
+  none_by = h.none_by;
+  values = h.values;
+}
+
+pub stands_known : (s : SlotsState) (at : Standing) (known : List (Rank × NavItem)) → AreSameItems s.known known → IsStrictlySortedBy rank_cmp.it (keys_of known) → SlotsStandFor s at
+    → SlotsStandFor (record { reference = s.reference; window = s.window; slots = s.slots; ends = s.ends; heard = s.heard; stamps = s.stamps; mark = s.mark; last = s.last; none_at = s.none_at; known = known }) at
+stands_known s at known same i h = record {
+  slots = h.slots;
+  indexed = h.indexed;
+  kept = h.kept;
+  stamped = h.stamped;
+  known = are_known_same s.reference s.window (Contains at.parts) at.last s.known known same h.known;
+  known_ordered = i;
+  at_mark = h.at_mark;
+  at_last = h.at_last;
+  given = h.given;
+  none_due = h.none_due;
+  none_by = h.none_by;
+  values = h.values;
+}
+
+-- later parts
+later_one : (mark : ℕ) (parts : List Part) (p : Part) → mark ≤ p.stamp → AreLater mark (Contains parts) (Contains (parts ++ p ∷ []))
+later_one mark parts p l = record {
+  keeps = (with_part parts p).keeps;
+  later = λ q i. elim ((with_part parts p).only q i) [ inl o ↦ inl o | inr e ↦ inr (subst (λ (x : Part). mark ≤ x.stamp) e l) ];
+}
+
+-- a part of a key taken
+are_taken : (s : SlotsState) (at : Standing) (p : Part) (one : Slot) (slots : SlotList) → SlotsStandFor s at → at.mark ≤ p.stamp → IsPartValue p → IsOneSlot p one → IsTaken s.slots one s.window slots
+    → AreSlots s.window (Contains (at.parts ++ p ∷ [])) at.last slots
+are_taken s at p one slots h l v k t =
+    let w = s.window in
+    let old = Contains at.parts in
+    let new = Contains (at.parts ++ p ∷ []) in
+    let m = with_part at.parts p in
+    let values = all_values at.parts h.values in
+    let j = joined_part w old new p one.key (known_parts w at.parts one.key) (known_parts w (at.parts ++ p ∷ []) one.key) m k.key in
+    slots_taken w old new at.last p one.key s.slots (record {
+      of_key = k.key;
+      with = m;
+      known = λ key. known_parts w at.parts key;
+      knows = λ key. known_parts w (at.parts ++ p ∷ []) key;
+      are = h.slots;
+      own = h.indexed.own;
+      value = key_value p one.key v k.key;
+      values = λ x i. period_key w old (slot_place x) values (h.slots.each x i).period;
+      behind = λ q i g. after_low w at.mark at.last q h.given (omega arith);
+      behind_new = λ q g. after_low w at.mark at.last q h.given (omega arith);
+    }) one k j.0 j.1 slots t
+
+pub stands_taken : (s : SlotsState) (at : Standing) (p : Part) (one : Slot) (slots : SlotList) (ends : List ByKey) → SlotsStandFor s at → at.mark ≤ p.stamp → IsPartValue p → IsOneSlot p one → IsTaken s.slots one s.window slots
+    → AreIndexed slots ends
+    → SlotsStandFor (record { reference = s.reference; window = s.window; slots = slots; ends = ends; heard = s.heard; stamps = s.stamps; mark = s.mark; last = s.last; none_at = s.none_at; known = s.known }) (taking p at)
+stands_taken s at p one slots ends h l v k t i =
+    let late = later_one at.mark at.parts p l in
+    record {
+      slots = are_taken s at p one slots h l v k t;
+      indexed = i;
+      kept = kept_keyed s.window s.none_at (Contains at.parts) (Contains (at.parts ++ p ∷ [])) p one.key s.heard (with_part at.parts p) k.key h.kept;
+      stamped = h.stamped;
+      known = are_known_later s.reference s.window at.mark (Contains at.parts) (Contains (at.parts ++ p ∷ [])) at.last s.known late h.given h.known;
+      known_ordered = h.known_ordered;
+      at_mark = h.at_mark;
+      at_last = h.at_last;
+      given = h.given;
+      none_due = NoneDue-take s.window s.none_at at.mark (Contains at.parts) (Contains (at.parts ++ p ∷ [])) at.last late h.none_by h.none_due;
+      none_by = h.none_by;
+      values = All-push IsPartValue at.parts p h.values v;
+    }
+
+-- health taken: it is of no key
+heard_no : (old new : Part → Type 0) (p : Part) (key : Key) → IsWithPart old new p → key_of p ≡ None → Same (IsHeardAt old key) (IsHeardAt new key)
+heard_no old new p key m e = record {
+  to = λ x h. record { part = h.part; here = m.keeps h.part h.here; of_key = h.of_key; at_stamp = h.at_stamp };
+  from = λ x h. elim (m.only h.part h.here) [
+    | inl o ↦ record { part = h.part; here = o; of_key = h.of_key; at_stamp = h.at_stamp }
+    | inr s ↦ absurd (none_some key (sym e ∙ ap key_of s ∙ h.of_key))
+  ];
+}
+
+members_no : (w : ℕ) (old new : Part → Type 0) (p : Part) (q : Place) → IsWithPart old new p → key_of p ≡ None → Same (IsMember w old q) (IsMember w new q)
+members_no w old new p q m e =
+    let a = IsHeardAt old q.key in
+    let b = IsHeardAt new q.key in
+    let s = heard_no old new p q.key m e in
+    record {
+      to = λ x h. record { here = m.keeps x h.here; of_key = h.of_key; ends = IsEndOf-same w a b q.end x.stamp s h.ends };
+      from = λ x h. record {
+        here = elim (m.only x h.here) [ inl o ↦ o | inr f ↦ absurd (none_some q.key (sym e ∙ ap key_of f ∙ h.of_key)) ];
+        of_key = h.of_key;
+        ends = IsEndOf-same w b a q.end x.stamp (record { to = s.from; from = s.to }) h.ends;
+      };
+    }
+
+slots_heard : (w : ℕ) (old new : Part → Type 0) (p : Part) (last : Option Place) (slots : SlotList) → IsWithPart old new p → key_of p ≡ None → AreSlots w old last slots → AreSlots w new last slots
+slots_heard w old new p last slots m e h = record {
+  each = λ s i.
+      let k = h.each s i in
+      let f = members_no w old new p (slot_place s) m e in
+      record {
+        period = IsEnd-same w (IsHeardAt old s.key) (IsHeardAt new s.key) s.end (heard_no old new p s.key m e) k.period;
+        after = k.after;
+        starts = (k.starts.0, f.to k.starts.0 k.starts.1, k.starts.2);
+        start = λ x j. k.start x (f.from x j);
+        digest = IsDigest-same s.key (IsMember w old (slot_place s)) (IsMember w new (slot_place s)) s.digest f k.digest;
+      };
+  every = λ q k after. let s = heard_no old new p q.key m e in h.every q (IsEnd-same w (IsHeardAt new q.key) (IsHeardAt old q.key) q.end (record { to = s.from; from = s.to }) k) after;
+}
+
+pub stands_heard : (s : SlotsState) (at : Standing) (p : Part) (heard : HeardList) (stamps : List ByStamp) → SlotsStandFor s at → at.mark ≤ p.stamp → IsPartValue p → key_of p ≡ None → IsHeard s.heard p heard
+    → AreStamped heard stamps
+    → SlotsStandFor (record { reference = s.reference; window = s.window; slots = s.slots; ends = s.ends; heard = heard; stamps = stamps; mark = s.mark; last = s.last; none_at = s.none_at; known = s.known }) (taking p at)
+stands_heard s at p heard stamps h l v k t i =
+    let late = later_one at.mark at.parts p l in
+    let old = Contains at.parts in
+    let new = Contains (at.parts ++ p ∷ []) in
+    let all = All-push IsPartValue at.parts p h.values v in
+    let m = with_part at.parts p in
+    record {
+      slots = slots_heard s.window old new p at.last s.slots m k h.slots;
+      indexed = h.indexed;
+      kept = kept_said s.window s.none_at old new p (health_in p.stamp p.body) s.heard heard refl m (all_values (at.parts ++ p ∷ []) all) (omega (arith, h.none_by)) t h.kept;
+      stamped = i;
+      known = are_known_later s.reference s.window at.mark old new at.last s.known late h.given h.known;
+      known_ordered = h.known_ordered;
+      at_mark = h.at_mark;
+      at_last = h.at_last;
+      given = h.given;
+      none_due = NoneDue-take s.window s.none_at at.mark old new at.last late h.none_by h.none_due;
+      none_by = h.none_by;
+      values = all;
+    }
+
+-- none is due
+pub none_is : (s : SlotsState) (at : Standing) (mark : ℕ) → SlotsStandFor s at → IsFirstDue s.slots s.window mark None → NoneDue s.window (Contains at.parts) mark at.last
+none_is s at mark h none = λ q due.
+    let f = h.slots.every q due.period due.after in
+    omega (arith, none f.0 f.1, due.low, ap (λ (x : Place). x.end) f.2)
+
+below_rise : (w mark higher : ℕ) (last : Option Place) → mark ≤ higher → GivenBelow w mark last → GivenBelow w higher last
+below_rise w mark higher None l g = tt
+below_rise w mark higher (Some x) l g = omega arith
+
+pub stands_reached : (s : SlotsState) (at : Standing) (mark : ℕ) (heard : HeardList) (stamps : List ByStamp) → SlotsStandFor s at → at.mark ≤ mark → IsFirstDue s.slots s.window mark None → IsForgotten s.window mark s.heard heard
+    → AreStamped heard stamps
+    → SlotsStandFor (record { reference = s.reference; window = s.window; slots = s.slots; ends = s.ends; heard = heard; stamps = stamps; mark = mark; last = s.last; none_at = mark; known = s.known }) (reaching mark at)
+stands_reached s at mark heard stamps h l none f i = record {
+  slots = h.slots;
+  indexed = h.indexed;
+  kept = kept_forgotten s.window s.none_at mark (Contains at.parts) s.heard heard (omega (arith, h.none_by)) f h.kept;
+  stamped = i;
+  known = h.known;
+  known_ordered = h.known_ordered;
+  at_mark = refl;
+  at_last = h.at_last;
+  given = below_rise s.window at.mark mark at.last l h.given;
+  none_due = none_is s at mark h none;
+  none_by = omega arith;
+  values = h.values;
+}

@@ -1,0 +1,148 @@
+-- A part taken: it and the slots that it touches become one slot, and all other slots stay.
+use Rattle.std.proofs.Common.{◌≡◌, ℕ, ◌+◌, ◌<◌, ◌≤◌, ◌⊎◌, inl, inr, Bool, true, false, cond, ◌==◌, List, Option, None, Some, IsSome, IfSome, min, max, refl, sym, ap, subst, ◌∙◌, arith, eqb-true}
+use Rattle.std.specs.BTreeMap.{is_at}
+use Rattle.std.proofs.lemmas.Bool.{both_ways, cases_lt}
+use Rattle.nav_eph.specs.Values.{IsPartValue}
+use Rattle.nav_eph.specs.declared.part.Part.{Part}
+use Rattle.period_laws.specs.Ends.{IsEndOf}
+use Rattle.period_laws.proofs.Surface.{Same, IsKnown, own_end, bridge}
+use Rattle.period_items.specs.declared.key.Key.{Key}
+use Rattle.period_items.specs.declared.key.Place.{Place}
+use Rattle.period_items.specs.declared.digest.Digest.{Digest}
+use Rattle.period_items.specs.Digests.{IsDigest}
+use Rattle.period_items.specs.DigestsOf.{digest_of}
+use Rattle.period_items.specs.Parts.{key_of}
+use Rattle.period_items.specs.Periods.{IsHeardAt, IsPeriod, IsMember}
+use Rattle.period_items.specs.Touching.{IsTouched, IsJoined, Stays}
+use Rattle.period_items.proofs.Surface.{some_is, IsUnion, IsKeyValue, key_value, same_place, before_irr, period_key, digest_of-is, digest_join-is, IsDigest-same, IsWithPart, joined_part, rest_stays, two_at_most}
+use Rattle.issue_periods.specs.Given.{GivenBelow}
+use Rattle.issue_periods.specs.Standing.{IsAfter}
+use Rattle.issue_periods.proofs.Surface.{after_low}
+use Rattle.slot_assembly.specs.declared.order.Rank.{Rank}
+use Rattle.slot_assembly.specs.declared.order.ByEnd.{ByEnd}
+use Rattle.slot_assembly.specs.declared.order.ByKey.{ByKey}
+use Rattle.slot_assembly.specs.declared.slot.Slot.{Slot}
+use Rattle.slot_assembly.specs.contracts.order.ByEndOrd.TheImpl.{cmp-value as end_cmp}
+use Rattle.slot_assembly.specs.Order.{rank_of, by_end}
+use Rattle.slot_assembly.specs.Slots.{kept_at, at_of, slot_place, slot_with, IsOpen, AreIndexed, IsOneSlot, IsFirstSlot, IsFirstFrom, IsFirstTouched, IsSecondTouched, IsChanged, AreSameSlots, IsGoneUnless, IsWithout, IsReplaced, IsTaken}
+use Rattle.slot_assembly.specs.Standing.{IsSlot, AreSlots}
+use Rattle.slot_assembly.proofs.RankOrder.{at_is, is_at_own, one_rank}
+use Rattle.slot_assembly.proofs.Changes.{left_open}
+
+-- what the members of a set come to: the least and the greatest stamp, and their digest
+pub record Sums (key : Key) (members : Part → Type 0) (s : Slot) : Type 0 where
+  pub starts : (p : Part) × members p × (p.stamp ≡ s.start)
+  pub start : (p : Part) → members p → s.start ≤ p.stamp
+  pub ends : (p : Part) × members p × (p.stamp ≡ s.end)
+  pub end : (p : Part) → members p → p.stamp ≤ s.end
+  pub digest : IsDigest key members s.digest
+
+pub sums_same : (key : Key) (a b : Part → Type 0) (s : Slot) → Same a b → Sums key a s → Sums key b s
+sums_same key a b s e h = record {
+  starts = (h.starts.0, e.to h.starts.0 h.starts.1, h.starts.2);
+  start = λ p i. h.start p (e.from p i);
+  ends = (h.ends.0, e.to h.ends.0 h.ends.1, h.ends.2);
+  end = λ p i. h.end p (e.from p i);
+  digest = IsDigest-same key a b s.digest e h.digest;
+}
+
+pub sums_one : (p : Part) (s : Slot) → IsOneSlot p s → Sums s.key (λ q. q ≡ p) s
+sums_one p s h = record {
+  starts = (p, refl, sym h.start);
+  start = λ q e. omega (arith, h.start, ap (λ (x : Part). x.stamp) e);
+  ends = (p, refl, sym h.end);
+  end = λ q e. omega (arith, h.end, ap (λ (x : Part). x.stamp) e);
+  digest = digest_of-is p s.key s.digest h.key h.digest;
+}
+
+least_of : (key : Key) (a b c : Part → Type 0) (x y : Slot) → IsUnion a b c → Sums key a x → Sums key b y → (p : Part) × c p × (p.stamp ≡ min x.start y.start)
+least_of key a b c x y u h k = elim (cases_lt y.start x.start) [
+  | inl l ↦ (k.starts.0, u.right k.starts.0 k.starts.1, omega (arith, k.starts.2))
+  | inr l ↦ (h.starts.0, u.left h.starts.0 h.starts.1, omega (arith, h.starts.2))
+]
+
+greatest_of : (key : Key) (a b c : Part → Type 0) (x y : Slot) → IsUnion a b c → Sums key a x → Sums key b y → (p : Part) × c p × (p.stamp ≡ max x.end y.end)
+greatest_of key a b c x y u h k = elim (cases_lt x.end y.end) [
+  | inl l ↦ (k.ends.0, u.right k.ends.0 k.ends.1, omega (arith, k.ends.2))
+  | inr l ↦ (h.ends.0, u.left h.ends.0 h.ends.1, omega (arith, h.ends.2))
+]
+
+pub sums_with : (key : Key) (a b c : Part → Type 0) (x y : Slot) → IsUnion a b c → Sums key a x → Sums key b y → Sums key c (slot_with x (Some y))
+sums_with key a b c x y u h k = record {
+  starts = least_of key a b c x y u h k;
+  start = λ p i. elim (u.cases p i) [ inl j ↦ omega (arith, h.start p j) | inr j ↦ omega (arith, k.start p j) ];
+  ends = greatest_of key a b c x y u h k;
+  end = λ p i. elim (u.cases p i) [ inl j ↦ omega (arith, h.end p j) | inr j ↦ omega (arith, k.end p j) ];
+  digest = digest_join-is key a b c x.digest y.digest u h.digest k.digest;
+}
+
+-- the part that ends a period is its member
+end_member : (w : ℕ) (parts : Part → Type 0) (q : Place) → IsPeriod w parts q → (p : Part) × IsMember w parts q p × (p.stamp ≡ q.end)
+end_member w parts q h =
+    let k = h.heard in (
+      k.part,
+      record { here = k.here; of_key = k.of_key; ends = subst (λ (x : ℕ). IsEndOf w (IsHeardAt parts q.key) q.end x) (sym k.at_stamp) (own_end w (IsHeardAt parts q.key) q.end h) },
+      k.at_stamp,
+    )
+
+pub sums_slot : (w : ℕ) (parts : Part → Type 0) (last : Option Place) (s : Slot) → IsSlot w parts last s → Sums s.key (IsMember w parts (slot_place s)) s
+sums_slot w parts last s h = record {
+  starts = h.starts;
+  start = h.start;
+  ends = end_member w parts (slot_place s) h.period;
+  end = λ p m. m.ends.after;
+  digest = h.digest;
+}
+
+-- what tells what a period's members come to has its place
+pub sums_end : (w : ℕ) (parts : Part → Type 0) (q : Place) (s : Slot) → IsPeriod w parts q → Sums q.key (IsMember w parts q) s → s.end ≡ q.end
+sums_end w parts q s h k =
+    let e = end_member w parts q h in
+    omega (arith, e.2, k.end e.0 e.1, k.ends.2, k.ends.1.ends.after)
+
+heard_member : (w : ℕ) (parts : Part → Type 0) (q : Place) (p : Part) → IsMember w parts q p → IsHeardAt parts q.key p.stamp
+heard_member w parts q p m = record { part = p; here = m.here; of_key = m.of_key; at_stamp = refl }
+
+-- a part is within the window of a member exactly where it is near the first and the last one
+pub touched_near : (w : ℕ) (parts : Part → Type 0) (last : Option Place) (p : Part) (s : Slot) → IsSlot w parts last s → IsTouched w parts p (slot_place s)
+    → (s.start ≤ p.stamp + w) × (p.stamp ≤ s.end + w)
+touched_near w parts last p s h t =
+    (omega (arith, h.start t.member t.is_member, t.not_far_after), omega (arith, t.is_member.ends.after, t.not_far_before))
+
+touched_by : (w : ℕ) (parts : Part → Type 0) (p : Part) (q : Place) (y : ℕ) → key_of p ≡ Some q.key → IsHeardAt parts q.key y → IsEndOf w (IsHeardAt parts q.key) q.end y
+    → y ≤ p.stamp + w → p.stamp ≤ y + w → IsTouched w parts p q
+touched_by w parts p q y k h e l m = record {
+  of_key = k;
+  member = h.part;
+  is_member = record { here = h.here; of_key = h.of_key; ends = subst (λ (x : ℕ). IsEndOf w (IsHeardAt parts q.key) q.end x) (sym h.at_stamp) e };
+  not_far_after = omega (arith, h.at_stamp);
+  not_far_before = omega (arith, h.at_stamp);
+}
+
+pub near_touched : (w : ℕ) (parts : Part → Type 0) (last : Option Place) (p : Part) (s : Slot) → IsKnown w (IsHeardAt parts s.key) → IsSlot w parts last s → key_of p ≡ Some s.key
+    → s.start ≤ p.stamp + w → p.stamp ≤ s.end + w → IsTouched w parts p (slot_place s)
+near_touched w parts last p s kn h k l m =
+    let q = slot_place s in
+    let first = h.starts in
+    let e = end_member w parts q h.period in
+    elim (cases_lt (p.stamp + w) s.end) [
+      | inr low ↦ touched_by w parts p q e.0.stamp k (heard_member w parts q e.0 e.1) e.1.ends (omega (arith, e.2)) (omega (arith, e.2))
+      | inl high ↦ elim (cases_lt s.start p.stamp) [
+        | inr late ↦ touched_by w parts p q first.0.stamp k (heard_member w parts q first.0 first.1) first.1.ends (omega (arith, first.2)) (omega (arith, first.2))
+        | inl early ↦
+            let b = bridge w (IsHeardAt parts s.key) kn s.end first.0.stamp p.stamp (heard_member w parts q first.0 first.1) first.1.ends (omega (arith, first.2)) (omega arith) in
+            touched_by w parts p q b.0 k b.1 b.2 (omega (arith, b.4)) (omega (arith, b.3))
+      ]
+    ]
+
+-- a later slot of a key begins behind the end of an earlier one
+pub slots_apart : (w : ℕ) (parts : Part → Type 0) (last : Option Place) (f s : Slot) → IsSlot w parts last f → IsSlot w parts last s → f.key ≡ s.key → f.end < s.end → f.end < s.start
+slots_apart w parts last f s h k e l = elim (cases_lt f.end s.start) [
+  | inl far ↦ far
+  | inr near ↦
+      let p = subst (λ (x : Key). IsPeriod w parts (record { end = f.end; key = x })) e h.period in
+      absurd (omega (arith, k.starts.1.ends.first f.end p (omega (arith, k.starts.2))))
+]
+
+pub starts_by : (w : ℕ) (parts : Part → Type 0) (last : Option Place) (s : Slot) → IsSlot w parts last s → s.start ≤ s.end
+starts_by w parts last s h = omega (arith, h.starts.2, h.starts.1.ends.after)

@@ -1,0 +1,5 @@
+pub mod Order
+pub mod Slots
+pub mod Healths
+pub mod Standing
+pub mod StandingLaws

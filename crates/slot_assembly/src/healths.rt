@@ -1,0 +1,200 @@
+//! The health that is kept, each one once, by satellite and stamp, with an index by stamp.
+
+ghost use Rattle.std.specs.Prelude.{◌≡◌, ◌<◌, OnOk, OnErr, Some, None};
+ghost use Rattle.std.specs.BTreeSet.{btree_set_len};
+ghost use Rattle.period_items.specs.Mirrors.{or_else};
+ghost use Rattle.slot_assembly.specs.Order.{place_of_health, sat_place};
+ghost use Rattle.slot_assembly.specs.Healths.{AreStamped, HasStamp, IsChosen, IsFirstAbove};
+ghost use Rattle.slot_assembly.specs.Healths.{IsForgotten, IsHeard, IsHeardChanged, IsLastBelow};
+ghost use Rattle.slot_assembly.specs.Healths.{IsLooked, IsOldest, IsSameHealth, near_behind};
+ghost use Rattle.slot_assembly.specs.Healths.{near_up};
+
+use crate::order::{BySat, ByStamp, place_in_sat, place_of_heard};
+use nav_bits::{S, U};
+use nav_eph::{Body, GalHealth, Part, Sat, SentTag};
+use period_items::Key;
+use std::alloc::AllocError;
+use std::collections::{BTreeMap, BTreeSet};
+
+/// The health that is kept, and an index of it by stamp.
+#[derive(Drop)]
+pub struct Healths {
+    pub heard: BTreeMap<BySat, (u32, GalHealth, SentTag)>,
+    pub stamps: BTreeSet<ByStamp>,
+}
+
+// The last health at a place below another.
+fn last_below(
+    heard: &BTreeMap<BySat, (u32, GalHealth, SentTag)>,
+    at: BySat,
+) -> Option<(BySat, (u32, GalHealth, SentTag))>
+    ensures { IsLastBelow heard.now.entries at result }
+{
+    let (place, health) = heard.range(..at).next_back()?;
+    Some((*place, *health))
+}
+
+// The first health at a place or above it.
+fn first_above(
+    heard: &BTreeMap<BySat, (u32, GalHealth, SentTag)>,
+    at: BySat,
+) -> Option<(BySat, (u32, GalHealth, SentTag))>
+    ensures { IsFirstAbove heard.now.entries at result }
+{
+    let (place, health) = heard.range(at..).next()?;
+    Some((*place, *health))
+}
+
+// What was found up to an end, where it is of the satellite and within the window.
+fn near_before(
+    found: Option<(BySat, (u32, GalHealth, SentTag))>,
+    sat: Sat,
+    window: u32,
+    end: u32,
+) -> Option<(u32, GalHealth, SentTag)>
+    ensures { result ≡ near_up sat window end found }
+{
+    let (place, health) = found?;
+    if place.is_of(sat) && end as u64 <= health.0 as u64 + window as u64 {
+        Some(health)
+    } else {
+        None
+    }
+}
+
+// What was found behind an end, where it is of the satellite and within the window.
+fn near_after(
+    found: Option<(BySat, (u32, GalHealth, SentTag))>,
+    sat: Sat,
+    window: u32,
+    end: u32,
+) -> Option<(u32, GalHealth, SentTag)>
+    ensures { result ≡ near_behind sat window end found }
+{
+    let (place, health) = found?;
+    if place.is_of(sat) && health.0 as u64 <= end as u64 + window as u64 {
+        Some(health)
+    } else {
+        None
+    }
+}
+
+// The first of two that is there.
+fn either(
+    one: Option<(u32, GalHealth, SentTag)>,
+    other: Option<(u32, GalHealth, SentTag)>,
+) -> Option<(u32, GalHealth, SentTag)>
+    ensures { result ≡ or_else one other }
+{
+    match one {
+        Some(health) => Some(health),
+        None => other,
+    }
+}
+
+impl Healths {
+    // The satellite's health near an end: the last up to it, else the first behind it.
+    fn look(&self, sat: Sat, window: u32, end: u32) -> Option<(u32, GalHealth, SentTag)>
+        ensures { IsLooked self.now.heard.entries sat window end result }
+    {
+        let at = place_in_sat(sat, end as u64 + 1, 0);
+        let below = last_below(&self.heard, at);
+        let above = first_above(&self.heard, at);
+        either(
+            near_before(below, sat, window, end),
+            near_after(above, sat, window, end),
+        )
+    }
+
+    // The health that counts for a period of the key with that end.
+    pub(crate) fn choose(
+        &self,
+        window: u32,
+        key: Key,
+        end: u32,
+    ) -> Option<(u32, GalHealth, SentTag)>
+        ensures { IsChosen self.now.heard.entries window key end result }
+    {
+        match key {
+            Key::Gal(sat, _) => self.look(sat, window, end),
+            _ => None,
+        }
+    }
+
+    // Keeps a health of a satellite.
+    fn put(&mut self, sat: Sat, health: (u32, GalHealth, SentTag)) -> Result<(), AllocError>
+        requires stamped { AreStamped self.old.heard.entries self.old.stamps.keys }
+        ensures stamped { AreStamped self.new.heard.entries self.new.stamps.keys }
+        ensures ok { OnOk result (IsHeardChanged self.old.heard.entries
+            (place_of_health sat health) (Some health) self.new.heard.entries) }
+        ensures err { OnErr result (IsSameHealth self.old.heard.entries self.new.heard.entries) }
+    {
+        let _inside: Option<(S<10>, U<2>)> = None;
+        let place = place_of_heard(sat, &health);
+        let stamp = place.among_all();
+        self.stamps.insert(stamp)?;
+        match self.heard.insert(place, health) {
+            Ok(_) => Ok(()),
+            Err(none) => {
+                self.stamps.remove(&stamp);
+                Err(none.into())
+            }
+        }
+    }
+
+    // Keeps what a part says of health.
+    pub(crate) fn take(&mut self, part: &Part) -> Result<(), AllocError>
+        requires stamped { AreStamped self.old.heard.entries self.old.stamps.keys }
+        ensures stamped { AreStamped self.new.heard.entries self.new.stamps.keys }
+        ensures ok { OnOk result (IsHeard self.old.heard.entries part.now
+            self.new.heard.entries) }
+        ensures err { OnErr result (IsSameHealth self.old.heard.entries self.new.heard.entries) }
+    {
+        match part.body {
+            Body::GalHealth(health, tag) => {
+                self.put(part.sat, (part.stamp, health, tag))?;
+                Ok(())
+            }
+            _ => Ok(()),
+        }
+    }
+
+    // Drops what is kept at a place.
+    fn drop_at(&mut self, stamp: ByStamp)
+        requires stamped { AreStamped self.old.heard.entries self.old.stamps.keys }
+        requires there { HasStamp self.old.stamps.keys stamp }
+        ensures stamped { AreStamped self.new.heard.entries self.new.stamps.keys }
+        ensures gone { IsHeardChanged self.old.heard.entries (sat_place stamp) None
+            self.new.heard.entries }
+        ensures fewer { btree_set_len self.new.stamps < btree_set_len self.old.stamps }
+    {
+        let _inside: Option<(S<10>, U<2>)> = None;
+        self.heard.remove(&stamp.of_sat());
+        self.stamps.remove(&stamp);
+    }
+
+    // The oldest place, where its stamp and two windows are below the mark.
+    fn oldest(&self, window: u32, mark: u64) -> Option<ByStamp>
+        requires stamped { AreStamped self.now.heard.entries self.now.stamps.keys }
+        ensures { IsOldest self.now.stamps.keys window mark result }
+    {
+        let first = *self.stamps.first()?;
+        if first.stamp < mark && mark - first.stamp > 2 * window as u64 {
+            Some(first)
+        } else {
+            None
+        }
+    }
+
+    // Forgets what is two windows older than the mark.
+    pub(crate) fn forget(&mut self, window: u32, mark: u64)
+        requires stamped { AreStamped self.old.heard.entries self.old.stamps.keys }
+        ensures stamped { AreStamped self.new.heard.entries self.new.stamps.keys }
+        ensures forgotten { IsForgotten window mark self.old.heard.entries
+            self.new.heard.entries }
+    {
+        'forgetting: while let Some(stamp) = self.oldest(window, mark) {
+            self.drop_at(stamp);
+        }
+    }
+}

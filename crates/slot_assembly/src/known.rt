@@ -1,0 +1,95 @@
+//! The items with which later ones of the same ephemeris are compared.
+
+ghost use Rattle.std.specs.Prelude.{◌≡◌, OnOk, OnErr};
+ghost use Rattle.std.specs.List.Sorted.{IsStrictlySortedBy};
+ghost use Rattle.std.specs.Map.{keys_of};
+ghost use Rattle.slot_assembly.specs.Order.{rank_of};
+ghost use Rattle.slot_assembly.specs.Standing.{AreSameItems, IsRemembered, item_to_keep};
+ghost use Rattle.slot_assembly.specs.Standing.{known_for};
+ghost use Rattle.slot_assembly.specs.contracts.order.RankOrd.TheImpl.{cmp-value as rank_cmp};
+
+use crate::order::{Rank, rank_of_key};
+use gnss_week::{Moment, Second, Week};
+use nav_bits::{S, U};
+use nav_eph::{
+    GalEph, GalHealth, GalIon, GalWord1, GalWord2, GalWord3, GalWord4, GpsClock, GpsEph, GpsIon,
+    GpsOrbitA, GpsOrbitB, GpsSide, IonContent, IonEph, NavItem, Sat, SentSecond,
+};
+use period_items::{Finding, Key};
+use std::alloc::AllocError;
+use std::collections::BTreeMap;
+
+// The types inside an item: the check finds the modules of those alone that a function names.
+type Inside = (
+    GalEph,
+    GpsEph,
+    IonEph,
+    IonContent,
+    GpsClock,
+    GpsOrbitA,
+    GpsOrbitB,
+    GpsSide,
+    GalWord1,
+    GalWord2,
+    GalWord3,
+    GalWord4,
+    GalHealth,
+    GpsIon,
+    GalIon,
+    SentSecond,
+    Sat,
+    Week,
+    Moment,
+    Second,
+    U<1>,
+    S<8>,
+);
+
+// The item with which one of the key is compared.
+pub(crate) fn item_before(known: &BTreeMap<Rank, NavItem>, key: &Key) -> Option<NavItem>
+    ensures { result ≡ known_for key.now known.now.entries }
+{
+    match key {
+        Key::Gps(_, _) => known.get(&rank_of_key(key)).copied(),
+        Key::Gal(_, _) => known.get(&rank_of_key(key)).copied(),
+        Key::GpsIon(_) => None,
+        Key::GalIon(_) => None,
+    }
+}
+
+// The item of a finding that is compared with later ones.
+fn kept_item(key: &Key, finding: &Finding) -> Option<NavItem>
+    ensures { result ≡ item_to_keep key.now finding.now }
+{
+    match key {
+        Key::GpsIon(_) => return None,
+        Key::GalIon(_) => return None,
+        _ => {}
+    }
+    match finding {
+        Finding::Complete(item) => Some(*item),
+        _ => None,
+    }
+}
+
+// Keeps the item of a complete ephemeris, in the place of the one before.
+pub(crate) fn remember(
+    known: &mut BTreeMap<Rank, NavItem>,
+    key: &Key,
+    finding: &Finding,
+) -> Result<(), AllocError>
+    ensures ordered { IsStrictlySortedBy rank_cmp.it (keys_of known.new.entries) }
+    ensures ok { OnOk result (IsRemembered known.old.entries (rank_of key.now)
+        (item_to_keep key.now finding.now) known.new.entries) }
+    ensures err { OnErr result (AreSameItems known.old.entries known.new.entries) }
+{
+    let _inside: Option<Inside> = None;
+    let _count = known.len();
+    match kept_item(key, finding) {
+        None => Ok(()),
+        Some(item) => {
+            known.insert(rank_of_key(key), item)?;
+            Ok(())
+        }
+    }
+}

@@ -1,0 +1,209 @@
+//! The slots of open periods, in the order of periods, with an index by key and end.
+
+ghost use Rattle.std.specs.Prelude.{◌≡◌, ◌<◌, ◌≤◌, ℕ, Some, None, IfSome, IfNone, IsSome, OnOk, OnErr};
+ghost use Rattle.std.specs.BTreeMap.{btree_map_len};
+ghost use Rattle.slot_assembly.specs.Slots.{AreIndexed, AreSameSlots, HasEnd, IsChanged, IsFirstDue, IsFirstFrom};
+ghost use Rattle.slot_assembly.specs.Slots.{IsFirstTouched, IsReplaced, IsSecondTouched, IsTaken};
+ghost use Rattle.slot_assembly.specs.Slots.{IsWithout, at_of, kept_at};
+
+use crate::order::{ByEnd, ByKey, Rank, rank_of_key};
+use crate::slot::{Slot, joined};
+use gnss_week::Second;
+use nav_bits::U;
+use nav_eph::{
+    GalIon, GalWord1, GalWord2, GalWord3, GalWord4, GpsClock, GpsIon, GpsOrbitA, GpsOrbitB,
+    GpsSide, Sat, SentTag,
+};
+use period_items::{Digest, GalDigest, GpsDigest, Key, Seen, Sending};
+use std::alloc::{AllocError, Global};
+use std::collections::{BTreeMap, BTreeSet};
+
+/// The slots of open periods, and an index of their keys and ends.
+#[derive(Drop)]
+pub struct OpenSlots {
+    pub slots: BTreeMap<ByEnd, Slot>,
+    pub ends: BTreeSet<ByKey>,
+}
+
+// The types inside a slot: the check finds the modules of those alone that a function names.
+type Inside = (
+    Seen<GpsClock>,
+    GpsDigest,
+    GalDigest,
+    Sending,
+    GpsOrbitA,
+    GpsOrbitB,
+    GpsSide,
+    SentTag,
+    GalWord1,
+    GalWord2,
+    GalWord3,
+    GalWord4,
+    GpsIon,
+    GalIon,
+    U<1>,
+    Second,
+    Sat,
+    Key,
+    Digest,
+);
+
+// The first end of a key from a stamp on.
+fn next_end(ends: &BTreeSet<ByKey>, rank: Rank, from: u64) -> Option<u64>
+    ensures some { IfSome result (λ e. HasEnd ends.now.keys rank e) }
+    ensures from { IfSome result (λ e. from ≤ e) }
+    ensures first { IfSome result (λ e. (f : ℕ) → HasEnd ends.now.keys rank f → from ≤ f → e ≤ f) }
+    ensures none { IfNone result ((f : ℕ) → HasEnd ends.now.keys rank f → f < from) }
+{
+    let place = *ends.range(rank.with_end(from)..).next()?;
+    if place.is_of(rank) {
+        Some(place.end)
+    } else {
+        None
+    }
+}
+
+impl OpenSlots {
+    // The first slot of a key that ends from a stamp on.
+    fn first_from(&self, rank: Rank, from: u64) -> Option<Slot>
+        requires indexed { AreIndexed self.now.slots.entries self.now.ends.keys }
+        ensures { IsFirstFrom self.now.slots.entries rank from result }
+    {
+        match next_end(&self.ends, rank, from) {
+            None => None,
+            Some(end) => self.slots.get(&rank.at_end(end)).copied(),
+        }
+    }
+
+    // The same, where it begins by a limit.
+    fn first_touched(&self, rank: Rank, from: u64, limit: u64) -> Option<Slot>
+        requires indexed { AreIndexed self.now.slots.entries self.now.ends.keys }
+        ensures { IsFirstTouched self.now.slots.entries rank from limit result }
+    {
+        match self.first_from(rank, from) {
+            None => None,
+            Some(slot) => {
+                if slot.start as u64 <= limit {
+                    Some(slot)
+                } else {
+                    None
+                }
+            }
+        }
+    }
+
+    // The slot behind a first one, where it begins by a limit.
+    fn second_touched(&self, rank: Rank, first: &Option<Slot>, limit: u64) -> Option<Slot>
+        requires indexed { AreIndexed self.now.slots.entries self.now.ends.keys }
+        ensures { IsSecondTouched self.now.slots.entries rank limit first.now result }
+    {
+        match first {
+            None => None,
+            Some(slot) => self.first_touched(rank, slot.end as u64 + 1, limit),
+        }
+    }
+
+    // Puts a slot at its place.
+    fn put(&mut self, slot: Slot) -> Result<(), AllocError>
+        requires indexed { AreIndexed self.old.slots.entries self.old.ends.keys }
+        ensures indexed { AreIndexed self.new.slots.entries self.new.ends.keys }
+        ensures ok { OnOk result (IsChanged self.old.slots.entries (at_of slot) (Some slot)
+            self.new.slots.entries) }
+        ensures err { OnErr result (AreSameSlots self.old.slots.entries self.new.slots.entries) }
+    {
+        let _inside: Option<Inside> = None;
+        let rank = rank_of_key(&slot.key);
+        let end = slot.end as u64;
+        let place = rank.with_end(end);
+        self.ends.insert(place)?;
+        match self.slots.insert(rank.at_end(end), slot) {
+            Ok(_) => Ok(()),
+            Err(none) => {
+                self.ends.remove(&place);
+                Err(none.into())
+            }
+        }
+    }
+
+    // Drops a slot.
+    pub(crate) fn drop_slot(&mut self, slot: &Slot)
+        requires indexed { AreIndexed self.old.slots.entries self.old.ends.keys }
+        ensures indexed { AreIndexed self.new.slots.entries self.new.ends.keys }
+        ensures gone { IsChanged self.old.slots.entries (at_of slot.now) None
+            self.new.slots.entries }
+        ensures fewer { IsSome (kept_at self.old.slots.entries (at_of slot.now))
+            → btree_map_len self.new.slots < btree_map_len self.old.slots }
+    {
+        let _inside: Option<Inside> = None;
+        let rank = rank_of_key(&slot.key);
+        let end = slot.end as u64;
+        self.ends.remove(&rank.with_end(end));
+        self.slots.remove(&rank.at_end(end));
+    }
+
+    // Drops a slot, if there is one and it ends elsewhere.
+    fn drop_other(&mut self, slot: &Option<Slot>, end: u32)
+        requires indexed { AreIndexed self.old.slots.entries self.old.ends.keys }
+        ensures indexed { AreIndexed self.new.slots.entries self.new.ends.keys }
+        ensures gone { IsWithout self.old.slots.entries slot.now end self.new.slots.entries }
+    {
+        match slot {
+            None => {}
+            Some(other) => {
+                if other.end != end {
+                    self.drop_slot(other);
+                }
+            }
+        }
+    }
+
+    // Puts a slot in the place of two others.
+    fn replace(
+        &mut self,
+        slot: Slot,
+        first: &Option<Slot>,
+        second: &Option<Slot>,
+    ) -> Result<(), AllocError>
+        requires indexed { AreIndexed self.old.slots.entries self.old.ends.keys }
+        ensures indexed { AreIndexed self.new.slots.entries self.new.ends.keys }
+        ensures ok { OnOk result (IsReplaced self.old.slots.entries slot first.now second.now
+            self.new.slots.entries) }
+        ensures err { OnErr result (AreSameSlots self.old.slots.entries self.new.slots.entries) }
+    {
+        let end = slot.end;
+        self.put(slot)?;
+        self.drop_other(first, end);
+        self.drop_other(second, end);
+        Ok(())
+    }
+
+    // Takes the slot of a new part, joined with those of its key that it touches.
+    pub(crate) fn take(&mut self, one: Slot, window: u32) -> Result<(), AllocError>
+        requires indexed { AreIndexed self.old.slots.entries self.old.ends.keys }
+        ensures indexed { AreIndexed self.new.slots.entries self.new.ends.keys }
+        ensures ok { OnOk result (IsTaken self.old.slots.entries one window
+            self.new.slots.entries) }
+        ensures err { OnErr result (AreSameSlots self.old.slots.entries self.new.slots.entries) }
+    {
+        let rank = rank_of_key(&one.key);
+        let from = one.end.saturating_sub(window) as u64;
+        let limit = one.end as u64 + window as u64;
+        let first = self.first_touched(rank, from, limit);
+        let second = self.second_touched(rank, &first, limit);
+        self.replace(joined(joined(one, &first), &second), &first, &second)?;
+        Ok(())
+    }
+
+    // The first slot of all, where its end and the window after it are below the mark.
+    pub(crate) fn first_due(&self, window: u32, mark: u64) -> Option<Slot>
+        requires indexed { AreIndexed self.now.slots.entries self.now.ends.keys }
+        ensures { IsFirstDue self.now.slots.entries window mark result }
+    {
+        let (_, slot) = self.slots.first_key_value()?;
+        if slot.end as u64 + (window as u64) < mark {
+            Some(*slot)
+        } else {
+            None
+        }
+    }
+}
