@@ -20,7 +20,8 @@ use crate::settle::write_closed;
 use capture_log::{parts_of_lines_are_values, what_is_closed_stays};
 use gnss_week::RefWeek;
 use inav_page::Halves;
-use issue_periods::{Assembly, PlainAssembly};
+use issue_periods::Assembly;
+use slot_assembly::SlotAssembly;
 use nav_io::{Failed, LineFault, LineKind, Lines, Sink, Source};
 use std::alloc::Global;
 
@@ -97,7 +98,7 @@ pub(crate) fn follow_capture<O: Outlet, S: Source, T: Sink, U: Sink>(
         Ok(()) => {}
         Err(Failed) => return Err(BridgeFault::WriteFault),
     }
-    let mut assembly = PlainAssembly::new(alloc, head.week, head.window);
+    let mut assembly = SlotAssembly::new(alloc, head.week, head.window);
     let mut halves = Halves::new(alloc, head.window);
     let mut tally = Tally::new();
     let mut said = Said::new();
