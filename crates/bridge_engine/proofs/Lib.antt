@@ -1,5 +1,11 @@
 mod Breakings
+mod Digits
 mod Feeding
+mod FrameEvents
 mod Goings
+mod Keeping
+mod Noting
 mod Numbers
 mod SoFar
+mod Weighing
+mod WordsHeard

@@ -19,12 +19,7 @@
 #![tactic(auto)]
 
 mod event;
-mod laws;
 mod reading;
 
 pub use crate::event::{Event, Refusal};
-pub use crate::laws::{
-    order_of_items_is_nothing, parts_heard_are_values, parts_of_lines_are_values,
-    periods_are_those_heard, taken_parts_are_heard, what_is_closed_stays,
-};
 pub use crate::reading::{message_event, subframe_event, word_event};
