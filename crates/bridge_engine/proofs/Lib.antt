@@ -1,5 +1,4 @@
 mod Breakings
-mod Digits
 mod Feeding
 mod FrameEvents
 mod Goings

@@ -7,12 +7,11 @@ ghost use Rattle.nav_io.specs.Front.{AppendsFront};
 ghost use Rattle.bridge_engine.specs.Captures.{back_text, capture_of, counts_of, counts_text, least_output, output_of, report_of_capture, settled_output};
 ghost use Rattle.bridge_engine.specs.Follows.{Follows, FollowsAll, FollowsBroken, GivesHead, GivesNoHead, HasItsCause, fault_by, faults_of};
 ghost use Rattle.bridge_engine.specs.Notes.{total};
-ghost use Rattle.bridge_engine.specs.Runs.{RunsExactly, RunsPart, RunsWhole, TakesTooMany};
+ghost use Rattle.run_texts.specs.Runs.{RunsExactly, RunsPart, RunsWhole, TakesTooMany};
 ghost use Rattle.bridge_engine.specs.Settled.{total_said};
 
 use crate::accept::{Accepted, accept};
 use crate::counts::{CaptureCounts, Said, Tally, capture_counts_text, counts_with};
-use crate::fault::BridgeFault;
 use crate::item::{stamp_of_item, take_item};
 use crate::next::next_item;
 use crate::outlet::Outlet;
@@ -21,6 +20,7 @@ use gnss_week::RefWeek;
 use inav_page::Halves;
 use issue_periods::{Assembly, PlainAssembly};
 use nav_io::{Failed, LineFault, LineKind, Lines, Sink, Source};
+use run_texts::BridgeFault;
 use std::alloc::Global;
 
 // The fault of a run whose lines ended so.

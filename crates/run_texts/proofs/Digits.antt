@@ -2,7 +2,7 @@
 use Rattle.std.proofs.Common.{◌≡◌, ℕ, zero, suc, ◌+◌, ◌*◌, ◌/◌, ◌%◌, ◌^◌, ◌-◌, ◌<◌, List, [], ◌∷◌, ◌++◌, append_assoc, refl, sym, ap, add-one, ◌∙◌, arith}
 use Rattle.std.specs.Int.Bits.{bit_and}
 use Rattle.std.proofs.lemmas.Nat.{and_mask, pow-add}
-use Rattle.bridge_engine.specs.Texts.{hex_digit_of, hex_digits}
+use Rattle.run_texts.specs.Texts.{hex_digit_of, hex_digits}
 
 pub hex_digits-none : (number k : ℕ) → k ≡ 0 → hex_digits k number ≡ []
 unfolding hex_digits
@@ -20,7 +20,6 @@ pub hex_digits-more : (k number : ℕ)
 unfolding hex_digits
 hex_digits-more k number =
     ap (λ (n : ℕ). hex_digits n number) (add-one k) ∙ ap (λ (digit : ℕ). hex_digit_of digit ∷ hex_digits k number) (ap (λ m. number / m % 16) (sym (sixteen k)) ∙ sym (and_mask (number / 2 ^ (4 * k)) 4))
-
 
 -- the same behind what was written
 pub hex_digits_one : (old : List ℕ) (left number : ℕ) → 0 < left
