@@ -58,7 +58,11 @@ pub record FollowsReads (f : Form) (text : ℕ → NavItem → List ℕ) (left l
 
 -- The same to the end of the file.
 pub record FollowsAll (f : Form) (text : ℕ → NavItem → List ℕ) (left left_new : Option (List ℕ)) (old new : RecordsState) (written written_new reported reported_new : Option (List ℕ)) (counts : RinexCounts) : Type 0 where
-  pub follows : FollowsReads f text left left_new old new written written_new reported reported_new counts
+  pub given : List ItemRead
+  pub steps : Steps f left left_new old new given
+  pub output : Appends written written_new (flat_map (read_text text) given)
+  pub report : Appends reported reported_new (flat_map read_report given)
+  pub counts_are : counts ≡ counts_of_reads given
   pub kept : new.kept ≡ []
   pub rest : new.lines.rest ≡ []
   pub ended : new.lines.ended ≡ true

@@ -13,7 +13,7 @@ use crate::counts::{RinexCounts, file_counts_text};
 use crate::outlet::Outlet;
 use crate::records::{fault_of, follow_records};
 use nav_io::{Failed, Sink, Source};
-use rinex_read::{FileForm, HeaderFault, RecordReader};
+use rinex_read::{FileForm, HeaderFault, RecordReader, readers_begin_with_the_file};
 use run_texts::BridgeFault;
 
 // Reads the header.
@@ -72,6 +72,7 @@ pub(crate) fn follow_file<F: FileForm, O: Outlet, S: Source, T: Sink, U: Sink>(
         → TakesTooMany (S.left input.old) (S.left input.new) }
     ensures memory { IsErrOf result BridgeFault.NoMemory → ⊥ }
 {
+    readers_begin_with_the_file::<F>();
     let mut records: RecordReader<F> = RecordReader::new();
     pass_header::<F, S>(&mut records, input)?;
     if outlet.begin(output).is_err() {

@@ -1,6 +1,6 @@
 //! The frames of a stream, one after another, for one outlet.
 
-ghost use Rattle.std.specs.Prelude.{◌≡◌, ◌⊎◌, ◌+◌, ◌^◌, ◌<◌, ◌≤◌, ◌∷◌, ◌++◌, [], ℕ, List, Option, true, not, Err, length, take, IsErrOf, IfOk, IfErr, IfSome, OnOk, OnErr, OnFalse, IsTrue};
+ghost use Rattle.std.specs.Prelude.{◌≡◌, ◌⊎◌, ◌+◌, ◌^◌, ◌<◌, ◌≤◌, ◌∷◌, ◌++◌, [], ℕ, List, Option, true, not, Err, length, take, IsErrOf, IfOk, IfErr, IfSome, OnOk, OnErr, IsTrue};
 ghost use Rattle.std.specs.Io.KnownBytes.{Appends};
 ghost use Rattle.nav_eph.specs.declared.items.NavItem.{NavItem};
 ghost use Rattle.nav_io.specs.Front.{AppendsFront};

@@ -1,6 +1,6 @@
 //! What was given of a stream, so that each item is given at its first place only.
 
-ghost use Rattle.std.specs.Prelude.{◌≡◌, ◌||◌, not, ℕ, List, OnOk, OnErr, IfOk};
+ghost use Rattle.std.specs.Prelude.{◌≡◌, ◌||◌, not, false, ℕ, List, OnOk, OnErr, IfOk};
 ghost use Rattle.std.specs.BTreeSet.{BTreeSet, contains};
 ghost use Rattle.nav_eph.specs.declared.items.NavItem.{NavItem};
 ghost use Rattle.rtcm_eph.specs.Writing.{bytes_1019, bytes_1046};

@@ -1,6 +1,6 @@
 //! The records of a navigation file, one after another, for one outlet.
 
-ghost use Rattle.std.specs.Prelude.{◌≡◌, ◌⊎◌, ◌+◌, ◌^◌, ◌<◌, ◌≤◌, ◌×◌, [], length, IsTrue, IsErrOf, IfOk, IfErr, IfSome, IfNone, OnOk, OnErr};
+ghost use Rattle.std.specs.Prelude.{◌≡◌, ◌⊎◌, ◌+◌, ◌^◌, ◌<◌, ◌≤◌, [], length, IsTrue, IsErrOf, IfOk, IfErr, IfSome, IfNone, OnOk, OnErr};
 ghost use Rattle.std.specs.Io.KnownBytes.{Appends};
 ghost use Rattle.nav_io.specs.Causes.{Rose};
 ghost use Rattle.nav_io.specs.Front.{AppendsFront};
@@ -14,7 +14,7 @@ ghost use Rattle.item_runs.specs.Mirrors.{AreCounted, BreaksRead, FollowsAll, Fo
 use crate::counts::RinexCounts;
 use crate::outlet::Outlet;
 use nav_io::{Failed, LineFault, Sink, Source};
-use rinex_read::{FileForm, ItemRead, Reason, RecordReader};
+use rinex_read::{FileForm, ItemRead, Reason, RecordReader, steps_follow_one_another};
 use run_texts::{BridgeFault, report_text};
 
 // The fault of a run whose lines broke off so.
@@ -150,6 +150,7 @@ pub(crate) fn follow_records<F: FileForm, O: Outlet, S: Source, T: Sink, U: Sink
         (faults_of (S.faults input.new) (T.faults output.new) (U.faults report.new)) result }
     ensures never { IsTrue (S.never_fails input.old) → IsErrOf result BridgeFault.ReadFault → ⊥ }
 {
+    steps_follow_one_another::<F>();
     'records: loop {
         match next_read::<F, S>(records, input) {
             Err(fault) => return Err(fault),
