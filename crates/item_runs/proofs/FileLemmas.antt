@@ -36,7 +36,7 @@ pub file_taken : (f : Form) (left l1 l2 : Option (List ℕ)) (s0 s1 s2 : Records
     → file_reads f (header.steps.reads.taken ++ (steps.reads.taken ++ following)) ≡ Ok (given ++ records_to_come f s2 following)
 file_taken f left l1 l2 s0 s1 s2 given begins new header steps following may =
     let behind = steps.reads.taken ++ following in
-    let may1 : MayCome s1 behind = λ ended. ap (λ (l : List ℕ). l ++ following) (steps.reads.after_end ended).1.0 ∙ may (steps.reads.after_end ended).0 in
+    let may1 : MayCome s1 behind = λ ended. ap (λ (l : List ℕ). l ++ following) (steps.reads.after_end ended).1 ∙ may (steps.reads.after_end ended).0 in
     sym (begins s0 (header.steps.reads.taken ++ behind) new)
     ∙ header.steps.stream behind may1
     ∙ passed_file f s1 behind header.header
@@ -65,17 +65,20 @@ file_front f left l1 l2 s0 s1 s2 given begins new header steps =
     ap (λ (l : List ℕ). file_reads f (header.steps.reads.taken ++ l)) (sym (append-nil steps.reads.taken))
     ∙ file_taken f left l1 l2 s0 s1 s2 given begins new header steps [] (λ ended. refl)
 
+no_end : (s : RecordsState) → s.lines.ended ≡ false → s.lines.ended ≡ true → ⊥
+no_end s more ended = cc
+
 -- at the end of the lines the input is at its end
 pub ends_there : (f : Form) (left l1 l2 : Option (List ℕ)) (s0 s1 s2 : RecordsState) (given : List ItemRead)
     → IsNew s0 → (header : PassesHeader f left l1 s0 s1) → (steps : Steps f l1 l2 s1 s2 given)
     → s2.lines.ended ≡ true → IsAtEnd l2
 ends_there f left l1 l2 s0 s1 s2 given new header steps ended = ends_from (steps.reads.at_end ended) where
   first : (s0.lines.ended ≡ true) ⊎ IsAtEnd l1 → IsAtEnd l1
-  first (inl early) = absurd (grind (early, new.ended))
+  first (inl early) = absurd (no_end s0 new.ended early)
   first (inr end) = end
   ends_from : (s1.lines.ended ≡ true) ⊎ IsAtEnd l2 → IsAtEnd l2
   ends_from (inr end) = end
-  ends_from (inl early) = subst IsAtEnd (sym (steps.reads.after_end early).1.1) (first (header.steps.reads.at_end early))
+  ends_from (inl early) = subst IsAtEnd (sym (steps.reads.after_end early).2) (first (header.steps.reads.at_end early))
 
 -- ---- what was written and reported of it
 
@@ -111,9 +114,9 @@ report_is f taken reads u u1 is grew =
 -- the header is refused, or the input breaks off in it
 pub part_of_header : (f : Form) (front : List ℕ) (text : ℕ → NavItem → List ℕ) (left l1 w u : Option (List ℕ)) (s0 s1 : RecordsState) (fault : BridgeFault)
     → NoHeader f left l1 s0 s1 fault → RunsPart (file_output_by f front text) no_least (file_report f) left l1 w w u u
-part_of_header f front text left l1 w u s0 s1 fault no = record {
-  taken = no.steps.reads.taken;
-  consumes = no.steps.reads.consumes;
+part_of_header f front text left l1 w u s0 s1 fault broken = record {
+  taken = broken.steps.reads.taken;
+  consumes = broken.steps.reads.consumes;
   text = between w w _ (no_front w _);
   report_text = no_front u _;
 }
@@ -140,14 +143,18 @@ pub part_of_records : (f : Form) (front : List ℕ) (text : ℕ → NavItem → 
 part_of_records f front text left l1 l2 w w1 w2 u u2 s0 s1 s2 fault begins new header grew part =
     let is = file_front f left l1 l2 s0 s1 s2 part.given begins new header part.steps in
     let more = records_to_come f s2 [] in
+    let taken = header.steps.reads.taken ++ part.steps.reads.taken in
     record {
-      taken = header.steps.reads.taken ++ part.steps.reads.taken;
+      taken = taken;
       consumes = Consumes-trans left l1 l2 _ _ header.steps.reads.consumes part.steps.reads.consumes;
-      text = between w w2 _ (output_is f front text _ _ w w2 is
-          (front_behind w w1 w2 front _ grew
-          (subst (AppendsFront w1 w2) (sym (flat_map-append (read_text text) part.given more)) (front_longer w1 w2 _ _ part.output))));
-      report_text = report_is f _ _ u u2 is
-          (front_longer u u2 _ _ (subst (AppendsFront u u2) (sym (flat_map-append read_report part.given more)) (front_longer u u2 _ _ part.report)));
+      text = between w w2 _ (output_is f front text taken (part.given ++ more) w w2 is
+          (front_behind w w1 w2 front (flat_map (read_text text) (part.given ++ more)) grew
+          (subst (AppendsFront w1 w2) (sym (flat_map-append (read_text text) part.given more))
+          (front_longer w1 w2 (flat_map (read_text text) part.given) (flat_map (read_text text) more) part.output))));
+      report_text = report_is f taken (part.given ++ more) u u2 is
+          (front_longer u u2 (flat_map read_report (part.given ++ more)) _
+          (subst (AppendsFront u u2) (sym (flat_map-append read_report part.given more))
+          (front_longer u u2 (flat_map read_report part.given) (flat_map read_report more) part.report)));
     }
 
 -- too many bytes were there
@@ -168,9 +175,10 @@ part_of_counts f front text left l1 l2 w w1 w2 u u2 u3 s0 s1 s2 c begins new hea
     record {
       taken = header.steps.reads.taken ++ all.steps.reads.taken;
       consumes = Consumes-trans left l1 l2 _ _ header.steps.reads.consumes all.steps.reads.consumes;
-      text = between w w2 _ (output_is f front text _ _ w w2 is (whole_front w w2 _ (Appends-trans w w1 w2 _ _ grew all.output)));
-      report_text = report_is f _ _ u u3 is
-          (front_behind u u2 u3 _ _ all.report (subst (λ (x : RinexCounts). AppendsFront u2 u3 (file_counts_text x)) all.counts_are counts));
+      text = between w w2 _ (output_is f front text (header.steps.reads.taken ++ all.steps.reads.taken) all.given w w2 is (whole_front w w2 (front ++ flat_map (read_text text) all.given)
+          (Appends-trans w w1 w2 front (flat_map (read_text text) all.given) grew all.output)));
+      report_text = report_is f (header.steps.reads.taken ++ all.steps.reads.taken) all.given u u3 is
+          (front_behind u u2 u3 (flat_map read_report all.given) _ all.report (subst (λ (x : RinexCounts). AppendsFront u2 u3 (file_counts_text x)) all.counts_are counts));
     }
 
 -- the run is done
@@ -188,3 +196,7 @@ whole_file f front text left l1 l2 w w1 w2 u u2 u3 s0 s1 s2 c begins new header 
       report_text = subst (λ (r : Result (List ItemRead) HeaderFault). Appends u u3 (reads_report r)) (sym is)
           (Appends-trans u u2 u3 _ _ all.report (subst (λ (x : RinexCounts). Appends u2 u3 (file_counts_text x)) all.counts_are counts));
     }
+
+-- faults are equal where the answers are
+pub err_same : {T : Type 0} (a b : BridgeFault) (r s : Result T BridgeFault) → r ≡ Err a → s ≡ Err b → r ≡ s → a ≡ b
+err_same a b r s ra sb is = cc

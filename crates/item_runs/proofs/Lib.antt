@@ -1,2 +1,4 @@
 mod RecordLemmas
 mod FileLemmas
+mod AlikeLemmas
+mod StreamLemmas

@@ -75,8 +75,9 @@ pub(crate) fn follow_file<F: FileForm, O: Outlet, S: Source, T: Sink, U: Sink>(
     readers_begin_with_the_file::<F>();
     let mut records: RecordReader<F> = RecordReader::new();
     pass_header::<F, S>(&mut records, input)?;
-    if outlet.begin(output).is_err() {
-        return Err(BridgeFault::WriteFault);
+    match outlet.begin(output) {
+        Ok(()) => {}
+        Err(Failed) => return Err(BridgeFault::WriteFault),
     }
     let mut counts = RinexCounts::new();
     follow_records(outlet, &mut records, input, output, report, &mut counts)?;
