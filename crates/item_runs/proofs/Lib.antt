@@ -2,3 +2,4 @@ mod RecordLemmas
 mod FileLemmas
 mod AlikeLemmas
 mod StreamLemmas
+mod WholeLemmas

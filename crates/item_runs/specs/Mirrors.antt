@@ -11,6 +11,7 @@ use Rattle.nav_eph.specs.declared.items.NavItem.{NavItem}
 use Rattle.nav_eph.specs.declared.items.NavItem.TheVariants.{Gps, Gal, Ion}
 use Rattle.rtcm_eph.specs.Writing.{bytes_1019, bytes_1046}
 use Rattle.rtcm_eph.specs.declared.fault.MessageFault.{MessageFault}
+use Rattle.rtcm_eph.specs.declared.fault.MessageFault.TheVariants.{NoNumber, OtherMessage, Short, BadSat, BadTime, SpareSisa}
 use Rattle.rtcm_frame.specs.Frames.{frames}
 use Rattle.rinex_read.specs.Forms.{Form}
 use Rattle.nav_io.specs.declared.lines.LineFault.TheVariants as lines
@@ -23,7 +24,7 @@ use Rattle.run_texts.specs.declared.fault.BridgeFault.TheVariants.{ReadFault, Wr
 use Rattle.item_runs.specs.declared.counts.RinexCounts.{RinexCounts}
 use Rattle.item_runs.specs.declared.counts.StreamCounts.{StreamCounts}
 use Rattle.item_runs.specs.Files.{read_text, read_report, counts_of_reads, is_refused, is_passed, is_item}
-use Rattle.item_runs.specs.Streams.{readings, items_in, readings_output, readings_report, counts_of_readings, is_refused as is_refused_frame, is_unused}
+use Rattle.item_runs.specs.Streams.{readings, items_in, readings_output, readings_report, counts_of_readings}
 
 -- ---- files
 
@@ -139,14 +140,20 @@ any_alike (i ∷ is) item = sent_alike i item || any_alike is item
 abbrev pub once_text : (NavItem → List ℕ) → Bool → NavItem → List ℕ
 once_text text before item = if before then [] else text item
 
--- the counts with a frame more that is refused or not used
+-- the counts with a frame more that is refused, or that is not used
+abbrev pub with_refusal : StreamCounts → StreamCounts
+with_refusal c = record { frames = c.frames + 1; refused = c.refused + 1; unused = c.unused; items = c.items }
+
+abbrev pub with_unused : StreamCounts → StreamCounts
+with_unused c = record { frames = c.frames + 1; refused = c.refused; unused = c.unused + 1; items = c.items }
+
 abbrev pub with_fault : StreamCounts → MessageFault → StreamCounts
-with_fault c fault = record {
-  frames = c.frames + 1;
-  refused = c.refused + is_refused_frame (Err fault);
-  unused = c.unused + is_unused (Err fault);
-  items = c.items;
-}
+with_fault c NoNumber = with_unused c
+with_fault c (OtherMessage other) = with_unused c
+with_fault c Short = with_refusal c
+with_fault c BadSat = with_refusal c
+with_fault c BadTime = with_refusal c
+with_fault c SpareSisa = with_refusal c
 
 -- the counts with a frame more that brings an item, which was given before or was not
 abbrev pub with_item : StreamCounts → Bool → StreamCounts

@@ -1,6 +1,7 @@
 //! The run over a navigation file of a form, for one outlet.
 
 ghost use Rattle.std.specs.Prelude.{◌≡◌, ◌⊎◌, ◌^◌, ◌<◌, ◌≤◌, length, IsTrue, IsOk, IsErr, IsErrOf, IfOk, IfErr, IfSome, OnOk, OnErr};
+ghost use Rattle.std.specs.Io.KnownBytes.{Appends};
 ghost use Rattle.rinex_read.specs.Files.{file_reads};
 ghost use Rattle.rinex_read.specs.States.{BreaksHeader, IsNew, PassesHeader};
 ghost use Rattle.rinex_read.specs.declared.judged.HeaderState.TheVariants.{Passed};
@@ -50,6 +51,9 @@ pub(crate) fn follow_file<F: FileForm, O: Outlet, S: Source, T: Sink, U: Sink>(
         (file_output_by F.form (O.front outlet.now) (O.text outlet.now)) (file_report F.form)
         (S.left input.old) (S.left input.new) (T.written output.old) (T.written output.new)
         (U.written report.old) (U.written report.new)) }
+    ensures text { OnOk result (IfSome (S.left input.old) (λ bytes.
+        Appends (T.written output.old) (T.written output.new)
+        (file_output_by F.form (O.front outlet.now) (O.text outlet.now) bytes))) }
     ensures counts { IfOk result (λ counts. IfSome (S.left input.old) (λ bytes.
         IfOk (file_reads F.form bytes) (λ reads. counts ≡ counts_of_reads reads))) }
     ensures part { OnErr result (RunsPart

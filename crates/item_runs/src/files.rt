@@ -32,8 +32,6 @@ fn run_form<F: FileForm, S: Source, T: Sink, U: Sink>(
     ensures whole { OnOk result (RunsWhole (file_output F.form to.now) (file_report F.form)
         (S.left input.old) (S.left input.new) (T.written output.old) (T.written output.new)
         (U.written report.old) (U.written report.new)) }
-    ensures text { OnOk result (IfSome (S.left input.old) (λ bytes.
-        Appends (T.written output.old) (T.written output.new) (file_output F.form to.now bytes))) }
     ensures report_text { OnOk result (IfSome (S.left input.old) (λ bytes.
         Appends (U.written report.old) (U.written report.new) (file_report F.form bytes))) }
     ensures counts { IfOk result (λ counts. IfSome (S.left input.old) (λ bytes.
@@ -85,13 +83,14 @@ fn run_form<F: FileForm, S: Source, T: Sink, U: Sink>(
             let outlet = Rinex3Outlet { words: *words };
             follow_file::<F, Rinex3Outlet, S, T, U>(&outlet, input, output, report)
         }
-        RinexTo::Rtcm => follow_file::<F, RtcmOutlet, S, T, U>(&RtcmOutlet, input, output, report),
-        RinexTo::ToList => follow_file::<F, ListOutlet, S, T, U>(
-            &ListOutlet,
-            input,
-            output,
-            report,
-        ),
+        RinexTo::Rtcm => {
+            let outlet = RtcmOutlet;
+            follow_file::<F, RtcmOutlet, S, T, U>(&outlet, input, output, report)
+        }
+        RinexTo::ToList => {
+            let outlet = ListOutlet;
+            follow_file::<F, ListOutlet, S, T, U>(&outlet, input, output, report)
+        }
     }
 }
 

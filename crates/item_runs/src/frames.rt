@@ -1,6 +1,6 @@
 //! The frames of a stream, one after another, for one outlet.
 
-ghost use Rattle.std.specs.Prelude.{◌≡◌, ◌⊎◌, ◌+◌, ◌^◌, ◌<◌, ◌≤◌, ◌∷◌, ◌++◌, [], ℕ, List, Option, true, not, Err, length, take, IsErrOf, IfOk, IfErr, IfSome, OnOk, OnErr, IsTrue};
+ghost use Rattle.std.specs.Prelude.{◌≡◌, ◌⊎◌, ◌+◌, ◌^◌, ◌<◌, ◌≤◌, ◌∷◌, ◌++◌, ◌||◌, [], ℕ, List, Option, true, not, codes, Err, length, take, IsErrOf, IfOk, IfErr, IfSome, OnOk, OnErr, IsTrue};
 ghost use Rattle.std.specs.Io.KnownBytes.{Appends};
 ghost use Rattle.nav_eph.specs.declared.items.NavItem.{NavItem};
 ghost use Rattle.nav_io.specs.Front.{AppendsFront};
@@ -9,28 +9,53 @@ ghost use Rattle.rtcm_eph.specs.declared.fault.MessageFault.{MessageFault};
 ghost use Rattle.run_texts.specs.Causes.{HasItsCause, faults_of};
 ghost use Rattle.run_texts.specs.Reports.{report_line};
 ghost use Rattle.item_runs.specs.Streams.{reading_report};
-ghost use Rattle.item_runs.specs.Mirrors.{AreFew, HasRoom, IsStreamFault, StreamBreaks, StreamGoes, StreamMoves, StreamStops, is_given, once_text, sent_alike, with_fault, with_item};
+ghost use Rattle.item_runs.specs.Mirrors.{AreFew, HasRoom, IsStreamFault, StreamBreaks, StreamGoes, StreamMoves, StreamStops, is_given, once_text, sent_alike, with_fault, with_item, with_refusal, with_unused};
 
 use crate::counts::StreamCounts;
 use crate::given::Given;
 use crate::outlet::Outlet;
 use gnss_week::RefWeek;
-use nav_eph::NavItem;
+use nav_eph::{NavItem, equality_is_decided};
 use nav_io::{Failed, Sink};
-use rtcm_eph::{MessageFault, read_item};
+use rtcm_eph::{MessageFault, item_function, message_bytes, read_item, sent_1019_is_read, sent_1046_is_read};
 use rtcm_frame::{Deframer, Frame};
 use run_texts::{BridgeFault, report_text};
 
-// Why a frame is refused, in a word; none where it is not used.
-fn reason_word(fault: MessageFault) -> Option<&'static [u8]> {
-    match fault {
-        MessageFault::NoNumber => None,
-        MessageFault::OtherMessage { .. } => None,
-        MessageFault::Short => Some(b"short"),
-        MessageFault::BadSat => Some(b"satellite"),
-        MessageFault::BadTime => Some(b"time"),
-        MessageFault::SpareSisa => Some(b"sisa"),
+// Reports a frame with this number that is refused, and counts it.
+fn refuse<U: Sink>(
+    number: u64,
+    reason: &[u8],
+    report: &mut U,
+    counts: &mut StreamCounts,
+) -> Result<(), BridgeFault>
+    requires room { HasRoom counts.old }
+    requires reason { length reason.now ≤ 32 }
+    ensures report { OnOk result (Appends (U.written report.old) (U.written report.new)
+        (report_line (codes "frame") number reason.now)) }
+    ensures counts { OnOk result (counts.new ≡ with_refusal counts.old) }
+    ensures part { OnErr result (AppendsFront (U.written report.old) (U.written report.new)
+        (report_line (codes "frame") number reason.now)) }
+    ensures cause { HasItsCause (faults_of 0 0 (U.faults report.old))
+        (faults_of 0 0 (U.faults report.new)) result }
+    ensures kind { IfErr result (λ fault. fault ≡ BridgeFault.ReportFault) }
+{
+    match report.write(report_text(b"frame", number, reason).as_slice()) {
+        Ok(()) => {
+            counts.refused += 1;
+            counts.frames += 1;
+            Ok(())
+        }
+        Err(Failed) => Err(BridgeFault::ReportFault),
     }
+}
+
+// Counts a frame that is not used.
+fn pass(counts: &mut StreamCounts)
+    requires room { HasRoom counts.old }
+    ensures counts { counts.new ≡ with_unused counts.old }
+{
+    counts.unused += 1;
+    counts.frames += 1;
 }
 
 // Reports a frame with this number that is refused, or is not used, and counts it.
@@ -50,18 +75,20 @@ fn tell_fault<U: Sink>(
         (faults_of 0 0 (U.faults report.new)) result }
     ensures kind { IfErr result (λ fault. fault ≡ BridgeFault.ReportFault) }
 {
-    match reason_word(fault) {
-        None => counts.unused += 1,
-        Some(reason) => {
-            let line = report_text(b"frame", number, reason);
-            if report.write(line.as_slice()).is_err() {
-                return Err(BridgeFault::ReportFault);
-            }
-            counts.refused += 1;
+    match fault {
+        MessageFault::NoNumber => {
+            pass(counts);
+            Ok(())
         }
+        MessageFault::OtherMessage { .. } => {
+            pass(counts);
+            Ok(())
+        }
+        MessageFault::Short => refuse(number, b"short", report, counts),
+        MessageFault::BadSat => refuse(number, b"satellite", report, counts),
+        MessageFault::BadTime => refuse(number, b"time", report, counts),
+        MessageFault::SpareSisa => refuse(number, b"sisa", report, counts),
     }
-    counts.frames += 1;
-    Ok(())
 }
 
 // Writes an item that was not given before, and counts it.
@@ -87,17 +114,20 @@ fn give_item<O: Outlet, T: Sink>(
         ⊎ (fault ≡ BridgeFault.NoMemory)) }
 {
     match given.add(item) {
-        Err(_) => return Err(BridgeFault::NoMemory),
-        Ok(false) => {}
-        Ok(true) => {
-            if outlet.put(0, item, output).is_err() {
-                return Err(BridgeFault::WriteFault);
-            }
-            counts.items += 1;
+        Err(_) => Err(BridgeFault::NoMemory),
+        Ok(false) => {
+            counts.frames += 1;
+            Ok(())
         }
+        Ok(true) => match outlet.put(0, item, output) {
+            Ok(()) => {
+                counts.items += 1;
+                counts.frames += 1;
+                Ok(())
+            }
+            Err(Failed) => Err(BridgeFault::WriteFault),
+        },
     }
-    counts.frames += 1;
-    Ok(())
 }
 
 // Takes a frame.
@@ -123,6 +153,12 @@ fn take_frame<O: Outlet, T: Sink, U: Sink>(
     ensures some { OnOk result (AreFew counts.new) }
     ensures frames { OnOk result (counts.new.frames ≡ counts.old.frames + 1) }
 {
+    let _reference = r.value();
+    equality_is_decided();
+    item_function();
+    message_bytes();
+    sent_1019_is_read();
+    sent_1046_is_read();
     match read_item(frame.payload(), r) {
         Ok(item) => give_item(outlet, &item, given, output, counts),
         Err(fault) => tell_fault(fault, counts.frames + 1, report, counts),

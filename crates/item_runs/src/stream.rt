@@ -1,6 +1,7 @@
 //! The run over a stream, for one outlet.
 
 ghost use Rattle.std.specs.Prelude.{◌≡◌, ◌^◌, ◌<◌, ◌≤◌, length, IsTrue, IsErrOf, IfOk, IfSome, OnOk, OnErr};
+ghost use Rattle.std.specs.Io.KnownBytes.{Appends};
 ghost use Rattle.run_texts.specs.Causes.{HasItsCause, faults_of};
 ghost use Rattle.run_texts.specs.Runs.{RunsPart, RunsWhole, TakesTooMany, no_least};
 ghost use Rattle.item_runs.specs.Streams.{stream_counts, stream_output_by, stream_report};
@@ -27,6 +28,9 @@ pub(crate) fn follow_stream<O: Outlet, S: Source, T: Sink, U: Sink>(
         (stream_output_by (O.front outlet.now) (O.text outlet.now 0) r) (stream_report r)
         (S.left input.old) (S.left input.new) (T.written output.old) (T.written output.new)
         (U.written report.old) (U.written report.new)) }
+    ensures text { OnOk result (IfSome (S.left input.old) (λ bytes.
+        Appends (T.written output.old) (T.written output.new)
+        (stream_output_by (O.front outlet.now) (O.text outlet.now 0) r bytes))) }
     ensures counts { IfOk result (λ counts. IfSome (S.left input.old) (λ bytes.
         counts ≡ stream_counts r bytes)) }
     ensures part { OnErr result (RunsPart
@@ -42,8 +46,9 @@ pub(crate) fn follow_stream<O: Outlet, S: Source, T: Sink, U: Sink>(
         → TakesTooMany (S.left input.old) (S.left input.new) }
     ensures form { IsErrOf result BridgeFault.NotThisForm → ⊥ }
 {
-    if outlet.begin(output).is_err() {
-        return Err(BridgeFault::WriteFault);
+    match outlet.begin(output) {
+        Ok(()) => {}
+        Err(Failed) => return Err(BridgeFault::WriteFault),
     }
     let mut given = Given::new(alloc);
     let mut counts = StreamCounts::new();

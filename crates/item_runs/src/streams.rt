@@ -87,6 +87,9 @@ pub fn run_stream<S: Source, T: Sink, U: Sink>(
             let outlet = Rinex3Outlet { words: *words };
             follow_stream(alloc, r, &outlet, input, output, report)
         }
-        StreamTo::Rtcm => follow_stream(alloc, r, &RtcmOutlet, input, output, report),
+        StreamTo::Rtcm => {
+            let outlet = RtcmOutlet;
+            follow_stream(alloc, r, &outlet, input, output, report)
+        }
     }
 }
