@@ -15,12 +15,12 @@ use Rattle.capture_log.specs.Log.{mark_after, parts_of}
 use Rattle.bridge_engine.specs.declared.target.CaptureTo.{CaptureTo}
 use Rattle.bridge_engine.specs.declared.counts.Tally.{Tally}
 use Rattle.bridge_engine.specs.declared.counts.Said.{Said}
-use Rattle.bridge_engine.specs.declared.fault.BridgeFault.{BridgeFault}
-use Rattle.bridge_engine.specs.declared.fault.BridgeFault.TheVariants.{ReadFault, WriteFault, ReportFault, TooLong, NoMemory, NotThisForm}
+use Rattle.run_texts.specs.declared.fault.BridgeFault.{BridgeFault}
+use Rattle.run_texts.specs.declared.fault.BridgeFault.TheVariants.{ReadFault, WriteFault, ReportFault, TooLong, NoMemory, NotThisForm}
 use Rattle.bridge_engine.specs.Captures.{texts_of}
 use Rattle.bridge_engine.specs.Follows.{FollowsBroken, FollowsPart, fault_by}
 use Rattle.bridge_engine.specs.Notes.{IsReporting}
-use Rattle.bridge_engine.specs.Runs.{AppendsBetween}
+use Rattle.run_texts.specs.Runs.{AppendsBetween}
 use Rattle.bridge_engine.specs.Settled.{HasRoom, IsWriting, Settled}
 use Rattle.bridge_engine.proofs.Fronts.{LogLaws}
 use Rattle.bridge_engine.proofs.Following.{Between, ended_read, part_long, part_read}

@@ -7,11 +7,11 @@ use Rattle.std.proofs.lemmas.Bool.{true≢false}
 use Rattle.nav_io.specs.Causes.{Rose}
 use Rattle.bridge_engine.specs.declared.target.CaptureTo.{CaptureTo}
 use Rattle.bridge_engine.specs.declared.counts.CaptureCounts.{CaptureCounts}
-use Rattle.bridge_engine.specs.declared.fault.BridgeFault.{BridgeFault}
-use Rattle.bridge_engine.specs.declared.fault.BridgeFault.TheVariants.{ReadFault, WriteFault, ReportFault, TooLong, NoMemory, NotThisForm}
+use Rattle.run_texts.specs.declared.fault.BridgeFault.{BridgeFault}
+use Rattle.run_texts.specs.declared.fault.BridgeFault.TheVariants.{ReadFault, WriteFault, ReportFault, TooLong, NoMemory, NotThisForm}
 use Rattle.bridge_engine.specs.Captures.{Capture, capture_of, counts_of, least_output, output_of, report_of_capture, settled_output}
 use Rattle.bridge_engine.specs.Follows.{CaptureBroken, CaptureDone, CapturePart, Faults, HasItsCause}
-use Rattle.bridge_engine.specs.Runs.{RunsExactly, RunsPart, RunsWhole, TakesTooMany}
+use Rattle.run_texts.specs.Runs.{RunsExactly, RunsPart, RunsWhole, TakesTooMany}
 
 -- all clauses of a run
 pub record Promised (to : CaptureTo) (week : Option ℕ) (left left_new written written_new reported reported_new : Option (List ℕ)) (before now : Faults) (result : Result CaptureCounts BridgeFault) : Type 0 where

@@ -16,13 +16,13 @@ use Rattle.bridge_engine.specs.declared.target.CaptureTo.{CaptureTo}
 use Rattle.bridge_engine.specs.declared.counts.CaptureCounts.{CaptureCounts}
 use Rattle.bridge_engine.specs.declared.counts.Tally.{Tally}
 use Rattle.bridge_engine.specs.declared.counts.Said.{Said}
-use Rattle.bridge_engine.specs.declared.fault.BridgeFault.{BridgeFault}
-use Rattle.bridge_engine.specs.declared.fault.BridgeFault.TheVariants.{ReadFault, WriteFault, ReportFault, TooLong, NoMemory, NotThisForm}
+use Rattle.run_texts.specs.declared.fault.BridgeFault.{BridgeFault}
+use Rattle.run_texts.specs.declared.fault.BridgeFault.TheVariants.{ReadFault, WriteFault, ReportFault, TooLong, NoMemory, NotThisForm}
 use Rattle.bridge_engine.specs.Captures.{Capture, accepted_line, back_text, capture_in, capture_of, counts_of, counts_text, front_text, least_output, output_of, periods, report_of_capture, settled_output, settled_text, texts_of}
 use Rattle.bridge_engine.specs.Follows.{Accepts, CaptureBroken, CaptureDone, CapturePart, FollowsAll, FollowsBroken, FollowsEnded, FollowsPart, GivesHead, GivesNoHead, Refuses, no_tally}
 use Rattle.bridge_engine.specs.Notes.{line_report, tallied}
 use Rattle.bridge_engine.specs.Reports.{count_in, is_late, is_malformed, is_refused, is_unused}
-use Rattle.bridge_engine.specs.Runs.{RunsExactly, TakesTooMany}
+use Rattle.run_texts.specs.Runs.{RunsExactly, TakesTooMany}
 use Rattle.bridge_engine.specs.Settled.{said_of, with_counts}
 use Rattle.bridge_engine.proofs.CaptureFronts.{accepts_first, capture_by, capture_lines, known_lines, least_front, least_none, nothing_part, output_is, refuses_first, refuses_none, report_front, report_is, settled_is}
 use Rattle.bridge_engine.proofs.Following.{all_lines, ended_lines}

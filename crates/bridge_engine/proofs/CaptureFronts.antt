@@ -15,7 +15,7 @@ use Rattle.bridge_engine.specs.declared.target.CaptureTo.{CaptureTo}
 use Rattle.bridge_engine.specs.Captures.{Capture, accepted_line, capture_in, capture_of, capture_with, back_text, counts_of, counts_text, front_text, least_output, output_of, periods, report_of_capture, settled_output, settled_periods, settled_text, texts_of, whole_report, whole_text, without_last}
 use Rattle.bridge_engine.specs.Follows.{Accepts, CapturePart, Refuses}
 use Rattle.bridge_engine.specs.Notes.{line_report}
-use Rattle.bridge_engine.specs.Runs.{AppendsBetween, RunsPart}
+use Rattle.run_texts.specs.Runs.{AppendsBetween, RunsPart}
 use Rattle.bridge_engine.proofs.Fronts.{LogLaws, appends_longer, front_behind, front_nil, front_same, front_trans}
 use Rattle.bridge_engine.proofs.LineCounts.{IsFrontOf, front_within, lines_front}
 use Rattle.bridge_engine.proofs.Logs.{known_of, log_more, report_append}

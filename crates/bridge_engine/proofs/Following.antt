@@ -26,7 +26,7 @@ use Rattle.bridge_engine.specs.declared.counts.Said.{Said}
 use Rattle.bridge_engine.specs.Captures.{texts_of}
 use Rattle.bridge_engine.specs.Follows.{Counted, Follows, FollowsAll, FollowsEnded, FollowsPart, no_tally}
 use Rattle.bridge_engine.specs.Notes.{GivesItem, KeepsHalves, Notes, line_report, tallied, total}
-use Rattle.bridge_engine.specs.Runs.{AppendsBetween}
+use Rattle.run_texts.specs.Runs.{AppendsBetween}
 use Rattle.bridge_engine.specs.Settled.{HasRoom, Settled, said_of}
 use Rattle.bridge_engine.proofs.Fronts.{LogLaws, appends_behind, appends_whole, counts_low, front_same, periods_low, written_between, written_closed}
 use Rattle.bridge_engine.proofs.LineCounts.{ended_before, no_lines, no_pieces, recent_ended, recent_lines, recent_within, sum_pieces}

@@ -16,7 +16,7 @@ use Rattle.period_items.specs.Verdicts.{closed_place}
 use Rattle.capture_log.specs.Log.{mark_after, parts_of}
 use Rattle.bridge_engine.specs.declared.target.CaptureTo.{CaptureTo}
 use Rattle.bridge_engine.specs.Captures.{texts_of}
-use Rattle.bridge_engine.specs.Runs.{AppendsBetween}
+use Rattle.run_texts.specs.Runs.{AppendsBetween}
 use Rattle.bridge_engine.proofs.Writing.{texts_front}
 
 -- what is closed by lines, as the log's laws say it

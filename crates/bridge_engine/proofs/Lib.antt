@@ -3,7 +3,6 @@ mod Breakings
 mod CaptureClauses
 mod CaptureEnds
 mod CaptureFronts
-mod Digits
 mod Feeding
 mod Following
 mod FrameEvents

@@ -13,7 +13,7 @@ use Rattle.issue_periods.proofs.Surface.{adding_none, adding_more}
 use Rattle.capture_log.specs.Log.{Noted, parts_in, parts_of_event}
 use Rattle.capture_log.specs.declared.event.Event.{Event}
 use Rattle.bridge_engine.specs.declared.counts.Tally.{Tally}
-use Rattle.bridge_engine.specs.declared.fault.BridgeFault.{BridgeFault}
+use Rattle.run_texts.specs.declared.fault.BridgeFault.{BridgeFault}
 use Rattle.bridge_engine.specs.Reports.{count_in, is_malformed, is_late, is_refused, is_unused}
 use Rattle.bridge_engine.specs.Notes.{Notes, Takes, line_report, tallied}
 

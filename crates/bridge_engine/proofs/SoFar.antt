@@ -6,7 +6,7 @@ use Rattle.std.specs.Io.KnownBytes.{Appends, Consumes, IsAtEnd, Keeps}
 use Rattle.std.proofs.KnownBytes.{Consumes-nil, Consumes-trans, Consumes-kept}
 use Rattle.rtcm_frame.specs.Frames.{frames}
 use Rattle.rtcm_frame.specs.State.{DeframerState, IsSettled}
-use Rattle.bridge_engine.specs.declared.fault.BridgeFault.TheVariants.{ReadFault, WriteFault, TooLong}
+use Rattle.run_texts.specs.declared.fault.BridgeFault.TheVariants.{ReadFault, WriteFault, TooLong}
 use Rattle.bridge_engine.specs.FrameRuns.{Goes, Breaks, RunsWhole, RunsPart}
 use Rattle.bridge_engine.proofs.Goings.{goes_nowhere, goes_on, goes_fed}
 use Rattle.bridge_engine.proofs.Breakings.{front_after, front_of_break, front_of_last}

@@ -21,7 +21,7 @@ use Rattle.issue_periods.proofs.Surface.{Gives, HasValues, gives_start, gives_mo
 use Rattle.bridge_engine.specs.declared.target.CaptureTo.{CaptureTo}
 use Rattle.bridge_engine.specs.declared.counts.Said.{Said}
 use Rattle.bridge_engine.specs.Captures.{period_text, texts_of, verdicts, is_whole, is_partial, is_contradicted, is_nohealth, is_again}
-use Rattle.bridge_engine.specs.Runs.{AppendsBetween}
+use Rattle.run_texts.specs.Runs.{AppendsBetween}
 use Rattle.bridge_engine.specs.Settled.{HasRoom, Settled, said, said_of, total_said}
 
 -- ---- texts of periods

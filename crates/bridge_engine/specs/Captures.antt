@@ -16,8 +16,10 @@ use Rattle.bridge_engine.specs.declared.target.CaptureTo.{CaptureTo}
 use Rattle.bridge_engine.specs.declared.target.CaptureTo.TheVariants.{Rinex, Rtcm, ToList, Count}
 use Rattle.bridge_engine.specs.declared.counts.CaptureCounts.{CaptureCounts}
 use Rattle.bridge_engine.specs.declared.accept.Accepted.{Accepted}
-use Rattle.bridge_engine.specs.Reports.{report_in, count_in, count_line, is_malformed, is_late, is_refused, is_unused}
-use Rattle.bridge_engine.specs.ItemTexts.{item_text, rinex_item, rtcm_item, list_period}
+use Rattle.run_texts.specs.Reports.{count_line}
+use Rattle.bridge_engine.specs.Reports.{report_in, count_in, is_malformed, is_late, is_refused, is_unused}
+use Rattle.run_texts.specs.ItemTexts.{rinex_item, rtcm_item}
+use Rattle.bridge_engine.specs.ItemTexts.{item_text, list_period}
 
 -- the week of a capture: that of the words or that of the first line, where these are not two
 abbrev pub week_for : Option ℕ → Option ℕ → Option ℕ

@@ -15,13 +15,13 @@ use Rattle.capture_log.specs.Log.{items_of, known_from, log_of, mark_after, part
 use Rattle.bridge_engine.specs.declared.target.CaptureTo.{CaptureTo}
 use Rattle.bridge_engine.specs.declared.counts.Tally.{Tally}
 use Rattle.bridge_engine.specs.declared.counts.Said.{Said}
-use Rattle.bridge_engine.specs.declared.fault.BridgeFault.{BridgeFault}
-use Rattle.bridge_engine.specs.declared.fault.BridgeFault.TheVariants.{ReadFault, WriteFault, ReportFault, TooLong, NoMemory, NotThisForm}
+use Rattle.run_texts.specs.declared.fault.BridgeFault.{BridgeFault}
+use Rattle.run_texts.specs.declared.fault.BridgeFault.TheVariants.{ReadFault, WriteFault, ReportFault, TooLong, NoMemory, NotThisForm}
 use Rattle.bridge_engine.specs.declared.counts.CaptureCounts.{CaptureCounts}
 use Rattle.bridge_engine.specs.Captures.{accepted_line, capture_of, counts_of, least_output, output_of, report_of_capture, settled_output, texts_of}
 use Rattle.bridge_engine.specs.declared.accept.Accepted.{Accepted}
 use Rattle.bridge_engine.specs.Notes.{KeepsHalves, line_report, tallied, total}
-use Rattle.bridge_engine.specs.Runs.{AppendsBetween, RunsExactly, RunsPart, RunsWhole, TakesTooMany}
+use Rattle.run_texts.specs.Runs.{AppendsBetween, RunsExactly, RunsPart, RunsWhole, TakesTooMany}
 use Rattle.bridge_engine.specs.Settled.{Settled, said_of}
 
 -- nothing was counted

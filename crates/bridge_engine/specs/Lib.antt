@@ -1,6 +1,5 @@
 pub mod FrameLines
 pub mod FrameRuns
-pub mod Texts
 pub mod Reports
 pub mod ItemTexts
 pub mod Captures

@@ -21,8 +21,8 @@ use Rattle.capture_log.specs.Log.{Noted, parts_in}
 use Rattle.capture_log.specs.declared.event.Event.{Event}
 use Rattle.capture_log.specs.declared.event.Event.TheVariants.{Heard}
 use Rattle.bridge_engine.specs.declared.counts.Tally.{Tally}
-use Rattle.bridge_engine.specs.declared.fault.BridgeFault.{BridgeFault}
-use Rattle.bridge_engine.specs.declared.fault.BridgeFault.TheVariants.{ReportFault, NoMemory}
+use Rattle.run_texts.specs.declared.fault.BridgeFault.{BridgeFault}
+use Rattle.run_texts.specs.declared.fault.BridgeFault.TheVariants.{ReportFault, NoMemory}
 use Rattle.bridge_engine.specs.Reports.{report_in, count_in, is_malformed, is_late, is_refused, is_unused}
 
 -- what a capture's report says of a log

@@ -1,6 +1,7 @@
--- The report: a line for each line of the input that is refused, and the counts.
+-- The report of a capture: a line for each line of the input that is refused, and the counts.
 use Rattle.std.specs.Prelude.{ℕ, List, [], ◌++◌, codes, decimal, map, sum}
 use Rattle.std.specs.List.{flat_map}
+use Rattle.run_texts.specs.Reports.{report_line}
 use Rattle.capture_log.specs.Log.{Noted}
 use Rattle.capture_log.specs.declared.event.Refusal.{Refusal}
 use Rattle.capture_log.specs.declared.event.Refusal.TheVariants as refusals
@@ -17,14 +18,6 @@ refusal_text refusals.Time = codes "time"
 refusal_text refusals.Satellite = codes "satellite"
 refusal_text refusals.Sisa = codes "sisa"
 refusal_text refusals.Short = codes "short"
-
--- the front of a line of a report: what is spoken of, and its number
-abbrev pub report_front : List ℕ → ℕ → List ℕ
-report_front subject number = ((subject ++ codes " ") ++ decimal number) ++ codes " "
-
--- a line of a report: what is spoken of, its number, and the reason
-unfoldable pub report_line : List ℕ → ℕ → List ℕ → List ℕ
-report_line subject number reason = (report_front subject number ++ reason) ++ codes "\n"
 
 -- what a report says of an event: nothing of a part, and of what is not used
 abbrev pub report_of : List ℕ → ℕ → Event → List ℕ
@@ -58,7 +51,3 @@ is_unused _ = 0
 -- how many events of a log are of a kind
 abbrev pub count_in : (Event → ℕ) → List Noted → ℕ
 count_in kind log = sum (map (λ n. kind n.event) log)
-
--- a line of a counts text: a name, a space, the number
-unfoldable pub count_line : List ℕ → ℕ → List ℕ
-count_line name number = ((name ++ codes " ") ++ decimal number) ++ codes "\n"

@@ -12,8 +12,8 @@ use Rattle.bridge_engine.specs.declared.target.CaptureTo.{CaptureTo}
 use Rattle.bridge_engine.specs.declared.counts.CaptureCounts.{CaptureCounts}
 use Rattle.bridge_engine.specs.declared.counts.Tally.{Tally}
 use Rattle.bridge_engine.specs.declared.counts.Said.{Said}
-use Rattle.bridge_engine.specs.declared.fault.BridgeFault.{BridgeFault}
-use Rattle.bridge_engine.specs.declared.fault.BridgeFault.TheVariants.{WriteFault, NoMemory}
+use Rattle.run_texts.specs.declared.fault.BridgeFault.{BridgeFault}
+use Rattle.run_texts.specs.declared.fault.BridgeFault.TheVariants.{WriteFault, NoMemory}
 use Rattle.bridge_engine.specs.Captures.{texts_of, verdicts, is_whole, is_partial, is_contradicted, is_nohealth, is_again}
 
 -- what is said of one period more

@@ -11,7 +11,6 @@ ghost use Rattle.bridge_engine.specs.Notes.{IsReporting, KeepsHalves, Takes, Too
 ghost use Rattle.bridge_engine.specs.Notes.{of_heard, total};
 
 use crate::counts::Tally;
-use crate::fault::BridgeFault;
 use crate::take::{take_event, take_events};
 use capture_log::{Event, Refusal, message_event, subframe_event, word_event};
 use inav_page::{
@@ -25,6 +24,7 @@ use nav_eph::Sat;
 use nav_io::Sink;
 use rtcm_eph::{MessageParts, message_parts, read_message};
 use rtcm_frame::frame_of;
+use run_texts::BridgeFault;
 
 // Takes what a subframe brings.
 pub(crate) fn take_subframe<A: Assembly, U: Sink>(

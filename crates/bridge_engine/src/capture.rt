@@ -6,15 +6,16 @@ ghost use Rattle.std.specs.Io.KnownBytes.{Appends};
 ghost use Rattle.nav_io.specs.Causes.{Rose};
 ghost use Rattle.bridge_engine.specs.Captures.{capture_of, counts_of, least_output, output_of};
 ghost use Rattle.bridge_engine.specs.Captures.{report_of_capture, settled_output};
-ghost use Rattle.bridge_engine.specs.Runs.{HasLeap, RunsExactly, RunsPart, RunsWhole, TakesTooMany};
+ghost use Rattle.bridge_engine.specs.Runs.{HasLeap};
+ghost use Rattle.run_texts.specs.Runs.{RunsExactly, RunsPart, RunsWhole, TakesTooMany};
 
 use crate::counts::CaptureCounts;
-use crate::fault::BridgeFault;
 use crate::follow::follow_capture;
 use crate::outlet::{CountOutlet, ListOutlet, RinexOutlet, RtcmOutlet};
 use crate::target::CaptureTo;
 use gnss_week::RefWeek;
 use nav_io::{Sink, Source};
+use run_texts::BridgeFault;
 use std::alloc::Global;
 
 /// Reads a capture to its end, and writes what it is converted to while it reads.

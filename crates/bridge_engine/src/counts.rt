@@ -1,14 +1,12 @@
 //! What a run over a capture counts.
 
 ghost use Rattle.std.specs.Prelude.{◌≡◌, [], ◌+◌, ◌<◌, ◌≤◌, ◌^◌, ◌++◌, codes, length};
-ghost use Rattle.arrayvec.specs.ArrayVec.{array_vec_len};
-ghost use Rattle.bridge_engine.specs.Reports.{count_line};
 ghost use Rattle.bridge_engine.specs.Captures.{counts_text};
 ghost use Rattle.bridge_engine.specs.Follows.{no_tally};
 ghost use Rattle.bridge_engine.specs.Settled.{said, said_of, total_said, with_counts};
 
-use crate::text::{Text, append, append_decimal};
 use period_items::Verdict;
+use run_texts::{Text, append_count};
 
 /// What a run over a capture counts.
 #[derive(Clone, Copy, Debug, PartialEq, Eq)]
@@ -114,20 +112,6 @@ pub(crate) fn counts_with(lines: u32, tally: &Tally, said: &Said) -> CaptureCoun
         nohealth: said.nohealth,
         again: said.again,
     }
-}
-
-// Appends a line of a counts text: a name of at most 16 bytes, and the number.
-#[tactic(auto, unfolding(crate::specs::Reports::count_line))]
-pub(crate) fn append_count(text: &mut Text, name: &[u8], number: u64)
-    requires name { length name.now ≤ 16 }
-    requires room { array_vec_len text.old + 58 ≤ 640 }
-    ensures items { text.new.items ≡ text.old.items ++ count_line name.now number }
-    ensures short { array_vec_len text.new ≤ array_vec_len text.old + 58 }
-{
-    append(text, name);
-    append(text, b" ");
-    append_decimal(text, number);
-    append(text, b"\n");
 }
 
 /// The text of the counts of a capture: a line for each, its name, a space and the number, in the order of the fields.

@@ -12,7 +12,6 @@ ghost use Rattle.bridge_engine.specs.Follows.{fault_by, faults_of};
 
 use crate::accept::{Accepted, accept};
 use crate::counts::{CaptureCounts, Said, Tally, capture_counts_text, counts_with};
-use crate::fault::BridgeFault;
 use crate::item::{stamp_of_item, take_item};
 use crate::next::next_item;
 use crate::outlet::Outlet;
@@ -21,8 +20,9 @@ use capture_log::{parts_of_lines_are_values, what_is_closed_stays};
 use gnss_week::RefWeek;
 use inav_page::Halves;
 use issue_periods::Assembly;
-use slot_assembly::SlotAssembly;
 use nav_io::{Failed, LineFault, LineKind, Lines, Sink, Source};
+use run_texts::BridgeFault;
+use slot_assembly::SlotAssembly;
 use std::alloc::Global;
 
 // The fault of a run whose lines ended so.

@@ -7,10 +7,10 @@ ghost use Rattle.rtcm_frame.specs.State.{IsSettled, IsWaiting};
 ghost use Rattle.bridge_engine.specs.FrameLines.{line_of};
 ghost use Rattle.bridge_engine.specs.FrameRuns.{output_of, RunsWhole, RunsPart, Goes, Breaks};
 
-use crate::fault::BridgeFault;
 use crate::line::frame_line;
 use nav_io::{Failed, Sink, Source};
 use rtcm_frame::Deframer;
+use run_texts::BridgeFault;
 
 // How many bytes a run takes at most.
 const MOST: u64 = 4_294_967_295;

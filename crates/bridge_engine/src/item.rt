@@ -10,13 +10,13 @@ ghost use Rattle.bridge_engine.specs.Notes.{HasSystem, IsReporting, KeepsHalves,
 
 use crate::bring::{take_frame, take_half, take_subframe};
 use crate::counts::Tally;
-use crate::fault::BridgeFault;
 use crate::take::take_event;
 use capture_lines::LineItem;
 use capture_log::Event;
 use inav_page::Halves;
 use issue_periods::Assembly;
 use nav_io::Sink;
+use run_texts::BridgeFault;
 
 // The stamp of an item, where it has one.
 pub(crate) fn stamp_of_item(item: &LineItem) -> Option<u32>

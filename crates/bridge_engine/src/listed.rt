@@ -2,26 +2,10 @@
 
 ghost use Rattle.std.specs.Prelude.{◌≡◌, ◌+◌, ◌≤◌, ◌++◌, length};
 ghost use Rattle.arrayvec.specs.ArrayVec.{array_vec_len};
-ghost use Rattle.bridge_engine.specs.ItemTexts.{issue_text, key_text, list_period};
-ghost use Rattle.bridge_engine.specs.ItemTexts.{satellite_text, verdict_text};
+ghost use Rattle.bridge_engine.specs.ItemTexts.{key_text, list_period, verdict_text};
 
-use crate::text::{Text, append, append_decimal, append_hex};
-use nav_eph::{Sat, System};
 use period_items::{Closed, Key, Verdict};
-
-// Appends a satellite: the letter of its system, and two digits.
-pub(crate) fn append_satellite(text: &mut Text, sat: Sat)
-    requires { array_vec_len text.old + 3 ≤ 640 }
-    ensures items { text.new.items ≡ text.old.items ++ satellite_text sat }
-    ensures len { array_vec_len text.new ≡ array_vec_len text.old + 3 }
-{
-    let letter = match sat.system() {
-        System::Gps => b'G',
-        System::Gal => b'E',
-    };
-    let number = sat.number();
-    append(text, &[letter, b'0' + number / 10, b'0' + number % 10]);
-}
+use run_texts::{Text, append, append_decimal, append_hex, append_issue};
 
 // Appends what a period is a period of: an ephemeris by its satellite and issue, an ionosphere by
 // the letter of its system and the hexadecimal digits of its content.
@@ -42,18 +26,6 @@ fn append_key(text: &mut Text, key: &Key)
             append_hex(text, 11, content.number());
         }
     }
-}
-
-// Appends an issue of a satellite's ephemeris.
-fn append_issue(text: &mut Text, sat: Sat, issue: u64)
-    requires { array_vec_len text.old + 48 ≤ 640 }
-    ensures items { text.new.items ≡ text.old.items ++ issue_text sat issue }
-    ensures short { array_vec_len text.new ≤ array_vec_len text.old + 48 }
-{
-    append(text, b"EPH ");
-    append_satellite(text, sat);
-    append(text, b" ");
-    append_decimal(text, issue);
 }
 
 // What is said of a period, in a word.

@@ -11,10 +11,10 @@ ghost use Rattle.bridge_engine.specs.Captures.{back_text, front_text, period_tex
 
 use crate::counts::{CaptureCounts, capture_counts_text};
 use crate::listed::period_line;
-use crate::sent::write_message;
 use nav_io::{Failed, Sink};
 use period_items::{Closed, Verdict};
 use rinex_write::{HeaderWords, write_header, write_item};
+use run_texts::write_message;
 
 // Writes what a capture becomes: a text in front, one for each period, and one behind, each by one
 // write.

@@ -2,10 +2,11 @@
 
 ghost use Rattle.std.specs.Prelude.{◌≡◌, ◌+◌, ◌<◌, ◌≤◌, ◌++◌, codes, length};
 ghost use Rattle.arrayvec.specs.ArrayVec.{array_vec_len};
-ghost use Rattle.bridge_engine.specs.Reports.{refusal_text, report_front as front_of, report_line};
+ghost use Rattle.run_texts.specs.Reports.{report_front as front_of, report_line};
+ghost use Rattle.bridge_engine.specs.Reports.{refusal_text};
 
-use crate::text::{Text, append, append_decimal};
 use capture_log::Refusal;
+use run_texts::{Text, append, append_decimal, report_front};
 
 // Appends why something is refused.
 fn append_refusal(text: &mut Text, refusal: &Refusal)
@@ -28,35 +29,8 @@ fn append_refusal(text: &mut Text, refusal: &Refusal)
     }
 }
 
-// The front of a line of a report: what is spoken of, and its number.
-fn report_front(subject: &[u8], number: u64) -> Text
-    requires { length subject.now ≤ 16 }
-    ensures items { result.items ≡ front_of subject.now number }
-    ensures short { array_vec_len result ≤ 58 }
-{
-    let mut text = Text::new();
-    append(&mut text, subject);
-    append(&mut text, b" ");
-    append_decimal(&mut text, number);
-    append(&mut text, b" ");
-    text
-}
-
-/// A line of a report: what is spoken of, as `line` or `frame`, its number, and the reason in a word.
-#[tactic(auto, unfolding(crate::specs::Reports::report_line))]
-pub(crate) fn report_text(subject: &[u8], number: u64, reason: &[u8]) -> Text
-    requires subject { length subject.now ≤ 16 }
-    requires reason { length reason.now ≤ 32 }
-    ensures { result.items ≡ report_line subject.now number reason.now }
-{
-    let mut text = report_front(subject, number);
-    append(&mut text, reason);
-    append(&mut text, b"\n");
-    text
-}
-
 /// A line of a report on something that is refused.
-#[tactic(auto, unfolding(crate::specs::Reports::report_line))]
+#[tactic(auto, unfolding(run_texts::specs::Reports::report_line))]
 pub(crate) fn refused_text(subject: &[u8], number: u64, refusal: &Refusal) -> Text
     requires { length subject.now ≤ 16 }
     ensures { result.items ≡ report_line subject.now number (refusal_text refusal.now) }

@@ -5,14 +5,14 @@ ghost use Rattle.nav_eph.specs.declared.part.Part.{Part};
 ghost use Rattle.period_items.specs.PeriodsOf.{closed_of};
 ghost use Rattle.issue_periods.specs.Standing.{Stood};
 ghost use Rattle.bridge_engine.specs.Captures.{texts_of};
-ghost use Rattle.bridge_engine.specs.Runs.{AppendsBetween};
+ghost use Rattle.run_texts.specs.Runs.{AppendsBetween};
 ghost use Rattle.bridge_engine.specs.Settled.{HasRoom, IsWriting, Settled};
 
 use crate::counts::Said;
-use crate::fault::BridgeFault;
 use crate::outlet::Outlet;
 use issue_periods::Assembly;
 use nav_io::{Failed, Sink};
+use run_texts::BridgeFault;
 
 // Writes each period that is closed at the mark and was not written yet, and counts what is said of
 // it.

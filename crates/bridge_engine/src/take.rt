@@ -10,11 +10,11 @@ ghost use Rattle.bridge_engine.specs.Notes.{AreFrom, IfHeard, IsReporting, Takes
 ghost use Rattle.bridge_engine.specs.Notes.{total, weight, weights};
 
 use crate::counts::Tally;
-use crate::fault::BridgeFault;
-use crate::report::{refused_text, report_text};
+use crate::report::refused_text;
 use capture_log::Event;
 use issue_periods::Assembly;
 use nav_io::{Failed, Sink};
+use run_texts::{BridgeFault, report_text};
 
 // Writes a line of the report, by one write.
 fn write_line<U: Sink>(line: &[u8], report: &mut U) -> Result<(), BridgeFault>

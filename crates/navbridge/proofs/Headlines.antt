@@ -11,7 +11,8 @@ use Rattle.period_items.specs.declared.closed.Verdict.TheVariants.{Whole, Partia
 use Rattle.rinex_write.specs.Texts.{header_lines, item_lines, rinex_text, text_of}
 use Rattle.rinex_write.specs.declared.header.HeaderWords.{HeaderWords}
 use Rattle.bridge_engine.specs.Captures.{Capture, capture_of, items, output_of, periods, texts_of, whole_text}
-use Rattle.bridge_engine.specs.ItemTexts.{item_text, rinex_item}
+use Rattle.bridge_engine.specs.ItemTexts.{item_text}
+use Rattle.run_texts.specs.ItemTexts.{rinex_item}
 use Rattle.bridge_engine.specs.declared.target.CaptureTo.TheVariants.{Rinex}
 
 -- the text of lines and of more behind them

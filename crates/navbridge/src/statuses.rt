@@ -9,7 +9,7 @@ ghost use Rattle.rinex_write.specs.declared.header.HeaderWords.{HeaderWords};
 ghost use Rattle.bridge_engine.specs.Captures.{Capture, capture_of, items, least_output, output_of as text_of_capture, report_of_capture, settled_output};
 ghost use Rattle.bridge_engine.specs.FrameLines.{line_of};
 ghost use Rattle.bridge_engine.specs.FrameRuns.{output_of, RunsPart};
-ghost use Rattle.bridge_engine.specs.Runs.{RunsExactly, RunsPart as CapturePart, TakesTooMany};
+ghost use Rattle.run_texts.specs.Runs.{RunsExactly, RunsPart as CapturePart, TakesTooMany};
 ghost use Rattle.bridge_engine.specs.declared.target.CaptureTo.TheVariants.{Rinex};
 ghost use Rattle.navbridge.specs.Job.{IsJob, GivesJob};
 ghost use Rattle.navbridge.specs.CaptureJobs.{IsCaptureJob, GivesCaptureJob};

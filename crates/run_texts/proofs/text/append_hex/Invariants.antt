@@ -1,7 +1,7 @@
 use Rattle.std.proofs.Common.{◌≡◌, ◌+◌, ◌≤◌, ◌++◌}
 use Rattle.arrayvec.specs.ArrayVec.{array_vec_len}
-use Rattle.bridge_engine.specs.Texts.{hex_digits}
-use Rattle.bridge_engine.proofs.text.append_hex.Given as goal
+use Rattle.run_texts.specs.Texts.{hex_digits}
+use Rattle.run_texts.proofs.text.append_hex.Given as goal
 
 abbrev pub invariant-loop-left : goal.invariant-loop-left
 invariant-loop-left l = record {

@@ -2,7 +2,7 @@
 use Rattle.std.proofs.Common.{◌≡◌, ℕ, zero, suc, ◌+◌, ◌*◌, ◌/◌, ◌%◌, ◌^◌, ◌-◌, ◌<◌, List, [], ◌∷◌, ◌++◌, append_assoc, refl, sym, ap, add-one, ◌∙◌, arith}
 use Rattle.std.specs.Int.Bits.{bit_and}
 use Rattle.std.proofs.lemmas.Nat.{and_mask, pow-add}
-use Rattle.bridge_engine.specs.Texts.{hex_digit_of, hex_digits}
+use Rattle.run_texts.specs.Texts.{hex_digit_of, hex_digits}
 
 pub hex_digits-none : (number k : ℕ) → k ≡ 0 → hex_digits k number ≡ []
 unfolding hex_digits

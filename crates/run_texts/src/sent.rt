@@ -5,7 +5,7 @@ ghost use Rattle.std.specs.Io.KnownBytes.{Appends};
 ghost use Rattle.nav_io.specs.Causes.{HasCause};
 ghost use Rattle.nav_io.specs.Front.{AppendsFront};
 ghost use Rattle.rtcm_frame.specs.Writing.{frame_bytes};
-ghost use Rattle.bridge_engine.specs.ItemTexts.{rtcm_item};
+ghost use Rattle.run_texts.specs.ItemTexts.{rtcm_item};
 
 use arrayvec::ArrayVec;
 use nav_eph::NavItem;
@@ -16,7 +16,7 @@ use rtcm_frame::write_frame;
 /// Appends the frame of an ephemeris to a sink, by one write: message 1019 or 1046 (RTCM 10403.3,
 /// 3.5). Nothing is written of an ionosphere.
 #[tactic(auto, unfolding(crate::specs::ItemTexts::rtcm_item))]
-pub(crate) fn write_message<T: Sink>(item: &NavItem, out: &mut T) -> Result<(), Failed>
+pub fn write_message<T: Sink>(item: &NavItem, out: &mut T) -> Result<(), Failed>
     ensures bytes { MatchResult result
         (λ _. Appends (T.written out.old) (T.written out.new) (rtcm_item item.now))
         (λ _. AppendsFront (T.written out.old) (T.written out.new) (rtcm_item item.now)) }

@@ -2,19 +2,19 @@
 
 ghost use Rattle.std.specs.Prelude.{◌≡◌, ◌+◌, ◌^◌, ◌<◌, ◌≤◌, ◌++◌, length, decimal};
 ghost use Rattle.arrayvec.specs.ArrayVec.{array_vec_len};
-ghost use Rattle.bridge_engine.specs.Texts.{hex_digit_of, hex_digits};
+ghost use Rattle.run_texts.specs.Texts.{hex_digit_of, hex_digits};
 
 use arrayvec::ArrayVec;
 use itoa::Buffer;
 
-// How many bytes a text has room for.
-pub(crate) const ROOM: usize = 640;
+/// How many bytes a text has room for.
+pub const ROOM: usize = 640;
 
 /// A text of at most 640 bytes.
-pub(crate) type Text = ArrayVec<u8, ROOM>;
+pub type Text = ArrayVec<u8, ROOM>;
 
-// Appends a piece, for which there is room.
-pub(crate) fn append(text: &mut Text, piece: &[u8])
+/// Appends a piece, for which there is room.
+pub fn append(text: &mut Text, piece: &[u8])
     requires { array_vec_len text.old + length piece.now ≤ 640 }
     ensures items { text.new.items ≡ text.old.items ++ piece.now }
     ensures len { array_vec_len text.new ≡ array_vec_len text.old + length piece.now }
@@ -24,8 +24,8 @@ pub(crate) fn append(text: &mut Text, piece: &[u8])
     }
 }
 
-// Appends the decimal digits of a number.
-pub(crate) fn append_decimal(text: &mut Text, number: u64)
+/// Appends the decimal digits of a number.
+pub fn append_decimal(text: &mut Text, number: u64)
     requires { array_vec_len text.old + 40 ≤ 640 }
     ensures items { text.new.items ≡ text.old.items ++ decimal number }
     ensures short { array_vec_len text.new ≤ array_vec_len text.old + 40 }
@@ -46,8 +46,8 @@ fn hex_digit(value: u64) -> u8
     }
 }
 
-// Appends the last so many hexadecimal digits of a number, at most 16.
-pub(crate) fn append_hex(text: &mut Text, count: u32, number: u64)
+/// Appends the last so many hexadecimal digits of a number, at most 16.
+pub fn append_hex(text: &mut Text, count: u32, number: u64)
     requires count { count ≤ 16 }
     requires room { array_vec_len text.old + count ≤ 640 }
     ensures items { text.new.items ≡ text.old.items ++ hex_digits count number }

@@ -1,7 +1,7 @@
 use Rattle.std.proofs.Common.{◌≡◌, ℕ, List, [], ◌∷◌, ◌-◌, ◌++◌, sym, ap, ◌∙◌, append-nil, arith}
-use Rattle.bridge_engine.specs.Texts.{hex_digits}
-use Rattle.bridge_engine.proofs.Digits.{hex_digits-none, hex_digits_one}
-use Rattle.bridge_engine.proofs.text.append_hex.Goals as goal
+use Rattle.run_texts.specs.Texts.{hex_digits}
+use Rattle.run_texts.proofs.Digits.{hex_digits-none, hex_digits_one}
+use Rattle.run_texts.proofs.text.append_hex.Goals as goal
 
 pub loop-left-preserved : goal.loop-left-preserved
 loop-left-preserved c = record {

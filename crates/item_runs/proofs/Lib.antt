@@ -1,0 +1,5 @@
+mod RecordLemmas
+mod FileLemmas
+mod AlikeLemmas
+mod StreamLemmas
+mod WholeLemmas

@@ -1,0 +1,25 @@
+use Rattle.std.proofs.Common.{◌≡◌, refl, sym, ap, ◌∙◌}
+use Rattle.rtcm_eph.specs.Reading.{item_in}
+use Rattle.rtcm_frame.specs.State.{payload_of}
+use Rattle.item_runs.proofs.AlikeLemmas.{Laws, looked_for}
+use Rattle.item_runs.proofs.StreamLemmas.{broke_fault, broke_item, on_err1, on_ok2, on_ok3, so_far_fault, so_far_item}
+use Rattle.item_runs.proofs.frames.take_frame.Goals as goal
+
+pub returns-in-Ok-clause-goes : goal.returns-in-Ok-clause-goes
+returns-in-Ok-clause-goes g c =
+    let reference = c.value-reference.ensures.fits in
+    let laws : Laws c.args.r = record {
+      gives = λ payload. c.item_function.ensures.answer c.args.r payload ?;
+      whole = λ payload. c.item_function.ensures.whole c.args.r payload ?;
+      fields_gps = c.message_bytes.ensures.fields_1019;
+      fields_gal = c.message_bytes.ensures.fields_1046;
+      size_gps = c.message_bytes.ensures.size_1019;
+      size_gal = c.message_bytes.ensures.size_1046;
+      read_gps = c.sent_1019_is_read.ensures;
+      read_gal = c.sent_1046_is_read.ensures;
+      decides = c.equality_is_decided.ensures.items;
+    } in
+    let is = ap (item_in c.args.r) (sym c.payload.ensures.value) ∙ sym c.read_item.ensures.answer ∙ c.in-Ok.is in
+    on_ok3 c.give_item.result c.give_item.ensures.output c.give_item.ensures.counts c.give_item.ensures.given
+    (λ output counts adds past start begun far.
+    so_far_item c.args.r _ _ past c.args.frame.now c.in-Ok.item _ _ _ _ _ _ _ _ _ _ is refl (looked_for c.args.r past (payload_of c.args.frame.now) c.in-Ok.item laws is) far output counts adds)

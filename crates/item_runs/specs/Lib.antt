@@ -1,0 +1,4 @@
+pub mod Targets
+pub mod Streams
+pub mod Files
+pub mod Mirrors

@@ -1,0 +1,231 @@
+-- A stream and a file while they are read. Private functions cite these.
+use Rattle.std.specs.Prelude.{◌≡◌, ◌+◌, ◌^◌, ◌<◌, ◌≤◌, ◌||◌, ◌⊎◌, ℕ, Bool, true, false, if◌then◌else◌, List, [], ◌∷◌, ◌++◌, length, Option, Result, Ok, Err}
+use Rattle.std.specs.List.{flat_map}
+use Rattle.std.specs.Ordering.{nat_cmp}
+use Rattle.std.specs.Cmp.Lexicographic.{slice_cmp}
+use Rattle.std.specs.BTreeSet.{BTreeSet, contains}
+use Rattle.std.specs.BTreeMap.{is_at}
+use Rattle.std.specs.Io.KnownBytes.{Appends, Consumes, IsAtEnd}
+use Rattle.nav_io.specs.Front.{AppendsFront}
+use Rattle.nav_eph.specs.declared.items.NavItem.{NavItem}
+use Rattle.nav_eph.specs.declared.items.NavItem.TheVariants.{Gps, Gal, Ion}
+use Rattle.rtcm_eph.specs.Writing.{bytes_1019, bytes_1046}
+use Rattle.rtcm_eph.specs.declared.fault.MessageFault.{MessageFault}
+use Rattle.rtcm_eph.specs.declared.fault.MessageFault.TheVariants.{NoNumber, OtherMessage, Short, BadSat, BadTime, SpareSisa}
+use Rattle.rtcm_frame.specs.Frames.{frames}
+use Rattle.rinex_read.specs.Forms.{Form}
+use Rattle.nav_io.specs.declared.lines.LineFault.TheVariants as lines
+use Rattle.rinex_read.specs.States.{RecordsState, HeaderSteps, Steps, BreaksRecord, lines_left}
+use Rattle.rinex_read.specs.declared.judged.HeaderState.TheVariants.{NotRinexNav, OtherVersion}
+use Rattle.rinex_read.specs.declared.judged.ItemRead.{ItemRead}
+use Rattle.rinex_read.specs.declared.judged.ItemRead.TheVariants.{Item, Refused, PassedOver, End}
+use Rattle.run_texts.specs.declared.fault.BridgeFault.{BridgeFault}
+use Rattle.run_texts.specs.declared.fault.BridgeFault.TheVariants.{ReadFault, WriteFault, ReportFault, NotThisForm, TooLong, NoMemory}
+use Rattle.item_runs.specs.declared.counts.RinexCounts.{RinexCounts}
+use Rattle.item_runs.specs.declared.counts.StreamCounts.{StreamCounts}
+use Rattle.item_runs.specs.Files.{read_text, read_report, counts_of_reads, is_refused, is_passed, is_item}
+use Rattle.item_runs.specs.Streams.{readings, items_in, readings_output, readings_report, counts_of_readings}
+
+-- ---- files
+
+-- a record, and not the end
+abbrev pub IsRecord : ItemRead → Type 0
+IsRecord (Item line item) = Unit {0}
+IsRecord (Refused line reason) = Unit {0}
+IsRecord (PassedOver line) = Unit {0}
+IsRecord End = ⊥
+
+-- the counts with a record more
+abbrev pub counted : RinexCounts → ItemRead → RinexCounts
+counted c read = record {
+  records = c.records + 1;
+  refused = c.refused + is_refused read;
+  passed = c.passed + is_passed read;
+  items = c.items + is_item read;
+}
+
+-- the records that were counted are those of the three kinds
+abbrev pub AreCounted : RinexCounts → Type 0
+AreCounted c = c.refused + c.passed + c.items ≡ c.records
+
+-- These records were given by the reader, what they give was written and reported, and they were counted.
+pub record FollowsReads (f : Form) (text : ℕ → NavItem → List ℕ) (left left_new : Option (List ℕ)) (old new : RecordsState) (written written_new reported reported_new : Option (List ℕ)) (counts : RinexCounts) : Type 0 where
+  pub given : List ItemRead
+  pub steps : Steps f left left_new old new given
+  pub output : Appends written written_new (flat_map (read_text text) given)
+  pub report : Appends reported reported_new (flat_map read_report given)
+  pub counts_are : counts ≡ counts_of_reads given
+  pub few : length given + lines_left new ≤ lines_left old
+
+-- The same to the end of the file.
+pub record FollowsAll (f : Form) (text : ℕ → NavItem → List ℕ) (left left_new : Option (List ℕ)) (old new : RecordsState) (written written_new reported reported_new : Option (List ℕ)) (counts : RinexCounts) : Type 0 where
+  pub given : List ItemRead
+  pub steps : Steps f left left_new old new given
+  pub output : Appends written written_new (flat_map (read_text text) given)
+  pub report : Appends reported reported_new (flat_map read_report given)
+  pub counts_are : counts ≡ counts_of_reads given
+  pub kept : new.kept ≡ []
+  pub rest : new.lines.rest ≡ []
+  pub ended : new.lines.ended ≡ true
+  pub low : new.lines.taken < 2 ^ 32
+
+-- These records were given by the reader, and of what they give a front was written and reported.
+pub record FollowsPart (f : Form) (text : ℕ → NavItem → List ℕ) (left left_new : Option (List ℕ)) (old new : RecordsState) (written written_new reported reported_new : Option (List ℕ)) (fault : BridgeFault) : Type 0 where
+  pub given : List ItemRead
+  pub steps : Steps f left left_new old new given
+  pub output : AppendsFront written written_new (flat_map (read_text text) given)
+  pub report : AppendsFront reported reported_new (flat_map read_report given)
+  pub too_long : fault ≡ TooLong → new.lines.taken ≡ 2 ^ 32
+
+-- how the header was left at a fault
+abbrev pub HeaderFaultOf : BridgeFault → RecordsState → Type 0
+HeaderFaultOf ReadFault new = Unit {0}
+HeaderFaultOf TooLong new = new.lines.taken ≡ 2 ^ 32
+HeaderFaultOf NotThisForm new = (new.header ≡ NotRinexNav) ⊎ (new.header ≡ OtherVersion)
+HeaderFaultOf _ new = ⊥
+
+-- How the reader breaks off behind the header.
+abbrev pub BreaksRead : Form → Option (List ℕ) → Option (List ℕ) → RecordsState → RecordsState → BridgeFault → Type 0
+BreaksRead f left left_new old new ReadFault = BreaksRecord f left left_new old new lines.ReadFault
+BreaksRead f left left_new old new TooLong = BreaksRecord f left left_new old new lines.TooLong
+BreaksRead f left left_new old new _ = ⊥
+
+-- The header is refused, whatever bytes follow, or the reader breaks off in it.
+pub record NoHeader (f : Form) (left left_new : Option (List ℕ)) (old new : RecordsState) (fault : BridgeFault) : Type 0 where
+  pub steps : HeaderSteps f left left_new old new
+  pub by : HeaderFaultOf fault new
+
+-- the faults of a run behind the header of a file
+abbrev pub IsFileFault : BridgeFault → Type 0
+IsFileFault ReadFault = Unit {0}
+IsFileFault WriteFault = Unit {0}
+IsFileFault ReportFault = Unit {0}
+IsFileFault TooLong = Unit {0}
+IsFileFault _ = ⊥
+
+-- ---- streams
+
+-- what was given of a stream: the messages of its ephemerides, of GPS and of Galileo
+pub record GivenState : Type 0 where
+  pub gps : BTreeSet (List ℕ)
+  pub gal : BTreeSet (List ℕ)
+
+-- whether a set has a message
+abbrev pub has_key : BTreeSet (List ℕ) → List ℕ → Bool
+has_key set message = contains (slice_cmp nat_cmp) set message
+
+-- the set has this message as well, and no other one more
+abbrev pub AddsKey : BTreeSet (List ℕ) → BTreeSet (List ℕ) → List ℕ → Type 0
+AddsKey old new message =
+    (other : List ℕ) → has_key new other ≡ (is_at (slice_cmp nat_cmp message) other || has_key old other)
+
+-- whether an ephemeris was given, by the message that is sent for it
+abbrev pub is_given : GivenState → NavItem → Bool
+is_given s (Gps e) = has_key s.gps (bytes_1019 e)
+is_given s (Gal e) = has_key s.gal (bytes_1046 e)
+is_given s (Ion e) = false
+
+-- two ephemerides for which the same message is sent
+abbrev pub sent_alike : NavItem → NavItem → Bool
+sent_alike (Gps a) (Gps b) = is_at (slice_cmp nat_cmp (bytes_1019 a)) (bytes_1019 b)
+sent_alike (Gal a) (Gal b) = is_at (slice_cmp nat_cmp (bytes_1046 a)) (bytes_1046 b)
+sent_alike _ _ = false
+
+-- whether one of the items is sent as this one is
+abbrev pub any_alike : List NavItem → NavItem → Bool
+any_alike [] item = false
+any_alike (i ∷ is) item = sent_alike i item || any_alike is item
+
+-- the text of an item, where it was not given before
+abbrev pub once_text : (NavItem → List ℕ) → Bool → NavItem → List ℕ
+once_text text before item = if before then [] else text item
+
+-- the counts with a frame more that is refused, or that is not used
+abbrev pub with_refusal : StreamCounts → StreamCounts
+with_refusal c = record { frames = c.frames + 1; refused = c.refused + 1; unused = c.unused; items = c.items }
+
+abbrev pub with_unused : StreamCounts → StreamCounts
+with_unused c = record { frames = c.frames + 1; refused = c.refused; unused = c.unused + 1; items = c.items }
+
+abbrev pub with_fault : StreamCounts → MessageFault → StreamCounts
+with_fault c NoNumber = with_unused c
+with_fault c (OtherMessage other) = with_unused c
+with_fault c Short = with_refusal c
+with_fault c BadSat = with_refusal c
+with_fault c BadTime = with_refusal c
+with_fault c SpareSisa = with_refusal c
+
+-- the counts with a frame more that brings an item, which was given before or was not
+abbrev pub with_item : StreamCounts → Bool → StreamCounts
+with_item c before = record {
+  frames = c.frames + 1;
+  refused = c.refused;
+  unused = c.unused;
+  items = if before then c.items else c.items + 1;
+}
+
+-- Of these frames, the first ones of a stream, what they give was written, reported, counted and kept.
+pub record StreamSoFar (r : ℕ) (front : List ℕ) (text : NavItem → List ℕ) (past : List (List ℕ)) (written written_new reported reported_new : Option (List ℕ)) (given : GivenState) (counts : StreamCounts) : Type 0 where
+  pub output : Appends written written_new (readings_output front text (readings r past))
+  pub report : Appends reported reported_new (readings_report 1 (readings r past))
+  pub counts_are : counts ≡ counts_of_readings (readings r past)
+  pub holds : (other : NavItem) → is_given given other ≡ any_alike (items_in (readings r past)) other
+
+-- Of what these frames give a front was written and reported.
+pub record StreamBroke (r : ℕ) (front : List ℕ) (text : NavItem → List ℕ) (past : List (List ℕ)) (written written_new reported reported_new : Option (List ℕ)) : Type 0 where
+  pub output : AppendsFront written written_new (readings_output front text (readings r past))
+  pub report : AppendsFront reported reported_new (readings_report 1 (readings r past))
+
+-- These frames come behind others that were taken, and are taken.
+abbrev pub StreamGoes : ℕ → List ℕ → (NavItem → List ℕ) → List (List ℕ) → Option (List ℕ) → Option (List ℕ) → Option (List ℕ) → Option (List ℕ) → GivenState → GivenState → StreamCounts → StreamCounts → Type 0
+StreamGoes r front text more written written_new reported reported_new given given_new counts counts_new =
+    (past : List (List ℕ)) (start begun : Option (List ℕ)) → StreamSoFar r front text past start written begun reported given counts
+    → StreamSoFar r front text (past ++ more) start written_new begun reported_new given_new counts_new
+
+-- These frames come behind others that were taken, and the last of them is not taken to its end.
+abbrev pub StreamBreaks : ℕ → List ℕ → (NavItem → List ℕ) → List (List ℕ) → Option (List ℕ) → Option (List ℕ) → Option (List ℕ) → Option (List ℕ) → GivenState → StreamCounts → Type 0
+StreamBreaks r front text more written written_new reported reported_new given counts =
+    (past : List (List ℕ)) (start begun : Option (List ℕ)) → StreamSoFar r front text past start written begun reported given counts
+    → StreamBroke r front text (past ++ more) start written_new begun reported_new
+
+-- Between two rests of bytes these frames are given and taken, which stand before those of the new rest, whatever bytes follow.
+pub record StreamMoves (r : ℕ) (front : List ℕ) (text : NavItem → List ℕ) (more : Bool) (before after : List ℕ) (written written_new reported reported_new : Option (List ℕ)) (given given_new : GivenState) (counts counts_new : StreamCounts) : Type 0 where
+  pub frames_are : List (List ℕ)
+  pub stream : (following : List ℕ) → (more ≡ false → following ≡ []) → frames (before ++ following) ≡ frames_are ++ frames (after ++ following)
+  pub goes : StreamGoes r front text frames_are written written_new reported reported_new given given_new counts counts_new
+
+-- Of these bytes frames are given, and the last of them is not taken to its end, whatever bytes follow.
+pub record StreamStops (r : ℕ) (front : List ℕ) (text : NavItem → List ℕ) (more : Bool) (before : List ℕ) (written written_new reported reported_new : Option (List ℕ)) (given : GivenState) (counts : StreamCounts) : Type 0 where
+  pub frames_are : List (List ℕ)
+  pub stream : (following : List ℕ) → (more ≡ false → following ≡ []) → (rest : List (List ℕ)) × (frames (before ++ following) ≡ frames_are ++ rest)
+  pub breaks : StreamBreaks r front text frames_are written written_new reported reported_new given counts
+
+-- The whole input was taken, and its frames.
+pub record StreamAll (r : ℕ) (front : List ℕ) (text : NavItem → List ℕ) (left left_new written written_new reported reported_new : Option (List ℕ)) (given given_new : GivenState) (counts counts_new : StreamCounts) : Type 0 where
+  pub taken : List ℕ
+  pub consumes : Consumes left left_new taken
+  pub end : IsAtEnd left_new
+  pub fits : length taken < 2 ^ 32
+  pub moves : StreamMoves r front text false taken [] written written_new reported reported_new given given_new counts counts_new
+
+-- These bytes were taken, and of what their frames give a front was written and reported.
+pub record StreamPart (r : ℕ) (front : List ℕ) (text : NavItem → List ℕ) (left left_new written written_new reported reported_new : Option (List ℕ)) (given : GivenState) (counts : StreamCounts) (fault : BridgeFault) : Type 0 where
+  pub taken : List ℕ
+  pub consumes : Consumes left left_new taken
+  pub stops : StreamStops r front text false taken written written_new reported reported_new given counts
+  pub too_long : fault ≡ TooLong → length taken ≡ 2 ^ 32
+
+-- no more frames were counted than there are
+abbrev pub AreFew : StreamCounts → Type 0
+AreFew c = c.refused + c.unused + c.items ≤ c.frames
+
+-- the counts of a stream have room for a frame more
+abbrev pub HasRoom : StreamCounts → Type 0
+HasRoom c = AreFew c × (c.frames + 1 < 2 ^ 64)
+
+-- the faults of taking a frame
+abbrev pub IsStreamFault : BridgeFault → Type 0
+IsStreamFault WriteFault = Unit {0}
+IsStreamFault ReportFault = Unit {0}
+IsStreamFault NoMemory = Unit {0}
+IsStreamFault _ = ⊥

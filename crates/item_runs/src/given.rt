@@ -1,0 +1,76 @@
+//! What was given of a stream, so that each item is given at its first place only.
+
+ghost use Rattle.std.specs.Prelude.{◌≡◌, ◌||◌, not, false, ℕ, List, OnOk, OnErr, IfOk};
+ghost use Rattle.std.specs.BTreeSet.{BTreeSet, contains};
+ghost use Rattle.nav_eph.specs.declared.items.NavItem.{NavItem};
+ghost use Rattle.rtcm_eph.specs.Writing.{bytes_1019, bytes_1046};
+ghost use Rattle.item_runs.specs.Mirrors.{AddsKey, has_key, is_given, sent_alike};
+
+use nav_eph::NavItem;
+use rtcm_eph::{write_1019, write_1046};
+use std::alloc::{AllocError, Global};
+use std::collections::BTreeSet;
+use std::marker::Model;
+
+// The messages of the ephemerides that were given, each once. Two ephemerides of a stream are equal where the same message
+// is sent for them.
+#[derive(Drop)]
+pub(crate) struct Given {
+    gps: BTreeSet<[u8; 61], Global>,
+    gal: BTreeSet<[u8; 63], Global>,
+}
+
+impl Model for Given {
+    ghost use Rattle.item_runs.specs.Mirrors.{GivenState};
+
+    ghost Value = { GivenState };
+
+    ghost view = { λ g. record { gps = g.gps; gal = g.gal } };
+}
+
+// Adds a message of 61 bytes; whether it was not there.
+fn add_gps(set: &mut BTreeSet<[u8; 61], Global>, message: [u8; 61]) -> Result<bool, AllocError>
+    ensures added { IfOk result (λ added. added ≡ not (has_key set.old message)) }
+    ensures adds { OnOk result (AddsKey set.old set.new message) }
+{
+    match set.insert(message) {
+        Ok(added) => Ok(added),
+        Err(_) => Err(AllocError),
+    }
+}
+
+// Adds a message of 63 bytes; whether it was not there.
+fn add_gal(set: &mut BTreeSet<[u8; 63], Global>, message: [u8; 63]) -> Result<bool, AllocError>
+    ensures added { IfOk result (λ added. added ≡ not (has_key set.old message)) }
+    ensures adds { OnOk result (AddsKey set.old set.new message) }
+{
+    match set.insert(message) {
+        Ok(added) => Ok(added),
+        Err(_) => Err(AllocError),
+    }
+}
+
+impl Given {
+    // Nothing was given.
+    pub(crate) fn new(alloc: Global) -> Given
+        ensures { (other : NavItem) → is_given result other ≡ false }
+    {
+        Given {
+            gps: BTreeSet::new(alloc),
+            gal: BTreeSet::new(alloc),
+        }
+    }
+
+    // Adds an item by the message that is sent for it; whether that was not there.
+    pub(crate) fn add(&mut self, item: &NavItem) -> Result<bool, AllocError>
+        ensures added { IfOk result (λ added. added ≡ not (is_given self.old item.now)) }
+        ensures adds { OnOk result ((other : NavItem)
+            → is_given self.new other ≡ (sent_alike item.now other || is_given self.old other)) }
+    {
+        match item {
+            NavItem::Gps(e) => add_gps(&mut self.gps, *write_1019(e).bytes()),
+            NavItem::Gal(e) => add_gal(&mut self.gal, *write_1046(e).bytes()),
+            NavItem::Ion(_) => Ok(true),
+        }
+    }
+}

@@ -1,0 +1,5 @@
+pub mod Texts
+pub mod Reports
+pub mod ItemTexts
+pub mod Runs
+pub mod Causes
