@@ -1,5 +1,5 @@
 -- What is kept after a change, and that the index stays one.
-use Rattle.std.proofs.Common.{◌≡◌, ℕ, ◌<◌, ◌≤◌, inl, inr, Bool, true, false, cond, List, Option, None, Some, IsSome, IsTrue, refl, sym, ap, subst, ◌∙◌, arith}
+use Rattle.std.proofs.Common.{◌≡◌, ℕ, ◌<◌, ◌≤◌, Bool, true, false, cond, List, Option, None, Some, IsSome, IsTrue, refl, sym, ap, subst, ◌∙◌}
 use Rattle.std.specs.List.{list_any}
 use Rattle.std.specs.List.Sorted.{IsStrictlySortedBy}
 use Rattle.std.specs.Ordering.{is_gt}
@@ -12,9 +12,9 @@ use Rattle.slot_assembly.specs.declared.order.ByKey.{ByKey}
 use Rattle.slot_assembly.specs.declared.slot.Slot.{Slot}
 use Rattle.slot_assembly.specs.contracts.order.ByEndOrd.TheImpl.{cmp-value as end_cmp}
 use Rattle.slot_assembly.specs.contracts.order.ByKeyOrd.TheImpl.{cmp-value as key_cmp}
-use Rattle.slot_assembly.specs.Order.{rank_of, by_end, by_key}
-use Rattle.slot_assembly.specs.Slots.{kept_at, at_of, IsOpen, HasEnd, AreIndexed, IsChanged, IsFirstSlot, IsFirstFrom, IsFirstOpen}
-use Rattle.slot_assembly.proofs.RankOrder.{same_at, at_is, is_at_own, not_before, not_sooner}
+use Rattle.slot_assembly.specs.Order.{by_end, by_key}
+use Rattle.slot_assembly.specs.Slots.{kept_at, at_of, IsOpen, HasEnd, AreIndexed, IsChanged, IsFirstFrom, IsFirstOpen}
+use Rattle.slot_assembly.proofs.RankOrder.{same_at, not_before, not_sooner}
 
 -- what stands after something was taken out stood there before
 some_left : {X : Type 0} (b : Bool) (n o : Option X) (x : X) → n ≡ cond b None o → n ≡ Some x → (b ≡ false) × (o ≡ Some x)

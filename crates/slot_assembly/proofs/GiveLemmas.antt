@@ -1,23 +1,20 @@
 -- What is given next, and what the assembly stands for then.
-use Rattle.std.proofs.Common.{◌≡◌, ℕ, ◌+◌, ◌<◌, ◌≤◌, ◌⊎◌, inl, inr, Bool, true, false, cond, List, Option, None, Some, IsSome, Contains, refl, sym, ap, subst, ◌∙◌, arith}
+use Rattle.std.proofs.Common.{◌≡◌, ℕ, ◌+◌, ◌≤◌, inl, inr, Bool, true, false, cond, List, Option, None, Some, Contains, refl, sym, ap, subst, ◌∙◌, arith}
 use Rattle.std.specs.BTreeMap.{is_at}
 use Rattle.std.specs.List.Sorted.{IsStrictlySortedBy}
 use Rattle.std.specs.Map.{keys_of}
 use Rattle.std.proofs.lemmas.Bool.{both_ways, cases_lt}
-use Rattle.nav_eph.specs.Values.{IsPartValue}
 use Rattle.nav_eph.specs.declared.galileo.GalHealth.{GalHealth}
 use Rattle.nav_eph.specs.declared.tag.SentTag.{SentTag}
 use Rattle.nav_eph.specs.declared.items.NavItem.{NavItem}
 use Rattle.nav_eph.specs.declared.part.Part.{Part}
-use Rattle.period_items.specs.declared.key.Key.{Key}
 use Rattle.period_items.specs.declared.key.Place.{Place}
 use Rattle.period_items.specs.declared.closed.Finding.{Finding}
 use Rattle.period_items.specs.DigestsOf.{digest_finding, verdict_of}
 use Rattle.period_items.specs.Periods.{IsPeriod, IsMember, IsBefore}
 use Rattle.period_items.specs.Verdicts.{IsFound, IsHealthBefore, IsHealthBehind, Repeats}
 use Rattle.period_items.proofs.Surface.{some_is, IsKeyValue, cases_place, period_key, all_values, before_irr, digest_finding-is, judged_by}
-use Rattle.issue_periods.specs.Given.{GivenBelow}
-use Rattle.issue_periods.specs.Standing.{Standing, IsAfter, IsDue, IsNext, NoneDue, giving}
+use Rattle.issue_periods.specs.Standing.{Standing, IsAfter, IsNext, NoneDue, giving}
 use Rattle.issue_periods.proofs.Surface.{after_trans, NoneDue-give}
 use Rattle.slot_assembly.specs.declared.order.Rank.{Rank}
 use Rattle.slot_assembly.specs.declared.order.ByEnd.{ByEnd}
@@ -30,7 +27,7 @@ use Rattle.slot_assembly.specs.Slots.{kept_at, at_of, slot_place, IsOpen, AreInd
 use Rattle.slot_assembly.specs.Healths.{IsChosen}
 use Rattle.slot_assembly.specs.Standing.{SlotsState, SlotsStandFor, AreSlots, IsRemembered, item_to_keep, known_for}
 use Rattle.slot_assembly.proofs.Changes.{left_open}
-use Rattle.slot_assembly.proofs.RankOrder.{at_rank, one_rank, at_is, is_at_own}
+use Rattle.slot_assembly.proofs.RankOrder.{at_is, is_at_own}
 use Rattle.slot_assembly.proofs.KeptLemmas.{chosen_best}
 use Rattle.slot_assembly.proofs.KnownLemmas.{IsFirst, compares_kept, are_known_given}
 

@@ -1,10 +1,9 @@
 -- That the index of health stays one.
-use Rattle.std.proofs.Common.{◌≡◌, ℕ, ◌<◌, ◌≤◌, ◌+◌, ◌*◌, ◌⊎◌, inl, inr, Bool, true, false, cond, List, Option, None, Some, IsSome, IsTrue, refl, sym, ap, subst, ◌∙◌, arith}
+use Rattle.std.proofs.Common.{◌≡◌, ℕ, ◌<◌, ◌≤◌, ◌+◌, ◌*◌, ◌⊎◌, Bool, true, false, cond, List, Option, None, Some, IsSome, IsTrue, refl, sym, ap, subst, ◌∙◌}
 use Rattle.std.specs.List.{list_any}
 use Rattle.std.specs.List.Sorted.{IsStrictlySortedBy}
 use Rattle.std.specs.BTreeMap.{is_at}
 use Rattle.std.specs.Map.{keys_of}
-use Rattle.std.proofs.lemmas.Bool.{both_ways, cases_lt}
 use Rattle.nav_eph.specs.Satellite.{Satellite}
 use Rattle.nav_eph.specs.declared.galileo.GalHealth.{GalHealth}
 use Rattle.nav_eph.specs.declared.tag.SentTag.{SentTag}
@@ -13,8 +12,8 @@ use Rattle.slot_assembly.specs.declared.order.ByStamp.{ByStamp}
 use Rattle.slot_assembly.specs.contracts.order.BySatOrd.TheImpl.{cmp-value as sat_cmp}
 use Rattle.slot_assembly.specs.contracts.order.ByStampOrd.TheImpl.{cmp-value as stamp_cmp}
 use Rattle.slot_assembly.specs.Order.{by_stamp, sat_place, place_of_health}
-use Rattle.slot_assembly.specs.Healths.{heard_at, HasStamp, AreStamped, IsHeardChanged, IsForgotten}
-use Rattle.slot_assembly.proofs.SatOrder.{same_stamp, heard_is, is_heard_own}
+use Rattle.slot_assembly.specs.Healths.{heard_at, AreStamped, IsHeardChanged}
+use Rattle.slot_assembly.proofs.SatOrder.{same_stamp, heard_is}
 use Rattle.period_items.proofs.Surface.{some_is}
 
 abbrev Health : Type 0

@@ -1,27 +1,22 @@
 -- A part taken, on the slots: those that are found are those that are touched, and what stands after the call is one slot for each period.
-use Rattle.std.proofs.Common.{◌≡◌, ℕ, ◌+◌, ◌<◌, ◌≤◌, ◌⊎◌, inl, inr, Bool, true, false, cond, ◌==◌, List, Option, None, Some, IsSome, IfSome, refl, sym, ap, subst, ◌∙◌, arith, eqb-true}
-use Rattle.std.specs.BTreeMap.{is_at}
-use Rattle.std.proofs.lemmas.Bool.{both_ways, cases_lt}
+use Rattle.std.proofs.Common.{◌≡◌, ℕ, ◌+◌, ◌<◌, ◌≤◌, ◌⊎◌, inl, inr, List, Option, None, Some, IsSome, refl, sym, ap, subst, ◌∙◌, arith}
+use Rattle.std.proofs.lemmas.Bool.{cases_lt}
 use Rattle.nav_eph.specs.declared.part.Part.{Part}
-use Rattle.period_laws.proofs.Surface.{Same, IsKnown}
+use Rattle.period_laws.proofs.Surface.{IsKnown}
 use Rattle.period_items.specs.declared.key.Key.{Key}
 use Rattle.period_items.specs.declared.key.Place.{Place}
 use Rattle.period_items.specs.Parts.{key_of}
-use Rattle.period_items.specs.Periods.{IsHeardAt, IsPeriod, IsMember}
-use Rattle.period_items.specs.Touching.{IsTouched, IsJoined, Stays}
-use Rattle.period_items.proofs.Surface.{some_is, IsUnion, IsKeyValue, IsDigest-same, IsWithPart, rest_stays, two_at_most}
+use Rattle.period_items.specs.Periods.{IsHeardAt, IsPeriod}
+use Rattle.period_items.specs.Touching.{IsTouched}
+use Rattle.period_items.proofs.Surface.{some_is, IsKeyValue, IsWithPart, two_at_most}
 use Rattle.issue_periods.specs.Standing.{IsAfter}
-use Rattle.slot_assembly.specs.declared.order.Rank.{Rank}
 use Rattle.slot_assembly.specs.declared.order.ByEnd.{ByEnd}
-use Rattle.slot_assembly.specs.declared.order.ByKey.{ByKey}
 use Rattle.slot_assembly.specs.declared.slot.Slot.{Slot}
-use Rattle.slot_assembly.specs.contracts.order.ByEndOrd.TheImpl.{cmp-value as end_cmp}
 use Rattle.slot_assembly.specs.Order.{rank_of, by_end}
-use Rattle.slot_assembly.specs.Slots.{kept_at, at_of, slot_place, slot_with, IsOpen, AreIndexed, IsOneSlot, IsFirstSlot, IsFirstFrom, IsFirstTouched, IsSecondTouched, IsChanged, AreSameSlots, IsGoneUnless, IsWithout, IsReplaced, IsTaken}
-use Rattle.slot_assembly.specs.Standing.{IsSlot, AreSlots}
-use Rattle.slot_assembly.proofs.RankOrder.{at_is, is_at_own, one_rank, at_rank}
-use Rattle.slot_assembly.proofs.Changes.{left_open}
-use Rattle.slot_assembly.proofs.TakeLemmas.{Sums, sums_same, sums_one, sums_with, sums_slot, sums_end, touched_near, near_touched, slots_apart, starts_by}
+use Rattle.slot_assembly.specs.Slots.{kept_at, at_of, slot_place, IsOpen, IsFirstSlot, IsFirstTouched, IsSecondTouched, IsTaken}
+use Rattle.slot_assembly.specs.Standing.{AreSlots}
+use Rattle.slot_assembly.proofs.RankOrder.{one_rank, at_rank}
+use Rattle.slot_assembly.proofs.TakeLemmas.{touched_near, near_touched, slots_apart, starts_by}
 
 -- what is known when a part of a key is taken
 pub record Taking (w : ℕ) (old new : Part → Type 0) (last : Option Place) (p : Part) (key : Key) (slots : List (ByEnd × Slot)) : Type 0 where

@@ -1,5 +1,5 @@
 -- The health that is kept: after a part taken, after forgetting, and that it gives what counts near an end.
-use Rattle.std.proofs.Common.{◌≡◌, ℕ, ◌+◌, ◌*◌, ◌<◌, ◌≤◌, ◌⊎◌, inl, inr, Bool, true, false, cond, ◌&&◌, nat_le, if◌then◌else◌, List, [], ◌∷◌, Option, None, Some, IsSome, refl, sym, ap, subst, ◌∙◌, arith}
+use Rattle.std.proofs.Common.{◌≡◌, ℕ, ◌+◌, ◌*◌, ◌≤◌, ◌⊎◌, inl, inr, Bool, true, false, cond, ◌&&◌, nat_le, if◌then◌else◌, List, Option, None, Some, IsSome, refl, sym, ap, subst, ◌∙◌, arith}
 use Rattle.std.specs.BTreeMap.{is_at}
 use Rattle.std.specs.BTreeMap.Range.{IsLeBy, IsLtBy}
 use Rattle.std.proofs.lemmas.Bool.{both_ways, cases_lt, and_parts, and_from, leb-true, le-leb}

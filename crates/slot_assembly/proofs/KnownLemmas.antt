@@ -13,7 +13,7 @@ use Rattle.period_items.specs.declared.closed.Finding.TheVariants.{Differs, Miss
 use Rattle.period_items.specs.DigestsOf.{item_of}
 use Rattle.period_items.specs.Periods.{IsPeriod, IsBefore}
 use Rattle.period_items.specs.PeriodsOf.{end_place}
-use Rattle.period_items.specs.Verdicts.{IsOfEphemeris, IsComplete, IsFound, IsLastBefore, Repeats}
+use Rattle.period_items.specs.Verdicts.{IsOfEphemeris, IsComplete, IsFound, Repeats}
 use Rattle.period_items.proofs.Surface.{some_is, none_some, IsKeyValue, cases_place, before_irr, before_end, period_key, AreLater, IsComplete-keeps, IsComplete-was, IsFound-one, IsKnownBefore, Compares, compares_known}
 use Rattle.issue_periods.specs.Given.{GivenBelow}
 use Rattle.issue_periods.specs.Standing.{IsAfter, IsDue}

@@ -1,45 +1,35 @@
 -- What the assembly stands for after each step.
-use Rattle.std.proofs.Common.{◌≡◌, ℕ, ◌+◌, ◌<◌, ◌≤◌, ◌⊎◌, inl, inr, List, [], ◌∷◌, ◌++◌, Option, None, Some, IsSome, All, Contains, refl, sym, ap, subst, ◌∙◌, arith, length}
+use Rattle.std.proofs.Common.{◌≡◌, ℕ, ◌≤◌, inl, inr, List, [], ◌∷◌, ◌++◌, Option, None, Some, IsSome, Contains, refl, sym, ap, subst, ◌∙◌, arith}
 use Rattle.std.specs.List.Sorted.{IsStrictlySortedBy}
 use Rattle.std.specs.Map.{keys_of}
 use Rattle.std.proofs.lemmas.List.Elements.{All-push}
-use Rattle.std.proofs.lemmas.Bool.{cases_lt}
 use Rattle.nav_eph.specs.Values.{IsPartValue}
 use Rattle.nav_eph.specs.declared.galileo.GalHealth.{GalHealth}
 use Rattle.nav_eph.specs.declared.tag.SentTag.{SentTag}
 use Rattle.nav_eph.specs.declared.items.NavItem.{NavItem}
 use Rattle.nav_eph.specs.declared.part.Part.{Part}
-use Rattle.period_laws.specs.Ends.{IsEnd, IsEndOf}
 use Rattle.period_laws.proofs.Surface.{Same, IsEnd-same, IsEndOf-same}
 use Rattle.period_items.specs.declared.key.Key.{Key}
 use Rattle.period_items.specs.declared.key.Place.{Place}
-use Rattle.period_items.specs.declared.closed.Finding.{Finding}
-use Rattle.period_items.specs.Digests.{IsBestHealth}
-use Rattle.period_items.specs.DigestsOf.{digest_finding, verdict_of}
 use Rattle.period_items.specs.Parts.{key_of, health_in}
-use Rattle.period_items.specs.Periods.{IsHeardAt, IsPeriod, IsMember, IsBefore}
-use Rattle.period_items.specs.Verdicts.{IsFound, IsClosed}
-use Rattle.period_items.proofs.Surface.{some_is, none_some, IsKeyValue, key_value, period_key, all_values, before_irr, digest_finding-is, IsDigest-same, known_parts, with_part, joined_part, AreLater, judged_by, IsWithPart}
+use Rattle.period_items.specs.Periods.{IsHeardAt, IsMember}
+use Rattle.period_items.proofs.Surface.{none_some, key_value, period_key, all_values, IsDigest-same, known_parts, with_part, joined_part, AreLater, IsWithPart}
 use Rattle.issue_periods.specs.Given.{GivenBelow}
-use Rattle.issue_periods.specs.Standing.{Standing, IsAfter, IsDue, IsNext, NoneDue, taking, reaching, giving}
-use Rattle.issue_periods.proofs.Surface.{after_low, after_trans, NoneDue-take, NoneDue-give}
+use Rattle.issue_periods.specs.Standing.{Standing, NoneDue, taking, reaching}
+use Rattle.issue_periods.proofs.Surface.{after_low, NoneDue-take}
 use Rattle.slot_assembly.specs.declared.order.Rank.{Rank}
 use Rattle.slot_assembly.specs.declared.order.ByEnd.{ByEnd}
 use Rattle.slot_assembly.specs.declared.order.ByKey.{ByKey}
 use Rattle.slot_assembly.specs.declared.order.BySat.{BySat}
 use Rattle.slot_assembly.specs.declared.order.ByStamp.{ByStamp}
 use Rattle.slot_assembly.specs.declared.slot.Slot.{Slot}
-use Rattle.slot_assembly.specs.contracts.order.ByEndOrd.TheImpl.{cmp-value as end_cmp}
 use Rattle.slot_assembly.specs.contracts.order.RankOrd.TheImpl.{cmp-value as rank_cmp}
-use Rattle.slot_assembly.specs.Order.{rank_of}
-use Rattle.slot_assembly.specs.Slots.{kept_at, at_of, slot_place, IsOpen, AreIndexed, IsOneSlot, IsTaken, IsChanged, AreSameSlots, IsFirstDue}
-use Rattle.slot_assembly.specs.Healths.{heard_at, AreStamped, IsSameHealth, IsHeard, IsForgotten, IsChosen}
-use Rattle.slot_assembly.specs.Standing.{SlotsState, SlotsStandFor, IsSlot, AreSlots, AreKept, AreKnown, AreSameItems, IsRemembered, item_to_keep, known_for}
-use Rattle.slot_assembly.proofs.Changes.{left_open}
-use Rattle.slot_assembly.proofs.RankOrder.{at_rank, one_rank, at_is, is_at_own}
+use Rattle.slot_assembly.specs.Slots.{at_of, slot_place, AreIndexed, IsOneSlot, IsTaken, AreSameSlots, IsFirstDue}
+use Rattle.slot_assembly.specs.Healths.{AreStamped, IsSameHealth, IsHeard, IsForgotten}
+use Rattle.slot_assembly.specs.Standing.{SlotsState, SlotsStandFor, AreSlots, AreKept, AreSameItems}
 use Rattle.slot_assembly.proofs.StepLemmas.{slots_taken}
-use Rattle.slot_assembly.proofs.KeptLemmas.{kept_keyed, kept_said, kept_forgotten, chosen_best}
-use Rattle.slot_assembly.proofs.KnownLemmas.{IsFirst, are_known_later, are_known_same, compares_kept, are_known_given}
+use Rattle.slot_assembly.proofs.KeptLemmas.{kept_keyed, kept_said, kept_forgotten}
+use Rattle.slot_assembly.proofs.KnownLemmas.{are_known_later, are_known_same}
 
 abbrev SlotList : Type 0
 SlotList = List (ByEnd × Slot)

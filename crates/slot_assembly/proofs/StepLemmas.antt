@@ -1,21 +1,20 @@
 -- What stands after a part was taken is one slot for each period.
-use Rattle.std.proofs.Common.{◌≡◌, ℕ, ◌+◌, ◌<◌, ◌≤◌, ◌⊎◌, inl, inr, Bool, true, false, cond, ◌==◌, List, Option, None, Some, IsSome, IfSome, refl, sym, ap, subst, ◌∙◌, arith, eqb-true, eq-eqb}
+use Rattle.std.proofs.Common.{◌≡◌, ℕ, ◌≤◌, ◌⊎◌, inl, inr, Bool, true, false, cond, ◌==◌, List, Option, None, Some, refl, sym, ap, subst, ◌∙◌, arith, eqb-true, eq-eqb}
 use Rattle.std.specs.BTreeMap.{is_at}
-use Rattle.std.proofs.lemmas.Bool.{both_ways, cases_lt}
+use Rattle.std.proofs.lemmas.Bool.{both_ways}
 use Rattle.nav_eph.specs.declared.part.Part.{Part}
-use Rattle.period_laws.proofs.Surface.{Same, IsKnown}
+use Rattle.period_laws.proofs.Surface.{Same}
 use Rattle.period_items.specs.declared.key.Key.{Key}
 use Rattle.period_items.specs.declared.key.Place.{Place}
-use Rattle.period_items.specs.Parts.{key_of}
-use Rattle.period_items.specs.Periods.{IsHeardAt, IsPeriod, IsMember}
+use Rattle.period_items.specs.Periods.{IsPeriod, IsMember}
 use Rattle.period_items.specs.Touching.{IsTouched, IsJoined, Stays}
-use Rattle.period_items.proofs.Surface.{some_is, IsUnion, IsKeyValue, IsDigest-same, IsWithPart, rest_stays}
+use Rattle.period_items.proofs.Surface.{some_is, IsKeyValue, IsDigest-same, rest_stays}
 use Rattle.issue_periods.specs.Standing.{IsAfter}
 use Rattle.slot_assembly.specs.declared.order.ByEnd.{ByEnd}
 use Rattle.slot_assembly.specs.declared.slot.Slot.{Slot}
 use Rattle.slot_assembly.specs.contracts.order.ByEndOrd.TheImpl.{cmp-value as end_cmp}
 use Rattle.slot_assembly.specs.Order.{rank_of, by_end}
-use Rattle.slot_assembly.specs.Slots.{kept_at, at_of, slot_place, slot_with, IsOpen, IsOneSlot, IsChanged, AreSameSlots, IsGoneUnless, IsWithout, IsReplaced, IsTaken}
+use Rattle.slot_assembly.specs.Slots.{kept_at, at_of, slot_place, slot_with, IsOpen, IsOneSlot, IsChanged, IsGoneUnless, IsWithout, IsReplaced, IsTaken}
 use Rattle.slot_assembly.specs.Standing.{IsSlot, AreSlots}
 use Rattle.slot_assembly.proofs.RankOrder.{at_is, is_at_own, one_rank, at_rank}
 use Rattle.slot_assembly.proofs.Changes.{left_open}

@@ -1,33 +1,19 @@
 -- A part taken: it and the slots that it touches become one slot, and all other slots stay.
-use Rattle.std.proofs.Common.{◌≡◌, ℕ, ◌+◌, ◌<◌, ◌≤◌, ◌⊎◌, inl, inr, Bool, true, false, cond, ◌==◌, List, Option, None, Some, IsSome, IfSome, min, max, refl, sym, ap, subst, ◌∙◌, arith, eqb-true}
-use Rattle.std.specs.BTreeMap.{is_at}
-use Rattle.std.proofs.lemmas.Bool.{both_ways, cases_lt}
-use Rattle.nav_eph.specs.Values.{IsPartValue}
+use Rattle.std.proofs.Common.{◌≡◌, ℕ, ◌+◌, ◌<◌, ◌≤◌, inl, inr, Option, Some, min, max, refl, sym, ap, subst, arith}
+use Rattle.std.proofs.lemmas.Bool.{cases_lt}
 use Rattle.nav_eph.specs.declared.part.Part.{Part}
 use Rattle.period_laws.specs.Ends.{IsEndOf}
 use Rattle.period_laws.proofs.Surface.{Same, IsKnown, own_end, bridge}
 use Rattle.period_items.specs.declared.key.Key.{Key}
 use Rattle.period_items.specs.declared.key.Place.{Place}
-use Rattle.period_items.specs.declared.digest.Digest.{Digest}
 use Rattle.period_items.specs.Digests.{IsDigest}
-use Rattle.period_items.specs.DigestsOf.{digest_of}
 use Rattle.period_items.specs.Parts.{key_of}
 use Rattle.period_items.specs.Periods.{IsHeardAt, IsPeriod, IsMember}
-use Rattle.period_items.specs.Touching.{IsTouched, IsJoined, Stays}
-use Rattle.period_items.proofs.Surface.{some_is, IsUnion, IsKeyValue, key_value, same_place, before_irr, period_key, digest_of-is, digest_join-is, IsDigest-same, IsWithPart, joined_part, rest_stays, two_at_most}
-use Rattle.issue_periods.specs.Given.{GivenBelow}
-use Rattle.issue_periods.specs.Standing.{IsAfter}
-use Rattle.issue_periods.proofs.Surface.{after_low}
-use Rattle.slot_assembly.specs.declared.order.Rank.{Rank}
-use Rattle.slot_assembly.specs.declared.order.ByEnd.{ByEnd}
-use Rattle.slot_assembly.specs.declared.order.ByKey.{ByKey}
+use Rattle.period_items.specs.Touching.{IsTouched}
+use Rattle.period_items.proofs.Surface.{IsUnion, digest_of-is, digest_join-is, IsDigest-same}
 use Rattle.slot_assembly.specs.declared.slot.Slot.{Slot}
-use Rattle.slot_assembly.specs.contracts.order.ByEndOrd.TheImpl.{cmp-value as end_cmp}
-use Rattle.slot_assembly.specs.Order.{rank_of, by_end}
-use Rattle.slot_assembly.specs.Slots.{kept_at, at_of, slot_place, slot_with, IsOpen, AreIndexed, IsOneSlot, IsFirstSlot, IsFirstFrom, IsFirstTouched, IsSecondTouched, IsChanged, AreSameSlots, IsGoneUnless, IsWithout, IsReplaced, IsTaken}
-use Rattle.slot_assembly.specs.Standing.{IsSlot, AreSlots}
-use Rattle.slot_assembly.proofs.RankOrder.{at_is, is_at_own, one_rank}
-use Rattle.slot_assembly.proofs.Changes.{left_open}
+use Rattle.slot_assembly.specs.Slots.{slot_place, slot_with, IsOneSlot}
+use Rattle.slot_assembly.specs.Standing.{IsSlot}
 
 -- what the members of a set come to: the least and the greatest stamp, and their digest
 pub record Sums (key : Key) (members : Part → Type 0) (s : Slot) : Type 0 where

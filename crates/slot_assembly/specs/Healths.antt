@@ -1,8 +1,8 @@
 -- The health that is kept, each one once, and what becomes of it.
-use Rattle.std.specs.Prelude.{◌≡◌, ℕ, ◌+◌, ◌*◌, ◌<◌, ◌≤◌, Bool, false, cond, ◌&&◌, nat_le, if◌then◌else◌, List, Option, None, Some, IsSome, IsTrue}
+use Rattle.std.specs.Prelude.{◌≡◌, ℕ, ◌+◌, ◌*◌, ◌<◌, ◌≤◌, false, cond, ◌&&◌, nat_le, if◌then◌else◌, List, Option, None, Some, IsSome, IsTrue}
 use Rattle.std.specs.List.{list_any}
 use Rattle.std.specs.List.Sorted.{IsStrictlySortedBy}
-use Rattle.std.specs.Ordering.{is_lt, is_gt}
+use Rattle.std.specs.Ordering.{is_lt}
 use Rattle.std.specs.BTreeMap.{is_at}
 use Rattle.std.specs.BTreeMap.Range.{IsLeBy, IsLtBy}
 use Rattle.std.specs.Map.{keys_of, lookup}

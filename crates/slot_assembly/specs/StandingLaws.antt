@@ -1,11 +1,10 @@
 -- The laws of the trait for the assembly in slots: its parts are values, and a set. (An impl names the proof of a law, and code can name
 -- what stands in specs/ alone.)
-use Rattle.std.proofs.Common.{◌≡◌, ℕ, Option, None, Some, All, List, Contains, get_or, ◌↔◌}
+use Rattle.std.proofs.Common.{ℕ, Option, None, Some, All, List, Contains, get_or, ◌↔◌}
 use Rattle.std.proofs.lemmas.List.Elements.{All-contains, Contains-get_or}
 use Rattle.nav_eph.specs.declared.items.NavItem.{NavItem}
 use Rattle.nav_eph.specs.declared.part.Part.{Part}
 use Rattle.nav_eph.specs.Values.{IsPartValue}
-use Rattle.nav_eph.specs.Satellite.{Satellite}
 use Rattle.period_laws.proofs.Surface.{Same, turned}
 use Rattle.period_items.specs.declared.key.Key.{Key}
 use Rattle.period_items.specs.declared.key.Place.{Place}
@@ -15,7 +14,7 @@ use Rattle.issue_periods.specs.Standing.{Standing, with_parts}
 use Rattle.slot_assembly.specs.declared.slot.Slot.{Slot}
 use Rattle.slot_assembly.specs.Order.{rank_of}
 use Rattle.slot_assembly.specs.Slots.{slot_place}
-use Rattle.slot_assembly.specs.Standing.{SlotsState, SlotsStandFor, IsSlot, IsKnownGiven, IsLastGiven, known_at}
+use Rattle.slot_assembly.specs.Standing.{SlotsState, SlotsStandFor, IsSlot, IsKnownGiven, known_at}
 
 pub parts_are_values : (s : SlotsState) (at : Standing) → SlotsStandFor s at → All IsPartValue at.parts
 parts_are_values s at h = h.values

@@ -19,9 +19,9 @@ use std::marker::Model;
 ///
 /// A contract sees all that it keeps: the week `reference` near which it listens, the `window` in
 /// seconds, the `slots` of the open periods and the index `ends` of them, the health `heard` that
-/// may still count and the index `stamps` of it, the greatest `mark` given, the `last` period given,
-/// the greatest mark `none_at` at which there was none to give, and as `known` for each ephemeris
-/// the item of the last complete period given.
+/// may still count and the index `stamps` of it, the greatest `mark` given, the `last` period
+/// given, the greatest mark `none_at` at which there was none to give, and as `known` for each
+/// ephemeris the item of the last complete period given.
 #[derive(Drop)]
 pub struct SlotAssembly {
     held: OpenSlots,

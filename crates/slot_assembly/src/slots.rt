@@ -1,8 +1,10 @@
 //! The slots of open periods, in the order of periods, with an index by key and end.
 
-ghost use Rattle.std.specs.Prelude.{◌≡◌, ◌<◌, ◌≤◌, ℕ, Some, None, IfSome, IfNone, IsSome, OnOk, OnErr};
+ghost use Rattle.std.specs.Prelude.{◌≡◌, ◌<◌, ◌≤◌, ℕ, Some};
+ghost use Rattle.std.specs.Prelude.{None, IfSome, IfNone, IsSome, OnOk, OnErr};
 ghost use Rattle.std.specs.BTreeMap.{btree_map_len};
-ghost use Rattle.slot_assembly.specs.Slots.{AreIndexed, AreSameSlots, HasEnd, IsChanged, IsFirstDue, IsFirstFrom};
+ghost use Rattle.slot_assembly.specs.Slots.{AreIndexed, AreSameSlots, HasEnd};
+ghost use Rattle.slot_assembly.specs.Slots.{IsChanged, IsFirstDue, IsFirstFrom};
 ghost use Rattle.slot_assembly.specs.Slots.{IsFirstTouched, IsReplaced, IsSecondTouched, IsTaken};
 ghost use Rattle.slot_assembly.specs.Slots.{IsWithout, at_of, kept_at};
 

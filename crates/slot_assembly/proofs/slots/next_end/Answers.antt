@@ -1,6 +1,4 @@
-use Rattle.std.proofs.Common.{◌≡◌, ℕ, ◌<◌, ◌≤◌, inl, inr, true, sym, ap, subst, ◌∙◌}
-use Rattle.std.proofs.lemmas.Bool.{both_ways, cases_lt}
-use Rattle.slot_assembly.specs.Order.{by_key, is_of_rank}
+use Rattle.std.proofs.Common.{sym, ◌∙◌}
 use Rattle.slot_assembly.proofs.RankOrder.{next_apart}
 use Rattle.slot_assembly.proofs.slots.next_end.Goals as goal
 

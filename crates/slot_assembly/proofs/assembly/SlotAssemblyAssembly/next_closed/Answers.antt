@@ -1,11 +1,8 @@
-use Rattle.std.proofs.Common.{◌≡◌, ℕ, ◌≤◌, ◌<◌, List, Contains, Some, IsSome, length, refl, sym, ap, subst, ◌∙◌}
-use Rattle.nav_eph.specs.declared.items.NavItem.{NavItem}
+use Rattle.std.proofs.Common.{◌≡◌, ℕ, ◌≤◌, ◌<◌, Contains, IsSome, length, refl, sym, subst, ◌∙◌}
 use Rattle.period_items.specs.declared.closed.Verdict.{Verdict}
-use Rattle.period_items.specs.declared.closed.Finding.{Finding}
 use Rattle.period_items.specs.DigestsOf.{digest_finding, verdict_of}
 use Rattle.issue_periods.specs.Standing.{IsNext}
 use Rattle.slot_assembly.specs.contracts.assembly.SlotAssembly.{the_view}
-use Rattle.slot_assembly.specs.Slots.{IsFirstDue}
 use Rattle.slot_assembly.specs.Standing.{SlotsState, SlotsStandFor, known_for, slots_left}
 use Rattle.slot_assembly.proofs.StandLemmas.{stands_known, stands_reached}
 use Rattle.slot_assembly.proofs.GiveLemmas.{next_is, stands_given}

@@ -1,4 +1,4 @@
-use Rattle.std.proofs.Common.{◌≡◌, Bool, true, cond, Some, subst, ap, ◌∙◌}
+use Rattle.std.proofs.Common.{◌≡◌, true, cond, Some, subst, ap, ◌∙◌}
 use Rattle.std.specs.List.{list_any}
 use Rattle.std.specs.BTreeMap.{is_at}
 use Rattle.slot_assembly.specs.declared.order.BySat.{BySat}

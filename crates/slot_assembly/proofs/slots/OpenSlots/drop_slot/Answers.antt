@@ -1,4 +1,4 @@
-use Rattle.std.proofs.Common.{◌≡◌, Bool, false, cond, None, subst}
+use Rattle.std.proofs.Common.{◌≡◌, false, cond, None, subst}
 use Rattle.std.specs.List.{list_any}
 use Rattle.std.specs.BTreeMap.{is_at}
 use Rattle.slot_assembly.specs.declared.order.ByEnd.{ByEnd}

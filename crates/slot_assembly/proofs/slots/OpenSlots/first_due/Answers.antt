@@ -1,4 +1,4 @@
-use Rattle.std.proofs.Common.{◌≡◌, ℕ, ◌≤◌, arith}
+use Rattle.std.proofs.Common.{arith}
 use Rattle.slot_assembly.proofs.Changes.{lead}
 use Rattle.slot_assembly.proofs.slots.OpenSlots.first_due.Goals as goal
 

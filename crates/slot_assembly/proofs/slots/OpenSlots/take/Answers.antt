@@ -1,8 +1,6 @@
-use Rattle.std.proofs.Common.{◌≡◌, ℕ, ◌+◌, ◌≤◌, List, Option, arith, ap, sym, subst, ◌∙◌}
+use Rattle.std.proofs.Common.{◌+◌, arith, ap, subst, ◌∙◌}
 use Rattle.slot_assembly.specs.declared.order.Rank.{Rank}
-use Rattle.slot_assembly.specs.declared.order.ByEnd.{ByEnd}
 use Rattle.slot_assembly.specs.declared.slot.Slot.{Slot}
-use Rattle.slot_assembly.specs.Order.{rank_of}
 use Rattle.slot_assembly.specs.Slots.{IsFirstTouched, IsSecondTouched, IsReplaced, slot_with}
 use Rattle.slot_assembly.proofs.slots.OpenSlots.take.Goals as goal
 
