@@ -1,9 +1,9 @@
 -- A capture while it is read, behind its first line. Private functions cite these.
-use Rattle.std.specs.Prelude.{◌≡◌, ℕ, ◌+◌, ◌*◌, ◌^◌, ◌<◌, ◌≤◌, ◌⊎◌, true, List, [], ◌∷◌, ◌++◌, length, Option, Some, None, Result, Ok, Err}
+use Rattle.std.specs.Prelude.{◌≡◌, ℕ, ◌+◌, ◌-◌, ◌*◌, ◌^◌, ◌<◌, ◌≤◌, ◌⊎◌, true, false, List, [], ◌∷◌, ◌++◌, length, take, Option, Some, None, Result, Ok, Err}
 use Rattle.std.specs.Io.KnownBytes.{Appends}
 use Rattle.nav_io.specs.Causes.{Rose}
 use Rattle.nav_io.specs.Front.{AppendsFront}
-use Rattle.nav_io.specs.Lines.{Line}
+use Rattle.nav_io.specs.Lines.{Line, ends, lines_by}
 use Rattle.nav_io.specs.LinesState.{LinesState, Reads, GivesLine, GivesEnd, BreaksRead, BreaksLong}
 use Rattle.nav_io.specs.declared.lines.LineFault.{LineFault}
 use Rattle.nav_io.specs.declared.lines.LineFault.TheVariants as lines
@@ -34,6 +34,8 @@ pub record Counted (window : ℕ) (lines : List Line) (keeping : Keeping) (tally
   pub counts : tally ≡ tallied no_tally (log_of window lines)
   pub few : length keeping.kept ≤ length lines
   pub room : 2 * total tally ≤ length lines * (length lines + 3)
+  pub halves : length (known_from window nothing_known (items_of lines)).halves ≤ length lines
+  pub parts : length (parts_of window lines) ≤ length lines * (length lines + 4)
 
 -- Of these lines the parts were taken, what they bring was reported and counted, and what is closed at their mark was written.
 pub record Follows (now : Standing → Type 0) (r window : ℕ) (to : CaptureTo) (lines : List Line) (start written reported reported_new : Option (List ℕ)) (keeping : Keeping) (tally : Tally) (said : Said) (greatest : ℕ) : Type 0 where
@@ -54,32 +56,37 @@ pub record FollowsAll (r window : ℕ) (to : CaptureTo) (left left_new : Option 
   pub counts : tally ≡ tallied no_tally (log_of window given)
   pub verdicts : said ≡ said_of (periods_of r window (parts_of window given))
 
--- The lines that were given were taken, and what is closed by them was written; then the input broke off.
-pub record FollowsEnded (r window : ℕ) (to : CaptureTo) (left left_new : Option (List ℕ)) (old new : LinesState) (start written reported reported_new : Option (List ℕ)) : Type 0 where
+-- A read failed. The lines that have ended were taken, and exactly what is closed by them was written.
+pub record FollowsEnded (r window : ℕ) (to : CaptureTo) (left left_new : Option (List ℕ)) (old new : LinesState) (start written : Option (List ℕ)) : Type 0 where
   pub given : List Line
   pub reads : Reads left left_new old new given
+  pub more : new.ended ≡ false
+  pub none : ends new.rest ≡ false
   pub text : Appends start written (texts_of to (closed_of r window (mark_after window given) (parts_of window given)))
-  pub report : Appends reported reported_new (line_report (log_of window given))
 
--- The lines that were given were taken but for the last, or all of them at the end; of that what is closed was written, and a front of what is closed by all lines and
--- whatever may follow them.
+-- The lines that were given were taken, the last one maybe in part; all but the last 4,096 bytes have no more of them. A front was written of what the lines and
+-- whatever may follow them give, no less than what is closed without the last line; and a front of what they bring was reported.
 pub record FollowsPart (r window : ℕ) (to : CaptureTo) (left left_new : Option (List ℕ)) (old new : LinesState) (start written reported reported_new : Option (List ℕ)) : Type 0 where
   pub given : List Line
   pub last : List Line
   pub few : length last ≤ 1
   pub reads : Reads left left_new old new (given ++ last)
-  pub held : length new.rest ≤ 4096
-  pub text : AppendsBetween start written (texts_of to (closed_of r window (mark_after window given) (parts_of window given)))
-      (texts_of to (periods_of r window (parts_of window (given ++ last))))
+  pub recent : length (lines_by true (take (length (old.rest ++ reads.taken) - 4096) (old.rest ++ reads.taken))) ≤ length (given ++ last)
+  pub text : (more : List Line) → (new.ended ≡ true → new.rest ≡ [] → more ≡ [])
+      → AppendsBetween start written (texts_of to (closed_of r window (mark_after window given) (parts_of window given)))
+      (texts_of to (periods_of r window (parts_of window ((given ++ last) ++ more))))
   pub report : AppendsFront reported reported_new (line_report (log_of window (given ++ last)))
 
--- How following ends: by a fault of the input, exactly what is closed by the lines given was written; by every other one a front.
+-- How following ends before all lines were taken: by every fault a front was written, and by a read that failed exactly what is closed.
 abbrev pub FollowsBroken : ℕ → ℕ → CaptureTo → Option (List ℕ) → Option (List ℕ) → LinesState → LinesState → Option (List ℕ) → Option (List ℕ) → Option (List ℕ) → Option (List ℕ) → BridgeFault → Type 0
-FollowsBroken r window to left left_new old new start written reported reported_new ReadFault = FollowsEnded r window to left left_new old new start written reported reported_new
+FollowsBroken r window to left left_new old new start written reported reported_new ReadFault =
+    FollowsEnded r window to left left_new old new start written × FollowsPart r window to left left_new old new start written reported reported_new
 FollowsBroken r window to left left_new old new start written reported reported_new TooLong =
-    (new.taken ≡ 2 ^ 32) × FollowsEnded r window to left left_new old new start written reported reported_new
+    (new.taken ≡ 2 ^ 32) × FollowsPart r window to left left_new old new start written reported reported_new
 FollowsBroken r window to left left_new old new start written reported reported_new NotThisForm = ⊥
-FollowsBroken r window to left left_new old new start written reported reported_new fault = FollowsPart r window to left left_new old new start written reported reported_new
+FollowsBroken r window to left left_new old new start written reported reported_new WriteFault = FollowsPart r window to left left_new old new start written reported reported_new
+FollowsBroken r window to left left_new old new start written reported reported_new ReportFault = FollowsPart r window to left left_new old new start written reported reported_new
+FollowsBroken r window to left left_new old new start written reported reported_new NoMemory = FollowsPart r window to left left_new old new start written reported reported_new
 
 -- the counts of faults that a run may raise, and that none rose where it is done
 pub record Faults : Type 0 where

@@ -1,5 +1,5 @@
 -- One step of a run over a capture: what was taken, reported and counted of a line. Private functions cite these.
-use Rattle.std.specs.Prelude.{◌≡◌, ◌⊎◌, ℕ, ◌+◌, ◌≤◌, max, Bool, if◌then◌else◌, List, [], ◌∷◌, ◌++◌, codes, Option, Some, Result, Ok, Err, OnOk, OnErr}
+use Rattle.std.specs.Prelude.{◌≡◌, ◌⊎◌, ℕ, ◌+◌, ◌≤◌, max, Bool, if◌then◌else◌, List, [], ◌∷◌, ◌++◌, codes, Contains, Option, Some, Result, Ok, Err, OnOk, OnErr}
 use Rattle.std.specs.List.{flat_map}
 use Rattle.std.specs.Io.KnownBytes.{Appends}
 use Rattle.nav_io.specs.Causes.{Rose}
@@ -10,7 +10,7 @@ use Rattle.nav_eph.specs.Satellite.{Satellite}
 use Rattle.nav_eph.specs.declared.sat.System.TheVariants.{Gps, Gal}
 use Rattle.nav_eph.specs.declared.part.Part.{Part}
 use Rattle.inav_page.specs.declared.signal.Signal.{Signal}
-use Rattle.inav_page.specs.Heard.{StampedHalf, IsIn}
+use Rattle.inav_page.specs.Heard.{StampedHalf}
 use Rattle.inav_page.specs.Keeping.{Keeping, IsRecent}
 use Rattle.inav_word.specs.Reading.{reading_of}
 use Rattle.capture_lines.specs.declared.item.LineItem.{LineItem}
@@ -96,9 +96,9 @@ of_heard sat stamp words = flat_map (λ word. of_word (reading_of word sat stamp
 -- what is kept of the accepted halves serves each half that is not late
 pub record KeepsHalves (keeping : Keeping) (window : ℕ) (known : Known) : Type 0 where
   pub window_is : keeping.window ≡ window
-  pub kept_to : (h : StampedHalf) → IsIn keeping.kept h → IsIn known.halves h
-  pub kept_from : (h : StampedHalf) → IsIn known.halves h → IsRecent window keeping.greatest h → IsIn keeping.kept h
-  pub recent : (h : StampedHalf) → IsIn keeping.kept h → IsRecent window keeping.greatest h
+  pub kept_to : (h : StampedHalf) → Contains keeping.kept h → Contains known.halves h
+  pub kept_from : (h : StampedHalf) → Contains known.halves h → IsRecent window keeping.greatest h → Contains keeping.kept h
+  pub recent : (h : StampedHalf) → Contains keeping.kept h → IsRecent window keeping.greatest h
   pub low : keeping.greatest ≤ known.greatest
 
 -- what is kept with a half that was taken

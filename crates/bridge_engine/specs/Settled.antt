@@ -1,9 +1,9 @@
 -- What was written and counted of the periods while a capture is read. Private functions cite these.
-use Rattle.std.specs.Prelude.{◌≡◌, ℕ, ◌+◌, List, Option, Result, Ok, Err}
+use Rattle.std.specs.Prelude.{◌≡◌, ℕ, ◌+◌, ◌^◌, ◌<◌, ◌≤◌, List, length, Option, Result, Ok, Err}
 use Rattle.std.specs.Io.KnownBytes.{Appends}
 use Rattle.nav_io.specs.Causes.{Rose}
 use Rattle.nav_eph.specs.declared.part.Part.{Part}
-use Rattle.period_items.specs.PeriodsOf.{closed_of}
+use Rattle.period_items.specs.PeriodsOf.{closed_of, periods_of}
 use Rattle.period_items.specs.declared.closed.Closed.{Closed}
 use Rattle.period_items.specs.declared.closed.Verdict.{Verdict}
 use Rattle.issue_periods.specs.Standing.{Standing}
@@ -60,6 +60,15 @@ pub record Settled (now : Standing → Type 0) (r window : ℕ) (to : CaptureTo)
   pub stands : now (settled r window parts mark)
   pub text : Appends written written_new (texts_of to (closed_of r window mark parts))
   pub counts : counted ≡ said_of (closed_of r window mark parts)
+
+-- the assembly stands for parts of fewer than 2^64 periods at a mark that is not above this one, and what is closed there was counted
+pub record HasRoom (now : Standing → Type 0) (r window mark : ℕ) (counted : Said) : Type 0 where
+  pub parts : List Part
+  pub before : ℕ
+  pub low : before ≤ mark
+  pub few : length (periods_of r window parts) < 2 ^ 64
+  pub stands : now (settled r window parts before)
+  pub counts : counted ≡ said_of (closed_of r window before parts)
 
 -- want of memory, or an output that failed; the output's count rose only then
 abbrev pub IsWriting : {T : Type 0} → ℕ → ℕ → Result T BridgeFault → Type 0

@@ -13,14 +13,16 @@ use crate::counts::Tally;
 use crate::fault::BridgeFault;
 use crate::take::{take_event, take_events};
 use capture_log::{Event, Refusal, message_event, subframe_event, word_event};
-use inav_page::{HalfFault, Halves, Joined, Signal, read_half};
+use inav_page::{
+    HalfFault, Halves, Joined, Signal, halves_are_decided, read_half, words_are_the_function,
+};
 use inav_word::{WordParts, read_word};
 use issue_periods::Assembly;
 use lnav_subframe::read_subframe;
 use nav_bits::Bits;
 use nav_eph::Sat;
 use nav_io::Sink;
-use rtcm_eph::{MessageParts, read_message};
+use rtcm_eph::{MessageParts, message_parts, read_message};
 use rtcm_frame::frame_of;
 
 // Takes what a subframe brings.
@@ -77,6 +79,7 @@ pub(crate) fn take_frame<A: Assembly, U: Sink>(
         let refused = Event::Refused(Refusal::Frame);
         return take_event(&refused, number, least, assembly, report, tally);
     };
+    message_parts();
     match read_message(frame.payload(), stamp) {
         Ok(MessageParts::Gps { clock, a, b }) => {
             let events = [Event::Heard(clock), Event::Heard(a), Event::Heard(b)];
@@ -220,6 +223,8 @@ pub(crate) fn take_half<A: Assembly, U: Sink>(
     ensures room { OnOk result (total tally.new ≤ total tally.old + length halves.old.kept + 1) }
     ensures cause { IsReporting (U.faults report.old) (U.faults report.new) result }
 {
+    halves_are_decided();
+    words_are_the_function();
     match read_half(bits) {
         Err(HalfFault::Alert) => {
             take_event(&Event::Unused, number, least, assembly, report, tally)

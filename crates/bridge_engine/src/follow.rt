@@ -17,6 +17,7 @@ use crate::item::{stamp_of_item, take_item};
 use crate::next::next_item;
 use crate::outlet::Outlet;
 use crate::settle::write_closed;
+use capture_log::{parts_of_lines_are_values, what_is_closed_stays};
 use gnss_week::RefWeek;
 use inav_page::Halves;
 use issue_periods::{Assembly, PlainAssembly};
@@ -55,7 +56,8 @@ fn first_line<S: Source>(
             Some(accepted) => Ok(accepted),
             None => Err(BridgeFault::NotThisForm),
         },
-        Ok(_) => Err(BridgeFault::NotThisForm),
+        Ok(LineKind::Long) => Err(BridgeFault::NotThisForm),
+        Ok(LineKind::End) => Err(BridgeFault::NotThisForm),
         Err(fault) => Err(fault_of(fault)),
     }
 }
@@ -137,6 +139,7 @@ pub(crate) fn follow_lines<A: Assembly, O: Outlet, S: Source, T: Sink, U: Sink>(
 ) -> Result<(), BridgeFault>
     requires first { lines.old.number ≡ 1 }
     requires held { length lines.old.rest ≤ 4096 }
+    requires low { lines.old.taken < 2 ^ 32 }
     requires window { A.window assembly.old ≡ window }
     requires start { Follows (A.stands_for assembly.old) (A.reference assembly.old) window
         (O.target outlet.now) [] (T.written output.old) (T.written output.old)
@@ -147,12 +150,15 @@ pub(crate) fn follow_lines<A: Assembly, O: Outlet, S: Source, T: Sink, U: Sink>(
         tally.new said.new) }
     ensures broken { IfErr result (FollowsBroken (A.reference assembly.old) window
         (O.target outlet.now) (S.left input.old) (S.left input.new) lines.old lines.new
-        (T.written output.old) (T.written output.new) (U.written report.old) (U.written report.new)) }
+        (T.written output.old) (T.written output.new)
+        (U.written report.old) (U.written report.new)) }
     ensures cause { HasItsCause
         (faults_of (S.faults input.old) (T.faults output.old) (U.faults report.old))
         (faults_of (S.faults input.new) (T.faults output.new) (U.faults report.new)) result }
     ensures never { IsTrue (S.never_fails input.old) → IsErrOf result BridgeFault.ReadFault → ⊥ }
 {
+    what_is_closed_stays();
+    parts_of_lines_are_values();
     let mut greatest = 0;
     'lines: loop {
         let item = match next_item(lines, input) {
@@ -161,12 +167,18 @@ pub(crate) fn follow_lines<A: Assembly, O: Outlet, S: Source, T: Sink, U: Sink>(
             Err(fault) => return Err(fault_of(fault)),
         };
         let number = lines.number();
-        take_item(
+        match take_item(
             &item, number, window, greatest, halves, assembly, report, tally,
-        )?;
+        ) {
+            Ok(()) => {}
+            Err(fault) => return Err(fault),
+        }
         greatest = greatest.max(stamp_of_item(&item).unwrap_or(0));
         let mark = u64::from(greatest.saturating_sub(window));
-        write_closed(outlet, assembly, mark, output, said)?;
+        match write_closed(outlet, assembly, mark, output, said) {
+            Ok(()) => {}
+            Err(fault) => return Err(fault),
+        }
     }
 }
 

@@ -1,6 +1,7 @@
 //! Taking what a line stands for.
 
-ghost use Rattle.std.specs.Prelude.{◌≡◌, ◌+◌, ◌-◌, ◌^◌, ◌<◌, ◌≤◌, ℕ, length, OnOk};
+ghost use Rattle.std.specs.Prelude.{◌≡◌, ◌+◌, ◌-◌, ◌^◌, ◌<◌, ◌≤◌, ℕ, false, nat_lt};
+ghost use Rattle.std.specs.Prelude.{length, IfNone, IfSome, OnOk};
 ghost use Rattle.issue_periods.specs.Standing.{Stood};
 ghost use Rattle.capture_lines.specs.Late.{stamp_of};
 ghost use Rattle.capture_log.specs.Events.{Known, events_of, known_with};
@@ -31,7 +32,10 @@ pub(crate) fn stamp_of_item(item: &LineItem) -> Option<u32>
 }
 
 // Whether a stamp lies behind the greatest by more than the window.
-fn is_behind(stamp: Option<u32>, window: u32, greatest: u32) -> bool {
+fn is_behind(stamp: Option<u32>, window: u32, greatest: u32) -> bool
+    ensures stamped { IfSome stamp (λ s. result ≡ nat_lt (s + window) greatest) }
+    ensures unstamped { IfNone stamp (result ≡ false) }
+{
     match stamp {
         Some(stamp) => u64::from(stamp) + u64::from(window) < u64::from(greatest),
         None => false,

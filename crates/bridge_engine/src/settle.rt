@@ -1,18 +1,18 @@
 //! Writing what is closed.
 
-ghost use Rattle.std.specs.Prelude.{◌≡◌, ◌+◌, ◌^◌, ◌<◌, ◌≤◌, ℕ, List, Option, length, OnOk, OnErr};
+ghost use Rattle.std.specs.Prelude.{◌≡◌, ◌≤◌, ℕ, List, Option, OnOk, OnErr};
 ghost use Rattle.nav_eph.specs.declared.part.Part.{Part};
-ghost use Rattle.period_items.specs.PeriodsOf.{closed_of, periods_of};
+ghost use Rattle.period_items.specs.PeriodsOf.{closed_of};
 ghost use Rattle.issue_periods.specs.Standing.{Stood};
 ghost use Rattle.bridge_engine.specs.Captures.{texts_of};
 ghost use Rattle.bridge_engine.specs.Runs.{AppendsBetween};
-ghost use Rattle.bridge_engine.specs.Settled.{IsWriting, Settled, total_said};
+ghost use Rattle.bridge_engine.specs.Settled.{HasRoom, IsWriting, Settled};
 
 use crate::counts::Said;
 use crate::fault::BridgeFault;
 use crate::outlet::Outlet;
 use issue_periods::Assembly;
-use nav_io::Sink;
+use nav_io::{Failed, Sink};
 
 // Writes each period that is closed at the mark and was not written yet, and counts what is said of it.
 pub(crate) fn write_closed<A: Assembly, O: Outlet, T: Sink>(
@@ -23,10 +23,8 @@ pub(crate) fn write_closed<A: Assembly, O: Outlet, T: Sink>(
     said: &mut Said,
 ) -> Result<(), BridgeFault>
     requires stood { Stood (A.stands_for assembly.old) (λ at. at.mark ≤ mark) }
-    requires room { (parts : List Part) (before : ℕ) (start : Option (List ℕ))
-        → Settled (A.stands_for assembly.old) (A.reference assembly.old) (A.window assembly.old)
-        (O.target outlet.now) parts before start (T.written output.old) said.old
-        → length (periods_of (A.reference assembly.old) (A.window assembly.old) parts) < 2 ^ 64 }
+    requires room { HasRoom (A.stands_for assembly.old) (A.reference assembly.old)
+        (A.window assembly.old) mark said.old }
     ensures reference { A.reference assembly.new ≡ A.reference assembly.old }
     ensures window { A.window assembly.new ≡ A.window assembly.old }
     ensures ok { OnOk result ((parts : List Part) (before : ℕ) (start : Option (List ℕ))
@@ -48,12 +46,10 @@ pub(crate) fn write_closed<A: Assembly, O: Outlet, T: Sink>(
 {
     'giving: loop {
         match assembly.next_closed(mark) {
-            Ok(Some(closed)) => {
-                if outlet.put(&closed, output).is_err() {
-                    return Err(BridgeFault::WriteFault);
-                }
-                said.count(&closed.verdict);
-            }
+            Ok(Some(closed)) => match outlet.put(&closed, output) {
+                Ok(()) => said.count(&closed.verdict),
+                Err(Failed) => return Err(BridgeFault::WriteFault),
+            },
             Ok(None) => return Ok(()),
             Err(_) => return Err(BridgeFault::NoMemory),
         }

@@ -1,0 +1,11 @@
+pub mod Lists
+pub mod Accepting
+pub mod WordEvents
+pub mod Knowing
+pub mod Bringing
+pub mod AllItems
+pub mod HeardValues
+pub mod LaterParts
+pub mod Lasting
+pub mod AnyOrder
+pub mod Sendable

@@ -24,7 +24,9 @@ mod reading;
 
 pub use crate::event::{Event, Refusal};
 pub use crate::laws::{
-    order_of_items_is_nothing, parts_heard_are_values, parts_of_lines_are_values,
-    periods_are_those_heard, taken_parts_are_heard, what_is_closed_stays,
+    further_lines_are_later, further_lines_go_on, lines_bring_what_is_heard,
+    order_of_items_is_nothing, order_of_lines_is_nothing, parts_heard_are_values,
+    parts_of_lines_are_sendable, parts_of_lines_are_values, periods_are_those_heard,
+    taken_parts_are_heard, what_is_closed_stays,
 };
 pub use crate::reading::{message_event, subframe_event, word_event};
