@@ -1,2 +1,6 @@
-mod Jobs
+mod Dates
+mod DigitTexts
+mod Listings
+mod OneJob
+mod Rows
 mod Spellings
