@@ -1,5 +1,7 @@
 mod Dates
 mod DigitTexts
+mod Ends
+mod Headlines
 mod Listings
 mod OneJob
 mod Rows

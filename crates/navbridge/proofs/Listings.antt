@@ -69,7 +69,7 @@ split words rest o begins (p ∷ ps) spells named once =
     let same = begins_once words p o spells.0 rest spells.1 begins in
     record {
       name = subst (λ (q : Choice). IsName q.name) same.0 named.0;
-      more = record { options = ps; spelled = subst (λ (w : List (List ℕ)). Spells w ps) same.1 spells.2; named = named.1; once = once.1; };
+      more = record { options = ps; spelled = subst (λ (w : List (List ℕ)). Spells w ps) same.1 spells.2; named = named.1; once = once.1 };
       free = subst (λ (q : Choice). Holds ps q.name None) same.0 once.0;
     }
 

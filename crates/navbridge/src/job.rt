@@ -62,7 +62,10 @@ fn job_in(from: &[u8], to: &[u8], values: &Values) -> Option<Job>
     if from == b"capture".as_slice() {
         return match capture_to(to, values) {
             None => None,
-            Some(to) => Some(Job::Capture(CaptureJob { week: values.week, to })),
+            Some(to) => Some(Job::Capture(CaptureJob {
+                week: values.week,
+                to,
+            })),
         };
     }
     if from != b"stream".as_slice() || to != b"frames".as_slice() {

@@ -72,7 +72,11 @@ fn leap_of(text: Option<&[u8]>) -> Option<Option<u8>>
         None => Some(None),
         Some(text) => {
             let leap = number_of(text)?;
-            if leap > 99 { None } else { Some(Some(leap as u8)) }
+            if leap > 99 {
+                None
+            } else {
+                Some(Some(leap as u8))
+            }
         }
     }
 }
@@ -87,7 +91,11 @@ fn date_of(text: Option<&[u8]>) -> Option<Option<[u8; 19]>>
         None => Some(None),
         Some(text) => {
             let date = <[u8; 19]>::try_from(text).ok()?;
-            if is_date(text) { Some(Some(date)) } else { None }
+            if is_date(text) {
+                Some(Some(date))
+            } else {
+                None
+            }
         }
     }
 }
@@ -114,7 +122,11 @@ fn sats_of(text: Option<&[u8]>) -> Option<Option<u8>>
         None => Some(None),
         Some(text) => {
             let sats = number_of(text)?;
-            if sats < 1 || sats > 32 { None } else { Some(Some(sats as u8)) }
+            if sats < 1 || sats > 32 {
+                None
+            } else {
+                Some(Some(sats as u8))
+            }
         }
     }
 }
