@@ -1,6 +1,6 @@
 -- Steps of a run over lines: what was taken, written, reported and counted between two lines, and how it ends.
 use Rattle.std.proofs.Common.{◌≡◌, ℕ, ◌+◌, ◌-◌, ◌*◌, ◌<◌, ◌≤◌, ◌^◌, Bool, true, false, List, [], ◌∷◌, ◌++◌, length, take, refl, sym, ap, subst, ◌∙◌, arith, append_assoc, append-nil, length-append}
-use Rattle.std.specs.Prelude.{Option, None, Some, max, unwrap_or}
+use Rattle.std.specs.Prelude.{Option, None, Some, Contains, max, unwrap_or}
 use Rattle.std.proofs.lemmas.Bool.{true≢false}
 use Rattle.std.specs.Io.KnownBytes.{Appends}
 use Rattle.std.proofs.KnownBytes.{Appends-nil, Appends-trans}
@@ -14,10 +14,11 @@ use Rattle.capture_lines.specs.Late.{stamp_of}
 use Rattle.capture_lines.specs.declared.item.LineItem.{LineItem}
 use Rattle.period_items.specs.declared.closed.Closed.{Closed}
 use Rattle.period_items.specs.PeriodsOf.{closed_of, periods_of}
-use Rattle.issue_periods.specs.Standing.{Standing, Stood}
+use Rattle.issue_periods.specs.Standing.{Standing, nothing_yet}
 use Rattle.issue_periods.specs.Given.{last_from, settled}
-use Rattle.issue_periods.proofs.Surface.{standing, closed_of-last}
-use Rattle.capture_log.specs.Events.{Known, events_of, item_line, known_with}
+use Rattle.issue_periods.proofs.Surface.{standing, closed_of-last, closed_of-none, settled_nothing}
+use Rattle.inav_page.specs.Heard.{StampedHalf}
+use Rattle.capture_log.specs.Events.{Known, nothing_known, events_of, item_line, known_with}
 use Rattle.capture_log.specs.Log.{Noted, log_of, mark_after, noted, parts_in, parts_of}
 use Rattle.bridge_engine.specs.declared.target.CaptureTo.{CaptureTo}
 use Rattle.bridge_engine.specs.declared.counts.Tally.{Tally}
@@ -385,4 +386,42 @@ part_last laws now r window to left left1 left2 old middle state start written w
           subst (λ (l : List Line). AppendsBetween start written_new (texts_of to closed) (texts_of to (periods_of r window (parts_of window l)))) same
           (subst (λ (cs : List Closed). AppendsBetween start written_new (texts_of to closed) (texts_of to cs)) all between);
       report = reported_nil window b.given reported reported1 b.follows.report;
+    }
+
+-- ---- before the first line
+
+none_held : (h : StampedHalf) → Contains [] h → ⊥
+none_held h there = absurd (omega (arith, there.1))
+
+keeps_nothing : (keeping : Keeping) (window : ℕ) → keeping.window ≡ window → keeping.greatest ≡ 0 → keeping.kept ≡ [] → KeepsHalves keeping window nothing_known
+keeps_nothing keeping window same greatest kept = record {
+  window_is = same;
+  kept_to = λ h there. absurd (none_held h (subst (λ (l : List StampedHalf). Contains l h) kept there));
+  kept_from = λ h there recent. absurd (none_held h there);
+  recent = λ h there. absurd (none_held h (subst (λ (l : List StampedHalf). Contains l h) kept there));
+  low = omega (arith, greatest);
+}
+
+pub follows_start : (now : Standing → Type 0) (r window : ℕ) (to : CaptureTo) (start reported : Option (List ℕ)) (keeping : Keeping) (tally : Tally) (said : Said)
+    → now nothing_yet → keeping.window ≡ window → keeping.greatest ≡ 0 → keeping.kept ≡ [] → tally ≡ no_tally → said ≡ said_of []
+    → Follows now r window to [] start start reported reported keeping tally said 0
+follows_start now r window to start reported keeping tally said stands same greatest kept counts verdicts =
+    let mark : 0 ≡ mark_after window [] = omega arith in
+    let closed : [] ≡ closed_of r window (mark_after window []) [] = sym (closed_of-none r window []) ∙ ap (λ (m : ℕ). closed_of r window m []) mark in
+    record {
+      settled = record {
+        stands = subst (λ (m : ℕ). now (settled r window [] m)) mark (settled_nothing now r window stands);
+        text = subst (λ (cs : List Closed). Appends start start (texts_of to cs)) closed (Appends-nil start);
+        counts = verdicts ∙ ap said_of closed;
+      };
+      report = Appends-nil reported;
+      counted = record {
+        keeps = keeps_nothing keeping window same greatest kept;
+        greatest_is = refl;
+        counts = counts;
+        few = omega (arith, ap length kept);
+        room = omega (arith, ap total counts);
+        halves = omega arith;
+        parts = omega arith;
+      };
     }

@@ -1,5 +1,5 @@
 -- What the bytes of a frame bring.
-use Rattle.std.proofs.Common.{◌≡◌, ℕ, ◌<◌, ◌≤◌, Bool, true, false, ◌&&◌, nat_lt, nat_eq, List, [], ◌∷◌, length, map, All, Result, Ok, Err, refl, sym, ap, ◌∙◌, arith}
+use Rattle.std.proofs.Common.{◌≡◌, ℕ, ◌<◌, ◌≤◌, true, false, nat_lt, nat_eq, List, [], ◌∷◌, length, map, All, Result, sym, ap, ◌∙◌, arith}
 use Rattle.std.proofs.lemmas.Bool.{and_from, and_parts, cond-true, cond-false, eq-eqb, eqb-true, false_from_ne_true, lt-ltb, ltb-true}
 use Rattle.std.proofs.lemmas.List.Elements.{All-head, All-tail}
 use Rattle.nav_eph.specs.declared.part.Part.{Part}
@@ -9,7 +9,6 @@ use Rattle.rtcm_eph.specs.Reading.{content_of, parts_of}
 use Rattle.rtcm_eph.specs.declared.fault.MessageFault.{MessageFault}
 use Rattle.rtcm_eph.specs.declared.read.MessageParts.{MessageParts}
 use Rattle.capture_log.specs.Events.{is_frame, of_frame, of_message}
-use Rattle.capture_log.specs.declared.event.Event.{Event}
 use Rattle.capture_log.specs.declared.event.Event.TheVariants.{Heard, Refused}
 use Rattle.capture_log.specs.declared.event.Refusal.TheVariants as refusals
 use Rattle.bridge_engine.specs.Notes.{AreFrom}

@@ -1,5 +1,5 @@
 -- What an item brings and lets one know, where it is late and where it is not.
-use Rattle.std.proofs.Common.{◌≡◌, ℕ, ◌+◌, ◌≤◌, max, Bool, true, false, nat_lt, if◌then◌else◌, List, [], ◌∷◌, Option, None, Some, IfSome, IfNone, Result, Ok, Err, OnOk, refl, sym, ap, subst, ◌∙◌, arith}
+use Rattle.std.proofs.Common.{◌≡◌, ℕ, ◌+◌, ◌≤◌, max, Bool, true, false, nat_lt, if◌then◌else◌, List, [], ◌∷◌, Option, Some, IfSome, IfNone, Result, Ok, Err, OnOk, refl, sym, subst, ◌∙◌, arith}
 use Rattle.std.specs.Prelude.{unwrap_or}
 use Rattle.std.proofs.lemmas.Bool.{both_ways, cond-true, cond-false, ltb-false}
 use Rattle.nav_eph.specs.Satellite.{Satellite}
@@ -11,7 +11,6 @@ use Rattle.capture_lines.specs.Late.{stamp_of}
 use Rattle.capture_lines.specs.declared.item.LineItem.{LineItem}
 use Rattle.capture_lines.specs.declared.item.LineItem.TheVariants.{Pass, Lnav, Half, Frame, Malformed as MalformedItem}
 use Rattle.capture_log.specs.Events.{Known, events_of, half_of, halves_with, is_alert, is_late, known_with, of_frame, of_half, of_subframe, with_half}
-use Rattle.capture_log.specs.declared.event.Event.{Event}
 use Rattle.capture_log.specs.declared.event.Event.TheVariants.{Late, Malformed}
 use Rattle.bridge_engine.specs.Notes.{KeepsHalves, TookHalf}
 use Rattle.bridge_engine.proofs.Keeping.{keeps_more}

@@ -1,5 +1,8 @@
 mod Breaking
 mod Breakings
+mod CaptureClauses
+mod CaptureEnds
+mod CaptureFronts
 mod Digits
 mod Feeding
 mod Following

@@ -74,7 +74,7 @@ no_lines p h = ap (map line_of) (no_pieces p h)
 
 -- ---- all but the last bytes
 
-lines_length : (m : Bool) (p : List ℕ) → length (lines_by m p) ≡ length (pieces m p)
+pub lines_length : (m : Bool) (p : List ℕ) → length (lines_by m p) ≡ length (pieces m p)
 lines_length m p = length-map (pieces m p) line_of
 
 -- no more lines end in all but the last 4,096 bytes than in a front that has all but 4,096

@@ -1,7 +1,7 @@
 -- Events after events: what was taken, reported and counted of them.
-use Rattle.std.proofs.Common.{◌≡◌, ℕ, ◌+◌, List, [], ◌∷◌, ◌++◌, map, sum, refl, sym, ap, subst, ◌∙◌, arith, append_assoc, append-nil}
-use Rattle.std.specs.Prelude.{Option, Result, Ok, Err, OnOk, OnErr}
-use Rattle.std.specs.List.{flat_map, sum_by}
+use Rattle.std.proofs.Common.{◌≡◌, ℕ, ◌+◌, List, [], ◌++◌, map, sum, refl, sym, ap, subst, ◌∙◌, arith, append_assoc}
+use Rattle.std.specs.Prelude.{Option, Result}
+use Rattle.std.specs.List.{sum_by}
 use Rattle.std.specs.Io.KnownBytes.{Appends}
 use Rattle.std.proofs.KnownBytes.{Appends-nil, Appends-trans}
 use Rattle.std.proofs.lemmas.Grind.{flat_map-append}
@@ -10,11 +10,11 @@ use Rattle.nav_io.specs.Front.{AppendsFront}
 use Rattle.nav_eph.specs.declared.part.Part.{Part}
 use Rattle.issue_periods.specs.Standing.{Standing, Carries, adding}
 use Rattle.issue_periods.proofs.Surface.{adding_none, adding_more}
-use Rattle.capture_log.specs.Log.{Noted, noted, parts_in, parts_of_event}
+use Rattle.capture_log.specs.Log.{Noted, parts_in, parts_of_event}
 use Rattle.capture_log.specs.declared.event.Event.{Event}
 use Rattle.bridge_engine.specs.declared.counts.Tally.{Tally}
 use Rattle.bridge_engine.specs.declared.fault.BridgeFault.{BridgeFault}
-use Rattle.bridge_engine.specs.Reports.{report_of, count_in, is_malformed, is_late, is_refused, is_unused}
+use Rattle.bridge_engine.specs.Reports.{count_in, is_malformed, is_late, is_refused, is_unused}
 use Rattle.bridge_engine.specs.Notes.{Notes, Takes, line_report, tallied}
 
 -- ---- logs after logs

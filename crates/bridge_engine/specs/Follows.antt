@@ -1,5 +1,5 @@
 -- A capture while it is read, behind its first line. Private functions cite these.
-use Rattle.std.specs.Prelude.{◌≡◌, ℕ, ◌+◌, ◌-◌, ◌*◌, ◌^◌, ◌<◌, ◌≤◌, ◌⊎◌, true, false, List, [], ◌∷◌, ◌++◌, length, take, Option, Some, None, Result, Ok, Err}
+use Rattle.std.specs.Prelude.{◌≡◌, ℕ, ◌+◌, ◌-◌, ◌*◌, ◌^◌, ◌<◌, ◌≤◌, ◌⊎◌, true, false, List, [], ◌∷◌, ◌++◌, length, take, Option, Some, None, IsSome, IfSome, Result, Ok, Err}
 use Rattle.std.specs.Io.KnownBytes.{Appends}
 use Rattle.nav_io.specs.Causes.{Rose}
 use Rattle.nav_io.specs.Front.{AppendsFront}
@@ -17,10 +17,11 @@ use Rattle.bridge_engine.specs.declared.counts.Tally.{Tally}
 use Rattle.bridge_engine.specs.declared.counts.Said.{Said}
 use Rattle.bridge_engine.specs.declared.fault.BridgeFault.{BridgeFault}
 use Rattle.bridge_engine.specs.declared.fault.BridgeFault.TheVariants.{ReadFault, WriteFault, ReportFault, TooLong, NoMemory, NotThisForm}
-use Rattle.bridge_engine.specs.Captures.{accepted_line, texts_of}
+use Rattle.bridge_engine.specs.declared.counts.CaptureCounts.{CaptureCounts}
+use Rattle.bridge_engine.specs.Captures.{accepted_line, capture_of, counts_of, least_output, output_of, report_of_capture, settled_output, texts_of}
 use Rattle.bridge_engine.specs.declared.accept.Accepted.{Accepted}
 use Rattle.bridge_engine.specs.Notes.{KeepsHalves, line_report, tallied, total}
-use Rattle.bridge_engine.specs.Runs.{AppendsBetween}
+use Rattle.bridge_engine.specs.Runs.{AppendsBetween, RunsExactly, RunsPart, RunsWhole, TakesTooMany}
 use Rattle.bridge_engine.specs.Settled.{Settled, said_of}
 
 -- nothing was counted
@@ -124,3 +125,36 @@ GivesNoHead week left left_new old new NotThisForm =
 GivesNoHead week left left_new old new ReadFault = BreaksRead left left_new old new
 GivesNoHead week left left_new old new TooLong = BreaksLong left left_new old new
 GivesNoHead week left left_new old new _ = ⊥
+
+-- the run broke off: a front was written of what the bytes taken give, no less than the least, and a front was reported
+abbrev pub CapturePart : CaptureTo → Option ℕ → Option (List ℕ) → Option (List ℕ) → Option (List ℕ) → Option (List ℕ) → Option (List ℕ) → Option (List ℕ) → Type 0
+CapturePart to week left left_new written written_new reported reported_new =
+    RunsPart (output_of to week) (least_output to week) (report_of_capture week) left left_new written written_new reported reported_new
+
+-- the first line of the bytes that were there is accepted, or it is not
+abbrev pub Accepts : Option ℕ → Option (List ℕ) → Type 0
+Accepts week left = IfSome left (λ bytes. IsSome (capture_of week bytes))
+
+abbrev pub Refuses : Option ℕ → Option (List ℕ) → Type 0
+Refuses week left = IfSome left (λ bytes. capture_of week bytes ≡ None)
+
+-- the run is done: the whole input was taken, and what its bytes give was written, reported and counted
+pub record CaptureDone (to : CaptureTo) (week : Option ℕ) (left left_new written written_new reported reported_new : Option (List ℕ)) (counts : CaptureCounts) : Type 0 where
+  pub whole : RunsWhole (output_of to week) (report_of_capture week) left left_new written written_new reported reported_new
+  pub counted : IfSome left (λ bytes. IfSome (capture_of week bytes) (λ capture. counts ≡ counts_of capture))
+  pub accepts : Accepts week left
+
+-- how the run ends by each fault
+abbrev pub CaptureBroken : CaptureTo → Option ℕ → Option (List ℕ) → Option (List ℕ) → Option (List ℕ) → Option (List ℕ) → Option (List ℕ) → Option (List ℕ) → BridgeFault → Type 0
+CaptureBroken to week left left_new written written_new reported reported_new ReadFault =
+    CapturePart to week left left_new written written_new reported reported_new × RunsExactly (settled_output to week) left left_new written written_new
+CaptureBroken to week left left_new written written_new reported reported_new TooLong =
+    CapturePart to week left left_new written written_new reported reported_new × TakesTooMany left left_new
+CaptureBroken to week left left_new written written_new reported reported_new NotThisForm =
+    CapturePart to week left left_new written written_new reported reported_new × Refuses week left
+CaptureBroken to week left left_new written written_new reported reported_new WriteFault =
+    CapturePart to week left left_new written written_new reported reported_new × Accepts week left
+CaptureBroken to week left left_new written written_new reported reported_new ReportFault =
+    CapturePart to week left left_new written written_new reported reported_new × Accepts week left
+CaptureBroken to week left left_new written written_new reported reported_new NoMemory =
+    CapturePart to week left left_new written written_new reported reported_new × Accepts week left

@@ -1,5 +1,5 @@
 -- One step of a run over a capture: what was taken, reported and counted of a line. Private functions cite these.
-use Rattle.std.specs.Prelude.{◌≡◌, ◌⊎◌, ℕ, ◌+◌, ◌≤◌, max, Bool, if◌then◌else◌, List, [], ◌∷◌, ◌++◌, codes, Contains, Option, Some, Result, Ok, Err, OnOk, OnErr}
+use Rattle.std.specs.Prelude.{◌≡◌, ℕ, ◌+◌, ◌≤◌, max, if◌then◌else◌, List, [], ◌∷◌, ◌++◌, codes, Contains, Option, Result, Ok, Err, OnOk, OnErr}
 use Rattle.std.specs.List.{flat_map}
 use Rattle.std.specs.Io.KnownBytes.{Appends}
 use Rattle.nav_io.specs.Causes.{Rose}
@@ -14,7 +14,7 @@ use Rattle.inav_page.specs.Heard.{StampedHalf}
 use Rattle.inav_page.specs.Keeping.{Keeping, IsRecent}
 use Rattle.inav_word.specs.Reading.{reading_of}
 use Rattle.capture_lines.specs.declared.item.LineItem.{LineItem}
-use Rattle.capture_lines.specs.declared.item.LineItem.TheVariants.{Pass, Lnav, Half, Frame, Malformed}
+use Rattle.capture_lines.specs.declared.item.LineItem.TheVariants.{Lnav, Half}
 use Rattle.issue_periods.specs.Standing.{Standing, Carries}
 use Rattle.capture_log.specs.Events.{Known, half_of, is_alert, with_half, of_word, item_line}
 use Rattle.capture_log.specs.Log.{Noted, parts_in}

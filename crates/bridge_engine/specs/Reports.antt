@@ -1,5 +1,5 @@
 -- The report: a line for each line of the input that is refused, and the counts.
-use Rattle.std.specs.Prelude.{ℕ, ◌+◌, List, [], ◌∷◌, ◌++◌, codes, decimal, map, sum}
+use Rattle.std.specs.Prelude.{ℕ, List, [], ◌++◌, codes, decimal, map, sum}
 use Rattle.std.specs.List.{flat_map}
 use Rattle.capture_log.specs.Log.{Noted}
 use Rattle.capture_log.specs.declared.event.Refusal.{Refusal}

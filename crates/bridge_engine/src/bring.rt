@@ -7,7 +7,8 @@ ghost use Rattle.issue_periods.specs.Standing.{Stood};
 ghost use Rattle.lnav_subframe.specs.Reading.{subframe_of};
 ghost use Rattle.capture_log.specs.Events.{Known, of_frame, of_half, of_subframe, of_word};
 ghost use Rattle.capture_log.specs.Log.{noted};
-ghost use Rattle.bridge_engine.specs.Notes.{IsReporting, KeepsHalves, of_heard, Takes, TookHalf, total};
+ghost use Rattle.bridge_engine.specs.Notes.{IsReporting, KeepsHalves, Takes, TookHalf};
+ghost use Rattle.bridge_engine.specs.Notes.{of_heard, total};
 
 use crate::counts::Tally;
 use crate::fault::BridgeFault;

@@ -1,9 +1,11 @@
 //! The run over a capture.
 
-ghost use Rattle.std.specs.Prelude.{◌≡◌, ◌⊎◌, ◌^◌, ◌<◌, ◌≤◌, Some, None, length, IsTrue, IsOk, IsErr, IsSome, IsErrOf, IfOk, IfErr, IfSome, OnOk, OnErr};
+ghost use Rattle.std.specs.Prelude.{◌≡◌, ◌⊎◌, ◌^◌, ◌<◌, ◌≤◌, None, length, IsTrue, IsOk, IsErr};
+ghost use Rattle.std.specs.Prelude.{IsSome, IsErrOf, IfOk, IfSome, OnOk, OnErr};
 ghost use Rattle.std.specs.Io.KnownBytes.{Appends};
 ghost use Rattle.nav_io.specs.Causes.{Rose};
-ghost use Rattle.bridge_engine.specs.Captures.{capture_of, counts_of, least_output, output_of, report_of_capture, settled_output};
+ghost use Rattle.bridge_engine.specs.Captures.{capture_of, counts_of, least_output, output_of};
+ghost use Rattle.bridge_engine.specs.Captures.{report_of_capture, settled_output};
 ghost use Rattle.bridge_engine.specs.Runs.{HasLeap, RunsExactly, RunsPart, RunsWhole, TakesTooMany};
 
 use crate::counts::CaptureCounts;
@@ -17,16 +19,18 @@ use std::alloc::Global;
 
 /// Reads a capture to its end, and writes what it is converted to while it reads.
 ///
-/// The first line is judged first: it is `NAVCAP 1`, or `NAVCAP 2 <week> <window>`, and the week near which the capture is
-/// read is that of the words or that of the line, which are not two. Then the text in front is written, and after each line
-/// what is closed by it: a record of RINEX or a frame of RTCM for each item, or a line for each period. A line that is
-/// refused gives a line of the report, and at the end the counts stand there.
+/// The first line is judged first: it is `NAVCAP 1`, or `NAVCAP 2 <week> <window>`, and the week
+/// near which the capture is read is that of the words or that of the line, which are not two. Then
+/// the text in front is written, and after each line what is closed by it: a record of RINEX or a
+/// frame of RTCM for each item, or a line for each period. A line that is refused gives a line of
+/// the report, and at the end the counts stand there.
 ///
 /// # Errors
 ///
 /// - `NotThisForm` exactly where the first line is not accepted; nothing is written then.
-/// - `ReadFault`, `WriteFault`, `ReportFault` only where the count of faults of the input, the output or the report rose, or
-///   stands at its last value. After a failed read exactly what is closed by the lines that have ended was written.
+/// - `ReadFault`, `WriteFault`, `ReportFault` only where the count of faults of the input, the
+///   output or the report rose, or stands at its last value. After a failed read exactly what is
+///   closed by the lines that have ended was written.
 /// - `TooLong` only where 4,294,967,295 bytes were taken and one more was there.
 /// - `NoMemory` for want of memory.
 pub fn run_capture<S: Source, T: Sink, U: Sink>(
@@ -54,10 +58,12 @@ pub fn run_capture<S: Source, T: Sink, U: Sink>(
     ensures exact { IsErrOf result BridgeFault.ReadFault → RunsExactly (settled_output to.now week)
         (S.left input.old) (S.left input.new) (T.written output.old) (T.written output.new) }
 
-    // After every other fault no less than what was closed 4,096 bytes and a line before, and a front of the whole.
+    // After every other fault no less than what was closed 4,096 bytes and a line before, and a
+    // front of the whole.
     ensures part { OnErr result (RunsPart (output_of to.now week) (least_output to.now week)
         (report_of_capture week) (S.left input.old) (S.left input.new)
-        (T.written output.old) (T.written output.new) (U.written report.old) (U.written report.new)) }
+        (T.written output.old) (T.written output.new)
+        (U.written report.old) (U.written report.new)) }
 
     // The first line decides whether it is a capture.
     ensures form { IsErrOf result BridgeFault.NotThisForm
@@ -65,7 +71,8 @@ pub fn run_capture<S: Source, T: Sink, U: Sink>(
     ensures refused { IfSome (S.left input.old) (λ bytes.
         IsErrOf result BridgeFault.NotThisForm → capture_of week bytes ≡ None) }
     ensures accepted { IfSome (S.left input.old) (λ bytes.
-        IsOk result ⊎ (IsErrOf result BridgeFault.WriteFault ⊎ IsErrOf result BridgeFault.ReportFault)
+        IsOk result
+        ⊎ (IsErrOf result BridgeFault.WriteFault ⊎ IsErrOf result BridgeFault.ReportFault)
         → IsSome (capture_of week bytes)) }
 
     // Each fault has its cause.

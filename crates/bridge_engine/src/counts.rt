@@ -1,11 +1,11 @@
 //! What a run over a capture counts.
 
-ghost use Rattle.std.specs.Prelude.{◌≡◌, ◌+◌, ◌<◌, ◌≤◌, ◌^◌, ◌++◌, codes, length};
+ghost use Rattle.std.specs.Prelude.{◌≡◌, [], ◌+◌, ◌<◌, ◌≤◌, ◌^◌, ◌++◌, codes, length};
 ghost use Rattle.arrayvec.specs.ArrayVec.{array_vec_len};
 ghost use Rattle.bridge_engine.specs.Reports.{count_line};
 ghost use Rattle.bridge_engine.specs.Captures.{counts_text};
-ghost use Rattle.bridge_engine.specs.Notes.{total};
-ghost use Rattle.bridge_engine.specs.Settled.{said, total_said, with_counts};
+ghost use Rattle.bridge_engine.specs.Follows.{no_tally};
+ghost use Rattle.bridge_engine.specs.Settled.{said, said_of, total_said, with_counts};
 
 use crate::text::{Text, append, append_decimal};
 use period_items::Verdict;
@@ -47,7 +47,7 @@ pub(crate) struct Tally {
 impl Tally {
     // Nothing was counted.
     pub(crate) fn new() -> Tally
-        ensures { total result ≡ 0 }
+        ensures { result ≡ no_tally }
     {
         Tally {
             malformed: 0,
@@ -71,7 +71,7 @@ pub(crate) struct Said {
 impl Said {
     // Nothing was said.
     pub(crate) fn new() -> Said
-        ensures { total_said result ≡ 0 }
+        ensures { result ≡ said_of [] }
     {
         Said {
             whole: 0,

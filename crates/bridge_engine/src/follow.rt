@@ -1,14 +1,14 @@
 //! A capture, line by line, for one outlet.
 
-ghost use Rattle.std.specs.Prelude.{◌≡◌, ◌+◌, ◌^◌, ◌<◌, ◌≤◌, [], ℕ, length, IsTrue, IsSome, IsErrOf, IfOk, IfErr, IfSome, OnOk, OnErr, None, Some};
+ghost use Rattle.std.specs.Prelude.{◌≡◌, ◌⊎◌, ◌^◌, ◌<◌, ◌≤◌, [], length};
+ghost use Rattle.std.specs.Prelude.{IsTrue, IsErrOf, IfOk, IfErr, OnOk, OnErr};
 ghost use Rattle.std.specs.Io.KnownBytes.{Appends};
 ghost use Rattle.nav_io.specs.Causes.{Rose};
 ghost use Rattle.nav_io.specs.Front.{AppendsFront};
-ghost use Rattle.bridge_engine.specs.Captures.{back_text, capture_of, counts_of, counts_text, least_output, output_of, report_of_capture, settled_output};
-ghost use Rattle.bridge_engine.specs.Follows.{Follows, FollowsAll, FollowsBroken, GivesHead, GivesNoHead, HasItsCause, fault_by, faults_of};
-ghost use Rattle.bridge_engine.specs.Notes.{total};
-ghost use Rattle.bridge_engine.specs.Runs.{RunsExactly, RunsPart, RunsWhole, TakesTooMany};
-ghost use Rattle.bridge_engine.specs.Settled.{total_said};
+ghost use Rattle.bridge_engine.specs.Captures.{back_text, counts_text};
+ghost use Rattle.bridge_engine.specs.Follows.{CaptureBroken, CaptureDone, Follows, FollowsAll};
+ghost use Rattle.bridge_engine.specs.Follows.{FollowsBroken, GivesHead, GivesNoHead, HasItsCause};
+ghost use Rattle.bridge_engine.specs.Follows.{fault_by, faults_of};
 
 use crate::accept::{Accepted, accept};
 use crate::counts::{CaptureCounts, Said, Tally, capture_counts_text, counts_with};
@@ -41,8 +41,10 @@ fn first_line<S: Source>(
     input: &mut S,
 ) -> Result<Accepted, BridgeFault>
     requires first { (lines.old.number ≡ 0) × (lines.old.rest ≡ []) }
-    ensures accepted { IfOk result (GivesHead week (S.left input.old) (S.left input.new) lines.old lines.new) }
-    ensures broken { IfErr result (GivesNoHead week (S.left input.old) (S.left input.new) lines.old lines.new) }
+    ensures accepted { IfOk result (GivesHead week
+        (S.left input.old) (S.left input.new) lines.old lines.new) }
+    ensures broken { IfErr result (GivesNoHead week
+        (S.left input.old) (S.left input.new) lines.old lines.new) }
     ensures least { IfOk result (λ a. 60 ≤ a.window) }
     ensures most { IfOk result (λ a. a.window ≤ 14400) }
     ensures read { IsErrOf result BridgeFault.ReadFault
@@ -71,42 +73,35 @@ pub(crate) fn follow_capture<O: Outlet, S: Source, T: Sink, U: Sink>(
     output: &mut T,
     report: &mut U,
 ) -> Result<CaptureCounts, BridgeFault>
-    ensures whole { OnOk result (RunsWhole (output_of (O.target outlet.now) week)
-        (report_of_capture week) (S.left input.old) (S.left input.new)
-        (T.written output.old) (T.written output.new) (U.written report.old) (U.written report.new)) }
-    ensures counts { IfOk result (λ counts. IfSome (S.left input.old) (λ bytes.
-        IfSome (capture_of week bytes) (λ capture. counts ≡ counts_of capture))) }
-    ensures exact { IsErrOf result BridgeFault.ReadFault
-        → RunsExactly (settled_output (O.target outlet.now) week)
-        (S.left input.old) (S.left input.new) (T.written output.old) (T.written output.new) }
-    ensures part { OnErr result (RunsPart (output_of (O.target outlet.now) week)
-        (least_output (O.target outlet.now) week) (report_of_capture week)
+    ensures done { IfOk result (CaptureDone (O.target outlet.now) week
+        (S.left input.old) (S.left input.new) (T.written output.old) (T.written output.new)
+        (U.written report.old) (U.written report.new)) }
+    ensures broken { IfErr result (CaptureBroken (O.target outlet.now) week
         (S.left input.old) (S.left input.new) (T.written output.old) (T.written output.new)
         (U.written report.old) (U.written report.new)) }
     ensures form { IsErrOf result BridgeFault.NotThisForm
         → (output.new ≡ output.old) × (report.new ≡ report.old) }
-    ensures refused { IfSome (S.left input.old) (λ bytes.
-        IsErrOf result BridgeFault.NotThisForm → capture_of week bytes ≡ None) }
-    ensures accepted { IfSome (S.left input.old) (λ bytes.
-        (IsErrOf result BridgeFault.WriteFault → IsSome (capture_of week bytes))
-        × (IsErrOf result BridgeFault.ReportFault → IsSome (capture_of week bytes))) }
     ensures cause { HasItsCause
         (faults_of (S.faults input.old) (T.faults output.old) (U.faults report.old))
         (faults_of (S.faults input.new) (T.faults output.new) (U.faults report.new)) result }
     ensures never { IsTrue (S.never_fails input.old) → IsErrOf result BridgeFault.ReadFault → ⊥ }
-    ensures too_long { IsErrOf result BridgeFault.TooLong
-        → TakesTooMany (S.left input.old) (S.left input.new) }
 {
+    what_is_closed_stays();
+    parts_of_lines_are_values();
     let mut lines = Lines::new();
-    let head = first_line(&mut lines, week, input)?;
-    if outlet.begin(output).is_err() {
-        return Err(BridgeFault::WriteFault);
+    let head = match first_line(&mut lines, week, input) {
+        Ok(head) => head,
+        Err(fault) => return Err(fault),
+    };
+    match outlet.begin(output) {
+        Ok(()) => {}
+        Err(Failed) => return Err(BridgeFault::WriteFault),
     }
     let mut assembly = PlainAssembly::new(alloc, head.week, head.window);
     let mut halves = Halves::new(alloc, head.window);
     let mut tally = Tally::new();
     let mut said = Said::new();
-    follow_lines(
+    match follow_lines(
         outlet,
         head.window,
         &mut lines,
@@ -117,14 +112,19 @@ pub(crate) fn follow_capture<O: Outlet, S: Source, T: Sink, U: Sink>(
         report,
         &mut tally,
         &mut said,
-    )?;
+    ) {
+        Ok(()) => {}
+        Err(fault) => return Err(fault),
+    }
     let counts = counts_with(lines.number(), &tally, &said);
-    end_run(outlet, &counts, output, report)?;
-    Ok(counts)
+    match end_run(outlet, &counts, output, report) {
+        Ok(()) => Ok(counts),
+        Err(fault) => Err(fault),
+    }
 }
 
-// Takes the lines behind the first, one after another, and writes what is closed by each; at the end of the input all that is
-// left.
+// Takes the lines behind the first, one after another, and writes what is closed by each; at the
+// end of the input all that is left.
 pub(crate) fn follow_lines<A: Assembly, O: Outlet, S: Source, T: Sink, U: Sink>(
     outlet: &O,
     window: u32,
@@ -197,6 +197,8 @@ fn end_run<O: Outlet, T: Sink, U: Sink>(
         (back_text (O.target outlet.now) counts.now)) }
     ensures report_part { OnErr result
         (AppendsFront (U.written report.old) (U.written report.new) (counts_text counts.now)) }
+    ensures kind { IfErr result (λ fault.
+        (fault ≡ BridgeFault.WriteFault) ⊎ (fault ≡ BridgeFault.ReportFault)) }
     ensures cause { HasItsCause
         (faults_of 0 (T.faults output.old) (U.faults report.old))
         (faults_of 0 (T.faults output.new) (U.faults report.new)) result }

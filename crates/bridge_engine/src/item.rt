@@ -42,7 +42,8 @@ fn is_behind(stamp: Option<u32>, window: u32, greatest: u32) -> bool
     }
 }
 
-// Takes what the line with this number brings. `greatest` is the greatest stamp of the lines before it.
+// Takes what the line with this number brings. `greatest` is the greatest stamp of the lines before
+// it.
 pub(crate) fn take_item<A: Assembly, U: Sink>(
     item: &LineItem,
     number: u32,

@@ -2,7 +2,8 @@
 
 ghost use Rattle.std.specs.Prelude.{◌≡◌, ◌+◌, ◌≤◌, ◌++◌, length};
 ghost use Rattle.arrayvec.specs.ArrayVec.{array_vec_len};
-ghost use Rattle.bridge_engine.specs.ItemTexts.{issue_text, key_text, list_period, satellite_text, verdict_text};
+ghost use Rattle.bridge_engine.specs.ItemTexts.{issue_text, key_text, list_period};
+ghost use Rattle.bridge_engine.specs.ItemTexts.{satellite_text, verdict_text};
 
 use crate::text::{Text, append, append_decimal, append_hex};
 use nav_eph::{Sat, System};
@@ -22,8 +23,8 @@ pub(crate) fn append_satellite(text: &mut Text, sat: Sat)
     append(text, &[letter, b'0' + number / 10, b'0' + number % 10]);
 }
 
-// Appends what a period is a period of: an ephemeris by its satellite and issue, an ionosphere by the letter of its system and
-// the hexadecimal digits of its content.
+// Appends what a period is a period of: an ephemeris by its satellite and issue, an ionosphere by
+// the letter of its system and the hexadecimal digits of its content.
 fn append_key(text: &mut Text, key: &Key)
     requires { array_vec_len text.old + 48 ≤ 640 }
     ensures items { text.new.items ≡ text.old.items ++ key_text key.now }
@@ -69,8 +70,8 @@ fn verdict_word(verdict: &Verdict) -> &'static [u8]
     }
 }
 
-/// The line of a period in a list: `<end> EPH <satellite> <issue> <verdict>`, or `<end> ION G <16 digits> <verdict>`, of
-/// Galileo `<end> ION E <11 digits> <verdict>`, and LF.
+/// The line of a period in a list: `<end> EPH <satellite> <issue> <verdict>`, or
+/// `<end> ION G <16 digits> <verdict>`, of Galileo `<end> ION E <11 digits> <verdict>`, and LF.
 #[tactic(auto, unfolding(crate::specs::ItemTexts::list_period))]
 pub(crate) fn period_line(closed: &Closed) -> Text
     ensures { result.items ≡ list_period closed.now }

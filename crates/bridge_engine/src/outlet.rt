@@ -5,7 +5,8 @@ ghost use Rattle.std.specs.Io.KnownBytes.{Appends};
 ghost use Rattle.nav_io.specs.Causes.{HasCause};
 ghost use Rattle.nav_io.specs.Front.{AppendsFront};
 ghost use Rattle.bridge_engine.specs.declared.target.CaptureTo.{CaptureTo};
-ghost use Rattle.bridge_engine.specs.declared.target.CaptureTo.TheVariants.{Rinex, Rtcm, ToList, Count};
+ghost use Rattle.bridge_engine.specs.declared.target.CaptureTo.TheVariants.{Rinex, Rtcm};
+ghost use Rattle.bridge_engine.specs.declared.target.CaptureTo.TheVariants.{ToList, Count};
 ghost use Rattle.bridge_engine.specs.Captures.{back_text, front_text, period_text};
 
 use crate::counts::{CaptureCounts, capture_counts_text};
@@ -15,7 +16,8 @@ use nav_io::{Failed, Sink};
 use period_items::{Closed, Verdict};
 use rinex_write::{HeaderWords, write_header, write_item};
 
-// Writes what a capture becomes: a text in front, one for each period, and one behind, each by one write.
+// Writes what a capture becomes: a text in front, one for each period, and one behind, each by one
+// write.
 pub(crate) trait Outlet {
     // The form that it writes.
     ghost target: { Self → CaptureTo };
@@ -23,22 +25,28 @@ pub(crate) trait Outlet {
     // Writes what stands in front of the periods.
     fn begin<T: Sink>(&self, out: &mut T) -> Result<(), Failed>
         ensures bytes { MatchResult result
-            (λ _. Appends (T.written out.old) (T.written out.new) (front_text (target self.now)))
-            (λ _. AppendsFront (T.written out.old) (T.written out.new) (front_text (target self.now))) }
+            (λ _. Appends (T.written out.old) (T.written out.new)
+            (front_text (target self.now)))
+            (λ _. AppendsFront (T.written out.old) (T.written out.new)
+            (front_text (target self.now))) }
         ensures cause { HasCause (T.faults out.old) (T.faults out.new) result };
 
     // Writes what a period becomes.
     fn put<T: Sink>(&self, closed: &Closed, out: &mut T) -> Result<(), Failed>
         ensures bytes { MatchResult result
-            (λ _. Appends (T.written out.old) (T.written out.new) (period_text (target self.now) closed.now))
-            (λ _. AppendsFront (T.written out.old) (T.written out.new) (period_text (target self.now) closed.now)) }
+            (λ _. Appends (T.written out.old) (T.written out.new)
+            (period_text (target self.now) closed.now))
+            (λ _. AppendsFront (T.written out.old) (T.written out.new)
+            (period_text (target self.now) closed.now)) }
         ensures cause { HasCause (T.faults out.old) (T.faults out.new) result };
 
     // Writes what stands behind them.
     fn end<T: Sink>(&self, counts: &CaptureCounts, out: &mut T) -> Result<(), Failed>
         ensures bytes { MatchResult result
-            (λ _. Appends (T.written out.old) (T.written out.new) (back_text (target self.now) counts.now))
-            (λ _. AppendsFront (T.written out.old) (T.written out.new) (back_text (target self.now) counts.now)) }
+            (λ _. Appends (T.written out.old) (T.written out.new)
+            (back_text (target self.now) counts.now))
+            (λ _. AppendsFront (T.written out.old) (T.written out.new)
+            (back_text (target self.now) counts.now)) }
         ensures cause { HasCause (T.faults out.old) (T.faults out.new) result };
 }
 

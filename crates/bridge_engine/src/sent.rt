@@ -13,8 +13,8 @@ use nav_io::{Failed, Sink};
 use rtcm_eph::{write_1019, write_1046};
 use rtcm_frame::write_frame;
 
-/// Appends the frame of an ephemeris to a sink, by one write: message 1019 or 1046 (RTCM 10403.3, 3.5). Nothing is written of
-/// an ionosphere.
+/// Appends the frame of an ephemeris to a sink, by one write: message 1019 or 1046 (RTCM 10403.3,
+/// 3.5). Nothing is written of an ionosphere.
 #[tactic(auto, unfolding(crate::specs::ItemTexts::rtcm_item))]
 pub(crate) fn write_message<T: Sink>(item: &NavItem, out: &mut T) -> Result<(), Failed>
     ensures bytes { MatchResult result

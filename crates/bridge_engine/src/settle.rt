@@ -14,7 +14,8 @@ use crate::outlet::Outlet;
 use issue_periods::Assembly;
 use nav_io::{Failed, Sink};
 
-// Writes each period that is closed at the mark and was not written yet, and counts what is said of it.
+// Writes each period that is closed at the mark and was not written yet, and counts what is said of
+// it.
 pub(crate) fn write_closed<A: Assembly, O: Outlet, T: Sink>(
     outlet: &O,
     assembly: &mut A,

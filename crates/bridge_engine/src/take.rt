@@ -1,11 +1,13 @@
-//! Taking what a line brings: parts go to the assembly, refusals to the report, and the rest is counted.
+//! Taking what a line brings: parts go to the assembly, refusals to the report, and the rest is
+//! counted.
 
 ghost use Rattle.std.specs.Prelude.{◌≡◌, ◌+◌, ◌^◌, ◌<◌, ◌≤◌, ◌∷◌, [], OnOk, OnErr};
 ghost use Rattle.std.specs.Io.KnownBytes.{Appends};
 ghost use Rattle.nav_io.specs.Front.{AppendsFront};
 ghost use Rattle.issue_periods.specs.Standing.{Stood};
 ghost use Rattle.capture_log.specs.Log.{noted};
-ghost use Rattle.bridge_engine.specs.Notes.{AreFrom, IfHeard, IsReporting, Takes, total, weight, weights};
+ghost use Rattle.bridge_engine.specs.Notes.{AreFrom, IfHeard, IsReporting, Takes};
+ghost use Rattle.bridge_engine.specs.Notes.{total, weight, weights};
 
 use crate::counts::Tally;
 use crate::fault::BridgeFault;

@@ -1,4 +1,4 @@
-use Rattle.std.proofs.Common.{◌≡◌, ℕ, ◌+◌, List, ◌++◌, take, drop, sym, ap, subst, ◌∙◌, arith}
+use Rattle.std.proofs.Common.{ℕ, ◌+◌, List, ◌++◌, take, drop, sym, ap, subst, ◌∙◌, arith}
 use Rattle.std.proofs.lemmas.Result.{err_from_is_err_and}
 use Rattle.nav_io.specs.Front.{AppendsFront}
 use Rattle.inav_word.specs.Reading.{reading_of}
@@ -29,7 +29,11 @@ taking-preserved g c =
           subst
           (λ (log : List Noted). Notes (g.A.Assembly.stands_for c.args.assembly.now) (g.A.Assembly.stands_for c.take_word.new.assembly)
           (g.U.Sink.written c.args.report.now) (g.U.Sink.written c.take_word.new.report) c.args.tally.now c.take_word.new.tally log)
-          (sym log) (notes_more _ _ _ _ _ _ _ _ _ _ _ invariant.notes c.in_ok-take_word.ensures.took.0);
+          (sym log)
+          (notes_more (g.A.Assembly.stands_for c.args.assembly.now) (g.A.Assembly.stands_for c.taking.assembly)
+          (g.A.Assembly.stands_for c.take_word.new.assembly) (g.U.Sink.written c.args.report.now) (g.U.Sink.written c.taking.report)
+          (g.U.Sink.written c.take_word.new.report) c.args.tally.now c.taking.tally c.take_word.new.tally before
+          (noted number (of_word (reading_of word sat c.stamp-stamp.result))) invariant.notes c.in_ok-take_word.ensures.took.0);
       room = omega (arith, c.in_ok-take_word.ensures.room, invariant.room);
       faults = c.in_ok-take_word.ensures.cause ∙ invariant.faults;
       stamp = invariant.stamp;
