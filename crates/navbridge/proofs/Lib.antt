@@ -1,4 +1,8 @@
+mod Dates
+mod DigitTexts
+mod Ends
 mod Headlines
-mod Jobs
+mod Listings
 mod OneJob
+mod Rows
 mod Spellings

@@ -1,45 +1,100 @@
--- The job that the words of the command line give.
-use Rattle.std.specs.Prelude.{◌≡◌, ◌⊎◌, ℕ, List, [], ◌∷◌, ◌++◌, codes, Contains, IsPermutation}
-use Rattle.navbridge.specs.declared.words.Job.{Job}
-use Rattle.navbridge.specs.declared.words.Job.TheVariants.{StreamToFrames}
+-- The job that the words of the command line give: the table of jobs.
+use Rattle.std.specs.Prelude.{◌≡◌, ◌≤◌, ◌^◌, ◌<◌, ℕ, List, codes, take, drop, length, slice_index, IsTrue, Option, None, Some}
+use Rattle.std.specs.Str.Parse.{digits_value}
+use Rattle.std.specs.Char.{is_ascii_digit}
+use Rattle.std.specs.List.{list_all}
+use Rattle.gnss_week.specs.Weeks.{IsReference}
+use Rattle.bridge_engine.specs.declared.target.CaptureTo.{CaptureTo}
+use Rattle.bridge_engine.specs.declared.target.CaptureTo.TheVariants.{Rinex, Rtcm, ToList, Count}
+use Rattle.navbridge.specs.declared.job.Job.{Job}
+use Rattle.navbridge.specs.declared.job.Job.TheVariants.{StreamToFrames, Capture}
+use Rattle.navbridge.specs.declared.values.Values.{Values}
+use Rattle.navbridge.specs.Options.{Given, GiveValues}
 
--- an option: its name and its value
-pub record Choice : Type 0 where
-  pub name : List ℕ
-  pub value : List ℕ
+-- one to ten decimal digits write the number
+pub record Writes (text : List ℕ) (number : ℕ) : Type 0 where
+  pub some : 1 ≤ length text
+  pub few : length text ≤ 10
+  pub digits : IsTrue (list_all is_ascii_digit text)
+  pub value : digits_value 10 text ≡ number
 
--- the option of this name and this value
-abbrev pub choice : List ℕ → List ℕ → Choice
-choice name value = record { name = name; value = value }
+-- the text of a week, which is one of the reference weeks
+abbrev pub IsWeekText : List ℕ → ℕ → Type 0
+IsWeekText text week = Writes text week × IsReference week
 
--- the text begins with a dash
-abbrev pub BeginsWithDash : List ℕ → Type 0
-BeginsWithDash text = (more : List ℕ) × (text ≡ codes "-" ++ more)
+-- the text of leap seconds: 99 at most
+abbrev pub IsLeapText : List ℕ → ℕ → Type 0
+IsLeapText text leap = Writes text leap × (leap ≤ 99)
 
--- These words spell the option: `--name=value`, or `--name` and then a value that doesn't begin with a dash. No name has `=` in it.
-abbrev pub IsSpelling : List (List ℕ) → Choice → Type 0
-IsSpelling words option =
-    ¬ Contains option.name 61
-    × ((words ≡ (codes "--" ++ option.name ++ codes "=" ++ option.value) ∷ [])
-    ⊎ ((words ≡ (codes "--" ++ option.name) ∷ option.value ∷ []) × ¬ BeginsWithDash option.value))
+-- the text of a date: eight digits, a space, six digits, and ` UTC`
+pub record IsDateText (text date : List ℕ) : Type 0 where
+  pub same : date ≡ text
+  pub size : length text ≡ 19
+  pub day : IsTrue (list_all is_ascii_digit (take 8 text))
+  pub space : slice_index text 8 ≡ 32
+  pub time : IsTrue (list_all is_ascii_digit (take 6 (drop 9 text)))
+  pub zone : drop 15 text ≡ codes " UTC"
 
--- the words begin with a spelling of the option, and these are the words after it
-abbrev pub Begins : List (List ℕ) → Choice → List (List ℕ) → Type 0
-Begins words option rest = (front : List (List ℕ)) × (words ≡ front ++ rest) × IsSpelling front option
+-- the text of a seed, a number of 32 bits
+abbrev pub IsSeedText : List ℕ → ℕ → Type 0
+IsSeedText text seed = Writes text seed × (seed < 2 ^ 32)
 
--- the words spell these options, one after another
-abbrev pub Spells : List (List ℕ) → List Choice → Type 0
-Spells words [] = words ≡ []
-Spells words (option ∷ options) = (rest : List (List ℕ)) × Begins words option rest × Spells rest options
+-- the text of a number of satellites: 1 to 32
+abbrev pub IsSatsText : List ℕ → ℕ → Type 0
+IsSatsText text sats = Writes text sats × (1 ≤ sats) × (sats ≤ 32)
 
--- the options say this job: they are exactly its options, in any order
-abbrev pub Says : List Choice → Job → Type 0
-Says options StreamToFrames =
-    IsPermutation options (choice (codes "from") (codes "stream") ∷ choice (codes "to") (codes "frames") ∷ [])
+-- an option has a value of the kind, or neither is there
+abbrev pub Reads : {A : Type 0} → (List ℕ → A → Type 0) → Option (List ℕ) → Option A → Type 0
+Reads kind None None = Unit {0}
+Reads kind None (Some value) = ⊥
+Reads kind (Some text) None = ⊥
+Reads kind (Some text) (Some value) = kind text value
 
--- the words spell options that say this job
-abbrev pub IsJob : List (List ℕ) → Job → Type 0
-IsJob words job = (options : List Choice) × Spells words options × Says options job
+-- the options, except those that name the forms, have these values, each in its range
+pub record ReadsAs (given : Given) (values : Values) : Type 0 where
+  pub week : Reads IsWeekText given.week values.week
+  pub leap : Reads IsLeapText given.leap values.leap
+  pub date : Reads IsDateText given.date values.date
+  pub seed : Reads IsSeedText given.seed values.seed
+  pub sats : Reads IsSatsText given.sats values.sats
+
+-- a row of the table of jobs: what stands behind `--from` and `--to`, and the further options. `Some` is an option that
+-- the row must have, `None` one that it doesn't have, and a name stands for an option that it may have.
+pub record Row : Type 0 where
+  pub from : List ℕ
+  pub to : List ℕ
+  pub values : Values
+
+abbrev pub row : List ℕ → List ℕ → Values → Row
+row from to values = record { from = from; to = to; values = values }
+
+-- no further option
+abbrev pub nothing : Values
+nothing = record { week = None; leap = None; date = None; seed = None; sats = None }
+
+-- the rows from a capture
+abbrev pub capture_row : Option ℕ → CaptureTo → Row
+capture_row week (Rinex words) = row (codes "capture") (codes "rinex") (record nothing { week = week; date = Some words.date; leap = Some words.leap })
+capture_row week Rtcm = row (codes "capture") (codes "rtcm") (record nothing { week = week })
+capture_row week ToList = row (codes "capture") (codes "list") (record nothing { week = week })
+capture_row week Count = row (codes "capture") (codes "count") (record nothing { week = week })
+
+-- the table of jobs
+abbrev pub row_of : Job → Row
+row_of StreamToFrames = row (codes "stream") (codes "frames") nothing
+row_of (Capture job) = capture_row job.week job.to
+
+-- the options are exactly those of the job's row, and say its values
+pub record Asks (given : Given) (job : Job) : Type 0 where
+  pub from : given.from ≡ Some (row_of job).from
+  pub to : given.to ≡ Some (row_of job).to
+  pub values : ReadsAs given (row_of job).values
+
+-- the words give the job
+pub record IsJob (words : List (List ℕ)) (job : Job) : Type 0 where
+  pub given : Given
+  pub options : GiveValues words given
+  pub asks : Asks given job
 
 -- the words give some job
 abbrev pub GivesJob : List (List ℕ) → Type 0

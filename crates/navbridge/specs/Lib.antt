@@ -1,2 +1,5 @@
+pub mod Options
 pub mod Job
-pub mod CaptureJobs
+pub mod JobTexts
+pub mod Found
+pub mod Statuses

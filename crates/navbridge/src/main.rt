@@ -15,10 +15,11 @@ use std::process::ExitCode;
 mod bits;
 #[cfg(test)]
 mod capture_tests;
-mod capture_words;
 #[cfg(test)]
 mod failures;
+mod job;
 mod laws;
+mod options;
 #[cfg(test)]
 mod rows;
 mod statuses;
@@ -26,6 +27,7 @@ mod statuses;
 mod tests;
 #[cfg(test)]
 mod texts;
+mod values;
 mod words;
 
 // No memory for the list of words.

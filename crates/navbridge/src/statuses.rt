@@ -1,22 +1,20 @@
 //! The top call: the words of the command line, an input, an output and a report, and the status.
 
-ghost use Rattle.std.specs.Prelude.{◌≡◌, ◌≢◌, ◌^◌, ◌<◌, ◌≤◌, ◌↔◌, ◌⊎◌, ℕ, Option, Some, None, length, map, IsSome, IsTrue, IfSome};
+ghost use Rattle.std.specs.Prelude.{◌≡◌, ◌≢◌, ◌^◌, ◌<◌, ◌≤◌, ◌↔◌, ◌⊎◌, ℕ, Option, Some, Result, length, map, IsTrue, IfSome, IfOk, OnOk, IsErrOf, MatchResult};
 ghost use Rattle.std.specs.String.{string_bytes};
 ghost use Rattle.std.specs.Io.KnownBytes.{Appends, IsAtEnd};
 ghost use Rattle.nav_io.specs.Causes.{Rose};
 ghost use Rattle.rinex_write.specs.Texts.{rinex_text};
 ghost use Rattle.rinex_write.specs.declared.header.HeaderWords.{HeaderWords};
-ghost use Rattle.bridge_engine.specs.Captures.{Capture, capture_of, items, least_output, output_of as text_of_capture, report_of_capture, settled_output};
-ghost use Rattle.bridge_engine.specs.FrameLines.{line_of};
-ghost use Rattle.bridge_engine.specs.FrameRuns.{output_of, RunsPart};
-ghost use Rattle.run_texts.specs.Runs.{RunsExactly, RunsPart as CapturePart, TakesTooMany};
+ghost use Rattle.bridge_engine.specs.Captures.{Capture, capture_of, items};
+ghost use Rattle.run_texts.specs.Runs.{RunsPart, TakesTooMany};
 ghost use Rattle.bridge_engine.specs.declared.target.CaptureTo.TheVariants.{Rinex};
 ghost use Rattle.navbridge.specs.Job.{IsJob, GivesJob};
-ghost use Rattle.navbridge.specs.CaptureJobs.{IsCaptureJob, GivesCaptureJob};
-ghost use Rattle.navbridge.specs.declared.capture_words.CaptureJob.{CaptureJob};
+ghost use Rattle.navbridge.specs.JobTexts.{out_of, report_of, Accepts, least_of, Stops, IsSilent, TakesMemory};
+ghost use Rattle.navbridge.specs.Statuses.{fault_status};
+ghost use Rattle.navbridge.specs.declared.job.Job.{Job};
 
-use crate::capture_words::capture_job;
-use crate::words::{Job, job_of};
+use crate::job::{Job, job_of};
 use bridge_engine::{BridgeFault, run_capture, run_frames};
 use nav_io::{Sink, Source};
 use std::alloc::Global;
@@ -46,7 +44,8 @@ pub fn bridge<S: Source, T: Sink, U: Sink>(
     // Whatever pieces a capture is read in, a run that answers 0 has written the RINEX text of exactly the items of its
     // periods that are whole, each once, in their order.
     ensures headline { (week : Option ℕ) (header : HeaderWords)
-        → IsCaptureJob (map string_bytes words.now) (record { week = week; to = Rinex header })
+        → IsJob (map string_bytes words.now)
+        (Job.Capture (record { week = week; to = Rinex header }))
         → result ≡ 0 → IfSome (S.left input.old) (λ bytes. (capture : Capture)
         × (capture_of week bytes ≡ Some capture)
         × Appends (T.written output.old) (T.written output.new) (rinex_text header (items capture))
@@ -56,8 +55,7 @@ pub fn bridge<S: Source, T: Sink, U: Sink>(
         ⊎ ((result ≡ 6) ⊎ ((result ≡ 7) ⊎ (result ≡ 8))))))) }
 
     // The words alone decide whether there is a job.
-    ensures no_job { (result ≡ 2)
-        ↔ ((¬ GivesJob (map string_bytes words.now)) × ¬ GivesCaptureJob (map string_bytes words.now)) }
+    ensures no_job { (result ≡ 2) ↔ ¬ GivesJob (map string_bytes words.now) }
     ensures untouched { result ≡ 2 → (input.new ≡ input.old) × (output.new ≡ output.old)
         × (report.new ≡ report.old) }
 
@@ -74,82 +72,62 @@ pub fn bridge<S: Source, T: Sink, U: Sink>(
     ensures report { result ≡ 7 → Rose (U.faults report.old) (U.faults report.new) }
     ensures too_long { result ≡ 8 → TakesTooMany (S.left input.old) (S.left input.new) }
 
-    // Of a stream the line of each frame is written, and nothing is reported.
-    ensures frames_report { IsJob (map string_bytes words.now) Job.StreamToFrames
-        → report.new ≡ report.old }
-    ensures frames_text { IsJob (map string_bytes words.now) Job.StreamToFrames → result ≡ 0
+    // What the bytes give is written and reported.
+    ensures text { (job : Job) → IsJob (map string_bytes words.now) job → result ≡ 0
         → IfSome (S.left input.old) (λ bytes.
-        Appends (T.written output.old) (T.written output.new) (output_of line_of bytes)) }
-    ensures frames_complete { IsJob (map string_bytes words.now) Job.StreamToFrames
-        → IfSome (S.left input.old) (λ bytes. length bytes < 2 ^ 32
-        → ¬ Rose (S.faults input.old) (S.faults input.new)
-        → ¬ Rose (T.faults output.old) (T.faults output.new) → result ≡ 0) }
-    ensures frames_read { IsJob (map string_bytes words.now) Job.StreamToFrames → result ≡ 3
-        → RunsPart line_of (S.left input.old) (S.left input.new)
-        (T.written output.old) (T.written output.new) BridgeFault.ReadFault }
-    ensures frames_write { IsJob (map string_bytes words.now) Job.StreamToFrames → result ≡ 4
-        → RunsPart line_of (S.left input.old) (S.left input.new)
-        (T.written output.old) (T.written output.new) BridgeFault.WriteFault }
-    ensures frames_long { IsJob (map string_bytes words.now) Job.StreamToFrames → result ≡ 8
-        → RunsPart line_of (S.left input.old) (S.left input.new)
-        (T.written output.old) (T.written output.new) BridgeFault.TooLong }
+        Appends (T.written output.old) (T.written output.new) (out_of job bytes)) }
+    ensures report_text { (job : Job) → IsJob (map string_bytes words.now) job → result ≡ 0
+        → IfSome (S.left input.old) (λ bytes.
+        Appends (U.written report.old) (U.written report.new) (report_of job bytes)) }
+    ensures silent { (job : Job) → IsJob (map string_bytes words.now) job → IsSilent job
+        → report.new ≡ report.old }
 
-    // Of a capture is written and reported what its bytes give.
-    ensures capture_text { (job : CaptureJob) → IsCaptureJob (map string_bytes words.now) job
-        → result ≡ 0 → IfSome (S.left input.old) (λ bytes. Appends (T.written output.old)
-        (T.written output.new) (text_of_capture job.to job.week bytes)) }
-    ensures capture_report { (job : CaptureJob) → IsCaptureJob (map string_bytes words.now) job
-        → result ≡ 0 → IfSome (S.left input.old) (λ bytes. Appends (U.written report.old)
-        (U.written report.new) (report_of_capture job.week bytes)) }
-    ensures capture_complete { (job : CaptureJob) → IsCaptureJob (map string_bytes words.now) job
-        → IfSome (S.left input.old) (λ bytes. length bytes < 2 ^ 32
-        → IsSome (capture_of job.week bytes)
+    // A job is done where nothing fails, or memory was wanting.
+    ensures complete { (job : Job) → IsJob (map string_bytes words.now) job
+        → IfSome (S.left input.old) (λ bytes. length bytes < 2 ^ 32 → Accepts job bytes
         → ¬ Rose (S.faults input.old) (S.faults input.new)
         → ¬ Rose (T.faults output.old) (T.faults output.new)
-        → ¬ Rose (U.faults report.old) (U.faults report.new)
-        → (result ≡ 0) ⊎ (result ≡ 6)) }
+        → IsSilent job ⊎ ¬ Rose (U.faults report.old) (U.faults report.new)
+        → (result ≡ 0) ⊎ ((result ≡ 6) × TakesMemory job)) }
 
-    // The first line decides whether it is one.
+    // The first line decides whether the input has the form of the job.
     ensures form { result ≡ 5 → (output.new ≡ output.old) × (report.new ≡ report.old) }
-    ensures refused { (job : CaptureJob) → IsCaptureJob (map string_bytes words.now) job
-        → result ≡ 5 → IfSome (S.left input.old) (λ bytes. capture_of job.week bytes ≡ None) }
-    ensures accepted { (job : CaptureJob) → IsCaptureJob (map string_bytes words.now) job
+    ensures refused { (job : Job) → IsJob (map string_bytes words.now) job → result ≡ 5
+        → IfSome (S.left input.old) (λ bytes. ¬ Accepts job bytes) }
+    ensures accepted { (job : Job) → IsJob (map string_bytes words.now) job
         → (result ≡ 0) ⊎ ((result ≡ 4) ⊎ (result ≡ 7))
-        → IfSome (S.left input.old) (λ bytes. IsSome (capture_of job.week bytes)) }
+        → IfSome (S.left input.old) (λ bytes. Accepts job bytes) }
 
-    // After a failed read exactly that was written which is closed by the lines that have ended; after every other fault no
-    // less than what was closed 4,096 bytes and a line before, and a front of the whole.
-    ensures exact { (job : CaptureJob) → IsCaptureJob (map string_bytes words.now) job
-        → result ≡ 3 → RunsExactly (settled_output job.to job.week)
-        (S.left input.old) (S.left input.new) (T.written output.old) (T.written output.new) }
-    ensures part { (job : CaptureJob) → IsCaptureJob (map string_bytes words.now) job
-        → result ≢ 0 → CapturePart (text_of_capture job.to job.week) (least_output job.to job.week)
-        (report_of_capture job.week) (S.left input.old) (S.left input.new)
-        (T.written output.old) (T.written output.new) (U.written report.old) (U.written report.new) }
+    // Where a read fails, what was written is what the job says of the bytes that were taken; after every other fault no less
+    // than the least that it says, and a front of the whole.
+    ensures stops { (job : Job) → IsJob (map string_bytes words.now) job → result ≡ 3
+        → Stops job (S.left input.old) (S.left input.new)
+        (T.written output.old) (T.written output.new) }
+    ensures part { (job : Job) → IsJob (map string_bytes words.now) job → result ≢ 0
+        → RunsPart (out_of job) (least_of job) (report_of job)
+        (S.left input.old) (S.left input.new) (T.written output.old) (T.written output.new)
+        (U.written report.old) (U.written report.new) }
 {
-    if let Some(Job::StreamToFrames) = job_of(words) {
-        return match run_frames(input, output) {
-            Ok(_) => 0,
-            Err(fault) => status_of(fault),
-        };
-    }
-    match capture_job(words) {
-        Some(job) => match run_capture(alloc, job.week, &job.to, input, output, report) {
-            Ok(_) => 0,
-            Err(fault) => status_of(fault),
-        },
+    match job_of(words) {
         None => 2,
+        Some(Job::StreamToFrames) => status_of(run_frames(input, output)),
+        Some(Job::Capture(job)) => {
+            status_of(run_capture(alloc, job.week, &job.to, input, output, report))
+        }
     }
 }
 
 // The status of a run that ended so.
-fn status_of(fault: BridgeFault) -> u8 {
-    match fault {
-        BridgeFault::ReadFault => 3,
-        BridgeFault::WriteFault => 4,
-        BridgeFault::NotThisForm => 5,
-        BridgeFault::NoMemory => 6,
-        BridgeFault::ReportFault => 7,
-        BridgeFault::TooLong => 8,
+fn status_of<C: Copy>(run: Result<C, BridgeFault>) -> u8
+    ensures { MatchResult run (λ _. result ≡ 0) (λ fault. result ≡ fault_status fault) }
+{
+    match run {
+        Ok(_) => 0,
+        Err(BridgeFault::ReadFault) => 3,
+        Err(BridgeFault::WriteFault) => 4,
+        Err(BridgeFault::NotThisForm) => 5,
+        Err(BridgeFault::NoMemory) => 6,
+        Err(BridgeFault::ReportFault) => 7,
+        Err(BridgeFault::TooLong) => 8,
     }
 }

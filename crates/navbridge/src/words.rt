@@ -1,34 +1,10 @@
-//! The words of the command line, and the job that they give.
+//! The words of the command line, read as options.
 //!
-//! An option is one word, `--name=value`, or two, `--name` and a value that doesn't begin with a
-//! dash. A job is a set of options, each of which stands exactly once, in any order.
+//! An option is one word, `--name=value`, or two, `--name` and a value that doesn't begin with a dash.
 
-ghost use Rattle.std.specs.Prelude.{◌≡◌, ◌∷◌, ◌++◌, ℕ, List, map, codes, IsTrue, ◌↔◌, MatchOption, Contains};
+ghost use Rattle.std.specs.Prelude.{◌≡◌, ◌<◌, ◌++◌, ℕ, List, length, map, codes, IsTrue, ◌↔◌, MatchOption, IfSome, Contains};
 ghost use Rattle.std.specs.String.{string_bytes};
-ghost use Rattle.navbridge.specs.Job.{Choice, choice, BeginsWithDash, Begins, IsJob, GivesJob};
-
-/// Which conversion the words ask for.
-#[derive(Clone, Copy, Debug, PartialEq, Eq)]
-pub enum Job {
-    /// `--from stream --to frames`: a line for each RTCM 3 frame of a stream.
-    StreamToFrames,
-}
-
-/// The job that the words give, where they give one.
-pub fn job_of(words: &[String]) -> Option<Job>
-    ensures { MatchOption result (¬ GivesJob (map string_bytes words.now))
-        (IsJob (map string_bytes words.now)) }
-{
-    let first = first_option(words)?;
-    let second = first_option(first.rest)?;
-    if !second.rest.is_empty() {
-        return None;
-    }
-    if is_frames(&first, &second) || is_frames(&second, &first) {
-        return Some(Job::StreamToFrames);
-    }
-    None
-}
+ghost use Rattle.navbridge.specs.Options.{Choice, choice, BeginsWithDash, Begins};
 
 // The option that some words begin with, and the words after it.
 #[derive(Clone, Copy)]
@@ -38,27 +14,13 @@ pub(crate) struct Front<'a> {
     pub(crate) rest: &'a [String],
 }
 
-// Whether these are the options of the job from a stream to frames, in this order.
-fn is_frames(from: &Front, to: &Front) -> bool
-    ensures { IsTrue result ↔ ((choice from.now.name.now from.now.value.now ≡ choice (codes "from") (codes "stream"))
-        × (choice to.now.name.now to.now.value.now ≡ choice (codes "to") (codes "frames"))) }
-{
-    is_option(from, b"from", b"stream") && is_option(to, b"to", b"frames")
-}
-
-// Whether the option has this name and this value.
-fn is_option(option: &Front, name: &[u8], value: &[u8]) -> bool
-    ensures { IsTrue result ↔ (choice option.now.name.now option.now.value.now ≡ choice name.now value.now) }
-{
-    option.name == name && option.value == value
-}
-
 // The option that the words begin with, where they begin with one.
 pub(crate) fn first_option(words: &[String]) -> Option<Front<'_>>
-    ensures { MatchOption result
+    ensures option { MatchOption result
         ((option : Choice) (rest : List (List ℕ)) → ¬ Begins (map string_bytes words.now) option rest)
         (λ front. Begins (map string_bytes words.now) (choice front.name.now front.value.now)
         (map string_bytes front.rest.now)) }
+    ensures shorter { IfSome result (λ front. length front.rest.now < length words.now) }
 {
     let (word, rest) = words.split_first()?;
     let body = after_dashes(word.as_bytes())?;
