@@ -3,3 +3,4 @@ mod FileLemmas
 mod AlikeLemmas
 mod StreamLemmas
 mod WholeLemmas
+mod MoveLemmas

@@ -19,7 +19,7 @@ use Rattle.item_runs.specs.Mirrors.{GivenState, StreamBroke, StreamSoFar, any_al
 use Rattle.item_runs.proofs.RecordLemmas.{front_behind, whole_front}
 
 -- an item, where it was not there before
-once : Bool → NavItem → List NavItem
+abbrev pub once : Bool → NavItem → List NavItem
 once before item = if before then [] else item ∷ []
 
 or_turn : (a b c : Bool) → ((a || b) || c) ≡ (b || (a || c))
@@ -64,7 +64,9 @@ items_same (Err other ∷ rs) fault = items_same rs fault
 
 report_more : (n : ℕ) (rs : List Reading) (reading : Reading)
     → readings_report n (rs ++ reading ∷ []) ≡ readings_report n rs ++ reading_report (n + length rs) reading
-report_more n [] reading = append-nil (reading_report n reading)
+report_more n [] reading = append-nil (reading_report n reading) ∙ ap (λ m. reading_report m reading) (here n) where
+  here : (m : ℕ) → m ≡ m + 0
+  here m = omega arith
 report_more n (r ∷ rs) reading =
     let number : n + 1 + length rs ≡ n + length (r ∷ rs) = omega arith in
     ap (λ (l : List ℕ). reading_report n r ++ l) (report_more (n + 1) rs reading ∙ ap (λ m. readings_report (n + 1) rs ++ reading_report m reading) number)
