@@ -4,3 +4,4 @@ mod AlikeLemmas
 mod StreamLemmas
 mod WholeLemmas
 mod MoveLemmas
+mod PieceLemmas
