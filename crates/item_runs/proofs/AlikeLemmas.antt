@@ -1,7 +1,9 @@
 -- Ephemerides that are read of frames are equal where the same message is sent for them.
 use Rattle.std.proofs.Common.{◌≡◌, ◌↔◌, ℕ, ◌≤◌, ◌||◌, Bool, true, false, List, [], ◌∷◌, length, refl, sym, ap, subst, ◌∙◌, arith}
 use Rattle.std.specs.Prelude.{Result, Ok, Err, IfOk}
-use Rattle.std.specs.Ordering.{Ordering, Less, Equal, Greater, is_eq, nat_cmp, ordering_reverse}
+use Rattle.std.specs.declared.cmp.Ordering.{Ordering}
+use Rattle.std.specs.declared.cmp.Ordering.TheVariants.{Less, Equal, Greater}
+use Rattle.std.specs.Ordering.{is_eq, nat_cmp, ordering_reverse}
 use Rattle.std.specs.Cmp.Lexicographic.{slice_cmp}
 use Rattle.std.specs.FinMap.{slice_cmp-IsAntisymmetric, nat_cmp-IsAntisymmetric}
 use Rattle.std.proofs.lemmas.Cmp.{nat_list_cmp_total}
@@ -80,8 +82,8 @@ is_read r (Err fault) (Gps e) gives whole = absurd gives
 is_read r (Err fault) (Gal e) gives whole = absurd gives
 is_read r (Err fault) (Ion e) gives whole = absurd gives
 
-ok_same : (a b : NavItem) → Ok {E = MessageFault} a ≡ Ok b → a ≡ b
-ok_same a b is = cc
+ok_same : (a b : NavItem) (x y : Result NavItem MessageFault) → x ≡ Ok a → y ≡ Ok b → x ≡ y → a ≡ b
+ok_same a b x y xa yb is = cc
 
 -- two ephemerides of GPS for which the same message is sent
 same_gps : (r : ℕ) (a b : GpsEph) → Laws r → ReadGps r a → ReadGps r b → bytes_1019 a ≡ bytes_1019 b → Gps a ≡ Gps b
@@ -92,7 +94,7 @@ same_gps r a b laws ra rb same =
     let other : Begins1019 (bytes_1019 b) b = record { long = subst (λ (l : List ℕ). 61 ≤ length l) same size; fields = laws.fields_gps b rb.ranges } in
     let first = laws.read_gps a (bytes_1019 a) r (item_in r (bytes_1019 a)) ra.is ra.near begins gives in
     let second = laws.read_gps b (bytes_1019 a) r (item_in r (bytes_1019 a)) rb.is rb.near (subst (λ (l : List ℕ). Begins1019 l b) (sym same) other) gives in
-    ok_same (Gps a) (Gps b) (ap (λ (e : GpsEph). Ok (Gps e)) (sym ra.unsent) ∙ sym first ∙ second ∙ ap (λ (e : GpsEph). Ok (Gps e)) rb.unsent)
+    ok_same (Gps a) (Gps b) _ _ (first ∙ ap (λ (e : GpsEph). Ok (Gps e)) ra.unsent) (second ∙ ap (λ (e : GpsEph). Ok (Gps e)) rb.unsent) refl
 
 same_gal : (r : ℕ) (a b : GalEph) → Laws r → ReadGal r a → ReadGal r b → bytes_1046 a ≡ bytes_1046 b → Gal a ≡ Gal b
 same_gal r a b laws ra rb same =
@@ -102,7 +104,7 @@ same_gal r a b laws ra rb same =
     let other : Begins1046 (bytes_1046 b) b = record { long = subst (λ (l : List ℕ). 63 ≤ length l) same size; fields = laws.fields_gal b rb.ranges } in
     let first = laws.read_gal a (bytes_1046 a) r (item_in r (bytes_1046 a)) ra.is ra.near begins gives in
     let second = laws.read_gal b (bytes_1046 a) r (item_in r (bytes_1046 a)) rb.is rb.near (subst (λ (l : List ℕ). Begins1046 l b) (sym same) other) gives in
-    ok_same (Gal a) (Gal b) (ap (λ (e : GalEph). Ok (Gal e)) (sym ra.unsent) ∙ sym first ∙ second ∙ ap (λ (e : GalEph). Ok (Gal e)) rb.unsent)
+    ok_same (Gal a) (Gal b) _ _ (first ∙ ap (λ (e : GalEph). Ok (Gal e)) ra.unsent) (second ∙ ap (λ (e : GalEph). Ok (Gal e)) rb.unsent) refl
 
 -- ---- the test of a set is that of items
 
@@ -135,8 +137,8 @@ own_alike r (Ion e) is = absurd is
 alike_same : (r : ℕ) (a b : NavItem) → Laws r → IsRead r a → IsRead r b → sent_alike a b ≡ true → a ≡ b
 alike_same r (Gps a) (Gps b) laws ra rb same = same_gps r a b laws ra rb (equal_keys (bytes_1019 a) (bytes_1019 b) same)
 alike_same r (Gal a) (Gal b) laws ra rb same = same_gal r a b laws ra rb (equal_keys (bytes_1046 a) (bytes_1046 b) same)
-alike_same r (Gps a) (Gal b) laws ra rb same = absurd (cc)
-alike_same r (Gal a) (Gps b) laws ra rb same = absurd (cc)
+alike_same r (Gps a) (Gal b) laws ra rb same = cc
+alike_same r (Gal a) (Gps b) laws ra rb same = cc
 alike_same r (Ion a) b laws ra rb same = absurd ra
 alike_same r (Gps a) (Ion b) laws ra rb same = absurd rb
 alike_same r (Gal a) (Ion b) laws ra rb same = absurd rb
@@ -156,12 +158,11 @@ read_is r payload item laws is =
 pub looked_for : (r : ℕ) (frames : List (List ℕ)) (payload : List ℕ) (item : NavItem) → Laws r → item_in r payload ≡ Ok item
     → any_alike (items_in (readings r frames)) item ≡ has (items_in (readings r frames)) item
 looked_for r [] payload item laws is = refl
-looked_for r (frame ∷ frames) payload item laws is = step (item_in r (payload_of frame)) refl where
-  more : any_alike (items_in (readings r frames)) item ≡ has (items_in (readings r frames)) item
-  more = looked_for r frames payload item laws is
+looked_for r (frame ∷ frames) payload item laws is = step (item_in r (payload_of frame)) refl (looked_for r frames payload item laws is) where
   step : (x : Result NavItem MessageFault) → item_in r (payload_of frame) ≡ x
+      → any_alike (items_in (readings r frames)) item ≡ has (items_in (readings r frames)) item
       → any_alike (items_in (x ∷ readings r frames)) item ≡ has (items_in (x ∷ readings r frames)) item
-  step (Ok i) read =
+  step (Ok i) read more =
       ap (λ (b : Bool). b || any_alike (items_in (readings r frames)) item) (alike_is r i item laws (read_is r (payload_of frame) i laws read) (read_is r payload item laws is))
       ∙ ap (λ (b : Bool). same_item i item || b) more
-  step (Err fault) read = more
+  step (Err fault) read more = more

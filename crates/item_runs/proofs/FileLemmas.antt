@@ -76,6 +76,7 @@ ends_there f left l1 l2 s0 s1 s2 given new header steps ended = ends_from (steps
   first : (s0.lines.ended ≡ true) ⊎ IsAtEnd l1 → IsAtEnd l1
   first (inl early) = absurd (no_end s0 new.ended early)
   first (inr end) = end
+
   ends_from : (s1.lines.ended ≡ true) ⊎ IsAtEnd l2 → IsAtEnd l2
   ends_from (inr end) = end
   ends_from (inl early) = subst IsAtEnd (sym (steps.reads.after_end early).2) (first (header.steps.reads.at_end early))
@@ -128,7 +129,7 @@ pub part_of_begin : (f : Form) (front : List ℕ) (text : ℕ → NavItem → Li
 part_of_begin f front text left l1 w w1 u s0 s1 begins new header grew =
     let taken = header.steps.reads.taken in
     let is : file_reads f taken ≡ Ok (records_to_come f s1 []) =
-        ap (file_reads f) (sym (append-nil taken)) ∙ sym (begins s0 (taken ++ []) new) ∙ header.steps.stream [] (λ ended. refl) ∙ passed_file f s1 [] header.header in
+    ap (file_reads f) (sym (append-nil taken)) ∙ sym (begins s0 (taken ++ []) new) ∙ header.steps.stream [] (λ ended. refl) ∙ passed_file f s1 [] header.header in
     record {
       taken = taken;
       consumes = header.steps.reads.consumes;

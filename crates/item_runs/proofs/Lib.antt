@@ -3,3 +3,5 @@ mod FileLemmas
 mod AlikeLemmas
 mod StreamLemmas
 mod WholeLemmas
+mod MoveLemmas
+mod PieceLemmas

@@ -19,7 +19,7 @@ use Rattle.item_runs.specs.Mirrors.{GivenState, StreamBroke, StreamSoFar, any_al
 use Rattle.item_runs.proofs.RecordLemmas.{front_behind, whole_front}
 
 -- an item, where it was not there before
-once : Bool → NavItem → List NavItem
+abbrev pub once : Bool → NavItem → List NavItem
 once before item = if before then [] else item ∷ []
 
 or_turn : (a b c : Bool) → ((a || b) || c) ≡ (b || (a || c))
@@ -43,9 +43,9 @@ places_more before (i ∷ is) item =
     let rest = places_more (i ∷ before) is item in
     let turn = ap (λ (b : Bool). once b item) (or_turn (same_item i item) (has before item) (has is item)) in
     places_step (has before i) (first_places_behind (i ∷ before) (is ++ item ∷ [])) (first_places_behind (i ∷ before) is) _ (rest ∙ ap (λ (l : List NavItem). first_places_behind (i ∷ before) is ++ l) turn) where
-  places_step : (b : Bool) (whole some more : List NavItem) → whole ≡ some ++ more → (if b then whole else i ∷ whole) ≡ (if b then some else i ∷ some) ++ more
-  places_step true whole some more is = is
-  places_step false whole some more is = ap (λ (l : List NavItem). i ∷ l) is
+      places_step : (b : Bool) (whole some more : List NavItem) → whole ≡ some ++ more → (if b then whole else i ∷ whole) ≡ (if b then some else i ∷ some) ++ more
+      places_step true whole some more is = is
+      places_step false whole some more is = ap (λ (l : List NavItem). i ∷ l) is
 
 pub first_places_more : (is : List NavItem) (item : NavItem) → first_places (is ++ item ∷ []) ≡ first_places is ++ once (has is item) item
 first_places_more is item = places_more [] is item
@@ -64,7 +64,9 @@ items_same (Err other ∷ rs) fault = items_same rs fault
 
 report_more : (n : ℕ) (rs : List Reading) (reading : Reading)
     → readings_report n (rs ++ reading ∷ []) ≡ readings_report n rs ++ reading_report (n + length rs) reading
-report_more n [] reading = append-nil (reading_report n reading)
+report_more n [] reading = append-nil (reading_report n reading) ∙ ap (λ m. reading_report m reading) (here n) where
+  here : (m : ℕ) → m ≡ m + 0
+  here m = omega arith
 report_more n (r ∷ rs) reading =
     let number : n + 1 + length rs ≡ n + length (r ∷ rs) = omega arith in
     ap (λ (l : List ℕ). reading_report n r ++ l) (report_more (n + 1) rs reading ∙ ap (λ m. readings_report (n + 1) rs ++ reading_report m reading) number)
@@ -78,11 +80,11 @@ any_more : (is : List NavItem) (item other : NavItem) → any_alike (is ++ item 
 any_more [] item other = refl
 any_more (i ∷ is) item other =
     ap (λ (b : Bool). sent_alike i other || b) (any_more is item other) ∙ turn (sent_alike i other) (sent_alike item other) (any_alike is other) where
-  turn : (a b c : Bool) → (a || (b || c)) ≡ (b || (a || c))
-  turn true true c = refl
-  turn true false c = refl
-  turn false true c = refl
-  turn false false c = refl
+      turn : (a b c : Bool) → (a || (b || c)) ≡ (b || (a || c))
+      turn true true c = refl
+      turn true false c = refl
+      turn false true c = refl
+      turn false false c = refl
 
 -- ---- one frame more
 

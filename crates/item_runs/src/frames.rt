@@ -17,7 +17,9 @@ use crate::outlet::Outlet;
 use gnss_week::RefWeek;
 use nav_eph::{NavItem, equality_is_decided};
 use nav_io::{Failed, Sink};
-use rtcm_eph::{MessageFault, item_function, message_bytes, read_item, sent_1019_is_read, sent_1046_is_read};
+use rtcm_eph::{
+    MessageFault, item_function, message_bytes, read_item, sent_1019_is_read, sent_1046_is_read,
+};
 use rtcm_frame::{Deframer, Frame};
 use run_texts::{BridgeFault, report_text};
 

@@ -9,8 +9,8 @@ pub returns-in-Ok-clause-goes : goal.returns-in-Ok-clause-goes
 returns-in-Ok-clause-goes g c =
     let reference = c.value-reference.ensures.fits in
     let laws : Laws c.args.r = record {
-      gives = λ payload. c.item_function.ensures.answer c.args.r payload ?;
-      whole = λ payload. c.item_function.ensures.whole c.args.r payload ?;
+      gives = λ payload. c.item_function.ensures.answer c.args.r payload reference;
+      whole = λ payload. c.item_function.ensures.whole c.args.r payload reference;
       fields_gps = c.message_bytes.ensures.fields_1019;
       fields_gal = c.message_bytes.ensures.fields_1046;
       size_gps = c.message_bytes.ensures.size_1019;
@@ -23,3 +23,36 @@ returns-in-Ok-clause-goes g c =
     on_ok3 c.give_item.result c.give_item.ensures.output c.give_item.ensures.counts c.give_item.ensures.given
     (λ output counts adds past start begun far.
     so_far_item c.args.r _ _ past c.args.frame.now c.in-Ok.item _ _ _ _ _ _ _ _ _ _ is refl (looked_for c.args.r past (payload_of c.args.frame.now) c.in-Ok.item laws is) far output counts adds)
+
+pub returns-in-Ok-clause-breaks : goal.returns-in-Ok-clause-breaks
+returns-in-Ok-clause-breaks g c =
+    let reference = c.value-reference.ensures.fits in
+    let laws : Laws c.args.r = record {
+      gives = λ payload. c.item_function.ensures.answer c.args.r payload reference;
+      whole = λ payload. c.item_function.ensures.whole c.args.r payload reference;
+      fields_gps = c.message_bytes.ensures.fields_1019;
+      fields_gal = c.message_bytes.ensures.fields_1046;
+      size_gps = c.message_bytes.ensures.size_1019;
+      size_gal = c.message_bytes.ensures.size_1046;
+      read_gps = c.sent_1019_is_read.ensures;
+      read_gal = c.sent_1046_is_read.ensures;
+      decides = c.equality_is_decided.ensures.items;
+    } in
+    let is = ap (item_in c.args.r) (sym c.payload.ensures.value) ∙ sym c.read_item.ensures.answer ∙ c.in-Ok.is in
+    on_err1 c.give_item.result c.give_item.ensures.part
+    (λ output past start begun far.
+    broke_item c.args.r _ _ past c.args.frame.now c.in-Ok.item _ _ _ _ _ _ _ _ is refl (looked_for c.args.r past (payload_of c.args.frame.now) c.in-Ok.item laws is) far output)
+
+pub returns-in-Err-clause-goes : goal.returns-in-Err-clause-goes
+returns-in-Err-clause-goes g c =
+    let is = ap (item_in c.args.r) (sym c.payload.ensures.value) ∙ sym c.read_item.ensures.answer ∙ c.in-Err.is in
+    on_ok2 c.tell_fault.result c.tell_fault.ensures.report c.tell_fault.ensures.counts
+    (λ report counts past start begun far.
+    so_far_fault c.args.r _ _ past c.args.frame.now c.in-Err.fault _ _ _ _ _ _ _ _ _ is refl far report counts)
+
+pub returns-in-Err-clause-breaks : goal.returns-in-Err-clause-breaks
+returns-in-Err-clause-breaks g c =
+    let is = ap (item_in c.args.r) (sym c.payload.ensures.value) ∙ sym c.read_item.ensures.answer ∙ c.in-Err.is in
+    on_err1 c.tell_fault.result c.tell_fault.ensures.part
+    (λ report past start begun far.
+    broke_fault c.args.r _ _ past c.args.frame.now c.in-Err.fault _ _ _ _ _ _ _ _ is refl far report)
