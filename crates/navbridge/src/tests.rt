@@ -96,6 +96,21 @@ fn judges_the_words(rt: HostRuntime) -> Result<(), Fail> {
         ("--from capture --to list --week 1023", 2),
         ("--from stream --to frames --", 2),
         ("--from stream --to -frames", 2),
+        ("--help", 2),
+        ("-h", 2),
+        ("--version", 2),
+        ("--from capture --to list", 5),
+        ("--week=2295 --to list --from capture", 5),
+        ("--to=rtcm --from capture --week 2295", 5),
+        ("--from=capture --to count --week=0000002295", 5),
+        ("--from capture --to list --week 00000002295", 2),
+        ("--from capture --to list --week 4294969591", 2),
+        ("--from capture --to list --week=", 2),
+        ("--from capture --to list --week", 2),
+        ("--from stream --from capture --to list", 2),
+        ("--from capture --to list --leap 18", 2),
+        ("--from seed --to capture --seed 7 --sats 33 --week 2295", 2),
+        ("--from seed --to capture --seed 4294967296 --sats 1 --week 2295", 2),
     ];
     for (text, want) in cases {
         let words = words_of(rt.alloc(), text)?;
