@@ -4,5 +4,5 @@ mod Ends
 mod Headlines
 mod Listings
 mod OneJob
-mod Rows
+mod TableRows
 mod Spellings

@@ -295,8 +295,9 @@ fn lists_ionospheres(rt: HostRuntime) -> Result<(), Fail> {
             b"18 ION G 0b0000002c000000 whole\n".as_slice()
         );
         let run = convert(rt.alloc(), TO_RINEX, input.as_str())?;
+        let written = concat_text(rt.alloc(), HEADER, record)?;
         assert!(rt;
-            run.output.bytes()[HEADER.len()..].starts_with(record.as_bytes()),
+            run.output.bytes().starts_with(written.as_bytes()),
             "{lines}"
         );
     }
@@ -383,8 +384,9 @@ fn takes_week_and_window_of_the_first_line(rt: HostRuntime) -> Result<(), Fail> 
         },
     ];
     for case in cases {
-        let run = convert(rt.alloc(), case.words, case.input)?;
-        assert_eq!(rt; run.status, case.status, "{}", case.input);
+        let input = concat_text(rt.alloc(), case.input, "")?;
+        let run = convert(rt.alloc(), case.words, input.as_str())?;
+        assert_eq!(rt; run.status, case.status);
         assert_eq!(rt; run.output.bytes(), case.list.as_bytes(), "{}", case.input);
         assert!(rt; case.status == 0 || run.report.bytes().is_empty());
     }

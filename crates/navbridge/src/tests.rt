@@ -110,7 +110,10 @@ fn judges_the_words(rt: HostRuntime) -> Result<(), Fail> {
         ("--from stream --from capture --to list", 2),
         ("--from capture --to list --leap 18", 2),
         ("--from seed --to capture --seed 7 --sats 33 --week 2295", 2),
-        ("--from seed --to capture --seed 4294967296 --sats 1 --week 2295", 2),
+        (
+            "--from seed --to capture --seed 4294967296 --sats 1 --week 2295",
+            2,
+        ),
     ];
     for (text, want) in cases {
         let words = words_of(rt.alloc(), text)?;

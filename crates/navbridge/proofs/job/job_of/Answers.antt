@@ -1,4 +1,4 @@
-use Rattle.navbridge.proofs.Rows.{gives}
+use Rattle.navbridge.proofs.TableRows.{gives}
 use Rattle.navbridge.proofs.job.job_of.Goals as goal
 
 pub returns-in_err-found : goal.returns-in_err-found

@@ -1,6 +1,6 @@
 use Rattle.std.proofs.Common.{List, ℕ, ap, Option, rules}
 use Rattle.std.specs.Prelude.{option_map}
-use Rattle.navbridge.proofs.Rows.{asked}
+use Rattle.navbridge.proofs.TableRows.{asked}
 use Rattle.navbridge.proofs.job.job_with.Goals as goal
 
 pub returns-in-Some : goal.returns-in-Some
