@@ -5,3 +5,4 @@ mod StreamLemmas
 mod WholeLemmas
 mod MoveLemmas
 mod PieceLemmas
+mod PieceEnds
