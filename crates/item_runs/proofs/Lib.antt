@@ -6,3 +6,4 @@ mod WholeLemmas
 mod MoveLemmas
 mod PieceLemmas
 mod PieceEnds
+mod StreamEnds
