@@ -1,7 +1,7 @@
 -- How a run over the bytes of a stream ends: with all of them, or with a front of what they give.
-use Rattle.std.proofs.Common.{◌≡◌, ◌+◌, ◌<◌, ◌≤◌, ◌^◌, ℕ, Bool, true, false, not, List, [], ◌++◌, length, take, refl, sym, ap, ◌∙◌, subst, arith, append-nil, length-append}
+use Rattle.std.proofs.Common.{◌≡◌, ◌<◌, ◌^◌, ℕ, Bool, true, false, not, List, [], ◌++◌, take, ◌∙◌, subst, arith, append-nil}
 use Rattle.std.specs.Prelude.{Option, Result, Ok, Err, IfErr, OnErr}
-use Rattle.std.specs.Io.KnownBytes.{Appends, Consumes, IsAtEnd, Keeps}
+use Rattle.std.specs.Io.KnownBytes.{Consumes, IsAtEnd, Keeps}
 use Rattle.std.proofs.KnownBytes.{Consumes-trans, Consumes-kept}
 use Rattle.nav_eph.specs.declared.items.NavItem.{NavItem}
 use Rattle.rtcm_frame.specs.Frames.{frames}

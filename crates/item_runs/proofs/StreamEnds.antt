@@ -1,7 +1,6 @@
 -- A stream from its first byte to its end: what was taken of it is what its frames give.
-use Rattle.std.proofs.Common.{◌≡◌, ◌+◌, ◌<◌, ◌^◌, ℕ, Bool, false, List, [], ◌∷◌, ◌++◌, length, refl, sym, ap, ◌∙◌, subst, append_assoc, append-nil}
+use Rattle.std.proofs.Common.{◌≡◌, ◌+◌, ℕ, false, List, [], ◌∷◌, ◌++◌, refl, sym, ap, ◌∙◌, subst, append_assoc, append-nil}
 use Rattle.std.specs.Prelude.{Option, IfSome, Ok, Err}
-use Rattle.std.specs.List.{flat_map}
 use Rattle.std.specs.Io.KnownBytes.{Appends}
 use Rattle.std.proofs.KnownBytes.{Appends-trans, Consumes-nil, Consumes-whole}
 use Rattle.nav_io.specs.Front.{AppendsFront, IsFront}
@@ -14,7 +13,7 @@ use Rattle.run_texts.specs.declared.fault.BridgeFault.TheVariants.{TooLong}
 use Rattle.run_texts.specs.Runs.{RunsPart, RunsWhole, TakesTooMany, no_least}
 use Rattle.item_runs.specs.declared.counts.StreamCounts.{StreamCounts}
 use Rattle.item_runs.specs.Streams.{Reading, counts_of_readings, has, items_in, reading_report, readings, readings_output, readings_report, stream_counts, stream_counts_text, stream_output_by, stream_report}
-use Rattle.item_runs.specs.Mirrors.{GivenState, StreamAll, StreamBroke, StreamPart, StreamSoFar, is_given, once_text}
+use Rattle.item_runs.specs.Mirrors.{GivenState, StreamAll, StreamPart, StreamSoFar, is_given, once_text}
 use Rattle.item_runs.proofs.FileLemmas.{between, front_longer, no_front}
 use Rattle.item_runs.proofs.RecordLemmas.{front_behind, whole_front}
 use Rattle.item_runs.proofs.StreamLemmas.{output_fault, output_item}
