@@ -5,3 +5,5 @@ mod StreamLemmas
 mod WholeLemmas
 mod MoveLemmas
 mod PieceLemmas
+mod PieceEnds
+mod StreamEnds

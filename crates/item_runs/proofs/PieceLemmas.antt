@@ -1,17 +1,13 @@
 -- What a run over a stream has taken so far, and how it ends.
-use Rattle.std.proofs.Common.{◌≡◌, ◌+◌, ◌<◌, ◌≤◌, ◌^◌, ℕ, Bool, true, false, not, List, [], ◌++◌, length, take, refl, sym, ap, ◌∙◌, subst, inl, arith, append-nil, length-append}
+use Rattle.std.proofs.Common.{◌≡◌, ◌+◌, ◌≤◌, ℕ, true, false, List, [], ◌++◌, length, refl, sym, ap, subst, inl, arith, length-append}
 use Rattle.std.specs.Prelude.{Option}
-use Rattle.std.specs.Io.KnownBytes.{Consumes, IsAtEnd, Keeps}
-use Rattle.std.proofs.KnownBytes.{Consumes-nil, Consumes-trans, Consumes-kept}
+use Rattle.std.specs.Io.KnownBytes.{Consumes}
+use Rattle.std.proofs.KnownBytes.{Consumes-nil, Consumes-trans}
 use Rattle.nav_eph.specs.declared.items.NavItem.{NavItem}
-use Rattle.rtcm_frame.specs.Frames.{frames}
 use Rattle.rtcm_frame.specs.State.{DeframerState, IsSettled}
-use Rattle.run_texts.specs.declared.fault.BridgeFault.{BridgeFault}
-use Rattle.run_texts.specs.declared.fault.BridgeFault.TheVariants.{TooLong}
 use Rattle.item_runs.specs.declared.counts.StreamCounts.{StreamCounts}
-use Rattle.item_runs.specs.Mirrors.{GivenState, StreamAll, StreamMoves, StreamPart, StreamSoFar, StreamBroke, StreamStops}
-use Rattle.item_runs.proofs.MoveLemmas.{moves_nowhere, moves_on, moves_fed, stops_on}
-use Rattle.item_runs.proofs.RecordLemmas.{whole_front}
+use Rattle.item_runs.specs.Mirrors.{GivenState, StreamMoves}
+use Rattle.item_runs.proofs.MoveLemmas.{moves_nowhere, moves_on, moves_fed}
 
 -- the bytes taken, and what they decide, so far
 pub record PiecesSoFar (r : ℕ) (front : List ℕ) (text : NavItem → List ℕ) (left left_new w w1 u u1 : Option (List ℕ)) (g g1 : GivenState) (c c1 : StreamCounts) (state : DeframerState) (taken : ℕ) : Type 0 where

@@ -1,4 +1,4 @@
-use Rattle.std.proofs.Common.{◌≡◌, refl, sym, ap, ◌∙◌}
+use Rattle.std.proofs.Common.{refl, sym, ap, ◌∙◌}
 use Rattle.rtcm_eph.specs.Reading.{item_in}
 use Rattle.rtcm_frame.specs.State.{payload_of}
 use Rattle.item_runs.proofs.AlikeLemmas.{Laws, looked_for}

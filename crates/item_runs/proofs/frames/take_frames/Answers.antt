@@ -1,4 +1,4 @@
-use Rattle.std.proofs.Common.{ℕ, Bool, List, not, subst, ap, ◌∙◌, arith}
+use Rattle.std.proofs.Common.{Bool, not, subst, ap, ◌∙◌, arith}
 use Rattle.std.proofs.lemmas.Result.{err_from_is_err_and}
 use Rattle.rtcm_frame.specs.State.{TakesFrame}
 use Rattle.item_runs.proofs.MoveLemmas.{moves_more, stops_more}

@@ -1,4 +1,4 @@
-use Rattle.std.proofs.Common.{◌≡◌, refl, sym, ap, ◌∙◌, arith}
+use Rattle.std.proofs.Common.{refl, ap, ◌∙◌}
 use Rattle.std.proofs.lemmas.Result.{err_from_is_err_and}
 use Rattle.item_runs.proofs.RecordLemmas.{counts_have_room, follows_all, follows_more, follows_start, none_read, nothing_counted, part_of_break, part_of_read, some_read, told_fault}
 use Rattle.item_runs.proofs.records.follow_records.Goals as goal
