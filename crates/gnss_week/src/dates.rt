@@ -1,4 +1,5 @@
-ghost use Rattle.std.specs.Prelude.{◌≡◌, ℕ, ◌+◌, ◌*◌, ◌%◌, ◌/◌, ◌<◌, ◌≤◌, pos, ◌≤ℤ◌, ◌+ℤ◌, MatchOption, IfOk};
+ghost use Rattle.std.specs.Prelude.{◌≡◌, ℕ, ◌+◌, ◌*◌, ◌%◌, ◌/◌, ◌<◌, ◌≤◌};
+ghost use Rattle.std.specs.Prelude.{pos, ◌≤ℤ◌, ◌+ℤ◌, MatchOption, IfOk};
 ghost use Rattle.jiff_core.specs.Calendar.{IsEpochDay};
 ghost use Rattle.jiff_core.specs.Date.{epoch_day};
 ghost use Rattle.gnss_week.specs.Dates.{Exists, GivesMoment, IsCivilOf, day_of, first_day};

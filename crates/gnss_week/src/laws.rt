@@ -60,8 +60,8 @@ pub fn galileo_week_function()
     ensures only { (r n w : ℕ) → IsGalileoWeek r n w → w ≡ galileo_week_to r n }
 {}
 
-/// `near_gps` and `near_galileo` say which weeks lie near a reference week; the weeks that their numbers
-/// mean are among these, and the number of each of these means it.
+/// `near_gps` and `near_galileo` say which weeks lie near a reference week; the weeks that their
+/// numbers mean are among these, and the number of each of these means it.
 pub fn near_weeks()
     ensures gps { (r w : ℕ) → (near_gps r w ≡ true) ↔ IsNearGps r w }
     ensures galileo { (r w : ℕ) → (near_galileo r w ≡ true) ↔ IsNearGalileo r w }

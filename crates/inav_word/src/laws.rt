@@ -20,8 +20,10 @@ ghost use Rattle.inav_word.specs.Faults.{IsFirstFault};
 ghost use Rattle.inav_word.specs.Reading.{all_parts, one_part, reading_of, two_parts, word_in};
 ghost use Rattle.inav_word.specs.declared.parts.WordParts.{WordParts};
 ghost use Rattle.nav_eph.specs.declared.sat.System.TheVariants.{Gal};
-ghost use Rattle.inav_word.specs.Words.{fields_word1, fields_word2, fields_word3, fields_word4, fields_word5};
-ghost use Rattle.inav_word.specs.Writing.{word1_bytes, word2_bytes, word3_bytes, word4_bytes, word5_bytes};
+ghost use Rattle.inav_word.specs.Words.{fields_word1, fields_word2, fields_word3};
+ghost use Rattle.inav_word.specs.Words.{fields_word4, fields_word5};
+ghost use Rattle.inav_word.specs.Writing.{word1_bytes, word2_bytes, word3_bytes};
+ghost use Rattle.inav_word.specs.Writing.{word4_bytes, word5_bytes};
 ghost use Rattle.inav_word.specs.Writing.{word1_of, word2_of, word3_of, word4_of, word5_of};
 
 /// Bits in which word 1 is written are read as its fields.
@@ -45,7 +47,8 @@ pub fn written_word3_is_read()
         reading_of bits sat stamp ≡ Ok (one_part sat stamp (GalW3 w)) }
 {}
 
-/// Bits in which word 4 of a satellite is written are read as its fields, where that satellite sends it.
+/// Bits in which word 4 of a satellite is written are read as its fields, where that satellite
+/// sends it.
 pub fn written_word4_is_read()
     ensures { (w : GalWord4) (bits : List ℕ) (sat : Satellite) (stamp : ℕ) →
         IsStep60 w.toc → StandFrom bits 0 0 (fields_word4 (word4_of w sat.number)) →
@@ -59,38 +62,40 @@ pub fn written_word5_is_read()
         reading_of bits sat stamp ≡ Ok (two_parts sat stamp h i wn second) }
 {}
 
-/// Bits that are read as word 1 are those in which its fields are written, but for the reserved ones, and
-/// its time is within the week.
+/// Bits that are read as word 1 are those in which its fields are written, but for the reserved
+/// ones, and its time is within the week.
 pub fn read_word1_is_written()
     ensures { (w : GalWord1) (bits : List ℕ) (sat : Satellite) (stamp : ℕ) →
         reading_of bits sat stamp ≡ Ok (one_part sat stamp (GalW1 w)) →
         IsStep60 w.toe × StandFrom bits 0 0 (fields_word1 (word1_of w)) }
 {}
 
-/// Bits that are read as word 2 are those in which its fields are written, but for the reserved ones.
+/// Bits that are read as word 2 are those in which its fields are written, but for the reserved
+/// ones.
 pub fn read_word2_is_written()
     ensures { (w : GalWord2) (bits : List ℕ) (sat : Satellite) (stamp : ℕ) →
         reading_of bits sat stamp ≡ Ok (one_part sat stamp (GalW2 w)) →
         StandFrom bits 0 0 (fields_word2 (word2_of w)) }
 {}
 
-/// Bits that are read as word 3 are those in which its fields are written, and its accuracy is no spare one.
+/// Bits that are read as word 3 are those in which its fields are written, and its accuracy is no
+/// spare one.
 pub fn read_word3_is_written()
     ensures { (w : GalWord3) (bits : List ℕ) (sat : Satellite) (stamp : ℕ) →
         reading_of bits sat stamp ≡ Ok (one_part sat stamp (GalW3 w)) →
         IsSisa w.sisa × StandFrom bits 0 0 (fields_word3 (word3_of w)) }
 {}
 
-/// Bits that are read as word 4 are those in which its fields are written for the satellite that sends it,
-/// but for the spare ones, and its time is within the week.
+/// Bits that are read as word 4 are those in which its fields are written for the satellite that
+/// sends it, but for the spare ones, and its time is within the week.
 pub fn read_word4_is_written()
     ensures { (w : GalWord4) (bits : List ℕ) (sat : Satellite) (stamp : ℕ) →
         reading_of bits sat stamp ≡ Ok (one_part sat stamp (GalW4 w)) →
         IsStep60 w.toc × StandFrom bits 0 0 (fields_word4 (word4_of w sat.number)) }
 {}
 
-/// Bits that are read as word 5 are those in which its fields are written, but for the spare ones, and its
-/// time is within the week.
+/// Bits that are read as word 5 are those in which its fields are written, but for the spare ones,
+/// and its time is within the week.
 pub fn read_word5_is_written()
     ensures { (h : GalHealth) (i : GalIon) (wn second : ℕ) (bits : List ℕ) (sat : Satellite) (stamp : ℕ) →
         reading_of bits sat stamp ≡ Ok (two_parts sat stamp h i wn second) →
@@ -151,8 +156,8 @@ pub fn words_are_the_functions()
         ZerosFrom bits 0 0 (fields_word5 (word5_of h i wn second)) → bits ≡ word5_bytes h i wn second }
 {}
 
-/// The parts that a word brings have the stamp and the satellite with which it was heard, are such as a
-/// satellite of Galileo can send, and have their fields within their digits.
+/// The parts that a word brings have the stamp and the satellite with which it was heard, are such
+/// as a satellite of Galileo can send, and have their fields within their digits.
 pub fn word_parts()
     ensures stamps { (bits : List ℕ) (sat : Satellite) (stamp : ℕ) (parts : WordParts) →
         reading_of bits sat stamp ≡ Ok parts → All (λ part. part.stamp ≡ stamp) (all_parts parts) }

@@ -2,7 +2,8 @@ ghost use Rattle.std.specs.Prelude.{◌≡◌, IfErr, IfOk};
 ghost use Rattle.nav_eph.specs.declared.sat.System.TheVariants.{Gal};
 ghost use Rattle.inav_word.specs.declared.word.Word.TheVariants.{One, Two, Three, Four, Five};
 ghost use Rattle.inav_word.specs.Faults.{IsFirstFault};
-ghost use Rattle.inav_word.specs.Reading.{ArePartsOf, health_of, ion_of, one_part, reading, reading_of, word_in};
+ghost use Rattle.inav_word.specs.Reading.{ArePartsOf, health_of, ion_of};
+ghost use Rattle.inav_word.specs.Reading.{one_part, reading, reading_of, word_in};
 
 use crate::fault::WordFault;
 use crate::parts::WordParts;
@@ -157,13 +158,13 @@ fn read_5(w: &Word5, sat: Sat, stamp: u32) -> Result<WordParts, WordFault>
 }
 
 /// The parts that the 128 bits of an I/NAV word stand for (Galileo OS SIS ICD, 4.3.5), heard from a
-/// satellite of Galileo at a second of the logger. Words 1 to 4 bring one part; word 5 brings first the
-/// delays and the health, whose tag names the week and the second of sending, and then the ionosphere.
-/// Reserved and spare bits are not looked at.
+/// satellite of Galileo at a second of the logger. Words 1 to 4 bring one part; word 5 brings first
+/// the delays and the health, whose tag names the week and the second of sending, and then the
+/// ionosphere. Reserved and spare bits are not looked at.
 ///
-/// The error is the first fault, as [`WordFault`] orders them: a type other than 1 to 5; a word 4 that
-/// names another satellite; a toe or toc of 10,080 steps or more, or a time of the week of 604,800 s or
-/// more; a spare accuracy, 126 to 254.
+/// The error is the first fault, as [`WordFault`] orders them: a type other than 1 to 5; a word 4
+/// that names another satellite; a toe or toc of 10,080 steps or more, or a time of the week of
+/// 604,800 s or more; a spare accuracy, 126 to 254.
 pub fn read_word(word: &Bits<16>, sat: Sat, stamp: u32) -> Result<WordParts, WordFault>
     requires { sat.system ≡ Gal }
     ensures answer { result ≡ reading_of word.now sat stamp }

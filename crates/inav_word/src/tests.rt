@@ -167,8 +167,8 @@ fn again(parts: &WordParts, alloc: Global) -> Result<(String, Bits<16>), Fail> {
     }
 }
 
-// The worked words of one satellite, and words made by an independent program: their digits, the satellite
-// that sends them and what they hold.
+// The worked words of one satellite, and words made by an independent program: their digits, the
+// satellite that sends them and what they hold.
 const WORDS: [(&[u8; 32], u8, &str); 30] = [
     (
         b"04050000000000000000000000000000",

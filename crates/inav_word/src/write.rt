@@ -6,8 +6,10 @@ ghost use Rattle.nav_eph.specs.Satellite.{Satellite};
 ghost use Rattle.nav_eph.specs.declared.sat.System.TheVariants.{Gal};
 ghost use Rattle.nav_eph.specs.declared.part.Body.TheVariants.{GalW1, GalW2, GalW3, GalW4};
 ghost use Rattle.inav_word.specs.Reading.{one_part, reading_of, two_parts};
-ghost use Rattle.inav_word.specs.Words.{fields_word1, fields_word2, fields_word3, fields_word4, fields_word5};
-ghost use Rattle.inav_word.specs.Writing.{word1_bytes, word2_bytes, word3_bytes, word4_bytes, word5_bytes};
+ghost use Rattle.inav_word.specs.Words.{fields_word1, fields_word2, fields_word3};
+ghost use Rattle.inav_word.specs.Words.{fields_word4, fields_word5};
+ghost use Rattle.inav_word.specs.Writing.{word1_bytes, word2_bytes, word3_bytes};
+ghost use Rattle.inav_word.specs.Writing.{word4_bytes, word5_bytes};
 ghost use Rattle.inav_word.specs.Writing.{word1_of, word2_of, word3_of, word4_of, word5_of};
 
 use crate::ranges::{
@@ -90,8 +92,8 @@ pub fn write_word3(w: &GalWord3) -> Bits<16>
     bits
 }
 
-/// The 128 bits of I/NAV word 4 of a satellite of Galileo (Galileo OS SIS ICD, 4.3.5). The spare bits
-/// are 0.
+/// The 128 bits of I/NAV word 4 of a satellite of Galileo (Galileo OS SIS ICD, 4.3.5). The spare
+/// bits are 0.
 pub fn write_word4(w: &GalWord4, sat: Sat) -> Bits<16>
     requires { sat.system ≡ Gal }
     ensures fields { StandFrom result 0 0 (fields_word4 (word4_of w.now sat.number)) }
@@ -139,8 +141,8 @@ fn word5(health: &GalHealth, ion: &GalIon, wn: U<12>, second: Second) -> Word5
     }
 }
 
-/// The 128 bits of I/NAV word 5 (Galileo OS SIS ICD, 4.3.5), sent in a week, counted from Galileo's first
-/// one in twelve digits, and at a second of it. The spare bits are 0.
+/// The 128 bits of I/NAV word 5 (Galileo OS SIS ICD, 4.3.5), sent in a week, counted from Galileo's
+/// first one in twelve digits, and at a second of it. The spare bits are 0.
 pub fn write_word5(health: &GalHealth, ion: &GalIon, wn: U<12>, second: Second) -> Bits<16>
     ensures fields { StandFrom result 0 0 (fields_word5 (word5_of health.now ion.now wn second)) }
     ensures reserved_bits { number_at result 105 23 ≡ 0 }

@@ -31,7 +31,8 @@ pub struct Subframe1 {
 
 impl Layout for Subframe1 {
     ghost use Rattle.std.specs.Prelude.{ℕ, List};
-    ghost use Rattle.lnav_subframe.specs.Subframes.{subframe1_at, subframe1_own_bits, subframe1_rest};
+    ghost use Rattle.lnav_subframe.specs.Subframes.{subframe1_at, subframe1_own_bits};
+    ghost use Rattle.lnav_subframe.specs.Subframes.{subframe1_rest};
 
     ghost BITS = { 300 };
 

@@ -13,8 +13,8 @@ ghost use Rattle.lnav_subframe.specs.Reading.{IsFirstFault, StandsFor, heard, su
 ghost use Rattle.lnav_subframe.specs.Writing.{AllReadAs, HasTime, IsWritable, IsWritten};
 ghost use Rattle.lnav_subframe.specs.Writing.{read_again};
 
-/// What was written is read as the same fields, with the second at which the subframe starts; a page that
-/// is not used is refused as such, with its number and its page.
+/// What was written is read as the same fields, with the second at which the subframe starts; a
+/// page that is not used is refused as such, with its number and its page.
 pub fn written_is_read()
     ensures { (body : SubframeOut) (count : ℕ) (bits : List ℕ) →
         count < 100800 → IsWritable body → HasTime body →
@@ -45,8 +45,8 @@ pub fn refused_by_the_first_fault()
         (subframe_of bits sat stamp ≡ Err fault) ↔ IsFirstInOrder bits fault }
 {}
 
-/// A part that is read has the stamp and the satellite with which it was heard, is one that a satellite of
-/// GPS can send, and has its fields within their digits.
+/// A part that is read has the stamp and the satellite with which it was heard, is one that a
+/// satellite of GPS can send, and has its fields within their digits.
 pub fn subframe_parts()
     ensures stamp { (bits : List ℕ) (sat : Satellite) (stamp : ℕ) (part : Part) →
         subframe_of bits sat stamp ≡ Ok part → part.stamp ≡ stamp }
@@ -64,8 +64,8 @@ pub fn subframes_are_the_function()
         AreBytes 38 bits → IsWritten body count bits → bits ≡ subframe_bytes body count }
 {}
 
-/// The bytes of `subframe_bytes` are those of a subframe with these fields and this count, and they are read
-/// as it was written.
+/// The bytes of `subframe_bytes` are those of a subframe with these fields and this count, and they
+/// are read as it was written.
 pub fn subframe_bytes_are_written()
     ensures written { (body : SubframeOut) (count : ℕ) → HasDigits body → count < 100800 →
         IsWritten body count (subframe_bytes body count) }

@@ -1,13 +1,14 @@
 //! The subframes of the LNAV message, read and written (IS-GPS-200, 20.3 and figure 20-1).
 //!
-//! A subframe is 300 bits, ten words of 30, and brings a count of 6 s, its number and a part of what the
-//! satellite broadcasts. Here are
+//! A subframe is 300 bits, ten words of 30, and brings a count of 6 s, its number and a part of
+//! what the satellite broadcasts. Here are
 //!
-//! - [`read_subframe`], the part that some bits stand for, or the first fault in them ([`LnavFault`]);
+//! - [`read_subframe`], the part that some bits stand for, or the first fault in them
+//!   ([`LnavFault`]);
 //! - [`write_subframe`], the bits of a [`SubframeOut`].
 //!
-//! The clock (subframe 1), the orbit (subframes 2 and 3) and the ionosphere (page 18 of subframe 4) are
-//! used; other subframes are recognized and refused by name.
+//! The clock (subframe 1), the orbit (subframes 2 and 3) and the ionosphere (page 18 of subframe 4)
+//! are used; other subframes are recognized and refused by name.
 //!
 //! ```rust
 //! use lnav_subframe::{LnavFault, SubframeOut, read_subframe, write_subframe};

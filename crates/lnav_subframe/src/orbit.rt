@@ -29,7 +29,8 @@ pub struct Subframe2 {
 
 impl Layout for Subframe2 {
     ghost use Rattle.std.specs.Prelude.{ℕ, List};
-    ghost use Rattle.lnav_subframe.specs.Subframes.{subframe2_at, subframe2_own_bits, subframe2_rest};
+    ghost use Rattle.lnav_subframe.specs.Subframes.{subframe2_at, subframe2_own_bits};
+    ghost use Rattle.lnav_subframe.specs.Subframes.{subframe2_rest};
 
     ghost BITS = { 300 };
 
@@ -135,7 +136,8 @@ pub struct Subframe3 {
 
 impl Layout for Subframe3 {
     ghost use Rattle.std.specs.Prelude.{ℕ, List};
-    ghost use Rattle.lnav_subframe.specs.Subframes.{subframe3_at, subframe3_own_bits, subframe3_rest};
+    ghost use Rattle.lnav_subframe.specs.Subframes.{subframe3_at, subframe3_own_bits};
+    ghost use Rattle.lnav_subframe.specs.Subframes.{subframe3_rest};
 
     ghost BITS = { 300 };
 

@@ -29,12 +29,13 @@ fn righted(bits: &Bits<38>) -> Result<Bits<38>, LnavFault>
 }
 
 /// The part that the first 300 bits stand for as a subframe of the LNAV message (IS-GPS-200, figure
-/// 20-1), heard from a satellite of GPS at a second of the logger; the last four bits are not looked at.
-/// A subframe that begins with the complement of the preamble is turned whole before it is read.
+/// 20-1), heard from a satellite of GPS at a second of the logger; the last four bits are not
+/// looked at. A subframe that begins with the complement of the preamble is turned whole before it
+/// is read.
 ///
-/// The error is the first fault, as [`LnavFault`] orders them: no preamble; the first word whose parity
-/// is wrong; a count of 100,800 or more; a subframe other than 1, 2, 3 and page 18 of 4; a toc or toe
-/// of 37,800 steps or more.
+/// The error is the first fault, as [`LnavFault`] orders them: no preamble; the first word whose
+/// parity is wrong; a count of 100,800 or more; a subframe other than 1, 2, 3 and page 18 of 4; a
+/// toc or toe of 37,800 steps or more.
 pub fn read_subframe(bits: &Bits<38>, sat: Sat, stamp: u32) -> Result<Part, LnavFault>
     requires { sat.system ≡ Gps }
     ensures part { IfOk result (StandsFor bits.now sat stamp) }

@@ -171,7 +171,8 @@ fn clock_body(parts: (GpsClock, GpsSide), wn: u64, second: u32) -> Option<Body> 
     Some(Body::GpsClock(parts.0, parts.1, tag))
 }
 
-// The first half of an orbit is written with those digits at that count, and they are read as the same.
+// The first half of an orbit is written with those digits at that count, and they are read as the
+// same.
 fn orbit_agrees(
     text: &[u8; 76],
     orbit: GpsOrbitA,

@@ -16,8 +16,8 @@ pub(crate) fn turned(bits: &Bits<38>) -> Bits<38>
     Bits::from_bytes(bytes)
 }
 
-// The source bits of the ten words, each at the place of its data bit, or the first word whose parity
-// is wrong, counted from 1.
+// The source bits of the ten words, each at the place of its data bit, or the first word whose
+// parity is wrong, counted from 1.
 pub(crate) fn source_of(bits: &Bits<38>) -> Result<Bits<38>, u8>
     ensures good { IfOk result (λ source. AreGood bits.now 10) }
     ensures source { IfOk result (λ source. AreSource bits.now source 10) }

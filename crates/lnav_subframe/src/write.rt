@@ -165,10 +165,10 @@ fn digits(body: &SubframeOut)
     }
 }
 
-/// The 300 bits of a subframe of the LNAV message (IS-GPS-200, figure 20-1) and four bits that are 0.
-/// `count` is the number of 6 s intervals of the week that have passed when the next subframe starts. The
-/// TLM message, alert, anti-spoof, AODO and what is reserved are 0, the data ID of subframes 4 and 5
-/// is 1, and words 2 and 10 end in two bits that are 0.
+/// The 300 bits of a subframe of the LNAV message (IS-GPS-200, figure 20-1) and four bits that are
+/// 0. `count` is the number of 6 s intervals of the week that have passed when the next subframe
+/// starts. The TLM message, alert, anti-spoof, AODO and what is reserved are 0, the data ID of
+/// subframes 4 and 5 is 1, and words 2 and 10 end in two bits that are 0.
 pub fn write_subframe(body: &SubframeOut, count: U<17>) -> Bits<38>
     requires week { count < 100800 }
     requires page { IsWritable body.now }

@@ -9,10 +9,10 @@
 //! - [`Bits`], some bytes as bits, with the numbers that stand at any places of them;
 //! - [`Layout`] and [`BitForm`], what a value that stands in bits promises: what was packed is
 //!   unpacked, and packing changes its own bits alone;
-//! - `packed` in the definitions, the bytes in which the fields of a table stand one behind the other
-//!   with what is reserved 0, and [`packed_are_the_only`], that no other bytes are such;
-//! - [`put_numbers`], which writes a table of fields, and `join` and `split` of [`U`] and [`S`], for
-//!   fields in two ranges.
+//! - `packed` in the definitions, the bytes in which the fields of a table stand one behind the
+//!   other with what is reserved 0, and [`packed_are_the_only`], that no other bytes are such;
+//! - [`put_numbers`], which writes a table of fields, and `join` and `split` of [`U`] and [`S`],
+//!   for fields in two ranges.
 //!
 //! ```rust
 //! use nav_bits::{BitForm, Bits, S};

@@ -1,4 +1,5 @@
-ghost use Rattle.std.specs.Prelude.{◌≡◌, ℕ, ◌+◌, ◌*◌, ◌^◌, ◌<◌, ◌≤◌, ◌↔◌, ℤ, pos, negsuc, IsSome, IfSome};
+ghost use Rattle.std.specs.Prelude.{◌≡◌, ℕ, ◌+◌, ◌*◌, ◌^◌, ◌<◌, ◌≤◌};
+ghost use Rattle.std.specs.Prelude.{◌↔◌, ℤ, pos, negsuc, IsSome, IfSome};
 ghost use Rattle.nav_bits.specs.Bits.{signed_at};
 ghost use Rattle.nav_bits.specs.Laws.{signed_at-same};
 ghost use Rattle.nav_bits.specs.Mirrors.{magnitude_of};

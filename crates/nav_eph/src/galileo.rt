@@ -22,7 +22,8 @@ pub struct GalWord1 {
     pub root_a: U<32>,
 }
 
-/// The second part of the orbit of a Galileo satellite, of I/NAV word 2 (Galileo OS SIS ICD, 5.1.1).
+/// The second part of the orbit of a Galileo satellite, of I/NAV word 2 (Galileo OS SIS ICD,
+/// 5.1.1).
 #[derive(Clone, Copy, PartialEq, Eq, Debug)]
 pub struct GalWord2 {
     /// Issue of data.
@@ -37,8 +38,8 @@ pub struct GalWord2 {
     pub idot: S<14>,
 }
 
-/// The third part of the orbit of a Galileo satellite, with the accuracy, of I/NAV word 3 (Galileo OS
-/// SIS ICD, 5.1.1 and 5.1.12).
+/// The third part of the orbit of a Galileo satellite, with the accuracy, of I/NAV word 3 (Galileo
+/// OS SIS ICD, 5.1.1 and 5.1.12).
 #[derive(Clone, Copy, PartialEq, Eq, Debug)]
 pub struct GalWord3 {
     /// Issue of data.
@@ -59,8 +60,8 @@ pub struct GalWord3 {
     pub sisa: Sisa,
 }
 
-/// The last part of the orbit of a Galileo satellite, with its clock, of I/NAV word 4 (Galileo OS SIS
-/// ICD, 5.1.1 and 5.1.3).
+/// The last part of the orbit of a Galileo satellite, with its clock, of I/NAV word 4 (Galileo OS
+/// SIS ICD, 5.1.1 and 5.1.3).
 #[derive(Clone, Copy, PartialEq, Eq, Debug)]
 pub struct GalWord4 {
     /// Issue of data.

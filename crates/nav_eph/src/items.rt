@@ -95,8 +95,8 @@ fn is_sent_second(sent: &SentSecond) -> bool
 }
 
 impl GpsEph {
-    /// The ephemeris of these fields; `None` where the satellite is not one of GPS, the two halves of
-    /// the orbit have different issues, or `sent` is out of range.
+    /// The ephemeris of these fields; `None` where the satellite is not one of GPS, the two halves
+    /// of the orbit have different issues, or `sent` is out of range.
     pub fn new(
         sat: Sat,
         clock: GpsClock,
@@ -140,7 +140,8 @@ impl GpsEph {
         })
     }
 
-    /// The moment of its toe (IS-GPS-200, 20.3.3.4.1): in the week of toe, in seconds from 1980-01-06.
+    /// The moment of its toe (IS-GPS-200, 20.3.3.4.1): in the week of toe, in seconds from
+    /// 1980-01-06.
     pub fn toe(&self) -> Moment
         ensures { result ≡ gps_toe_moment self.now }
     {
@@ -150,8 +151,8 @@ impl GpsEph {
 }
 
 impl GalEph {
-    /// The ephemeris of these fields; `None` where the satellite is not one of Galileo, the four words
-    /// have different issues, or `sent` is out of range.
+    /// The ephemeris of these fields; `None` where the satellite is not one of Galileo, the four
+    /// words have different issues, or `sent` is out of range.
     pub fn new(
         sat: Sat,
         w1: GalWord1,
@@ -202,7 +203,8 @@ impl GalEph {
         })
     }
 
-    /// The moment of its toe (Galileo OS SIS ICD, 5.1.1): in the week of toe, in seconds from 1980-01-06.
+    /// The moment of its toe (Galileo OS SIS ICD, 5.1.1): in the week of toe, in seconds from
+    /// 1980-01-06.
     pub fn toe(&self) -> Moment
         ensures { result ≡ galileo_toe_moment self.now }
     {
@@ -212,8 +214,8 @@ impl GalEph {
 }
 
 impl IonEph {
-    /// The ionosphere of these fields; `None` where the satellite is not of the content's system, or
-    /// the moment is in week 0 or 16383.
+    /// The ionosphere of these fields; `None` where the satellite is not of the content's system,
+    /// or the moment is in week 0 or 16383.
     pub fn new(sat: Sat, moment: Moment, content: IonContent) -> Option<Self>
         ensures exactly { IsSome result ↔ IsIonEph sat moment content }
         ensures same { IfSome result (λ e. e ≡ record {

@@ -60,8 +60,8 @@ pub fn equality_is_decided()
     ensures parts { (a b : Part) → (same_part a b ≡ true) ↔ (a ≡ b) }
 {}
 
-/// `is_alike` is equality of items in every field but the time of sending, and so is equality of their
-/// numbers but for it.
+/// `is_alike` is equality of items in every field but the time of sending, and so is equality of
+/// their numbers but for it.
 pub fn alike_is_decided()
     ensures alike { (a b : NavItem) → (is_alike a b ≡ true) ↔ IsAlike a b }
     ensures numbers { (a b : NavItem) → (rank a ≡ rank b) ↔ IsAlike a b }

@@ -1,11 +1,11 @@
 //! The values of broadcast ephemerides and of the broadcast ionosphere.
 //!
-//! GPS sends an ephemeris in three subframes (IS-GPS-200, 20.3.3), Galileo in four words and its health
-//! in a fifth (Galileo OS SIS ICD, 4.3.5), each parameter as a whole number of some binary digits. Here
-//! these numbers are kept as they were sent, unscaled:
+//! GPS sends an ephemeris in three subframes (IS-GPS-200, 20.3.3), Galileo in four words and its
+//! health in a fifth (Galileo OS SIS ICD, 4.3.5), each parameter as a whole number of some binary
+//! digits. Here these numbers are kept as they were sent, unscaled:
 //!
-//! - [`Body`], what one subframe, word or message brings, and [`Part`], a body with its satellite and
-//!   the time at which it was heard;
+//! - [`Body`], what one subframe, word or message brings, and [`Part`], a body with its satellite
+//!   and the time at which it was heard;
 //! - [`GpsEph`], [`GalEph`] and [`IonEph`], whole values, and [`NavItem`], one of these;
 //! - [`Sat`], [`SentTag`] and the small numbers [`Step16`], [`Step60`] and [`Sisa`].
 //!

@@ -78,8 +78,8 @@ fn has_gps_week(body: &Body) -> bool
 }
 
 impl Part {
-    /// The part heard at that second; `None` where the satellite is not of the body's system, or the
-    /// week number of a tag of GPS has more than ten digits.
+    /// The part heard at that second; `None` where the satellite is not of the body's system, or
+    /// the week number of a tag of GPS has more than ten digits.
     pub fn new(stamp: u32, sat: Sat, body: Body) -> Option<Self>
         ensures exactly { IsSome result ↔ IsPart sat body }
         ensures same { IfSome result (λ p. p ≡ record { stamp = stamp; sat = sat; body = body }) }

@@ -34,8 +34,8 @@ fn is_whole_gal(e: &GalEph) -> bool
 }
 
 impl NavItem {
-    /// Each of its fields is within its digits: a fact of every item, which this says and for which it
-    /// does nothing.
+    /// Each of its fields is within its digits: a fact of every item, which this says and for which
+    /// it does nothing.
     pub fn ranges(&self)
         ensures { HasRanges self.now }
     {
@@ -46,8 +46,8 @@ impl NavItem {
         }
     }
 
-    /// Its parts fit together, as [`GpsEph::new`], [`GalEph::new`] and [`IonEph::new`] demand. An item
-    /// that is made of its fields, without these, may be otherwise.
+    /// Its parts fit together, as [`GpsEph::new`], [`GalEph::new`] and [`IonEph::new`] demand. An
+    /// item that is made of its fields, without these, may be otherwise.
     pub fn is_whole(&self) -> bool
         ensures { IsTrue result ↔ IsItem self.now }
     {

@@ -81,8 +81,8 @@ impl Step60 {
     }
 }
 
-/// The accuracy index of Galileo, in 8 bits: 0 to 125, or 255 where no accuracy is given (Galileo OS
-/// SIS ICD, 5.1.12).
+/// The accuracy index of Galileo, in 8 bits: 0 to 125, or 255 where no accuracy is given (Galileo
+/// OS SIS ICD, 5.1.12).
 #[derive(Clone, Copy, PartialEq, Eq, PartialOrd, Ord, Hash, Debug)]
 pub struct Sisa {
     index: u64,

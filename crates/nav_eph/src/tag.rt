@@ -26,8 +26,8 @@ pub enum SentTag {
 }
 
 impl SentTag {
-    /// The number that its 33 binary digits give: the kind in 1, the week number in 12 and the second
-    /// in 20.
+    /// The number that its 33 binary digits give: the kind in 1, the week number in 12 and the
+    /// second in 20.
     pub fn number(&self) -> u64
         ensures value { result ≡ tag_number self.now }
         ensures fits { IsSentTag self.now }
@@ -49,8 +49,8 @@ pub fn gps_sending_number(second: Second) -> u64
     second.value() as u64
 }
 
-/// The number that the binary digits of the time give at which the ionosphere of Galileo was sent: the
-/// week number in 12 and the second in 20.
+/// The number that the binary digits of the time give at which the ionosphere of Galileo was sent:
+/// the week number in 12 and the second in 20.
 pub fn gal_sending_number(wn: U<12>, second: Second) -> u64
     ensures value { result ≡ gal_sending wn second }
     ensures week_fits { wn < 2 ^ 12 }

@@ -67,8 +67,8 @@ impl<W: Write> Sink for WriteSink<W> {
 
     ghost faults = { λ s. s.faults };
 
-    /// Calls `write` of the writer until the piece is out, and then `flush`. An `Err` of either, and
-    /// a `write` that takes none of a piece that isn't empty, counts one fault and fails.
+    /// Calls `write` of the writer until the piece is out, and then `flush`. An `Err` of either,
+    /// and a `write` that takes none of a piece that isn't empty, counts one fault and fails.
     fn write(&mut self, piece: &[u8]) -> Result<(), Failed> {
         if put_all(&mut self.writer, piece) {
             return Ok(());

@@ -1,6 +1,8 @@
-//! Laws of the lines of bytes and of their reader: each function does nothing, and its contract is the law.
+//! Laws of the lines of bytes and of their reader: each function does nothing, and its contract is
+//! the law.
 
-ghost use Rattle.std.specs.Prelude.{◌≡◌, ◌^◌, ◌<◌, ◌++◌, ◌∷◌, ℕ, Bool, true, false, List, [], Option, Some};
+ghost use Rattle.std.specs.Prelude.{◌≡◌, ◌^◌, ◌<◌, ◌++◌, ◌∷◌, ℕ, Bool};
+ghost use Rattle.std.specs.Prelude.{true, false, List, [], Option, Some};
 ghost use Rattle.nav_io.specs.Lines.{IsOneLine, Line, ends, pieces, lines_by};
 ghost use Rattle.nav_io.specs.Pieces.{ArePieces};
 ghost use Rattle.nav_io.specs.LinesState.{LinesState, Reads, GivesLine, BreaksRead, BreaksLong};
@@ -29,7 +31,8 @@ pub fn written_lines_are_given()
         ≡ record { text = line; long = false } ∷ lines_by more rest }
 {}
 
-/// The lines that calls gave are the first of those of what was held and taken; before the end, they have ended.
+/// The lines that calls gave are the first of those of what was held and taken; before the end,
+/// they have ended.
 pub fn lines_given_are_the_first()
     ensures first { (left left_new : Option (List ℕ)) (old new : LinesState) (lines : List Line)
         (reads : Reads left left_new old new lines)
@@ -42,8 +45,8 @@ pub fn lines_given_are_the_first()
         → Reads middle left_new now new more → Reads left left_new old new (lines ++ more) }
 {}
 
-/// From the first call to the end the lines of all bytes are given, however the reads cut them; and up to a fault, those
-/// that have ended.
+/// From the first call to the end the lines of all bytes are given, however the reads cut them; and
+/// up to a fault, those that have ended.
 pub fn lines_given_are_those_of_the_bytes()
     ensures whole { (bytes : List ℕ) (left_new : Option (List ℕ)) (old new : LinesState)
         (lines : List Line) → Reads (Some bytes) left_new old new lines → old.rest ≡ []
@@ -61,8 +64,8 @@ pub fn too_many_bytes_stay_too_many()
         → old.taken ≡ 2 ^ 32 → BreaksRead left left_new old new → ⊥ }
 {}
 
-/// After a read that gave no byte no read fails, and the bytes do not become too many. Where no line is held either, no
-/// further call answers anything but the end.
+/// After a read that gave no byte no read fails, and the bytes do not become too many. Where no
+/// line is held either, no further call answers anything but the end.
 pub fn the_end_stays()
     ensures read { (left left_new : Option (List ℕ)) (old new : LinesState)
         → old.ended ≡ true → BreaksRead left left_new old new → ⊥ }

@@ -1,13 +1,15 @@
-//! Sources and sinks of bytes: where a conversion reads, and where it writes; and the lines of a source.
+//! Sources and sinks of bytes: where a conversion reads, and where it writes; and the lines of a
+//! source.
 //!
 //! Code that converts is generic over [`Source`] and [`Sink`]. Their contracts say which bytes went
 //! through, where the source or the sink tells them, and count faults: a call fails only where its
-//! object's own count of faults has risen. [`MemSource`] and [`MemSink`] work over memory, with cuts
-//! and failing calls for tests. [`ReadSource`] and [`WriteSink`] stand over a reader and a writer of
-//! the standard library.
+//! object's own count of faults has risen. [`MemSource`] and [`MemSink`] work over memory, with
+//! cuts and failing calls for tests. [`ReadSource`] and [`WriteSink`] stand over a reader and a
+//! writer of the standard library.
 //!
-//! [`Lines`] gives the lines of a source one by one, in a buffer of fixed size: what stands between the
-//! ends of lines (LF), without a CR before them. Its contracts hold however the reads cut the bytes.
+//! [`Lines`] gives the lines of a source one by one, in a buffer of fixed size: what stands between
+//! the ends of lines (LF), without a CR before them. Its contracts hold however the reads cut the
+//! bytes.
 //!
 //! ```rust
 //! let mut source = ReadSource::new(rt.stdin());

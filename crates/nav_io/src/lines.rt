@@ -1,6 +1,8 @@
 //! The lines of a source.
 
-ghost use Rattle.std.specs.Prelude.{◌≡◌, ◌+◌, ◌^◌, ◌<◌, ◌≤◌, [], ◌++◌, length, take, drop, false, IsTrue, IsOk, IsErrOf, IfOk, IfErr, IfSome, IfNone, OnOk, OnErr, MatchResult};
+ghost use Rattle.std.specs.Prelude.{◌≡◌, ◌+◌, ◌^◌, ◌<◌, ◌≤◌, [], ◌++◌, length, take};
+ghost use Rattle.std.specs.Prelude.{drop, false, IsTrue, IsOk, IsErrOf, IfOk, IfErr};
+ghost use Rattle.std.specs.Prelude.{IfSome, IfNone, OnOk, OnErr, MatchResult};
 ghost use Rattle.std.specs.Io.KnownBytes.{Consumes, IsAtEnd, Keeps};
 ghost use Rattle.nav_io.specs.Causes.{HasCause, Rose};
 ghost use Rattle.nav_io.specs.Lines.{ends, without_cr};
@@ -15,8 +17,8 @@ use std::marker::Model;
 // How many bytes a line has at most that is not long.
 const LONGEST: usize = 2200;
 
-// How many bytes of a line that has not ended are kept at most: the longest line, a CR and one byte more, which tells that
-// it is long.
+// How many bytes of a line that has not ended are kept at most: the longest line, a CR and one byte
+// more, which tells that it is long.
 const KEPT: usize = 2202;
 
 // How many bytes are held at most: those and a piece that is read.
@@ -44,8 +46,9 @@ pub enum LineFault {
 
 /// Splits what a source gives into lines, in a buffer of fixed size.
 ///
-/// A contract sees the bytes that were taken and not answered, `rest`; whether a read gave no byte, `ended`; how many bytes
-/// were `taken`; the `number` of lines so far; and the `text` of the last one.
+/// A contract sees the bytes that were taken and not answered, `rest`; whether a read gave no byte,
+/// `ended`; how many bytes were `taken`; the `number` of lines so far; and the `text` of the last
+/// one.
 #[derive(Drop)]
 pub struct Lines {
     held: ArrayVec<u8, HELD>,
@@ -81,12 +84,14 @@ impl Model for Lines {
 }
 
 impl Lines {
-    ghost use Rattle.std.specs.Prelude.{◌≡◌, ◌^◌, ◌<◌, ◌≤◌, [], length, take, true, false, IsTrue, IsOk, IsErrOf, IfOk, IfErr, IfSome, IfNone, OnOk, OnErr};
+    ghost use Rattle.std.specs.Prelude.{◌≡◌, ◌^◌, ◌<◌, ◌≤◌, [], length, take, true, false, IsTrue};
+    ghost use Rattle.std.specs.Prelude.{IsOk, IsErrOf, IfOk, IfErr, IfSome, IfNone, OnOk, OnErr};
     ghost use Rattle.std.specs.Io.KnownBytes.{Keeps};
     ghost use Rattle.nav_io.specs.Causes.{HasCause, Rose};
     ghost use Rattle.nav_io.specs.Lines.{ends, line_of};
     ghost use Rattle.nav_io.specs.LineAnswers.{Answers, Breaks};
-    ghost use Rattle.nav_io.specs.Mirrors.{EndsAt, kind_of, PassesLine, GivesLast, KeepsOpen, Fills};
+    ghost use Rattle.nav_io.specs.Mirrors.{EndsAt, kind_of, PassesLine};
+    ghost use Rattle.nav_io.specs.Mirrors.{GivesLast, KeepsOpen, Fills};
 
     /// Lines of which none was read.
     pub fn new() -> Lines
@@ -108,7 +113,8 @@ impl Lines {
         }
     }
 
-    /// The line of the last `next`, of a `Long` one its first 2,200 bytes; nothing where it gave no line.
+    /// The line of the last `next`, of a `Long` one its first 2,200 bytes; nothing where it gave no
+    /// line.
     pub fn text(&self) -> &[u8]
         ensures { result.now ≡ self.now.text }
     {
@@ -124,12 +130,12 @@ impl Lines {
 
     /// The next line: its kind, after which `text` gives it.
     ///
-    /// A line ends at LF, and one CR before it is dropped, also at the end of the last line, which needs no LF where it has a
-    /// byte. Reads only while no line ends in the bytes that are held, at most 4,096 bytes at a time, and never after a read
-    /// that gave no byte.
+    /// A line ends at LF, and one CR before it is dropped, also at the end of the last line, which
+    /// needs no LF where it has a byte. Reads only while no line ends in the bytes that are held,
+    /// at most 4,096 bytes at a time, and never after a read that gave no byte.
     ///
-    /// `ReadFault`: a read failed, and the source's count of faults says so. `TooLong`: 4,294,967,295 bytes were taken and
-    /// one more was there.
+    /// `ReadFault`: a read failed, and the source's count of faults says so. `TooLong`:
+    /// 4,294,967,295 bytes were taken and one more was there.
     pub fn next<S: Source>(&mut self, source: &mut S) -> Result<LineKind, LineFault>
         ensures answer { IfOk result (λ kind.
             Answers kind (S.left source.old) (S.left source.new) self.old self.new) }
@@ -221,7 +227,8 @@ impl Lines {
         self.give(len, len)
     }
 
-    // Keeps what is kept of a line that has not ended, and reads a piece behind it. Gives how many bytes were kept.
+    // Keeps what is kept of a line that has not ended, and reads a piece behind it. Gives how many
+    // bytes were kept.
     fn fill<S: Source>(&mut self, source: &mut S) -> Result<usize, Failed>
         requires low { self.old.taken < 2 ^ 32 }
         ensures ok { IfOk result (λ kept.
@@ -270,7 +277,8 @@ fn length_without_cr(line: &[u8]) -> usize
     if line[last] == b'\r' { last } else { last + 1 }
 }
 
-// Passes the bytes before this place, and keeps of those behind it what is kept of a line that has not ended.
+// Passes the bytes before this place, and keeps of those behind it what is kept of a line that has
+// not ended.
 fn keep_open(held: &mut ArrayVec<u8, HELD>, start: usize)
     requires { start ≤ length held.old.items }
     ensures { held.new.items ≡ take 2202 (drop start held.old.items) }

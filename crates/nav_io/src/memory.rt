@@ -1,6 +1,8 @@
 //! A source and a sink over memory, with cuts and failing calls.
 
-ghost use Rattle.std.specs.Prelude.{◌≡◌, ◌+◌, ◌-◌, ◌^◌, ◌<◌, ◌≤◌, ◌↔◌, ◌⊎◌, [], min, length, take, drop, IsTrue, IsOk, IsErr, IfOk, OnErr, MatchResult, Contains, None, Some};
+ghost use Rattle.std.specs.Prelude.{◌≡◌, ◌+◌, ◌-◌, ◌^◌, ◌<◌, ◌≤◌, ◌↔◌, ◌⊎◌, []};
+ghost use Rattle.std.specs.Prelude.{min, length, take, drop, IsTrue, IsOk, IsErr};
+ghost use Rattle.std.specs.Prelude.{IfOk, OnErr, MatchResult, Contains, None, Some};
 ghost use Rattle.std.specs.Io.{ReadsAtMost};
 ghost use Rattle.std.specs.Io.KnownBytes.{Appends, ReadConsumes};
 ghost use Rattle.nav_io.specs.Causes.{HasCause};
@@ -44,9 +46,9 @@ impl Model for MemSource {
 impl MemSource {
     /// A source over these bytes, with a count of 0.
     ///
-    /// The k-th call that succeeds gives at most `cuts[k]` bytes, where 0 counts as 1, and any number
-    /// past the end of `cuts`. The calls whose numbers stand in `fails`, counted from 0 over all
-    /// calls, fail.
+    /// The k-th call that succeeds gives at most `cuts[k]` bytes, where 0 counts as 1, and any
+    /// number past the end of `cuts`. The calls whose numbers stand in `fails`, counted from 0 over
+    /// all calls, fail.
     pub fn new(bytes: Vec<u8>, cuts: Vec<u32>, fails: Vec<u32>) -> MemSource
         ensures left { result.left ≡ bytes.items }
         ensures cuts { result.cuts ≡ cuts.items }

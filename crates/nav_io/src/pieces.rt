@@ -1,6 +1,7 @@
 //! Pieces of a source, of which a reader takes so many bytes at most.
 
-ghost use Rattle.std.specs.Prelude.{◌≡◌, ◌+◌, ◌^◌, ◌<◌, ◌≤◌, length, take, IsTrue, IsOk, IfOk, MatchResult};
+ghost use Rattle.std.specs.Prelude.{◌≡◌, ◌+◌, ◌^◌, ◌<◌, ◌≤◌, length, take};
+ghost use Rattle.std.specs.Prelude.{IsTrue, IsOk, IfOk, MatchResult};
 ghost use Rattle.std.specs.Io.KnownBytes.{Consumes, IsAtEnd, Keeps};
 ghost use Rattle.nav_io.specs.Causes.{HasCause};
 
@@ -11,12 +12,13 @@ pub const MOST_TAKEN: u64 = 4_294_967_295;
 
 /// Reads a piece of a source of which so many bytes were taken, and tells how many bytes it has.
 ///
-/// The piece fills the front of the slice. At most 4,294,967,296 bytes are taken in all: one more than [`MOST_TAKEN`], so
-/// that its presence shows. 0 only where the source is at its end.
+/// The piece fills the front of the slice. At most 4,294,967,296 bytes are taken in all: one more
+/// than [`MOST_TAKEN`], so that its presence shows. 0 only where the source is at its end.
 ///
 /// # Errors
 ///
-/// `Failed` only where the source's count of faults rose in this call, or stands at its last value; nothing is taken then.
+/// `Failed` only where the source's count of faults rose in this call, or stands at its last value;
+/// nothing is taken then.
 pub fn read_piece<S: Source>(source: &mut S, taken: u64, piece: &mut [u8]) -> Result<usize, Failed>
     requires low { taken < 2 ^ 32 }
     requires some { 0 < length piece.old }

@@ -21,8 +21,8 @@ pub fn captures_are_short()
     ensures function { (seed n r : ℕ) → n ≤ 32 → length (capture_text seed n r) < 2 ^ 32 }
 {}
 
-/// The text of the function is a capture where the numbers of the satellites have six digits, and no
-/// other text is.
+/// The text of the function is a capture where the numbers of the satellites have six digits, and
+/// no other text is.
 pub fn captures_are_the_text()
     ensures capture { (seed n r : ℕ) → n < 64 → IsCapture seed n r (capture_text seed n r) }
     ensures only { (seed n r : ℕ) (text : List ℕ) → IsCapture seed n r text →

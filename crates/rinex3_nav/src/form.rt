@@ -1,7 +1,8 @@
 //! The form of RINEX 3: what its records stand for.
 
 ghost use Rattle.std.specs.Prelude.{◌≡◌, List, ℕ, length, pos};
-ghost use Rattle.rinex3_nav.specs.Form3.{is_inav, is_inav_number, is_three, judged3, says_inav, titled};
+ghost use Rattle.rinex3_nav.specs.Form3.{is_inav, is_inav_number, is_three};
+ghost use Rattle.rinex3_nav.specs.Form3.{judged3, says_inav, titled};
 
 use rinex_read::{FileForm, Judged, RecordLines, columns};
 use scaled_decimal::{DecimalFault, Scale, read};
@@ -83,12 +84,12 @@ fn judge(lines: &RecordLines) -> Judged
     }
 }
 
-/// Versions 3.02 to 3.05: a record begins at each line whose first column is not blank (RINEX 3.05, navigation message
-/// files).
+/// Versions 3.02 to 3.05: a record begins at each line whose first column is not blank (RINEX 3.05,
+/// navigation message files).
 ///
-/// A record of GPS is judged as the record of RINEX 4 with the title `> EPH G05 LNAV` of its satellite before it; one of
-/// Galileo with `> EPH E11 INAV`, where the data sources in its sixth line say that it is of I/NAV. Each other record is
-/// passed over.
+/// A record of GPS is judged as the record of RINEX 4 with the title `> EPH G05 LNAV` of its
+/// satellite before it; one of Galileo with `> EPH E11 INAV`, where the data sources in its sixth
+/// line say that it is of I/NAV. Each other record is passed over.
 pub struct Rinex3;
 
 impl FileForm for Rinex3 {

@@ -1,4 +1,5 @@
-//! Laws of records and files as written and as read: each function does nothing, and its contract is the law.
+//! Laws of records and files as written and as read: each function does nothing, and its contract
+//! is the law.
 
 ghost use Rattle.std.specs.Prelude.{◌≡◌, List, ℕ, Ok};
 ghost use Rattle.nav_eph.specs.declared.items.NavItem.{NavItem};
@@ -8,11 +9,13 @@ ghost use Rattle.rinex_write.specs.Texts.{IsHeader};
 ghost use Rattle.rinex_read.specs.Files.{file_reads};
 ghost use Rattle.rinex_read.specs.RoundTrip.{AllStand, AreHeaderLines, AreItems, numbered_by};
 ghost use Rattle.rinex3_nav.specs.Form3.{rinex3};
-ghost use Rattle.rinex3_nav.specs.Texts3.{ephemerides, header3_lines, item3_lines, rinex3_list, rinex3_text};
+ghost use Rattle.rinex3_nav.specs.Texts3.{ephemerides, header3_lines};
+ghost use Rattle.rinex3_nav.specs.Texts3.{item3_lines, rinex3_list, rinex3_text};
 
 use crate::form::Rinex3;
 
-/// The record that is written of an ephemeris is one record and stands for that ephemeris, whatever lines follow.
+/// The record that is written of an ephemeris is one record and stands for that ephemeris, whatever
+/// lines follow.
 pub fn records_are_read()
     ensures { (items : List NavItem) → AreItems items
         → AllStand rinex3 item3_lines (ephemerides items) }
@@ -23,8 +26,8 @@ pub fn headers_are_read()
     ensures { (h : HeaderWords) → IsHeader h → AreHeaderLines rinex3 (header3_lines h) }
 {}
 
-/// The list read from the text of a list of items is the list of its ephemerides, each with the number of its first line,
-/// and no record of it is refused or passed over.
+/// The list read from the text of a list of items is the list of its ephemerides, each with the
+/// number of its first line, and no record of it is refused or passed over.
 pub fn files_are_read()
     ensures list { (h : HeaderWords) (items : List NavItem) → IsHeader h → AreItems items
         → rinex3_list (rinex3_text h items) ≡ ephemerides items }

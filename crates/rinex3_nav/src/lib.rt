@@ -1,10 +1,11 @@
-//! RINEX 3 navigation files: versions 3.02 to 3.05 are read and 3.05 is written, for the ephemerides of GPS (LNAV) and
-//! Galileo (I/NAV) (RINEX 3.05, navigation message files).
+//! RINEX 3 navigation files: versions 3.02 to 3.05 are read and 3.05 is written, for the
+//! ephemerides of GPS (LNAV) and Galileo (I/NAV) (RINEX 3.05, navigation message files).
 //!
-//! [`Records3`] reads the header of a [`Source`](nav_io::Source) and then its records one by one, in buffers of fixed size.
-//! It is the reader of RINEX 4 over another form, [`Rinex3`]: a record has no title line, begins at each line whose first
-//! column is not blank, and is judged as the record of RINEX 4 with its title put before it. [`write_header3`] and
-//! [`write_item3`] write the same files; what was written is read as the list that was written ([`files_are_read`]).
+//! [`Records3`] reads the header of a [`Source`](nav_io::Source) and then its records one by one,
+//! in buffers of fixed size. It is the reader of RINEX 4 over another form, [`Rinex3`]: a record
+//! has no title line, begins at each line whose first column is not blank, and is judged as the
+//! record of RINEX 4 with its title put before it. [`write_header3`] and [`write_item3`] write the
+//! same files; what was written is read as the list that was written ([`files_are_read`]).
 //!
 //! ```rust
 //! let mut source = ReadSource::new(rt.stdin());

@@ -10,8 +10,8 @@ use std::marker::Model;
 
 /// Reads the records of a RINEX 3 navigation file one by one, in buffers of fixed size.
 ///
-/// A contract sees what it sees of a [`RecordReader`]: how far the header was read, the lines kept of the record that was
-/// begun and the number of the first of them, and the reader of lines.
+/// A contract sees what it sees of a [`RecordReader`]: how far the header was read, the lines kept
+/// of the record that was begun and the number of the first of them, and the reader of lines.
 #[derive(Drop)]
 pub struct Records3 {
     records: RecordReader<Rinex3>,
@@ -28,8 +28,10 @@ impl Model for Records3 {
 impl Records3 {
     ghost use Rattle.std.specs.Prelude.{◌≡◌, IsTrue, IsOk, IsErrOf, IfOk, IfErr, OnOk};
     ghost use Rattle.nav_io.specs.Causes.{Rose};
-    ghost use Rattle.rinex_read.specs.declared.judged.HeaderState.TheVariants.{Passed, NotRinexNav, OtherVersion};
-    ghost use Rattle.rinex_read.specs.States.{IsNew, GivesRead, BreaksRecord, PassesHeader, BreaksHeader};
+    ghost use Rattle.rinex_read.specs.declared.judged.HeaderState.TheVariants.{Passed, NotRinexNav};
+    ghost use Rattle.rinex_read.specs.declared.judged.HeaderState.TheVariants.{OtherVersion};
+    ghost use Rattle.rinex_read.specs.States.{IsNew, GivesRead, BreaksRecord};
+    ghost use Rattle.rinex_read.specs.States.{PassesHeader, BreaksHeader};
     ghost use Rattle.rinex_read.specs.RoundTrip.{IsWholeRead};
     ghost use Rattle.rinex3_nav.specs.Form3.{rinex3};
 
@@ -42,8 +44,8 @@ impl Records3 {
         }
     }
 
-    /// Reads the header of a file, as [`read_header`](RecordReader::read_header); its version is 3.02 to 3.05, in columns
-    /// 1-9 without blanks at the ends (RINEX 3.05, table A5).
+    /// Reads the header of a file, as [`read_header`](RecordReader::read_header); its version is
+    /// 3.02 to 3.05, in columns 1-9 without blanks at the ends (RINEX 3.05, table A5).
     pub fn read_header3<S: Source>(&mut self, source: &mut S) -> Result<(), HeaderFault>
         // What is to come behind the header are the records of the file, whatever bytes follow.
         ensures header { OnOk result (PassesHeader rinex3 (S.left source.old)
@@ -77,8 +79,9 @@ impl Records3 {
 
     /// The next record of a file whose header was read, as [`next_item`](RecordReader::next_item).
     ///
-    /// A record is a line whose first column is not blank and the lines up to the next such line or the end. Records of GPS
-    /// and of Galileo's I/NAV are judged; each other one is passed over. The line is that of the record's first line.
+    /// A record is a line whose first column is not blank and the lines up to the next such line or
+    /// the end. Records of GPS and of Galileo's I/NAV are judged; each other one is passed over.
+    /// The line is that of the record's first line.
     pub fn next_item3<S: Source>(&mut self, source: &mut S) -> Result<ItemRead, LineFault>
         requires header { self.old.header ≡ Passed }
 

@@ -1,4 +1,5 @@
-//! Files of an independent program, records of other kinds and of odd spellings, versions, and what is written.
+//! Files of an independent program, records of other kinds and of odd spellings, versions, and what
+//! is written.
 
 use crate::{Records3, write_header3, write_item3};
 use nav_io::{MemSink, MemSource};
@@ -95,7 +96,8 @@ fn reads_to(
     Ok(records.next_item3(&mut source) == Ok(ItemRead::End))
 }
 
-// A file of an independent program, with numbers in several spellings, and its items as that program writes them.
+// A file of an independent program, with numbers in several spellings, and its items as that
+// program writes them.
 #[test]
 fn a_file_of_another_program(rt: HostRuntime) -> Result<(), Fail> {
     let wants = [

@@ -11,12 +11,13 @@ use nav_eph::NavItem;
 use nav_io::{Failed, Sink};
 use rinex_write::{HeaderWords, write_body, write_header_of};
 
-/// Appends the header of a navigation file of version 3.05 to a sink, by one write (RINEX 3.05, table A5).
+/// Appends the header of a navigation file of version 3.05 to a sink, by one write (RINEX 3.05,
+/// table A5).
 ///
 /// # Errors
 ///
-/// `Failed` only where the sink's count of faults rose in this call, or stands at its last value; a front of the header
-/// was appended then.
+/// `Failed` only where the sink's count of faults rose in this call, or stands at its last value; a
+/// front of the header was appended then.
 pub fn write_header3<T: Sink>(words: &HeaderWords, out: &mut T) -> Result<(), Failed>
     requires { words.now.leap < 100 }
     ensures bytes { MatchResult result
@@ -28,13 +29,14 @@ pub fn write_header3<T: Sink>(words: &HeaderWords, out: &mut T) -> Result<(), Fa
     write_header_of(b"     3.05", words, out)
 }
 
-/// Appends the record of an ephemeris to a sink, by one write: the lines of its numbers, the first of which begins with
-/// the satellite (RINEX 3.05, tables A6 and A8). An ionosphere has no record: nothing is written.
+/// Appends the record of an ephemeris to a sink, by one write: the lines of its numbers, the first
+/// of which begins with the satellite (RINEX 3.05, tables A6 and A8). An ionosphere has no record:
+/// nothing is written.
 ///
 /// # Errors
 ///
-/// `Failed` only where the sink's count of faults rose in this call, or stands at its last value; a front of the record
-/// was appended then.
+/// `Failed` only where the sink's count of faults rose in this call, or stands at its last value; a
+/// front of the record was appended then.
 pub fn write_item3<T: Sink>(item: &NavItem, out: &mut T) -> Result<(), Failed>
     ensures bytes { MatchResult result
         (λ _. Appends (T.written out.old) (T.written out.new) (text_of (item3_lines item.now)))

@@ -4,7 +4,8 @@ ghost use Rattle.std.specs.Prelude.{◌≡◌, ◌≤◌, length};
 ghost use Rattle.rinex_write.specs.Accuracies.{first_from, sisa_from, sisa_of, ura_of};
 ghost use Rattle.rinex_read.specs.Mirrors.{sisa_index};
 
-// The greatest values of the indices 0 to 14 of user range accuracy, in centimetres (IS-GPS-200, 20.3.3.3.1.3).
+// The greatest values of the indices 0 to 14 of user range accuracy, in centimetres (IS-GPS-200,
+// 20.3.3.3.1.3).
 const URA_GREATEST: [u64; 15] = [
     240, 340, 485, 685, 965, 1_365, 2_400, 4_800, 9_600, 19_200, 38_400, 76_800, 153_600, 307_200,
     614_400,

@@ -1,6 +1,7 @@
 //! The fields that the numbers of a record say.
 
-ghost use Rattle.std.specs.Prelude.{◌≡◌, ◌+◌, ◌*◌, ◌≤◌, ◌≤ℤ◌, pos, true, length, unsigned_abs, OnOk};
+ghost use Rattle.std.specs.Prelude.{◌≡◌, ◌+◌, ◌*◌, ◌≤◌, ◌≤ℤ◌, pos};
+ghost use Rattle.std.specs.Prelude.{true, length, unsigned_abs, OnOk};
 ghost use Rattle.arrayvec.specs.ArrayVec.{array_vec_len};
 ghost use Rattle.scaled_decimal.specs.ScaleValue.{size_of};
 ghost use Rattle.scaled_decimal.specs.NumberReading.{seen};
@@ -106,7 +107,8 @@ fn read_row(
     Ok(())
 }
 
-/// The fields of the lines of a record behind its title, of which the numbers of the first begin at place 23.
+/// The fields of the lines of a record behind its title, of which the numbers of the first begin at
+/// place 23.
 pub(crate) fn read_fields(layout: &Layout, lines: &[Line]) -> Result<Fields, Reason>
     requires layout { IsLayout layout.now.columns.now layout.now.rows.now }
     requires lines { length layout.now.rows.now ≤ length lines.now }

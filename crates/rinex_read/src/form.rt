@@ -9,15 +9,16 @@ use scaled_decimal::is_decimal;
 
 /// A form of navigation files, read by a [`RecordReader`](crate::RecordReader).
 ///
-/// A contract sees the form as a ghost: the names of its versions, the characters with which its records begin, and what
-/// the lines of a record stand for.
+/// A contract sees the form as a ghost: the names of its versions, the characters with which its
+/// records begin, and what the lines of a record stand for.
 pub trait FileForm {
     ghost use Rattle.std.specs.Prelude.{◌≡◌};
     ghost use Rattle.rinex_read.specs.Forms.{Form, GivesItems, LooksAtKept};
 
     ghost form: { Form };
 
-    /// The text in columns 1-9 of the first line of a file, without blanks at its ends, names a version of the form.
+    /// The text in columns 1-9 of the first line of a file, without blanks at its ends, names a
+    /// version of the form.
     fn names(text: &[u8]) -> bool
         ensures { result ≡ form.names text.now };
 
@@ -29,12 +30,13 @@ pub trait FileForm {
     fn judge(lines: &RecordLines) -> Judged
         ensures { result ≡ form.judged lines.now };
 
-    /// Of the lines of a record only what [`RecordLines`] keeps is looked at. It does nothing: its contract is the law.
+    /// Of the lines of a record only what [`RecordLines`] keeps is looked at. It does nothing: its
+    /// contract is the law.
     fn looks_at_kept()
         ensures { LooksAtKept form };
 
-    /// Each item for which lines stand has fields within their digits, and its parts fit together. It does nothing: its
-    /// contract is the law.
+    /// Each item for which lines stand has fields within their digits, and its parts fit together.
+    /// It does nothing: its contract is the law.
     fn gives_items()
         ensures { GivesItems form };
 }
@@ -50,8 +52,8 @@ fn is_four(text: &[u8]) -> bool
     }
 }
 
-/// Version 4: `4.` and one digit or two; a record begins at a line with `>` (RINEX 4.01, header section and navigation
-/// records).
+/// Version 4: `4.` and one digit or two; a record begins at a line with `>` (RINEX 4.01, header
+/// section and navigation records).
 pub struct Rinex4;
 
 impl FileForm for Rinex4 {

@@ -3,8 +3,15 @@
 ghost use Rattle.std.specs.Prelude.{◌≡◌, ◌+◌, ◌*◌, ◌^◌, ◌<◌, ◌≤◌, IfOk};
 ghost use Rattle.nav_eph.specs.Steps.{IsStep16, IsStep60};
 ghost use Rattle.gnss_week.specs.Weeks.{IsWeek};
-ghost use Rattle.rinex_read.specs.Judging.{field, galileo_ionosphere_item, galileo_ionosphere_of, galileo_item, galileo_of, gps_ionosphere_item, gps_ionosphere_of, gps_clock_of, gps_item, gps_of, gps_orbit_a_of, gps_orbit_b_of, gps_side_of, health_said, natural, sent_of, toc_of, word1_of, word2_of, word3_of, word4_of};
-ghost use Rattle.rinex_read.specs.Mirrors.{AreGalileoFields, AreGalileoIonosphereFields, AreGpsFields, AreGpsIonosphereFields, IsBelowAt, IsSentAt, IsSignedAt, IsSisaAt, IsUnsignedAt, IsWeekAt};
+ghost use Rattle.rinex_read.specs.Judging.{field, galileo_ionosphere_item};
+ghost use Rattle.rinex_read.specs.Judging.{galileo_ionosphere_of, galileo_item, galileo_of};
+ghost use Rattle.rinex_read.specs.Judging.{gps_ionosphere_item, gps_ionosphere_of, gps_clock_of};
+ghost use Rattle.rinex_read.specs.Judging.{gps_item, gps_of, gps_orbit_a_of, gps_orbit_b_of};
+ghost use Rattle.rinex_read.specs.Judging.{gps_side_of, health_said, natural, sent_of, toc_of};
+ghost use Rattle.rinex_read.specs.Judging.{word1_of, word2_of, word3_of, word4_of};
+ghost use Rattle.rinex_read.specs.Mirrors.{AreGalileoFields, AreGalileoIonosphereFields};
+ghost use Rattle.rinex_read.specs.Mirrors.{AreGpsFields, AreGpsIonosphereFields, IsBelowAt};
+ghost use Rattle.rinex_read.specs.Mirrors.{IsSentAt, IsSignedAt, IsSisaAt, IsUnsignedAt, IsWeekAt};
 
 use crate::reason::Reason;
 use gnss_week::{Moment, Week};

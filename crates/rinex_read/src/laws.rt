@@ -1,12 +1,16 @@
-//! Laws of records and files as written and as read: each function does nothing, and its contract is the law.
+//! Laws of records and files as written and as read: each function does nothing, and its contract
+//! is the law.
 
-ghost use Rattle.std.specs.Prelude.{◌≡◌, ℕ, ◌+◌, ◌^◌, ◌<◌, ◌++◌, [], List, Option, Ok, true, length, map, take};
+ghost use Rattle.std.specs.Prelude.{◌≡◌, ℕ, ◌+◌, ◌^◌, ◌<◌, ◌++◌, [], List};
+ghost use Rattle.std.specs.Prelude.{Option, Ok, true, length, map, take};
 ghost use Rattle.nav_io.specs.declared.lines.LineFault.{LineFault};
 ghost use Rattle.nav_io.specs.declared.lines.LineFault.TheVariants.{ReadFault, TooLong};
 ghost use Rattle.rinex_read.specs.declared.judged.ItemRead.{ItemRead};
 ghost use Rattle.rinex_read.specs.declared.judged.ItemRead.TheVariants.{End};
 ghost use Rattle.rinex_read.specs.Kept.{padded};
-ghost use Rattle.rinex_read.specs.States.{BreaksHeader, BreaksRecord, GivesRead, HeaderSteps, IsNew, PassesHeader, RecordsState, Steps, file_to_come, is_waiting, records_to_come};
+ghost use Rattle.rinex_read.specs.States.{BreaksHeader, BreaksRecord, GivesRead};
+ghost use Rattle.rinex_read.specs.States.{HeaderSteps, IsNew, PassesHeader, RecordsState};
+ghost use Rattle.rinex_read.specs.States.{Steps, file_to_come, is_waiting, records_to_come};
 ghost use Rattle.rinex_read.specs.Forms.{rinex4};
 ghost use Rattle.rinex_read.specs.declared.judged.HeaderFault.{HeaderFault};
 ghost use Rattle.rinex_read.specs.declared.judged.HeaderFault.TheVariants as faults;
@@ -18,11 +22,13 @@ ghost use Rattle.rinex_write.specs.Texts.{IsHeader, header_lines, item_lines, ri
 ghost use Rattle.rinex_read.specs.declared.judged.Judged.TheVariants as judgments;
 ghost use Rattle.rinex_read.specs.Judging.{judged};
 ghost use Rattle.rinex_read.specs.Files.{file_reads, items_of, list_by, reads, rinex_list};
-ghost use Rattle.rinex_read.specs.RoundTrip.{AllStand, AreHeaderLines, AreItems, StandFor, numbered, numbered_by};
+ghost use Rattle.rinex_read.specs.RoundTrip.{AllStand, AreHeaderLines, AreItems};
+ghost use Rattle.rinex_read.specs.RoundTrip.{StandFor, numbered, numbered_by};
 
 use crate::form::FileForm;
 
-/// The record that is written of an item is one record of version 4 and stands for that item, whatever lines follow.
+/// The record that is written of an item is one record of version 4 and stands for that item,
+/// whatever lines follow.
 pub fn record_lines_stand()
     ensures { (item : NavItem) → IsItem item → StandFor rinex4 (item_lines item) item }
 {}
@@ -32,8 +38,8 @@ pub fn header_lines_are_read()
     ensures { (h : HeaderWords) → IsHeader h → AreHeaderLines rinex4 (header_lines h) }
 {}
 
-/// A file of a form that is written of a header and of records that stand for items is read as these items, each with the
-/// number of its first line, and no record is refused or passed over.
+/// A file of a form that is written of a header and of records that stand for items is read as
+/// these items, each with the number of its first line, and no record is refused or passed over.
 pub fn written_files_are_read<F: FileForm>()
     ensures { (header : List (List ℕ)) (write : NavItem → List (List ℕ)) (items : List NavItem)
         → AreHeaderLines F.form header → AllStand F.form write items
@@ -65,13 +71,14 @@ pub fn listed_items_are_whole<F: FileForm>()
     F::gives_items();
 }
 
-/// Of the lines of a record, those behind the ninth and the characters behind the 80th are not looked at; a shorter line
-/// is as if blanks followed it.
+/// Of the lines of a record, those behind the ninth and the characters behind the 80th are not
+/// looked at; a shorter line is as if blanks followed it.
 pub fn columns_behind_the_last_are_not_looked_at()
     ensures { (lines : List (List ℕ)) → judged (map padded (take 9 lines)) ≡ judged lines }
 {}
 
-/// The list read from the text of a list of items is that list, and no record of it is refused or passed over.
+/// The list read from the text of a list of items is that list, and no record of it is refused or
+/// passed over.
 pub fn files_are_read()
     ensures list { (h : HeaderWords) (items : List NavItem) → IsHeader h → AreItems items
         → rinex_list (rinex_text h items) ≡ items }

@@ -1,13 +1,15 @@
-//! RINEX 4 navigation files as items: the records of ephemerides of GPS (LNAV) and Galileo (INAV) and of the ionosphere
-//! (RINEX 4.01, header section and navigation records).
+//! RINEX 4 navigation files as items: the records of ephemerides of GPS (LNAV) and Galileo (INAV)
+//! and of the ionosphere (RINEX 4.01, header section and navigation records).
 //!
-//! [`Records`] reads the header of a [`Source`](nav_io::Source) and then its records one by one, in buffers of fixed size:
-//! an item, a record that is refused, with the first [`Reason`], or one of another kind, each with the number of its `>` line.
-//! It is the reader of files of version 4, a [`RecordReader`] over the form [`Rinex4`]: which versions a header may name,
-//! what begins a record and how it is judged is a [`FileForm`], and all that is promised here is promised of each form.
-//! [`RecordLines`] judges the lines of a single record. What is read is exact: each number gives the nearest raw integer,
-//! halves to even, as it was sent, and the record that `rinex_write` writes of an item is read as that item
-//! ([`records_are_read`], [`files_are_read`], [`joined_files_are_read`]).
+//! [`Records`] reads the header of a [`Source`](nav_io::Source) and then its records one by one, in
+//! buffers of fixed size: an item, a record that is refused, with the first [`Reason`], or one of
+//! another kind, each with the number of its `>` line. It is the reader of files of version 4, a
+//! [`RecordReader`] over the form [`Rinex4`]: which versions a header may name, what begins a
+//! record and how it is judged is a [`FileForm`], and all that is promised here is promised of each
+//! form. [`RecordLines`] judges the lines of a single record. What is read is exact: each number
+//! gives the nearest raw integer, halves to even, as it was sent, and the record that `rinex_write`
+//! writes of an item is read as that item ([`records_are_read`], [`files_are_read`],
+//! [`joined_files_are_read`]).
 //!
 //! ```rust
 //! let mut source = ReadSource::new(rt.stdin());

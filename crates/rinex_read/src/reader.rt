@@ -1,12 +1,14 @@
 //! The records of a source.
 
-ghost use Rattle.std.specs.Prelude.{◌≡◌, ◌≤◌, ◌<◌, ◌^◌, ◌↔◌, ◌∷◌, [], ℕ, true, false, IsTrue, IsErrOf, IfOk, IfErr, IfSome, IfNone, OnOk, MatchResult};
+ghost use Rattle.std.specs.Prelude.{◌≡◌, ◌≤◌, ◌<◌, ◌^◌, ◌↔◌, ◌∷◌, [], ℕ, true, false, IsTrue};
+ghost use Rattle.std.specs.Prelude.{IsErrOf, IfOk, IfErr, IfSome, IfNone, OnOk, MatchResult};
 ghost use Rattle.nav_io.specs.Causes.{Rose};
 ghost use Rattle.rinex_read.specs.declared.judged.HeaderState.TheVariants.{Passed};
 ghost use Rattle.rinex_read.specs.Files.{read_at};
 ghost use Rattle.rinex_read.specs.Mirrors.{EndsWith, HeaderRefused, IsRecord, TakesLine, state_of};
 ghost use Rattle.rinex_read.specs.RoundTrip.{IsWholeRead};
-ghost use Rattle.rinex_read.specs.States.{BreaksRecord, GivesRead, HeaderSteps, RefusedBy, is_waiting};
+ghost use Rattle.rinex_read.specs.States.{BreaksRecord, GivesRead};
+ghost use Rattle.rinex_read.specs.States.{HeaderSteps, RefusedBy, is_waiting};
 ghost use Rattle.rinex_read.specs.declared.judged.HeaderState.{HeaderState};
 
 use crate::form::{FileForm, Rinex4};
@@ -19,8 +21,9 @@ use std::marker::{Model, PhantomData};
 
 /// Reads the records of a RINEX navigation file of one form one by one, in buffers of fixed size.
 ///
-/// A contract sees how far the `header` was read, the lines `kept` of the record that was begun and the number of the
-/// `first` of them, and the reader of `lines`; from these follows what is still to be read whatever bytes follow.
+/// A contract sees how far the `header` was read, the lines `kept` of the record that was begun and
+/// the number of the `first` of them, and the reader of `lines`; from these follows what is still
+/// to be read whatever bytes follow.
 #[derive(Drop)]
 pub struct RecordReader<F: FileForm> {
     of: PhantomData<F>,
@@ -231,8 +234,10 @@ fn next_record<F: FileForm, S: Source>(
 impl<F: FileForm> RecordReader<F> {
     ghost use Rattle.std.specs.Prelude.{◌≡◌, IsTrue, IsOk, IsErrOf, IfOk, IfErr, OnOk};
     ghost use Rattle.nav_io.specs.Causes.{Rose};
-    ghost use Rattle.rinex_read.specs.declared.judged.HeaderState.TheVariants.{Passed, NotRinexNav, OtherVersion};
-    ghost use Rattle.rinex_read.specs.States.{IsNew, GivesRead, BreaksRecord, PassesHeader, BreaksHeader};
+    ghost use Rattle.rinex_read.specs.declared.judged.HeaderState.TheVariants.{Passed, NotRinexNav};
+    ghost use Rattle.rinex_read.specs.declared.judged.HeaderState.TheVariants.{OtherVersion};
+    ghost use Rattle.rinex_read.specs.States.{IsNew, GivesRead, BreaksRecord};
+    ghost use Rattle.rinex_read.specs.States.{PassesHeader, BreaksHeader};
     ghost use Rattle.rinex_read.specs.RoundTrip.{IsWholeRead};
 
     /// A reader of which nothing was read.
@@ -250,12 +255,13 @@ impl<F: FileForm> RecordReader<F> {
 
     /// Reads the header of a file.
     ///
-    /// Its first line has `RINEX VERSION / TYPE` in columns 61-80 and `N` in column 21, and in columns 1-9 a version of the
-    /// form, for [`Records`] `4.` and one digit or two; the lines up to the next with `END OF HEADER` in columns 61-73 are
-    /// passed (RINEX 4.01, header section). `NotRinexNav`: the first line is another one, or no line ends the header; each
-    /// further call answers the same. `Version`: another version; each further call answers the same. `Line`: as for
-    /// `next_item`; after a failed read a further call goes on with the same header, and `TooLong` stays. The other answers
-    /// come only where at most 4,294,967,295 bytes were taken.
+    /// Its first line has `RINEX VERSION / TYPE` in columns 61-80 and `N` in column 21, and in
+    /// columns 1-9 a version of the form, for [`Records`] `4.` and one digit or two; the lines up
+    /// to the next with `END OF HEADER` in columns 61-73 are passed (RINEX 4.01, header section).
+    /// `NotRinexNav`: the first line is another one, or no line ends the header; each further call
+    /// answers the same. `Version`: another version; each further call answers the same. `Line`: as
+    /// for `next_item`; after a failed read a further call goes on with the same header, and
+    /// `TooLong` stays. The other answers come only where at most 4,294,967,295 bytes were taken.
     pub fn read_header<S: Source>(&mut self, source: &mut S) -> Result<(), HeaderFault>
         // What is to come behind the header are the records of the file, whatever bytes follow.
         ensures header { OnOk result (PassesHeader F.form (S.left source.old)
@@ -293,10 +299,10 @@ impl<F: FileForm> RecordReader<F> {
 
     /// The next record of a file whose header was read.
     ///
-    /// A record is a line that begins one, for [`Records`] with `>`, and the lines up to the next such line or the end. Its
-    /// line is the number of its first line in the file, counted from 1. `ReadFault`: a read failed, and the source's count
-    /// of faults says so; a further call goes on with the same record. `TooLong`: 4,294,967,295 bytes were taken and one
-    /// more was there.
+    /// A record is a line that begins one, for [`Records`] with `>`, and the lines up to the next
+    /// such line or the end. Its line is the number of its first line in the file, counted from 1.
+    /// `ReadFault`: a read failed, and the source's count of faults says so; a further call goes on
+    /// with the same record. `TooLong`: 4,294,967,295 bytes were taken and one more was there.
     pub fn next_item<S: Source>(&mut self, source: &mut S) -> Result<ItemRead, LineFault>
         requires header { self.old.header ≡ Passed }
 

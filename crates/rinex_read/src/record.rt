@@ -1,7 +1,8 @@
 //! The lines of a record, and what they stand for.
 
 ghost use Rattle.std.specs.Prelude.{◌≡◌, ◌↔◌, ◌∷◌, ◌++◌, [], List, ℕ, IsTrue};
-ghost use Rattle.rinex_read.specs.Judging.{galileo_ionosphere_read, galileo_read, gps_ionosphere_read, gps_read, judged, outcome};
+ghost use Rattle.rinex_read.specs.Judging.{galileo_ionosphere_read, galileo_read};
+ghost use Rattle.rinex_read.specs.Judging.{gps_ionosphere_read, gps_read, judged, outcome};
 ghost use Rattle.rinex_read.specs.Kept.{kept_with};
 
 use crate::items::{galileo_ionosphere_item, galileo_item, gps_ionosphere_item, gps_item};
@@ -13,10 +14,11 @@ use crate::title::{RecordKind, is_kind};
 use nav_eph::NavItem;
 use std::marker::Model;
 
-/// The lines of a record as far as they are looked at: the first nine, of each the first 80 characters.
+/// The lines of a record as far as they are looked at: the first nine, of each the first 80
+/// characters.
 ///
-/// A contract sees the list of these lines, with blanks behind each that is shorter. What is left out changes nothing:
-/// they are judged as all lines that were pushed would be.
+/// A contract sees the list of these lines, with blanks behind each that is shorter. What is left
+/// out changes nothing: they are judged as all lines that were pushed would be.
 #[derive(Drop)]
 pub struct RecordLines {
     lines: [Line; 9],
@@ -123,9 +125,11 @@ impl RecordLines {
         }
     }
 
-    /// Takes the next line of the record, without the end of the line; the first one is its title, as `> EPH G05 LNAV`.
+    /// Takes the next line of the record, without the end of the line; the first one is its title,
+    /// as `> EPH G05 LNAV`.
     ///
-    /// Lines behind the ninth and characters behind the 80th are not kept, since they are not looked at.
+    /// Lines behind the ninth and characters behind the 80th are not kept, since they are not
+    /// looked at.
     pub fn push(&mut self, line: &[u8])
         ensures kept { self.new ≡ kept_with self.old line.now }
 
@@ -143,8 +147,8 @@ impl RecordLines {
         &self.lines[..self.count]
     }
 
-    /// What a title and the lines behind it stand for: as [`judge`](RecordLines::judge) of a record that has the title as
-    /// its first line.
+    /// What a title and the lines behind it stand for: as [`judge`](RecordLines::judge) of a record
+    /// that has the title as its first line.
     pub fn judge_behind(&self, title: &[u8]) -> Judged
         ensures { result ≡ judged (title.now ∷ self.now) }
     {
@@ -153,8 +157,8 @@ impl RecordLines {
 
     /// What the lines stand for (RINEX 4.01, navigation records: EPH LNAV and INAV, and ION).
     ///
-    /// An item; or the first [`Reason`] for which a record of these kinds stands for none; or, of records of other
-    /// kinds and where there is no line, that they are passed over.
+    /// An item; or the first [`Reason`] for which a record of these kinds stands for none; or, of
+    /// records of other kinds and where there is no line, that they are passed over.
     pub fn judge(&self) -> Judged
         ensures { result ≡ judged self.now }
     {

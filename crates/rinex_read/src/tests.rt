@@ -41,7 +41,8 @@ fn source_of(alloc: Global, first: &[u8], second: &[u8]) -> Result<MemSource, Al
     Ok(MemSource::new(bytes, Vec::new(alloc), Vec::new(alloc)))
 }
 
-// Whether the record, behind a header and before another one, is read as the item, and then the other one.
+// Whether the record, behind a header and before another one, is read as the item, and then the
+// other one.
 fn gives_item(alloc: Global, record: &[u8], item: NavItem, next: u32) -> Result<bool, Fail> {
     let mut source = source_of(alloc, record, IONOSPHERE)?;
     let other = galileo_ionosphere(11, 1_388_016_008, &[0; 4]).ok_or("an ionosphere")?;

@@ -2,8 +2,9 @@ use scaled_decimal::Scale;
 
 /// How a field and the number in its column belong together.
 ///
-/// A field is a whole number: the raw number of a parameter as it is sent, the index of an accuracy, the fit interval
-/// flag, or the second of sending, which is 999,900,000 where it is not known.
+/// A field is a whole number: the raw number of a parameter as it is sent, the index of an
+/// accuracy, the fit interval flag, or the second of sending, which is 999,900,000 where it is not
+/// known.
 #[derive(Clone, Copy, PartialEq, Eq, Debug)]
 pub enum Rule {
     /// The number is the field, from `low` to `high`.

@@ -2,7 +2,8 @@
 
 ghost use Rattle.std.specs.Prelude.{◌≡◌, ◌<◌, ◌≤◌, pos};
 ghost use Rattle.rinex_write.specs.Accuracies.{health_of};
-ghost use Rattle.rinex_write.specs.Fields.{sent_field, gps_fields, galileo_fields, gps_ionosphere_fields, galileo_ionosphere_fields};
+ghost use Rattle.rinex_write.specs.Fields.{sent_field, gps_fields, galileo_fields};
+ghost use Rattle.rinex_write.specs.Fields.{gps_ionosphere_fields, galileo_ionosphere_fields};
 ghost use Rattle.rinex_write.specs.Mirrors.{IsSmall};
 
 use gnss_week::Week;

@@ -53,13 +53,13 @@ fn header_text(version: &[u8; 9], words: &HeaderWords) -> Record
     text
 }
 
-/// Appends the header of a navigation file of a version to a sink, by one write (RINEX 4.01, table A2; RINEX 3.05, table
-/// A5). The version stands in columns 1-9, as `     4.01`.
+/// Appends the header of a navigation file of a version to a sink, by one write (RINEX 4.01, table
+/// A2; RINEX 3.05, table A5). The version stands in columns 1-9, as ` 4.01`.
 ///
 /// # Errors
 ///
-/// `Failed` only where the sink's count of faults rose in this call, or stands at its last value; a front of the header
-/// was appended then.
+/// `Failed` only where the sink's count of faults rose in this call, or stands at its last value; a
+/// front of the header was appended then.
 pub fn write_header_of<T: Sink>(
     version: &[u8; 9],
     words: &HeaderWords,
@@ -76,7 +76,8 @@ pub fn write_header_of<T: Sink>(
     out.write(&header_text(version, words))
 }
 
-/// Appends the header of a navigation file of version 4.01 to a sink, by one write (RINEX 4.01, table A2).
+/// Appends the header of a navigation file of version 4.01 to a sink, by one write (RINEX 4.01,
+/// table A2).
 ///
 /// # Errors
 ///

@@ -1,16 +1,20 @@
 //! The records of items.
 
-ghost use Rattle.std.specs.Prelude.{◌≡◌, ◌≤◌, ◌∷◌, ◌++◌, [], List, ℕ, map, length, drop, MatchResult, codes};
+ghost use Rattle.std.specs.Prelude.{◌≡◌, ◌≤◌, ◌∷◌, ◌++◌, [], List, ℕ, map};
+ghost use Rattle.std.specs.Prelude.{length, drop, MatchResult, codes};
 ghost use Rattle.std.specs.Io.KnownBytes.{Appends};
 ghost use Rattle.nav_io.specs.Causes.{HasCause};
 ghost use Rattle.nav_io.specs.Front.{AppendsFront};
 ghost use Rattle.nav_eph.specs.Ranges.{HasGalRanges, HasGpsRanges, HasIonRanges};
 ghost use Rattle.nav_eph.specs.declared.items.NavItem.TheVariants.{Gps, Gal, Ion};
 ghost use Rattle.rinex_write.specs.Columns.{joined_rows};
-ghost use Rattle.rinex_write.specs.Fields.{gps_epoch, galileo_epoch, gps_fields, galileo_fields, gps_ionosphere_fields, galileo_ionosphere_fields};
-ghost use Rattle.rinex_write.specs.Layouts.{Kind, gps_kind, galileo_kind, gps_ionosphere_kind, galileo_ionosphere_kind};
+ghost use Rattle.rinex_write.specs.Fields.{gps_epoch, galileo_epoch, gps_fields, galileo_fields};
+ghost use Rattle.rinex_write.specs.Fields.{gps_ionosphere_fields, galileo_ionosphere_fields};
+ghost use Rattle.rinex_write.specs.Layouts.{Kind, gps_kind, galileo_kind};
+ghost use Rattle.rinex_write.specs.Layouts.{gps_ionosphere_kind, galileo_ionosphere_kind};
 ghost use Rattle.rinex_write.specs.Mirrors.{AreReady, IsTable};
-ghost use Rattle.rinex_write.specs.Texts.{body_lines, ionosphere_lines, item_lines, record_lines, satellite_text, text_of, title_line};
+ghost use Rattle.rinex_write.specs.Texts.{body_lines, ionosphere_lines, item_lines};
+ghost use Rattle.rinex_write.specs.Texts.{record_lines, satellite_text, text_of, title_line};
 
 use crate::fields::{galileo_fields, galileo_ionosphere_fields, gps_fields, gps_ionosphere_fields};
 use crate::layouts::{
@@ -183,17 +187,18 @@ fn item_record(item: &NavItem) -> Record
     }
 }
 
-/// Appends the record of an item to a sink, by one write: its title, as `> EPH G05 LNAV`, and the lines of its numbers
-/// (RINEX 4.01, GPS LNAV and Galileo INAV navigation records).
+/// Appends the record of an item to a sink, by one write: its title, as `> EPH G05 LNAV`, and the
+/// lines of its numbers (RINEX 4.01, GPS LNAV and Galileo INAV navigation records).
 ///
-/// Angles are written in radians, times in seconds, lengths in metres; the accuracy in metres by its nominal value, the
-/// fit interval in hours, the second of sending counted from the start of the week of toe, 999,900,000 where it is not
-/// known. The date of an ephemeris is that of its clock, at most half a week from toe.
+/// Angles are written in radians, times in seconds, lengths in metres; the accuracy in metres by
+/// its nominal value, the fit interval in hours, the second of sending counted from the start of
+/// the week of toe, 999,900,000 where it is not known. The date of an ephemeris is that of its
+/// clock, at most half a week from toe.
 ///
 /// # Errors
 ///
-/// `Failed` only where the sink's count of faults rose in this call, or stands at its last value; a front of the record
-/// was appended then.
+/// `Failed` only where the sink's count of faults rose in this call, or stands at its last value; a
+/// front of the record was appended then.
 pub fn write_item<T: Sink>(item: &NavItem, out: &mut T) -> Result<(), Failed>
     ensures bytes { MatchResult result
         (λ _. Appends (T.written out.old) (T.written out.new) (text_of (item_lines item.now)))
@@ -215,13 +220,14 @@ fn titled_record(item: &NavItem) -> Record
     item_record(item)
 }
 
-/// Appends the record of an item without its first line to a sink, by one write: the record as RINEX 3 has it (RINEX
-/// 3.05, GPS and Galileo navigation message files). The lines are those of [`write_item`].
+/// Appends the record of an item without its first line to a sink, by one write: the record as
+/// RINEX 3 has it (RINEX 3.05, GPS and Galileo navigation message files). The lines are those of
+/// [`write_item`].
 ///
 /// # Errors
 ///
-/// `Failed` only where the sink's count of faults rose in this call, or stands at its last value; a front of these lines
-/// was appended then.
+/// `Failed` only where the sink's count of faults rose in this call, or stands at its last value; a
+/// front of these lines was appended then.
 pub fn write_body<T: Sink>(item: &NavItem, out: &mut T) -> Result<(), Failed>
     ensures bytes { MatchResult result
         (λ _. Appends (T.written out.old) (T.written out.new) (text_of (body_lines item.now)))

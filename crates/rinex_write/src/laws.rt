@@ -11,10 +11,14 @@ ghost use Rattle.nav_eph.specs.declared.ion.GpsIon.{GpsIon};
 ghost use Rattle.nav_eph.specs.declared.ion.GalIon.{GalIon};
 ghost use Rattle.scaled_decimal.specs.NumberText.{AreShown};
 ghost use Rattle.rinex_write.specs.declared.header.HeaderWords.{HeaderWords};
-ghost use Rattle.rinex_write.specs.Texts.{AreLines, IsHeader, NoneTitled, begins_record, body_lines, header_lines_by, item_lines, text_of, title_of};
+ghost use Rattle.rinex_write.specs.Texts.{AreLines, IsHeader, NoneTitled};
+ghost use Rattle.rinex_write.specs.Texts.{begins_record, body_lines, header_lines_by};
+ghost use Rattle.rinex_write.specs.Texts.{item_lines, text_of, title_of};
 ghost use Rattle.rinex_write.specs.Columns.{AreFields, are_good, joined_rows};
-ghost use Rattle.rinex_write.specs.Fields.{gps_fields, galileo_fields, gps_ionosphere_fields, galileo_ionosphere_fields};
-ghost use Rattle.rinex_write.specs.Layouts.{gps_rows, galileo_rows, gps_ionosphere_rows, galileo_ionosphere_rows};
+ghost use Rattle.rinex_write.specs.Fields.{gps_fields, galileo_fields};
+ghost use Rattle.rinex_write.specs.Fields.{gps_ionosphere_fields, galileo_ionosphere_fields};
+ghost use Rattle.rinex_write.specs.Layouts.{gps_rows, galileo_rows, gps_ionosphere_rows};
+ghost use Rattle.rinex_write.specs.Layouts.{galileo_ionosphere_rows};
 
 /// Each field of an item is one that its column can say.
 pub fn fields_fit_their_columns()
@@ -35,8 +39,8 @@ pub fn columns_are_good()
     ensures galileo_ionosphere { are_good (joined_rows galileo_ionosphere_rows) ≡ true }
 {}
 
-/// The lines of the record of an item are its title, which begins with `>`, and lines of which none does; in each line
-/// each character is shown.
+/// The lines of the record of an item are its title, which begins with `>`, and lines of which none
+/// does; in each line each character is shown.
 pub fn records_are_a_title_and_a_body()
     ensures lines { (item : NavItem) → item_lines item ≡ title_of item ∷ body_lines item }
     ensures title { (item : NavItem) → begins_record (title_of item) ≡ true }
@@ -45,8 +49,8 @@ pub fn records_are_a_title_and_a_body()
     ensures body_shown { (item : NavItem) → AreLines (body_lines item) }
 {}
 
-/// A header has four lines; none of them begins with `>` where the version does not, and each character is shown where the
-/// version and the date are.
+/// A header has four lines; none of them begins with `>` where the version does not, and each
+/// character is shown where the version and the date are.
 pub fn headers_are_lines()
     ensures four { (version : List ℕ) (h : HeaderWords) → length (header_lines_by version h) ≡ 4 }
     ensures untitled { (version : List ℕ) (h : HeaderWords) → begins_record version ≡ false

@@ -3,7 +3,8 @@
 ghost use Rattle.std.specs.Prelude.{◌≡◌, map, length};
 ghost use Rattle.std.specs.Prelude.{◌≡◌, length, map};
 ghost use Rattle.rinex_write.specs.Columns.{joined_rows};
-ghost use Rattle.rinex_write.specs.Layouts.{gps_rows, galileo_rows, gps_ionosphere_rows, galileo_ionosphere_rows};
+ghost use Rattle.rinex_write.specs.Layouts.{gps_rows, galileo_rows, gps_ionosphere_rows};
+ghost use Rattle.rinex_write.specs.Layouts.{galileo_ionosphere_rows};
 
 use crate::columns::{Column, Rule};
 use scaled_decimal::Scale;

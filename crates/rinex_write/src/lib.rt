@@ -1,12 +1,14 @@
 //! Headers and records of RINEX 4.01 navigation files, as text.
 //!
-//! [`write_header`] and [`write_item`] append the text of a header, and of the record of an ephemeris or of an
-//! ionosphere, to a [`Sink`](nav_io::Sink): whole, or a front of it where the sink failed. A text is built in a buffer
-//! of fixed size and handed over by one write; no memory is taken.
+//! [`write_header`] and [`write_item`] append the text of a header, and of the record of an
+//! ephemeris or of an ionosphere, to a [`Sink`](nav_io::Sink): whole, or a front of it where the
+//! sink failed. A text is built in a buffer of fixed size and handed over by one write; no memory
+//! is taken.
 //!
-//! A record (RINEX 4.01, GPS LNAV and Galileo INAV navigation records) is a table of columns, a number a column: a
-//! [`Column`] has the scale of its number, and the [`Rule`] by which the number belongs to a field of the item. Numbers
-//! are exact: each stands for the raw integer that was sent, correctly rounded to thirteen digits.
+//! A record (RINEX 4.01, GPS LNAV and Galileo INAV navigation records) is a table of columns, a
+//! number a column: a [`Column`] has the scale of its number, and the [`Rule`] by which the number
+//! belongs to a field of the item. Numbers are exact: each stands for the raw integer that was
+//! sent, correctly rounded to thirteen digits.
 //!
 //! ```rust
 //! let words = HeaderWords {

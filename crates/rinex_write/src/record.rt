@@ -1,6 +1,7 @@
 //! The text of a record, which is built in place.
 
-ghost use Rattle.std.specs.Prelude.{◌≡◌, List, map, ◌+◌, ◌*◌, ◌<◌, ◌≤◌, ◌∷◌, ◌++◌, [], length, take, drop, codes, sum};
+ghost use Rattle.std.specs.Prelude.{◌≡◌, List, map, ◌+◌, ◌*◌, ◌<◌, ◌≤◌, ◌∷◌};
+ghost use Rattle.std.specs.Prelude.{◌++◌, [], length, take, drop, codes, sum};
 ghost use Rattle.arrayvec.specs.ArrayVec.{array_vec_len};
 ghost use Rattle.scaled_decimal.specs.NumberText.{digits};
 ghost use Rattle.rinex_write.specs.declared.columns.Column.{Column as TableColumn};

@@ -67,7 +67,8 @@ fn orbit_b(n: &[i64; 30]) -> Option<GpsOrbitB> {
     })
 }
 
-// An ephemeris of GPS: satellite, week, and the fields of the clock, of the side and of the orbit's two halves.
+// An ephemeris of GPS: satellite, week, and the fields of the clock, of the side and of the orbit's
+// two halves.
 pub(crate) fn gps(n: &[i64; 30], sent: SentSecond) -> Option<NavItem> {
     let clock = GpsClock {
         iodc: u(n[2])?,

@@ -4,8 +4,8 @@ use nav_eph::SentSecond;
 use nav_io::{Failed, MemSink};
 use std::test::Fail;
 
-// Ephemerides of GPS of an independent program, and one of zeroes: accuracies 0, 1 and 15, both fit intervals, known
-// and unknown seconds of sending.
+// Ephemerides of GPS of an independent program, and one of zeroes: accuracies 0, 1 and 15, both fit
+// intervals, known and unknown seconds of sending.
 #[test]
 fn ephemerides_of_gps(rt: HostRuntime) -> Result<(), Fail> {
     let rows: [([i64; 30], SentSecond, &[u8]); 3] = [
@@ -215,7 +215,8 @@ fn ionospheres_of_galileo(rt: HostRuntime) -> Result<(), Fail> {
     Ok(())
 }
 
-// Headers, and sinks that fail at the first or at the second write: what is behind a failed write is still written.
+// Headers, and sinks that fail at the first or at the second write: what is behind a failed write
+// is still written.
 #[test]
 fn headers_and_failing_sinks(rt: HostRuntime) -> Result<(), Fail> {
     let date = *b"20240101 000000 UTC";

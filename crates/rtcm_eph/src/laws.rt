@@ -22,20 +22,22 @@ ghost use Rattle.rtcm_eph.specs.Writing.{bytes_1019, bytes_1046, message_1019, m
 ghost use Rattle.rtcm_eph.specs.RoundTrip.{AreBytes, Begins1019, Begins1046, IsGal, IsGps};
 ghost use Rattle.gnss_week.specs.Weeks.{IsNearGalileo, IsNearGps, IsReference};
 
-/// The bits in which the table of message 1019 stands are those of one message: its fields by places.
+/// The bits in which the table of message 1019 stands are those of one message: its fields by
+/// places.
 pub fn one_message_1019()
     ensures { (bits : List ℕ) (at : ℕ) (m : Message1019) →
         StandFrom bits at 0 (fields_1019 m) → m ≡ message1019_at bits at }
 {}
 
-/// The bits in which the table of message 1046 stands are those of one message: its fields by places.
+/// The bits in which the table of message 1046 stands are those of one message: its fields by
+/// places.
 pub fn one_message_1046()
     ensures { (bits : List ℕ) (at : ℕ) (m : Message1046) →
         StandFrom bits at 0 (fields_1046 m) → m ≡ message1046_at bits at }
 {}
 
-/// An ephemeris of GPS that is sent as message 1019, with its week near the reference week, is read as
-/// itself, but for when it was sent.
+/// An ephemeris of GPS that is sent as message 1019, with its week near the reference week, is read
+/// as itself, but for when it was sent.
 pub fn sent_1019_is_read()
     ensures { (e : GpsEph) (payload : List ℕ) (r : ℕ) (answer : Result NavItem MessageFault) →
         IsGps e → IsNearGps r e.toe_week → Begins1019 payload e →
@@ -43,8 +45,8 @@ pub fn sent_1019_is_read()
         answer ≡ Ok (Gps (record e { sent = Unknown })) }
 {}
 
-/// An ephemeris of Galileo that is sent as message 1046, with its week near the reference week, is read
-/// as itself, but for when it was sent.
+/// An ephemeris of Galileo that is sent as message 1046, with its week near the reference week, is
+/// read as itself, but for when it was sent.
 pub fn sent_1046_is_read()
     ensures { (e : GalEph) (payload : List ℕ) (r : ℕ) (answer : Result NavItem MessageFault) →
         IsGal e → IsNearGalileo r e.toe_week → Begins1046 payload e →
@@ -59,8 +61,8 @@ pub fn read_1019_is_sent()
         Begins1019 sent e → length sent ≡ 61 → take 61 payload ≡ sent }
 {}
 
-/// A payload that is read as an ephemeris of Galileo begins with the 63 bytes that are sent for it, but
-/// for the two reserved bits at their end.
+/// A payload that is read as an ephemeris of Galileo begins with the 63 bytes that are sent for it,
+/// but for the two reserved bits at their end.
 pub fn read_1046_is_sent()
     ensures { (e : GalEph) (payload sent : List ℕ) (r : ℕ) →
         GivesItem r (content_of payload) (Ok (Gal e)) → Begins1046 sent e →
@@ -89,7 +91,8 @@ pub fn messages_are_the_functions()
         ZerosFrom bits 0 0 (fields_1046 (message_1046 e)) → bits ≡ bytes_1046 e }
 {}
 
-/// The answer to asking for the item of a payload is `item_in`, and an item that it gives fits together.
+/// The answer to asking for the item of a payload is `item_in`, and an item that it gives fits
+/// together.
 pub fn item_function()
     ensures answer { (r : ℕ) (payload : List ℕ) → IsReference r →
         GivesItem r (content_of payload) (item_in r payload) }
@@ -98,8 +101,8 @@ pub fn item_function()
     ensures whole { (r : ℕ) (payload : List ℕ) → IsReference r → IfOk (item_in r payload) IsItem }
 {}
 
-/// The parts that a message brings have the stamp with which it was heard, are such as their satellite can
-/// send, and have their fields within their digits.
+/// The parts that a message brings have the stamp with which it was heard, are such as their
+/// satellite can send, and have their fields within their digits.
 pub fn message_parts()
     ensures stamps { (payload : List ℕ) (stamp : ℕ) (parts : MessageParts) →
         parts_of stamp (content_of payload) ≡ Ok parts →

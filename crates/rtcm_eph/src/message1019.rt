@@ -68,7 +68,8 @@ pub struct Message1019 {
 
 impl Layout for Message1019 {
     ghost use Rattle.std.specs.Prelude.{ℕ, List};
-    ghost use Rattle.rtcm_eph.specs.Messages.{message1019_at, message1019_own_bits, message1019_rest};
+    ghost use Rattle.rtcm_eph.specs.Messages.{message1019_at, message1019_own_bits};
+    ghost use Rattle.rtcm_eph.specs.Messages.{message1019_rest};
 
     ghost BITS = { 488 };
 

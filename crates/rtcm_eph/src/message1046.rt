@@ -1,7 +1,7 @@
 use nav_bits::{Layout, S, U, put_numbers};
 
-/// The fields of message 1046, the I/NAV ephemeris of a Galileo satellite, in their order behind the
-/// message number (RTCM 10403.3, 3.5, message type 1046).
+/// The fields of message 1046, the I/NAV ephemeris of a Galileo satellite, in their order behind
+/// the message number (RTCM 10403.3, 3.5, message type 1046).
 #[derive(Clone, Copy, PartialEq, Eq, Debug)]
 pub struct Message1046 {
     /// The number of the satellite.
@@ -68,7 +68,8 @@ pub struct Message1046 {
 
 impl Layout for Message1046 {
     ghost use Rattle.std.specs.Prelude.{ℕ, List};
-    ghost use Rattle.rtcm_eph.specs.Messages.{message1046_at, message1046_own_bits, message1046_rest};
+    ghost use Rattle.rtcm_eph.specs.Messages.{message1046_at, message1046_own_bits};
+    ghost use Rattle.rtcm_eph.specs.Messages.{message1046_rest};
 
     ghost BITS = { 504 };
 

@@ -151,9 +151,9 @@ fn gal_parts_of(c: &GalContent, stamp: u32) -> MessageParts
     }
 }
 
-/// The parts that a payload brings as message 1019 or 1046 (RTCM 10403.3, 3.5), heard at a second of the
-/// logger. The clock of GPS and the health of Galileo bear the message's week and its toe in seconds; a
-/// payload that is longer than its message is accepted, and the rest is not looked at.
+/// The parts that a payload brings as message 1019 or 1046 (RTCM 10403.3, 3.5), heard at a second
+/// of the logger. The clock of GPS and the health of Galileo bear the message's week and its toe in
+/// seconds; a payload that is longer than its message is accepted, and the rest is not looked at.
 ///
 /// The error is the first fault, as [`MessageFault`] orders them.
 pub fn read_message(payload: &[u8], stamp: u32) -> Result<MessageParts, MessageFault>
@@ -195,9 +195,9 @@ fn item_of(content: &Content, r: RefWeek) -> NavItem
     }
 }
 
-/// The ephemeris that a payload brings as message 1019 or 1046 (RTCM 10403.3, 3.5): its week of toe is
-/// the one that the message's week number means near the reference week, and when it was sent is not
-/// known. A payload that is longer than its message is accepted, and the rest is not looked at.
+/// The ephemeris that a payload brings as message 1019 or 1046 (RTCM 10403.3, 3.5): its week of toe
+/// is the one that the message's week number means near the reference week, and when it was sent is
+/// not known. A payload that is longer than its message is accepted, and the rest is not looked at.
 ///
 /// The error is the first fault, as [`MessageFault`] orders them.
 pub fn read_item(payload: &[u8], r: RefWeek) -> Result<NavItem, MessageFault>

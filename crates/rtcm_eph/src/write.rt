@@ -19,8 +19,8 @@ fn gal_ranges(e: GalEph)
     ensures { HasGalRanges e }
 {}
 
-/// Message 1019 of an ephemeris (RTCM 10403.3, 3.5): its week is that of toe in ten digits. When it was
-/// sent is not said.
+/// Message 1019 of an ephemeris (RTCM 10403.3, 3.5): its week is that of toe in ten digits. When it
+/// was sent is not said.
 pub fn write_1019(eph: &GpsEph) -> Bits<61>
     ensures fields { StandFrom result 0 0 (fields_1019 (message_1019 eph.now)) }
     ensures bytes { result ≡ bytes_1019 eph.now }
@@ -32,8 +32,8 @@ pub fn write_1019(eph: &GpsEph) -> Bits<61>
     bits
 }
 
-/// Message 1046 of an ephemeris (RTCM 10403.3, 3.5): its week is that of toe, counted from Galileo's
-/// first week, in twelve digits. When it was sent is not said. The reserved bits are 0.
+/// Message 1046 of an ephemeris (RTCM 10403.3, 3.5): its week is that of toe, counted from
+/// Galileo's first week, in twelve digits. When it was sent is not said. The reserved bits are 0.
 pub fn write_1046(eph: &GalEph) -> Bits<63>
     ensures fields { StandFrom result 0 0 (fields_1046 (message_1046 eph.now)) }
     ensures reserved_bits { number_at result 502 2 ≡ 0 }

@@ -1,8 +1,11 @@
 //! The grammar of decimal texts: a sign, digits with a point, and an exponent.
 
-ghost use Rattle.std.specs.Prelude.{◌≡◌, ◌+◌, ◌^◌, ◌<◌, ◌≤◌, ◌≤ℤ◌, pos, negsuc, length, MatchOption, Some, None};
+ghost use Rattle.std.specs.Prelude.{◌≡◌, ◌+◌, ◌^◌, ◌<◌, ◌≤◌, ◌≤ℤ◌, pos};
+ghost use Rattle.std.specs.Prelude.{negsuc, length, MatchOption, Some, None};
 ghost use Rattle.scaled_decimal.specs.Mirrors.{IsExponentRead, IsDecimalRead};
-ghost use Rattle.scaled_decimal.specs.NumberReading.{trim_start, trim_end, is_decimal, span, mantissa, exponent_digits, signed_exponent, exponent_after, reading, decimal_of};
+ghost use Rattle.scaled_decimal.specs.NumberReading.{trim_start, trim_end, is_decimal, span};
+ghost use Rattle.scaled_decimal.specs.NumberReading.{mantissa, exponent_digits, signed_exponent};
+ghost use Rattle.scaled_decimal.specs.NumberReading.{exponent_after, reading, decimal_of};
 
 /// Digits at the front of a text.
 #[derive(Clone, Copy)]
@@ -15,7 +18,8 @@ pub struct Span<'a> {
     pub rest: &'a [u8],
 }
 
-/// Digits with at most one point: the number without the point, how many digits, how many after the point, what follows.
+/// Digits with at most one point: the number without the point, how many digits, how many after the
+/// point, what follows.
 #[derive(Clone, Copy)]
 struct Mantissa<'a> {
     number: u64,

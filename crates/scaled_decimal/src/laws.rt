@@ -1,13 +1,15 @@
 //! Laws of the definitions: each is the contract of a function that does nothing.
 
-ghost use Rattle.std.specs.Prelude.{◌≡◌, ◌↔◌, ℕ, ℤ, ◌<◌, ◌≤◌, List, Some, None, length, unsigned_abs};
+ghost use Rattle.std.specs.Prelude.{◌≡◌, ◌↔◌, ℕ, ℤ, ◌<◌, ◌≤◌, List};
+ghost use Rattle.std.specs.Prelude.{Some, None, length, unsigned_abs};
 ghost use Rattle.scaled_decimal.specs.declared.scales.Scale.{Scale};
 ghost use Rattle.scaled_decimal.specs.Fractions.{Fraction, IsNearest, nearest_to};
 ghost use Rattle.scaled_decimal.specs.ScaleValue.{size_of, AreWithin, IsScale};
 ghost use Rattle.scaled_decimal.specs.NumberText.{IsTextOf, number_text, AreShown, EndsInDigit};
 ghost use Rattle.scaled_decimal.specs.Grammar.{IsDecimalText};
 ghost use Rattle.scaled_decimal.specs.Values.{Decimal};
-ghost use Rattle.scaled_decimal.specs.NumberReading.{AreBlanks, StandsFor, Seen, blank, decimal_of, number, seen};
+ghost use Rattle.scaled_decimal.specs.NumberReading.{AreBlanks, StandsFor, Seen};
+ghost use Rattle.scaled_decimal.specs.NumberReading.{blank, decimal_of, number, seen};
 
 /// The whole number that [`nearest_to`] gives is nearest, halves to even, and no other is.
 pub fn one_number_is_nearest()
@@ -35,14 +37,16 @@ pub fn texts_stand()
         ≡ z }
 {}
 
-/// A reader sees the number that a text stands for, if it stands for one, and sees blanks alone as blank.
+/// A reader sees the number that a text stands for, if it stands for one, and sees blanks alone as
+/// blank.
 pub fn texts_are_seen()
     ensures as_numbers { (s : Fraction) (text : List ℕ) (z : ℤ) → IsScale s
         → (seen s text ≡ number z) ↔ StandsFor s text z }
     ensures as_blanks { (s : Fraction) (text : List ℕ) → (seen s text ≡ blank) ↔ AreBlanks text }
 {}
 
-/// The text of a number is read as that number; it has 19 columns, each is shown, and the last is a digit.
+/// The text of a number is read as that number; it has 19 columns, each is shown, and the last is a
+/// digit.
 pub fn texts_are_read()
     ensures read { (s : Fraction) (z : ℤ) → IsScale s → unsigned_abs z ≤ 4294967295
         → seen s (number_text s z) ≡ number z }
@@ -51,7 +55,8 @@ pub fn texts_are_read()
     ensures ends { (s : Fraction) (z : ℤ) → EndsInDigit (number_text s z) }
 {}
 
-/// Of the texts without blanks at their ends, those of the grammar are read, with their value, and no others.
+/// Of the texts without blanks at their ends, those of the grammar are read, with their value, and
+/// no others.
 pub fn texts_of_the_grammar_are_read()
     ensures read { (text : List ℕ) (d : Decimal) → (decimal_of text ≡ Some d)
         ↔ IsDecimalText text d }

@@ -1,10 +1,12 @@
 //! Printing a number at a scale.
 
-ghost use Rattle.std.specs.Prelude.{◌≡◌, ◌+◌, ◌*◌, ◌^◌, ◌<◌, ◌≤◌, ◌∷◌, ◌++◌, take, drop, ◌≤ℤ◌, pos, negsuc, length, unsigned_abs};
+ghost use Rattle.std.specs.Prelude.{◌≡◌, ◌+◌, ◌*◌, ◌^◌, ◌<◌, ◌≤◌, ◌∷◌, ◌++◌, take};
+ghost use Rattle.std.specs.Prelude.{drop, ◌≤ℤ◌, pos, negsuc, length, unsigned_abs};
 ghost use Rattle.scaled_decimal.specs.Fractions.{scaled};
 ghost use Rattle.scaled_decimal.specs.ScaleValue.{size_of, AreWithin};
 ghost use Rattle.scaled_decimal.specs.Mirrors.{IsMoved};
-ghost use Rattle.scaled_decimal.specs.NumberText.{carried, parts_to, parts_at, digits, exponent_sign, body, sign_column, number_text};
+ghost use Rattle.scaled_decimal.specs.NumberText.{carried, parts_to, parts_at, digits};
+ghost use Rattle.scaled_decimal.specs.NumberText.{exponent_sign, body, sign_column, number_text};
 
 use crate::fractions::{Ratio, nearest, ratio_of};
 use crate::scales::Scale;
@@ -16,7 +18,8 @@ struct Parts {
     exponent: i32,
 }
 
-// The most steps, up to a limit, by which a number can be taken ten times and stays at most another one.
+// The most steps, up to a limit, by which a number can be taken ten times and stays at most another
+// one.
 fn steps_to(over: u128, start: u128, limit: u32) -> u32
     requires start { start ≤ over }
     requires over { over < start * 10 ^ (limit + 1) }
@@ -170,9 +173,10 @@ fn sign_column(n: i64) -> u8
     if n < 0 { b'-' } else { b' ' }
 }
 
-/// The text of a number at a scale, of 19 columns: a blank or `-`, one digit, a point, twelve digits, `D`, a sign and
-/// two digits of the exponent. Without its sign the number has at most 32 bits. Zero is ` 0.000000000000D+00`; else the
-/// digits are correctly rounded, halves to even (RINEX 4.01, navigation records, D19.12).
+/// The text of a number at a scale, of 19 columns: a blank or `-`, one digit, a point, twelve
+/// digits, `D`, a sign and two digits of the exponent. Without its sign the number has at most 32
+/// bits. Zero is ` 0.000000000000D+00`; else the digits are correctly rounded, halves to even
+/// (RINEX 4.01, navigation records, D19.12).
 pub fn print(n: i64, scale: &Scale) -> [u8; 19]
     requires number { unsigned_abs n ≤ 4294967295 }
     requires scale { AreWithin scale.now.factor scale.now.two scale.now.ten }

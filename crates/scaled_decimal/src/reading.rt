@@ -1,6 +1,7 @@
 //! Reading a decimal text as a number at a scale.
 
-ghost use Rattle.std.specs.Prelude.{◌≡◌, ◌+◌, ◌*◌, ◌^◌, ◌<◌, ◌≤◌, ◌⊎◌, ◌+ℤ◌, ◌≤ℤ◌, pos, negsuc, length, SomeIff, MatchOption};
+ghost use Rattle.std.specs.Prelude.{◌≡◌, ◌+◌, ◌*◌, ◌^◌, ◌<◌, ◌≤◌, ◌⊎◌, ◌+ℤ◌, ◌≤ℤ◌};
+ghost use Rattle.std.specs.Prelude.{pos, negsuc, length, SomeIff, MatchOption};
 ghost use Rattle.scaled_decimal.specs.Fractions.{IsNearest, nearest_to, ten_to};
 ghost use Rattle.scaled_decimal.specs.ScaleValue.{size_of, AreWithin};
 ghost use Rattle.scaled_decimal.specs.Mirrors.{IsDecimalRead};
@@ -39,7 +40,8 @@ fn wide_product(digits: u128, up: u32, under: u128) -> Option<u128>
     digits.checked_mul(power)?.checked_mul(under)
 }
 
-// The whole number nearest to digits x 10^up / 10^down divided by a ratio; None only where it is above 2^32.
+// The whole number nearest to digits x 10^up / 10^down divided by a ratio; None only where it is
+// above 2^32.
 fn nearest_at(digits: u64, up: u32, down: u32, over: u128, under: u128) -> Option<u128>
     requires digits { digits < 10 ^ 18 }
     requires one { (up ≡ 0) ⊎ (down ≡ 0) }
@@ -75,7 +77,8 @@ fn shifts(exponent: i32) -> (u32, u32)
     }
 }
 
-// The whole number nearest to a value divided by a scale, without its sign; None only where it is above 2^32.
+// The whole number nearest to a value divided by a scale, without its sign; None only where it is
+// above 2^32.
 fn value_at(decimal: &Decimal, scale: &Scale) -> Option<u128>
     requires decimal { IsDecimalRead decimal.now.digits decimal.now.exponent }
     requires scale { AreWithin scale.now.factor scale.now.two scale.now.ten }
@@ -124,16 +127,19 @@ fn within(nearest: i64, low: i64, high: i64) -> Result<i64, DecimalFault>
     Ok(nearest)
 }
 
-/// The number that a text says at a scale, within a range from `low` to `high`: the whole number nearest to the text's
-/// value divided by the scale, halves to even (RINEX 4.01, navigation records, D19.12).
+/// The number that a text says at a scale, within a range from `low` to `high`: the whole number
+/// nearest to the text's value divided by the scale, halves to even (RINEX 4.01, navigation
+/// records, D19.12).
 ///
-/// Blanks at both ends are dropped. The text is then a sign or none; digits, with at most one point among, before or
-/// after them, 1 to 18 in all; then nothing, or one of `D d E e`, a sign or none, and one to three digits.
+/// Blanks at both ends are dropped. The text is then a sign or none; digits, with at most one point
+/// among, before or after them, 1 to 18 in all; then nothing, or one of `D d E e`, a sign or none,
+/// and one to three digits.
 ///
 /// # Errors
 ///
-/// In this order: [`DecimalFault::Blank`] for blanks alone or nothing, [`DecimalFault::NotANumber`] for a text that is
-/// not of that form, [`DecimalFault::OutOfRange`] for a number that is not in the range.
+/// In this order: [`DecimalFault::Blank`] for blanks alone or nothing, [`DecimalFault::NotANumber`]
+/// for a text that is not of that form, [`DecimalFault::OutOfRange`] for a number that is not in
+/// the range.
 pub fn read(text: &[u8], scale: &Scale, low: i64, high: i64) -> Result<i64, DecimalFault>
     requires text { length text.now ≤ 19 }
     requires scale { AreWithin scale.now.factor scale.now.two scale.now.ten }

@@ -20,8 +20,8 @@ pub struct Scale {
 impl Scale {
     ghost use Rattle.scaled_decimal.specs.ScaleValue.{AreWithin};
 
-    /// A scale; None exactly where the factor is not within 1 to 60, `two` not within -59 to 16 or `ten` not within
-    /// -2 to 0.
+    /// A scale; None exactly where the factor is not within 1 to 60, `two` not within -59 to 16 or
+    /// `ten` not within -2 to 0.
     pub fn new(pi: bool, factor: u32, two: i32, ten: i32) -> Option<Scale>
         ensures { SomeIff result (AreWithin factor two ten)
             (record { pi = pi; factor = factor; two = two; ten = ten }) }
