@@ -93,7 +93,8 @@ fn text_5(
     alloc: Global,
 ) -> Result<String, AllocError> {
     format!(in alloc;
-        "word5 wn={} second={} bgd_a={} bgd_b={} hs_e5b={} hs_e1b={} dvs_e5b={} dvs_e1b={} ai0={} ai1={} ai2={} regions={}",
+        "word5 wn={} second={} bgd_a={} bgd_b={} hs_e5b={} hs_e1b={} dvs_e5b={} dvs_e1b={} ai0={} \
+         ai1={} ai2={} regions={}",
         wn.value(),
         second.value(),
         h.bgd_a.value(),
@@ -193,7 +194,8 @@ const WORDS: [(&[u8; 32], u8, &str); 30] = [
     (
         b"14000000000000000027b80004000000",
         11,
-        "word5 wn=1271 second=8 bgd_a=0 bgd_b=0 hs_e5b=0 hs_e1b=0 dvs_e5b=0 dvs_e1b=0 ai0=0 ai1=0 ai2=0 regions=0",
+        "word5 wn=1271 second=8 bgd_a=0 bgd_b=0 hs_e5b=0 hs_e1b=0 dvs_e5b=0 dvs_e1b=0 ai0=0 ai1=0 \
+         ai2=0 regions=0",
     ),
     (
         b"06230001fffffffd7661a0e10b42b180",
@@ -208,7 +210,8 @@ const WORDS: [(&[u8; 32], u8, &str); 30] = [
     (
         b"0fd8ee144e7ffffb7bffffa2517fffff",
         34,
-        "word3 iodnav=984 omega_dot=-1174450 delta_n=32767 cuc=-1157 cus=-1 crc=-23983 crs=32767 sisa=255",
+        "word3 iodnav=984 omega_dot=-1174450 delta_n=32767 cuc=-1157 cus=-1 crc=-23983 crs=32767 \
+         sisa=255",
     ),
     (
         b"13ff8a0002d80c000800000017be48dc",
@@ -218,7 +221,8 @@ const WORDS: [(&[u8; 32], u8, &str); 30] = [
     (
         b"17fffffc8bfe36ffff4dd49d3f800000",
         34,
-        "word5 wn=2490 second=604799 bgd_a=109 bgd_b=-1 hs_e5b=3 hs_e1b=3 dvs_e5b=1 dvs_e1b=0 ai0=2047 ai1=-1 ai2=-3537 regions=31",
+        "word5 wn=2490 second=604799 bgd_a=109 bgd_b=-1 hs_e5b=3 hs_e1b=3 dvs_e5b=1 dvs_e1b=0 \
+         ai0=2047 ai1=-1 ai2=-3537 regions=31",
     ),
     (
         b"06d535d3fffffffe8ffeac9dbc5d25c0",
@@ -233,7 +237,8 @@ const WORDS: [(&[u8; 32], u8, &str); 30] = [
     (
         b"0f4ddd0db8ffff8376c04a8000ffffff",
         23,
-        "word3 iodnav=845 omega_dot=-2290248 delta_n=-1 cuc=-31882 cus=-16310 crc=-32768 crs=-1 sisa=255",
+        "word3 iodnav=845 omega_dot=-2290248 delta_n=-1 cuc=-31882 cus=-16310 crc=-32768 crs=-1 \
+         sisa=255",
     ),
     (
         b"11825ffffdfffc0007fffffff000007c",
@@ -243,7 +248,8 @@ const WORDS: [(&[u8; 32], u8, &str); 30] = [
     (
         b"1466fffc6ee1f340007ff80000000000",
         23,
-        "word5 wn=4095 second=0 bgd_a=-26 bgd_b=-512 hs_e5b=0 hs_e1b=0 dvs_e5b=0 dvs_e1b=0 ai0=205 ai1=-1 ai2=-3653 regions=16",
+        "word5 wn=4095 second=0 bgd_a=-26 bgd_b=-512 hs_e5b=0 hs_e1b=0 dvs_e5b=0 dvs_e1b=0 \
+         ai0=205 ai1=-1 ai2=-3653 regions=16",
     ),
     (
         b"054d0002e61caaf3fffffffc1d89a858",
@@ -258,7 +264,8 @@ const WORDS: [(&[u8; 32], u8, &str); 30] = [
     (
         b"0fff78cd247fff7fff9fec7fffd0b76b",
         14,
-        "word3 iodnav=1023 omega_dot=7916836 delta_n=32767 cuc=32767 cus=-24596 crc=32767 crs=-12105 sisa=107",
+        "word3 iodnav=1023 omega_dot=7916836 delta_n=32767 cuc=32767 cus=-24596 crc=32767 \
+         crs=-12105 sisa=107",
     ),
     (
         b"12743abc1a0000000e13ec9d3b3d4ed0",
@@ -268,7 +275,8 @@ const WORDS: [(&[u8; 32], u8, &str); 30] = [
     (
         b"1490bff80012ffeda8fff97290000000",
         14,
-        "word5 wn=4095 second=189728 bgd_a=511 bgd_b=-147 hs_e5b=1 hs_e1b=0 dvs_e5b=0 dvs_e1b=1 ai0=289 ai1=1023 ai2=-8192 regions=9",
+        "word5 wn=4095 second=189728 bgd_a=511 bgd_b=-147 hs_e5b=1 hs_e1b=0 dvs_e5b=0 dvs_e1b=1 \
+         ai0=289 ai1=1023 ai2=-8192 regions=9",
     ),
     (
         b"06a19d7dfffffffffffffffffffffffc",
@@ -288,12 +296,14 @@ const WORDS: [(&[u8; 32], u8, &str); 30] = [
     (
         b"10b35e0002b90275fddca79d6924b080",
         23,
-        "word4 svid=23 iodnav=179 cic=-32768 cis=-20928 toc=10079 af0=-286966549 af1=599216 af2=-32",
+        "word4 svid=23 iodnav=179 cic=-32768 cis=-20928 toc=10079 af0=-286966549 af1=599216 \
+         af2=-32",
     ),
     (
         b"161e4137fffe8b8a01aaf1808f000000",
         23,
-        "word5 wn=1374 second=196894 bgd_a=279 bgd_b=80 hs_e5b=0 hs_e1b=0 dvs_e5b=1 dvs_e1b=1 ai0=1084 ai1=-1005 ai2=8191 regions=31",
+        "word5 wn=1374 second=196894 bgd_a=279 bgd_b=80 hs_e5b=0 hs_e1b=0 dvs_e5b=1 dvs_e1b=1 \
+         ai0=1084 ai1=-1005 ai2=8191 regions=31",
     ),
     (
         b"078c00020000000104b96f4ffffffffc",
@@ -308,7 +318,8 @@ const WORDS: [(&[u8; 32], u8, &str); 30] = [
     (
         b"0df8800000ffff7fff8000ffffd60965",
         14,
-        "word3 iodnav=504 omega_dot=-8388608 delta_n=-1 cuc=32767 cus=-32768 crc=-1 crs=-10743 sisa=101",
+        "word3 iodnav=504 omega_dot=-8388608 delta_n=-1 cuc=32767 cus=-32768 crc=-1 crs=-10743 \
+         sisa=101",
     ),
     (
         b"11353bfffdfffe75f7fffffff000007c",
@@ -318,7 +329,8 @@ const WORDS: [(&[u8; 32], u8, &str); 30] = [
     (
         b"17ffc00fffe4ffbd5ff26bbfb7000000",
         14,
-        "word5 wn=3661 second=491374 bgd_a=511 bgd_b=490 hs_e5b=3 hs_e1b=3 dvs_e5b=1 dvs_e1b=1 ai0=2047 ai1=-1024 ai2=-1 regions=18",
+        "word5 wn=3661 second=491374 bgd_a=511 bgd_b=490 hs_e5b=3 hs_e1b=3 dvs_e5b=1 dvs_e1b=1 \
+         ai0=2047 ai1=-1024 ai2=-1 regions=18",
     ),
 ];
 
