@@ -20,8 +20,7 @@ const SUBFRAME: [u8; 38] = [
     0xff, 0x58, 0x00, 0x00, 0x08, 0xc0,
 ];
 
-const SUBFRAME_LINE: &[u8] =
-    b"4294967295 L G05 \
+const SUBFRAME_LINE: &[u8] = b"4294967295 L G05 \
      8b00004800021043dc000580000029ffffff580000029ffffff580000029ffffff58000008c0\n";
 
 const HALF: [u8; 15] = [

@@ -57,7 +57,8 @@ pub fn written_word4_is_read()
 
 /// Bits in which word 5 is written are read as its fields, with the week and the second of sending.
 pub fn written_word5_is_read()
-    ensures { (h : GalHealth) (i : GalIon) (wn second : ℕ) (bits : List ℕ) (sat : Satellite) (stamp : ℕ) →
+    ensures { (h : GalHealth) (i : GalIon) (wn second : ℕ) (bits : List ℕ) (sat : Satellite)
+        (stamp : ℕ) →
         IsSecond second → StandFrom bits 0 0 (fields_word5 (word5_of h i wn second)) →
         reading_of bits sat stamp ≡ Ok (two_parts sat stamp h i wn second) }
 {}
@@ -97,7 +98,8 @@ pub fn read_word4_is_written()
 /// Bits that are read as word 5 are those in which its fields are written, but for the spare ones,
 /// and its time is within the week.
 pub fn read_word5_is_written()
-    ensures { (h : GalHealth) (i : GalIon) (wn second : ℕ) (bits : List ℕ) (sat : Satellite) (stamp : ℕ) →
+    ensures { (h : GalHealth) (i : GalIon) (wn second : ℕ) (bits : List ℕ) (sat : Satellite)
+        (stamp : ℕ) →
         reading_of bits sat stamp ≡ Ok (two_parts sat stamp h i wn second) →
         IsSecond second × StandFrom bits 0 0 (fields_word5 (word5_of h i wn second)) }
 {}
@@ -130,11 +132,14 @@ pub fn word_bytes()
     ensures zeros4 { (w : GalWord4) (svid : ℕ) → IsGalWord4 w → svid < 64 →
         ZerosFrom (word4_bytes w svid) 0 0 (fields_word4 (word4_of w svid)) }
     ensures size4 { (w : GalWord4) (svid : ℕ) → AreBytes 16 (word4_bytes w svid) }
-    ensures word5 { (h : GalHealth) (i : GalIon) (wn second : ℕ) → IsGalHealth h → IsGalIon i → wn < 4096 → IsSecond second →
+    ensures word5 { (h : GalHealth) (i : GalIon) (wn second : ℕ) → IsGalHealth h → IsGalIon i →
+        wn < 4096 → IsSecond second →
         StandFrom (word5_bytes h i wn second) 0 0 (fields_word5 (word5_of h i wn second)) }
-    ensures zeros5 { (h : GalHealth) (i : GalIon) (wn second : ℕ) → IsGalHealth h → IsGalIon i → wn < 4096 → IsSecond second →
+    ensures zeros5 { (h : GalHealth) (i : GalIon) (wn second : ℕ) → IsGalHealth h → IsGalIon i →
+        wn < 4096 → IsSecond second →
         ZerosFrom (word5_bytes h i wn second) 0 0 (fields_word5 (word5_of h i wn second)) }
-    ensures size5 { (h : GalHealth) (i : GalIon) (wn second : ℕ) → AreBytes 16 (word5_bytes h i wn second) }
+    ensures size5 { (h : GalHealth) (i : GalIon) (wn second : ℕ) →
+        AreBytes 16 (word5_bytes h i wn second) }
 {}
 
 /// No other 16 bytes hold the table of a word with 0 in what is reserved.
@@ -148,12 +153,15 @@ pub fn words_are_the_functions()
     ensures word3 { (w : GalWord3) (bits : List ℕ) → IsGalWord3 w → AreBytes 16 bits →
         StandFrom bits 0 0 (fields_word3 (word3_of w)) →
         ZerosFrom bits 0 0 (fields_word3 (word3_of w)) → bits ≡ word3_bytes w }
-    ensures word4 { (w : GalWord4) (svid : ℕ) (bits : List ℕ) → IsGalWord4 w → svid < 64 → AreBytes 16 bits →
+    ensures word4 { (w : GalWord4) (svid : ℕ) (bits : List ℕ) → IsGalWord4 w → svid < 64 →
+        AreBytes 16 bits →
         StandFrom bits 0 0 (fields_word4 (word4_of w svid)) →
         ZerosFrom bits 0 0 (fields_word4 (word4_of w svid)) → bits ≡ word4_bytes w svid }
-    ensures word5 { (h : GalHealth) (i : GalIon) (wn second : ℕ) (bits : List ℕ) → IsGalHealth h → IsGalIon i → wn < 4096 → IsSecond second → AreBytes 16 bits →
+    ensures word5 { (h : GalHealth) (i : GalIon) (wn second : ℕ) (bits : List ℕ) →
+        IsGalHealth h → IsGalIon i → wn < 4096 → IsSecond second → AreBytes 16 bits →
         StandFrom bits 0 0 (fields_word5 (word5_of h i wn second)) →
-        ZerosFrom bits 0 0 (fields_word5 (word5_of h i wn second)) → bits ≡ word5_bytes h i wn second }
+        ZerosFrom bits 0 0 (fields_word5 (word5_of h i wn second)) →
+        bits ≡ word5_bytes h i wn second }
 {}
 
 /// The parts that a word brings have the stamp and the satellite with which it was heard, are such

@@ -19,7 +19,8 @@ const TURNED_PREAMBLE: u64 = 0b0111_0100;
 fn righted(bits: &Bits<38>) -> Result<Bits<38>, LnavFault>
     ensures preamble { IfOk result (λ new. HasPreamble bits.now) }
     ensures same { IfOk result (λ new. new ≡ upright bits.now) }
-    ensures fault { IfErr result (λ fault. (fault ≡ LnavFault.Preamble) × (HasPreamble bits.now → ⊥)) }
+    ensures fault { IfErr result
+        (λ fault. (fault ≡ LnavFault.Preamble) × (HasPreamble bits.now → ⊥)) }
 {
     match bits.get(0, 8) {
         PREAMBLE => Ok(*bits),

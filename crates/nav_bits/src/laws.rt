@@ -52,7 +52,7 @@ pub fn packed_stand()
 
 /// No other bytes hold the fields of a table that fills them, with 0 in what is reserved.
 pub fn packed_are_the_only()
-    ensures { (n : ℕ) (fields : List Field) (bytes : List ℕ) → AllFit fields → table_width fields ≡ 8 * n →
-        AreBytes n bytes → StandFrom bytes 0 0 fields → ZerosFrom bytes 0 0 fields →
-        bytes ≡ packed n fields }
+    ensures { (n : ℕ) (fields : List Field) (bytes : List ℕ) → AllFit fields →
+        table_width fields ≡ 8 * n → AreBytes n bytes → StandFrom bytes 0 0 fields →
+        ZerosFrom bytes 0 0 fields → bytes ≡ packed n fields }
 {}

@@ -33,7 +33,8 @@ pub trait Layout {
         ensures { result ≡ stands_at from.now at };
 
     // A value rests on its own bits alone.
-    ghost own_bits: { (a b : List ℕ) (at : ℕ) → SameInside a b at (at + BITS) → stands_at a at ≡ stands_at b at };
+    ghost own_bits: { (a b : List ℕ) (at : ℕ) → SameInside a b at (at + BITS) →
+        stands_at a at ≡ stands_at b at };
 }
 
 /// A value that stands in a run of the bits of `N` bytes: what was packed is unpacked, and packing
@@ -67,7 +68,8 @@ pub trait BitForm<const N: usize> {
         ensures { result ≡ stands_at from.now at };
 
     // A value rests on its own bits alone.
-    ghost own_bits: { (a b : List ℕ) (at : ℕ) → SameInside a b at (at + BITS) → stands_at a at ≡ stands_at b at };
+    ghost own_bits: { (a b : List ℕ) (at : ℕ) → SameInside a b at (at + BITS) →
+        stands_at a at ≡ stands_at b at };
 }
 
 impl<F: Layout, const N: usize> BitForm<N> for F {
