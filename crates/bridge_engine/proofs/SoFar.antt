@@ -5,7 +5,7 @@ use Rattle.std.specs.List.{flat_map}
 use Rattle.std.specs.Io.KnownBytes.{Appends, Consumes, IsAtEnd, Keeps}
 use Rattle.std.proofs.KnownBytes.{Consumes-nil, Consumes-trans, Consumes-kept}
 use Rattle.rtcm_frame.specs.Frames.{frames}
-use Rattle.rtcm_frame.specs.State.{DeframerState, IsSettled}
+use Rattle.rtcm_frame.specs.State.{DeframerState, MayFeed}
 use Rattle.run_texts.specs.declared.fault.BridgeFault.TheVariants.{ReadFault, WriteFault, TooLong}
 use Rattle.bridge_engine.specs.FrameRuns.{Goes, Breaks, RunsWhole, RunsPart}
 use Rattle.bridge_engine.proofs.Goings.{goes_nowhere, goes_on, goes_fed}
@@ -16,7 +16,7 @@ pub record RunsSoFar (line : List ℕ → List ℕ) (left left_new written writt
   pub bytes : List ℕ
   pub consumes : Consumes left left_new bytes
   pub goes : Goes line true bytes state.rest written written_new 0 count
-  pub settled : IsSettled state
+  pub may_feed : MayFeed state
   pub size : length bytes ≡ taken
   pub limit : taken ≤ 2 ^ 32
   pub room : count + length state.rest ≤ taken
@@ -27,7 +27,7 @@ so_far_start line left w state none open_end = record {
   bytes = [];
   consumes = Consumes-nil left;
   goes = subst (λ (l : List ℕ). Goes line true [] l w w 0 0) (sym none) (goes_nowhere line true [] w 0);
-  settled = (open_end, inl none);
+  may_feed = (open_end, inl none);
   size = refl;
   limit = omega arith;
   room = omega (arith, ap length none);
@@ -36,13 +36,13 @@ so_far_start line left w state none open_end = record {
 -- a piece was taken
 pub so_far_piece : (line : List ℕ → List ℕ) (left l1 l2 w w1 w2 : Option (List ℕ)) (old new : DeframerState) (taken count counted : ℕ) (piece : List ℕ) (n : ℕ)
     → RunsSoFar line left l1 w w1 old taken count → Consumes l1 l2 piece → length piece ≡ n → taken + n ≤ 2 ^ 32
-    → Goes line true (old.rest ++ piece) new.rest w1 w2 count counted → IsSettled new → counted + length new.rest ≤ count + length old.rest + length piece
+    → Goes line true (old.rest ++ piece) new.rest w1 w2 count counted → MayFeed new → counted + length new.rest ≤ count + length old.rest + length piece
     → RunsSoFar line left l2 w w2 new (taken + n) counted
-so_far_piece line left l1 l2 w w1 w2 old new taken count counted piece n far read size limit goes settled room = record {
+so_far_piece line left l1 l2 w w1 w2 old new taken count counted piece n far read size limit goes may_feed room = record {
   bytes = far.bytes ++ piece;
   consumes = Consumes-trans left l1 l2 far.bytes piece far.consumes read;
   goes = goes_on line true _ (old.rest ++ piece) new.rest w w1 w2 0 count counted (goes_fed line far.bytes old.rest piece w w1 0 count far.goes) goes;
-  settled = settled;
+  may_feed = may_feed;
   size = omega (arith, length-append far.bytes piece, far.size, size);
   limit = limit;
   room = omega (arith, far.room, room, size);

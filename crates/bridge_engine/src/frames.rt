@@ -3,7 +3,7 @@
 ghost use Rattle.std.specs.Prelude.{◌≡◌, ◌≢◌, ◌+◌, ◌^◌, ◌<◌, ◌≤◌, ◌⊎◌, [], ◌∷◌, ◌++◌, true, not, length, take, IsTrue, IsOk, IsErr, IfOk, IfErr, IfSome, OnOk, OnErr, IsErrOf};
 ghost use Rattle.std.specs.Io.KnownBytes.{Appends, Consumes, IsAtEnd, Keeps};
 ghost use Rattle.nav_io.specs.Causes.{HasCause, Rose};
-ghost use Rattle.rtcm_frame.specs.State.{IsSettled, IsWaiting};
+ghost use Rattle.rtcm_frame.specs.State.{MayFeed, IsWaiting};
 ghost use Rattle.bridge_engine.specs.FrameLines.{line_of};
 ghost use Rattle.bridge_engine.specs.FrameRuns.{output_of, RunsWhole, RunsPart, Goes, Breaks};
 
@@ -110,11 +110,11 @@ fn take_piece<T: Sink>(
     output: &mut T,
     frames: &mut u64,
 ) -> Result<(), Failed>
-    requires settled { IsSettled deframer.old }
+    requires may_feed { MayFeed deframer.old }
     requires room { frames.old + length deframer.old.rest + length piece.now < 2 ^ 64 }
     ensures goes { OnOk result (Goes line_of true (deframer.old.rest ++ piece.now) deframer.new.rest
         (T.written output.old) (T.written output.new) frames.old frames.new) }
-    ensures settled { OnOk result (IsSettled deframer.new) }
+    ensures may_feed { OnOk result (MayFeed deframer.new) }
     ensures room { OnOk result (frames.new + length deframer.new.rest
         ≤ frames.old + length deframer.old.rest + length piece.now) }
     ensures breaks { OnErr result (Breaks line_of true (deframer.old.rest ++ piece.now)
@@ -135,14 +135,14 @@ fn take_some<T: Sink>(
     output: &mut T,
     frames: &mut u64,
 ) -> Result<usize, Failed>
-    requires settled { IsSettled deframer.old }
+    requires may_feed { MayFeed deframer.old }
     requires some { 0 < length piece.now }
     requires room { frames.old + length deframer.old.rest + length piece.now < 2 ^ 64 }
     ensures some { IfOk result (λ count. 0 < count) }
     ensures within { IfOk result (λ count. count ≤ length piece.now) }
     ensures goes { IfOk result (λ count. Goes line_of true (deframer.old.rest ++ take count piece.now)
         deframer.new.rest (T.written output.old) (T.written output.new) frames.old frames.new) }
-    ensures settled { OnOk result (IsSettled deframer.new) }
+    ensures may_feed { OnOk result (MayFeed deframer.new) }
     ensures room { IfOk result (λ count. frames.new + length deframer.new.rest
         ≤ frames.old + length deframer.old.rest + count) }
     ensures breaks { OnErr result (Breaks line_of true (deframer.old.rest ++ piece.now)

@@ -14,22 +14,22 @@ use Rattle.inav_word.specs.declared.word3.Word3.{Word3}
 use Rattle.inav_word.specs.declared.word4.Word4.{Word4}
 use Rattle.inav_word.specs.declared.word5.Word5.{Word5}
 
-abbrev pub word1_of : GalWord1 → Word1
-word1_of w = record { iodnav = w.iodnav; toe = w.toe; m0 = w.m0; e = w.e; root_a = w.root_a }
+abbrev pub written_word1 : GalWord1 → Word1
+written_word1 w = record { iodnav = w.iodnav; toe = w.toe; m0 = w.m0; e = w.e; root_a = w.root_a }
 
-abbrev pub word2_of : GalWord2 → Word2
-word2_of w = record { iodnav = w.iodnav; omega0 = w.omega0; i0 = w.i0; omega = w.omega; idot = w.idot }
+abbrev pub written_word2 : GalWord2 → Word2
+written_word2 w = record { iodnav = w.iodnav; omega0 = w.omega0; i0 = w.i0; omega = w.omega; idot = w.idot }
 
-abbrev pub word3_of : GalWord3 → Word3
-word3_of w = record { iodnav = w.iodnav; omega_dot = w.omega_dot; delta_n = w.delta_n; cuc = w.cuc; cus = w.cus; crc = w.crc; crs = w.crs; sisa = w.sisa }
+abbrev pub written_word3 : GalWord3 → Word3
+written_word3 w = record { iodnav = w.iodnav; omega_dot = w.omega_dot; delta_n = w.delta_n; cuc = w.cuc; cus = w.cus; crc = w.crc; crs = w.crs; sisa = w.sisa }
 
 -- word 4 of the satellite with that number
-abbrev pub word4_of : GalWord4 → ℕ → Word4
-word4_of w svid = record { iodnav = w.iodnav; svid = svid; cic = w.cic; cis = w.cis; toc = w.toc; af0 = w.af0; af1 = w.af1; af2 = w.af2 }
+abbrev pub written_word4 : GalWord4 → ℕ → Word4
+written_word4 w svid = record { iodnav = w.iodnav; svid = svid; cic = w.cic; cis = w.cis; toc = w.toc; af0 = w.af0; af1 = w.af1; af2 = w.af2 }
 
 -- word 5 sent in that week and second
-abbrev pub word5_of : GalHealth → GalIon → ℕ → ℕ → Word5
-word5_of h i wn second = record {
+abbrev pub written_word5 : GalHealth → GalIon → ℕ → ℕ → Word5
+written_word5 h i wn second = record {
   ai0 = i.ai0;
   ai1 = i.ai1;
   ai2 = i.ai2;
@@ -46,18 +46,18 @@ word5_of h i wn second = record {
 
 -- the 128 bits of each word: its table, packed
 unfoldable pub word1_bytes : GalWord1 → List ℕ
-word1_bytes w = packed 16 (fields_word1 (word1_of w))
+word1_bytes w = packed 16 (fields_word1 (written_word1 w))
 
 unfoldable pub word2_bytes : GalWord2 → List ℕ
-word2_bytes w = packed 16 (fields_word2 (word2_of w))
+word2_bytes w = packed 16 (fields_word2 (written_word2 w))
 
 unfoldable pub word3_bytes : GalWord3 → List ℕ
-word3_bytes w = packed 16 (fields_word3 (word3_of w))
+word3_bytes w = packed 16 (fields_word3 (written_word3 w))
 
 -- word 4 of the satellite with that number
 unfoldable pub word4_bytes : GalWord4 → ℕ → List ℕ
-word4_bytes w svid = packed 16 (fields_word4 (word4_of w svid))
+word4_bytes w svid = packed 16 (fields_word4 (written_word4 w svid))
 
 -- word 5 sent in that week and second
 unfoldable pub word5_bytes : GalHealth → GalIon → ℕ → ℕ → List ℕ
-word5_bytes h i wn second = packed 16 (fields_word5 (word5_of h i wn second))
+word5_bytes h i wn second = packed 16 (fields_word5 (written_word5 h i wn second))

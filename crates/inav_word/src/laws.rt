@@ -24,26 +24,27 @@ ghost use Rattle.inav_word.specs.Words.{fields_word1, fields_word2, fields_word3
 ghost use Rattle.inav_word.specs.Words.{fields_word4, fields_word5};
 ghost use Rattle.inav_word.specs.Writing.{word1_bytes, word2_bytes, word3_bytes};
 ghost use Rattle.inav_word.specs.Writing.{word4_bytes, word5_bytes};
-ghost use Rattle.inav_word.specs.Writing.{word1_of, word2_of, word3_of, word4_of, word5_of};
+ghost use Rattle.inav_word.specs.Writing.{written_word1, written_word2, written_word3};
+ghost use Rattle.inav_word.specs.Writing.{written_word4, written_word5};
 
 /// Bits in which word 1 is written are read as its fields.
 pub fn written_word1_is_read()
     ensures { (w : GalWord1) (bits : List ℕ) (sat : Satellite) (stamp : ℕ) →
-        IsStep60 w.toe → StandFrom bits 0 0 (fields_word1 (word1_of w)) →
+        IsStep60 w.toe → StandFrom bits 0 0 (fields_word1 (written_word1 w)) →
         reading_of bits sat stamp ≡ Ok (one_part sat stamp (GalW1 w)) }
 {}
 
 /// Bits in which word 2 is written are read as its fields.
 pub fn written_word2_is_read()
     ensures { (w : GalWord2) (bits : List ℕ) (sat : Satellite) (stamp : ℕ) →
-        StandFrom bits 0 0 (fields_word2 (word2_of w)) →
+        StandFrom bits 0 0 (fields_word2 (written_word2 w)) →
         reading_of bits sat stamp ≡ Ok (one_part sat stamp (GalW2 w)) }
 {}
 
 /// Bits in which word 3 is written are read as its fields.
 pub fn written_word3_is_read()
     ensures { (w : GalWord3) (bits : List ℕ) (sat : Satellite) (stamp : ℕ) →
-        IsSisa w.sisa → StandFrom bits 0 0 (fields_word3 (word3_of w)) →
+        IsSisa w.sisa → StandFrom bits 0 0 (fields_word3 (written_word3 w)) →
         reading_of bits sat stamp ≡ Ok (one_part sat stamp (GalW3 w)) }
 {}
 
@@ -51,7 +52,7 @@ pub fn written_word3_is_read()
 /// sends it.
 pub fn written_word4_is_read()
     ensures { (w : GalWord4) (bits : List ℕ) (sat : Satellite) (stamp : ℕ) →
-        IsStep60 w.toc → StandFrom bits 0 0 (fields_word4 (word4_of w sat.number)) →
+        IsStep60 w.toc → StandFrom bits 0 0 (fields_word4 (written_word4 w sat.number)) →
         reading_of bits sat stamp ≡ Ok (one_part sat stamp (GalW4 w)) }
 {}
 
@@ -59,7 +60,7 @@ pub fn written_word4_is_read()
 pub fn written_word5_is_read()
     ensures { (h : GalHealth) (i : GalIon) (wn second : ℕ) (bits : List ℕ) (sat : Satellite)
         (stamp : ℕ) →
-        IsSecond second → StandFrom bits 0 0 (fields_word5 (word5_of h i wn second)) →
+        IsSecond second → StandFrom bits 0 0 (fields_word5 (written_word5 h i wn second)) →
         reading_of bits sat stamp ≡ Ok (two_parts sat stamp h i wn second) }
 {}
 
@@ -68,7 +69,7 @@ pub fn written_word5_is_read()
 pub fn read_word1_is_written()
     ensures { (w : GalWord1) (bits : List ℕ) (sat : Satellite) (stamp : ℕ) →
         reading_of bits sat stamp ≡ Ok (one_part sat stamp (GalW1 w)) →
-        IsStep60 w.toe × StandFrom bits 0 0 (fields_word1 (word1_of w)) }
+        IsStep60 w.toe × StandFrom bits 0 0 (fields_word1 (written_word1 w)) }
 {}
 
 /// Bits that are read as word 2 are those in which its fields are written, but for the reserved
@@ -76,7 +77,7 @@ pub fn read_word1_is_written()
 pub fn read_word2_is_written()
     ensures { (w : GalWord2) (bits : List ℕ) (sat : Satellite) (stamp : ℕ) →
         reading_of bits sat stamp ≡ Ok (one_part sat stamp (GalW2 w)) →
-        StandFrom bits 0 0 (fields_word2 (word2_of w)) }
+        StandFrom bits 0 0 (fields_word2 (written_word2 w)) }
 {}
 
 /// Bits that are read as word 3 are those in which its fields are written, and its accuracy is no
@@ -84,7 +85,7 @@ pub fn read_word2_is_written()
 pub fn read_word3_is_written()
     ensures { (w : GalWord3) (bits : List ℕ) (sat : Satellite) (stamp : ℕ) →
         reading_of bits sat stamp ≡ Ok (one_part sat stamp (GalW3 w)) →
-        IsSisa w.sisa × StandFrom bits 0 0 (fields_word3 (word3_of w)) }
+        IsSisa w.sisa × StandFrom bits 0 0 (fields_word3 (written_word3 w)) }
 {}
 
 /// Bits that are read as word 4 are those in which its fields are written for the satellite that
@@ -92,7 +93,7 @@ pub fn read_word3_is_written()
 pub fn read_word4_is_written()
     ensures { (w : GalWord4) (bits : List ℕ) (sat : Satellite) (stamp : ℕ) →
         reading_of bits sat stamp ≡ Ok (one_part sat stamp (GalW4 w)) →
-        IsStep60 w.toc × StandFrom bits 0 0 (fields_word4 (word4_of w sat.number)) }
+        IsStep60 w.toc × StandFrom bits 0 0 (fields_word4 (written_word4 w sat.number)) }
 {}
 
 /// Bits that are read as word 5 are those in which its fields are written, but for the spare ones,
@@ -101,7 +102,7 @@ pub fn read_word5_is_written()
     ensures { (h : GalHealth) (i : GalIon) (wn second : ℕ) (bits : List ℕ) (sat : Satellite)
         (stamp : ℕ) →
         reading_of bits sat stamp ≡ Ok (two_parts sat stamp h i wn second) →
-        IsSecond second × StandFrom bits 0 0 (fields_word5 (word5_of h i wn second)) }
+        IsSecond second × StandFrom bits 0 0 (fields_word5 (written_word5 h i wn second)) }
 {}
 
 /// Bits are refused with a fault exactly where it is the first that their word has.
@@ -113,31 +114,31 @@ pub fn refused_by_the_first_fault()
 /// In the bytes of a word its table stands, and what is reserved is 0.
 pub fn word_bytes()
     ensures word1 { (w : GalWord1) → IsGalWord1 w →
-        StandFrom (word1_bytes w) 0 0 (fields_word1 (word1_of w)) }
+        StandFrom (word1_bytes w) 0 0 (fields_word1 (written_word1 w)) }
     ensures zeros1 { (w : GalWord1) → IsGalWord1 w →
-        ZerosFrom (word1_bytes w) 0 0 (fields_word1 (word1_of w)) }
+        ZerosFrom (word1_bytes w) 0 0 (fields_word1 (written_word1 w)) }
     ensures size1 { (w : GalWord1) → AreBytes 16 (word1_bytes w) }
     ensures word2 { (w : GalWord2) → IsGalWord2 w →
-        StandFrom (word2_bytes w) 0 0 (fields_word2 (word2_of w)) }
+        StandFrom (word2_bytes w) 0 0 (fields_word2 (written_word2 w)) }
     ensures zeros2 { (w : GalWord2) → IsGalWord2 w →
-        ZerosFrom (word2_bytes w) 0 0 (fields_word2 (word2_of w)) }
+        ZerosFrom (word2_bytes w) 0 0 (fields_word2 (written_word2 w)) }
     ensures size2 { (w : GalWord2) → AreBytes 16 (word2_bytes w) }
     ensures word3 { (w : GalWord3) → IsGalWord3 w →
-        StandFrom (word3_bytes w) 0 0 (fields_word3 (word3_of w)) }
+        StandFrom (word3_bytes w) 0 0 (fields_word3 (written_word3 w)) }
     ensures zeros3 { (w : GalWord3) → IsGalWord3 w →
-        ZerosFrom (word3_bytes w) 0 0 (fields_word3 (word3_of w)) }
+        ZerosFrom (word3_bytes w) 0 0 (fields_word3 (written_word3 w)) }
     ensures size3 { (w : GalWord3) → AreBytes 16 (word3_bytes w) }
     ensures word4 { (w : GalWord4) (svid : ℕ) → IsGalWord4 w → svid < 64 →
-        StandFrom (word4_bytes w svid) 0 0 (fields_word4 (word4_of w svid)) }
+        StandFrom (word4_bytes w svid) 0 0 (fields_word4 (written_word4 w svid)) }
     ensures zeros4 { (w : GalWord4) (svid : ℕ) → IsGalWord4 w → svid < 64 →
-        ZerosFrom (word4_bytes w svid) 0 0 (fields_word4 (word4_of w svid)) }
+        ZerosFrom (word4_bytes w svid) 0 0 (fields_word4 (written_word4 w svid)) }
     ensures size4 { (w : GalWord4) (svid : ℕ) → AreBytes 16 (word4_bytes w svid) }
     ensures word5 { (h : GalHealth) (i : GalIon) (wn second : ℕ) → IsGalHealth h → IsGalIon i →
         wn < 4096 → IsSecond second →
-        StandFrom (word5_bytes h i wn second) 0 0 (fields_word5 (word5_of h i wn second)) }
+        StandFrom (word5_bytes h i wn second) 0 0 (fields_word5 (written_word5 h i wn second)) }
     ensures zeros5 { (h : GalHealth) (i : GalIon) (wn second : ℕ) → IsGalHealth h → IsGalIon i →
         wn < 4096 → IsSecond second →
-        ZerosFrom (word5_bytes h i wn second) 0 0 (fields_word5 (word5_of h i wn second)) }
+        ZerosFrom (word5_bytes h i wn second) 0 0 (fields_word5 (written_word5 h i wn second)) }
     ensures size5 { (h : GalHealth) (i : GalIon) (wn second : ℕ) →
         AreBytes 16 (word5_bytes h i wn second) }
 {}
@@ -145,22 +146,22 @@ pub fn word_bytes()
 /// No other 16 bytes hold the table of a word with 0 in what is reserved.
 pub fn words_are_the_functions()
     ensures word1 { (w : GalWord1) (bits : List ℕ) → IsGalWord1 w → AreBytes 16 bits →
-        StandFrom bits 0 0 (fields_word1 (word1_of w)) →
-        ZerosFrom bits 0 0 (fields_word1 (word1_of w)) → bits ≡ word1_bytes w }
+        StandFrom bits 0 0 (fields_word1 (written_word1 w)) →
+        ZerosFrom bits 0 0 (fields_word1 (written_word1 w)) → bits ≡ word1_bytes w }
     ensures word2 { (w : GalWord2) (bits : List ℕ) → IsGalWord2 w → AreBytes 16 bits →
-        StandFrom bits 0 0 (fields_word2 (word2_of w)) →
-        ZerosFrom bits 0 0 (fields_word2 (word2_of w)) → bits ≡ word2_bytes w }
+        StandFrom bits 0 0 (fields_word2 (written_word2 w)) →
+        ZerosFrom bits 0 0 (fields_word2 (written_word2 w)) → bits ≡ word2_bytes w }
     ensures word3 { (w : GalWord3) (bits : List ℕ) → IsGalWord3 w → AreBytes 16 bits →
-        StandFrom bits 0 0 (fields_word3 (word3_of w)) →
-        ZerosFrom bits 0 0 (fields_word3 (word3_of w)) → bits ≡ word3_bytes w }
+        StandFrom bits 0 0 (fields_word3 (written_word3 w)) →
+        ZerosFrom bits 0 0 (fields_word3 (written_word3 w)) → bits ≡ word3_bytes w }
     ensures word4 { (w : GalWord4) (svid : ℕ) (bits : List ℕ) → IsGalWord4 w → svid < 64 →
         AreBytes 16 bits →
-        StandFrom bits 0 0 (fields_word4 (word4_of w svid)) →
-        ZerosFrom bits 0 0 (fields_word4 (word4_of w svid)) → bits ≡ word4_bytes w svid }
+        StandFrom bits 0 0 (fields_word4 (written_word4 w svid)) →
+        ZerosFrom bits 0 0 (fields_word4 (written_word4 w svid)) → bits ≡ word4_bytes w svid }
     ensures word5 { (h : GalHealth) (i : GalIon) (wn second : ℕ) (bits : List ℕ) →
         IsGalHealth h → IsGalIon i → wn < 4096 → IsSecond second → AreBytes 16 bits →
-        StandFrom bits 0 0 (fields_word5 (word5_of h i wn second)) →
-        ZerosFrom bits 0 0 (fields_word5 (word5_of h i wn second)) →
+        StandFrom bits 0 0 (fields_word5 (written_word5 h i wn second)) →
+        ZerosFrom bits 0 0 (fields_word5 (written_word5 h i wn second)) →
         bits ≡ word5_bytes h i wn second }
 {}
 

@@ -26,7 +26,7 @@ impl Layout for Word1 {
 
     ghost stands_at = { word1_at };
 
-    ghost RestIsZero = { word1_rest };
+    ghost RestIsFixed = { word1_rest };
 
     ghost own_bits = { word1_own_bits };
 

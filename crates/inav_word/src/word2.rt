@@ -26,7 +26,7 @@ impl Layout for Word2 {
 
     ghost stands_at = { word2_at };
 
-    ghost RestIsZero = { word2_rest };
+    ghost RestIsFixed = { word2_rest };
 
     ghost own_bits = { word2_own_bits };
 

@@ -32,7 +32,7 @@ impl Layout for Word3 {
 
     ghost stands_at = { word3_at };
 
-    ghost RestIsZero = { word3_rest };
+    ghost RestIsFixed = { word3_rest };
 
     ghost own_bits = { word3_own_bits };
 

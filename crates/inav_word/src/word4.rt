@@ -32,7 +32,7 @@ impl Layout for Word4 {
 
     ghost stands_at = { word4_at };
 
-    ghost RestIsZero = { word4_rest };
+    ghost RestIsFixed = { word4_rest };
 
     ghost own_bits = { word4_own_bits };
 

@@ -40,7 +40,7 @@ impl Layout for Word5 {
 
     ghost stands_at = { word5_at };
 
-    ghost RestIsZero = { word5_rest };
+    ghost RestIsFixed = { word5_rest };
 
     ghost own_bits = { word5_own_bits };
 

@@ -10,7 +10,8 @@ ghost use Rattle.inav_word.specs.Words.{fields_word1, fields_word2, fields_word3
 ghost use Rattle.inav_word.specs.Words.{fields_word4, fields_word5};
 ghost use Rattle.inav_word.specs.Writing.{word1_bytes, word2_bytes, word3_bytes};
 ghost use Rattle.inav_word.specs.Writing.{word4_bytes, word5_bytes};
-ghost use Rattle.inav_word.specs.Writing.{word1_of, word2_of, word3_of, word4_of, word5_of};
+ghost use Rattle.inav_word.specs.Writing.{written_word1, written_word2, written_word3};
+ghost use Rattle.inav_word.specs.Writing.{written_word4, written_word5};
 
 use crate::ranges::{
     health_ranges, ion_ranges, word1_ranges, word2_ranges, word3_ranges, word4_ranges,
@@ -26,7 +27,7 @@ use nav_eph::{GalHealth, GalIon, GalWord1, GalWord2, GalWord3, GalWord4, Sat};
 
 /// The 128 bits of I/NAV word 1 (Galileo OS SIS ICD, 4.3.5). The reserved bits are 0.
 pub fn write_word1(w: &GalWord1) -> Bits<16>
-    ensures fields { StandFrom result 0 0 (fields_word1 (word1_of w.now)) }
+    ensures fields { StandFrom result 0 0 (fields_word1 (written_word1 w.now)) }
     ensures reserved_bits { number_at result 126 2 ≡ 0 }
     ensures bytes { result ≡ word1_bytes w.now }
     ensures again { (sat : Satellite) (stamp : ℕ) →
@@ -48,7 +49,7 @@ pub fn write_word1(w: &GalWord1) -> Bits<16>
 
 /// The 128 bits of I/NAV word 2 (Galileo OS SIS ICD, 4.3.5). The reserved bits are 0.
 pub fn write_word2(w: &GalWord2) -> Bits<16>
-    ensures fields { StandFrom result 0 0 (fields_word2 (word2_of w.now)) }
+    ensures fields { StandFrom result 0 0 (fields_word2 (written_word2 w.now)) }
     ensures reserved_bits { number_at result 126 2 ≡ 0 }
     ensures bytes { result ≡ word2_bytes w.now }
     ensures again { (sat : Satellite) (stamp : ℕ) →
@@ -70,7 +71,7 @@ pub fn write_word2(w: &GalWord2) -> Bits<16>
 
 /// The 128 bits of I/NAV word 3 (Galileo OS SIS ICD, 4.3.5).
 pub fn write_word3(w: &GalWord3) -> Bits<16>
-    ensures fields { StandFrom result 0 0 (fields_word3 (word3_of w.now)) }
+    ensures fields { StandFrom result 0 0 (fields_word3 (written_word3 w.now)) }
     ensures bytes { result ≡ word3_bytes w.now }
     ensures again { (sat : Satellite) (stamp : ℕ) →
         reading_of result sat stamp ≡ Ok (one_part sat stamp (GalW3 w.now)) }
@@ -96,7 +97,7 @@ pub fn write_word3(w: &GalWord3) -> Bits<16>
 /// bits are 0.
 pub fn write_word4(w: &GalWord4, sat: Sat) -> Bits<16>
     requires { sat.system ≡ Gal }
-    ensures fields { StandFrom result 0 0 (fields_word4 (word4_of w.now sat.number)) }
+    ensures fields { StandFrom result 0 0 (fields_word4 (written_word4 w.now sat.number)) }
     ensures reserved_bits { number_at result 126 2 ≡ 0 }
     ensures bytes { result ≡ word4_bytes w.now sat.number }
     ensures again { (stamp : ℕ) →
@@ -121,7 +122,7 @@ pub fn write_word4(w: &GalWord4, sat: Sat) -> Bits<16>
 
 // The fields of word 5.
 fn word5(health: &GalHealth, ion: &GalIon, wn: U<12>, second: Second) -> Word5
-    ensures fields { result ≡ word5_of health.now ion.now wn second }
+    ensures fields { result ≡ written_word5 health.now ion.now wn second }
     ensures time { IsSecond second }
     ensures week { wn < 4096 }
 {
@@ -144,7 +145,7 @@ fn word5(health: &GalHealth, ion: &GalIon, wn: U<12>, second: Second) -> Word5
 /// The 128 bits of I/NAV word 5 (Galileo OS SIS ICD, 4.3.5), sent in a week, counted from Galileo's
 /// first one in twelve digits, and at a second of it. The spare bits are 0.
 pub fn write_word5(health: &GalHealth, ion: &GalIon, wn: U<12>, second: Second) -> Bits<16>
-    ensures fields { StandFrom result 0 0 (fields_word5 (word5_of health.now ion.now wn second)) }
+    ensures fields { StandFrom result 0 0 (fields_word5 (written_word5 health.now ion.now wn second)) }
     ensures reserved_bits { number_at result 105 23 ≡ 0 }
     ensures bytes { result ≡ word5_bytes health.now ion.now wn second }
     ensures again { (sat : Satellite) (stamp : ℕ) →

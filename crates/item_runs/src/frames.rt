@@ -4,7 +4,7 @@ ghost use Rattle.std.specs.Prelude.{◌≡◌, ◌⊎◌, ◌+◌, ◌^◌, ◌<
 ghost use Rattle.std.specs.Io.KnownBytes.{Appends};
 ghost use Rattle.nav_eph.specs.declared.items.NavItem.{NavItem};
 ghost use Rattle.nav_io.specs.Front.{AppendsFront};
-ghost use Rattle.rtcm_frame.specs.State.{IsSettled, IsWaiting, payload_of};
+ghost use Rattle.rtcm_frame.specs.State.{MayFeed, IsWaiting, payload_of};
 ghost use Rattle.rtcm_eph.specs.declared.fault.MessageFault.{MessageFault};
 ghost use Rattle.run_texts.specs.Causes.{HasItsCause, faults_of};
 ghost use Rattle.run_texts.specs.Reports.{report_line};
@@ -214,7 +214,7 @@ fn take_some<O: Outlet, T: Sink, U: Sink>(
     report: &mut U,
     counts: &mut StreamCounts,
 ) -> Result<usize, BridgeFault>
-    requires settled { IsSettled deframer.old }
+    requires may_feed { MayFeed deframer.old }
     requires bytes { 0 < length piece.now }
     requires some { AreFew counts.old }
     requires room { counts.old.frames + length deframer.old.rest + length piece.now < 2 ^ 64 }
@@ -227,7 +227,7 @@ fn take_some<O: Outlet, T: Sink, U: Sink>(
     ensures breaks { OnErr result (StreamStops r (O.front outlet.now) (O.text outlet.now 0)
         true (deframer.old.rest ++ piece.now) (T.written output.old) (T.written output.new)
         (U.written report.old) (U.written report.new) given.old counts.old) }
-    ensures settled { OnOk result (IsSettled deframer.new) }
+    ensures may_feed { OnOk result (MayFeed deframer.new) }
     ensures cause { HasItsCause (faults_of 0 (T.faults output.old) (U.faults report.old))
         (faults_of 0 (T.faults output.new) (U.faults report.new)) result }
     ensures kinds { IfErr result IsStreamFault }
@@ -251,7 +251,7 @@ pub(crate) fn take_piece<O: Outlet, T: Sink, U: Sink>(
     report: &mut U,
     counts: &mut StreamCounts,
 ) -> Result<(), BridgeFault>
-    requires settled { IsSettled deframer.old }
+    requires may_feed { MayFeed deframer.old }
     requires some { AreFew counts.old }
     requires room { counts.old.frames + length deframer.old.rest + length piece.now < 2 ^ 64 }
     ensures goes { OnOk result (StreamMoves r (O.front outlet.now) (O.text outlet.now 0)
@@ -261,7 +261,7 @@ pub(crate) fn take_piece<O: Outlet, T: Sink, U: Sink>(
     ensures breaks { OnErr result (StreamStops r (O.front outlet.now) (O.text outlet.now 0)
         true (deframer.old.rest ++ piece.now) (T.written output.old) (T.written output.new)
         (U.written report.old) (U.written report.new) given.old counts.old) }
-    ensures settled { OnOk result (IsSettled deframer.new) }
+    ensures may_feed { OnOk result (MayFeed deframer.new) }
     ensures cause { HasItsCause (faults_of 0 (T.faults output.old) (U.faults report.old))
         (faults_of 0 (T.faults output.new) (U.faults report.new)) result }
     ensures kinds { IfErr result IsStreamFault }

@@ -19,6 +19,7 @@ head_at bits at = record {
   page = number_at bits (at + 62) 6;
 }
 
+-- and what stands beside them, here and in each subframe below: the preamble, the number where it is known, and 0 in what is reserved
 abbrev pub head_rest : List ℕ → ℕ → Type 0
 head_rest bits at =
     (number_at bits (at + 0) 8 ≡ 139) × (number_at bits (at + 8) 22 ≡ 0) × (number_at bits (at + 47) 2 ≡ 0)

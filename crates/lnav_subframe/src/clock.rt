@@ -40,7 +40,7 @@ impl Layout for Subframe1 {
 
     ghost stands_at = { subframe1_at };
 
-    ghost RestIsZero = { subframe1_rest };
+    ghost RestIsFixed = { subframe1_rest };
 
     ghost own_bits = { subframe1_own_bits };
 

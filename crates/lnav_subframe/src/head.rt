@@ -22,7 +22,7 @@ impl Layout for Head {
 
     ghost stands_at = { head_at };
 
-    ghost RestIsZero = { head_rest };
+    ghost RestIsFixed = { head_rest };
 
     ghost own_bits = { head_own_bits };
 

@@ -38,7 +38,7 @@ impl Layout for Subframe2 {
 
     ghost stands_at = { subframe2_at };
 
-    ghost RestIsZero = { subframe2_rest };
+    ghost RestIsFixed = { subframe2_rest };
 
     ghost own_bits = { subframe2_own_bits };
 
@@ -145,7 +145,7 @@ impl Layout for Subframe3 {
 
     ghost stands_at = { subframe3_at };
 
-    ghost RestIsZero = { subframe3_rest };
+    ghost RestIsFixed = { subframe3_rest };
 
     ghost own_bits = { subframe3_own_bits };
 

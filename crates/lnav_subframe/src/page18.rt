@@ -33,7 +33,7 @@ impl Layout for Page18 {
 
     ghost stands_at = { page18_at };
 
-    ghost RestIsZero = { page18_rest };
+    ghost RestIsFixed = { page18_rest };
 
     ghost own_bits = { page18_own_bits };
 

@@ -11,7 +11,8 @@ pub trait Layout {
 
     ghost stands_at: { List ℕ → ℕ → Self };
 
-    ghost RestIsZero: { List ℕ → ℕ → Type 0 };
+    // What stands beside its fields: fixed numbers, as a preamble or a type, and 0 in the rest.
+    ghost RestIsFixed: { List ℕ → ℕ → Type 0 };
 
     /// How many bits it takes.
     const BITS: u32;
@@ -22,7 +23,7 @@ pub trait Layout {
         requires inside { at + BITS ≤ 8 * length into.old }
         requires small { 8 * length into.old < 2 ^ 64 }
         ensures stands { stands_at into.new at ≡ self.now }
-        ensures rest { RestIsZero into.new at }
+        ensures rest { RestIsFixed into.new at }
         ensures others { SameOutside into.old into.new at (at + BITS) };
 
     /// Reads what stands from the place `at` on.
@@ -46,7 +47,8 @@ pub trait BitForm<const N: usize> {
 
     ghost stands_at: { List ℕ → ℕ → Self };
 
-    ghost RestIsZero: { List ℕ → ℕ → Type 0 };
+    // What stands beside its fields: fixed numbers, as a preamble or a type, and 0 in the rest.
+    ghost RestIsFixed: { List ℕ → ℕ → Type 0 };
 
     /// How many bits it takes.
     const BITS: u32;
@@ -57,7 +59,7 @@ pub trait BitForm<const N: usize> {
         requires inside { at + BITS ≤ 8 * N }
         requires small { 8 * N < 2 ^ 64 }
         ensures stands { stands_at into.new at ≡ self.now }
-        ensures rest { RestIsZero into.new at }
+        ensures rest { RestIsFixed into.new at }
         ensures others { SameOutside into.old into.new at (at + BITS) };
 
     /// Reads what stands from the place `at` on.
@@ -79,7 +81,7 @@ impl<F: Layout, const N: usize> BitForm<N> for F {
 
     ghost stands_at = { F.stands_at };
 
-    ghost RestIsZero = { F.RestIsZero };
+    ghost RestIsFixed = { F.RestIsFixed };
 
     ghost own_bits = { F.own_bits };
 

@@ -132,7 +132,7 @@ impl<const W: u32> Layout for S<W> {
 
     ghost stands_at = { λ bytes at. signed_at bytes at W };
 
-    ghost RestIsZero = { λ bytes at. Unit {0} };
+    ghost RestIsFixed = { λ bytes at. Unit {0} };
 
     ghost own_bits = { λ a b at same. signed_at-same a b at W same };
 

@@ -88,7 +88,7 @@ impl<const W: u32> Layout for U<W> {
 
     ghost stands_at = { λ bytes at. number_at bytes at W };
 
-    ghost RestIsZero = { λ bytes at. Unit {0} };
+    ghost RestIsFixed = { λ bytes at. Unit {0} };
 
     ghost own_bits = { λ a b at same. number_at-same a b at W same };
 

@@ -187,8 +187,8 @@ ended_front d w rest lines e =
     front_within (lines_by true d) lines (lines_by true (split.0 ++ (w ++ rest))) (lines_by true rest) all few
 
 -- without its last line it is a front of all but the last
-pub without_last : (some more settled : List Line) (last line : Line) → settled ++ line ∷ [] ≡ (some ++ last ∷ []) ++ more → (rest : List Line) × (settled ≡ some ++ rest)
-without_last some more settled last line e =
-    let all : some ++ (last ∷ more) ≡ settled ++ line ∷ [] = sym (append_assoc some (last ∷ []) more) ∙ sym e in
-    let counts : length some + length (last ∷ more) ≡ length settled + length (line ∷ []) = sym (length-append some (last ∷ more)) ∙ ap length all ∙ length-append settled (line ∷ []) in
-    front_within some settled (last ∷ more) (line ∷ []) all (omega (arith, counts))
+pub without_last : (some more others : List Line) (last line : Line) → others ++ line ∷ [] ≡ (some ++ last ∷ []) ++ more → (rest : List Line) × (others ≡ some ++ rest)
+without_last some more others last line e =
+    let all : some ++ (last ∷ more) ≡ others ++ line ∷ [] = sym (append_assoc some (last ∷ []) more) ∙ sym e in
+    let counts : length some + length (last ∷ more) ≡ length others + length (line ∷ []) = sym (length-append some (last ∷ more)) ∙ ap length all ∙ length-append others (line ∷ []) in
+    front_within some others (last ∷ more) (line ∷ []) all (omega (arith, counts))

@@ -11,7 +11,7 @@ use Rattle.lnav_subframe.specs.declared.out.SubframeOut.{SubframeOut}
 use Rattle.lnav_subframe.specs.declared.out.SubframeOut.TheVariants.{Clock, OrbitA, OrbitB, Ion, Other}
 use Rattle.lnav_subframe.specs.Writing.{IsWritten}
 use Rattle.inav_word.specs.Words.{fields_word1, fields_word2, fields_word3, fields_word4, fields_word5}
-use Rattle.inav_word.specs.Writing.{word1_of, word2_of, word3_of, word4_of, word5_of}
+use Rattle.inav_word.specs.Writing.{written_word1, written_word2, written_word3, written_word4, written_word5}
 use Rattle.inav_page.specs.Pages.{bytes_of_half, IsSplit}
 use Rattle.inav_page.specs.declared.signal.Signal.{Signal}
 use Rattle.inav_page.specs.declared.signal.Signal.TheVariants.{E1b, E5b}
@@ -50,14 +50,14 @@ pub record IsSubframeLine (seed n r stamp number : ℕ) (line : List ℕ) : Type
 -- is sent, and in the others all bits of the word are 0.
 abbrev pub IsWordOf : GalValues → GalIon → ℕ → ℕ → ℕ → ℕ → List ℕ → Type 0
 IsWordOf v ion number wn second zero word =
-    StandFrom word 0 0 (fields_word1 (word1_of v.w1)) × (number_at word 126 2 ≡ 0)
+    StandFrom word 0 0 (fields_word1 (written_word1 v.w1)) × (number_at word 126 2 ≡ 0)
 IsWordOf v ion number wn second (suc zero) word =
-    StandFrom word 0 0 (fields_word2 (word2_of v.w2)) × (number_at word 126 2 ≡ 0)
-IsWordOf v ion number wn second (suc (suc zero)) word = StandFrom word 0 0 (fields_word3 (word3_of v.w3))
+    StandFrom word 0 0 (fields_word2 (written_word2 v.w2)) × (number_at word 126 2 ≡ 0)
+IsWordOf v ion number wn second (suc (suc zero)) word = StandFrom word 0 0 (fields_word3 (written_word3 v.w3))
 IsWordOf v ion number wn second (suc (suc (suc zero))) word =
-    StandFrom word 0 0 (fields_word4 (word4_of v.w4 number)) × (number_at word 126 2 ≡ 0)
+    StandFrom word 0 0 (fields_word4 (written_word4 v.w4 number)) × (number_at word 126 2 ≡ 0)
 IsWordOf v ion number wn second (suc (suc (suc (suc zero)))) word =
-    StandFrom word 0 0 (fields_word5 (word5_of v.health ion wn second)) × (number_at word 105 23 ≡ 0)
+    StandFrom word 0 0 (fields_word5 (written_word5 v.health ion wn second)) × (number_at word 105 23 ≡ 0)
 IsWordOf v ion number wn second (suc (suc (suc (suc (suc m))))) word = word ≡ replicate 16 0
 
 -- the bits of the two halves of the page of a word

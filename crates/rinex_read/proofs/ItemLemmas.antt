@@ -22,7 +22,7 @@ use Rattle.rinex_write.specs.Accuracies.{health_of}
 use Rattle.rinex_write.specs.Columns.{IsField, AreFields, joined_rows}
 use Rattle.rinex_write.specs.Layouts.{gps_rows, galileo_rows, gps_ionosphere_rows, galileo_ionosphere_rows}
 use Rattle.rinex_write.specs.Fields.{sent_field, gps_fields, galileo_fields, gps_ionosphere_fields, galileo_ionosphere_fields, gps_epoch, galileo_epoch}
-use Rattle.rinex_read.specs.Judging.{toc_of, gps_of, gps_clock_of, gps_side_of, gps_orbit_a_of, gps_orbit_b_of, galileo_of, word1_of, word2_of, word3_of, word4_of, gps_ionosphere_of, galileo_ionosphere_of, health_said, sent_of}
+use Rattle.rinex_read.specs.Judging.{toc_of, gps_of, gps_clock_of, gps_side_of, gps_orbit_a_of, gps_orbit_b_of, galileo_of, galileo_word1_of, galileo_word2_of, galileo_word3_of, galileo_word4_of, gps_ionosphere_of, galileo_ionosphere_of, health_said, sent_of}
 use Rattle.rinex_read.proofs.FieldLemmas.{le_true}
 
 below : (n m : ℕ) → n < m → (pos 0 ≤ℤ pos n) × (pos n ≤ℤ pos (m - 1))
@@ -262,7 +262,7 @@ health_again h is =
     λ j. record h { hs_e5b = hs_e5b j; hs_e1b = hs_e1b j; dvs_e5b = dvs_e5b j; dvs_e1b = dvs_e1b j }
 
 pub galileo_whole : (e : GalEph) → IsGalItem e → galileo_of e.sat e.w4.toc (galileo_fields e) ≡ e
-unfolding galileo_of word1_of word2_of word3_of word4_of
+unfolding galileo_of galileo_word1_of galileo_word2_of galileo_word3_of galileo_word4_of
 galileo_whole e h =
     let sent = sent_again e.sent h.whole.second in
     let health = health_again e.health h.ranges.health in

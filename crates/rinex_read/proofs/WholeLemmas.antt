@@ -25,7 +25,7 @@ use Rattle.rinex_read.specs.declared.reason.Reason.{Reason}
 use Rattle.rinex_read.specs.declared.reason.Reason.TheVariants as reasons
 use Rattle.rinex_read.specs.declared.judged.Judged.TheVariants as judgments
 use Rattle.rinex_read.specs.Fields.{◌>>=◌, read_rows}
-use Rattle.rinex_read.specs.Judging.{need, first_of, is_kind, named, satellite_of, sat_of, same_sat, date_of, moment_said, moment_at, is_named_week, Said, ephemeris_said, ionosphere_said, field, natural, sent_of, toc_of, gps_of, gps_clock_of, gps_side_of, gps_orbit_a_of, gps_orbit_b_of, galileo_of, word1_of, word2_of, word3_of, word4_of, gps_ionosphere_of, galileo_ionosphere_of, gps_item, galileo_item, gps_ionosphere_item, galileo_ionosphere_item, gps_read, galileo_read, gps_ionosphere_read, galileo_ionosphere_read, outcome, judged}
+use Rattle.rinex_read.specs.Judging.{need, first_of, is_kind, named, satellite_of, sat_of, same_sat, date_of, moment_said, moment_at, is_named_week, Said, ephemeris_said, ionosphere_said, field, natural, sent_of, toc_of, gps_of, gps_clock_of, gps_side_of, gps_orbit_a_of, gps_orbit_b_of, galileo_of, galileo_word1_of, galileo_word2_of, galileo_word3_of, galileo_word4_of, gps_ionosphere_of, galileo_ionosphere_of, gps_item, galileo_item, gps_ionosphere_item, galileo_ionosphere_item, gps_read, galileo_read, gps_ionosphere_read, galileo_ionosphere_read, outcome, judged}
 use Rattle.rinex_read.specs.Mirrors.{AreGpsFields, AreGalileoFields}
 use Rattle.rinex_read.proofs.FieldLemmas.{le_from}
 use Rattle.rinex_read.proofs.TakenLemmas.{bound, have_zero, rows_are, gps_zero, galileo_zero, gps_ionosphere_zero, galileo_ionosphere_zero}
@@ -195,7 +195,7 @@ gps_item_is s toc sat f small = record {
 }
 
 galileo_item_is : (s : Said) (toc : ℕ) → IsOf Gal s.sat → AreGalileoFields s.fields → toc < 10080 → IsItem (GalItem (galileo_of s.sat toc s.fields))
-unfolding galileo_of word1_of word2_of word3_of word4_of
+unfolding galileo_of galileo_word1_of galileo_word2_of galileo_word3_of galileo_word4_of
 galileo_item_is s toc sat f small = record {
   ranges = record {
     sat = sat.1;

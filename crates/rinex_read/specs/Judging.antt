@@ -193,14 +193,14 @@ gps_of sat toc zs = record {
 }
 
 -- the parts of an ephemeris of Galileo of these fields
-unfoldable pub word1_of : List ℤ → GalWord1
-word1_of zs = record { iodnav = natural zs 3; toe = natural zs 11; m0 = field zs 6; e = natural zs 8; root_a = natural zs 10 }
+unfoldable pub galileo_word1_of : List ℤ → GalWord1
+galileo_word1_of zs = record { iodnav = natural zs 3; toe = natural zs 11; m0 = field zs 6; e = natural zs 8; root_a = natural zs 10 }
 
-unfoldable pub word2_of : List ℤ → GalWord2
-word2_of zs = record { iodnav = natural zs 3; omega0 = field zs 13; i0 = field zs 15; omega = field zs 17; idot = field zs 19 }
+unfoldable pub galileo_word2_of : List ℤ → GalWord2
+galileo_word2_of zs = record { iodnav = natural zs 3; omega0 = field zs 13; i0 = field zs 15; omega = field zs 17; idot = field zs 19 }
 
-unfoldable pub word3_of : List ℤ → GalWord3
-word3_of zs = record {
+unfoldable pub galileo_word3_of : List ℤ → GalWord3
+galileo_word3_of zs = record {
   iodnav = natural zs 3;
   omega_dot = field zs 18;
   delta_n = field zs 5;
@@ -211,8 +211,8 @@ word3_of zs = record {
   sisa = natural zs 22;
 }
 
-unfoldable pub word4_of : ℕ → List ℤ → GalWord4
-word4_of toc zs = record {
+unfoldable pub galileo_word4_of : ℕ → List ℤ → GalWord4
+galileo_word4_of toc zs = record {
   iodnav = natural zs 3;
   cic = field zs 12;
   cis = field zs 14;
@@ -237,10 +237,10 @@ health_said bgd_a bgd_b n = record {
 unfoldable pub galileo_of : Satellite → ℕ → List ℤ → GalEph
 galileo_of sat toc zs = record {
   sat = sat;
-  w1 = word1_of zs;
-  w2 = word2_of zs;
-  w3 = word3_of zs;
-  w4 = word4_of toc zs;
+  w1 = galileo_word1_of zs;
+  w2 = galileo_word2_of zs;
+  w3 = galileo_word3_of zs;
+  w4 = galileo_word4_of toc zs;
   health = health_said (field zs 24) (field zs 25) (natural zs 23);
   toe_week = natural zs 21;
   sent = sent_of (field zs 26);

@@ -8,7 +8,8 @@ ghost use Rattle.rinex_read.specs.Judging.{galileo_ionosphere_of, galileo_item, 
 ghost use Rattle.rinex_read.specs.Judging.{gps_ionosphere_item, gps_ionosphere_of, gps_clock_of};
 ghost use Rattle.rinex_read.specs.Judging.{gps_item, gps_of, gps_orbit_a_of, gps_orbit_b_of};
 ghost use Rattle.rinex_read.specs.Judging.{gps_side_of, health_said, natural, sent_of, toc_of};
-ghost use Rattle.rinex_read.specs.Judging.{word1_of, word2_of, word3_of, word4_of};
+ghost use Rattle.rinex_read.specs.Judging.{galileo_word1_of, galileo_word2_of};
+ghost use Rattle.rinex_read.specs.Judging.{galileo_word3_of, galileo_word4_of};
 ghost use Rattle.rinex_read.specs.Mirrors.{AreGalileoFields, AreGalileoIonosphereFields};
 ghost use Rattle.rinex_read.specs.Mirrors.{AreGpsFields, AreGpsIonosphereFields, IsBelowAt};
 ghost use Rattle.rinex_read.specs.Mirrors.{IsSentAt, IsSignedAt, IsSisaAt, IsUnsignedAt, IsWeekAt};
@@ -218,10 +219,10 @@ fn gps_of(sat: Sat, toc: u64, fields: &[i64]) -> GpsEph
 }
 
 // The parts of an ephemeris of Galileo of these fields.
-#[tactic(auto, unfolding(crate::specs::Judging::word1_of))]
-fn word1_of(fields: &[i64]) -> GalWord1
+#[tactic(auto, unfolding(crate::specs::Judging::galileo_word1_of))]
+fn galileo_word1_of(fields: &[i64]) -> GalWord1
     requires { AreGalileoFields fields.now }
-    ensures { result ≡ word1_of fields.now }
+    ensures { result ≡ galileo_word1_of fields.now }
 {
     GalWord1 {
         iodnav: unsigned(fields, 3),
@@ -232,10 +233,10 @@ fn word1_of(fields: &[i64]) -> GalWord1
     }
 }
 
-#[tactic(auto, unfolding(crate::specs::Judging::word2_of))]
-fn word2_of(fields: &[i64]) -> GalWord2
+#[tactic(auto, unfolding(crate::specs::Judging::galileo_word2_of))]
+fn galileo_word2_of(fields: &[i64]) -> GalWord2
     requires { AreGalileoFields fields.now }
-    ensures { result ≡ word2_of fields.now }
+    ensures { result ≡ galileo_word2_of fields.now }
 {
     GalWord2 {
         iodnav: unsigned(fields, 3),
@@ -246,10 +247,10 @@ fn word2_of(fields: &[i64]) -> GalWord2
     }
 }
 
-#[tactic(auto, unfolding(crate::specs::Judging::word3_of))]
-fn word3_of(fields: &[i64]) -> GalWord3
+#[tactic(auto, unfolding(crate::specs::Judging::galileo_word3_of))]
+fn galileo_word3_of(fields: &[i64]) -> GalWord3
     requires { AreGalileoFields fields.now }
-    ensures { result ≡ word3_of fields.now }
+    ensures { result ≡ galileo_word3_of fields.now }
 {
     GalWord3 {
         iodnav: unsigned(fields, 3),
@@ -263,11 +264,11 @@ fn word3_of(fields: &[i64]) -> GalWord3
     }
 }
 
-#[tactic(auto, unfolding(crate::specs::Judging::word4_of))]
-fn word4_of(toc: u64, fields: &[i64]) -> GalWord4
+#[tactic(auto, unfolding(crate::specs::Judging::galileo_word4_of))]
+fn galileo_word4_of(toc: u64, fields: &[i64]) -> GalWord4
     requires toc { IsStep60 toc }
     requires fields { AreGalileoFields fields.now }
-    ensures { result ≡ word4_of toc fields.now }
+    ensures { result ≡ galileo_word4_of toc fields.now }
 {
     GalWord4 {
         iodnav: unsigned(fields, 3),
@@ -307,10 +308,10 @@ fn galileo_of(sat: Sat, toc: u64, fields: &[i64]) -> GalEph
 {
     GalEph {
         sat,
-        w1: word1_of(fields),
-        w2: word2_of(fields),
-        w3: word3_of(fields),
-        w4: word4_of(toc, fields),
+        w1: galileo_word1_of(fields),
+        w2: galileo_word2_of(fields),
+        w3: galileo_word3_of(fields),
+        w4: galileo_word4_of(toc, fields),
         health: health_said(fields),
         toe_week: week(fields, 21),
         sent: sent(fields, 26),

@@ -77,7 +77,7 @@ impl Layout for Message1019 {
 
     ghost stands_at = { message1019_at };
 
-    ghost RestIsZero = { message1019_rest };
+    ghost RestIsFixed = { message1019_rest };
 
     ghost own_bits = { message1019_own_bits };
 

@@ -77,7 +77,7 @@ impl Layout for Message1046 {
 
     ghost stands_at = { message1046_at };
 
-    ghost RestIsZero = { message1046_rest };
+    ghost RestIsFixed = { message1046_rest };
 
     ghost own_bits = { message1046_own_bits };
 

@@ -14,8 +14,8 @@ abbrev pub IsWaiting : List ℕ → Type 0
 IsWaiting rest = (rest ≡ []) ⊎ (is_open rest ≡ true)
 
 -- more bytes may come, and no frame is decided
-abbrev pub IsSettled : DeframerState → Type 0
-IsSettled state = (state.finished ≡ false) × IsWaiting state.rest
+abbrev pub MayFeed : DeframerState → Type 0
+MayFeed state = (state.finished ≡ false) × IsWaiting state.rest
 
 -- A frame is decided: whatever bytes follow, none after the last, the frames are this one and then those of the new rest.
 pub record TakesFrame (more : Bool) (old : List ℕ) (frame : List ℕ) (new : List ℕ) : Type 0 where

@@ -42,7 +42,7 @@ impl Model for Deframer {
 impl Deframer {
     ghost use Rattle.std.specs.Prelude.{◌≡◌, ◌<◌, ◌≤◌, ◌↔◌, [], ◌∷◌, ◌++◌, length, take, false};
     ghost use Rattle.std.specs.Prelude.{not, IsTrue, IfSome, IfNone};
-    ghost use Rattle.rtcm_frame.specs.State.{IsSettled, TakesFrame, TakesNone};
+    ghost use Rattle.rtcm_frame.specs.State.{MayFeed, TakesFrame, TakesNone};
 
     /// A deframer that has taken no byte.
     pub fn new() -> Self
@@ -57,10 +57,10 @@ impl Deframer {
         }
     }
 
-    /// Takes one more byte. It may be called where `settled` holds: after `new`, and after each
+    /// Takes one more byte. It may be called where `may_feed` holds: after `new`, and after each
     /// `next_frame` that answered `None`, until `finish` is called.
     pub fn feed(&mut self, byte: u8)
-        requires { IsSettled self.old }
+        requires { MayFeed self.old }
         ensures rest { self.new.rest ≡ self.old.rest ++ byte ∷ [] }
         ensures finished { self.new.finished ≡ self.old.finished }
     {
@@ -71,10 +71,10 @@ impl Deframer {
     /// Takes bytes from the front of a piece, as many as there is room for and at least one, and
     /// gives how many.
     ///
-    /// It may be called where `settled` holds, as `feed`. A piece that is fed so costs less than
+    /// It may be called where `may_feed` holds, as `feed`. A piece that is fed so costs less than
     /// one that is fed byte by byte.
     pub fn feed_some(&mut self, piece: &[u8]) -> usize
-        requires settled { IsSettled self.old }
+        requires may_feed { MayFeed self.old }
         requires some { 0 < length piece.now }
         ensures some { 0 < result }
         ensures within { result ≤ length piece.now }
@@ -127,8 +127,8 @@ impl Deframer {
     }
 
     /// Whether a byte may be fed: `finish` was not called, and no frame is decided.
-    pub fn settled(&self) -> bool
-        ensures { IsTrue result ↔ IsSettled self.now }
+    pub fn may_feed(&self) -> bool
+        ensures { IsTrue result ↔ MayFeed self.now }
     {
         !self.finished && waits(&self.window.bytes()[self.start..])
     }

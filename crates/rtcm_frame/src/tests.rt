@@ -27,13 +27,13 @@ fn frames_of(rt: &impl Abort, alloc: Global, bytes: &[u8]) -> Result<Vec<u8>, Al
     let mut frames = Vec::new(alloc);
     let mut deframer = Deframer::new();
     for byte in bytes {
-        assert!(rt; deframer.settled(), "more bytes may come");
+        assert!(rt; deframer.may_feed(), "more bytes may come");
         deframer.feed(*byte);
         write_frames(&mut deframer, &mut frames)?;
     }
     deframer.finish();
     write_frames(&mut deframer, &mut frames)?;
-    assert!(rt; !deframer.settled(), "no byte may come");
+    assert!(rt; !deframer.may_feed(), "no byte may come");
     Ok(frames)
 }
 
@@ -92,7 +92,7 @@ fn writes_and_reads_one_frame(rt: HostRuntime) -> Result<(), Fail> {
 fn goes_over_no_byte_twice(rt: HostRuntime) {
     let mut deframer = Deframer::new();
     for _ in 0..20_000_000u32 {
-        assert!(rt; deframer.settled(), "more bytes may come");
+        assert!(rt; deframer.may_feed(), "more bytes may come");
         deframer.feed(0xd3);
         assert!(rt; deframer.next_frame().is_none(), "no frame is right");
     }

@@ -27,7 +27,7 @@ returns-in-Err-take_frames-clause-part g c =
 pub loop-taken-preserved : goal.loop-taken-preserved
 loop-taken-preserved g c = record {
   so_far = so_far_piece line_of _ _ _ _ _ _ _ _ _ _ _ _ _ c.loop-taken.invariant.so_far c.in-Ok.ensures.bytes c.in-Ok.ensures.held (omega (arith, c.in-Ok.ensures.most))
-      c.in-Ok-take_piece.ensures.goes c.in-Ok-take_piece.ensures.settled c.in-Ok-take_piece.ensures.room;
+      c.in-Ok-take_piece.ensures.goes c.in-Ok-take_piece.ensures.may_feed c.in-Ok-take_piece.ensures.room;
   read = c.in-Ok.ensures.cause.stays ∙ c.loop-taken.invariant.read;
   write = c.in-Ok-take_piece.ensures.cause.stays ∙ c.loop-taken.invariant.write;
   never = λ quiet. (c.in-Ok.ensures.never (c.loop-taken.invariant.never quiet)).1;

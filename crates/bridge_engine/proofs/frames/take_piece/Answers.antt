@@ -13,7 +13,7 @@ returns-in_err-fed-clause-breaks g c =
 pub loop-fed-preserved : goal.loop-fed-preserved
 loop-fed-preserved g c = record {
   goes = goes_part line_of _ _ _ _ _ _ _ _ _ _ _ _ c.loop-fed.invariant.goes (rw (take_rest c.args.piece.now c.loop-fed.fed) at c.in_ok-fed.ensures.goes);
-  settled = c.in_ok-fed.ensures.settled;
+  may_feed = c.in_ok-fed.ensures.may_feed;
   faults = c.in_ok-fed.ensures.cause.stays ∙ c.loop-fed.invariant.faults;
   room = omega (arith, c.in_ok-fed.ensures.room, c.loop-fed.invariant.room);
   within = omega (arith, c.in_ok-fed.ensures.within, c.loop-fed.invariant.within, rw (take_rest c.args.piece.now c.loop-fed.fed) at c.in_ok-fed.ensures.within, length-drop c.loop-fed.fed c.args.piece.now);

@@ -1,5 +1,5 @@
 use Rattle.std.proofs.Common.{◌≡◌, ◌+◌, ◌-◌, ◌≤◌, ◌++◌, true, length, take}
-use Rattle.rtcm_frame.specs.State.{IsSettled}
+use Rattle.rtcm_frame.specs.State.{MayFeed}
 use Rattle.bridge_engine.specs.FrameLines.{line_of}
 use Rattle.bridge_engine.specs.FrameRuns.{Goes}
 use Rattle.bridge_engine.proofs.frames.take_piece.Given as goal
@@ -7,7 +7,7 @@ use Rattle.bridge_engine.proofs.frames.take_piece.Given as goal
 abbrev pub invariant-loop-fed : goal.invariant-loop-fed
 invariant-loop-fed g l = record {
   goes : Goes line_of true (l.fn.deframer.rest ++ take l.fed l.piece) l.deframer.rest (g.T.Sink.written l.fn.output) (g.T.Sink.written l.output) l.fn.frames l.frames;
-  settled : IsSettled l.deframer;
+  may_feed : MayFeed l.deframer;
   faults : g.T.Sink.faults l.output ≡ g.T.Sink.faults l.fn.output;
   room : l.frames + length l.deframer.rest ≤ l.fn.frames + length l.fn.deframer.rest + l.fed;
   within : l.fed ≤ length l.piece;

@@ -1,5 +1,5 @@
 use Rattle.std.proofs.Common.{◌≡◌, ◌∙◌}
-use Rattle.inav_word.specs.Writing.{word1_of}
+use Rattle.inav_word.specs.Writing.{written_word1}
 use Rattle.inav_word.proofs.WordBytes.{is_word1}
 use Rattle.inav_word.proofs.write.write_word1.Goals as goal
 
@@ -7,4 +7,4 @@ pub returns-clause-bytes : goal.returns-clause-bytes
 returns-clause-bytes c =
     let toe : c.from_digits.result ≡ c.args.w.now.toe = cc in
     is_word1 c.args.w.now c.pack.new.into c.word1_ranges.ensures c.are_bytes.ensures
-    (c.pack.ensures.stands ∙ (λ i. record (word1_of c.args.w.now) { toe = toe i })) c.pack.ensures.rest
+    (c.pack.ensures.stands ∙ (λ i. record (written_word1 c.args.w.now) { toe = toe i })) c.pack.ensures.rest

@@ -1,5 +1,5 @@
 use Rattle.std.proofs.Common.{◌≡◌, ◌∙◌}
-use Rattle.inav_word.specs.Writing.{word3_of}
+use Rattle.inav_word.specs.Writing.{written_word3}
 use Rattle.inav_word.proofs.WordBytes.{is_word3}
 use Rattle.inav_word.proofs.write.write_word3.Goals as goal
 
@@ -7,4 +7,4 @@ pub returns-clause-bytes : goal.returns-clause-bytes
 returns-clause-bytes c =
     let sisa : c.from_digits.result ≡ c.args.w.now.sisa = cc in
     is_word3 c.args.w.now c.pack.new.into c.word3_ranges.ensures c.are_bytes.ensures
-    (c.pack.ensures.stands ∙ (λ i. record (word3_of c.args.w.now) { sisa = sisa i })) c.pack.ensures.rest
+    (c.pack.ensures.stands ∙ (λ i. record (written_word3 c.args.w.now) { sisa = sisa i })) c.pack.ensures.rest

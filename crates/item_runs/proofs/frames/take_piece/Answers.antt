@@ -12,7 +12,7 @@ returns-in_err-fed-clause-breaks g c =
 pub loop-fed-preserved : goal.loop-fed-preserved
 loop-fed-preserved g c = record {
   moves = moves_part c.args.r _ _ _ _ _ _ _ _ _ _ _ _ _ _ _ _ _ _ _ _ c.loop-fed.invariant.moves (rw (take_rest c.args.piece.now c.loop-fed.fed) at c.in_ok-fed.ensures.goes);
-  settled = c.in_ok-fed.ensures.settled;
+  may_feed = c.in_ok-fed.ensures.may_feed;
   write = ap (λ f. f.output) c.in_ok-fed.ensures.cause ∙ c.loop-fed.invariant.write;
   told = ap (λ f. f.report) c.in_ok-fed.ensures.cause ∙ c.loop-fed.invariant.told;
   few = c.in_ok-fed.ensures.some;

@@ -1,5 +1,5 @@
 use Rattle.std.proofs.Common.{◌≡◌, ◌+◌, ◌-◌, ◌≤◌, ◌++◌, true, length, take}
-use Rattle.rtcm_frame.specs.State.{IsSettled}
+use Rattle.rtcm_frame.specs.State.{MayFeed}
 use Rattle.item_runs.specs.Mirrors.{AreFew, StreamMoves}
 use Rattle.item_runs.proofs.frames.take_piece.Given as goal
 
@@ -7,7 +7,7 @@ abbrev pub invariant-loop-fed : goal.invariant-loop-fed
 invariant-loop-fed g l = record {
   moves : StreamMoves l.r (g.O.Outlet.front l.outlet) (g.O.Outlet.text l.outlet 0) true (l.fn.deframer.rest ++ take l.fed l.piece) l.deframer.rest
       (g.T.Sink.written l.fn.output) (g.T.Sink.written l.output) (g.U.Sink.written l.fn.report) (g.U.Sink.written l.report) l.fn.given l.given l.fn.counts l.counts;
-  settled : IsSettled l.deframer;
+  may_feed : MayFeed l.deframer;
   write : g.T.Sink.faults l.output ≡ g.T.Sink.faults l.fn.output;
   told : g.U.Sink.faults l.report ≡ g.U.Sink.faults l.fn.report;
   few : AreFew l.counts;

@@ -10,7 +10,7 @@ returns-in_err-take_frames-clause-breaks g c =
     let unfinished = subst
     (λ (b : Bool). StreamStops c.args.r (g.O.Outlet.front c.args.outlet.now) (g.O.Outlet.text c.args.outlet.now 0) (not b) c.feed_some-count.new.self.rest (g.T.Sink.written c.args.output.now) (g.T.Sink.written c.take_frames.new.output)
     (g.U.Sink.written c.args.report.now) (g.U.Sink.written c.take_frames.new.report) c.args.given.now c.args.counts.now)
-    (c.feed_some-count.ensures.finished ∙ c.requires.settled.0) c.in_err-take_frames.ensures.breaks in
+    (c.feed_some-count.ensures.finished ∙ c.requires.may_feed.0) c.in_err-take_frames.ensures.breaks in
     let fed = subst
     (λ (l : List ℕ). StreamStops c.args.r (g.O.Outlet.front c.args.outlet.now) (g.O.Outlet.text c.args.outlet.now 0) _ l (g.T.Sink.written c.args.output.now) (g.T.Sink.written c.take_frames.new.output)
     (g.U.Sink.written c.args.report.now) (g.U.Sink.written c.take_frames.new.report) c.args.given.now c.args.counts.now)

@@ -26,7 +26,7 @@ pub loop-taken-preserved : goal.loop-taken-preserved
 loop-taken-preserved g c =
     let took = c.in_ok-take_piece-in-Ok.ensures in
     record {
-      so_far = so_far_piece c.args.r _ _ _ _ _ _ _ _ _ _ _ _ _ _ _ _ _ _ _ _ _ _ c.loop-taken.invariant.so_far c.in-Ok.ensures.bytes.0 c.in-Ok.ensures.count took.goes took.settled took.room;
+      so_far = so_far_piece c.args.r _ _ _ _ _ _ _ _ _ _ _ _ _ _ _ _ _ _ _ _ _ _ c.loop-taken.invariant.so_far c.in-Ok.ensures.bytes.0 c.in-Ok.ensures.count took.goes took.may_feed took.room;
       few = took.some;
       limit = omega (arith, c.in-Ok.ensures.most);
       read = c.in-Ok.ensures.cause.stays ∙ c.loop-taken.invariant.read;

@@ -4,4 +4,4 @@ use Rattle.rtcm_frame.proofs.deframer.Deframer.feed_some.Goals as goal
 
 pub make_room-requires-clause-short : goal.make_room-requires-clause-short
 make_room-requires-clause-short c =
-    omega (arith, waiting_is_short c.args.self.now.rest c.requires.settled.1, ap (λ s. length s.rest) c.self.view_is)
+    omega (arith, waiting_is_short c.args.self.now.rest c.requires.may_feed.1, ap (λ s. length s.rest) c.self.view_is)
