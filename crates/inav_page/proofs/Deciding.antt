@@ -11,7 +11,7 @@ use Rattle.inav_page.specs.declared.signal.Signal.{Signal}
 use Rattle.inav_page.specs.declared.signal.Signal.TheVariants.{E1b, E5b}
 use Rattle.inav_page.specs.Pages.{kind_of, has_right_crc}
 use Rattle.inav_page.specs.Heard.{StampedHalf, MakeWord, ArePartners, AreWordsWith, IsAbove, IsAscending, same_system, same_signal, same_sender, same_half, has_half, is_even, makes_word, are_partners, put_half, partners_of, words_of, word_with}
-use Rattle.inav_page.proofs.Membership.{IsIn, in_contains, contains_in}
+use Rattle.inav_page.proofs.Membership.{In, contains_from_In, In-from_contains}
 use Rattle.inav_page.proofs.PageNumbers.{right_to, right_from}
 use Rattle.inav_page.proofs.Surface.{not_both}
 
@@ -90,7 +90,7 @@ half_from a b e =
 
 -- ---- among those of a list
 
-has_to : (xs : List StampedHalf) (half : StampedHalf) → has_half xs half ≡ true → IsIn xs half
+has_to : (xs : List StampedHalf) (half : StampedHalf) → has_half xs half ≡ true → In xs half
 unfolding has_half
 has_to [] half h = cc h
 has_to (x ∷ xs) half h =
@@ -99,18 +99,18 @@ has_to (x ∷ xs) half h =
     (λ (later : has_half xs half ≡ true). inr (has_to xs half later))
     (either (same_half x half) (has_half xs half) h)
 
-has_from : (xs : List StampedHalf) (half : StampedHalf) → IsIn xs half → has_half xs half ≡ true
+has_from : (xs : List StampedHalf) (half : StampedHalf) → In xs half → has_half xs half ≡ true
 unfolding has_half
 has_from [] half h = absurd h
 has_from (x ∷ xs) half h =
     ⊎_elim
     (λ (here : x ≡ half). first (same_half x half) (has_half xs half) (half_from x half here))
-    (λ (later : IsIn xs half). second (same_half x half) (has_half xs half) (has_from xs half later))
+    (λ (later : In xs half). second (same_half x half) (has_half xs half) (has_from xs half later))
     h
 
 pub has_half_decides : (xs : List StampedHalf) (half : StampedHalf) → (has_half xs half ≡ true) ↔ Contains xs half
 has_half_decides xs half =
-    (λ h. in_contains xs half (has_to xs half h), λ h. has_from xs half (contains_in xs half h))
+    (λ h. contains_from_In xs half (has_to xs half h), λ h. has_from xs half (In-from_contains xs half h))
 
 -- ---- a word
 
@@ -179,43 +179,43 @@ are_partners_decides one other = (partners_to one other, partners_from one other
 
 -- ---- a half put among ascending ones
 
-put_from : (half : StampedHalf) (xs : List StampedHalf) (x : StampedHalf) → IsIn (put_half half xs) x → (half ≡ x) ⊎ IsIn xs x
+put_from : (half : StampedHalf) (xs : List StampedHalf) (x : StampedHalf) → In (put_half half xs) x → (half ≡ x) ⊎ In xs x
 unfolding put_half
 put_from half [] x h = h
 put_from half (y ∷ ys) x h = by (nat_lt half.half y.half) (nat_lt y.half half.half) (λ later. put_from half ys x later) h
   where
-    by : (a b : Bool) → (IsIn (put_half half ys) x → (half ≡ x) ⊎ IsIn ys x)
-        → IsIn (cond a (half ∷ y ∷ ys) (cond b (y ∷ put_half half ys) (y ∷ ys))) x → (half ≡ x) ⊎ IsIn (y ∷ ys) x
+    by : (a b : Bool) → (In (put_half half ys) x → (half ≡ x) ⊎ In ys x)
+        → In (cond a (half ∷ y ∷ ys) (cond b (y ∷ put_half half ys) (y ∷ ys))) x → (half ≡ x) ⊎ In (y ∷ ys) x
     by true b rest there = there
     by false true rest there =
         ⊎_elim
         (λ (here : y ≡ x). inr (inl here))
-        (λ (later : IsIn (put_half half ys) x).
-        ⊎_elim (λ (is : half ≡ x). inl is) (λ (was : IsIn ys x). inr (inr was)) (rest later))
+        (λ (later : In (put_half half ys) x).
+        ⊎_elim (λ (is : half ≡ x). inl is) (λ (was : In ys x). inr (inr was)) (rest later))
         there
     by false false rest there = inr there
 
-put_keeps : (half : StampedHalf) (xs : List StampedHalf) (x : StampedHalf) → IsIn xs x → IsIn (put_half half xs) x
+put_keeps : (half : StampedHalf) (xs : List StampedHalf) (x : StampedHalf) → In xs x → In (put_half half xs) x
 unfolding put_half
 put_keeps half [] x h = absurd h
 put_keeps half (y ∷ ys) x h = by (nat_lt half.half y.half) (nat_lt y.half half.half) (λ later. put_keeps half ys x later)
   where
-    by : (a b : Bool) → (IsIn ys x → IsIn (put_half half ys) x)
-        → IsIn (cond a (half ∷ y ∷ ys) (cond b (y ∷ put_half half ys) (y ∷ ys))) x
+    by : (a b : Bool) → (In ys x → In (put_half half ys) x)
+        → In (cond a (half ∷ y ∷ ys) (cond b (y ∷ put_half half ys) (y ∷ ys))) x
     by true b rest = inr h
-    by false true rest = ⊎_elim (λ (here : y ≡ x). inl here) (λ (later : IsIn ys x). inr (rest later)) h
+    by false true rest = ⊎_elim (λ (here : y ≡ x). inl here) (λ (later : In ys x). inr (rest later)) h
     by false false rest = h
 
 -- it stands there, where no other half has its bits
-put_stands : (half : StampedHalf) (xs : List StampedHalf) → ((x : StampedHalf) → IsIn xs x → x.half ≡ half.half → x ≡ half)
-    → IsIn (put_half half xs) half
+put_stands : (half : StampedHalf) (xs : List StampedHalf) → ((x : StampedHalf) → In xs x → x.half ≡ half.half → x ≡ half)
+    → In (put_half half xs) half
 unfolding put_half
 put_stands half [] one = inl refl
 put_stands half (y ∷ ys) one =
     by (nat_lt half.half y.half) (nat_lt y.half half.half) refl refl (put_stands half ys (λ x h. one x (inr h)))
   where
-    by : (a b : Bool) → nat_lt half.half y.half ≡ a → nat_lt y.half half.half ≡ b → IsIn (put_half half ys) half
-        → IsIn (cond a (half ∷ y ∷ ys) (cond b (y ∷ put_half half ys) (y ∷ ys))) half
+    by : (a b : Bool) → nat_lt half.half y.half ≡ a → nat_lt y.half half.half ≡ b → In (put_half half ys) half
+        → In (cond a (half ∷ y ∷ ys) (cond b (y ∷ put_half half ys) (y ∷ ys))) half
     by true b ea eb rest = inl refl
     by false true ea eb rest = inr rest
     by false false ea eb rest = inl (one y (inl refl) (grind (arith)))
@@ -266,34 +266,34 @@ one_partner taken a b (inr m) (inr n) e =
 one_partner taken a b (inl m) (inr n) e = absurd (not_both (kind_of taken.half) m.is_even n.is_odd)
 one_partner taken a b (inr m) (inl n) e = absurd (not_both (kind_of taken.half) n.is_even m.is_odd)
 
-partner_from : (xs : List StampedHalf) (taken x : StampedHalf) → IsIn (partners_of xs taken) x → IsIn xs x × ArePartners taken x
+partner_from : (xs : List StampedHalf) (taken x : StampedHalf) → In (partners_of xs taken) x → In xs x × ArePartners taken x
 unfolding partners_of
 partner_from [] taken x h = absurd h
 partner_from (y ∷ ys) taken x h = by (are_partners taken y) refl (λ there. partner_from ys taken x there) h
   where
-    by : (b : Bool) → are_partners taken y ≡ b → (IsIn (partners_of ys taken) x → IsIn ys x × ArePartners taken x) → IsIn (cond b (put_half y (partners_of ys taken)) (partners_of ys taken)) x
-        → IsIn (y ∷ ys) x × ArePartners taken x
+    by : (b : Bool) → are_partners taken y ≡ b → (In (partners_of ys taken) x → In ys x × ArePartners taken x) → In (cond b (put_half y (partners_of ys taken)) (partners_of ys taken)) x
+        → In (y ∷ ys) x × ArePartners taken x
     by true e before there =
         let P : StampedHalf → Type 0 = ArePartners taken in
         ⊎_elim
         (λ (is : y ≡ x). (inl is, subst P is (partners_to taken y e)))
-        (λ (later : IsIn (partners_of ys taken) x). let rest = before later in (inr rest.0, rest.1))
+        (λ (later : In (partners_of ys taken) x). let rest = before later in (inr rest.0, rest.1))
         (put_from y (partners_of ys taken) x there)
     by false e before there = let rest = before there in (inr rest.0, rest.1)
 
-partner_in : (xs : List StampedHalf) (taken x : StampedHalf) → IsIn xs x → ArePartners taken x → IsIn (partners_of xs taken) x
+partner_in : (xs : List StampedHalf) (taken x : StampedHalf) → In xs x → ArePartners taken x → In (partners_of xs taken) x
 unfolding partners_of
 partner_in [] taken x h p = absurd h
 partner_in (y ∷ ys) taken x h p = by (are_partners taken y) refl (λ later. partner_in ys taken x later p)
   where
-    by : (b : Bool) → are_partners taken y ≡ b → (IsIn ys x → IsIn (partners_of ys taken) x) → IsIn (cond b (put_half y (partners_of ys taken)) (partners_of ys taken)) x
+    by : (b : Bool) → are_partners taken y ≡ b → (In ys x → In (partners_of ys taken) x) → In (cond b (put_half y (partners_of ys taken)) (partners_of ys taken)) x
     by true e rest =
-        let one : (z : StampedHalf) → IsIn (partners_of ys taken) z → z.half ≡ y.half → z ≡ y =
+        let one : (z : StampedHalf) → In (partners_of ys taken) z → z.half ≡ y.half → z ≡ y =
         λ z there same. one_partner taken z y (partner_from ys taken z there).1 (partners_to taken y e) same in
-        let P : StampedHalf → Type 0 = λ z. IsIn (put_half y (partners_of ys taken)) z in
+        let P : StampedHalf → Type 0 = λ z. In (put_half y (partners_of ys taken)) z in
         ⊎_elim
         (λ (here : y ≡ x). subst P here (put_stands y (partners_of ys taken) one))
-        (λ (later : IsIn ys x). put_keeps y (partners_of ys taken) x (rest later))
+        (λ (later : In ys x). put_keeps y (partners_of ys taken) x (rest later))
         h
     by false e rest =
         ⊎_elim
@@ -301,7 +301,7 @@ partner_in (y ∷ ys) taken x h p = by (are_partners taken y) refl (λ later. pa
         let Q : StampedHalf → Type 0 = ArePartners taken in
         let is = partners_from taken y (subst Q (sym here) p) in
         absurd (cc (is, e)))
-        (λ (later : IsIn ys x). rest later)
+        (λ (later : In ys x). rest later)
         h
 
 partners_ascend : (xs : List StampedHalf) (taken : StampedHalf) → IsAscending (partners_of xs taken)
@@ -319,8 +319,8 @@ unfolding words_of
 words_are xs taken = record {
   partners = partners_of xs taken;
   each = λ other. (
-    λ h. let is = partner_from xs taken other (contains_in (partners_of xs taken) other h) in (in_contains xs other is.0, is.1),
-    λ h. in_contains (partners_of xs taken) other (partner_in xs taken other (contains_in xs other h.0) h.1),
+    λ h. let is = partner_from xs taken other (In-from_contains (partners_of xs taken) other h) in (contains_from_In xs other is.0, is.1),
+    λ h. contains_from_In (partners_of xs taken) other (partner_in xs taken other (In-from_contains xs other h.0) h.1),
   );
   ascending = partners_ascend xs taken;
   words_are = refl;

@@ -1,12 +1,12 @@
 -- Forgetting from the front what stands before a place.
 use Rattle.std.proofs.Common.{◌≡◌, ℕ, ◌<◌, ◌≤◌, List, ◌∷◌, length, ◌↔◌, inr, ap, subst, ⊎_elim, arith}
 use Rattle.std.specs.Prelude.{Contains}
-use Rattle.inav_page.proofs.Membership.{IsIn, in_contains, contains_in}
+use Rattle.inav_page.proofs.Membership.{In, contains_from_In, In-from_contains}
 
 -- so far nothing from the place on was forgotten, and nothing came to it
 pub record Forgets (first now : List (ℕ × ℕ)) (from : ℕ) : Type 0 where
-  pub was : (key : ℕ × ℕ) → IsIn now key → IsIn first key
-  pub stays : (key : ℕ × ℕ) → IsIn first key → from ≤ key.0 → IsIn now key
+  pub was : (key : ℕ × ℕ) → In now key → In first key
+  pub stays : (key : ℕ × ℕ) → In first key → from ≤ key.0 → In now key
   pub fewer : length now ≤ length first
 
 pub forgets_none : (keys : List (ℕ × ℕ)) (from : ℕ) → Forgets keys keys from
@@ -21,7 +21,7 @@ forgets_more first now new from one so cut early =
       stays = λ key h late.
           ⊎_elim
           (λ (same : one ≡ key). absurd (let e : one.0 ≡ key.0 = ap (λ k. k.0) same in omega (arith, early, late, e)))
-          (λ (later : IsIn new key). later)
+          (λ (later : In new key). later)
           (here.stays key h late);
       fewer = omega (arith, here.fewer);
     }
@@ -30,6 +30,6 @@ forgets_more first now new from one so cut early =
 pub forgets_all : (first now : List (ℕ × ℕ)) (from : ℕ) → Forgets first now from → ((key : ℕ × ℕ) → Contains now key → from ≤ key.0)
     → (key : ℕ × ℕ) → Contains now key ↔ (Contains first key × (from ≤ key.0))
 forgets_all first now from so late key = (
-  λ h. (in_contains first key (so.was key (contains_in now key h)), late key h),
-  λ h. in_contains now key (so.stays key (contains_in first key h.0) h.1),
+  λ h. (contains_from_In first key (so.was key (In-from_contains now key h)), late key h),
+  λ h. contains_from_In now key (so.stays key (In-from_contains first key h.0) h.1),
 )

@@ -23,7 +23,7 @@ use Rattle.inav_page.specs.Mirrors.{signal_number, signal_of, place_of, slot_of,
 use Rattle.inav_page.proofs.Surface.{not_both}
 use Rattle.inav_page.proofs.PageNumbers.{right_to, right_from}
 use Rattle.inav_page.proofs.Remainders.{is_right_by, same_remainder, right_by_remainder, remainder-lt}
-use Rattle.inav_page.proofs.Membership.{IsIn, in_contains, contains_in, filter_in, in_filter, in_map, map_in}
+use Rattle.inav_page.proofs.Membership.{In, contains_from_In, In-from_contains, filter_in, in_filter, in_map, map_in}
 use Rattle.inav_page.proofs.KeyOrder.{key_lt, in_range, range_to, range_from, other_kind}
 
 -- ---- keys and halves
@@ -154,14 +154,14 @@ bits_ascend a b e h =
     (λ (same : (a.0 ≡ b.0) × (a.1 < b.1)). same.1)
     (key_lt a b h)
 
-all_above : (place : ℕ) (first : ℕ × ℕ) (keys : List (ℕ × ℕ)) → first.0 ≡ place → ((key : ℕ × ℕ) → IsIn keys key → key.0 ≡ place)
+all_above : (place : ℕ) (first : ℕ × ℕ) (keys : List (ℕ × ℕ)) → first.0 ≡ place → ((key : ℕ × ℕ) → In keys key → key.0 ≡ place)
     → AllByRecursion (λ key. key_cmp first key ≡ Less) keys → IsAbove first.1 (map half_of keys)
 all_above place first [] at places h = tt
 all_above place first (key ∷ keys) at places h =
     (bits_ascend first key (at ∙ sym (places key (inl refl))) h.0, all_above place first keys at (λ k there. places k (inr there)) h.1)
 
 -- keys at one place ascend by their bits
-pub keys_ascend : (place : ℕ) (keys : List (ℕ × ℕ)) → ((key : ℕ × ℕ) → IsIn keys key → key.0 ≡ place) → IsStrictlySortedBy key_cmp keys
+pub keys_ascend : (place : ℕ) (keys : List (ℕ × ℕ)) → ((key : ℕ × ℕ) → In keys key → key.0 ≡ place) → IsStrictlySortedBy key_cmp keys
     → IsAscending (map half_of keys)
 unfolding IsStrictlySortedBy
 keys_ascend place [] places h = tt
@@ -172,16 +172,16 @@ map-map : {X Y Z : Type 0} (f : Y → Z) (g : X → Y) (xs : List X) → map f (
 map-map f g [] = refl
 map-map f g (x ∷ xs) = ap (λ ys. f (g x) ∷ ys) (map-map f g xs)
 
-in_slot : (keys : List (ℕ × ℕ)) (slot : ℕ) (kind : HalfKind) (key : ℕ × ℕ) → IsIn (keys_in_slot keys slot kind) key
-    → IsIn keys key × (key.0 ≡ slot) × (kind_of key.1 ≡ other_kind kind)
+in_slot : (keys : List (ℕ × ℕ)) (slot : ℕ) (kind : HalfKind) (key : ℕ × ℕ) → In (keys_in_slot keys slot kind) key
+    → In keys key × (key.0 ≡ slot) × (kind_of key.1 ≡ other_kind kind)
 unfolding keys_in_slot
 in_slot keys slot kind key h =
     let there = filter_in (in_range slot kind) keys key h in
     let where_is = range_to slot kind key there.1 in
     (there.0, where_is.0, where_is.1)
 
-stands_in_slot : (keys : List (ℕ × ℕ)) (slot : ℕ) (kind : HalfKind) (key : ℕ × ℕ) → IsIn keys key → key.0 ≡ slot
-    → kind_of key.1 ≡ other_kind kind → IsIn (keys_in_slot keys slot kind) key
+stands_in_slot : (keys : List (ℕ × ℕ)) (slot : ℕ) (kind : HalfKind) (key : ℕ × ℕ) → In keys key → key.0 ≡ slot
+    → kind_of key.1 ≡ other_kind kind → In (keys_in_slot keys slot kind) key
 unfolding keys_in_slot
 stands_in_slot keys slot kind key there at its = in_filter (in_range slot kind) keys key there (range_from slot kind key at its)
 
@@ -205,17 +205,17 @@ words_of_partners keys stamp number signal half other slot are sorted fits has s
     let taken = stamped stamp (record { system = Gal; number = number }) signal half in
     let found = keys_in_slot keys slot kind in
     let parts = slot_parts slot place (remainder_of half) (remainder-lt kind half) slot_is in
-    let partner : (key : ℕ × ℕ) → IsIn found key → IsIn keys key × ArePartners taken (half_of key) =
+    let partner : (key : ℕ × ℕ) → In found key → In keys key × ArePartners taken (half_of key) =
     λ key h.
     let is = in_slot keys slot kind key h in
-    let own = remainder_of_kind key (other_kind kind) (are key (in_contains keys key is.0)) is.2 in
+    let own = remainder_of_kind key (other_kind kind) (are key (contains_from_In keys key is.0)) is.2 in
     let here : key.0 / 2 ^ 24 ≡ place = ap (λ n. n / 2 ^ 24) is.1 ∙ parts.0 in
     let same : remainder_by kind half ≡ remainder_by (other_kind kind) key.1 = sym parts.1 ∙ sym (ap (λ n. n % 2 ^ 24) is.1) ∙ own in
     (is.0, is_partner stamp number signal half other kind key refl fits has here is.2 (right_by_remainder kind half key.1 same)) in
-    let stands : (key : ℕ × ℕ) → IsIn keys key → ArePartners taken (half_of key) → IsIn found key =
+    let stands : (key : ℕ × ℕ) → In keys key → ArePartners taken (half_of key) → In found key =
     λ key there partners.
     let is = partner_place stamp number signal half other kind key refl has partners in
-    let own = remainder_of_kind key (other_kind kind) (are key (in_contains keys key there)) is.1 in
+    let own = remainder_of_kind key (other_kind kind) (are key (contains_from_In keys key there)) is.1 in
     let same : remainder_by kind half ≡ remainder_by (other_kind kind) key.1 = same_remainder kind half key.1 is.2 in
     let rest : key.0 % 2 ^ 24 ≡ slot % 2 ^ 24 = own ∙ sym same ∙ sym parts.1 in
     let front : key.0 / 2 ^ 24 ≡ slot / 2 ^ 24 = is.0 ∙ sym parts.0 in
@@ -223,14 +223,14 @@ words_of_partners keys stamp number signal half other slot are sorted fits has s
     record {
       partners = map half_of found;
       each = λ one. (
-        λ h. let key = map_in half_of found one (contains_in (map half_of found) one h) in
+        λ h. let key = map_in half_of found one (In-from_contains (map half_of found) one h) in
             let is = partner key.0 key.1 in
             let P : StampedHalf → Type 0 = λ h. Contains (map half_of keys) h × ArePartners taken h in
-            subst P key.2 (in_contains (map half_of keys) (half_of key.0) (in_map half_of keys key.0 is.0), is.1),
-        λ h. let key = map_in half_of keys one (contains_in (map half_of keys) one h.0) in
+            subst P key.2 (contains_from_In (map half_of keys) (half_of key.0) (in_map half_of keys key.0 is.0), is.1),
+        λ h. let key = map_in half_of keys one (In-from_contains (map half_of keys) one h.0) in
             let P : StampedHalf → Type 0 = ArePartners taken in
             let Q : StampedHalf → Type 0 = Contains (map half_of found) in
-            subst Q key.2 (in_contains (map half_of found) (half_of key.0)
+            subst Q key.2 (contains_from_In (map half_of found) (half_of key.0)
             (in_map half_of found key.0 (stands key.0 key.1 (subst P (sym key.2) h.1)))),
       );
       ascending = keys_ascend slot found (λ key h. (in_slot keys slot kind key h).1) (sorted_in_slot keys slot kind sorted);
@@ -244,10 +244,10 @@ no_words keys stamp number signal half are none =
     record {
       partners = [];
       each = λ one. (
-        λ h. absurd (contains_in [] one h),
-        λ h. let key = map_in half_of keys one (contains_in (map half_of keys) one h.0) in
+        λ h. absurd (In-from_contains [] one h),
+        λ h. let key = map_in half_of keys one (In-from_contains (map half_of keys) one h.0) in
             let P : StampedHalf → Type 0 = ArePartners taken in
-            let fits = (are key.0 (in_contains keys key.0 key.1)).fits in
+            let fits = (are key.0 (contains_from_In keys key.0 key.1)).fits in
             absurd (no_partner stamp number signal half (kind_of half) key.0 refl none fits (subst P (sym key.2) h.1)),
       );
       ascending = tt;

@@ -5,7 +5,7 @@ use Rattle.inav_page.specs.declared.half.HalfKind.{HalfKind}
 use Rattle.inav_page.specs.declared.half.HalfKind.TheVariants.{Even, Odd}
 use Rattle.inav_page.specs.Pages.{kind_of}
 use Rattle.inav_page.specs.Heard.{StampedHalf, IsAbove, IsAscending, AreWordsWith, IsHeard, IsHeardWith, word_with}
-use Rattle.inav_page.proofs.Membership.{IsIn, in_contains, contains_in}
+use Rattle.inav_page.proofs.Membership.{In, contains_from_In, In-from_contains}
 pub use Rattle.inav_page.proofs.PageNumbers.{only_parts, parts_split}
 
 abbrev is_odd : HalfKind → Bool
@@ -18,14 +18,14 @@ not_both kind even odd = true≢false (ap is_odd (sym odd ∙ even))
 
 -- ---- one list of words
 
-above : (bits : ℕ) (xs : List StampedHalf) (x : StampedHalf) → IsAbove bits xs → IsIn xs x → bits < x.half
+above : (bits : ℕ) (xs : List StampedHalf) (x : StampedHalf) → IsAbove bits xs → In xs x → bits < x.half
 above bits [] x h there = absurd there
 above bits (y ∷ ys) x h there =
-    ⊎_elim (λ (here : y ≡ x). let e : y.half ≡ x.half = ap (λ z. z.half) here in omega (arith, h.0, e)) (λ (later : IsIn ys x). above bits ys x h.1 later) there
+    ⊎_elim (λ (here : y ≡ x). let e : y.half ≡ x.half = ap (λ z. z.half) here in omega (arith, h.0, e)) (λ (later : In ys x). above bits ys x h.1 later) there
 
 -- ascending lists of the same members are the same
 pub one_ascending : (xs ys : List StampedHalf) → IsAscending xs → IsAscending ys
-    → ((x : StampedHalf) → IsIn xs x → IsIn ys x) → ((x : StampedHalf) → IsIn ys x → IsIn xs x) → xs ≡ ys
+    → ((x : StampedHalf) → In xs x → In ys x) → ((x : StampedHalf) → In ys x → In xs x) → xs ≡ ys
 one_ascending [] [] a b f g = refl
 one_ascending [] (y ∷ ys) a b f g = absurd (g y (inl refl))
 one_ascending (x ∷ xs) [] a b f g = absurd (f x (inl refl))
@@ -33,21 +33,21 @@ one_ascending (x ∷ xs) (y ∷ ys) a b f g =
     let heads : y ≡ x =
     ⊎_elim
     (λ (here : y ≡ x). here)
-    (λ (later : IsIn ys x).
+    (λ (later : In ys x).
     ⊎_elim
     (λ (here : x ≡ y). sym here)
-    (λ (later' : IsIn xs y). absurd (omega (arith, above y.half ys x b.0 later, above x.half xs y a.0 later')))
+    (λ (later' : In xs y). absurd (omega (arith, above y.half ys x b.0 later, above x.half xs y a.0 later')))
     (g y (inl refl)))
     (f x (inl refl)) in
-    let forth : (z : StampedHalf) → IsIn xs z → IsIn ys z = λ z h.
+    let forth : (z : StampedHalf) → In xs z → In ys z = λ z h.
     ⊎_elim
     (λ (here : y ≡ z). let e : x.half ≡ z.half = ap (λ s. s.half) (sym heads ∙ here) in absurd (omega (arith, above x.half xs z a.0 h, e)))
-    (λ (later : IsIn ys z). later)
+    (λ (later : In ys z). later)
     (f z (inr h)) in
-    let back : (z : StampedHalf) → IsIn ys z → IsIn xs z = λ z h.
+    let back : (z : StampedHalf) → In ys z → In xs z = λ z h.
     ⊎_elim
     (λ (here : x ≡ z). let e : y.half ≡ z.half = ap (λ s. s.half) (heads ∙ here) in absurd (omega (arith, above y.half ys z b.0 h, e)))
-    (λ (later : IsIn xs z). later)
+    (λ (later : In xs z). later)
     (g z (inr h)) in
     ap (λ z. z ∷ xs) (sym heads) ∙ ap (λ zs. y ∷ zs) (one_ascending xs ys a.1 b.1 forth back)
 
@@ -57,8 +57,8 @@ one_list_of among taken words more a b =
     a.words_are
     ∙ ap (map (word_with taken))
     (one_ascending a.partners b.partners a.ascending b.ascending
-    (λ x h. contains_in b.partners x ((b.each x).1 ((a.each x).0 (in_contains a.partners x h))))
-    (λ x h. contains_in a.partners x ((a.each x).1 ((b.each x).0 (in_contains b.partners x h)))))
+    (λ x h. In-from_contains b.partners x ((b.each x).1 ((a.each x).0 (contains_from_In a.partners x h))))
+    (λ x h. In-from_contains a.partners x ((a.each x).1 ((b.each x).0 (contains_from_In b.partners x h)))))
     ∙ sym b.words_are
 
 -- ---- one half more

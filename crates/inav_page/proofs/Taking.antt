@@ -8,7 +8,7 @@ use Rattle.inav_page.specs.declared.signal.Signal.{Signal}
 use Rattle.inav_page.specs.Heard.{StampedHalf}
 use Rattle.inav_page.specs.Keeping.{stamped}
 use Rattle.inav_page.specs.Mirrors.{half_of, place_of, IsKey, AreKeys}
-use Rattle.inav_page.proofs.Membership.{in_contains, contains_in, in_map, map_in}
+use Rattle.inav_page.proofs.Membership.{contains_from_In, In-from_contains, in_map, map_in}
 use Rattle.inav_page.proofs.Partners.{same_key, half_of_place}
 
 pub satellite_is : (sat : Satellite) (number : ℕ) → sat.system ≡ Gal → number ≡ sat.number → record { system = Gal; number = number } ≡ sat
@@ -32,13 +32,13 @@ pub key_in : (keys : List (ℕ × ℕ)) (key : ℕ × ℕ) (taken : StampedHalf)
     → Contains (map half_of keys) taken
 key_in keys key taken is there =
     let P : StampedHalf → Type 0 = Contains (map half_of keys) in
-    subst P is (in_contains (map half_of keys) (half_of key) (in_map half_of keys key (contains_in keys key there)))
+    subst P is (contains_from_In (map half_of keys) (half_of key) (in_map half_of keys key (In-from_contains keys key there)))
 
 pub in_key : (keys : List (ℕ × ℕ)) (key : ℕ × ℕ) (taken : StampedHalf) → AreKeys keys → IsKey key → half_of key ≡ taken
     → Contains (map half_of keys) taken → Contains keys key
 in_key keys key taken are own is there =
-    let found = map_in half_of keys taken (contains_in (map half_of keys) taken there) in
-    let stands = in_contains keys found.0 found.1 in
+    let found = map_in half_of keys taken (In-from_contains (map half_of keys) taken there) in
+    let stands = contains_from_In keys found.0 found.1 in
     let P : ℕ × ℕ → Type 0 = Contains keys in
     subst P (same_key found.0 key (are found.0 stands) own (found.2 ∙ sym is)) stands
 
@@ -61,21 +61,21 @@ pub kept_after : (old inserted new : List (ℕ × ℕ)) (key : ℕ × ℕ) (take
 kept_after old inserted new key taken window greatest from is puts forgets from_is other =
     let Goes : StampedHalf → Type 0 = λ h. (Contains (map half_of old) h ⊎ (taken ≡ h)) × (greatest ≤ h.stamp + window + 1) in
     let mapped : (keys : List (ℕ × ℕ)) (q : ℕ × ℕ) → Contains keys q → Contains (map half_of keys) (half_of q) =
-    λ keys q h. in_contains (map half_of keys) (half_of q) (in_map half_of keys q (contains_in keys q h)) in
+    λ keys q h. contains_from_In (map half_of keys) (half_of q) (in_map half_of keys q (In-from_contains keys q h)) in
     let stays : (q : ℕ × ℕ) → Contains inserted q → greatest ≤ q.0 / 2 ^ 24 / 128 + window + 1 → Contains (map half_of new) (half_of q) =
     λ q there recent. mapped new q ((forgets q).1 (there, late_enough q.0 window greatest from recent from_is)) in (
-      λ h. let q = map_in half_of new other (contains_in (map half_of new) other h) in
-          let both = (forgets q.0).0 (in_contains new q.0 q.1) in
+      λ h. let q = map_in half_of new other (In-from_contains (map half_of new) other h) in
+          let both = (forgets q.0).0 (contains_from_In new q.0 q.1) in
           let recent = recent_enough q.0.0 window greatest from both.1 from_is in
           let there : Contains (map half_of old) (half_of q.0) ⊎ (taken ≡ half_of q.0) =
           ⊎_elim (λ (was : Contains old q.0). inl (mapped old q.0 was)) (λ (same : key ≡ q.0). inr (sym is ∙ ap half_of same)) ((puts q.0).0 both.0) in
           subst Goes q.2 (there, recent),
       λ h. ⊎_elim
           (λ (was : Contains (map half_of old) other).
-          let q = map_in half_of old other (contains_in (map half_of old) other was) in
+          let q = map_in half_of old other (In-from_contains (map half_of old) other was) in
           let recent : greatest ≤ q.0.0 / 2 ^ 24 / 128 + window + 1 = omega (arith, h.1, ap (λ s. s.stamp) q.2) in
           let P : StampedHalf → Type 0 = Contains (map half_of new) in
-          subst P q.2 (stays q.0 ((puts q.0).1 (inl (in_contains old q.0 q.1))) recent))
+          subst P q.2 (stays q.0 ((puts q.0).1 (inl (contains_from_In old q.0 q.1))) recent))
           (λ (same : taken ≡ other).
           let recent : greatest ≤ key.0 / 2 ^ 24 / 128 + window + 1 = omega (arith, h.1, ap (λ s. s.stamp) (is ∙ same)) in
           let P : StampedHalf → Type 0 = Contains (map half_of new) in
