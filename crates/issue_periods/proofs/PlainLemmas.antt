@@ -19,7 +19,7 @@ use Rattle.period_items.proofs.Surface.{AreLater, IsPeriod-same, IsClosed-same}
 use Rattle.period_items.proofs.Surface.{before_irr}
 use Rattle.period_items.proofs.Surface.{all_values, end_from_quiet, quiet_from_end, verdict_at-is}
 use Rattle.period_items.proofs.Surface.{place_at-is, is-place_at}
-use Rattle.period_items.proofs.Surface.{with_part}
+use Rattle.period_items.proofs.Surface.{with_part, later_part}
 use Rattle.issue_periods.proofs.GivenLemmas.{after_trans, NoneDue-take, NoneDue-give}
 
 -- behind the last one given, tested
@@ -141,12 +141,6 @@ stands_given s new at mark q h l after ep ew em el et en = record {
 }
 
 -- after a part taken
-later_one : (mark : ℕ) (parts : List Part) (p : Part) → mark ≤ p.stamp → AreLater mark (Contains parts) (Contains (parts ++ p ∷ []))
-later_one mark parts p l = record {
-  keeps = (with_part parts p).keeps;
-  later = λ q i. elim ((with_part parts p).only q i) [ inl o ↦ inl o | inr e ↦ inr (subst (λ (x : Part). mark ≤ x.stamp) e l) ];
-}
-
 pub stands_taken : (s new : PlainState) (at : Standing) (p : Part) → PlainStandsFor s at → at.mark ≤ p.stamp → IsPartValue p → new.parts ≡ s.parts ++ p ∷ [] → new.window ≡ s.window → new.mark ≡ s.mark → new.last ≡ s.last
     → new.least ≡ min s.least p.stamp → new.none_at ≡ s.none_at → PlainStandsFor new (taking p at)
 stands_taken s new at p h l v ep ew em el et en = record {
@@ -164,7 +158,7 @@ stands_taken s new at p h l v ep ew em el et en = record {
   least = subst (λ (ps : List Part). All (λ x. new.least ≤ x.stamp) ps) (sym ep)
       (All-push (λ x. new.least ≤ x.stamp) s.parts p (All-weaker (λ x. s.least ≤ x.stamp) (λ x. new.least ≤ x.stamp) (λ x k. omega (arith, et)) s.parts h.least) (omega (arith, et)));
   none_due = subst (λ (n : ℕ). NoneDue new.window (Contains (at.parts ++ p ∷ [])) n at.last) (sym en) (subst (λ (w : ℕ). NoneDue w (Contains (at.parts ++ p ∷ [])) s.none_at at.last) (sym ew)
-      (NoneDue-take s.window s.none_at at.mark (Contains at.parts) (Contains (at.parts ++ p ∷ [])) at.last (later_one at.mark at.parts p l) h.none_by h.none_due));
+      (NoneDue-take s.window s.none_at at.mark (Contains at.parts) (Contains (at.parts ++ p ∷ [])) at.last (later_part at.mark at.parts p l) h.none_by h.none_due));
   none_by = subst (λ (n : ℕ). n ≤ at.mark) (sym en) h.none_by;
 }
 

@@ -10,6 +10,7 @@ use Rattle.slot_assembly.specs.declared.order.Rank.{Rank}
 use Rattle.slot_assembly.specs.declared.order.ByEnd.{ByEnd}
 use Rattle.slot_assembly.specs.declared.order.ByKey.{ByKey}
 use Rattle.slot_assembly.specs.declared.slot.Slot.{Slot}
+use Rattle.slot_assembly.specs.declared.slot.PackedSlot.{PackedSlot}
 use Rattle.slot_assembly.specs.contracts.order.ByEndOrd.TheImpl.{cmp-value as end_cmp}
 use Rattle.slot_assembly.specs.contracts.order.ByKeyOrd.TheImpl.{cmp-value as key_cmp}
 use Rattle.slot_assembly.specs.Order.{by_end, by_key}
@@ -37,11 +38,11 @@ true_rest : (b n o : Bool) → n ≡ cond b false o → b ≡ false → IsTrue o
 true_rest true n o e f h = absurd (both_ways true f refl)
 true_rest false n o e f h = subst IsTrue (sym e) h
 
-pub left_open : (old new : List (ByEnd × Slot)) (x q : ByEnd) (s : Slot) → IsChanged old x None new → kept_at new q ≡ Some s → (is_at (end_cmp.it x) q ≡ false) × (kept_at old q ≡ Some s)
+pub left_open : (old new : List (ByEnd × PackedSlot)) (x q : ByEnd) (s : Slot) → IsChanged old x None new → kept_at new q ≡ Some s → (is_at (end_cmp.it x) q ≡ false) × (kept_at old q ≡ Some s)
 left_open old new x q s c h = some_left (is_at (end_cmp.it x) q) (kept_at new q) (kept_at old q) s (c q) h
 
 -- a slot and its entry in the index go together
-pub indexed_drop : (slots slots' : List (ByEnd × Slot)) (ends ends' : List ByKey) (r : Rank) (e : ℕ) → AreIndexed slots ends
+pub indexed_drop : (slots slots' : List (ByEnd × PackedSlot)) (ends ends' : List ByKey) (r : Rank) (e : ℕ) → AreIndexed slots ends
     → IsStrictlySortedBy end_cmp.it (keys_of slots') → IsStrictlySortedBy key_cmp.it ends' → IsChanged slots (by_end r e) None slots'
     → ((k : ByKey) → list_any (is_at (key_cmp.it k)) ends' ≡ cond (is_at (key_cmp.it (by_key r e)) k) false (list_any (is_at (key_cmp.it k)) ends)) → AreIndexed slots' ends'
 indexed_drop slots slots' ends ends' r e h o o' c d = record {
@@ -57,7 +58,7 @@ indexed_drop slots slots' ends ends' r e h o o' c d = record {
 }
 
 -- what the index finds
-pub found_first : (slots : List (ByEnd × Slot)) (ends : List ByKey) (r : Rank) (from e : ℕ) (o : Option Slot) → AreIndexed slots ends → HasEnd ends r e → from ≤ e
+pub found_first : (slots : List (ByEnd × PackedSlot)) (ends : List ByKey) (r : Rank) (from e : ℕ) (o : Option Slot) → AreIndexed slots ends → HasEnd ends r e → from ≤ e
     → ((f : ℕ) → HasEnd ends r f → from ≤ f → e ≤ f) → o ≡ kept_at slots (by_end r e) → IsFirstFrom slots r from o
 found_first slots ends r from e None h i l first k = absurd (both_ways false refl (subst IsSome (sym k) (h.has r e i)))
 found_first slots ends r from e (Some s) h i l first k =
@@ -68,11 +69,11 @@ found_first slots ends r from e (Some s) h i l first k =
       first = λ f g m. subst (λ (x : ℕ). x ≤ f) same (first f (h.had r f g) m);
     }
 
-pub found_none : (slots : List (ByEnd × Slot)) (ends : List ByKey) (r : Rank) (from : ℕ) → AreIndexed slots ends → ((f : ℕ) → HasEnd ends r f → f < from) → IsFirstFrom slots r from None
+pub found_none : (slots : List (ByEnd × PackedSlot)) (ends : List ByKey) (r : Rank) (from : ℕ) → AreIndexed slots ends → ((f : ℕ) → HasEnd ends r f → f < from) → IsFirstFrom slots r from None
 found_none slots ends r from h none = λ e k. none e (h.had r e k)
 
 -- the first entry is the first slot
-lead_at : (slots : List (ByEnd × Slot)) (x : ByEnd) (s : Slot) → x ≡ at_of s → kept_at slots x ≡ Some s → ((q : ByEnd) → IsSome (kept_at slots q) → is_gt (end_cmp.it x q) ≡ false)
+lead_at : (slots : List (ByEnd × PackedSlot)) (x : ByEnd) (s : Slot) → x ≡ at_of s → kept_at slots x ≡ Some s → ((q : ByEnd) → IsSome (kept_at slots q) → is_gt (end_cmp.it x q) ≡ false)
     → IsFirstOpen slots s × ((t : Slot) → IsOpen slots t → s.end ≤ t.end)
 lead_at slots x s e k low =
     let least : (t : Slot) → IsOpen slots t → is_gt (end_cmp.it (at_of s) (at_of t)) ≡ false =
@@ -81,6 +82,6 @@ lead_at slots x s e k low =
       λ t i. not_sooner s t (least t i),
     )
 
-pub lead : (slots : List (ByEnd × Slot)) (ends : List ByKey) (x : ByEnd) (s : Slot) → AreIndexed slots ends → kept_at slots x ≡ Some s → ((q : ByEnd) → IsSome (kept_at slots q) → is_gt (end_cmp.it x q) ≡ false)
+pub lead : (slots : List (ByEnd × PackedSlot)) (ends : List ByKey) (x : ByEnd) (s : Slot) → AreIndexed slots ends → kept_at slots x ≡ Some s → ((q : ByEnd) → IsSome (kept_at slots q) → is_gt (end_cmp.it x q) ≡ false)
     → IsFirstOpen slots s × ((t : Slot) → IsOpen slots t → s.end ≤ t.end)
 lead slots ends x s h k low = lead_at slots x s (h.own x s k) k low

@@ -16,8 +16,12 @@ use Rattle.slot_assembly.specs.Healths.{heard_at, AreStamped, IsHeardChanged}
 use Rattle.slot_assembly.proofs.SatOrder.{same_stamp, heard_is}
 use Rattle.period_items.proofs.Surface.{some_is}
 
-abbrev Health : Type 0
+-- a health with its stamp, and those that are kept
+abbrev pub Health : Type 0
 Health = ℕ × GalHealth × SentTag
+
+abbrev pub HeardList : Type 0
+HeardList = List (BySat × Health)
 
 put_own : (b : Bool) (n o : Option Health) (p x : BySat) (sat : Satellite) (h v : Health) → n ≡ cond b (Some h) o → (b ≡ true → p ≡ x) → p ≡ place_of_health sat h
     → (o ≡ Some v → (t : Satellite) × (x ≡ place_of_health t v)) → n ≡ Some v → (t : Satellite) × (x ≡ place_of_health t v)
@@ -32,7 +36,7 @@ put_had : (b : Bool) (s t : Bool) (n o : Option Health) (h : Health) → s ≡ c
 put_had true s t n o h e f was k = e
 put_had false s t n o h e f was k = subst IsTrue (sym e) (was (subst IsSome f k))
 
-pub stamped_put : (heard heard' : List (BySat × (ℕ × GalHealth × SentTag))) (stamps stamps' : List ByStamp) (sat : Satellite) (h : ℕ × GalHealth × SentTag) → AreStamped heard stamps
+pub stamped_put : (heard heard' : HeardList) (stamps stamps' : List ByStamp) (sat : Satellite) (h : Health) → AreStamped heard stamps
     → IsStrictlySortedBy sat_cmp.it (keys_of heard') → IsStrictlySortedBy stamp_cmp.it stamps' → IsHeardChanged heard (place_of_health sat h) (Some h) heard'
     → ((k : ByStamp) → list_any (is_at (stamp_cmp.it k)) stamps' ≡ cond (is_at (stamp_cmp.it (by_stamp (place_of_health sat h))) k) true (list_any (is_at (stamp_cmp.it k)) stamps)) → AreStamped heard' stamps'
 stamped_put heard heard' stamps stamps' sat h k o o' c d =
@@ -48,6 +52,6 @@ stamped_put heard heard' stamps stamps' sat h k o o' c d =
     }
 
 -- what two windows leave, while the oldest go
-pub record IsThinned (window mark : ℕ) (old new : List (BySat × (ℕ × GalHealth × SentTag))) : Type 0 where
+pub record IsThinned (window mark : ℕ) (old new : HeardList) : Type 0 where
   pub low : (x : BySat) → x.stamp + 2 * window < mark → (heard_at new x ≡ heard_at old x) ⊎ (heard_at new x ≡ None)
   pub stays : (x : BySat) → mark ≤ x.stamp + 2 * window → heard_at new x ≡ heard_at old x
