@@ -1,13 +1,11 @@
 -- The health that is kept: after a part taken, after forgetting, and that it gives what counts near an end.
-use Rattle.std.proofs.Common.{◌≡◌, ℕ, ◌+◌, ◌*◌, ◌≤◌, ◌⊎◌, inl, inr, Bool, true, false, cond, ◌&&◌, nat_le, if◌then◌else◌, List, Option, None, Some, IsSome, refl, sym, ap, subst, ◌∙◌, arith}
+use Rattle.std.proofs.Common.{◌≡◌, ℕ, ◌+◌, ◌*◌, ◌≤◌, ◌⊎◌, inl, inr, Bool, true, false, cond, ◌&&◌, nat_le, if◌then◌else◌, Option, None, Some, IsSome, refl, sym, ap, subst, ◌∙◌, arith}
 use Rattle.std.specs.BTreeMap.{is_at}
 use Rattle.std.specs.BTreeMap.Range.{IsLeBy, IsLtBy}
 use Rattle.std.proofs.lemmas.Bool.{both_ways, cases_lt, and_parts, and_from, leb-true, le-leb}
 use Rattle.nav_eph.specs.Satellite.{Satellite}
 use Rattle.nav_eph.specs.Numbers.{health_number}
 use Rattle.nav_eph.specs.Values.{IsPartValue}
-use Rattle.nav_eph.specs.declared.galileo.GalHealth.{GalHealth}
-use Rattle.nav_eph.specs.declared.tag.SentTag.{SentTag}
 use Rattle.nav_eph.specs.declared.part.Body.{Body}
 use Rattle.nav_eph.specs.declared.part.Body.TheVariants.{GalHealth as OfHealth}
 use Rattle.nav_eph.specs.declared.part.Part.{Part}
@@ -15,7 +13,6 @@ use Rattle.nav_eph.proofs.Surface.{one_health}
 use Rattle.period_items.specs.declared.key.Key.{Key}
 use Rattle.period_items.specs.declared.key.Key.TheVariants.{Gps, Gal, GpsIon, GalIon}
 use Rattle.period_items.specs.Digests.{IsBestHealth}
-use Rattle.period_items.specs.Mirrors.{or_else}
 use Rattle.period_items.specs.Parts.{key_in, key_of, health_in, health_of, health_numbers, same_sat}
 use Rattle.period_items.specs.Values.{HasValue, IsBest, IsEarlier, IsLater}
 use Rattle.period_items.specs.Verdicts.{IsUpToEnd, IsBehindEnd, IsHealthBefore, IsHealthBehind}

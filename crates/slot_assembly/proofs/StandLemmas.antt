@@ -1,11 +1,9 @@
 -- What the assembly stands for after each step.
-use Rattle.std.proofs.Common.{◌≡◌, ℕ, ◌≤◌, inl, inr, List, [], ◌∷◌, ◌++◌, Option, None, Some, IsSome, Contains, refl, sym, ap, subst, ◌∙◌, arith}
+use Rattle.std.proofs.Common.{◌≡◌, ℕ, ◌≤◌, inl, inr, List, [], ◌∷◌, ◌++◌, Option, None, IsSome, Contains, refl, sym, ap, subst, ◌∙◌, arith}
 use Rattle.std.specs.List.Sorted.{IsStrictlySortedBy}
 use Rattle.std.specs.Map.{keys_of}
 use Rattle.std.proofs.lemmas.List.Elements.{All-push}
 use Rattle.nav_eph.specs.Values.{IsPartValue}
-use Rattle.nav_eph.specs.declared.galileo.GalHealth.{GalHealth}
-use Rattle.nav_eph.specs.declared.tag.SentTag.{SentTag}
 use Rattle.nav_eph.specs.declared.items.NavItem.{NavItem}
 use Rattle.nav_eph.specs.declared.part.Part.{Part}
 use Rattle.period_laws.proofs.Surface.{Same, IsEnd-same, IsEndOf-same}
@@ -14,13 +12,11 @@ use Rattle.period_items.specs.declared.key.Place.{Place}
 use Rattle.period_items.specs.Parts.{key_of, health_in}
 use Rattle.period_items.specs.Periods.{IsHeardAt, IsMember}
 use Rattle.period_items.proofs.Surface.{none_some, key_value, period_key, all_values, IsDigest-same, known_parts, with_part, joined_part, later_part, IsWithPart}
-use Rattle.issue_periods.specs.Given.{GivenBelow}
 use Rattle.issue_periods.specs.Standing.{Standing, NoneDue, taking, reaching}
 use Rattle.issue_periods.proofs.Surface.{after_low, below_rise, NoneDue-take}
 use Rattle.slot_assembly.specs.declared.order.Rank.{Rank}
 use Rattle.slot_assembly.specs.declared.order.ByEnd.{ByEnd}
 use Rattle.slot_assembly.specs.declared.order.ByKey.{ByKey}
-use Rattle.slot_assembly.specs.declared.order.BySat.{BySat}
 use Rattle.slot_assembly.specs.declared.order.ByStamp.{ByStamp}
 use Rattle.slot_assembly.specs.declared.slot.Slot.{Slot}
 use Rattle.slot_assembly.specs.declared.slot.PackedSlot.{PackedSlot}

@@ -54,7 +54,8 @@ impl PackedSlot {
     pub(crate) fn of(alloc: Global, slot: Slot) -> Result<PackedSlot, AllocError>
         ensures { IfOk result (λ packed. slot_of packed ≡ slot) }
     {
-        match slot.digest {
+        let digest = slot.digest;
+        match digest {
             Digest::Ion(sending) => Ok(PackedSlot::Ionosphere(IonSlot {
                 key: slot.key,
                 start: slot.start,

@@ -69,6 +69,14 @@ fn next_end(ends: &BTreeSet<ByKey>, rank: Rank, from: u64) -> Option<u64>
     }
 }
 
+// The slot that is kept at a place.
+fn slot_at(slots: &BTreeMap<ByEnd, PackedSlot>, at: ByEnd) -> Option<Slot>
+    ensures { result ≡ kept_at slots.now.entries at }
+{
+    let packed = slots.get(&at)?;
+    Some(packed.slot())
+}
+
 impl OpenSlots {
     // The first slot of a key that ends from a stamp on.
     fn first_from(&self, rank: Rank, from: u64) -> Option<Slot>
@@ -77,10 +85,7 @@ impl OpenSlots {
     {
         match next_end(&self.ends, rank, from) {
             None => None,
-            Some(end) => match self.slots.get(&rank.at_end(end)) {
-                None => None,
-                Some(packed) => Some(packed.slot()),
-            },
+            Some(end) => slot_at(&self.slots, rank.at_end(end)),
         }
     }
 
