@@ -49,6 +49,11 @@ pub enum PackedSlot {
     Ionosphere(IonSlot),
 }
 
+// What a slot takes in the map, and what an ephemeris takes in its box besides.
+const _: () = prove!(size_of::<PackedSlot>() <= 112);
+
+const _: () = prove!(size_of::<Slot>() <= 456);
+
 impl PackedSlot {
     // Packs a slot.
     pub(crate) fn of(alloc: Global, slot: Slot) -> Result<PackedSlot, AllocError>
