@@ -23,7 +23,7 @@ use Rattle.slot_assembly.specs.declared.slot.PackedSlot.{PackedSlot}
 use Rattle.slot_assembly.specs.contracts.order.RankOrd.TheImpl.{cmp-value as rank_cmp}
 use Rattle.slot_assembly.specs.Slots.{at_of, slot_place, AreIndexed, IsOneSlot, IsTaken, AreSameSlots, IsFirstDue}
 use Rattle.slot_assembly.specs.Healths.{AreStamped, IsSameHealth, IsHeard, IsForgotten}
-use Rattle.slot_assembly.specs.Standing.{SlotsState, SlotsStandFor, AreSlots, AreKept, AreSameItems}
+use Rattle.slot_assembly.specs.Standing.{SlotsState, SlotsStandFor, AreSlots, AreKept, AreKnown, AreSameItems}
 use Rattle.slot_assembly.proofs.StepLemmas.{slots_taken}
 use Rattle.slot_assembly.proofs.KeptLemmas.{kept_keyed, kept_said, kept_forgotten}
 use Rattle.slot_assembly.proofs.HealthChanges.{HeardList}
@@ -46,15 +46,17 @@ kept_same w n parts old new same h = record {
   every = λ sat v i l. same _ ∙ h.every sat v i l;
 }
 
-pub stands_slots : (s : SlotsState) (at : Standing) (slots : SlotList) (ends : List ByKey) → AreSameSlots s.slots slots → AreIndexed slots ends → SlotsStandFor s at
-    → SlotsStandFor (record { reference = s.reference; window = s.window; slots = slots; ends = ends; heard = s.heard; stamps = s.stamps; mark = s.mark; last = s.last; none_at = s.none_at; known = s.known }) at
-stands_slots s at slots ends same i h = record {
-  slots = slots_same s.window (Contains at.parts) at.last s.slots slots same h.slots;
-  indexed = i;
-  kept = h.kept;
-  stamped = h.stamped;
-  known = h.known;
-  known_ordered = h.known_ordered;
+-- the same parts, mark and period given last, with other content that stands for them
+stands_as : (s : SlotsState) (at : Standing) (slots : SlotList) (ends : List ByKey) (heard : HeardList) (stamps : List ByStamp) (known : List (Rank × NavItem)) → AreSlots s.window (Contains at.parts) at.last slots → AreIndexed slots ends
+    → AreKept s.window s.none_at (Contains at.parts) heard → AreStamped heard stamps → AreKnown s.reference s.window (Contains at.parts) at.last known → IsStrictlySortedBy rank_cmp.it (keys_of known) → SlotsStandFor s at
+    → SlotsStandFor (record { reference = s.reference; window = s.window; slots = slots; ends = ends; heard = heard; stamps = stamps; mark = s.mark; last = s.last; none_at = s.none_at; known = known }) at
+stands_as s at slots ends heard stamps known are_slots indexed kept stamped are_known known_ordered h = record {
+  slots = are_slots;
+  indexed = indexed;
+  kept = kept;
+  stamped = stamped;
+  known = are_known;
+  known_ordered = known_ordered;
   at_mark = h.at_mark;
   at_last = h.at_last;
   given = h.given;
@@ -62,42 +64,22 @@ stands_slots s at slots ends same i h = record {
   none_by = h.none_by;
   values = h.values;
 }
+
+pub stands_slots : (s : SlotsState) (at : Standing) (slots : SlotList) (ends : List ByKey) → AreSameSlots s.slots slots → AreIndexed slots ends → SlotsStandFor s at
+    → SlotsStandFor (record { reference = s.reference; window = s.window; slots = slots; ends = ends; heard = s.heard; stamps = s.stamps; mark = s.mark; last = s.last; none_at = s.none_at; known = s.known }) at
+stands_slots s at slots ends same i h =
+    stands_as s at slots ends s.heard s.stamps s.known (slots_same s.window (Contains at.parts) at.last s.slots slots same h.slots) i h.kept h.stamped h.known h.known_ordered h
 
 pub stands_healths : (s : SlotsState) (at : Standing) (heard : HeardList) (stamps : List ByStamp) → IsSameHealth s.heard heard → AreStamped heard stamps → SlotsStandFor s at
     → SlotsStandFor (record { reference = s.reference; window = s.window; slots = s.slots; ends = s.ends; heard = heard; stamps = stamps; mark = s.mark; last = s.last; none_at = s.none_at; known = s.known }) at
-stands_healths s at heard stamps same i h = record {
-  slots = h.slots;
-  indexed = h.indexed;
-  kept = kept_same s.window s.none_at (Contains at.parts) s.heard heard same h.kept;
-  stamped = i;
-  known = h.known;
-  known_ordered = h.known_ordered;
-  at_mark = h.at_mark;
-  at_last = h.at_last;
-  given = h.given;
-  none_due = h.none_due;
-  none_by = h.none_by;
-  values = h.values;
-}
+stands_healths s at heard stamps same i h =
+    stands_as s at s.slots s.ends heard stamps s.known h.slots h.indexed (kept_same s.window s.none_at (Contains at.parts) s.heard heard same h.kept) i h.known h.known_ordered h
 
 pub stands_known : (s : SlotsState) (at : Standing) (known : List (Rank × NavItem)) → AreSameItems s.known known → IsStrictlySortedBy rank_cmp.it (keys_of known) → SlotsStandFor s at
     → SlotsStandFor (record { reference = s.reference; window = s.window; slots = s.slots; ends = s.ends; heard = s.heard; stamps = s.stamps; mark = s.mark; last = s.last; none_at = s.none_at; known = known }) at
-stands_known s at known same i h = record {
-  slots = h.slots;
-  indexed = h.indexed;
-  kept = h.kept;
-  stamped = h.stamped;
-  known = are_known_same s.reference s.window (Contains at.parts) at.last s.known known same h.known;
-  known_ordered = i;
-  at_mark = h.at_mark;
-  at_last = h.at_last;
-  given = h.given;
-  none_due = h.none_due;
-  none_by = h.none_by;
-  values = h.values;
-}
+stands_known s at known same i h =
+    stands_as s at s.slots s.ends s.heard s.stamps known h.slots h.indexed h.kept h.stamped (are_known_same s.reference s.window (Contains at.parts) at.last s.known known same h.known) i h
 
--- later parts
 -- a part of a key taken
 are_taken : (s : SlotsState) (at : Standing) (p : Part) (one : Slot) (slots : SlotList) → SlotsStandFor s at → at.mark ≤ p.stamp → IsPartValue p → IsOneSlot p one → IsTaken s.slots one s.window slots
     → AreSlots s.window (Contains (at.parts ++ p ∷ [])) at.last slots
