@@ -2,9 +2,9 @@
 use Rattle.std.proofs.Common.{◌≡◌, ℕ, ◌+◌, ◌<◌, ◌≤◌, ◌⊎◌, inl, inr, List, [], ◌∷◌, ◌++◌, Option, None, Some, Contains, refl, sym, subst, ◌∙◌, arith}
 use Rattle.std.specs.List.{AllByRecursion}
 use Rattle.std.proofs.lemmas.Bool.{cases_lt}
+use Rattle.std.proofs.lemmas.List.Elements.{Contains-append_left, Contains-push, Contains-push_cases}
 use Rattle.nav_eph.specs.declared.part.Part.{Part}
-use Rattle.period_laws.proofs.Surface.{In, In-from_contains, contains_from_In, In-append_left, In-append_right}
-use Rattle.period_laws.proofs.Surface.{one_more}
+use Rattle.period_laws.proofs.Surface.{In, In-from_contains, contains_from_In}
 use Rattle.period_items.specs.declared.key.Place.{Place}
 use Rattle.period_items.specs.declared.closed.Closed.{Closed}
 use Rattle.nav_eph.specs.Values.{IsPartValue}
@@ -79,9 +79,9 @@ pub HasGiven-more : (r w : ℕ) (parts : Part → Type 0) (mark : ℕ) (last : O
     → IsNext r w parts mark last c → HasGiven r w parts mark last given → HasGiven r w parts mark (Some (closed_place c)) (given ++ c ∷ [])
 HasGiven-more r w parts mark last given c values next h = record {
   ascending = ascending_push given c h.ascending (λ d i. h.below d (contains_from_In given d i) (closed_place c) next.due.after);
-  each = λ d i. elim (one_more given c d i) [ inl o ↦ h.each d o | inr e ↦ subst (IsClosed r w parts) e next.verdict ];
-  low = λ d i. elim (one_more given c d i) [ inl o ↦ h.low d o | inr e ↦ subst (λ (z : Closed). z.end + w < mark) e next.due.low ];
-  below = λ d i q l. elim (one_more given c d i) [
+  each = λ d i. elim (Contains-push_cases given c d i) [ inl o ↦ h.each d o | inr e ↦ subst (IsClosed r w parts) e next.verdict ];
+  low = λ d i. elim (Contains-push_cases given c d i) [ inl o ↦ h.low d o | inr e ↦ subst (λ (z : Closed). z.end + w < mark) e next.due.low ];
+  below = λ d i q l. elim (Contains-push_cases given c d i) [
     | inl o ↦ before_trans (closed_place d) (closed_place c) q (h.below d o (closed_place c) next.due.after) l
     | inr e ↦ subst (λ (z : Closed). IsBefore (closed_place z) q) e l
   ];
@@ -89,16 +89,16 @@ HasGiven-more r w parts mark last given c values next h = record {
     | inl after ↦ elim (cases_place q (closed_place c) (period_key w parts q values hq) (period_key w parts (closed_place c) values next.due.period)) [
       | inl b ↦ absurd (next.least q (record { period = hq; low = l; after = after }) b)
       | inr o ↦ elim o [
-        | inl e ↦ inr (c, contains_from_In (given ++ c ∷ []) c (In-append_right given (c ∷ []) c (inl refl)), sym e)
+        | inl e ↦ inr (c, Contains-push given c, sym e)
         | inr b ↦ inl b
       ]
     ]
-    | inr f ↦ inr (f.0, contains_from_In (given ++ c ∷ []) f.0 (In-append_left given (c ∷ []) f.0 (In-from_contains given f.0 f.1)), f.2)
+    | inr f ↦ inr (f.0, Contains-append_left given (c ∷ []) f.0 f.1, f.2)
   ];
   last_low = next.due.low;
 }
 
-below_rise : (w mark higher : ℕ) (last : Option Place) → mark ≤ higher → GivenBelow w mark last → GivenBelow w higher last
+pub below_rise : (w mark higher : ℕ) (last : Option Place) → mark ≤ higher → GivenBelow w mark last → GivenBelow w higher last
 below_rise w mark higher None l g = tt
 below_rise w mark higher (Some x) l g = omega arith
 

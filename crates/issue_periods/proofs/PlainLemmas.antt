@@ -15,11 +15,11 @@ use Rattle.period_items.specs.PeriodsOf.{quiet, place_at, is_before, verdict_at,
 use Rattle.issue_periods.specs.Plain.{PlainState, PlainStandsFor, is_after, due, count_after, left_of, plain_left}
 use Rattle.period_items.proofs.Surface.{earlier_decides, is_below-true, below-is_below}
 use Rattle.period_items.proofs.Surface.{Passing, best_among-is, IsBest-same}
-use Rattle.period_items.proofs.Surface.{AreLater, IsPeriod-same, IsClosed-same}
+use Rattle.period_items.proofs.Surface.{IsPeriod-same, IsClosed-same}
 use Rattle.period_items.proofs.Surface.{before_irr}
 use Rattle.period_items.proofs.Surface.{all_values, end_from_quiet, quiet_from_end, verdict_at-is}
 use Rattle.period_items.proofs.Surface.{place_at-is, is-place_at}
-use Rattle.period_items.proofs.Surface.{with_part}
+use Rattle.period_items.proofs.Surface.{with_part, later_part}
 use Rattle.issue_periods.proofs.GivenLemmas.{after_trans, NoneDue-take, NoneDue-give}
 
 -- behind the last one given, tested
@@ -97,56 +97,37 @@ none_old s at mark h l = λ q due.
     let p = due.period.heard in
     omega (arith, due.low, All-contains (λ x. s.least ≤ x.stamp) s.parts p.part h.least (h.keeps p.part p.here), p.at_stamp)
 
--- after None it stands for the mark
-pub stands_reached : (s new : PlainState) (at : Standing) (mark : ℕ) → PlainStandsFor s at → at.mark ≤ mark → new.parts ≡ s.parts → new.window ≡ s.window → new.mark ≡ mark → new.last ≡ s.last → new.least ≡ s.least → new.none_at ≡ s.none_at
-    → PlainStandsFor new (reaching mark at)
-stands_reached s new at mark h l ep ew em el et en = record {
-  keeps = λ p i. subst (λ (ps : List Part). Contains ps p) (sym ep) (h.keeps p i);
-  keeps_no_more = λ p i. h.keeps_no_more p (subst (λ (ps : List Part). Contains ps p) ep i);
-  at_mark = em;
-  at_last = el ∙ h.at_last;
-  values = subst (λ (ps : List Part). All IsPartValue ps) (sym ep) h.values;
-  least = subst (λ (ps : List Part). All (λ p. new.least ≤ p.stamp) ps) (sym ep) (subst (λ (n : ℕ). All (λ p. n ≤ p.stamp) s.parts) (sym et) h.least);
-  none_due = subst (λ (n : ℕ). NoneDue new.window (Contains at.parts) n at.last) (sym en) (subst (λ (w : ℕ). NoneDue w (Contains at.parts) s.none_at at.last) (sym ew) h.none_due);
-  none_by = omega (arith, h.none_by);
-}
-
--- and notes it, where all parts were searched
-pub stands_searched : (s new : PlainState) (at : Standing) (mark : ℕ) → PlainStandsFor s at → NoneDue s.window (Contains at.parts) mark at.last → new.parts ≡ s.parts → new.window ≡ s.window → new.mark ≡ mark → new.last ≡ s.last → new.least ≡ s.least
-    → new.none_at ≡ mark → PlainStandsFor new (reaching mark at)
-stands_searched s new at mark h none ep ew em el et en = record {
-  keeps = λ p i. subst (λ (ps : List Part). Contains ps p) (sym ep) (h.keeps p i);
-  keeps_no_more = λ p i. h.keeps_no_more p (subst (λ (ps : List Part). Contains ps p) ep i);
-  at_mark = em;
-  at_last = el ∙ h.at_last;
-  values = subst (λ (ps : List Part). All IsPartValue ps) (sym ep) h.values;
-  least = subst (λ (ps : List Part). All (λ p. new.least ≤ p.stamp) ps) (sym ep) (subst (λ (n : ℕ). All (λ p. n ≤ p.stamp) s.parts) (sym et) h.least);
-  none_due = subst (λ (n : ℕ). NoneDue new.window (Contains at.parts) n at.last) (sym en) (subst (λ (w : ℕ). NoneDue w (Contains at.parts) mark at.last) (sym ew) none);
-  none_by = omega arith;
-}
-
--- after a period given
-pub stands_given : (s new : PlainState) (at : Standing) (mark : ℕ) (q : Place) → PlainStandsFor s at → at.mark ≤ mark → IsAfter at.last q → new.parts ≡ s.parts → new.window ≡ s.window → new.mark ≡ mark → new.last ≡ Some q → new.least ≡ s.least
-    → new.none_at ≡ s.none_at → PlainStandsFor new (giving mark q at)
-stands_given s new at mark q h l after ep ew em el et en = record {
+-- the same parts at another mark, with another period given last, and the mark at which there was none to give
+stands_at : (s new : PlainState) (at : Standing) (mark n : ℕ) (last : Option Place) → PlainStandsFor s at → NoneDue s.window (Contains at.parts) n last → n ≤ mark → new.parts ≡ s.parts → new.window ≡ s.window → new.mark ≡ mark → new.last ≡ last
+    → new.least ≡ s.least → new.none_at ≡ n → PlainStandsFor new (record { parts = at.parts; mark = mark; last = last })
+stands_at s new at mark n last h none by ep ew em el et en = record {
   keeps = λ p i. subst (λ (ps : List Part). Contains ps p) (sym ep) (h.keeps p i);
   keeps_no_more = λ p i. h.keeps_no_more p (subst (λ (ps : List Part). Contains ps p) ep i);
   at_mark = em;
   at_last = el;
   values = subst (λ (ps : List Part). All IsPartValue ps) (sym ep) h.values;
-  least = subst (λ (ps : List Part). All (λ p. new.least ≤ p.stamp) ps) (sym ep) (subst (λ (n : ℕ). All (λ p. n ≤ p.stamp) s.parts) (sym et) h.least);
-  none_due = subst (λ (n : ℕ). NoneDue new.window (Contains at.parts) n (Some q)) (sym en) (subst (λ (w : ℕ). NoneDue w (Contains at.parts) s.none_at (Some q)) (sym ew)
-      (NoneDue-give s.window s.none_at (Contains at.parts) at.last q after h.none_due));
-  none_by = omega (arith, h.none_by);
+  least = subst (λ (ps : List Part). All (λ p. new.least ≤ p.stamp) ps) (sym ep) (subst (λ (m : ℕ). All (λ p. m ≤ p.stamp) s.parts) (sym et) h.least);
+  none_due = subst (λ (m : ℕ). NoneDue new.window (Contains at.parts) m last) (sym en) (subst (λ (w : ℕ). NoneDue w (Contains at.parts) n last) (sym ew) none);
+  none_by = subst (λ (m : ℕ). m ≤ mark) (sym en) by;
 }
+
+-- after None it stands for the mark
+pub stands_reached : (s new : PlainState) (at : Standing) (mark : ℕ) → PlainStandsFor s at → at.mark ≤ mark → new.parts ≡ s.parts → new.window ≡ s.window → new.mark ≡ mark → new.last ≡ s.last → new.least ≡ s.least → new.none_at ≡ s.none_at
+    → PlainStandsFor new (reaching mark at)
+stands_reached s new at mark h l ep ew em el et en = stands_at s new at mark s.none_at at.last h h.none_due (omega (arith, h.none_by)) ep ew em (el ∙ h.at_last) et en
+
+-- and notes it, where all parts were searched
+pub stands_searched : (s new : PlainState) (at : Standing) (mark : ℕ) → PlainStandsFor s at → NoneDue s.window (Contains at.parts) mark at.last → new.parts ≡ s.parts → new.window ≡ s.window → new.mark ≡ mark → new.last ≡ s.last → new.least ≡ s.least
+    → new.none_at ≡ mark → PlainStandsFor new (reaching mark at)
+stands_searched s new at mark h none ep ew em el et en = stands_at s new at mark mark at.last h none (omega arith) ep ew em (el ∙ h.at_last) et en
+
+-- after a period given
+pub stands_given : (s new : PlainState) (at : Standing) (mark : ℕ) (q : Place) → PlainStandsFor s at → at.mark ≤ mark → IsAfter at.last q → new.parts ≡ s.parts → new.window ≡ s.window → new.mark ≡ mark → new.last ≡ Some q → new.least ≡ s.least
+    → new.none_at ≡ s.none_at → PlainStandsFor new (giving mark q at)
+stands_given s new at mark q h l after ep ew em el et en =
+    stands_at s new at mark s.none_at (Some q) h (NoneDue-give s.window s.none_at (Contains at.parts) at.last q after h.none_due) (omega (arith, h.none_by)) ep ew em el et en
 
 -- after a part taken
-later_one : (mark : ℕ) (parts : List Part) (p : Part) → mark ≤ p.stamp → AreLater mark (Contains parts) (Contains (parts ++ p ∷ []))
-later_one mark parts p l = record {
-  keeps = (with_part parts p).keeps;
-  later = λ q i. elim ((with_part parts p).only q i) [ inl o ↦ inl o | inr e ↦ inr (subst (λ (x : Part). mark ≤ x.stamp) e l) ];
-}
-
 pub stands_taken : (s new : PlainState) (at : Standing) (p : Part) → PlainStandsFor s at → at.mark ≤ p.stamp → IsPartValue p → new.parts ≡ s.parts ++ p ∷ [] → new.window ≡ s.window → new.mark ≡ s.mark → new.last ≡ s.last
     → new.least ≡ min s.least p.stamp → new.none_at ≡ s.none_at → PlainStandsFor new (taking p at)
 stands_taken s new at p h l v ep ew em el et en = record {
@@ -164,7 +145,7 @@ stands_taken s new at p h l v ep ew em el et en = record {
   least = subst (λ (ps : List Part). All (λ x. new.least ≤ x.stamp) ps) (sym ep)
       (All-push (λ x. new.least ≤ x.stamp) s.parts p (All-weaker (λ x. s.least ≤ x.stamp) (λ x. new.least ≤ x.stamp) (λ x k. omega (arith, et)) s.parts h.least) (omega (arith, et)));
   none_due = subst (λ (n : ℕ). NoneDue new.window (Contains (at.parts ++ p ∷ [])) n at.last) (sym en) (subst (λ (w : ℕ). NoneDue w (Contains (at.parts ++ p ∷ [])) s.none_at at.last) (sym ew)
-      (NoneDue-take s.window s.none_at at.mark (Contains at.parts) (Contains (at.parts ++ p ∷ [])) at.last (later_one at.mark at.parts p l) h.none_by h.none_due));
+      (NoneDue-take s.window s.none_at at.mark (Contains at.parts) (Contains (at.parts ++ p ∷ [])) at.last (later_part at.mark at.parts p l) h.none_by h.none_due));
   none_by = subst (λ (n : ℕ). n ≤ at.mark) (sym en) h.none_by;
 }
 

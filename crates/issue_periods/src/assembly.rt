@@ -1,5 +1,5 @@
-ghost use Rattle.std.specs.Prelude.{◌≡◌, ◌↔◌, ℕ, ◌+◌, ◌<◌, ◌≤◌, List, Contains, All, IfOk, IfSome};
-ghost use Rattle.std.specs.Prelude.{IfNone, OnOk, OnErr};
+ghost use Rattle.std.specs.Prelude.{◌≡◌, ◌↔◌, ◌+◌, ◌<◌, ◌≤◌, ℕ, List};
+ghost use Rattle.std.specs.Prelude.{Contains, All, IfOk, IfSome, IfNone, OnOk, OnErr};
 ghost use Rattle.nav_eph.specs.Values.{IsPartValue};
 ghost use Rattle.period_items.specs.Verdicts.{closed_place};
 ghost use Rattle.issue_periods.specs.Standing.{Standing, Stood, Tells, Carries, IsNext, NoneDue};

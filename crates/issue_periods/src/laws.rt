@@ -1,6 +1,7 @@
 //! Laws of assemblies: each function does nothing, and its contract is the law.
 
-ghost use Rattle.std.specs.Prelude.{◌+◌, ◌*◌, ◌<◌, ◌≤◌, ◌++◌, ℕ, List, Option, All, Contains};
+ghost use Rattle.std.specs.Prelude.{◌+◌, ◌*◌, ◌<◌, ◌≤◌, ◌++◌};
+ghost use Rattle.std.specs.Prelude.{ℕ, List, Option, All, Contains};
 ghost use Rattle.nav_eph.specs.declared.part.Part.{Part};
 ghost use Rattle.period_items.specs.declared.key.Place.{Place};
 ghost use Rattle.period_items.specs.Periods.{IsPeriod};

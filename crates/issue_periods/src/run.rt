@@ -19,7 +19,8 @@ fn give_all<A: Assembly>(assembly: &mut A, given: &mut Vec<Closed>) -> Result<()
         → A.stands_for assembly.old
         (settled (A.reference assembly.old) (A.window assembly.old) parts 0)
         → given.new.items
-        ≡ closed_of (A.reference assembly.old) (A.window assembly.old) 18446744073709551615 parts) }
+        ≡ closed_of (A.reference assembly.old) (A.window assembly.old)
+        18446744073709551615 parts) }
 {
     'giving: while let Some(closed) = assembly.next_closed(u64::MAX)? {
         given.push(closed)?;

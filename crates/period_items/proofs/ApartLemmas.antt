@@ -1,9 +1,8 @@
 -- Parts that are farther than a window before others change none of their periods, nor do the others change theirs.
 use Rattle.std.proofs.Common.{ℕ, ◌+◌, ◌<◌, ◌≤◌, ◌⊎◌, inl, inr, List, ◌++◌, Contains, All, refl, subst, arith}
-use Rattle.std.proofs.lemmas.List.Elements.{All-contains}
+use Rattle.std.proofs.lemmas.List.Elements.{All-contains, Contains-append_left, Contains-append_right, Contains-append_cases}
 use Rattle.period_laws.specs.Ends.{IsEndOf}
 use Rattle.period_laws.proofs.Surface.{Same, turned, covered, AreApart, left_end, right_end, end_cases, left_end_of, end_of_left, right_end_of, end_of_right, none_across}
-use Rattle.period_laws.proofs.Surface.{In-from_contains, contains_from_In, In-append_left, In-append_right, In-append_cases}
 use Rattle.nav_eph.specs.Satellite.{Satellite}
 use Rattle.nav_eph.specs.declared.galileo.GalHealth.{GalHealth}
 use Rattle.nav_eph.specs.declared.tag.SentTag.{SentTag}
@@ -49,12 +48,9 @@ pub splits_lists : (w mark : ℕ) (some more : List Part) → All (λ p. p.stamp
 splits_lists w mark some more low high = record {
   low = λ p i. All-contains (λ x. x.stamp + w < mark) some p low i;
   high = λ p i. All-contains (λ x. mark ≤ x.stamp) more p high i;
-  left = λ p i. contains_from_In (some ++ more) p (In-append_left some more p (In-from_contains some p i));
-  right = λ p i. contains_from_In (some ++ more) p (In-append_right some more p (In-from_contains more p i));
-  cases = λ p i. elim (In-append_cases some more p (In-from_contains (some ++ more) p i)) [
-    | inl a ↦ inl (contains_from_In some p a)
-    | inr b ↦ inr (contains_from_In more p b)
-  ];
+  left = λ p i. Contains-append_left some more p i;
+  right = λ p i. Contains-append_right some more p i;
+  cases = λ p i. Contains-append_cases some more p i;
   ends = λ key s h. covered w (IsHeardAt (Contains some) key) (known_parts w some key) s h;
 }
 

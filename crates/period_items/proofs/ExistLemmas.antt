@@ -2,9 +2,9 @@
 use Rattle.std.proofs.Common.{◌≡◌, ℕ, ◌+◌, ◌<◌, ◌≤◌, inl, inr, Bool, true, false, nat_lt, if◌then◌else◌, List, [], ◌∷◌, ◌++◌, Option, None, Some, Contains, All, refl, sym, ap, subst, ◌∙◌, arith, lt-ltb}
 use Rattle.std.specs.List.{AllByRecursion}
 use Rattle.std.proofs.lemmas.Bool.{both_ways}
-use Rattle.std.proofs.lemmas.List.Elements.{All-contains}
+use Rattle.std.proofs.lemmas.List.Elements.{All-contains, Contains-append_left, Contains-append_cases, Contains-push_cases}
 use Rattle.nav_eph.specs.declared.part.Part.{Part}
-use Rattle.period_laws.proofs.Surface.{In, In-from_contains, contains_from_In, In-append_left, In-append_cases}
+use Rattle.period_laws.proofs.Surface.{In, In-from_contains, contains_from_In}
 use Rattle.period_laws.proofs.Surface.{Same}
 use Rattle.period_items.specs.declared.key.Key.{Key}
 use Rattle.period_items.specs.declared.key.Place.{Place}
@@ -206,11 +206,18 @@ order_nothing r w some other values s = sym (ArePeriods-one r w (Contains some) 
 -- parts of a list, and later ones
 pub later_parts : (mark : ℕ) (parts later : List Part) → All (λ p. mark ≤ p.stamp) later → AreLater mark (Contains parts) (Contains (parts ++ later))
 later_parts mark parts later all = record {
-  keeps = λ p i. contains_from_In (parts ++ later) p (In-append_left parts later p (In-from_contains parts p i));
-  later = λ p i. elim (In-append_cases parts later p (In-from_contains (parts ++ later) p i)) [
-    | inl a ↦ inl (contains_from_In parts p a)
-    | inr b ↦ inr (All-contains (λ x. mark ≤ x.stamp) later p all (contains_from_In later p b))
+  keeps = λ p i. Contains-append_left parts later p i;
+  later = λ p i. elim (Contains-append_cases parts later p i) [
+    | inl a ↦ inl a
+    | inr b ↦ inr (All-contains (λ x. mark ≤ x.stamp) later p all b)
   ];
+}
+
+-- and one later part
+pub later_part : (mark : ℕ) (parts : List Part) (p : Part) → mark ≤ p.stamp → AreLater mark (Contains parts) (Contains (parts ++ p ∷ []))
+later_part mark parts p l = record {
+  keeps = λ q i. Contains-append_left parts (p ∷ []) q i;
+  later = λ q i. elim (Contains-push_cases parts p q i) [ inl o ↦ inl o | inr e ↦ inr (subst (λ (x : Part). mark ≤ x.stamp) e l) ];
 }
 
 pub closed_of-later : (r w mark : ℕ) (parts later : List Part) → ((p : Part) → Contains (parts ++ later) p → IsPartValue p) → AreLater mark (Contains parts) (Contains (parts ++ later))

@@ -55,7 +55,7 @@ behind_end_set window parts sat e = record {
   };
 }
 
-best_health : (before behind : ℕ × GalHealth × SentTag → Type 0) (x y : Option (ℕ × GalHealth × SentTag))
+pub best_health : (before behind : ℕ × GalHealth × SentTag → Type 0) (x y : Option (ℕ × GalHealth × SentTag))
     → IsBest (IsLater health_numbers) before x → IsBest (IsEarlier health_numbers) behind y → IsBestHealth before behind (or_else x y)
 best_health before behind None None h k = (h, k)
 best_health before behind None (Some y) h k = inr (h, k)

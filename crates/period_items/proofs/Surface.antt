@@ -5,7 +5,7 @@ pub use Rattle.period_items.proofs.Folds.{some_is, none_some, Grows, best_join-i
 pub use Rattle.period_items.proofs.KeyLemmas.{same_sat-is, is-same_sat, same_key-is, is-same_key, is_of-is, is-is_of, IsKeyValue, key_value, cases_key, cases_place, same_place}
 pub use Rattle.period_items.proofs.ValueLemmas.{IsUnion, HasValue-same, same_values, IsFirstBy-same, IsFirstOrElse-same}
 pub use Rattle.period_items.proofs.ValueFindings.{IsHealthValue, health_value}
-pub use Rattle.period_items.proofs.HealthLemmas.{health_at-is}
+pub use Rattle.period_items.proofs.HealthLemmas.{best_health, health_at-is}
 pub use Rattle.period_items.proofs.DigestLemmas.{digest_some, digest_none, digest_of-is, digest_join-is, IsDigest-same}
 pub use Rattle.period_items.proofs.DigestFindings.{digest_finding-is}
 pub use Rattle.period_items.proofs.PeriodLemmas.{AreLater, heard_same, members_same, before_same, behind_same, members_later, before_later, behind_later, before_value, behind_value, health_stamp, IsPeriod-same, IsPeriod-was, IsPeriod-keeps, IsFound-same, IsFound-keeps, IsFound-was, IsFound-one}
@@ -14,6 +14,6 @@ pub use Rattle.period_items.proofs.VerdictLemmas.{IsVerdict-same, IsVerdict-keep
 pub use Rattle.period_items.proofs.ListLemmas.{ascending_one, closed_at-are, items_append, before_irr, before_trans, before_end, Precedes, All-in, all_of, ArePeriods-one, ArePeriods-same, AreClosed-one}
 pub use Rattle.period_items.proofs.SearchLemmas.{stamp_of-is, is-stamp_of, IsAbove, above_decides, IsEndBelow, end_before-is, end_from_quiet, quiet_from_end, finding_at-is}
 pub use Rattle.period_items.proofs.LastLemmas.{IsKnownBefore, last_item-is, Compares, compares_known, judged_by, verdict_at-is}
-pub use Rattle.period_items.proofs.ExistLemmas.{all_values, later_parts, period_key, place_at-is, is-place_at, periods_of-are, periods_of-only, closed_of-are, closed_of-only, closed_of-later, closed_of-rise, closed_of-front, closed_of-all}
+pub use Rattle.period_items.proofs.ExistLemmas.{all_values, later_parts, later_part, period_key, place_at-is, is-place_at, periods_of-are, periods_of-only, closed_of-are, closed_of-only, closed_of-later, closed_of-rise, closed_of-front, closed_of-all}
 pub use Rattle.period_items.proofs.TouchLemmas.{known_parts, IsWithPart, with_part, joined_part, rest_stays, two_at_most}
 pub use Rattle.period_items.proofs.ApartLemmas.{Splits, splits_same, splits_lists, left_low, right_high, left_period, right_period, period_cases, left_members, right_members, found_left, found_right, complete_left, complete_right, complete_cases}

@@ -1,12 +1,12 @@
 -- One more part: what it touches becomes one period with it, all else stays.
 use Rattle.std.proofs.Common.{◌≡◌, ℕ, ◌+◌, ◌<◌, ◌≤◌, ◌⊎◌, inl, inr, List, [], ◌∷◌, ◌++◌, Option, None, Some, Contains, refl, sym, ap, subst, ◌∙◌}
+use Rattle.std.proofs.lemmas.List.Elements.{Contains-append_left, Contains-push, Contains-push_cases}
 use Rattle.nav_eph.specs.declared.part.Part.{Part}
 use Rattle.period_laws.specs.Ends.{IsEndOf}
 use Rattle.period_laws.specs.Joining.{IsWith, IsTouchedEnd, IsJoinedEnd}
-use Rattle.period_laws.proofs.Surface.{In-from_contains, contains_from_In, In-append_left, In-append_right}
+use Rattle.period_laws.proofs.Surface.{In-from_contains, contains_from_In}
 use Rattle.period_laws.proofs.Surface.{Same, IsKnown, IsKnown-same, ReadOf, known_list, IsEnd-same, IsEndOf-same, turned}
 use Rattle.period_laws.proofs.Surface.{joined, joined_touched, other_stays, at_most_two}
-use Rattle.period_laws.proofs.Surface.{one_more}
 use Rattle.period_items.specs.declared.key.Key.{Key}
 use Rattle.period_items.specs.declared.key.Place.{Place}
 use Rattle.period_items.specs.Parts.{key_of}
@@ -32,9 +32,9 @@ pub record IsWithPart (old new : Part → Type 0) (p : Part) : Type 0 where
 
 pub with_part : (parts : List Part) (p : Part) → IsWithPart (Contains parts) (Contains (parts ++ p ∷ [])) p
 with_part parts p = record {
-  keeps = λ q h. contains_from_In (parts ++ p ∷ []) q (In-append_left parts (p ∷ []) q (In-from_contains parts q h));
-  has = contains_from_In (parts ++ p ∷ []) p (In-append_right parts (p ∷ []) p (inl refl));
-  only = λ q h. one_more parts p q h;
+  keeps = λ q h. Contains-append_left parts (p ∷ []) q h;
+  has = Contains-push parts p;
+  only = λ q h. Contains-push_cases parts p q h;
 }
 
 heard : (parts : Part → Type 0) (key : Key) (p : Part) → parts p → key_of p ≡ Some key → IsHeardAt parts key p.stamp

@@ -1,4 +1,5 @@
-ghost use Rattle.std.specs.Prelude.{◌≡◌, ◌+◌, ◌*◌, ◌≤◌, pos, ◌-ℤ◌, None, Some};
+ghost use Rattle.std.specs.Prelude.{◌≡◌, ◌+◌, ◌*◌, ◌≤◌};
+ghost use Rattle.std.specs.Prelude.{pos, ◌-ℤ◌, None, Some};
 ghost use Rattle.gnss_week.specs.Functions.{galileo_week_to};
 ghost use Rattle.gnss_week.specs.Weeks.{week_of};
 ghost use Rattle.period_items.specs.Items.{gps_ion_moment, gps_moment, sent_second, tag_second};

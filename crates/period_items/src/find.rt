@@ -165,7 +165,8 @@ fn complete_with(
     end: u32,
 ) -> Option<u32>
     ensures { result
-        ≡ best_with (complete_below r window parts.now key.now end) (λ a b. nat_lt b a) best stamp }
+        ≡ best_with (complete_below r window parts.now key.now end)
+        (λ a b. nat_lt b a) best stamp }
 {
     match stamp {
         None => best,

@@ -98,7 +98,8 @@ fn first_with(
 // The satellite's last health up to the end, within the window.
 fn last_up_to(parts: &[Part], window: u32, sat: Sat, end: u32) -> Option<(u32, GalHealth, SentTag)>
     ensures { result
-        ≡ best_among (health_of sat) (up_to_end window end) (later health_numbers) parts.now None }
+        ≡ best_among (health_of sat) (up_to_end window end)
+        (later health_numbers) parts.now None }
 {
     let mut best: Option<(u32, GalHealth, SentTag)> = None;
     for part in parts {

@@ -1,6 +1,7 @@
 //! Laws of periods: each function does nothing, and its contract is the law.
 
-ghost use Rattle.std.specs.Prelude.{◌≡◌, ◌+◌, ◌*◌, ◌<◌, ◌≤◌, ◌∷◌, ◌++◌, ◌↔◌, ◌⊎◌, ℕ, List, []};
+ghost use Rattle.std.specs.Prelude.{◌≡◌, ◌+◌, ◌*◌, ◌<◌, ◌≤◌};
+ghost use Rattle.std.specs.Prelude.{◌∷◌, ◌++◌, ◌↔◌, ◌⊎◌, ℕ, List, []};
 ghost use Rattle.std.specs.Prelude.{Option, Some, true, All, Contains};
 ghost use Rattle.gnss_week.specs.Weeks.{IsReference};
 ghost use Rattle.nav_eph.specs.Conditions.{IsPart};
@@ -48,14 +49,15 @@ pub fn order_is_nothing()
 /// What is closed stays: later parts change nothing of it, more is closed at a higher mark behind
 /// it, and all of it is at the front of the periods.
 pub fn closed_stays()
-    ensures later { (r window mark : ℕ) (parts later : List Part) → All IsPartValue (parts ++ later)
-        → All (λ p. mark ≤ p.stamp) later
+    ensures later { (r window mark : ℕ) (parts later : List Part)
+        → All IsPartValue (parts ++ later) → All (λ p. mark ≤ p.stamp) later
         → closed_of r window mark (parts ++ later) ≡ closed_of r window mark parts }
     ensures rise { (r window mark higher : ℕ) (parts : List Part) → mark ≤ higher
         → IsPrefix (closed_of r window mark parts) (closed_of r window higher parts) }
     ensures front { (r window mark : ℕ) (parts : List Part)
         → IsPrefix (closed_of r window mark parts) (periods_of r window parts) }
-    ensures all { (r window mark : ℕ) (parts : List Part) → All (λ p. p.stamp + window < mark) parts
+    ensures all { (r window mark : ℕ) (parts : List Part)
+        → All (λ p. p.stamp + window < mark) parts
         → closed_of r window mark parts ≡ periods_of r window parts }
 {}
 
@@ -82,13 +84,15 @@ pub fn parts_far_apart()
         → All (λ p. p.stamp + window < mark) some → All (λ p. mark ≤ p.stamp) more
         → IsPeriod window (Contains (some ++ more)) place
         ↔ (IsPeriod window (Contains some) place ⊎ IsPeriod window (Contains more) place) }
-    ensures first { (r window mark : ℕ) (some more : List Part) (place : Place) (finding : Finding)
-        → All (λ p. p.stamp + window < mark) some → All (λ p. mark ≤ p.stamp) more
+    ensures first { (r window mark : ℕ) (some more : List Part) (place : Place)
+        (finding : Finding) → All (λ p. p.stamp + window < mark) some
+        → All (λ p. mark ≤ p.stamp) more
         → IsPeriod window (Contains some) place
         → IsFound r window (Contains (some ++ more)) place finding
         ↔ IsFound r window (Contains some) place finding }
-    ensures second { (r window mark : ℕ) (some more : List Part) (place : Place) (finding : Finding)
-        → All (λ p. p.stamp + window < mark) some → All (λ p. mark ≤ p.stamp) more
+    ensures second { (r window mark : ℕ) (some more : List Part) (place : Place)
+        (finding : Finding) → All (λ p. p.stamp + window < mark) some
+        → All (λ p. mark ≤ p.stamp) more
         → IsPeriod window (Contains more) place
         → IsFound r window (Contains (some ++ more)) place finding
         ↔ IsFound r window (Contains more) place finding }
@@ -98,7 +102,8 @@ pub fn parts_far_apart()
 /// together, and of the members of a period with the health near its end.
 pub fn digests_are()
     ensures one { (part : Part) (key : Key) (d : Digest)
-        → key_of part ≡ Some key → digest_of part ≡ Some d → IsDigest key (Contains (part ∷ [])) d }
+        → key_of part ≡ Some key → digest_of part ≡ Some d
+        → IsDigest key (Contains (part ∷ [])) d }
     ensures joined { (key : Key) (some more : List Part) (x y : Digest)
         → IsDigest key (Contains some) x → IsDigest key (Contains more) y
         → IsDigest key (Contains (some ++ more)) (digest_join x y) }
@@ -110,7 +115,8 @@ pub fn digests_are()
 
 /// A part is told to be of a key exactly where that is its key.
 pub fn keys_are_told()
-    ensures { (key : Key) (part : Part) → (is_of key part ≡ true) ↔ (key_of part ≡ Some key) }
+    ensures { (key : Key) (part : Part)
+        → (is_of key part ≡ true) ↔ (key_of part ≡ Some key) }
 {}
 
 /// Only an ephemeris is said again, and never an ionosphere.
@@ -121,7 +127,8 @@ pub fn only_ephemerides_are_said_again()
 
 /// The items of periods that follow others are those of the first, and then those of the second.
 pub fn items_follow()
-    ensures { (some more : List Closed) → items_in (some ++ more) ≡ items_in some ++ items_in more }
+    ensures { (some more : List Closed)
+        → items_in (some ++ more) ≡ items_in some ++ items_in more }
 {}
 
 /// The item of a period fits together, as the constructors of items demand, where each part is of a

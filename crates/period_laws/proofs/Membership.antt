@@ -1,5 +1,5 @@
 -- Being in a list, by recursion over it, against `Contains`.
-use Rattle.std.proofs.Common.{◌≡◌, zero, suc, ◌⊎◌, inl, inr, List, [], ◌∷◌, ◌++◌, Contains, arith}
+use Rattle.std.proofs.Common.{◌≡◌, zero, suc, ◌⊎◌, inl, inr, List, [], ◌∷◌, Contains, arith}
 
 -- x is an element of the list
 abbrev pub In : {X : Type 0} → List X → X → Type 0
@@ -15,17 +15,3 @@ pub contains_from_In : {X : Type 0} (xs : List X) (x : X) → In xs x → Contai
 contains_from_In [] x h = absurd h
 contains_from_In (y ∷ ys) x (inl e) = (0, omega arith, e)
 contains_from_In (y ∷ ys) x (inr h) = let r = contains_from_In ys x h in (suc r.0, omega (arith, r.1), r.2)
-
-pub In-append_left : {X : Type 0} (xs ys : List X) (x : X) → In xs x → In (xs ++ ys) x
-In-append_left [] ys x h = absurd h
-In-append_left (z ∷ zs) ys x (inl e) = inl e
-In-append_left (z ∷ zs) ys x (inr h) = inr (In-append_left zs ys x h)
-
-pub In-append_right : {X : Type 0} (xs ys : List X) (x : X) → In ys x → In (xs ++ ys) x
-In-append_right [] ys x h = h
-In-append_right (z ∷ zs) ys x h = inr (In-append_right zs ys x h)
-
-pub In-append_cases : {X : Type 0} (xs ys : List X) (x : X) → In (xs ++ ys) x → In xs x ⊎ In ys x
-In-append_cases [] ys x h = inr h
-In-append_cases (z ∷ zs) ys x (inl e) = inl (inl e)
-In-append_cases (z ∷ zs) ys x (inr h) = elim (In-append_cases zs ys x h) [ inl a ↦ inl (inr a) | inr b ↦ inr b ]

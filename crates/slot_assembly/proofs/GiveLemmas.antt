@@ -4,8 +4,6 @@ use Rattle.std.specs.BTreeMap.{is_at}
 use Rattle.std.specs.List.Sorted.{IsStrictlySortedBy}
 use Rattle.std.specs.Map.{keys_of}
 use Rattle.std.proofs.lemmas.Bool.{both_ways, cases_lt}
-use Rattle.nav_eph.specs.declared.galileo.GalHealth.{GalHealth}
-use Rattle.nav_eph.specs.declared.tag.SentTag.{SentTag}
 use Rattle.nav_eph.specs.declared.items.NavItem.{NavItem}
 use Rattle.nav_eph.specs.declared.part.Part.{Part}
 use Rattle.period_items.specs.declared.key.Place.{Place}
@@ -20,6 +18,7 @@ use Rattle.slot_assembly.specs.declared.order.Rank.{Rank}
 use Rattle.slot_assembly.specs.declared.order.ByEnd.{ByEnd}
 use Rattle.slot_assembly.specs.declared.order.ByKey.{ByKey}
 use Rattle.slot_assembly.specs.declared.slot.Slot.{Slot}
+use Rattle.slot_assembly.specs.declared.slot.PackedSlot.{PackedSlot}
 use Rattle.slot_assembly.specs.contracts.order.ByEndOrd.TheImpl.{cmp-value as end_cmp}
 use Rattle.slot_assembly.specs.contracts.order.RankOrd.TheImpl.{cmp-value as rank_cmp}
 use Rattle.slot_assembly.specs.Order.{by_end, rank_of}
@@ -28,11 +27,9 @@ use Rattle.slot_assembly.specs.Healths.{IsChosen}
 use Rattle.slot_assembly.specs.Standing.{SlotsState, SlotsStandFor, AreSlots, IsRemembered, item_to_keep, known_for}
 use Rattle.slot_assembly.proofs.Changes.{left_open}
 use Rattle.slot_assembly.proofs.RankOrder.{at_is, is_at_own}
+use Rattle.slot_assembly.proofs.HealthChanges.{Health}
 use Rattle.slot_assembly.proofs.KeptLemmas.{chosen_best}
 use Rattle.slot_assembly.proofs.KnownLemmas.{IsFirst, compares_kept, are_known_given}
-
-abbrev Health : Type 0
-Health = ℕ × GalHealth × SentTag
 
 -- the first due slot is that of the first due period
 first_is : (s : SlotsState) (at : Standing) (mark : ℕ) (slot : Slot) → SlotsStandFor s at → IsFirstDue s.slots s.window mark (Some slot) → IsFirst s.window (Contains at.parts) mark at.last (slot_place slot)
@@ -84,7 +81,7 @@ next_is s at mark slot health h f c =
     }
 
 -- the slots that are left
-slots_given : (s : SlotsState) (at : Standing) (mark : ℕ) (slot : Slot) (slots : List (ByEnd × Slot)) → SlotsStandFor s at → IsFirstDue s.slots s.window mark (Some slot) → IsChanged s.slots (at_of slot) None slots
+slots_given : (s : SlotsState) (at : Standing) (mark : ℕ) (slot : Slot) (slots : List (ByEnd × PackedSlot)) → SlotsStandFor s at → IsFirstDue s.slots s.window mark (Some slot) → IsChanged s.slots (at_of slot) None slots
     → AreSlots s.window (Contains at.parts) (Some (slot_place slot)) slots
 slots_given s at mark slot slots h f c =
     let values = all_values at.parts h.values in
@@ -120,7 +117,7 @@ slots_given s at mark slot slots h f c =
           ]
         ]
 
-pub stands_given : (s : SlotsState) (at : Standing) (mark : ℕ) (slot : Slot) (health : Option Health) (finding : Finding) (slots : List (ByEnd × Slot)) (ends : List ByKey) (known : List (Rank × NavItem)) → SlotsStandFor s at
+pub stands_given : (s : SlotsState) (at : Standing) (mark : ℕ) (slot : Slot) (health : Option Health) (finding : Finding) (slots : List (ByEnd × PackedSlot)) (ends : List ByKey) (known : List (Rank × NavItem)) → SlotsStandFor s at
     → at.mark ≤ mark → IsFirstDue s.slots s.window mark (Some slot) → IsChosen s.heard s.window slot.key slot.end health → finding ≡ digest_finding s.reference slot.key slot.digest health
     → IsChanged s.slots (at_of slot) None slots → AreIndexed slots ends → IsRemembered s.known (rank_of slot.key) (item_to_keep slot.key finding) known → IsStrictlySortedBy rank_cmp.it (keys_of known)
     → SlotsStandFor (record { reference = s.reference; window = s.window; slots = slots; ends = ends; heard = s.heard; stamps = s.stamps; mark = mark; last = Some (slot_place slot); none_at = s.none_at; known = known })

@@ -12,6 +12,7 @@ use Rattle.period_items.proofs.Surface.{some_is, IsKeyValue, IsWithPart, two_at_
 use Rattle.issue_periods.specs.Standing.{IsAfter}
 use Rattle.slot_assembly.specs.declared.order.ByEnd.{ByEnd}
 use Rattle.slot_assembly.specs.declared.slot.Slot.{Slot}
+use Rattle.slot_assembly.specs.declared.slot.PackedSlot.{PackedSlot}
 use Rattle.slot_assembly.specs.Order.{rank_of, by_end}
 use Rattle.slot_assembly.specs.Slots.{kept_at, at_of, slot_place, IsOpen, IsFirstSlot, IsFirstTouched, IsSecondTouched, IsTaken}
 use Rattle.slot_assembly.specs.Standing.{AreSlots}
@@ -19,7 +20,7 @@ use Rattle.slot_assembly.proofs.RankOrder.{one_rank, at_rank}
 use Rattle.slot_assembly.proofs.TakeLemmas.{touched_near, near_touched, slots_apart, starts_by}
 
 -- what is known when a part of a key is taken
-pub record Taking (w : ℕ) (old new : Part → Type 0) (last : Option Place) (p : Part) (key : Key) (slots : List (ByEnd × Slot)) : Type 0 where
+pub record Taking (w : ℕ) (old new : Part → Type 0) (last : Option Place) (p : Part) (key : Key) (slots : List (ByEnd × PackedSlot)) : Type 0 where
   pub of_key : key_of p ≡ Some key
   pub with : IsWithPart old new p
   pub known : (k : Key) → IsKnown w (IsHeardAt old k)
@@ -31,7 +32,7 @@ pub record Taking (w : ℕ) (old new : Part → Type 0) (last : Option Place) (p
   pub behind : (q : Place) → IsPeriod w old q → (p.stamp ≤ q.end + w) → IsAfter last q
   pub behind_new : (q : Place) → p.stamp ≤ q.end → IsAfter last q
 
-module _ (w : ℕ) (old new : Part → Type 0) (last : Option Place) (p : Part) (key : Key) (slots : List (ByEnd × Slot)) where
+module _ (w : ℕ) (old new : Part → Type 0) (last : Option Place) (p : Part) (key : Key) (slots : List (ByEnd × PackedSlot)) where
   -- an open slot that the part touches
   pub record Touched (s : Slot) : Type 0 where
     pub open_one : IsOpen slots s
@@ -124,7 +125,7 @@ module _ (w : ℕ) (old new : Part → Type 0) (last : Option Place) (p : Part) 
         | inr before ↦ inr (behind_first t from f second (λ e. (up e).0) h l k s c (subst (λ (x : Slot). x.end < s.end) same before))
       ]
 
-  pub finds : Taking w old new last p key slots → (one : Slot) → key ≡ one.key → one.end ≡ p.stamp → (slots' : List (ByEnd × Slot)) → (t : IsTaken slots one w slots') → Finds t.first t.second
+  pub finds : Taking w old new last p key slots → (one : Slot) → key ≡ one.key → one.end ≡ p.stamp → (slots' : List (ByEnd × PackedSlot)) → (t : IsTaken slots one w slots') → Finds t.first t.second
   finds k one e f slots' t =
       let up : (x : ℕ) → (t.from ≤ x → p.stamp ≤ x + w) × (p.stamp ≤ x + w → t.from ≤ x) = λ x. (λ l. omega (arith, (t.from_is x).0 l), λ l. (t.from_is x).1 (omega arith)) in
       let first : IsFirstTouched slots (rank_of key) t.from (p.stamp + w) t.first =

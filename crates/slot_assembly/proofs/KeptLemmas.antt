@@ -1,13 +1,11 @@
 -- The health that is kept: after a part taken, after forgetting, and that it gives what counts near an end.
-use Rattle.std.proofs.Common.{◌≡◌, ℕ, ◌+◌, ◌*◌, ◌≤◌, ◌⊎◌, inl, inr, Bool, true, false, cond, ◌&&◌, nat_le, if◌then◌else◌, List, Option, None, Some, IsSome, refl, sym, ap, subst, ◌∙◌, arith}
+use Rattle.std.proofs.Common.{◌≡◌, ℕ, ◌+◌, ◌*◌, ◌≤◌, ◌⊎◌, inl, inr, Bool, true, false, cond, ◌&&◌, nat_le, if◌then◌else◌, Option, None, Some, IsSome, refl, sym, ap, subst, ◌∙◌, arith}
 use Rattle.std.specs.BTreeMap.{is_at}
 use Rattle.std.specs.BTreeMap.Range.{IsLeBy, IsLtBy}
 use Rattle.std.proofs.lemmas.Bool.{both_ways, cases_lt, and_parts, and_from, leb-true, le-leb}
 use Rattle.nav_eph.specs.Satellite.{Satellite}
 use Rattle.nav_eph.specs.Numbers.{health_number}
 use Rattle.nav_eph.specs.Values.{IsPartValue}
-use Rattle.nav_eph.specs.declared.galileo.GalHealth.{GalHealth}
-use Rattle.nav_eph.specs.declared.tag.SentTag.{SentTag}
 use Rattle.nav_eph.specs.declared.part.Body.{Body}
 use Rattle.nav_eph.specs.declared.part.Body.TheVariants.{GalHealth as OfHealth}
 use Rattle.nav_eph.specs.declared.part.Part.{Part}
@@ -15,23 +13,17 @@ use Rattle.nav_eph.proofs.Surface.{one_health}
 use Rattle.period_items.specs.declared.key.Key.{Key}
 use Rattle.period_items.specs.declared.key.Key.TheVariants.{Gps, Gal, GpsIon, GalIon}
 use Rattle.period_items.specs.Digests.{IsBestHealth}
-use Rattle.period_items.specs.Mirrors.{or_else}
 use Rattle.period_items.specs.Parts.{key_in, key_of, health_in, health_of, health_numbers, same_sat}
 use Rattle.period_items.specs.Values.{HasValue, IsBest, IsEarlier, IsLater}
 use Rattle.period_items.specs.Verdicts.{IsUpToEnd, IsBehindEnd, IsHealthBefore, IsHealthBehind}
-use Rattle.period_items.proofs.Surface.{some_is, none_some, same_sat-is, is-same_sat, health_stamp, IsHealthValue, health_value, IsWithPart}
+use Rattle.period_items.proofs.Surface.{some_is, none_some, same_sat-is, is-same_sat, health_stamp, IsHealthValue, health_value, best_health, IsWithPart}
 use Rattle.slot_assembly.specs.declared.order.BySat.{BySat}
 use Rattle.slot_assembly.specs.contracts.order.BySatOrd.TheImpl.{cmp-value as sat_cmp}
 use Rattle.slot_assembly.specs.Order.{by_sat, place_of_health, is_of_sat}
 use Rattle.slot_assembly.specs.Healths.{heard_at, IsSameHealth, IsHeardChanged, IsSaid, IsForgotten, IsLastBelow, IsFirstAbove, near_up, near_behind, IsLooked, IsChosen}
 use Rattle.slot_assembly.specs.Standing.{AreKept}
 use Rattle.slot_assembly.proofs.SatOrder.{heard_is, is_heard_own, sat_squeezed, stamps_le, stamps_ge, below_next, next_below, next_above, above_next, lt_le, not_lt_le, le_not_below}
-
-abbrev Health : Type 0
-Health = ℕ × GalHealth × SentTag
-
-abbrev HeardList : Type 0
-HeardList = List (BySat × (ℕ × GalHealth × SentTag))
+use Rattle.slot_assembly.proofs.HealthChanges.{Health, HeardList}
 
 -- a part of a key says nothing of health
 keyed_none : (stamp : ℕ) (sat : Satellite) (body : Body) (key : Key) (h : Health) → key_in sat body ≡ Some key → health_in stamp body ≡ Some h → ⊥
@@ -131,11 +123,6 @@ kept_forgotten w n mark parts heard heard' l f k =
       recent = near;
       every = λ sat h v g. f.stays (place_of_health sat h) g ∙ k.every sat h v (omega arith);
     }
-
-best_health : (before behind : Health → Type 0) (x y : Option Health) → IsBest (IsLater health_numbers) before x → IsBest (IsEarlier health_numbers) behind y → IsBestHealth before behind (or_else x y)
-best_health before behind None None h k = (h, k)
-best_health before behind None (Some y) h k = inr (h, k)
-best_health before behind (Some x) y h k = inl h
 
 -- what is found below an end is the last up to it
 module _ (w n : ℕ) (parts : Part → Type 0) (heard : HeardList) (sat : Satellite) (e : ℕ) where

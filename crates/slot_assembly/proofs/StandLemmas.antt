@@ -1,11 +1,9 @@
 -- What the assembly stands for after each step.
-use Rattle.std.proofs.Common.{◌≡◌, ℕ, ◌≤◌, inl, inr, List, [], ◌∷◌, ◌++◌, Option, None, Some, IsSome, Contains, refl, sym, ap, subst, ◌∙◌, arith}
+use Rattle.std.proofs.Common.{◌≡◌, ℕ, ◌≤◌, inl, inr, List, [], ◌∷◌, ◌++◌, Option, None, IsSome, Contains, refl, sym, ap, subst, ◌∙◌, arith}
 use Rattle.std.specs.List.Sorted.{IsStrictlySortedBy}
 use Rattle.std.specs.Map.{keys_of}
 use Rattle.std.proofs.lemmas.List.Elements.{All-push}
 use Rattle.nav_eph.specs.Values.{IsPartValue}
-use Rattle.nav_eph.specs.declared.galileo.GalHealth.{GalHealth}
-use Rattle.nav_eph.specs.declared.tag.SentTag.{SentTag}
 use Rattle.nav_eph.specs.declared.items.NavItem.{NavItem}
 use Rattle.nav_eph.specs.declared.part.Part.{Part}
 use Rattle.period_laws.proofs.Surface.{Same, IsEnd-same, IsEndOf-same}
@@ -13,29 +11,26 @@ use Rattle.period_items.specs.declared.key.Key.{Key}
 use Rattle.period_items.specs.declared.key.Place.{Place}
 use Rattle.period_items.specs.Parts.{key_of, health_in}
 use Rattle.period_items.specs.Periods.{IsHeardAt, IsMember}
-use Rattle.period_items.proofs.Surface.{none_some, key_value, period_key, all_values, IsDigest-same, known_parts, with_part, joined_part, AreLater, IsWithPart}
-use Rattle.issue_periods.specs.Given.{GivenBelow}
+use Rattle.period_items.proofs.Surface.{none_some, key_value, period_key, all_values, IsDigest-same, known_parts, with_part, joined_part, later_part, IsWithPart}
 use Rattle.issue_periods.specs.Standing.{Standing, NoneDue, taking, reaching}
-use Rattle.issue_periods.proofs.Surface.{after_low, NoneDue-take}
+use Rattle.issue_periods.proofs.Surface.{after_low, below_rise, NoneDue-take}
 use Rattle.slot_assembly.specs.declared.order.Rank.{Rank}
 use Rattle.slot_assembly.specs.declared.order.ByEnd.{ByEnd}
 use Rattle.slot_assembly.specs.declared.order.ByKey.{ByKey}
-use Rattle.slot_assembly.specs.declared.order.BySat.{BySat}
 use Rattle.slot_assembly.specs.declared.order.ByStamp.{ByStamp}
 use Rattle.slot_assembly.specs.declared.slot.Slot.{Slot}
+use Rattle.slot_assembly.specs.declared.slot.PackedSlot.{PackedSlot}
 use Rattle.slot_assembly.specs.contracts.order.RankOrd.TheImpl.{cmp-value as rank_cmp}
 use Rattle.slot_assembly.specs.Slots.{at_of, slot_place, AreIndexed, IsOneSlot, IsTaken, AreSameSlots, IsFirstDue}
 use Rattle.slot_assembly.specs.Healths.{AreStamped, IsSameHealth, IsHeard, IsForgotten}
-use Rattle.slot_assembly.specs.Standing.{SlotsState, SlotsStandFor, AreSlots, AreKept, AreSameItems}
+use Rattle.slot_assembly.specs.Standing.{SlotsState, SlotsStandFor, AreSlots, AreKept, AreKnown, AreSameItems}
 use Rattle.slot_assembly.proofs.StepLemmas.{slots_taken}
 use Rattle.slot_assembly.proofs.KeptLemmas.{kept_keyed, kept_said, kept_forgotten}
+use Rattle.slot_assembly.proofs.HealthChanges.{HeardList}
 use Rattle.slot_assembly.proofs.KnownLemmas.{are_known_later, are_known_same}
 
 abbrev SlotList : Type 0
-SlotList = List (ByEnd × Slot)
-
-abbrev HeardList : Type 0
-HeardList = List (BySat × (ℕ × GalHealth × SentTag))
+SlotList = List (ByEnd × PackedSlot)
 
 -- where memory is wanting
 slots_same : (w : ℕ) (parts : Part → Type 0) (last : Option Place) (old new : SlotList) → AreSameSlots old new → AreSlots w parts last old → AreSlots w parts last new
@@ -51,15 +46,17 @@ kept_same w n parts old new same h = record {
   every = λ sat v i l. same _ ∙ h.every sat v i l;
 }
 
-pub stands_slots : (s : SlotsState) (at : Standing) (slots : SlotList) (ends : List ByKey) → AreSameSlots s.slots slots → AreIndexed slots ends → SlotsStandFor s at
-    → SlotsStandFor (record { reference = s.reference; window = s.window; slots = slots; ends = ends; heard = s.heard; stamps = s.stamps; mark = s.mark; last = s.last; none_at = s.none_at; known = s.known }) at
-stands_slots s at slots ends same i h = record {
-  slots = slots_same s.window (Contains at.parts) at.last s.slots slots same h.slots;
-  indexed = i;
-  kept = h.kept;
-  stamped = h.stamped;
-  known = h.known;
-  known_ordered = h.known_ordered;
+-- the same parts, mark and period given last, with other content that stands for them
+stands_as : (s : SlotsState) (at : Standing) (slots : SlotList) (ends : List ByKey) (heard : HeardList) (stamps : List ByStamp) (known : List (Rank × NavItem)) → AreSlots s.window (Contains at.parts) at.last slots → AreIndexed slots ends
+    → AreKept s.window s.none_at (Contains at.parts) heard → AreStamped heard stamps → AreKnown s.reference s.window (Contains at.parts) at.last known → IsStrictlySortedBy rank_cmp.it (keys_of known) → SlotsStandFor s at
+    → SlotsStandFor (record { reference = s.reference; window = s.window; slots = slots; ends = ends; heard = heard; stamps = stamps; mark = s.mark; last = s.last; none_at = s.none_at; known = known }) at
+stands_as s at slots ends heard stamps known are_slots indexed kept stamped are_known known_ordered h = record {
+  slots = are_slots;
+  indexed = indexed;
+  kept = kept;
+  stamped = stamped;
+  known = are_known;
+  known_ordered = known_ordered;
   at_mark = h.at_mark;
   at_last = h.at_last;
   given = h.given;
@@ -67,47 +64,21 @@ stands_slots s at slots ends same i h = record {
   none_by = h.none_by;
   values = h.values;
 }
+
+pub stands_slots : (s : SlotsState) (at : Standing) (slots : SlotList) (ends : List ByKey) → AreSameSlots s.slots slots → AreIndexed slots ends → SlotsStandFor s at
+    → SlotsStandFor (record { reference = s.reference; window = s.window; slots = slots; ends = ends; heard = s.heard; stamps = s.stamps; mark = s.mark; last = s.last; none_at = s.none_at; known = s.known }) at
+stands_slots s at slots ends same i h =
+    stands_as s at slots ends s.heard s.stamps s.known (slots_same s.window (Contains at.parts) at.last s.slots slots same h.slots) i h.kept h.stamped h.known h.known_ordered h
 
 pub stands_healths : (s : SlotsState) (at : Standing) (heard : HeardList) (stamps : List ByStamp) → IsSameHealth s.heard heard → AreStamped heard stamps → SlotsStandFor s at
     → SlotsStandFor (record { reference = s.reference; window = s.window; slots = s.slots; ends = s.ends; heard = heard; stamps = stamps; mark = s.mark; last = s.last; none_at = s.none_at; known = s.known }) at
-stands_healths s at heard stamps same i h = record {
-  slots = h.slots;
-  indexed = h.indexed;
-  kept = kept_same s.window s.none_at (Contains at.parts) s.heard heard same h.kept;
-  stamped = i;
-  known = h.known;
-  known_ordered = h.known_ordered;
-  at_mark = h.at_mark;
-  at_last = h.at_last;
-  given = h.given;
-  none_due = h.none_due;
-  none_by = h.none_by;
-  values = h.values;
-}
+stands_healths s at heard stamps same i h =
+    stands_as s at s.slots s.ends heard stamps s.known h.slots h.indexed (kept_same s.window s.none_at (Contains at.parts) s.heard heard same h.kept) i h.known h.known_ordered h
 
 pub stands_known : (s : SlotsState) (at : Standing) (known : List (Rank × NavItem)) → AreSameItems s.known known → IsStrictlySortedBy rank_cmp.it (keys_of known) → SlotsStandFor s at
     → SlotsStandFor (record { reference = s.reference; window = s.window; slots = s.slots; ends = s.ends; heard = s.heard; stamps = s.stamps; mark = s.mark; last = s.last; none_at = s.none_at; known = known }) at
-stands_known s at known same i h = record {
-  slots = h.slots;
-  indexed = h.indexed;
-  kept = h.kept;
-  stamped = h.stamped;
-  known = are_known_same s.reference s.window (Contains at.parts) at.last s.known known same h.known;
-  known_ordered = i;
-  at_mark = h.at_mark;
-  at_last = h.at_last;
-  given = h.given;
-  none_due = h.none_due;
-  none_by = h.none_by;
-  values = h.values;
-}
-
--- later parts
-later_one : (mark : ℕ) (parts : List Part) (p : Part) → mark ≤ p.stamp → AreLater mark (Contains parts) (Contains (parts ++ p ∷ []))
-later_one mark parts p l = record {
-  keeps = (with_part parts p).keeps;
-  later = λ q i. elim ((with_part parts p).only q i) [ inl o ↦ inl o | inr e ↦ inr (subst (λ (x : Part). mark ≤ x.stamp) e l) ];
-}
+stands_known s at known same i h =
+    stands_as s at s.slots s.ends s.heard s.stamps known h.slots h.indexed h.kept h.stamped (are_known_same s.reference s.window (Contains at.parts) at.last s.known known same h.known) i h
 
 -- a part of a key taken
 are_taken : (s : SlotsState) (at : Standing) (p : Part) (one : Slot) (slots : SlotList) → SlotsStandFor s at → at.mark ≤ p.stamp → IsPartValue p → IsOneSlot p one → IsTaken s.slots one s.window slots
@@ -136,7 +107,7 @@ pub stands_taken : (s : SlotsState) (at : Standing) (p : Part) (one : Slot) (slo
     → AreIndexed slots ends
     → SlotsStandFor (record { reference = s.reference; window = s.window; slots = slots; ends = ends; heard = s.heard; stamps = s.stamps; mark = s.mark; last = s.last; none_at = s.none_at; known = s.known }) (taking p at)
 stands_taken s at p one slots ends h l v k t i =
-    let late = later_one at.mark at.parts p l in
+    let late = later_part at.mark at.parts p l in
     record {
       slots = are_taken s at p one slots h l v k t;
       indexed = i;
@@ -195,7 +166,7 @@ pub stands_heard : (s : SlotsState) (at : Standing) (p : Part) (heard : HeardLis
     → AreStamped heard stamps
     → SlotsStandFor (record { reference = s.reference; window = s.window; slots = s.slots; ends = s.ends; heard = heard; stamps = stamps; mark = s.mark; last = s.last; none_at = s.none_at; known = s.known }) (taking p at)
 stands_heard s at p heard stamps h l v k t i =
-    let late = later_one at.mark at.parts p l in
+    let late = later_part at.mark at.parts p l in
     let old = Contains at.parts in
     let new = Contains (at.parts ++ p ∷ []) in
     let all = All-push IsPartValue at.parts p h.values v in
@@ -220,10 +191,6 @@ pub none_is : (s : SlotsState) (at : Standing) (mark : ℕ) → SlotsStandFor s 
 none_is s at mark h none = λ q due.
     let f = h.slots.every q due.period due.after in
     omega (arith, none f.0 f.1, due.low, ap (λ (x : Place). x.end) f.2)
-
-below_rise : (w mark higher : ℕ) (last : Option Place) → mark ≤ higher → GivenBelow w mark last → GivenBelow w higher last
-below_rise w mark higher None l g = tt
-below_rise w mark higher (Some x) l g = omega arith
 
 pub stands_reached : (s : SlotsState) (at : Standing) (mark : ℕ) (heard : HeardList) (stamps : List ByStamp) → SlotsStandFor s at → at.mark ≤ mark → IsFirstDue s.slots s.window mark None → IsForgotten s.window mark s.heard heard
     → AreStamped heard stamps

@@ -12,6 +12,7 @@ use Rattle.period_items.proofs.Surface.{some_is, IsKeyValue, IsDigest-same, rest
 use Rattle.issue_periods.specs.Standing.{IsAfter}
 use Rattle.slot_assembly.specs.declared.order.ByEnd.{ByEnd}
 use Rattle.slot_assembly.specs.declared.slot.Slot.{Slot}
+use Rattle.slot_assembly.specs.declared.slot.PackedSlot.{PackedSlot}
 use Rattle.slot_assembly.specs.contracts.order.ByEndOrd.TheImpl.{cmp-value as end_cmp}
 use Rattle.slot_assembly.specs.Order.{rank_of, by_end}
 use Rattle.slot_assembly.specs.Slots.{kept_at, at_of, slot_place, slot_with, IsOpen, IsOneSlot, IsChanged, IsGoneUnless, IsWithout, IsReplaced, IsTaken}
@@ -32,7 +33,7 @@ IsSlot-stays w old new last s h t = record {
 }
 
 -- what stands after one was dropped stood before
-without_was : (old new : List (ByEnd × Slot)) (o : Option Slot) (e : ℕ) (s : Slot) → IsWithout old o e new → IsOpen new s → IsOpen old s × ((f : Slot) → o ≡ Some f → (f.end ≡ e) ⊎ (is_at (end_cmp.it (at_of f)) (at_of s) ≡ false))
+without_was : (old new : List (ByEnd × PackedSlot)) (o : Option Slot) (e : ℕ) (s : Slot) → IsWithout old o e new → IsOpen new s → IsOpen old s × ((f : Slot) → o ≡ Some f → (f.end ≡ e) ⊎ (is_at (end_cmp.it (at_of f)) (at_of s) ≡ false))
 without_was old new None e s h i = (sym (h (at_of s)) ∙ i, λ f k. absurd (let z : None ≡ Some f = k in cc))
 without_was old new (Some g) e s h i = by (g.end == e) refl
   where
@@ -45,7 +46,7 @@ without_was old new (Some g) e s h i = by (g.end == e) refl
         (l.1, λ f m. inr (subst (λ (x : Slot). is_at (end_cmp.it (at_of x)) (at_of s) ≡ false) (some_is g f m) l.0))
 
 -- and stands after it, where it is another or was to stay
-without_keeps : (old new : List (ByEnd × Slot)) (o : Option Slot) (e : ℕ) (s : Slot) → IsWithout old o e new → IsOpen old s → ((f : Slot) → o ≡ Some f → (f.end ≡ e → ⊥) → is_at (end_cmp.it (at_of f)) (at_of s) ≡ false) → IsOpen new s
+without_keeps : (old new : List (ByEnd × PackedSlot)) (o : Option Slot) (e : ℕ) (s : Slot) → IsWithout old o e new → IsOpen old s → ((f : Slot) → o ≡ Some f → (f.end ≡ e → ⊥) → is_at (end_cmp.it (at_of f)) (at_of s) ≡ false) → IsOpen new s
 without_keeps old new None e s h i apart = h (at_of s) ∙ i
 without_keeps old new (Some g) e s h i apart = by (g.end == e) refl
   where
@@ -57,17 +58,17 @@ without_keeps old new (Some g) e s h i apart = by (g.end == e) refl
         c (at_of s) ∙ ap (λ (b : Bool). cond b None (kept_at old (at_of s))) n ∙ i
 
 -- what is put stands at its place, and all else as before
-put_was : (old new : List (ByEnd × Slot)) (j s : Slot) → IsChanged old (at_of j) (Some j) new → IsOpen new s → (j ≡ s) ⊎ (IsOpen old s × (is_at (end_cmp.it (at_of j)) (at_of s) ≡ false))
+put_was : (old new : List (ByEnd × PackedSlot)) (j s : Slot) → IsChanged old (at_of j) (Some j) new → IsOpen new s → (j ≡ s) ⊎ (IsOpen old s × (is_at (end_cmp.it (at_of j)) (at_of s) ≡ false))
 put_was old new j s h i = by (is_at (end_cmp.it (at_of j)) (at_of s)) refl
   where
     by : (b : Bool) → is_at (end_cmp.it (at_of j)) (at_of s) ≡ b → (j ≡ s) ⊎ (IsOpen old s × (is_at (end_cmp.it (at_of j)) (at_of s) ≡ false))
     by true k = inl (some_is j s (sym (ap (λ (b : Bool). cond b (Some j) (kept_at old (at_of s))) k) ∙ sym (h (at_of s)) ∙ i))
     by false k = inr (sym (ap (λ (b : Bool). cond b (Some j) (kept_at old (at_of s))) k) ∙ sym (h (at_of s)) ∙ i, k)
 
-put_has : (old new : List (ByEnd × Slot)) (j : Slot) → IsChanged old (at_of j) (Some j) new → IsOpen new j
+put_has : (old new : List (ByEnd × PackedSlot)) (j : Slot) → IsChanged old (at_of j) (Some j) new → IsOpen new j
 put_has old new j h = h (at_of j) ∙ ap (λ (b : Bool). cond b (Some j) (kept_at old (at_of j))) (is_at_own (at_of j))
 
-put_keeps : (old new : List (ByEnd × Slot)) (j s : Slot) → IsChanged old (at_of j) (Some j) new → IsOpen old s → is_at (end_cmp.it (at_of j)) (at_of s) ≡ false → IsOpen new s
+put_keeps : (old new : List (ByEnd × PackedSlot)) (j s : Slot) → IsChanged old (at_of j) (Some j) new → IsOpen old s → is_at (end_cmp.it (at_of j)) (at_of s) ≡ false → IsOpen new s
 put_keeps old new j s h i k = h (at_of s) ∙ ap (λ (b : Bool). cond b (Some j) (kept_at old (at_of s))) k ∙ i
 
 -- two slots of different ends have different places
@@ -78,7 +79,7 @@ ends_apart f s n = by (is_at (end_cmp.it (at_of f)) (at_of s)) refl
     by true k = absurd (n (ap (λ (x : ByEnd). x.end) (at_is (at_of f) (at_of s) k)))
     by false k = k
 
-module _ (w : ℕ) (old new : Part → Type 0) (last : Option Place) (p : Part) (key : Key) (slots : List (ByEnd × Slot)) where
+module _ (w : ℕ) (old new : Part → Type 0) (last : Option Place) (p : Part) (key : Key) (slots : List (ByEnd × PackedSlot)) where
   -- the members of what the part makes with those that are found
   abbrev FoundMember : Option Slot → Option Slot → Part → Type 0
   FoundMember first second q = ((q ≡ p) ⊎ ((f : Slot) × (first ≡ Some f) × IsMember w old (slot_place f) q)) ⊎ ((f : Slot) × (second ≡ Some f) × IsMember w old (slot_place f) q)
@@ -129,7 +130,7 @@ module _ (w : ℕ) (old new : Part → Type 0) (last : Option Place) (p : Part) 
   Old s = IsOpen slots s × (Touched w old new last p key slots s → ⊥)
 
   -- what stands afterwards is the joined slot, or was there and is not touched
-  is_left : Taking w old new last p key slots → (first second : Option Slot) → Finds w old new last p key slots first second → (j : Slot) → j.key ≡ key → (slots' : List (ByEnd × Slot)) → IsReplaced slots j first second slots'
+  is_left : Taking w old new last p key slots → (first second : Option Slot) → Finds w old new last p key slots first second → (j : Slot) → j.key ≡ key → (slots' : List (ByEnd × PackedSlot)) → IsReplaced slots j first second slots'
       → (s : Slot) → IsOpen slots' s → (j ≡ s) ⊎ Old s
   is_left t first second f j k slots' r s i =
       let b = without_was r.one slots' second j.end s r.without_second i in
@@ -151,13 +152,13 @@ module _ (w : ℕ) (old new : Part → Type 0) (last : Option Place) (p : Part) 
       ]
 
   -- the joined slot stands
-  joined_stands : (first second : Option Slot) (j : Slot) (slots' : List (ByEnd × Slot)) → IsReplaced slots j first second slots' → IsOpen slots' j
+  joined_stands : (first second : Option Slot) (j : Slot) (slots' : List (ByEnd × PackedSlot)) → IsReplaced slots j first second slots' → IsOpen slots' j
   joined_stands first second j slots' r =
       without_keeps r.one slots' second j.end j r.without_second
       (without_keeps r.put r.one first j.end j r.without_first (put_has slots r.put j r.has) (λ g e n. ends_apart g j n)) (λ g e n. ends_apart g j n)
 
   -- and so does what is not touched, where it is at another place
-  rest_stands : Taking w old new last p key slots → (first second : Option Slot) → Finds w old new last p key slots first second → (j : Slot) (slots' : List (ByEnd × Slot)) → IsReplaced slots j first second slots'
+  rest_stands : Taking w old new last p key slots → (first second : Option Slot) → Finds w old new last p key slots first second → (j : Slot) (slots' : List (ByEnd × PackedSlot)) → IsReplaced slots j first second slots'
       → (s : Slot) → Old s → is_at (end_cmp.it (at_of j)) (at_of s) ≡ false → IsOpen slots' s
   rest_stands t first second f j slots' r s o n =
       let apart : (g : Slot) → Touched w old new last p key slots g → is_at (end_cmp.it (at_of g)) (at_of s) ≡ false = λ g c. not_at g c (is_at (end_cmp.it (at_of g)) (at_of s)) refl in
@@ -192,7 +193,7 @@ module _ (w : ℕ) (old new : Part → Type 0) (last : Option Place) (p : Part) 
         },
       )
 
-  are_slots : Taking w old new last p key slots → (first second : Option Slot) → Finds w old new last p key slots first second → (j : Slot) → j.key ≡ key → (slots' : List (ByEnd × Slot)) → IsReplaced slots j first second slots'
+  are_slots : Taking w old new last p key slots → (first second : Option Slot) → Finds w old new last p key slots first second → (j : Slot) → j.key ≡ key → (slots' : List (ByEnd × PackedSlot)) → IsReplaced slots j first second slots'
       → (q : Place) → IsJoined w old p new q → q ≡ slot_place j → IsSlot w new last j → AreSlots w new last slots'
   are_slots t first second f j k slots' r q m same h = record {
     each = λ s i. elim (is_left t first second f j k slots' r s i) [
@@ -225,7 +226,7 @@ module _ (w : ℕ) (old new : Part → Type 0) (last : Option Place) (p : Part) 
   joined_key s None = refl
   joined_key s (Some x) = refl
 
-  pub slots_taken : Taking w old new last p key slots → (one : Slot) → IsOneSlot p one → (q : Place) → IsJoined w old p new q → (slots' : List (ByEnd × Slot)) → IsTaken slots one w slots' → AreSlots w new last slots'
+  pub slots_taken : Taking w old new last p key slots → (one : Slot) → IsOneSlot p one → (q : Place) → IsJoined w old p new q → (slots' : List (ByEnd × PackedSlot)) → IsTaken slots one w slots' → AreSlots w new last slots'
   slots_taken t one h q m slots' r =
       let e : key ≡ one.key = some_is key one.key (sym t.of_key ∙ h.key) in
       let f = finds w old new last p key slots t one e h.end slots' r in

@@ -67,6 +67,7 @@ impl SlotAssembly {
     {
         SlotAssembly {
             held: OpenSlots {
+                alloc,
                 slots: BTreeMap::new(alloc),
                 ends: BTreeSet::new(alloc),
             },

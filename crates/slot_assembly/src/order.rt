@@ -55,6 +55,11 @@ pub struct ByStamp {
     pub digits: u64,
 }
 
+// What a place takes in the map, and in the index.
+const _: () = prove!(size_of::<ByEnd>() <= 24);
+
+const _: () = prove!(size_of::<ByKey>() <= 24);
+
 // The numbers of a key.
 pub(crate) fn rank_of_key(key: &Key) -> Rank
     ensures { result ≡ rank_of key.now }

@@ -1,8 +1,8 @@
 //! A slot: what is kept of an open period.
 
-ghost use Rattle.std.specs.Prelude.{◌≡◌};
+ghost use Rattle.std.specs.Prelude.{◌≡◌, IfOk};
 ghost use Rattle.period_items.specs.DigestsOf.{digest_join};
-ghost use Rattle.slot_assembly.specs.Slots.{IsOne, slot_with};
+ghost use Rattle.slot_assembly.specs.Slots.{IsOne, slot_of, slot_with};
 
 use nav_bits::U;
 use nav_eph::{
@@ -10,6 +10,7 @@ use nav_eph::{
     SentTag,
 };
 use period_items::{Digest, GalDigest, GpsDigest, Key, Seen, Sending, key_of_part};
+use std::alloc::{AllocError, Global};
 
 /// An open period: its key, the stamps of its first and its last member, and what its members come
 /// to.
@@ -23,6 +24,67 @@ pub struct Slot {
     pub end: u32,
     /// What the members come to.
     pub digest: Digest,
+}
+
+/// A slot of an ionosphere, as it is kept.
+#[derive(Clone, Copy, PartialEq, Eq, Debug)]
+pub struct IonSlot {
+    /// What its parts are parts of.
+    pub key: Key,
+    /// The stamp of the first member.
+    pub start: u32,
+    /// The stamp of the last member.
+    pub end: u32,
+    /// The sending that came first.
+    pub sending: Sending,
+}
+
+/// A slot as it is kept. That of an ephemeris is four times as large as that of an ionosphere and
+/// stands in a box, so that many ionospheres take little.
+#[derive(Drop)]
+pub enum PackedSlot {
+    /// Of an ephemeris.
+    Ephemeris(Box<Slot>),
+    /// Of an ionosphere.
+    Ionosphere(IonSlot),
+}
+
+// What a slot takes in the map, and what an ephemeris takes in its box besides.
+const _: () = prove!(size_of::<PackedSlot>() <= 112);
+
+const _: () = prove!(size_of::<Slot>() <= 456);
+
+impl PackedSlot {
+    // Packs a slot.
+    pub(crate) fn of(alloc: Global, slot: Slot) -> Result<PackedSlot, AllocError>
+        ensures { IfOk result (λ packed. slot_of packed ≡ slot) }
+    {
+        let digest = slot.digest;
+        match digest {
+            Digest::Ion(sending) => Ok(PackedSlot::Ionosphere(IonSlot {
+                key: slot.key,
+                start: slot.start,
+                end: slot.end,
+                sending,
+            })),
+            _ => Ok(PackedSlot::Ephemeris(Box::new(alloc, slot)?)),
+        }
+    }
+
+    // The slot that was packed.
+    pub(crate) fn slot(&self) -> Slot
+        ensures { result ≡ slot_of self.now }
+    {
+        match self {
+            PackedSlot::Ephemeris(boxed) => **boxed,
+            PackedSlot::Ionosphere(slot) => Slot {
+                key: slot.key,
+                start: slot.start,
+                end: slot.end,
+                digest: Digest::Ion(slot.sending),
+            },
+        }
+    }
 }
 
 // The slot of one part; `None` for health, which has no key.

@@ -9,7 +9,7 @@ ghost use Rattle.slot_assembly.specs.Slots.{IsFirstTouched, IsReplaced, IsSecond
 ghost use Rattle.slot_assembly.specs.Slots.{IsWithout, at_of, kept_at};
 
 use crate::order::{ByEnd, ByKey, Rank, rank_of_key};
-use crate::slot::{Slot, joined};
+use crate::slot::{IonSlot, PackedSlot, Slot, joined};
 use gnss_week::Second;
 use nav_bits::U;
 use nav_eph::{
@@ -23,7 +23,8 @@ use std::collections::{BTreeMap, BTreeSet};
 /// The slots of open periods, and an index of their keys and ends.
 #[derive(Drop)]
 pub struct OpenSlots {
-    pub slots: BTreeMap<ByEnd, Slot>,
+    pub alloc: Global,
+    pub slots: BTreeMap<ByEnd, PackedSlot>,
     pub ends: BTreeSet<ByKey>,
 }
 
@@ -48,13 +49,16 @@ type Inside = (
     Sat,
     Key,
     Digest,
+    IonSlot,
+    Slot,
 );
 
 // The first end of a key from a stamp on.
 fn next_end(ends: &BTreeSet<ByKey>, rank: Rank, from: u64) -> Option<u64>
     ensures some { IfSome result (λ e. HasEnd ends.now.keys rank e) }
     ensures from { IfSome result (λ e. from ≤ e) }
-    ensures first { IfSome result (λ e. (f : ℕ) → HasEnd ends.now.keys rank f → from ≤ f → e ≤ f) }
+    ensures first { IfSome result (λ e. (f : ℕ)
+        → HasEnd ends.now.keys rank f → from ≤ f → e ≤ f) }
     ensures none { IfNone result ((f : ℕ) → HasEnd ends.now.keys rank f → f < from) }
 {
     let place = *ends.range(rank.with_end(from)..).next()?;
@@ -65,6 +69,14 @@ fn next_end(ends: &BTreeSet<ByKey>, rank: Rank, from: u64) -> Option<u64>
     }
 }
 
+// The slot that is kept at a place.
+fn slot_at(slots: &BTreeMap<ByEnd, PackedSlot>, at: ByEnd) -> Option<Slot>
+    ensures { result ≡ kept_at slots.now.entries at }
+{
+    let packed = slots.get(&at)?;
+    Some(packed.slot())
+}
+
 impl OpenSlots {
     // The first slot of a key that ends from a stamp on.
     fn first_from(&self, rank: Rank, from: u64) -> Option<Slot>
@@ -73,7 +85,7 @@ impl OpenSlots {
     {
         match next_end(&self.ends, rank, from) {
             None => None,
-            Some(end) => self.slots.get(&rank.at_end(end)).copied(),
+            Some(end) => slot_at(&self.slots, rank.at_end(end)),
         }
     }
 
@@ -117,8 +129,9 @@ impl OpenSlots {
         let rank = rank_of_key(&slot.key);
         let end = slot.end as u64;
         let place = rank.with_end(end);
+        let packed = PackedSlot::of(self.alloc, slot)?;
         self.ends.insert(place)?;
-        match self.slots.insert(rank.at_end(end), slot) {
+        match self.slots.insert(rank.at_end(end), packed) {
             Ok(_) => Ok(()),
             Err(none) => {
                 self.ends.remove(&place);
@@ -201,9 +214,10 @@ impl OpenSlots {
         requires indexed { AreIndexed self.now.slots.entries self.now.ends.keys }
         ensures { IsFirstDue self.now.slots.entries window mark result }
     {
-        let (_, slot) = self.slots.first_key_value()?;
+        let (_, packed) = self.slots.first_key_value()?;
+        let slot = packed.slot();
         if slot.end as u64 + (window as u64) < mark {
-            Some(*slot)
+            Some(slot)
         } else {
             None
         }

@@ -1,6 +1,7 @@
 use Rattle.std.proofs.Common.{Contains, List, [], ◌∷◌, ◌++◌, inl, inr, sym, ◌≡◌}
+use Rattle.std.proofs.lemmas.List.Elements.{Contains-append_left, Contains-append_right, Contains-append_cases}
 use Rattle.nav_eph.specs.declared.part.Part.{Part}
-use Rattle.period_laws.proofs.Surface.{In-from_contains, contains_from_In, In-append_left, In-append_right, In-append_cases}
+use Rattle.period_laws.proofs.Surface.{In-from_contains, contains_from_In}
 use Rattle.period_items.specs.Periods.{IsMember}
 use Rattle.period_items.specs.Verdicts.{IsHealthBefore, IsHealthBehind}
 use Rattle.period_items.specs.DigestsOf.{health_at}
@@ -12,12 +13,9 @@ use Rattle.period_items.proofs.laws.digests_are.Goals as goal
 
 union_of : (some more : List Part) → IsUnion (Contains some) (Contains more) (Contains (some ++ more))
 union_of some more = record {
-  left = λ p i. contains_from_In (some ++ more) p (In-append_left some more p (In-from_contains some p i));
-  right = λ p i. contains_from_In (some ++ more) p (In-append_right some more p (In-from_contains more p i));
-  cases = λ p i. elim (In-append_cases some more p (In-from_contains (some ++ more) p i)) [
-    | inl a ↦ inl (contains_from_In some p a)
-    | inr b ↦ inr (contains_from_In more p b)
-  ];
+  left = λ p i. Contains-append_left some more p i;
+  right = λ p i. Contains-append_right some more p i;
+  cases = λ p i. Contains-append_cases some more p i;
 }
 
 pub returns : goal.returns
