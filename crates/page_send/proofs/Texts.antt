@@ -1,5 +1,5 @@
 -- The lines of what is sent, one list of it behind another.
-use Rattle.std.proofs.Common.{◌≡◌, ℕ, ◌+◌, Bool, true, false, if◌then◌else◌, List, [], ◌∷◌, ◌++◌, length, refl, ap, sym, ◌∙◌, append_assoc, append-nil, arith}
+use Rattle.std.proofs.Common.{◌≡◌, ℕ, suc, ◌+◌, Bool, true, false, if◌then◌else◌, List, [], ◌∷◌, ◌++◌, length, refl, ap, sym, ◌∙◌, append_assoc, append-nil, arith}
 use Rattle.nav_eph.specs.declared.items.NavItem.{NavItem}
 use Rattle.capture_lines.specs.declared.item.LineItem.{LineItem}
 use Rattle.page_send.specs.Slots.{slot_items, text_of_item, text_of_items}
@@ -30,7 +30,7 @@ sendable_append r slot (x ∷ xs) more = by (is_sent r x slot) (sendable_append 
         ++ sendable r (slot + length (if t then x ∷ sendable r (slot + 1) xs else sendable r slot xs)) more
     by true sent kept =
         let n = length (sendable r (slot + 1) xs) in
-        let e : slot + 1 + n ≡ slot + (1 + n) = omega arith in
+        let e : slot + 1 + n ≡ slot + suc n = omega arith in
         ap (λ t. x ∷ t) (sent ∙ ap (λ s. sendable r (slot + 1) xs ++ sendable r s more) e)
     by false sent kept = kept
 
