@@ -1,3 +1,3 @@
 pub mod Tolds
 pub mod Follows
-pub mod Files
+pub mod WholeFiles

@@ -3,7 +3,7 @@ use Rattle.std.proofs.lemmas.Result.{err_from_is_err_and}
 use Rattle.std.specs.Io.KnownBytes.{Appends}
 use Rattle.nav_io.specs.Front.{AppendsFront}
 use Rattle.item_runs.proofs.Surface.{err_same, text_of_whole}
-use Rattle.send_runs.proofs.Files.{part_of_begin, part_of_counts, part_of_header, part_of_records, too_long_of_records, whole_file}
+use Rattle.send_runs.proofs.WholeFiles.{part_of_begin, part_of_counts, part_of_header, part_of_records, too_long_of_records, whole_file}
 use Rattle.send_runs.proofs.file.follow_file.Goals as goal
 
 pub returns-in_err-pass_header-clause-part : goal.returns-in_err-pass_header-clause-part

@@ -26,8 +26,8 @@ returns-in-Ok-None-clause-all g c =
     follows_all g.F.FileForm.form _ _ _ _ _ _ _ _ _ _ _ _ _ c.records.invariant.follow c.records.invariant.follows
     (none_read g.F.FileForm.form _ _ _ _ _ c.in-Ok-None.field-0-is c.in-Ok-None.ensures.none)
 
-pub told_of-requires : goal.told_of-requires
-told_of-requires g c = some_whole _ _ c.in-Ok-Some.field-0-is c.in-Ok-Some.ensures.item
+pub told_of-told-requires : goal.told_of-told-requires
+told_of-told-requires g c = record { whole = some_whole _ _ c.in-Ok-Some.field-0-is c.in-Ok-Some.ensures.item }
 
 pub returns-in_err-tell-in-Ok-Some-clause-broken : goal.returns-in_err-tell-in-Ok-Some-clause-broken
 returns-in_err-tell-in-Ok-Some-clause-broken g c =
@@ -39,8 +39,8 @@ returns-in_err-tell-in-Ok-Some-clause-broken g c =
 pub count_told-requires-clause-room : goal.count_told-requires-clause-room
 count_told-requires-clause-room g c = counts_have_room g.F.FileForm.form _ _ _ _ _ _ _ _ _ _ _ c.records.invariant.follows
 
-pub next_slot-requires : goal.next_slot-requires
-next_slot-requires g c = room_for _ _ c.records.invariant.follows.given c.records.invariant.follows.slot_is
+pub next_slot-slot-requires : goal.next_slot-slot-requires
+next_slot-slot-requires g c = room_for _ _ c.records.invariant.follows.given c.records.invariant.follows.slot_is
 
 pub records-preserved : goal.records-preserved
 records-preserved g c =
@@ -49,7 +49,7 @@ records-preserved g c =
     record {
       follow = c.records.invariant.follow;
       header = c.next_read.ensures.header;
-      follows = rw (c.count_told.ensures.counts, c.next_slot.ensures)
+      follows = rw (c.count_told.ensures.counts, c.next_slot-slot.ensures)
           (follows_more g.F.FileForm.form _ _ _ _ _ _ _ _ _ _ _ _ _ _ _ _ _ c.records.invariant.follow c.records.invariant.follows c.told_of-told.ensures.told gives told.output told.report);
       counted = c.count_told.ensures.counted;
       read = ap (λ f. f.input) c.in-Ok-Some.ensures.cause ∙ c.records.invariant.read;

@@ -111,7 +111,7 @@ part_of_counts f r left l1 l2 w w1 w2 u u2 u3 s0 s1 s2 c begins new header grew 
       consumes = Consumes-trans left l1 l2 _ _ header.steps.reads.consumes all.steps.reads.consumes;
       text = between w w2 _ (output_is f r (header.steps.reads.taken ++ all.steps.reads.taken) all.given w w2 is (whole_front w w2 (sent_head ++ flat_map told_text (tolds r 0 all.given))
           (Appends-trans w w1 w2 sent_head (flat_map told_text (tolds r 0 all.given)) grew all.output)));
-      report_text = report_is f (header.steps.reads.taken ++ all.steps.reads.taken) all.given u u3 is
+      report_text = report_is f r (header.steps.reads.taken ++ all.steps.reads.taken) all.given u u3 is
           (front_behind u u2 u3 (flat_map told_report (tolds r 0 all.given)) _ all.report (subst (λ (x : RinexCounts). AppendsFront u2 u3 (file_counts_text x)) all.counts_are counts));
     }
 

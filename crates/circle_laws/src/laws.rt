@@ -1,0 +1,4 @@
+//! Laws.
+
+pub fn what_is_sent_comes_back()
+{}
