@@ -160,6 +160,7 @@ sent_in r slot old x xs all b = record {
 eph_closed : (r slot : ℕ) (old : List Part) (before : List NavItem) (x : NavItem) (xs : List NavItem) (all : Part → Type 0)
     → ((p : Part) → all p → IsPartValue p) → (b : Behind r slot old x xs all) → History r 7200 all (slot_stamp slot) before
     → IsClosed r 7200 all (record { end = b.own.end; key = b.own.key; verdict = verdict_of (latest before x) (Complete (as_sent x)) })
+unfolding sent_in
 eph_closed r slot old before x xs all values b history =
     let sent = sent_in r slot old x xs all b in
     let complete = sent.complete b.own.key b.own.of_item in

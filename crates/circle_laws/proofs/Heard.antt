@@ -106,7 +106,7 @@ accepted w b t (x ∷ xs) item o (inr i) e =
       ];
     }
 
-accepted_in : (w : ℕ) (xs : List LineItem) (item : LineItem) → IsAccepted w xs item → In xs item
+pub accepted_in : (w : ℕ) (xs : List LineItem) (item : LineItem) → IsAccepted w xs item → In xs item
 accepted_in w xs item h =
     subst (λ (l : List LineItem). In l item) (sym h.place) (In-append_right h.before (item ∷ h.after) item (inl refl))
 

@@ -5,3 +5,5 @@ pub mod Circle
 pub mod SentTexts
 pub mod Heard
 pub mod SentSlots
+pub mod Sendable
+pub mod Fewer

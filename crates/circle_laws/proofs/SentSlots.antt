@@ -1,5 +1,6 @@
 -- What is sent in the slots, and that its parts are those of the slots.
-use Rattle.std.proofs.Common.{◌≡◌, ℕ, ◌+◌, ◌-◌, ◌*◌, ◌/◌, ◌%◌, ◌^◌, ◌<◌, ◌≤◌, ◌⊎◌, ◌↔◌, inl, inr, Bool, true, false, nat_eq, if◌then◌else◌, pos, List, [], ◌∷◌, ◌++◌, Contains, Ok, Some, length, refl, sym, ap, subst, ◌∙◌, arith, append_assoc}
+use Rattle.std.proofs.Common.{◌≡◌, ℕ, ◌+◌, ◌-◌, ◌*◌, ◌/◌, ◌%◌, ◌^◌, ◌<◌, ◌≤◌, ◌⊎◌, ◌↔◌, inl, inr, Bool, true, false, nat_eq, if◌then◌else◌, pos, List, [], ◌∷◌, ◌++◌, Contains, Ok, Some, length, refl, sym, ap, subst, ◌∙◌, arith, append_assoc, eqb-true}
+use Rattle.std.proofs.lemmas.Int.{ints}
 use Rattle.nav_bits.specs.Packed.{AreBytes}
 use Rattle.nav_bits.specs.Signed.{IsSigned}
 use Rattle.nav_bits.proofs.Surface.{are_bytes}
@@ -312,9 +313,6 @@ slots_pages_order slot (x ∷ xs) =
 
 -- ---- what they bring
 
-abbrev one_heard : (a b : Part) → Type 0
-one_heard a b = Heard a ≡ Heard b
-
 heard_same : (a b : Part) → Heard a ≡ Heard b → a ≡ b
 heard_same a b e = cc
 
@@ -370,17 +368,129 @@ b_fact : (laws : ReadLaws) (r s : ℕ) (e : GpsEph) → IsSentGps r e
     → of_subframe (subframe_of (subframe_bytes (OrbitB e.b) (count_of e 3)) e.sat (s + 12)) ≡ Heard (part (s + 12) e.sat (OfOrbitB e.b))
 b_fact laws r s e h = ap of_subframe (laws.sub (OrbitB e.b) (count_of e 3) e.sat (s + 12) h.item.ranges.b (count_low e 3) tt)
 
-zero_signed : (w : ℕ) → 1 ≤ w → w ≤ 64 → IsSigned w (pos 0)
-zero_signed w low high = ?
-
-no_ion : IsGalIon no_ionosphere
-no_ion = record { ai0 = omega arith; ai1 = zero_signed 11 (omega arith) (omega arith); ai2 = zero_signed 14 (omega arith) (omega arith); regions = omega arith }
+pub no_ion : IsGalIon no_ionosphere
+no_ion = record { ai0 = omega arith; ai1 = (omega (arith, ints), omega (arith, ints)); ai2 = (omega (arith, ints), omega (arith, ints)); regions = omega arith }
 
 sat_low : (e : GalEph) → IsSat e.sat.system e.sat.number → e.sat.system ≡ OfGalileo → e.sat.number < 64
 sat_low e h is = let most = subst (λ s. IsSat s e.sat.number) is h in omega (arith, most.1)
 
-week_low : (e : GalEph) → galileo_week_number e < 4096
+pub week_low : (e : GalEph) → galileo_week_number e < 4096
 week_low e = omega arith
 
-second_low : (r : ℕ) (e : GalEph) → IsSentGal r e → IsSecond (galileo_second e)
+pub second_low : (r : ℕ) (e : GalEph) → IsSentGal r e → IsSecond (galileo_second e)
 second_low r e h = omega (arith, h.item.ranges.w1.toe)
+
+fact1 : (laws : ReadLaws) (r s : ℕ) (e : GalEph) → IsSentGal r e → of_word (reading_of (word1_bytes e.w1) e.sat (s + 1)) ≡ Heard (part (s + 1) e.sat (OfWord1 e.w1)) ∷ []
+fact1 laws r s e h = ap of_word (laws.word1 e.w1 e.sat (s + 1) h.item.ranges.w1)
+
+fact2 : (laws : ReadLaws) (r s : ℕ) (e : GalEph) → IsSentGal r e → of_word (reading_of (word2_bytes e.w2) e.sat (s + 2 + 1)) ≡ Heard (part (s + 3) e.sat (OfWord2 e.w2)) ∷ []
+fact2 laws r s e h = let at : s + 2 + 1 ≡ s + 3 = omega arith in ap (λ t. of_word (reading_of (word2_bytes e.w2) e.sat t)) at ∙ ap of_word (laws.word2 e.w2 e.sat (s + 3) h.item.ranges.w2)
+
+fact3 : (laws : ReadLaws) (r s : ℕ) (e : GalEph) → IsSentGal r e → of_word (reading_of (word3_bytes e.w3) e.sat (s + 4 + 1)) ≡ Heard (part (s + 5) e.sat (OfWord3 e.w3)) ∷ []
+fact3 laws r s e h = let at : s + 4 + 1 ≡ s + 5 = omega arith in ap (λ t. of_word (reading_of (word3_bytes e.w3) e.sat t)) at ∙ ap of_word (laws.word3 e.w3 e.sat (s + 5) h.item.ranges.w3)
+
+fact4 : (laws : ReadLaws) (r s : ℕ) (e : GalEph) → IsSentGal r e
+    → of_word (reading_of (word4_bytes e.w4 e.sat.number) e.sat (s + 6 + 1)) ≡ Heard (part (s + 7) e.sat (OfWord4 e.w4)) ∷ []
+fact4 laws r s e h = let at : s + 6 + 1 ≡ s + 7 = omega arith in ap (λ t. of_word (reading_of (word4_bytes e.w4 e.sat.number) e.sat t)) at ∙ ap of_word (laws.word4 e.w4 e.sat (s + 7) h.item.ranges.w4 (sat_low e h.item.ranges.sat h.item.whole.system))
+
+fact5 : (laws : ReadLaws) (r s : ℕ) (e : GalEph) → IsSentGal r e
+    → of_word (reading_of (word5_bytes e.health no_ionosphere (galileo_week_number e) (galileo_second e)) e.sat (s + 8 + 1))
+    ≡ Heard (part (s + 9) e.sat (OfHealth e.health (Sent (galileo_week_number e) (galileo_second e))))
+    ∷ Heard (part (s + 9) e.sat (OfGalIon no_ionosphere (galileo_week_number e) (galileo_second e))) ∷ []
+fact5 laws r s e h = let at : s + 8 + 1 ≡ s + 9 = omega arith in ap (λ t. of_word (reading_of (word5_bytes e.health no_ionosphere (galileo_week_number e) (galileo_second e)) e.sat t)) at ∙ ap of_word (laws.word5 e.health no_ionosphere (galileo_week_number e) (galileo_second e) e.sat (s + 9) h.item.ranges.health no_ion (week_low e) (second_low r e h))
+
+-- the parts of a slot are those that its subframes and pages bring
+parts_brought : (laws : ReadLaws) (r s : ℕ) (x : NavItem) (p : Part) → IsSent r x → In (parts_at s x) p → Brings (subs_at s x) (pages_at s x) p
+parts_brought laws r s (Gps e) p h (inl is) = inl (clock_sub s e, inl refl, (sub_brings (clock_sub s e) _ p (clock_fact laws r s e h)).0 is)
+parts_brought laws r s (Gps e) p h (inr (inl is)) = inl (a_sub s e, inr (inl refl), (sub_brings (a_sub s e) _ p (a_fact laws r s e h)).0 is)
+parts_brought laws r s (Gps e) p h (inr (inr (inl is))) = inl (b_sub s e, inr (inr (inl refl)), (sub_brings (b_sub s e) _ p (b_fact laws r s e h)).0 is)
+parts_brought laws r s (Gps e) p h (inr (inr (inr is))) = absurd is
+parts_brought laws r s (Gal e) p h (inl is) = inr (page1 s e, inl refl, (page_brings (page1 s e) _ p (fact1 laws r s e h)).0 is)
+parts_brought laws r s (Gal e) p h (inr (inl is)) = inr (page2 s e, inr (inl refl), (page_brings (page2 s e) _ p (fact2 laws r s e h)).0 is)
+parts_brought laws r s (Gal e) p h (inr (inr (inl is))) = inr (page3 s e, inr (inr (inl refl)), (page_brings (page3 s e) _ p (fact3 laws r s e h)).0 is)
+parts_brought laws r s (Gal e) p h (inr (inr (inr (inl is)))) = inr (page4 s e, inr (inr (inr (inl refl))), (page_brings (page4 s e) _ p (fact4 laws r s e h)).0 is)
+parts_brought laws r s (Gal e) p h (inr (inr (inr (inr (inl is))))) =
+    inr (page5 s e, inr (inr (inr (inr (inl refl)))), (page_brings_two (page5 s e) _ _ p (fact5 laws r s e h)).0 (inl is))
+parts_brought laws r s (Gal e) p h (inr (inr (inr (inr (inr (inl is)))))) =
+    inr (page5 s e, inr (inr (inr (inr (inl refl)))), (page_brings_two (page5 s e) _ _ p (fact5 laws r s e h)).0 (inr is))
+parts_brought laws r s (Gal e) p h (inr (inr (inr (inr (inr (inr is)))))) = absurd is
+parts_brought laws r s (Ion e) p h is = absurd is
+
+sub_back : (laws : ReadLaws) (r s : ℕ) (x : NavItem) (b : Sub) (p : Part) → IsSent r x → In (subs_at s x) b → SubGives b p → In (parts_at s x) p
+sub_back laws r s (Gps e) b p h (inl is) gives =
+    inl ((sub_brings (clock_sub s e) _ p (clock_fact laws r s e h)).1 (subst (λ (z : Sub). SubGives z p) (sym is) gives))
+sub_back laws r s (Gps e) b p h (inr (inl is)) gives =
+    inr (inl ((sub_brings (a_sub s e) _ p (a_fact laws r s e h)).1 (subst (λ (z : Sub). SubGives z p) (sym is) gives)))
+sub_back laws r s (Gps e) b p h (inr (inr (inl is))) gives =
+    inr (inr (inl ((sub_brings (b_sub s e) _ p (b_fact laws r s e h)).1 (subst (λ (z : Sub). SubGives z p) (sym is) gives))))
+sub_back laws r s (Gps e) b p h (inr (inr (inr is))) gives = absurd is
+sub_back laws r s (Gal e) b p h is gives = absurd is
+sub_back laws r s (Ion e) b p h is gives = absurd is
+
+page_back : (laws : ReadLaws) (r s : ℕ) (x : NavItem) (g : Page) (p : Part) → IsSent r x → In (pages_at s x) g → PageGives g p → In (parts_at s x) p
+page_back laws r s (Gps e) g p h is gives = absurd is
+page_back laws r s (Gal e) g p h (inl is) gives =
+    inl ((page_brings (page1 s e) _ p (fact1 laws r s e h)).1 (subst (λ (z : Page). PageGives z p) (sym is) gives))
+page_back laws r s (Gal e) g p h (inr (inl is)) gives =
+    inr (inl ((page_brings (page2 s e) _ p (fact2 laws r s e h)).1 (subst (λ (z : Page). PageGives z p) (sym is) gives)))
+page_back laws r s (Gal e) g p h (inr (inr (inl is))) gives =
+    inr (inr (inl ((page_brings (page3 s e) _ p (fact3 laws r s e h)).1 (subst (λ (z : Page). PageGives z p) (sym is) gives))))
+page_back laws r s (Gal e) g p h (inr (inr (inr (inl is)))) gives =
+    inr (inr (inr (inl ((page_brings (page4 s e) _ p (fact4 laws r s e h)).1 (subst (λ (z : Page). PageGives z p) (sym is) gives)))))
+page_back laws r s (Gal e) g p h (inr (inr (inr (inr (inl is))))) gives =
+    elim ((page_brings_two (page5 s e) _ _ p (fact5 laws r s e h)).1 (subst (λ (z : Page). PageGives z p) (sym is) gives)) [
+      | inl a ↦ inr (inr (inr (inr (inl a))))
+      | inr a ↦ inr (inr (inr (inr (inr (inl a)))))
+    ]
+page_back laws r s (Gal e) g p h (inr (inr (inr (inr (inr is))))) gives = absurd is
+page_back laws r s (Ion e) g p h is gives = absurd is
+
+-- each item may be sent, and there is a slot for it
+abbrev pub InSlots : ℕ → ℕ → List NavItem → Type 0
+InSlots r slot [] = Unit {0}
+InSlots r slot (x ∷ xs) = IsSent r x × (slot < 198842) × InSlots r (slot + 1) xs
+
+slots_brought : (laws : ReadLaws) (r slot : ℕ) (xs : List NavItem) (p : Part) → InSlots r slot xs → In (slots_parts slot xs) p → Brings (slots_subs slot xs) (slots_pages slot xs) p
+slots_brought laws r slot [] p h i = absurd i
+slots_brought laws r slot (x ∷ xs) p h i =
+    let s = slot_stamp slot in
+    elim (In-append_cases (parts_at s x) (slots_parts (slot + 1) xs) p i) [
+      | inl j ↦ elim (parts_brought laws r s x p h.0 j) [
+        | inl b ↦ inl (b.0, In-append_left (subs_at s x) (slots_subs (slot + 1) xs) b.0 b.1, b.2)
+        | inr g ↦ inr (g.0, In-append_left (pages_at s x) (slots_pages (slot + 1) xs) g.0 g.1, g.2)
+      ]
+      | inr j ↦ elim (slots_brought laws r (slot + 1) xs p h.2 j) [
+        | inl b ↦ inl (b.0, In-append_right (subs_at s x) (slots_subs (slot + 1) xs) b.0 b.1, b.2)
+        | inr g ↦ inr (g.0, In-append_right (pages_at s x) (slots_pages (slot + 1) xs) g.0 g.1, g.2)
+      ]
+    ]
+
+sub_in_slots : (laws : ReadLaws) (r slot : ℕ) (xs : List NavItem) (b : Sub) (p : Part) → InSlots r slot xs → In (slots_subs slot xs) b → SubGives b p → In (slots_parts slot xs) p
+sub_in_slots laws r slot [] b p h i gives = absurd i
+sub_in_slots laws r slot (x ∷ xs) b p h i gives =
+    let s = slot_stamp slot in
+    elim (In-append_cases (subs_at s x) (slots_subs (slot + 1) xs) b i) [
+      | inl j ↦ In-append_left (parts_at s x) (slots_parts (slot + 1) xs) p (sub_back laws r s x b p h.0 j gives)
+      | inr j ↦ In-append_right (parts_at s x) (slots_parts (slot + 1) xs) p (sub_in_slots laws r (slot + 1) xs b p h.2 j gives)
+    ]
+
+page_in_slots : (laws : ReadLaws) (r slot : ℕ) (xs : List NavItem) (g : Page) (p : Part) → InSlots r slot xs → In (slots_pages slot xs) g → PageGives g p → In (slots_parts slot xs) p
+page_in_slots laws r slot [] g p h i gives = absurd i
+page_in_slots laws r slot (x ∷ xs) g p h i gives =
+    let s = slot_stamp slot in
+    elim (In-append_cases (pages_at s x) (slots_pages (slot + 1) xs) g i) [
+      | inl j ↦ In-append_left (parts_at s x) (slots_parts (slot + 1) xs) p (page_back laws r s x g p h.0 j gives)
+      | inr j ↦ In-append_right (parts_at s x) (slots_parts (slot + 1) xs) p (page_in_slots laws r (slot + 1) xs g p h.2 j gives)
+    ]
+
+-- what is heard of what is sent is the parts of the slots
+pub slots_are_heard : (laws : ReadLaws) (pages : PageLaws) (r w slot : ℕ) (xs : List NavItem) (p : Part) → InSlots r slot xs
+    → IsPartHeard w (slots_items slot xs) p ↔ In (slots_parts slot xs) p
+slots_are_heard laws pages r w slot xs p h = (
+  λ heard. elim (heard_is_brought w (slot_stamp slot) (slots_items slot xs) (slots_subs slot xs) (slots_pages slot xs) p pages (slots_send laws slot xs) (slots_pages_order slot xs) heard) [
+    | inl b ↦ sub_in_slots laws r slot xs b.0 p h b.1 b.2
+    | inr g ↦ page_in_slots laws r slot xs g.0 p h g.1 g.2
+  ],
+  λ i. brought_is_heard w (slot_stamp slot) (slots_items slot xs) (slots_subs slot xs) (slots_pages slot xs) p pages (slots_send laws slot xs) (slots_order slot xs)
+      (slots_brought laws r slot xs p h i),
+)

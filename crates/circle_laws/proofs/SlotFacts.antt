@@ -342,6 +342,7 @@ word_member r s e p h i of_key to = record {
 }
 
 ion_member : (r s : ℕ) (e : GalEph) → IsSentGal r e → IsMember 7200 (GalSet s e) (end_place ion_key (s + 9)) (ion_part e s)
+unfolding ion_heard
 ion_member r s e h = record {
   here = (ion_heard s e).here;
   of_key = refl;
