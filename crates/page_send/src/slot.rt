@@ -137,12 +137,7 @@ fn slot_lines(stamp: u32, item: &NavItem) -> SlotText
 /// `Failed` only where the sink's count of faults rose in this call, or stands at its last value; a front of
 /// the lines was appended then.
 #[tactic(auto, unfolding(crate::specs::Slots::slot_text))]
-pub fn send_item<T: Sink>(
-    item: &NavItem,
-    r: RefWeek,
-    slot: u32,
-    out: &mut T,
-) -> Result<(), Failed>
+pub fn send_item<T: Sink>(item: &NavItem, r: RefWeek, slot: u32, out: &mut T) -> Result<(), Failed>
     requires ephemeris { IsEphemeris item.now }
     requires whole { IsItem item.now }
     requires may { send_fault r item.now slot ≡ None }
