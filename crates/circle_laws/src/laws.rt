@@ -1,6 +1,7 @@
 //! The laws: each function does nothing, and its contract is the law.
 
-ghost use Rattle.std.specs.Prelude.{◌≡◌, ◌∷◌, ◌↔◌, ℕ, List, None, Some, All, Contains, codes, false};
+ghost use Rattle.std.specs.Prelude.{◌≡◌, ◌∷◌, ◌↔◌, ℕ, List, None, Some, All, Contains, codes};
+ghost use Rattle.std.specs.Prelude.{false};
 ghost use Rattle.nav_io.specs.Lines.{Line, lines_by};
 ghost use Rattle.nav_eph.specs.Ranges.{IsItem};
 ghost use Rattle.nav_eph.specs.declared.items.NavItem.{NavItem};
@@ -21,8 +22,8 @@ pub fn parts_of_slots_come_back()
         → items_in (periods_of r 7200 (slots_parts 0 (sendable r 0 items))) ≡ sent_items r items }
 {}
 
-/// The text that is sent begins with a head that names no week and a window of 7,200 s, and behind it the
-/// lines stand for what is sent; of them exactly the parts of the slots are heard.
+/// The text that is sent begins with a head that names no week and a window of 7,200 s, and behind
+/// it the lines stand for what is sent; of them exactly the parts of the slots are heard.
 pub fn what_is_sent_is_heard()
     ensures head { (r : ℕ) (items : List NavItem) → lines_by false (sent_text r items)
         ≡ record { text = plain_head; long = false } ∷ sent_capture r items }
@@ -50,13 +51,15 @@ pub fn what_is_sent_is_heard()
     capture_log::lines_bring_what_is_heard();
 }
 
-/// What is sent comes back: of a capture with a window of 7,200 s, whose further lines hear the parts that
-/// are heard of what is sent of a list of items, the items are each ephemeris that may be sent, with the second
-/// at which its slot sends it, but for one that repeats the last of its key in every field but that second;
-/// behind each of Galileo the ionosphere that its slot bears; and no others.
+/// What is sent comes back: of a capture with a window of 7,200 s, whose further lines hear the
+/// parts that are heard of what is sent of a list of items, the items are each ephemeris that may
+/// be sent, with the second at which its slot sends it, but for one that repeats the last of its
+/// key in every field but that second; behind each of Galileo the ionosphere that its slot bears;
+/// and no others.
 ///
-/// So it is of a capture of which each line with a stamp is a line of what is sent, late or not, where each part
-/// is still heard; and of one that has the same lines in another order and repeated, where none is late.
+/// So it is of a capture of which each line with a stamp is a line of what is sent, late or not,
+/// where each part is still heard; and of one that has the same lines in another order and
+/// repeated, where none is late.
 pub fn what_is_sent_comes_back()
     ensures itself { (r : ℕ) (items : List NavItem) → All IsItem items
         → items_in (periods_of r 7200 (parts_of 7200 (sent_capture r items)))

@@ -11,8 +11,8 @@ use thiserror::Error;
 /// Why an ephemeris may not be sent: the first of these that holds, in this order.
 #[derive(Clone, Copy, PartialEq, Eq, Debug, Error)]
 pub enum SendFault {
-    /// The clock and the orbit of GPS are of different issues: the low eight bits of iodc are not iode
-    /// (IS-GPS-200, 20.3.4.4).
+    /// The clock and the orbit of GPS are of different issues: the low eight bits of iodc are not
+    /// iode (IS-GPS-200, 20.3.4.4).
     #[error("issue")]
     Issue,
     /// The week number that is sent would mean another week than that of toe.
@@ -55,16 +55,17 @@ fn is_past_the_last(slot: u32) -> bool
     slot >= SLOTS
 }
 
-/// Whether an ephemeris may be sent in a slot, counted from 0, to a receiver that takes week numbers near the
-/// week `r`.
+/// Whether an ephemeris may be sent in a slot, counted from 0, to a receiver that takes week
+/// numbers near the week `r`.
 ///
 /// # Errors
 ///
 /// The first of these that holds, in this order:
 ///
 /// - `Issue`: an ephemeris of GPS whose iodc has other low eight bits than iode;
-/// - `Week`: the week of toe is none of those that the digits tell apart near `r`: the 1024 of GPS from `r` -
-///   512 on, the 4096 of Galileo from `r` - 2048 on, or from 1024 on where that is later;
+/// - `Week`: the week of toe is none of those that the digits tell apart near `r`: the 1024 of GPS
+///   from `r` - 512 on, the 4096 of Galileo from `r` - 2048 on, or from 1024 on where that is
+///   later;
 /// - `Room`: the slot is 198,842 or more.
 pub fn can_send(item: &NavItem, r: RefWeek, slot: u32) -> Result<(), SendFault>
     requires ephemeris { IsEphemeris item.now }

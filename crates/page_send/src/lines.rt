@@ -4,7 +4,8 @@ ghost use Rattle.std.specs.Prelude.{◌≡◌, ◌+◌, ◌^◌, ◌<◌, ◌≤
 ghost use Rattle.arrayvec.specs.ArrayVec.{array_vec_len};
 ghost use Rattle.nav_eph.specs.declared.sat.System.TheVariants.{Gal, Gps};
 ghost use Rattle.lnav_subframe.specs.Writing.{IsWritable};
-ghost use Rattle.page_send.specs.Slots.{half_item, page_items, subframe_item, text_of_item, text_of_items};
+ghost use Rattle.page_send.specs.Slots.{half_item, page_items, subframe_item, text_of_item};
+ghost use Rattle.page_send.specs.Slots.{text_of_items};
 
 use arrayvec::ArrayVec;
 use capture_lines::{LineText, write_half_line, write_lnav};
@@ -65,7 +66,8 @@ fn push_half(stamp: u32, sat: Sat, half: &Half, text: &mut SlotText)
     push_line(&line, text);
 }
 
-// Appends the lines of the page of a word on E1-B: the even half at the stamp, the odd one a second later.
+// Appends the lines of the page of a word on E1-B: the even half at the stamp, the odd one a second
+// later.
 pub(crate) fn push_page(stamp: u32, sat: Sat, word: &Bits<16>, text: &mut SlotText)
     requires system { sat.system ≡ Gal }
     requires stamp { stamp + 1 < 2 ^ 32 }

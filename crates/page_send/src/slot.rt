@@ -8,7 +8,8 @@ ghost use Rattle.nav_io.specs.Front.{AppendsFront};
 ghost use Rattle.nav_eph.specs.Ranges.{IsItem};
 ghost use Rattle.nav_eph.specs.declared.sat.System.TheVariants.{Gal, Gps};
 ghost use Rattle.page_send.specs.Sendable.{IsEphemeris, send_fault};
-ghost use Rattle.page_send.specs.Slots.{count_of, galileo_items, galileo_second, galileo_week_number};
+ghost use Rattle.page_send.specs.Slots.{count_of, galileo_items, galileo_second};
+ghost use Rattle.page_send.specs.Slots.{galileo_week_number};
 ghost use Rattle.page_send.specs.Slots.{gps_items, gps_sending, gps_week_number, items_at};
 ghost use Rattle.page_send.specs.Slots.{no_ionosphere, slot_text, text_of_items};
 
@@ -121,21 +122,22 @@ fn slot_lines(stamp: u32, item: &NavItem) -> SlotText
     text
 }
 
-/// Writes the lines of an ephemeris in its slot, by one write; the slot `slot` begins at the stamp 21,600
-/// times its number.
+/// Writes the lines of an ephemeris in its slot, by one write; the slot `slot` begins at the stamp
+/// 21,600 times its number.
 ///
-/// GPS: subframes 1, 2 and 3, one every six seconds, the first with the count that names the start of the
-/// second one, at the second of toe less its rest by six (IS-GPS-200, 20.3.3.2). Galileo: the even and the odd
-/// halves of words 1 to 5, one every second; word 5 says the health, the week and the second of toe, and an
-/// ionosphere whose numbers are 0 (OS SIS ICD, 4.3.5). Spelling and digits are those of
-/// [`write_lnav`](capture_lines::write_lnav) and [`write_half_line`](capture_lines::write_half_line).
+/// GPS: subframes 1, 2 and 3, one every six seconds, the first with the count that names the start
+/// of the second one, at the second of toe less its rest by six (IS-GPS-200, 20.3.3.2). Galileo:
+/// the even and the odd halves of words 1 to 5, one every second; word 5 says the health, the week
+/// and the second of toe, and an ionosphere whose numbers are 0 (OS SIS ICD, 4.3.5). Spelling and
+/// digits are those of [`write_lnav`](capture_lines::write_lnav) and
+/// [`write_half_line`](capture_lines::write_half_line).
 ///
 /// It takes no memory.
 ///
 /// # Errors
 ///
-/// `Failed` only where the sink's count of faults rose in this call, or stands at its last value; a front of
-/// the lines was appended then.
+/// `Failed` only where the sink's count of faults rose in this call, or stands at its last value; a
+/// front of the lines was appended then.
 #[tactic(auto, unfolding(crate::specs::Slots::slot_text))]
 pub fn send_item<T: Sink>(item: &NavItem, r: RefWeek, slot: u32, out: &mut T) -> Result<(), Failed>
     requires ephemeris { IsEphemeris item.now }

@@ -1,5 +1,8 @@
 //! One ephemeris of each system as an independent encoder writes it, and the reasons not to send.
 
+ghost use Rattle.std.specs.Prelude.{◌↔◌, IsTrue};
+ghost use Rattle.page_send.specs.Sendable.{IsEphemeris};
+
 use crate::{SendFault, can_send, send_item};
 use gnss_week::{RefWeek, Week};
 use nav_bits::{S, U};
@@ -8,6 +11,7 @@ use nav_eph::{
     GpsOrbitB, GpsSide, NavItem, Sat, SentSecond, Sisa, Step16, Step60, System,
 };
 use nav_io::MemSink;
+use std::alloc::Global;
 use std::test::Fail;
 
 const GPS_LINES: &[u8] =
@@ -15,6 +19,17 @@ const GPS_LINES: &[u8] =
 
 const GALILEO_LINES: &[u8] =
     b"21600 P E11 B 010140000000000000000000000000\n21601 P E11 B 8000000000000000000038a9288000\n21602 P E11 B 020140000000000000000000000000\n21603 P E11 B 8000000000000000000008b5104000\n21604 P E11 B 030140000000000000000000000000\n21605 P E11 B 801ac0000000000000001aca444000\n21606 P E11 B 04014b000000000000000000000000\n21607 P E11 B 80000000000000000000371c7fc000\n21608 P E11 B 05000000000000000009ee00000000\n21609 P E11 B 80000000000000000000244dbcc000\n";
+
+// The item is an ephemeris.
+fn is_ephemeris(item: &NavItem) -> bool
+    ensures { IsTrue result ↔ IsEphemeris item.now }
+{
+    match item {
+        NavItem::Gps(_) => true,
+        NavItem::Gal(_) => true,
+        NavItem::Ion(_) => false,
+    }
+}
 
 // An ephemeris of G05 whose numbers are all 0 but for its iodc and its week.
 fn gps(iodc: u64, week: u32) -> Option<NavItem> {
@@ -119,29 +134,36 @@ fn galileo(week: u32) -> Option<NavItem> {
     Some(NavItem::Gal(eph))
 }
 
+// Whether an item is sent in a slot as these lines.
+fn is_sent_as(item: &NavItem, slot: u32, lines: &[u8], alloc: Global) -> Result<bool, Fail> {
+    let r = RefWeek::new(2295).ok_or("a week")?;
+    let mut out = MemSink::new(alloc, 600, Vec::new(alloc))?;
+    if !is_ephemeris(item) {
+        return Ok(false);
+    }
+    if !item.is_whole() {
+        return Ok(false);
+    }
+    if can_send(item, r, slot).is_err() {
+        return Ok(false);
+    }
+    if send_item(item, r, slot, &mut out).is_err() {
+        return Ok(false);
+    }
+    Ok(out.bytes() == lines)
+}
+
 #[test]
 fn sends_subframes(rt: HostRuntime) -> Result<(), Fail> {
-    let r = RefWeek::new(2295).ok_or("a week")?;
     let item = gps(0, 2295).ok_or("an ephemeris")?;
-    let mut out = MemSink::new(rt.alloc(), 600, Vec::new(rt.alloc()))?;
-    match can_send(&item, r, 0) {
-        Ok(()) => assert!(rt; send_item(&item, r, 0, &mut out).is_ok()),
-        Err(_) => return Err("it may be sent".into()),
-    }
-    assert_eq!(rt; out.bytes(), GPS_LINES);
+    assert!(rt; is_sent_as(&item, 0, GPS_LINES, rt.alloc())?);
     Ok(())
 }
 
 #[test]
 fn sends_pages(rt: HostRuntime) -> Result<(), Fail> {
-    let r = RefWeek::new(2295).ok_or("a week")?;
     let item = galileo(2295).ok_or("an ephemeris")?;
-    let mut out = MemSink::new(rt.alloc(), 600, Vec::new(rt.alloc()))?;
-    match can_send(&item, r, 1) {
-        Ok(()) => assert!(rt; send_item(&item, r, 1, &mut out).is_ok()),
-        Err(_) => return Err("it may be sent".into()),
-    }
-    assert_eq!(rt; out.bytes(), GALILEO_LINES);
+    assert!(rt; is_sent_as(&item, 1, GALILEO_LINES, rt.alloc())?);
     Ok(())
 }
 
@@ -218,10 +240,10 @@ fn says_why_not(rt: HostRuntime) -> Result<(), Fail> {
     for case in &cases {
         let r = RefWeek::new(case.near).ok_or("a week")?;
         let item = gps(case.iodc, case.week).ok_or("an ephemeris")?;
-        match item {
-            NavItem::Gps(_) => assert!(rt; can_send(&item, r, case.slot) == case.want),
-            _ => return Err("an ephemeris of GPS".into()),
+        if !is_ephemeris(&item) {
+            return Err("an ephemeris".into());
         }
+        assert!(rt; can_send(&item, r, case.slot) == case.want);
     }
     Ok(())
 }

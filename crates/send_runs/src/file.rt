@@ -1,6 +1,7 @@
 //! The run over a navigation file of a form, of which the ephemerides are sent.
 
-ghost use Rattle.std.specs.Prelude.{◌≡◌, ◌⊎◌, ◌^◌, ◌<◌, ◌≤◌, length, IsTrue, IsOk, IsErr, IsErrOf, IfOk, IfErr, IfSome, MatchResult, OnOk, OnErr};
+ghost use Rattle.std.specs.Prelude.{◌≡◌, ◌⊎◌, ◌^◌, ◌<◌, ◌≤◌, length, IsTrue, IsOk, IsErr, IsErrOf};
+ghost use Rattle.std.specs.Prelude.{IfOk, IfErr, IfSome, MatchResult, OnOk, OnErr};
 ghost use Rattle.std.specs.Io.KnownBytes.{Appends};
 ghost use Rattle.nav_io.specs.Causes.{HasCause};
 ghost use Rattle.nav_io.specs.Front.{AppendsFront};
@@ -52,7 +53,8 @@ pub(crate) fn follow_file<F: FileForm, S: Source, T: Sink, U: Sink>(
     ensures refused { IfSome (S.left input.old) (λ bytes.
         IsErrOf result BridgeFault.NotThisForm → IsErr (file_reads F.form bytes)) }
     ensures accepted { IfSome (S.left input.old) (λ bytes.
-        IsOk result ⊎ (IsErrOf result BridgeFault.WriteFault ⊎ IsErrOf result BridgeFault.ReportFault)
+        IsOk result
+        ⊎ (IsErrOf result BridgeFault.WriteFault ⊎ IsErrOf result BridgeFault.ReportFault)
         → IsOk (file_reads F.form bytes)) }
     ensures cause { HasItsCause
         (faults_of (S.faults input.old) (T.faults output.old) (U.faults report.old))

@@ -1,6 +1,7 @@
 //! The runs over navigation files.
 
-ghost use Rattle.std.specs.Prelude.{◌≡◌, ◌⊎◌, ◌^◌, ◌<◌, ◌≤◌, length, IsTrue, IsOk, IsErr, IsErrOf, IfOk, IfErr, IfSome, OnOk, OnErr};
+ghost use Rattle.std.specs.Prelude.{◌≡◌, ◌⊎◌, ◌^◌, ◌<◌, ◌≤◌, length, IsTrue, IsOk, IsErr, IsErrOf};
+ghost use Rattle.std.specs.Prelude.{IfOk, IfErr, IfSome, OnOk, OnErr};
 ghost use Rattle.std.specs.Io.KnownBytes.{Appends};
 ghost use Rattle.nav_io.specs.Causes.{Rose};
 ghost use Rattle.rinex_read.specs.Files.{file_reads};
@@ -17,19 +18,20 @@ use rinex_read::Rinex4;
 use rinex3_nav::Rinex3;
 use run_texts::BridgeFault;
 
-/// Reads a navigation file of RINEX 4 to its end, and writes while it reads the capture that is sent of it, to a receiver that
-/// takes week numbers near the week `r`.
+/// Reads a navigation file of RINEX 4 to its end, and writes while it reads the capture that is
+/// sent of it, to a receiver that takes week numbers near the week `r`.
 ///
-/// The header is judged first. Then the first line, `NAVCAP 1`, is written, and after each record of an ephemeris that may be
-/// sent the lines of its slot, repeats included; the slots follow one another from 0 on. A record that is refused, and an
-/// ephemeris that may not be sent, give a line of the report, with the number of their first line, and at the end the counts
-/// stand there: such an ephemeris counts as refused, and not as an item. Ionospheres are items, and are not sent.
+/// The header is judged first. Then the first line, `NAVCAP 1`, is written, and after each record
+/// of an ephemeris that may be sent the lines of its slot, repeats included; the slots follow one
+/// another from 0 on. A record that is refused, and an ephemeris that may not be sent, give a line
+/// of the report, with the number of their first line, and at the end the counts stand there: such
+/// an ephemeris counts as refused, and not as an item. Ionospheres are items, and are not sent.
 ///
 /// # Errors
 ///
 /// - `NotThisForm` exactly where the header is refused; nothing is written then.
-/// - `ReadFault`, `WriteFault`, `ReportFault` only where the count of faults of the input, the output or the report rose, or
-///   stands at its last value.
+/// - `ReadFault`, `WriteFault`, `ReportFault` only where the count of faults of the input, the
+///   output or the report rose, or stands at its last value.
 /// - `TooLong` only where 4,294,967,295 bytes were taken and one more was there.
 ///
 /// It takes no memory.
@@ -61,7 +63,8 @@ pub fn send_rinex<S: Source, T: Sink, U: Sink>(
     ensures refused { IfSome (S.left input.old) (λ bytes.
         IsErrOf result BridgeFault.NotThisForm → IsErr (file_reads rinex4 bytes)) }
     ensures accepted { IfSome (S.left input.old) (λ bytes.
-        IsOk result ⊎ (IsErrOf result BridgeFault.WriteFault ⊎ IsErrOf result BridgeFault.ReportFault)
+        IsOk result
+        ⊎ (IsErrOf result BridgeFault.WriteFault ⊎ IsErrOf result BridgeFault.ReportFault)
         → IsOk (file_reads rinex4 bytes)) }
 
     // Each fault has its cause, and want of memory is none.
@@ -123,7 +126,8 @@ pub fn send_rinex3<S: Source, T: Sink, U: Sink>(
     ensures refused { IfSome (S.left input.old) (λ bytes.
         IsErrOf result BridgeFault.NotThisForm → IsErr (file_reads rinex3 bytes)) }
     ensures accepted { IfSome (S.left input.old) (λ bytes.
-        IsOk result ⊎ (IsErrOf result BridgeFault.WriteFault ⊎ IsErrOf result BridgeFault.ReportFault)
+        IsOk result
+        ⊎ (IsErrOf result BridgeFault.WriteFault ⊎ IsErrOf result BridgeFault.ReportFault)
         → IsOk (file_reads rinex3 bytes)) }
 
     // Each fault has its cause, and want of memory is none.

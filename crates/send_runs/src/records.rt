@@ -1,6 +1,7 @@
 //! The records of a navigation file, one after another, of which the ephemerides are sent.
 
-ghost use Rattle.std.specs.Prelude.{◌≡◌, ◌⊎◌, ◌+◌, ◌^◌, ◌<◌, ◌≤◌, [], IsTrue, IsErrOf, IfErr, OnOk, OnErr, length, codes};
+ghost use Rattle.std.specs.Prelude.{◌≡◌, ◌⊎◌, ◌+◌, ◌^◌, ◌<◌, ◌≤◌, [], IsTrue, IsErrOf, IfErr, OnOk};
+ghost use Rattle.std.specs.Prelude.{OnErr, length, codes};
 ghost use Rattle.std.specs.Io.KnownBytes.{Appends};
 ghost use Rattle.nav_io.specs.Front.{AppendsFront};
 ghost use Rattle.rinex_read.specs.declared.judged.HeaderState.TheVariants.{Passed};
@@ -70,7 +71,8 @@ fn tell<T: Sink, U: Sink>(
     }
 }
 
-// Takes the records behind the header, one after another: each ephemeris is written as soon as its record was read.
+// Takes the records behind the header, one after another: each ephemeris is written as soon as its
+// record was read.
 pub(crate) fn follow_records<F: FileForm, S: Source, T: Sink, U: Sink>(
     r: RefWeek,
     records: &mut RecordReader<F>,
