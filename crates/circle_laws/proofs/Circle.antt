@@ -48,11 +48,13 @@ ascending_with : (m : ℕ) (some more : List Closed) → IsAscending some → Is
     → IsAscending (some ++ more)
 ascending_with m [] more a b low high = b
 ascending_with m (c ∷ cs) more a b low high =
-    let first : c.end < m = low c (inl refl) in
-    (all_of (λ d. IsBefore (closed_place c) (closed_place d)) (cs ++ more) (λ d i. elim (In-append_cases cs more d i) [
-      | inl j ↦ All-in (λ d. IsBefore (closed_place c) (closed_place d)) cs d a.0 j
-      | inr j ↦ let g = high d j in inl (omega (arith, first, g))
-    ]), ascending_with m cs more a.1 b (λ d i. low d (inr i)) high)
+    let first : c.end < m = low c (inl refl) in (
+      all_of (λ d. IsBefore (closed_place c) (closed_place d)) (cs ++ more) (λ d i. elim (In-append_cases cs more d i) [
+        | inl j ↦ All-in (λ d. IsBefore (closed_place c) (closed_place d)) cs d a.0 j
+        | inr j ↦ let g = high d j in inl (omega (arith, first, g))
+      ]),
+      ascending_with m cs more a.1 b (λ d i. low d (inr i)) high,
+    )
 
 -- all that is known where a slot comes behind old parts, and others behind it
 pub record Behind (r slot : ℕ) (old : List Part) (x : NavItem) (xs : List NavItem) (all : Part → Type 0) : Type 0 where

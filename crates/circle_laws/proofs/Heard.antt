@@ -283,8 +283,12 @@ heard_is_brought w b items subs pages p laws sends order (inr (inr h)) =
     let g = word_of_page w b items subs pages h.even h.odd laws sends order h.heard in
     let word : word_of h.even.half h.odd.half ≡ g.0.word =
     ap (λ (x : StampedHalf). word_of x.half h.odd.half) g.2 ∙ ap (λ (x : StampedHalf). word_of (even_of g.0.word) x.half) g.3 ∙ laws.word g.0.word (sends.bytes g.0 g.1) in
-    inr (g.0, g.1, subst (λ (l : List Event). Contains l (Heard p))
-    (ap (λ (x : StampedHalf). of_word (reading_of (word_of h.even.half h.odd.half) x.sat x.stamp)) g.3 ∙ ap (λ (l : List ℕ). of_word (reading_of l g.0.sat (g.0.stamp + 1))) word) h.is)
+    inr (
+      g.0,
+      g.1,
+      subst (λ (l : List Event). Contains l (Heard p))
+          (ap (λ (x : StampedHalf). of_word (reading_of (word_of h.even.half h.odd.half) x.sat x.stamp)) g.3 ∙ ap (λ (l : List ℕ). of_word (reading_of l g.0.sat (g.0.stamp + 1))) word) h.is,
+    )
 
 pub brought_is_heard : (w b : ℕ) (items : List LineItem) (subs : List Sub) (pages : List Page) (p : Part) → PageLaws → Sends items subs pages → InOrder b items
     → Brings subs pages p → IsPartHeard w items p

@@ -42,18 +42,22 @@ not_false false e = absurd cc
 
 may_be_sent : (r slot : ℕ) (x : NavItem) → IsItem x → is_sent r x slot ≡ true → IsSent r x × (slot < 198842)
 may_be_sent r slot (Gps e) item is =
-    let f = first_none (has_other_issue (Gps e)) (is_far r (Gps e)) (is_full slot) (and_parts true (no_fault (first_fault (has_other_issue (Gps e)) (is_far r (Gps e)) (is_full slot))) is).1 in
-    (record {
-      item = item;
-      issue = eqb-true (e.clock.iodc % 256) e.a.iode (not_false (nat_eq (e.clock.iodc % 256) e.a.iode) f.0);
-      near = (near_gps-decides r e.toe_week).0 (not_false (near_gps r e.toe_week) f.1);
-    }, leb-false 198842 slot f.2)
+    let f = first_none (has_other_issue (Gps e)) (is_far r (Gps e)) (is_full slot) (and_parts true (no_fault (first_fault (has_other_issue (Gps e)) (is_far r (Gps e)) (is_full slot))) is).1 in (
+      record {
+        item = item;
+        issue = eqb-true (e.clock.iodc % 256) e.a.iode (not_false (nat_eq (e.clock.iodc % 256) e.a.iode) f.0);
+        near = (near_gps-decides r e.toe_week).0 (not_false (near_gps r e.toe_week) f.1);
+      },
+      leb-false 198842 slot f.2,
+    )
 may_be_sent r slot (Gal e) item is =
-    let f = first_none (has_other_issue (Gal e)) (is_far r (Gal e)) (is_full slot) (and_parts true (no_fault (first_fault (has_other_issue (Gal e)) (is_far r (Gal e)) (is_full slot))) is).1 in
-    (record {
-      item = item;
-      near = (near_galileo-decides r e.toe_week).0 (not_false (near_galileo r e.toe_week) f.1);
-    }, leb-false 198842 slot f.2)
+    let f = first_none (has_other_issue (Gal e)) (is_far r (Gal e)) (is_full slot) (and_parts true (no_fault (first_fault (has_other_issue (Gal e)) (is_far r (Gal e)) (is_full slot))) is).1 in (
+      record {
+        item = item;
+        near = (near_galileo-decides r e.toe_week).0 (not_false (near_galileo r e.toe_week) f.1);
+      },
+      leb-false 198842 slot f.2,
+    )
 may_be_sent r slot (Ion e) item is = absurd cc
 
 pub in_slots : (r slot : ℕ) (items : List NavItem) → All IsItem items → InSlots r slot (sendable r slot items)
@@ -113,21 +117,41 @@ half_spelt laws t sat half fits system number =
 spelt_at : (laws : ReadLaws) (r s : ℕ) (x : NavItem) → IsSent r x → s + 12 < 2 ^ 32 → AreSpelt (items_at s x)
 spelt_at laws r s (Gps e) h fits =
     let line : (t : ℕ) (body : SubframeOut) (count : ℕ) → t < 2 ^ 32 → IsSpelt (subframe_item t e.sat body count) =
-    λ t body count low. sub_spelt laws t e.sat body count low h.item.whole.system h.item.ranges.sat in
-    (line s (Clock e.clock e.side (gps_week_number e)) (count_of e 1) (omega (arith, fits)),
-    (line (s + 6) (OrbitA e.a e.fit) (count_of e 2) (omega (arith, fits)), (line (s + 12) (OrbitB e.b) (count_of e 3) (omega (arith, fits)), tt)))
+    λ t body count low. sub_spelt laws t e.sat body count low h.item.whole.system h.item.ranges.sat in (
+      line s (Clock e.clock e.side (gps_week_number e)) (count_of e 1) (omega (arith, fits)),
+      (line (s + 6) (OrbitA e.a e.fit) (count_of e 2) (omega (arith, fits)), (line (s + 12) (OrbitB e.b) (count_of e 3) (omega (arith, fits)), tt)),
+    )
 spelt_at laws r s (Gal e) h fits =
     let line : (t half : ℕ) → t < 2 ^ 32 → IsSpelt (half_item t e.sat half) = λ t half low. half_spelt laws t e.sat half low h.item.whole.system h.item.ranges.sat in
     let w1 = word1_bytes e.w1 in
     let w2 = word2_bytes e.w2 in
     let w3 = word3_bytes e.w3 in
     let w4 = word4_bytes e.w4 e.sat.number in
-    let w5 = word5_bytes e.health no_ionosphere (galileo_week_number e) (galileo_second e) in
-    (line s (even_of w1) (omega (arith, fits)), (line (s + 1) (odd_of w1) (omega (arith, fits)),
-    (line (s + 2) (even_of w2) (omega (arith, fits)), (line (s + 2 + 1) (odd_of w2) (omega (arith, fits)),
-    (line (s + 4) (even_of w3) (omega (arith, fits)), (line (s + 4 + 1) (odd_of w3) (omega (arith, fits)),
-    (line (s + 6) (even_of w4) (omega (arith, fits)), (line (s + 6 + 1) (odd_of w4) (omega (arith, fits)),
-    (line (s + 8) (even_of w5) (omega (arith, fits)), (line (s + 8 + 1) (odd_of w5) (omega (arith, fits)), tt))))))))))
+    let w5 = word5_bytes e.health no_ionosphere (galileo_week_number e) (galileo_second e) in (
+      line s (even_of w1) (omega (arith, fits)),
+      (
+        line (s + 1) (odd_of w1) (omega (arith, fits)),
+        (
+          line (s + 2) (even_of w2) (omega (arith, fits)),
+          (
+            line (s + 2 + 1) (odd_of w2) (omega (arith, fits)),
+            (
+              line (s + 4) (even_of w3) (omega (arith, fits)),
+              (
+                line (s + 4 + 1) (odd_of w3) (omega (arith, fits)),
+                (
+                  line (s + 6) (even_of w4) (omega (arith, fits)),
+                  (
+                    line (s + 6 + 1) (odd_of w4) (omega (arith, fits)),
+                    (line (s + 8) (even_of w5) (omega (arith, fits)), (line (s + 8 + 1) (odd_of w5) (omega (arith, fits)), tt)),
+                  ),
+                ),
+              ),
+            ),
+          ),
+        ),
+      ),
+    )
 spelt_at laws r s (Ion e) h fits = absurd h
 
 pub slots_spelt : (laws : ReadLaws) (r slot : ℕ) (xs : List NavItem) → InSlots r slot xs → AreSpelt (slots_items slot xs)

@@ -270,16 +270,58 @@ unfolding half_item
 half_stamp t sat half = refl
 
 order_at : (s m : ℕ) (x : NavItem) → s + 12 ≤ m → OrderTo s m (items_at s x)
-order_at s m (Gps e) l =
-    (s, sub_stamp s e.sat (Clock e.clock e.side (gps_week_number e)) (count_of e 1), omega arith,
-    (s + 6, sub_stamp (s + 6) e.sat (OrbitA e.a e.fit) (count_of e 2), omega arith,
-    (s + 12, sub_stamp (s + 12) e.sat (OrbitB e.b) (count_of e 3), omega arith, l)))
-order_at s m (Gal e) l =
-    (s, half_stamp s e.sat (even_of (page1 s e).word), omega arith, (s + 1, half_stamp (s + 1) e.sat (odd_of (page1 s e).word), omega arith,
-    (s + 2, half_stamp (s + 2) e.sat (even_of (page2 s e).word), omega arith, (s + 2 + 1, half_stamp (s + 2 + 1) e.sat (odd_of (page2 s e).word), omega arith,
-    (s + 4, half_stamp (s + 4) e.sat (even_of (page3 s e).word), omega arith, (s + 4 + 1, half_stamp (s + 4 + 1) e.sat (odd_of (page3 s e).word), omega arith,
-    (s + 6, half_stamp (s + 6) e.sat (even_of (page4 s e).word), omega arith, (s + 6 + 1, half_stamp (s + 6 + 1) e.sat (odd_of (page4 s e).word), omega arith,
-    (s + 8, half_stamp (s + 8) e.sat (even_of (page5 s e).word), omega arith, (s + 8 + 1, half_stamp (s + 8 + 1) e.sat (odd_of (page5 s e).word), omega arith, omega (arith, l)))))))))))
+order_at s m (Gps e) l = (
+  s,
+  sub_stamp s e.sat (Clock e.clock e.side (gps_week_number e)) (count_of e 1),
+  omega arith,
+  (
+    s + 6,
+    sub_stamp (s + 6) e.sat (OrbitA e.a e.fit) (count_of e 2),
+    omega arith,
+    (s + 12, sub_stamp (s + 12) e.sat (OrbitB e.b) (count_of e 3), omega arith, l),
+  ),
+)
+order_at s m (Gal e) l = (
+  s,
+  half_stamp s e.sat (even_of (page1 s e).word),
+  omega arith,
+  (
+    s + 1,
+    half_stamp (s + 1) e.sat (odd_of (page1 s e).word),
+    omega arith,
+    (
+      s + 2,
+      half_stamp (s + 2) e.sat (even_of (page2 s e).word),
+      omega arith,
+      (
+        s + 2 + 1,
+        half_stamp (s + 2 + 1) e.sat (odd_of (page2 s e).word),
+        omega arith,
+        (
+          s + 4,
+          half_stamp (s + 4) e.sat (even_of (page3 s e).word),
+          omega arith,
+          (
+            s + 4 + 1,
+            half_stamp (s + 4 + 1) e.sat (odd_of (page3 s e).word),
+            omega arith,
+            (
+              s + 6,
+              half_stamp (s + 6) e.sat (even_of (page4 s e).word),
+              omega arith,
+              (
+                s + 6 + 1,
+                half_stamp (s + 6 + 1) e.sat (odd_of (page4 s e).word),
+                omega arith,
+                (s + 8, half_stamp (s + 8) e.sat (even_of (page5 s e).word), omega arith, (s + 8 + 1, half_stamp (s + 8 + 1) e.sat (odd_of (page5 s e).word), omega arith, omega (arith, l))),
+              ),
+            ),
+          ),
+        ),
+      ),
+    ),
+  ),
+)
 order_at s m (Ion e) l = omega (arith, l)
 
 pub slots_order : (slot : ℕ) (xs : List NavItem) → InOrder (slot_stamp slot) (slots_items slot xs)

@@ -367,11 +367,22 @@ abbrev said_health : ℕ → GalEph → ℕ × GalHealth × SentTag
 said_health s e = (s + 9, e.health, Sent (galileo_week_number e) (galileo_second e))
 
 healths_give : (s : ℕ) (e : GalEph) → AllGive (health_of e.sat) (said_health s e) (galileo_parts s e)
-healths_give s e =
-    (health_none (s + 1) e.sat (OfWord1 e.w1) (said_health s e) refl, (health_none (s + 3) e.sat (OfWord2 e.w2) (said_health s e) refl,
-    (health_none (s + 5) e.sat (OfWord3 e.w3) (said_health s e) refl, (health_none (s + 7) e.sat (OfWord4 e.w4) (said_health s e) refl,
-    (health_one (s + 9) e.sat (OfHealth e.health (Sent (galileo_week_number e) (galileo_second e))) (said_health s e) refl,
-    (health_none (s + 9) e.sat (OfGalIon no_ionosphere (galileo_week_number e) (galileo_second e)) (said_health s e) refl, tt))))))
+healths_give s e = (
+  health_none (s + 1) e.sat (OfWord1 e.w1) (said_health s e) refl,
+  (
+    health_none (s + 3) e.sat (OfWord2 e.w2) (said_health s e) refl,
+    (
+      health_none (s + 5) e.sat (OfWord3 e.w3) (said_health s e) refl,
+      (
+        health_none (s + 7) e.sat (OfWord4 e.w4) (said_health s e) refl,
+        (
+          health_one (s + 9) e.sat (OfHealth e.health (Sent (galileo_week_number e) (galileo_second e))) (said_health s e) refl,
+          (health_none (s + 9) e.sat (OfGalIon no_ionosphere (galileo_week_number e) (galileo_second e)) (said_health s e) refl, tt),
+        ),
+      ),
+    ),
+  ),
+)
 
 health_is : (s : ℕ) (e : GalEph) (w : ℕ × GalHealth × SentTag) → HasValue (health_of e.sat) (GalSet s e) w → w ≡ said_health s e
 health_is s e w h = gives_value (health_of e.sat) (said_health s e) (galileo_parts s e) (GalSet s e) w

@@ -107,13 +107,13 @@ is_slot r s (GalItem e) h =
       ions = ion ∷ [];
       ions_each = λ c i. elim i [
         | inl is ↦ subst (λ (z : Closed). IsIonClosed r (Contains (parts_at s (GalItem e))) (end_place (gal_key e) (s + 7)) z) is (record {
-            item = ion_item e;
-            period = ion_period r s e h;
-            found = ion_found r s e h;
-            verdict = refl;
-            after = inl (omega arith);
-            other = λ never. never;
-          })
+          item = ion_item e;
+          period = ion_period r s e h;
+          found = ion_found r s e h;
+          verdict = refl;
+          after = inl (omega arith);
+          other = λ never. never;
+        })
         | inr is ↦ absurd is
       ];
       ions_ascending = (tt, tt);

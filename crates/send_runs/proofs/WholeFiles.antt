@@ -131,4 +131,3 @@ whole_file f r left l1 l2 w w1 w2 u u2 u3 s0 s1 s2 c begins new header grew all 
       report_text = subst (λ (x : Result (List ItemRead) HeaderFault). Appends u u3 (sends_report r x)) (sym is)
           (Appends-trans u u2 u3 _ _ all.report (subst (λ (x : RinexCounts). Appends u2 u3 (file_counts_text x)) all.counts_are counts));
     }
-

@@ -40,8 +40,7 @@ parts_are : (lines : LineLaws) (reads : ReadLaws) (pages : PageLaws)
 parts_are lines reads pages heard r items part all =
     let xs = sendable r 0 items in
     let same = items_are lines reads r items all in
-    let slots = slots_are_heard reads pages r 7200 0 xs part (in_slots r 0 items all) in
-    (
+    let slots = slots_are_heard reads pages r 7200 0 xs part (in_slots r 0 items all) in (
       λ i. contains_from_In (slots_parts 0 xs) part (slots.0 (subst (λ (l : List LineItem). IsPartHeard 7200 l part) same ((heard 7200 (sent_capture r items) part).0 i))),
       λ i. (heard 7200 (sent_capture r items) part).1
           (subst (λ (l : List LineItem). IsPartHeard 7200 l part) (sym same) (slots.1 (In-from_contains (slots_parts 0 xs) part i))),
