@@ -1,4 +1,4 @@
-//! Captures, converted as the command line asks, over memory.
+//! Inputs over memory, converted as the command line asks: what rows of captures give.
 
 use crate::bits::expand;
 use crate::statuses::bridge;
@@ -69,6 +69,16 @@ pub(crate) fn convert_failing(
     input: &str,
     failing: Failing,
 ) -> Result<Outcome, AllocError> {
+    convert_bytes(alloc, words, expand(alloc, input)?, failing)
+}
+
+// A run over these bytes, some of whose calls fail.
+pub(crate) fn convert_bytes(
+    alloc: Global,
+    words: &str,
+    input: Vec<u8>,
+    failing: Failing,
+) -> Result<Outcome, AllocError> {
     let Failing {
         cuts,
         reads,
@@ -76,7 +86,7 @@ pub(crate) fn convert_failing(
         reports,
     } = failing;
     let words = words_of(alloc, words)?;
-    let mut input = MemSource::new(expand(alloc, input)?, cuts, reads);
+    let mut input = MemSource::new(input, cuts, reads);
     let mut output = MemSink::new(alloc, 65_536, writes)?;
     let mut report = MemSink::new(alloc, 65_536, reports)?;
     let status = bridge(alloc, &words, &mut input, &mut output, &mut report);
@@ -87,6 +97,11 @@ pub(crate) fn convert_failing(
         report,
         left,
     })
+}
+
+// A run over these bytes.
+pub(crate) fn convert_all(alloc: Global, words: &str, input: &[u8]) -> Result<Outcome, AllocError> {
+    convert_bytes(alloc, words, input.to_vec(alloc)?, nothing_fails(alloc))
 }
 
 // A run over a capture.
