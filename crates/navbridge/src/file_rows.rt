@@ -1,6 +1,7 @@
 //! RINEX 4 navigation files, converted over memory.
 
-use crate::rows::{HEADER, concat_text, convert_all, convert_bytes, nothing_fails};
+use crate::over_memory::{concat_text, convert_all, convert_bytes, nothing_fails};
+use crate::rows::HEADER;
 use crate::stream_rows::{GALILEO_FRAME, GPS_FRAME};
 use crate::texts::{GALILEO, RECORD};
 use std::alloc::{AllocError, Global};
@@ -213,8 +214,8 @@ fn refuses_records(rt: HostRuntime) -> Result<(), Fail> {
     Ok(())
 }
 
-// A file as other programs write it: version 4.00, the exponent letter e, lines that end with CR LF, no fit interval, a
-// transmission time that is not known, and records of other kinds.
+// A file as other programs write it: version 4.00, the exponent letter e, lines that end with CR LF,
+// no fit interval, a transmission time that is not known, and records of other kinds.
 const FOREIGN: &str = concat!(
     "     4.00           NAVIGATION DATA     M                   RINEX VERSION / TYPE\r\n",
     "    18                                                      LEAP SECONDS\r\n",

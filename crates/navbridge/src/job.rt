@@ -45,8 +45,8 @@ pub struct StreamJob {
     pub to: StreamTo,
 }
 
-/// The job that the words give, where they give one: they spell the options of one row of the table of jobs, in any order,
-/// each once and each in its range.
+/// The job that the words give, where they give one: they spell the options of one row of the table
+/// of jobs, in any order, each once and each in its range.
 pub fn job_of(words: &[String]) -> Option<Job>
     ensures { MatchOption result (¬ GivesJob (map string_bytes words.now))
         (IsJob (map string_bytes words.now)) }

@@ -23,6 +23,8 @@ mod job;
 mod laws;
 mod options;
 #[cfg(test)]
+mod over_memory;
+#[cfg(test)]
 mod rinex3_rows;
 #[cfg(test)]
 mod rows;

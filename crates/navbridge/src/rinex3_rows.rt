@@ -1,7 +1,8 @@
 //! RINEX 3 navigation files, converted over memory.
 
 use crate::file_rows::{ONE_ITEM, replaced};
-use crate::rows::{HEADER, concat_text, convert_all};
+use crate::over_memory::{concat_text, convert_all};
+use crate::rows::HEADER;
 use crate::stream_rows::GPS_FRAME;
 use crate::texts::{GALILEO, RECORD};
 use std::test::Fail;

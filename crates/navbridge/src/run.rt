@@ -1,10 +1,12 @@
 //! One job, from its input to its output and its report.
 
-ghost use Rattle.std.specs.Prelude.{◌≡◌, ◌⊎◌, ◌^◌, ◌<◌, ◌≤◌, length, IsTrue, IsOk, IsErr, IsErrOf, IfSome, OnOk, OnErr, MatchResult, Ok, Err};
+ghost use Rattle.std.specs.Prelude.{◌≡◌, ◌⊎◌, ◌^◌, ◌<◌, ◌≤◌, length, IsTrue, IsOk, IsErr, IsErrOf};
+ghost use Rattle.std.specs.Prelude.{IfSome, OnOk, OnErr, MatchResult, Ok, Err};
 ghost use Rattle.std.specs.Io.KnownBytes.{Appends, IsAtEnd};
 ghost use Rattle.nav_io.specs.Causes.{Rose};
 ghost use Rattle.run_texts.specs.Runs.{RunsPart, TakesTooMany};
-ghost use Rattle.navbridge.specs.JobTexts.{out_of, report_of, Accepts, HasLeap, least_of, Stops, IsSilent, TakesMemory};
+ghost use Rattle.navbridge.specs.JobTexts.{out_of, report_of, Accepts, HasLeap, least_of, Stops};
+ghost use Rattle.navbridge.specs.JobTexts.{IsSilent, TakesMemory};
 
 use crate::job::Job;
 use bridge_engine::{BridgeFault, run_capture, run_frames};
@@ -22,7 +24,8 @@ pub(crate) fn run_job<S: Source, T: Sink, U: Sink>(
 ) -> Result<(), BridgeFault>
     requires leap { HasLeap job.now }
 
-    // A job that is done took the whole input, met no fault, and wrote and reported what the bytes give.
+    // A job that is done took the whole input, met no fault, and wrote and reported what the bytes
+    // give.
     ensures text { OnOk result (IfSome (S.left input.old) (λ bytes.
         Appends (T.written output.old) (T.written output.new) (out_of job.now bytes))) }
     ensures report_text { OnOk result (IfSome (S.left input.old) (λ bytes.
@@ -48,7 +51,8 @@ pub(crate) fn run_job<S: Source, T: Sink, U: Sink>(
     ensures refused { IfSome (S.left input.old) (λ bytes.
         IsErrOf result BridgeFault.NotThisForm → ¬ Accepts job.now bytes) }
     ensures accepted { IfSome (S.left input.old) (λ bytes.
-        IsOk result ⊎ (IsErrOf result BridgeFault.WriteFault ⊎ IsErrOf result BridgeFault.ReportFault)
+        IsOk result
+        ⊎ (IsErrOf result BridgeFault.WriteFault ⊎ IsErrOf result BridgeFault.ReportFault)
         → Accepts job.now bytes) }
 
     // Each fault has its cause.

@@ -1,6 +1,7 @@
 //! Streams of RTCM frames, converted over memory.
 
-use crate::rows::{HEADER, concat_text, convert_all, convert_bytes, nothing_fails};
+use crate::over_memory::{concat_text, convert_all, convert_bytes, nothing_fails};
+use crate::rows::HEADER;
 use std::alloc::{AllocError, Global};
 use std::test::Fail;
 
@@ -16,7 +17,8 @@ const TO_RTCM: &str = "--from=stream;--to=rtcm;--week=2295";
 pub(crate) const GPS_FRAME: &[u8] =
     b"\xd3\0\x3d\x3f\xb1\x4f\x70\0\0\0\0\0\0\0\0\0\0\0\0\0\0\0\0\0\0\0\0\0\0\0\0\0\0\0\0\0\0\0\0\0\0\0\0\0\0\0\0\0\0\0\0\0\0\0\0\0\0\0\0\0\0\0\0\0\xd1\xac\x12";
 
-// Message 1046 of an ephemeris of E11 in week 2295 with issue 5 and SISA 107, whose other fields are 0, as a frame.
+// Message 1046 of an ephemeris of E11 in week 2295 with issue 5 and SISA 107, whose other fields are
+// 0, as a frame.
 pub(crate) const GALILEO_FRAME: &[u8] =
     b"\xd3\0\x3f\x41\x62\xd3\xdc\x05\x6b\0\0\0\0\0\0\0\0\0\0\0\0\0\0\0\0\0\0\0\0\0\0\0\0\0\0\0\0\0\0\0\0\0\0\0\0\0\0\0\0\0\0\0\0\0\0\0\0\0\0\0\0\0\0\0\0\0\x24\xf2\x82";
 

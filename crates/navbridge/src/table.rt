@@ -1,6 +1,7 @@
-//! The table of jobs, as it is read: the forms and the values of the options, and the job whose row has them.
+//! The table of jobs, as it is read: the forms and the values of the options, and the job whose row
+//! has them.
 
-ghost use Rattle.std.specs.Prelude.{◌≡◌, ◌↔◌, List, ℕ, None, Some, MatchOption, IsFalse, codes};
+ghost use Rattle.std.specs.Prelude.{◌≡◌, ◌↔◌, None, Some, MatchOption, IsFalse, codes};
 ghost use Rattle.rinex_write.specs.declared.header.HeaderWords.{HeaderWords};
 ghost use Rattle.navbridge.specs.Job.{capture_target, file_target, row_of, stream_target};
 ghost use Rattle.navbridge.specs.Found.{IsRow, IsTarget};
@@ -48,7 +49,7 @@ pub(crate) fn job_in(from: &[u8], to: &[u8], values: &Values) -> Option<Job>
     None
 }
 
-// The job from a stream to this form that has exactly these values, but for the seed and the satellites.
+// The job from a stream to this form that has exactly these values.
 fn from_stream(to: &[u8], values: &Values) -> Option<Job>
     requires seed { values.now.seed ≡ None }
     requires sats { values.now.sats ≡ None }

@@ -1,7 +1,8 @@
 //! Texts of captures that a run writes, whole.
 
 use crate::bits::expand;
-use crate::rows::{HEADER, TO_COUNT, TO_RINEX, TO_RTCM, WORDS, concat_text, convert};
+use crate::over_memory::{concat_text, convert};
+use crate::rows::{HEADER, TO_COUNT, TO_RINEX, TO_RTCM, WORDS};
 use std::test::Fail;
 
 // A capture of one ephemeris of GPS.
