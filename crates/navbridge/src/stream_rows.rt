@@ -2,7 +2,6 @@
 
 use crate::over_memory::{concat_text, convert_all, convert_bytes, nothing_fails};
 use crate::rows::HEADER;
-use std::alloc::{AllocError, Global};
 use std::test::Fail;
 
 // The words of the jobs, with `;` between them.
@@ -45,61 +44,50 @@ const ORBIT: &str = concat!(
 #[derive(Clone, Copy)]
 struct Reported {
     frames: [&'static [u8]; 3],
-    records: u32,
+    given: bool,
     report: &'static str,
 }
 
 const REPORTED: [Reported; 4] = [
     Reported {
         frames: [GPS_FRAME, GPS_FRAME, GPS_FRAME],
-        records: 1,
+        given: true,
         report: "frames 3\nrefused 0\nunused 0\nitems 1\n",
     },
     Reported {
         frames: [SHORT_FRAME, b"", b""],
-        records: 0,
+        given: false,
         report: "frame 1 short\nframes 1\nrefused 1\nunused 0\nitems 0\n",
     },
     Reported {
         frames: [EMPTY_FRAME, b"", b""],
-        records: 0,
+        given: false,
         report: "frames 1\nrefused 0\nunused 1\nitems 0\n",
     },
     Reported {
         frames: [b"noise \xd3", SHORT_FRAME, GPS_FRAME],
-        records: 1,
+        given: true,
         report: "frame 1 short\nframes 2\nrefused 1\nunused 0\nitems 1\n",
     },
 ];
 
-// A header, and records behind it.
-fn file_of(alloc: Global, header: &str, records: u32, record: &str) -> Result<String, AllocError> {
-    let mut text = String::from_str(alloc, header)?;
-    for _ in 0..records {
-        text.push_str(record)?;
-    }
-    Ok(text)
-}
-
 #[test]
 fn converts_a_stream_once_for_each_ephemeris(rt: HostRuntime) -> Result<(), Fail> {
     let record = concat_text(rt.alloc(), "> EPH G05 LNAV\n", ORBIT)?;
+    let file = concat_text(rt.alloc(), HEADER, record.as_str())?;
     for case in REPORTED {
+        let (file, frame) = if case.given {
+            (file.as_str(), GPS_FRAME)
+        } else {
+            (HEADER, b"".as_slice())
+        };
         let stream = case.frames.concat(rt.alloc())?;
-        let run = convert_all(rt.alloc(), TO_RINEX, stream.as_slice())?;
-        let want = file_of(rt.alloc(), HEADER, case.records, record.as_str())?;
-        assert_eq!(rt; run.status, 0);
-        assert_eq!(rt; run.output.bytes(), want.as_bytes());
-        assert_eq!(rt; run.report.bytes(), case.report.as_bytes());
-
-        let run = convert_all(rt.alloc(), TO_RTCM, stream.as_slice())?;
-        assert_eq!(rt; run.status, 0);
-        assert_eq!(rt;
-            run.output.bytes().len(),
-            case.records as usize * GPS_FRAME.len()
-        );
-        assert!(rt; GPS_FRAME.starts_with(run.output.bytes()));
-        assert_eq!(rt; run.report.bytes(), case.report.as_bytes());
+        for (words, want) in [(TO_RINEX, file.as_bytes()), (TO_RTCM, frame)] {
+            let run = convert_all(rt.alloc(), words, stream.as_slice())?;
+            assert_eq!(rt; run.status, 0);
+            assert_eq!(rt; run.output.bytes(), want, "{words}");
+            assert_eq!(rt; run.report.bytes(), case.report.as_bytes());
+        }
     }
     Ok(())
 }
