@@ -1,7 +1,5 @@
 -- The periods of what is sent, slot after slot, and the items of the whole ones.
-use Rattle.std.proofs.Common.{◌≡◌, ℕ, ◌+◌, ◌*◌, ◌<◌, ◌≤◌, ◌⊎◌, inl, inr, Bool, true, false, if◌then◌else◌, List, [], ◌∷◌, ◌++◌, Option, Some, Contains, All, refl, sym, ap, subst, ◌∙◌, arith}
-use Rattle.std.specs.List.{AllByRecursion}
-use Rattle.std.proofs.lemmas.Bool.{cases_lt}
+use Rattle.std.proofs.Common.{◌≡◌, ℕ, ◌+◌, ◌<◌, ◌≤◌, ◌⊎◌, inl, inr, Bool, true, false, if◌then◌else◌, List, [], ◌∷◌, ◌++◌, Some, Contains, refl, sym, ap, subst, ◌∙◌, arith}
 use Rattle.nav_eph.specs.Values.{IsPartValue}
 use Rattle.nav_eph.specs.declared.part.Part.{Part}
 use Rattle.nav_eph.specs.declared.items.NavItem.{NavItem}
@@ -9,18 +7,17 @@ use Rattle.period_laws.proofs.Surface.{In, In-from_contains, contains_from_In, I
 use Rattle.period_items.specs.declared.key.Key.{Key}
 use Rattle.period_items.specs.declared.key.Place.{Place}
 use Rattle.period_items.specs.declared.closed.Finding.TheVariants.{Complete}
-use Rattle.period_items.specs.declared.closed.Verdict.{Verdict}
 use Rattle.period_items.specs.declared.closed.Closed.{Closed}
 use Rattle.period_items.specs.Periods.{IsBefore, IsHeardAt, IsPeriod}
 use Rattle.period_items.specs.PeriodLists.{ArePeriods, IsAscending, item_in, items_in}
 use Rattle.period_items.specs.PeriodsOf.{end_place, periods_of}
 use Rattle.period_items.specs.DigestsOf.{verdict_of}
 use Rattle.period_items.specs.Verdicts.{IsClosed, IsComplete, IsFound, IsOfEphemeris, Repeats, closed_place}
-use Rattle.period_items.proofs.Surface.{All-in, IsComplete-one, Splits, all_of, before_end, compares_known, complete_cases, complete_left, complete_right, found_left, found_right, items_append, judged_by, known_parts, left_low, left_period, period_cases, periods_of-only, right_high, right_period, some_is}
+use Rattle.period_items.proofs.Surface.{All-in, Splits, all_of, compares_known, found_left, found_right, items_append, judged_by, known_parts, left_low, left_period, period_cases, periods_of-only, right_high, right_period, some_is}
 use Rattle.page_send.specs.Slots.{slot_stamp}
 use Rattle.page_send.specs.SentItems.{as_sent, ionosphere_with, items_back, repeats_latest}
 use Rattle.circle_laws.specs.SlotParts.{parts_at, slots_parts}
-use Rattle.circle_laws.proofs.Slots.{IsIonClosed, IsSent, IsSlot, is_slot, key_of_item}
+use Rattle.circle_laws.proofs.Slots.{IsSent, IsSlot, is_slot}
 use Rattle.circle_laws.proofs.History.{History, IsSentIn, NoneFrom, known, latest, said}
 
 -- a list, strictly ascending, of exactly the periods from a stamp on, each with its verdict

@@ -1,9 +1,9 @@
 -- Of accepted lines that are accepted among others too no more is heard than of these.
-use Rattle.std.proofs.Common.{◌≡◌, ℕ, List, inl, inr, Some, Contains}
+use Rattle.std.proofs.Common.{ℕ, List, inl, inr}
 use Rattle.nav_eph.specs.declared.part.Part.{Part}
 use Rattle.inav_page.specs.Heard.{StampedHalf}
 use Rattle.inav_page.proofs.Surface.{still_heard}
-use Rattle.capture_lines.specs.Late.{IsAccepted, stamp_of}
+use Rattle.capture_lines.specs.Late.{IsAccepted}
 use Rattle.capture_lines.specs.declared.item.LineItem.{LineItem}
 use Rattle.capture_lines.specs.declared.item.LineItem.TheVariants.{Lnav, Half}
 use Rattle.capture_log.specs.Heard.{IsHalfHeard, IsPartHeard}

@@ -1,5 +1,5 @@
 -- What is heard of a list of subframes and pages that were sent one after another.
-use Rattle.std.proofs.Common.{◌≡◌, ℕ, suc, ◌+◌, ◌^◌, ◌<◌, ◌≤◌, ◌⊎◌, inl, inr, false, List, [], ◌∷◌, ◌++◌, Contains, Option, None, Some, nat_eq, refl, sym, ap, subst, ◌∙◌, arith, mod-eq_of_lt}
+use Rattle.std.proofs.Common.{◌≡◌, ℕ, ◌+◌, ◌≤◌, ◌⊎◌, inl, inr, false, List, [], ◌∷◌, Contains, Some, nat_eq, refl, sym, ap, subst, ◌∙◌, arith, mod-eq_of_lt}
 use Rattle.arrayvec.specs.ArrayVec.{ArrayVec}
 use Rattle.nav_bits.specs.Bits.{number_at}
 use Rattle.nav_bits.specs.Packed.{AreBytes}
@@ -13,16 +13,16 @@ use Rattle.inav_page.specs.declared.half.HalfKind.TheVariants.{Even, Odd}
 use Rattle.inav_page.specs.declared.signal.Signal.{Signal}
 use Rattle.inav_page.specs.declared.signal.Signal.TheVariants.{E1b}
 use Rattle.inav_page.specs.Pages.{HasRightCrc, IsHalf, bytes_of_half, digits_at, even_of, kept_of, kind_of, odd_of, word_of}
-use Rattle.inav_page.specs.Heard.{IsHeard, MakeWord, StampedHalf}
+use Rattle.inav_page.specs.Heard.{IsHeard, StampedHalf}
 use Rattle.inav_page.specs.Keeping.{stamped}
 use Rattle.inav_page.proofs.Surface.{not_both}
 use Rattle.inav_word.specs.Reading.{reading_of}
-use Rattle.capture_lines.specs.Late.{IsAccepted, IsLate, stamp_of}
+use Rattle.capture_lines.specs.Late.{IsAccepted, stamp_of}
 use Rattle.capture_lines.specs.declared.item.LineItem.{LineItem}
-use Rattle.capture_lines.specs.declared.item.LineItem.TheVariants.{Pass, Lnav, Half, Frame, Malformed}
+use Rattle.capture_lines.specs.declared.item.LineItem.TheVariants.{Lnav, Half, Frame}
 use Rattle.period_laws.proofs.Surface.{In, In-append_right, In-from_contains, contains_from_In}
 use Rattle.capture_log.specs.Events.{half_of, is_alert, of_subframe, of_word}
-use Rattle.capture_log.specs.Heard.{IsHalfHeard, IsOfFrame, IsOfSubframe, IsOfWord, IsPartHeard}
+use Rattle.capture_log.specs.Heard.{IsHalfHeard, IsPartHeard}
 use Rattle.capture_log.specs.declared.event.Event.{Event}
 use Rattle.capture_log.specs.declared.event.Event.TheVariants.{Heard}
 use Rattle.page_send.specs.Slots.{half_item, subframe_item}

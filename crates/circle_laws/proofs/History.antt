@@ -1,5 +1,5 @@
 -- What was sent before: where the complete periods of ephemerides lie, and which is the latest of a key.
-use Rattle.std.proofs.Common.{◌≡◌, ℕ, ◌+◌, ◌<◌, ◌≤◌, ◌⊎◌, inl, inr, Bool, true, false, if◌then◌else◌, List, [], ◌∷◌, ◌++◌, Option, None, Some, refl, sym, ap, subst, ◌∙◌, arith}
+use Rattle.std.proofs.Common.{◌≡◌, ℕ, ◌<◌, ◌≤◌, inl, inr, Bool, true, false, if◌then◌else◌, List, [], ◌∷◌, Option, None, Some, refl, sym, ap, subst, ◌∙◌, arith}
 use Rattle.std.proofs.lemmas.Bool.{both_ways, cases_lt}
 use Rattle.nav_eph.specs.Items.{is_alike}
 use Rattle.nav_eph.specs.declared.part.Part.{Part}
@@ -13,7 +13,7 @@ use Rattle.period_items.specs.declared.closed.Verdict.TheVariants.{Whole, Again}
 use Rattle.period_items.specs.KeyTests.{same_key}
 use Rattle.period_items.specs.DigestsOf.{verdict_of}
 use Rattle.period_items.specs.PeriodLists.{item_in}
-use Rattle.period_items.specs.Verdicts.{IsComplete, IsLastBefore, IsOfEphemeris}
+use Rattle.period_items.specs.Verdicts.{IsComplete, IsOfEphemeris}
 use Rattle.period_items.proofs.Surface.{IsKnownBefore, is-same_key, none_some, same_key-is, some_is}
 use Rattle.page_send.specs.SentItems.{as_sent, have_one_key, repeats_latest}
 use Rattle.circle_laws.proofs.SlotFacts.{gal_key, gps_key}

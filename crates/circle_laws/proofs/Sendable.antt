@@ -1,5 +1,5 @@
 -- The items that may be sent: each has its slot, its parts are values, and its lines are spelt.
-use Rattle.std.proofs.Common.{◌≡◌, ℕ, ◌+◌, ◌%◌, ◌^◌, ◌<◌, ◌≤◌, inl, inr, Bool, true, false, not, ◌&&◌, nat_eq, nat_le, if◌then◌else◌, List, [], ◌∷◌, ◌++◌, All, Contains, None, Some, refl, sym, ap, subst, ◌∙◌, arith, eqb-true, leb-false}
+use Rattle.std.proofs.Common.{◌≡◌, ℕ, ◌+◌, ◌%◌, ◌^◌, ◌<◌, inl, inr, Bool, true, false, not, nat_eq, if◌then◌else◌, List, [], ◌∷◌, All, refl, subst, arith, eqb-true, leb-false}
 use Rattle.std.proofs.lemmas.Bool.{and_parts}
 use Rattle.std.proofs.lemmas.List.Elements.{All-head, All-tail}
 use Rattle.nav_bits.proofs.Surface.{are_bytes}
@@ -19,13 +19,11 @@ use Rattle.lnav_subframe.specs.Bytes.{subframe_bytes}
 use Rattle.inav_word.specs.Writing.{word1_bytes, word2_bytes, word3_bytes, word4_bytes, word5_bytes}
 use Rattle.inav_page.specs.Pages.{bytes_of_half, even_of, odd_of}
 use Rattle.inav_page.specs.declared.signal.Signal.TheVariants.{E1b}
-use Rattle.period_laws.proofs.Surface.{In, In-append_cases, In-from_contains}
-use Rattle.page_send.specs.declared.fault.SendFault.{SendFault}
+use Rattle.period_laws.proofs.Surface.{In, In-append_cases}
 use Rattle.page_send.specs.Slots.{count_of, galileo_second, galileo_week_number, gps_week_number, half_item, items_at, no_ionosphere, slot_stamp, subframe_item}
-use Rattle.page_send.specs.Sendable.{first_fault, has_other_issue, is_ephemeris, is_far, is_full, is_sent, no_fault, sendable, slots_items}
+use Rattle.page_send.specs.Sendable.{first_fault, has_other_issue, is_far, is_full, is_sent, no_fault, sendable, slots_items}
 use Rattle.circle_laws.specs.SlotParts.{parts_at, slots_parts}
-use Rattle.circle_laws.proofs.SlotFacts.{IsSentGal, IsSentGps}
-use Rattle.circle_laws.proofs.Slots.{IsSent, is_slot}
+use Rattle.circle_laws.proofs.Slots.{IsSent}
 use Rattle.circle_laws.proofs.SentTexts.{AreSpelt, IsSpelt, spelt_append}
 use Rattle.circle_laws.proofs.SentSlots.{InSlots, ReadLaws, no_ion, second_low, week_low}
 use Rattle.circle_laws.proofs.Circle.{AreSent}

@@ -1,13 +1,10 @@
 -- What is sent in the slots, and that its parts are those of the slots.
-use Rattle.std.proofs.Common.{◌≡◌, ℕ, ◌+◌, ◌-◌, ◌*◌, ◌/◌, ◌%◌, ◌^◌, ◌<◌, ◌≤◌, ◌⊎◌, ◌↔◌, inl, inr, Bool, true, false, nat_eq, if◌then◌else◌, pos, List, [], ◌∷◌, ◌++◌, Contains, Ok, Some, length, refl, sym, ap, subst, ◌∙◌, arith, append_assoc, eqb-true}
+use Rattle.std.proofs.Common.{◌≡◌, ℕ, ◌+◌, ◌-◌, ◌*◌, ◌^◌, ◌<◌, ◌≤◌, ◌⊎◌, ◌↔◌, inl, inr, Bool, true, false, nat_eq, if◌then◌else◌, List, [], ◌∷◌, ◌++◌, Contains, Ok, Some, length, refl, sym, ap, subst, ◌∙◌, arith, eqb-true}
 use Rattle.std.proofs.lemmas.Int.{ints}
 use Rattle.nav_bits.specs.Packed.{AreBytes}
-use Rattle.nav_bits.specs.Signed.{IsSigned}
-use Rattle.nav_bits.proofs.Surface.{are_bytes}
 use Rattle.nav_eph.specs.Satellite.{IsSat, Satellite}
 use Rattle.nav_eph.specs.Bodies.{IsGalHealth, IsGalIon}
 use Rattle.nav_eph.specs.Ranges.{IsGalWord1, IsGalWord2, IsGalWord3, IsGalWord4}
-use Rattle.nav_eph.specs.Values.{IsBodyValue, IsPartValue}
 use Rattle.gnss_week.specs.Weeks.{IsSecond}
 use Rattle.nav_eph.specs.declared.sat.System.TheVariants.{Gal as OfGalileo, Gps as OfGps}
 use Rattle.nav_eph.specs.declared.galileo.GalHealth.{GalHealth}
@@ -30,9 +27,8 @@ use Rattle.lnav_subframe.specs.Reading.{heard, start_second, subframe_of}
 use Rattle.lnav_subframe.specs.Writing.{IsWritable, read_again}
 use Rattle.inav_word.specs.Reading.{one_part, reading_of, two_parts}
 use Rattle.inav_word.specs.Writing.{word1_bytes, word2_bytes, word3_bytes, word4_bytes, word5_bytes}
-use Rattle.inav_page.specs.Pages.{bytes_of_half, even_of, odd_of}
+use Rattle.inav_page.specs.Pages.{even_of, odd_of}
 use Rattle.inav_page.specs.declared.signal.Signal.{Signal}
-use Rattle.inav_page.specs.declared.signal.Signal.TheVariants.{E1b}
 use Rattle.hex.specs.Hex.{IsBytes}
 use Rattle.capture_lines.specs.Late.{stamp_of}
 use Rattle.capture_lines.specs.Spellings.{IsEnded, IsHalfLine, IsLnavLine}
@@ -43,12 +39,11 @@ use Rattle.capture_log.specs.Events.{of_subframe, of_word}
 use Rattle.capture_log.specs.Heard.{IsPartHeard}
 use Rattle.capture_log.specs.declared.event.Event.{Event}
 use Rattle.capture_log.specs.declared.event.Event.TheVariants.{Heard}
-use Rattle.page_send.specs.Slots.{count_of, galileo_items, galileo_second, galileo_week_number, gps_items, gps_sending, gps_week_number, half_item, items_at, no_ionosphere, slot_stamp, subframe_item}
+use Rattle.page_send.specs.Slots.{count_of, galileo_items, galileo_second, galileo_week_number, gps_sending, gps_week_number, half_item, items_at, no_ionosphere, slot_stamp, subframe_item}
 use Rattle.page_send.specs.Sendable.{slots_items}
-use Rattle.circle_laws.specs.SlotParts.{galileo_parts, gps_parts, part, parts_at, slots_parts}
+use Rattle.circle_laws.specs.SlotParts.{part, parts_at, slots_parts}
 use Rattle.circle_laws.proofs.SlotFacts.{IsSentGal, IsSentGps}
-use Rattle.circle_laws.proofs.Slots.{IsSent, is_slot}
-use Rattle.circle_laws.proofs.SentTexts.{AreSpelt, IsSpelt, spelt_append}
+use Rattle.circle_laws.proofs.Slots.{IsSent}
 use Rattle.circle_laws.proofs.Heard.{Brings, InOrder, Page, PageGives, PageLaws, PagesInOrder, Sends, Sub, SubGives, brought_is_heard, even_item, heard_is_brought, odd_item, sub_item}
 
 -- ---- what is sent in a slot

@@ -1,15 +1,15 @@
 -- The lines of a text of items that spell them are these items.
-use Rattle.std.proofs.Common.{◌≡◌, ℕ, ◌+◌, ◌<◌, ◌≤◌, ◌==◌, Bool, true, false, if◌then◌else◌, List, [], ◌∷◌, ◌++◌, length, All, codes, refl, sym, ap, subst, ◌∙◌, arith, append_assoc, eqb-true}
-use Rattle.std.specs.Prelude.{map, drop}
+use Rattle.std.proofs.Common.{◌≡◌, ℕ, ◌≤◌, ◌==◌, Bool, true, false, if◌then◌else◌, List, [], ◌∷◌, ◌++◌, length, All, codes, refl, sym, ap, ◌∙◌, arith, append_assoc, eqb-true}
+use Rattle.std.specs.Prelude.{drop}
 use Rattle.std.proofs.lemmas.List.Elements.{All-head, All-tail}
-use Rattle.nav_io.specs.Lines.{IsOneLine, Line, ends, lines_by, without_cr}
+use Rattle.nav_io.specs.Lines.{IsOneLine, ends, lines_by, without_cr}
 use Rattle.capture_lines.specs.Reading.{item_of}
 use Rattle.capture_lines.specs.Spellings.{IsEnded, IsPrinted, IsSpelling, StandsFor}
 use Rattle.capture_lines.specs.declared.item.LineItem.{LineItem}
 use Rattle.capture_lines.specs.declared.item.LineItem.TheVariants.{Pass, Lnav, Half, Frame, Malformed}
 use Rattle.capture_log.specs.Log.{items_of}
 use Rattle.page_send.specs.Slots.{text_of_item, text_of_items}
-use Rattle.page_send.specs.Sendable.{sent_head, sent_lines, sent_text}
+use Rattle.page_send.specs.Sendable.{sent_lines, sent_text}
 use Rattle.nav_eph.specs.declared.items.NavItem.{NavItem}
 
 -- what the laws of lines say

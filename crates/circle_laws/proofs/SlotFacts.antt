@@ -1,5 +1,5 @@
 -- What is known of the parts of one slot by themselves: their periods, and what these come to.
-use Rattle.std.proofs.Common.{◌≡◌, ℕ, ◌+◌, ◌-◌, ◌*◌, ◌%◌, ◌<◌, ◌≤◌, ◌⊎◌, inl, inr, pos, ◌-ℤ◌, Bool, true, if◌then◌else◌, List, [], ◌∷◌, Option, None, Some, Contains, refl, sym, ap, subst, ◌∙◌, arith}
+use Rattle.std.proofs.Common.{◌≡◌, ℕ, ◌+◌, ◌*◌, ◌%◌, ◌<◌, ◌≤◌, ◌⊎◌, inl, inr, pos, ◌-ℤ◌, Bool, if◌then◌else◌, List, [], ◌∷◌, Option, None, Some, Contains, refl, sym, ap, subst, ◌∙◌, arith}
 use Rattle.std.proofs.lemmas.Bool.{cases_lt}
 use Rattle.std.proofs.lemmas.Int.{ints}
 use Rattle.gnss_week.specs.Weeks.{IsNearGalileo, IsNearGps, week_of}
@@ -15,24 +15,22 @@ use Rattle.nav_eph.specs.declared.tag.SentTag.TheVariants.{Sent}
 use Rattle.nav_eph.specs.declared.part.Part.{Part}
 use Rattle.nav_eph.specs.declared.part.Body.{Body}
 use Rattle.nav_eph.specs.declared.part.Body.TheVariants.{GpsClock as OfClock, GpsA as OfOrbitA, GpsB as OfOrbitB, GalW1 as OfWord1, GalW2 as OfWord2, GalW3 as OfWord3, GalW4 as OfWord4, GalHealth as OfHealth, GalIon as OfGalIon}
-use Rattle.nav_eph.specs.declared.items.SentSecond.{SentSecond}
 use Rattle.nav_eph.specs.declared.items.SentSecond.TheVariants.{At}
 use Rattle.nav_eph.specs.declared.items.GpsEph.{GpsEph}
 use Rattle.nav_eph.specs.declared.items.GalEph.{GalEph}
 use Rattle.nav_eph.specs.declared.items.NavItem.{NavItem}
 use Rattle.nav_eph.specs.declared.items.NavItem.TheVariants.{Gps as GpsItem, Gal as GalItem, Ion as IonItem}
-use Rattle.period_laws.specs.Ends.{IsEnd}
 use Rattle.period_laws.proofs.Surface.{In, In-from_contains, contains_from_In}
 use Rattle.period_items.specs.declared.key.Key.{Key}
-use Rattle.period_items.specs.declared.key.Key.TheVariants.{Gps, Gal, GpsIon, GalIon}
+use Rattle.period_items.specs.declared.key.Key.TheVariants.{Gps, Gal, GalIon}
 use Rattle.period_items.specs.declared.key.Place.{Place}
 use Rattle.period_items.specs.declared.closed.Finding.TheVariants.{Complete}
 use Rattle.period_items.specs.Values.{HasValue, IsBelow, IsEarlier, IsLater, IsFirstBy, IsOnly}
 use Rattle.period_items.specs.declared.key.Sending.{Sending}
-use Rattle.period_items.specs.Parts.{side_numbers, fit_numbers, tag_numbers, health_numbers, sending_numbers, health_in, health_of, key_of, same_sat, sending_of, clock_of, orbit_a_of, orbit_b_of, side_of, fit_of, sent_tag_of, word1_of, word2_of, word3_of, word4_of}
+use Rattle.period_items.specs.Parts.{side_numbers, fit_numbers, tag_numbers, health_numbers, sending_numbers, health_in, health_of, key_of, sending_of, clock_of, orbit_a_of, orbit_b_of, side_of, fit_of, sent_tag_of, word1_of, word2_of, word3_of, word4_of}
 use Rattle.period_items.specs.Periods.{IsHeardAt, IsMember, IsPeriod}
 use Rattle.period_items.specs.PeriodsOf.{end_place}
-use Rattle.period_items.specs.Verdicts.{IsComplete, IsFound, IsHealthBefore, IsHealthBehind}
+use Rattle.period_items.specs.Verdicts.{IsFound}
 use Rattle.period_items.proofs.Surface.{is-same_sat, none_some, some_is}
 use Rattle.page_send.specs.Slots.{galileo_second, galileo_week_number, gps_second, gps_sending, gps_week_number, no_ionosphere}
 use Rattle.page_send.specs.SentItems.{as_sent}

@@ -1,14 +1,10 @@
 -- One slot, whichever ephemeris is sent in it.
-use Rattle.std.proofs.Common.{◌≡◌, ℕ, ◌+◌, ◌^◌, ◌<◌, ◌≤◌, ◌⊎◌, inl, inr, pos, List, [], ◌∷◌, Option, None, Some, Contains, refl, sym, ap, subst, ◌∙◌, arith}
-use Rattle.nav_bits.specs.Signed.{IsSigned}
-use Rattle.nav_eph.specs.Bodies.{IsGalIon}
-use Rattle.nav_eph.specs.Values.{IsPartValue}
+use Rattle.std.proofs.Common.{◌≡◌, ℕ, ◌+◌, ◌≤◌, ◌⊎◌, inl, inr, List, [], ◌∷◌, Option, None, Some, Contains, refl, sym, ap, subst, arith}
 use Rattle.nav_eph.specs.declared.part.Part.{Part}
 use Rattle.nav_eph.specs.declared.items.NavItem.{NavItem}
 use Rattle.nav_eph.specs.declared.items.NavItem.TheVariants.{Gps as GpsItem, Gal as GalItem, Ion as IonItem}
-use Rattle.period_laws.proofs.Surface.{In, In-from_contains, contains_from_In}
+use Rattle.period_laws.proofs.Surface.{In}
 use Rattle.period_items.specs.declared.key.Key.{Key}
-use Rattle.period_items.specs.declared.key.Key.TheVariants.{Gps, Gal, GalIon}
 use Rattle.period_items.specs.declared.key.Place.{Place}
 use Rattle.period_items.specs.declared.closed.Finding.TheVariants.{Complete}
 use Rattle.period_items.specs.declared.closed.Verdict.TheVariants.{Whole}
@@ -17,7 +13,6 @@ use Rattle.period_items.specs.Periods.{IsBefore, IsPeriod}
 use Rattle.period_items.specs.PeriodLists.{IsAscending, items_in}
 use Rattle.period_items.specs.PeriodsOf.{end_place}
 use Rattle.period_items.specs.Verdicts.{IsComplete, IsFound, IsOfEphemeris, closed_place}
-use Rattle.page_send.specs.Slots.{no_ionosphere}
 use Rattle.page_send.specs.SentItems.{as_sent, ionosphere_with}
 use Rattle.circle_laws.specs.SlotParts.{parts_at}
 use Rattle.circle_laws.proofs.SlotFacts.{IsSentGal, IsSentGps, gal_found, gal_key, gal_only_periods, gal_period, gps_found, gps_key, gps_only_period, gps_period, ion_found, ion_item, ion_key, ion_period}

@@ -1,4 +1,4 @@
-use Rattle.std.proofs.Common.{◌≡◌, ◌↔◌, ℕ, List, All, Contains, Some, refl, sym, subst, ap, ◌∙◌}
+use Rattle.std.proofs.Common.{◌≡◌, ◌↔◌, ℕ, List, All, Contains, Some, sym, subst, ap, ◌∙◌}
 use Rattle.nav_io.specs.Lines.{Line}
 use Rattle.nav_eph.specs.Ranges.{IsItem}
 use Rattle.nav_eph.specs.Values.{IsPartValue}

@@ -1,4 +1,4 @@
-use Rattle.std.proofs.Common.{◌≡◌, ◌∷◌, ◌++◌, ◌<◌, ◌↔◌, ℕ, false, List, All, Contains, Some, None, codes, refl, sym, subst, ap, ◌∙◌, drop, arith}
+use Rattle.std.proofs.Common.{◌≡◌, ◌∷◌, ◌↔◌, ℕ, false, List, All, Contains, Some, None, codes, refl, sym, subst, ap, ◌∙◌, drop, arith}
 use Rattle.nav_io.specs.Lines.{IsOneLine, Line, lines_by}
 use Rattle.nav_eph.specs.Ranges.{IsItem}
 use Rattle.nav_eph.specs.declared.part.Part.{Part}
