@@ -44,11 +44,11 @@ static uint64_t get(const uint8_t *bytes, unsigned at, unsigned width) {
     return __builtin_bswap64(eight) << at % 8 >> (64 - width);
 }
 
-static int64_t get_signed(const uint8_t *bytes, unsigned at, unsigned width) {
+static inline int64_t get_signed(const uint8_t *bytes, unsigned at, unsigned width) {
     return (int64_t)(get(bytes, at, width) << (64 - width)) >> (64 - width);
 }
 
-static void put(uint8_t *bytes, unsigned at, unsigned width, uint64_t value) {
+static inline void put(uint8_t *bytes, unsigned at, unsigned width, uint64_t value) {
     for (unsigned i = 0; i < width; i++) {
         unsigned place = at + i, bit = value >> (width - 1 - i) & 1;
         bytes[place / 8] = (bytes[place / 8] & ~(0x80 >> place % 8)) | bit << (7 - place % 8);
@@ -72,7 +72,7 @@ static void fill_crc(void) {
         }
 }
 
-static uint32_t crc_of(const uint8_t *bytes, size_t count) {
+static inline uint32_t crc_of(const uint8_t *bytes, size_t count) {
     uint32_t crc = 0;
     for (; count >= 8; bytes += 8, count -= 8) {
         uint32_t high, low;
@@ -89,7 +89,7 @@ static uint32_t crc_of(const uint8_t *bytes, size_t count) {
 }
 
 /* the frame around a payload that stands at into + 3; gives its size */
-static size_t close_frame(uint8_t *into, size_t payload) {
+static inline size_t close_frame(uint8_t *into, size_t payload) {
     into[0] = 0xD3;
     into[1] = payload >> 8;
     into[2] = payload;
@@ -303,7 +303,7 @@ static char *put_line(char *into, int count, const int64_t *numbers, const int *
 #define AT(...) (int[]){__VA_ARGS__})
 
 /* the record of an ephemeris, at most 704 bytes */
-static char *put_record(char *into, const struct eph *i) {
+static inline char *put_record(char *into, const struct eph *i) {
     int64_t toe = i->toe * (i->gal ? 60 : 16), toc = i->toc * (i->gal ? 60 : 16);
     int64_t ahead = (toc - toe + 604800) % 604800;
     int64_t epoch = 604800 * (int64_t)i->toe_week + toe + (ahead <= 302400 ? ahead : ahead - 604800);
@@ -329,7 +329,7 @@ static char *put_record(char *into, const struct eph *i) {
     return LINE(i->sent, i->fit ? 6 : 4), AT(WHOLE, WHOLE);
 }
 
-static void out_header(const char *version, const char *date, int leap) {
+static inline void out_header(const char *version, const char *date, int leap) {
     char *text = out_room(400);
     out_held += sprintf(text,
                         "     %s           N: GNSS NAV DATA    M: MIXED            RINEX VERSION / TYPE\n"
@@ -348,7 +348,7 @@ static void fill_tables(void) {
 
 static uint64_t draw_state;
 
-static uint64_t draw(int bits) {
+static inline uint64_t draw(int bits) {
     draw_state = 6364136223846793005u * draw_state + 1442695040888963407u;
     return draw_state >> (64 - bits);
 }
