@@ -98,6 +98,7 @@ job() { # name, input, expected, C command, words
   rm -f "$here/output"
   local ours theirs=
   ours=$(spend "$input" "$program" "$@")
+  peak=$(cut -d' ' -f3 <<< "$ours")
   if [ "$plain" != - ]; then theirs=$(eval "spend $input $here/$plain"); fi
   # shellcheck disable=SC2046
   line "$name" $(awk -v o="$ours" -v c="$theirs" -v b="$bytes" 'BEGIN {
@@ -125,14 +126,20 @@ job '200,000 records, rinex to rinex3' records.rinex records.rinex3 - --from rin
 job '200,000 records, rinex3 to rinex' records.rinex3 records.rinex - --from rinex3 --to rinex "${date[@]}"
 job '200,000 records, rinex to merged' records.rinex - - --from rinex --to merged "${date[@]}"
 job '200,000 records, rinex to cover' records.rinex - - --from rinex --to cover
-job '32 and 32 satellites, seed to capture' start.$size hour.capture - \
+# (no input is read; the megabytes are those that are written)
+job '32 and 32 satellites, seed to capture' hour.capture hour.capture - \
   --from seed --to capture --seed 7 --sats 32 "${week[@]}"
 job 'capture of 32 and 32 satellites to rinex' hour.capture hour.rinex - --from capture --to rinex "${week[@]}" "${date[@]}"
 job 'its lines in random order' shuffled.capture hour.rinex - --from capture --to rinex "${week[@]}" "${date[@]}"
 job '200,000 partial periods of one key to list' partial.capture partial.list - --from capture --to list "${week[@]}"
+peak=
 for window in 600 7200; do
   for hours in 1 10; do
+    one=$peak
     job "12 and 12 satellites, $hours h, window $window s" "hours.$hours.$window" - - --from capture --to rinex "${date[@]}"
   done
+  if [ -n "$one" ]; then
+    awk -v w="$window" -v o="$one" -v t="$peak" 'BEGIN { printf "peak of ten hours by that of one, window %d s: %.2f\n", w, t / o }'
+  fi
 done
 echo "load $(cut -d' ' -f1-3 /proc/loadavg)"
