@@ -3,6 +3,7 @@ mod FileLemmas
 mod AlikeLemmas
 mod StreamLemmas
 mod WholeLemmas
+mod DecidedLemmas
 mod MoveLemmas
 mod PieceLemmas
 mod PieceEnds
