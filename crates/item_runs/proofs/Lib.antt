@@ -1,9 +1,10 @@
-mod RecordLemmas
-mod FileLemmas
+pub mod RecordLemmas
+pub mod FileLemmas
 mod AlikeLemmas
 mod StreamLemmas
-mod WholeLemmas
+pub mod WholeLemmas
 mod MoveLemmas
 mod PieceLemmas
 mod PieceEnds
 mod StreamEnds
+pub mod Surface

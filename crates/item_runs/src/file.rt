@@ -17,8 +17,8 @@ use nav_io::{Failed, Sink, Source};
 use rinex_read::{FileForm, HeaderFault, RecordReader, readers_begin_with_the_file};
 use run_texts::BridgeFault;
 
-// Reads the header.
-fn pass_header<F: FileForm, S: Source>(
+/// Reads the header.
+pub fn pass_header<F: FileForm, S: Source>(
     records: &mut RecordReader<F>,
     input: &mut S,
 ) -> Result<(), BridgeFault>

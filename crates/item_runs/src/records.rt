@@ -17,8 +17,8 @@ use nav_io::{Failed, LineFault, Sink, Source};
 use rinex_read::{FileForm, ItemRead, Reason, RecordReader, steps_follow_one_another};
 use run_texts::{BridgeFault, report_text};
 
-// The fault of a run whose lines broke off so.
-pub(crate) fn fault_of(fault: LineFault) -> BridgeFault
+/// The fault of a run whose lines broke off so.
+pub fn fault_of(fault: LineFault) -> BridgeFault
     ensures { result ≡ fault_by fault }
 {
     match fault {
@@ -27,8 +27,8 @@ pub(crate) fn fault_of(fault: LineFault) -> BridgeFault
     }
 }
 
-// Why a record is refused, in a word.
-fn reason_word(reason: Reason) -> &'static [u8]
+/// Why a record is refused, in a word.
+pub fn reason_word(reason: Reason) -> &'static [u8]
     ensures word { result.now ≡ reason_text reason }
     ensures short { length result.now ≤ 32 }
 {
@@ -83,8 +83,8 @@ fn tell_read<O: Outlet, T: Sink, U: Sink>(
     }
 }
 
-// Counts a record.
-fn count_read(read: &ItemRead, counts: &mut RinexCounts)
+/// Counts a record.
+pub fn count_read(read: &ItemRead, counts: &mut RinexCounts)
     requires record { IsRecord read.now }
     requires room { counts.old.records + 1 < 2 ^ 64 }
     requires counted { AreCounted counts.old }
@@ -100,8 +100,8 @@ fn count_read(read: &ItemRead, counts: &mut RinexCounts)
     counts.records += 1;
 }
 
-// The next record; none at the end of the file.
-fn next_read<F: FileForm, S: Source>(
+/// The next record; none at the end of the file.
+pub fn next_read<F: FileForm, S: Source>(
     records: &mut RecordReader<F>,
     input: &mut S,
 ) -> Result<Option<ItemRead>, BridgeFault>

@@ -89,6 +89,7 @@ fn ionosphere() -> Result<NavItem, Fail> {
 }
 
 // What items are added, and the ranges that they cover.
+#[derive(Drop)]
 struct Row {
     toes: [u64; 3],
     fit: u64,

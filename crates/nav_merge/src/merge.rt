@@ -1,6 +1,6 @@
 //! Items that are merged while they come.
 
-ghost use Rattle.std.specs.Prelude.{◌≡◌, [], ◌∷◌, ◌++◌, IfSome, IfNone, OnOk, OnErr};
+ghost use Rattle.std.specs.Prelude.{◌≡◌, [], ◌∷◌, ◌++◌, IfSome, IfNone, OnOk, OnErr, length};
 ghost use Rattle.nav_merge.specs.Merging.{merged_of};
 
 use crate::ranked::{Ranked, is_new, sending, sent_at};
@@ -55,6 +55,13 @@ impl Merge {
         }
         self.held.insert(key, sent)?;
         Ok(())
+    }
+
+    /// How many items are held.
+    pub fn len(&self) -> usize
+        ensures { result ≡ length self.now }
+    {
+        self.held.len()
     }
 
     /// Takes the first item of the list away; `None` where none is held.

@@ -126,6 +126,7 @@ fn three_files(rt: HostRuntime) -> Result<(), Fail> {
         for file in order {
             add_file(&mut merge, files.get(*file).ok_or("a file")?)?;
         }
+        assert_eq!(rt; merge.len(), 4);
         assert_eq!(rt; merge.take_first(), Some(negative));
         assert_eq!(rt; merge.take_first(), Some(first));
         assert_eq!(rt; merge.take_first(), Some(ion));
