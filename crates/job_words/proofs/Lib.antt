@@ -1,1 +1,5 @@
 pub mod Spellings
+pub mod Rules
+pub mod Turns
+pub mod Lexed
+pub mod Readings
