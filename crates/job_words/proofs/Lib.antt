@@ -3,3 +3,5 @@ pub mod Rules
 pub mod Turns
 pub mod Lexed
 pub mod Readings
+pub mod Listings
+pub mod Outcomes

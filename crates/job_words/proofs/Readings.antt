@@ -257,7 +257,7 @@ module _ (xs : List Text) where
 
   pub spelled_passes : is_known xs [] ≡ false → (options : List Choice) (words : List Text) (done : List Choice) → Spells words options → AreFit words → AreKnown options
       → AreNew done options → Passes words done
-  spelled_passes none [] words done spelled fit known new rows p settles settled =
+  spelled_passes none [] words done spelled fit known new = λ rows p settles settled.
       ap (λ (ws : List Text). faults (stand rows p idle) ws) spelled ∙ faults_ended rows p idle ∙ settles
   spelled_passes none (o ∷ os) words done spelled fit known new =
       pass_step none o words spelled.0 done (spelling_of words o spelled.0 spelled.1) fit known.0 new.0
