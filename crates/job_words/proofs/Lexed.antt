@@ -1,5 +1,5 @@
 -- How `clap` takes a word apart.
-use Rattle.std.proofs.Common.{◌≡◌, ◌≢◌, ◌∙◌, ◌<◌, ◌+◌, ◌==◌, ◌&&◌, ◌||◌, ◌⊎◌, inl, inr, ℕ, suc, zero, Bool, cond, not, true, false, refl, sym, ap, subst, arith, List, [], ◌∷◌, ◌++◌, length, get_or, Option, Some, None, bytes_eq, codes, slice_get, chars, IsUtf8, Contains, encode_utf8, encode_utf8_all}
+use Rattle.std.proofs.Common.{◌≡◌, ◌≢◌, ◌∙◌, ◌<◌, ◌==◌, ◌||◌, ◌⊎◌, inl, inr, ℕ, suc, zero, Bool, true, false, refl, sym, ap, subst, arith, List, [], ◌∷◌, ◌++◌, length, Option, Some, None, bytes_eq, codes, slice_get, chars, IsUtf8, Contains, encode_utf8, encode_utf8_all}
 use Rattle.std.proofs.lemmas.Bool.Decides.{nat_tests}
 use Rattle.std.proofs.lemmas.List.{get_or_default}
 use Rattle.std.proofs.lemmas.Slice.Eq.{bytes_eq-Decides}
@@ -102,9 +102,10 @@ valued word n v e =
         let e2 = sym (name_and_value-at name value h) ∙ ap name_and_value (sym same) ∙ cuts in
         let names : name ≡ n = ap (λ (q : Text × Option Text). q.0) e2 in
         let somes : ◌≡◌ {A = Option Text} (Some value) (Some v) = ap (λ (q : Text × Option Text). q.1) e2 in
-        let values : value ≡ v = cc in
-        (is ∙ ap (λ (l : Text). 45 ∷ 45 ∷ l) (same ∙ ap (λ (l : Text). l ++ 61 ∷ value) names ∙ ap (λ (l : Text). n ++ 61 ∷ l) values),
-          subst (Lacks 61) names h)
+        let values : value ≡ v = cc in (
+          is ∙ ap (λ (l : Text). 45 ∷ 45 ∷ l) (same ∙ ap (λ (l : Text). l ++ 61 ∷ value) names ∙ ap (λ (l : Text). n ++ 61 ∷ l) values),
+          subst (Lacks 61) names h,
+        )
 
 -- a name alone
 pub named : (word n : Text) → long_of word ≡ Some (n, None) → (word ≡ 45 ∷ 45 ∷ n) × Lacks 61 n
@@ -179,6 +180,7 @@ flag_word x (y ∷ zs) is u one two e = go (y == 45) refl
       where
         second : y ≡ 45
         second = grind (arith, nat_tests)
+
         dashes : (ws : Text) → bytes_eq (x ∷ y ∷ ws) (codes "--") ≡ false → long_of (x ∷ y ∷ ws) ≡ None → ⊥
         dashes [] t e = no_true (sym t ∙ (bytes_eq-Decides (x ∷ y ∷ []) (codes "--")).1 ((λ i. is i ∷ second i ∷ [])))
         dashes (w ∷ ws) t e = long_none y w ws x is second e

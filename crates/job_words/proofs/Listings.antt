@@ -1,6 +1,6 @@
 -- Options, one after another: which value they have under a name, and whether each name stands once.
-use Rattle.std.proofs.Common.{◌≡◌, ◌∙◌, zero, suc, ◌⊎◌, ◌||◌, ℕ, Bool, List, [], ◌∷◌, ◌++◌, Option, Some, None, cond, false, true, refl, sym, ap, inl, inr, arith, subst, bytes_eq, slice_get, option_and_then, codes, Contains}
-use Rattle.std.specs.List.{find, list_any}
+use Rattle.std.proofs.Common.{◌≡◌, ◌∙◌, zero, suc, ◌⊎◌, ◌||◌, ℕ, Bool, List, [], ◌∷◌, ◌++◌, Option, Some, None, cond, false, true, refl, sym, ap, inl, inr, arith, bytes_eq, slice_get, option_and_then, codes, Contains}
+use Rattle.std.specs.List.{find}
 use Rattle.std.proofs.lemmas.Slice.Eq.{bytes_eq-Decides}
 use Rattle.clap.specs.Walk.{Row, Text, first_of}
 use Rattle.job_words.specs.Commands.{option_names}

@@ -1,13 +1,13 @@
 -- What the command makes of the words, against what the words spell.
-use Rattle.std.proofs.Common.{◌≡◌, ◌∙◌, ◌⊎◌, ◌||◌, ◌&&◌, inl, inr, ℕ, Bool, cond, not, true, false, refl, sym, ap, subst, arith, List, [], ◌∷◌, ◌++◌, map, fold, Option, Some, None, bytes_eq, codes, Contains, Global, String, string_bytes, Result, Ok, Err}
+use Rattle.std.proofs.Common.{◌≡◌, ◌∙◌, ◌⊎◌, ◌||◌, ◌&&◌, inl, inr, Bool, cond, not, true, false, refl, sym, ap, subst, List, [], ◌∷◌, ◌++◌, map, fold, None, bytes_eq, codes, Global, String, string_bytes}
 use Rattle.std.specs.List.{list_any}
 use Rattle.std.proofs.lemmas.Slice.Eq.{bytes_eq-Decides}
 use Rattle.std.proofs.lemmas.Str.{IsUtf8-string_bytes}
 use Rattle.clap.specs.Kinds.{HasKind, IsAmong, Kinds, or_else}
 use Rattle.clap.specs.Faults.{check_fault, defaults_fault, fault_of, built_fault, is_simple_and_free}
-use Rattle.clap.specs.Matches.{first_value, found_of}
+use Rattle.clap.specs.Matches.{first_value}
 use Rattle.clap.specs.Simple.{App, matches_of, names_of, is_simple}
-use Rattle.clap.specs.Walk.{Row, Rule, Text, rows_after, first_of, has_row, idle, nothing_held, rows_of, settled_rows, walk, with_default}
+use Rattle.clap.specs.Walk.{Row, Rule, Text, rows_after, first_of, has_row, idle, nothing_held, rows_of, settled_rows, with_default}
 use Rattle.clap.specs.declared.error.Error.{Error}
 use Rattle.clap.specs.declared.error.kind.ErrorKind.TheVariants.{OutOfMemory}
 use Rattle.clap.specs.declared.parser.matches.Found.{Found}
@@ -16,9 +16,8 @@ use Rattle.clap.proofs.FaultLemmas.{leaf_fault}
 use Rattle.clap.proofs.WalkLemmas.{first_value-rows}
 use Rattle.job_words.specs.Commands.{is_only_dashes, option_names, options_command, values_in}
 use Rattle.job_words.specs.Options.{Choice, BeginsWithDash, Given, GiveValues, AreNamed, Spells}
-use Rattle.job_words.proofs.Lexed.{IsFit}
 use Rattle.job_words.proofs.Listings.{first_held, known_of, name_known, named_of, new_of, once_of}
-use Rattle.job_words.proofs.Readings.{AreFit, Reads, faults, last_rows, passing, spelled_passes, walked_to}
+use Rattle.job_words.proofs.Readings.{AreFit, faults, last_rows, passing, spelled_passes, walked_to}
 use Rattle.job_words.proofs.Rules.{app_built, app_is_simple, as_app, full_rules, full_shape, is_known}
 use Rattle.job_words.proofs.Spellings.{InOne, InTwo, spelling_of}
 use Rattle.job_words.proofs.Turns.{none_both, nothing_after, rows_for, stand}
@@ -63,7 +62,7 @@ app_faults xs words =
     let s = Rattle.clap.specs.Faults.settle_fault (full_rules xs) false end.held in
     let rows = settled_rows (full_rules xs) end.held.pending end.held.rows in
     let last : or_else (defaults_fault rows (full_rules xs)) (check_fault (full_shape xs) (fold with_default rows (full_rules xs)) false) ≡ [] =
-        none_both _ _ (no_defaults xs rows) (checked xs (fold with_default rows (full_rules xs))) in
+    none_both _ _ (no_defaults xs rows) (checked xs (fold with_default rows (full_rules xs))) in
     ap (λ (a : App). built_fault a nothing_held words) (app_built xs)
     ∙ leaf_fault (as_app (full_shape xs)) nothing_held words refl
     ∙ ap (λ (k : Kinds). or_else w (or_else s k)) last
@@ -95,7 +94,7 @@ found_values words f fit none rows =
     let same : rows_of f ≡ rows_for r.options = rows ∙ app_rows option_names words ∙ r.found in
     let value : (n : Text) → first_value f n ≡ first_of n (rows_for r.options) = λ n. first_value-rows f n ∙ ap (first_of n) same in
     let held : (n : Text) → Rattle.job_words.specs.Options.Holds r.options n (first_value f n) =
-        λ n. subst (Rattle.job_words.specs.Options.Holds r.options n) (sym (value n)) (first_held n r.options) in (
+    λ n. subst (Rattle.job_words.specs.Options.Holds r.options n) (sym (value n)) (first_held n r.options) in (
       record { options = r.options; spelled = r.spelled; named = named_of r.options r.named; once = once_of [] r.options r.new },
       record {
         from = held (codes "from");
@@ -173,7 +172,7 @@ pub refused : (a : App) (words : List (String Global)) (e : Error) → a ≡ opt
 refused a words e app fit kinds other given gives =
     let free : is_simple_and_free a ≡ true = ap is_simple_and_free app ∙ app_is_simple in
     let none : fault_of a (map string_bytes words) ≡ [] =
-        ap (λ (b : App). fault_of b (map string_bytes words)) app ∙ no_faults (map string_bytes words) given (fit_words words fit) gives in
+    ap (λ (b : App). fault_of b (map string_bytes words)) app ∙ no_faults (map string_bytes words) given (fit_words words fit) gives in
     elim (kinds free) [
       | inl memory ↦ other memory
       | inr among ↦ subst (IsAmong (kind_of e)) none among

@@ -1,16 +1,16 @@
 -- What a parse of all the words makes of them.
-use Rattle.std.proofs.Common.{◌≡◌, ◌∙◌, ◌⊎◌, inl, inr, ℕ, Bool, cond, true, false, refl, sym, ap, subst, arith, List, [], ◌∷◌, ◌++◌, map, length, fold, Option, Some, None, append-nil, append_assoc, codes, Contains}
+use Rattle.std.proofs.Common.{◌≡◌, ◌∙◌, ◌⊎◌, inl, inr, Bool, true, false, refl, sym, ap, subst, List, [], ◌∷◌, ◌++◌, fold, Option, Some, None, append-nil, append_assoc, Contains}
 use Rattle.clap.specs.Kinds.{Kinds, or_else}
 use Rattle.clap.specs.Faults.{settle_fault, use_fault, walk_fault}
-use Rattle.clap.specs.Lexer.{long_of, short_of}
-use Rattle.clap.specs.Walk.{Row, Rule, Text, Waiting, Walk, idle, option, settled_rows, used, walked}
+use Rattle.clap.specs.Lexer.{long_of}
+use Rattle.clap.specs.Walk.{Row, Text, Waiting, Walk, idle, option, settled_rows, used, walked}
 use Rattle.clap.specs.declared.error.kind.ErrorKind.{ErrorKind}
-use Rattle.clap.specs.declared.error.kind.ErrorKind.TheVariants.{UnknownArgument, InvalidValue}
-use Rattle.job_words.specs.Options.{Choice, choice, BeginsWithDash, Begins, Spells}
-use Rattle.job_words.proofs.Lexed.{IsFit, Flags, Plain, is_free, is_plain, named, named_is, not_dashes, other_word, plain_word, valued, valued_is, lacks}
+use Rattle.clap.specs.declared.error.kind.ErrorKind.TheVariants.{InvalidValue}
+use Rattle.job_words.specs.Options.{Choice, choice, BeginsWithDash, Spells}
+use Rattle.job_words.proofs.Lexed.{IsFit, Plain, is_free, is_plain, named, named_is, not_dashes, other_word, plain_word, valued, valued_is, lacks}
 use Rattle.job_words.proofs.Rules.{full_rule, full_rules, full_shape, is_known}
 use Rattle.job_words.proofs.Spellings.{InOne, InTwo, begins_one, begins_two, spelling_of}
-use Rattle.job_words.proofs.Turns.{after, both_none, flags_word, has_name, hold, in_turn, name_word, new_row, no_value, none_both, one_word, rows_for, settled_value, settling, some_kind, stand, stray_word, turn, unknown_word, use_is_new, new_use, value_word}
+use Rattle.job_words.proofs.Turns.{after, both_none, flags_word, has_name, in_turn, name_word, new_row, no_value, none_both, one_word, rows_for, settled_value, settling, some_kind, stand, stray_word, turn, unknown_word, use_is_new, new_use, value_word}
 
 abbrev pub AreFit : List Text → Type 0
 AreFit [] = Unit {0}
@@ -67,7 +67,11 @@ module _ (xs : List Text) where
   reads_nothing rows p done settled none =
       let settles = sym (faults_ended rows p idle) ∙ none in
       record {
-        settles = settles; options = []; spelled = refl; named = tt; new = tt;
+        settles = settles;
+        options = [];
+        spelled = refl;
+        named = tt;
+        new = tt;
         found = settled settles ∙ ap rows_for (sym (append-nil done));
       }
 
@@ -86,7 +90,7 @@ module _ (xs : List Text) where
       let new : has_name n done ≡ false = use_is_new n v (rows_for done) (subst (λ (rs : List Row). use_fault false (full_rule n) (v ∷ []) rs ≡ []) before uses.1) in
       let now = ap (used (full_rule n) (v ∷ [])) before ∙ new_row n v done new in
       let r = more (used (full_rule n) (v ∷ []) (settled_rows (full_rules xs) p rows)) None (done ++ choice n v ∷ []) (λ _. now)
-          (ap (λ (w : Walk). faults w words) (sym t.1) ∙ parts.1) in
+      (ap (λ (w : Walk). faults w words) (sym t.1) ∙ parts.1) in
       let is = valued word n v long in
       record {
         settles = uses.0;
@@ -110,10 +114,10 @@ module _ (xs : List Text) where
       let rest = both_none _ _ (sym (faults_next here (Some (n, [])) (option n) value words) ∙ then) in
       let s = settled_value xs here n value known in
       let new : settling xs here (Some (n, value ∷ [])) ≡ [] → has_name n done ≡ false =
-          λ e. use_is_new n value (rows_for done) (subst (λ (rs : List Row). use_fault false (full_rule n) (value ∷ []) rs ≡ []) before (sym s.0 ∙ e)) in
+      λ e. use_is_new n value (rows_for done) (subst (λ (rs : List Row). use_fault false (full_rule n) (value ∷ []) rs ≡ []) before (sym s.0 ∙ e)) in
       let r = more here (Some (n, value ∷ [])) (done ++ choice n value ∷ [])
-          (λ e. s.1 ∙ ap (used (full_rule n) (value ∷ [])) before ∙ new_row n value done (new e))
-          (ap (λ (w : Walk). faults w words) (sym u.1) ∙ rest.1) in
+      (λ e. s.1 ∙ ap (used (full_rule n) (value ∷ [])) before ∙ new_row n value done (new e))
+      (ap (λ (w : Walk). faults w words) (sym u.1) ∙ rest.1) in
       let is = named word n long in
       record {
         settles = settles;
@@ -134,6 +138,7 @@ module _ (xs : List Text) where
     where
       unsettled : settling xs rows (Some (n, [])) ≡ InvalidValue ∷ []
       unsettled = no_value xs rows n known
+
       by : (m : Text) (v : Option Text) → long_of w ≡ Some (m, v) → (b : Bool) → is_known xs m ≡ b → ⊥
       by m v long false unknown =
           fails rows (Some (n, [])) (option n) w ws _ (unknown_word xs rows (Some (n, [])) (option n) w m v refl (not_dashes w fit.0) long unknown) none
@@ -142,6 +147,7 @@ module _ (xs : List Text) where
       by m (Some v) long true is =
           let t = (one_word xs rows (Some (n, [])) (option n) w m v refl (not_dashes w fit.0) long is).0 in
           fails rows (Some (n, [])) (option n) w ws _ (t ∙ ap (λ (k : Kinds). or_else k (use_fault false (full_rule m) (v ∷ []) (settled_rows (full_rules xs) (Some (n, [])) rows))) unsettled) none
+
       go : (o : Option (Text × Option Text)) → long_of w ≡ o → ⊥
       go (Some p) e = by p.0 p.1 e (is_known xs p.0) refl
       go None e = elim (other_word w fit.0 e) [
@@ -175,6 +181,7 @@ module _ (xs : List Text) where
           absurd (fails rows p idle word words _ (unknown_word xs rows p idle word n v refl (not_dashes word fit) long unknown) none)
       by n None long true known = alone n long known rows p done settled none
       by n (Some v) long true known = one word n v words fit long known more rows p done settled none
+
       go : (o : Option (Text × Option Text)) → long_of word ≡ o → Reads (word ∷ words) rows p done
       go (Some q) e = by q.0 q.1 e (is_known xs q.0) refl
       go None e = elim (other_word word fit e) [
@@ -215,7 +222,7 @@ module _ (xs : List Text) where
   pass_one o words done fit free known new more rows p settles settled =
       let word = 45 ∷ 45 ∷ ((o.name ++ 61 ∷ []) ++ o.value) in
       let long : long_of word ≡ Some (o.name, Some o.value) =
-          ap (λ (l : Text). long_of (45 ∷ 45 ∷ l)) (append_assoc o.name (61 ∷ []) o.value) ∙ valued_is o.name o.value (lacks o.name free) in
+      ap (λ (l : Text). long_of (45 ∷ 45 ∷ l)) (append_assoc o.name (61 ∷ []) o.value) ∙ valued_is o.name o.value (lacks o.name free) in
       let t = one_word xs rows p idle word o.name o.value refl (not_dashes word fit) long known in
       let u = uses o done (settled_rows (full_rules xs) p rows) settled new in
       faults_next rows p idle word words

@@ -1,12 +1,11 @@
 -- What one word does to a parse.
-use Rattle.std.proofs.Common.{◌≡◌, suc, ◌∙◌, ◌<◌, ◌&&◌, ◌||◌, ℕ, Bool, cond, not, true, false, refl, sym, ap, subst, arith, List, [], ◌∷◌, ◌++◌, map, length, fold, Option, Some, None, bytes_eq, append-nil, codes, slice_get, chars}
-use Rattle.std.specs.List.{find, list_any}
+use Rattle.std.proofs.Common.{◌≡◌, suc, ◌∙◌, ◌||◌, ℕ, Bool, cond, true, false, refl, sym, ap, List, [], ◌∷◌, ◌++◌, map, length, Option, Some, None, bytes_eq, append-nil, slice_get, chars}
 use Rattle.std.proofs.lemmas.List.{map-append}
 use Rattle.std.proofs.lemmas.Slice.Eq.{bytes_eq-Decides}
 use Rattle.clap.specs.Lexer.{long_of, short_of}
 use Rattle.clap.specs.Kinds.{Kinds, or_else}
-use Rattle.clap.specs.Faults.{flags_fault, settle_fault, turn_fault, use_fault, walk_fault}
-use Rattle.clap.specs.Walk.{Held, Row, Rule, Text, Waiting, Walk, arg_by_id, arg_by_index, arg_by_long, arg_by_short, at_row, has_row, idle, more_values, option, settled_rows, subcommand_met, used, walked}
+use Rattle.clap.specs.Faults.{flags_fault, settle_fault, turn_fault, use_fault}
+use Rattle.clap.specs.Walk.{Held, Row, Text, Waiting, Walk, arg_by_id, arg_by_index, arg_by_long, arg_by_short, at_row, has_row, idle, more_values, option, settled_rows, subcommand_met, used, walked}
 use Rattle.clap.specs.declared.error.kind.ErrorKind.{ErrorKind}
 use Rattle.clap.specs.declared.error.kind.ErrorKind.TheVariants.{UnknownArgument, InvalidValue}
 use Rattle.clap.specs.declared.parser.matches.ValueSource.TheVariants.{CommandLine}

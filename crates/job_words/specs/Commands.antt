@@ -1,5 +1,5 @@
 -- The command of `clap` that reads the words: for private functions alone.
-use Rattle.std.specs.Prelude.{◌||◌, ℕ, Bool, true, List, [], ◌∷◌, Option, Some, codes, map, bytes_eq}
+use Rattle.std.specs.Prelude.{◌||◌, Bool, true, List, [], ◌∷◌, Option, Some, codes, map, bytes_eq}
 use Rattle.clap.specs.Words.{App, Rule, Text, new_rule}
 use Rattle.clap.specs.Simple.{new_shape}
 use Rattle.job_words.specs.Options.{Given}

@@ -37,10 +37,7 @@ pub struct Found<'a> {
 /// # Errors
 ///
 /// There was no memory to read the words.
-pub fn options_of<'a>(
-    alloc: Global,
-    words: &'a [String],
-) -> Result<Option<Found<'a>>, AllocError>
+pub fn options_of<'a>(alloc: Global, words: &'a [String]) -> Result<Option<Found<'a>>, AllocError>
     ensures { IfOk result (λ r. MatchOption r
         ((given : Given) → ¬ GiveValues (map string_bytes words.now) given)
         (λ found. GiveValues (map string_bytes words.now) (given_of found))) }

@@ -36,15 +36,71 @@ fn words_spell_options(rt: HostRuntime) -> Result<(), Fail> {
         ("--from|stream|--to|frames", Some(forms)),
         ("--to=frames|--from|stream", Some(forms)),
         ("--from=stream|--to=frames", Some(forms)),
-        ("--week|2000|--leap=18", Some(Found { week: Some("2000"), leap: Some("18"), ..NOTHING })),
-        ("--date|20250101 000000 UTC", Some(Found { date: Some("20250101 000000 UTC"), ..NOTHING })),
-        ("--seed=7|--sats|2", Some(Found { seed: Some("7"), sats: Some("2"), ..NOTHING })),
-        ("--from=a=b", Some(Found { from: Some("a=b"), ..NOTHING })),
-        ("--from=", Some(Found { from: Some(""), ..NOTHING })),
-        ("--from|", Some(Found { from: Some(""), ..NOTHING })),
-        ("--from=-1", Some(Found { from: Some("-1"), ..NOTHING })),
-        ("--from=--", Some(Found { from: Some("--"), ..NOTHING })),
-        ("--from|é", Some(Found { from: Some("é"), ..NOTHING })),
+        (
+            "--week|2000|--leap=18",
+            Some(Found {
+                week: Some("2000"),
+                leap: Some("18"),
+                ..NOTHING
+            }),
+        ),
+        (
+            "--date|20250101 000000 UTC",
+            Some(Found {
+                date: Some("20250101 000000 UTC"),
+                ..NOTHING
+            }),
+        ),
+        (
+            "--seed=7|--sats|2",
+            Some(Found {
+                seed: Some("7"),
+                sats: Some("2"),
+                ..NOTHING
+            }),
+        ),
+        (
+            "--from=a=b",
+            Some(Found {
+                from: Some("a=b"),
+                ..NOTHING
+            }),
+        ),
+        (
+            "--from=",
+            Some(Found {
+                from: Some(""),
+                ..NOTHING
+            }),
+        ),
+        (
+            "--from|",
+            Some(Found {
+                from: Some(""),
+                ..NOTHING
+            }),
+        ),
+        (
+            "--from=-1",
+            Some(Found {
+                from: Some("-1"),
+                ..NOTHING
+            }),
+        ),
+        (
+            "--from=--",
+            Some(Found {
+                from: Some("--"),
+                ..NOTHING
+            }),
+        ),
+        (
+            "--from|é",
+            Some(Found {
+                from: Some("é"),
+                ..NOTHING
+            }),
+        ),
         ("--from|-1", None),
         ("--from|-", None),
         ("--from|--to", None),
@@ -62,7 +118,16 @@ fn words_spell_options(rt: HostRuntime) -> Result<(), Fail> {
         let words = words_of(rt.alloc(), text)?;
         assert_eq!(rt; options_of(rt.alloc(), &words)?, want, "{text}");
     }
-    let others = ["", "---from|a", "--fro=a", "--From=a", "-f|a", "--=a", "-é", "--from|a|b"];
+    let others = [
+        "",
+        "---from|a",
+        "--fro=a",
+        "--From=a",
+        "-f|a",
+        "--=a",
+        "-é",
+        "--from|a|b",
+    ];
     for text in others {
         let words = words_of(rt.alloc(), text)?;
         assert_eq!(rt; options_of(rt.alloc(), &words)?, None, "{text}");

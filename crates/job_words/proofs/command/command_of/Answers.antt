@@ -1,4 +1,4 @@
-use Rattle.std.proofs.Common.{◌≡◌, ◌∙◌, ℕ, ◌+◌, ◌<◌, List, [], ◌∷◌, ◌++◌, map, take, refl, sym, ap, rules, Bor, slice_index_or}
+use Rattle.std.proofs.Common.{◌∙◌, refl, rules}
 use Rattle.job_words.proofs.Rules.{command_grown}
 use Rattle.job_words.proofs.command.command_of.Goals as goal
 

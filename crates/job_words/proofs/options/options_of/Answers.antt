@@ -1,4 +1,4 @@
-use Rattle.std.proofs.Common.{◌≡◌, ◌∙◌, refl, sym}
+use Rattle.std.proofs.Common.{◌∙◌, sym}
 use Rattle.clap.specs.Words.{found_of}
 use Rattle.job_words.proofs.Outcomes.{dashes_give_none, matched, no_true, refused}
 use Rattle.job_words.proofs.options.options_of.Goals as goal
