@@ -26,7 +26,7 @@ abbrev pub Begins : Form → Type 0
 Begins f = (s : RecordsState) (bytes : List ℕ) → IsNew s → file_to_come f s bytes ≡ file_reads f bytes
 
 -- behind the header its records are to come
-passed_file : (f : Form) (s : RecordsState) (bytes : List ℕ) → s.header ≡ Passed → file_to_come f s bytes ≡ Ok (records_to_come f s bytes)
+pub passed_file : (f : Form) (s : RecordsState) (bytes : List ℕ) → s.header ≡ Passed → file_to_come f s bytes ≡ Ok (records_to_come f s bytes)
 passed_file f s bytes passed = rw passed refl
 
 -- the bytes of a header and of records behind it

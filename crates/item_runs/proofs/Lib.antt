@@ -7,3 +7,4 @@ mod MoveLemmas
 mod PieceLemmas
 mod PieceEnds
 mod StreamEnds
+pub mod Surface

@@ -76,7 +76,7 @@ pub(crate) fn stream_counts_text(counts: &StreamCounts) -> Text
 /// The text of the counts of a navigation file: a line for each, its name, a space and the number, in the order of the
 /// fields.
 #[tactic(auto, unfolding(crate::specs::Files::file_counts_text))]
-pub(crate) fn file_counts_text(counts: &RinexCounts) -> Text
+pub fn file_counts_text(counts: &RinexCounts) -> Text
     ensures { result.items ≡ file_counts_text counts.now }
 {
     let mut text = Text::new();

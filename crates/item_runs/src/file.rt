@@ -17,8 +17,13 @@ use nav_io::{Failed, Sink, Source};
 use rinex_read::{FileForm, HeaderFault, RecordReader, readers_begin_with_the_file};
 use run_texts::BridgeFault;
 
-// Reads the header.
-fn pass_header<F: FileForm, S: Source>(
+/// Reads the header.
+///
+/// # Errors
+///
+/// `NotThisForm` where the header is refused; `ReadFault` only where the input's count of faults rose or stands at its last
+/// value; `TooLong` only where 4,294,967,295 bytes were taken and one more was there.
+pub fn pass_header<F: FileForm, S: Source>(
     records: &mut RecordReader<F>,
     input: &mut S,
 ) -> Result<(), BridgeFault>

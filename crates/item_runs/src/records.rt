@@ -5,6 +5,7 @@ ghost use Rattle.std.specs.Io.KnownBytes.{Appends};
 ghost use Rattle.nav_io.specs.Causes.{Rose};
 ghost use Rattle.nav_io.specs.Front.{AppendsFront};
 ghost use Rattle.rinex_read.specs.States.{BreaksRecord, GivesNone, GivesRead};
+ghost use Rattle.rinex_read.specs.RoundTrip.{IsWholeRead};
 ghost use Rattle.rinex_read.specs.declared.judged.HeaderState.TheVariants.{Passed};
 ghost use Rattle.run_texts.specs.Causes.{HasItsCause, fault_by, faults_of};
 ghost use Rattle.run_texts.specs.Reports.{report_line};
@@ -27,8 +28,8 @@ pub(crate) fn fault_of(fault: LineFault) -> BridgeFault
     }
 }
 
-// Why a record is refused, in a word.
-fn reason_word(reason: Reason) -> &'static [u8]
+/// Why a record is refused, in a word.
+pub fn reason_word(reason: Reason) -> &'static [u8]
     ensures word { result.now ≡ reason_text reason }
     ensures short { length result.now ≤ 32 }
 {
@@ -100,14 +101,21 @@ fn count_read(read: &ItemRead, counts: &mut RinexCounts)
     counts.records += 1;
 }
 
-// The next record; none at the end of the file.
-fn next_read<F: FileForm, S: Source>(
+/// The next record; none at the end of the file. What is read of a record is whole: its fields are within their digits, and
+/// its parts fit together.
+///
+/// # Errors
+///
+/// `ReadFault` only where the input's count of faults rose or stands at its last value; `TooLong` only where 4,294,967,295
+/// bytes were taken and one more was there.
+pub fn next_read<F: FileForm, S: Source>(
     records: &mut RecordReader<F>,
     input: &mut S,
 ) -> Result<Option<ItemRead>, BridgeFault>
     requires header { records.old.header ≡ Passed }
     ensures read { IfOk result (λ given. IfSome given (λ read. IsRecord read
         × GivesRead F.form read (S.left input.old) (S.left input.new) records.old records.new)) }
+    ensures item { IfOk result (λ given. IfSome given IsWholeRead) }
     ensures none { IfOk result (λ given. IfNone given
         (GivesNone F.form (S.left input.old) (S.left input.new) records.old records.new)) }
     ensures header { records.new.header ≡ Passed }

@@ -2,7 +2,9 @@ mod Dates
 mod DigitTexts
 mod Ends
 mod Headlines
+mod JobEnds
 mod Listings
 mod OneJob
+mod RowJobs
 mod TableRows
 mod Spellings

@@ -4,10 +4,15 @@ use Rattle.std.specs.Str.Parse.{digits_value}
 use Rattle.std.specs.Char.{is_ascii_digit}
 use Rattle.std.specs.List.{list_all}
 use Rattle.gnss_week.specs.Weeks.{IsReference}
+use Rattle.rinex_write.specs.declared.header.HeaderWords.{HeaderWords}
 use Rattle.bridge_engine.specs.declared.target.CaptureTo.{CaptureTo}
-use Rattle.bridge_engine.specs.declared.target.CaptureTo.TheVariants.{Rinex, Rtcm, ToList, Count}
+use Rattle.bridge_engine.specs.declared.target.CaptureTo.TheVariants as captures
+use Rattle.item_runs.specs.declared.target.StreamTo.{StreamTo}
+use Rattle.item_runs.specs.declared.target.StreamTo.TheVariants as streams
+use Rattle.item_runs.specs.declared.target.RinexTo.{RinexTo}
+use Rattle.item_runs.specs.declared.target.RinexTo.TheVariants as files
 use Rattle.navbridge.specs.declared.job.Job.{Job}
-use Rattle.navbridge.specs.declared.job.Job.TheVariants.{StreamToFrames, Capture}
+use Rattle.navbridge.specs.declared.job.Job.TheVariants.{StreamToFrames, Capture, Stream, Rinex, Rinex3}
 use Rattle.navbridge.specs.declared.values.Values.{Values}
 use Rattle.navbridge.specs.Options.{Given, GiveValues}
 
@@ -65,24 +70,54 @@ pub record Row : Type 0 where
   pub to : List ℕ
   pub values : Values
 
-abbrev pub row : List ℕ → List ℕ → Values → Row
-row from to values = record { from = from; to = to; values = values }
+-- what is written: the word behind `--to`, and the leap seconds and the date of its header, where it has one
+pub record Target : Type 0 where
+  pub word : List ℕ
+  pub leap : Option ℕ
+  pub date : Option (List ℕ)
 
--- no further option
-abbrev pub nothing : Values
-nothing = record { week = None; leap = None; date = None; seed = None; sats = None }
+-- a target without a header, and one with a header
+abbrev pub plain : List ℕ → Target
+plain word = record { word = word; leap = None; date = None }
 
--- the rows from a capture
-abbrev pub capture_row : Option ℕ → CaptureTo → Row
-capture_row week (Rinex words) = row (codes "capture") (codes "rinex") (record nothing { week = week; date = Some words.date; leap = Some words.leap })
-capture_row week Rtcm = row (codes "capture") (codes "rtcm") (record nothing { week = week })
-capture_row week ToList = row (codes "capture") (codes "list") (record nothing { week = week })
-capture_row week Count = row (codes "capture") (codes "count") (record nothing { week = week })
+abbrev pub headed : List ℕ → HeaderWords → Target
+headed word words = record { word = word; leap = Some words.leap; date = Some words.date }
 
--- the table of jobs
+-- the row of a form, a target and a week
+abbrev pub row : List ℕ → Target → Option ℕ → Row
+row from target week = record {
+  from = from;
+  to = target.word;
+  values = record { week = week; leap = target.leap; date = target.date; seed = None; sats = None };
+}
+
+-- what a capture is converted to
+abbrev pub capture_target : CaptureTo → Target
+capture_target (captures.Rinex words) = headed (codes "rinex") words
+capture_target captures.Rtcm = plain (codes "rtcm")
+capture_target captures.ToList = plain (codes "list")
+capture_target captures.Count = plain (codes "count")
+
+-- what the ephemerides of a stream are converted to
+abbrev pub stream_target : StreamTo → Target
+stream_target (streams.Rinex words) = headed (codes "rinex") words
+stream_target (streams.Rinex3 words) = headed (codes "rinex3") words
+stream_target streams.Rtcm = plain (codes "rtcm")
+
+-- what a navigation file is converted to
+abbrev pub file_target : RinexTo → Target
+file_target (files.Rinex words) = headed (codes "rinex") words
+file_target (files.Rinex3 words) = headed (codes "rinex3") words
+file_target files.Rtcm = plain (codes "rtcm")
+file_target files.ToList = plain (codes "list")
+
+-- the table of jobs: a capture may have a week, a stream that is read must have one
 abbrev pub row_of : Job → Row
-row_of StreamToFrames = row (codes "stream") (codes "frames") nothing
-row_of (Capture job) = capture_row job.week job.to
+row_of StreamToFrames = row (codes "stream") (plain (codes "frames")) None
+row_of (Capture job) = row (codes "capture") (capture_target job.to) job.week
+row_of (Stream job) = row (codes "stream") (stream_target job.to) (Some job.week)
+row_of (Rinex to) = row (codes "rinex") (file_target to) None
+row_of (Rinex3 to) = row (codes "rinex3") (file_target to) None
 
 -- the options are exactly those of the job's row, and say its values
 pub record Asks (given : Given) (job : Job) : Type 0 where

@@ -1,38 +1,59 @@
 -- What a job makes of the bytes that it takes.
-use Rattle.std.specs.Prelude.{◌≡◌, ℕ, List, [], Option, IsSome}
+use Rattle.std.specs.Prelude.{◌≡◌, ◌<◌, ℕ, List, [], Option, IsSome, IsOk, IfSome}
 use Rattle.std.specs.Io.KnownBytes.{Appends, Consumes}
 use Rattle.nav_io.specs.Front.{IsFront}
 use Rattle.bridge_engine.specs.Captures.{capture_of, output_of as text_of_capture, report_of_capture, settled_output, least_output}
 use Rattle.bridge_engine.specs.FrameLines.{line_of}
 use Rattle.bridge_engine.specs.FrameRuns.{output_of}
+use Rattle.rinex_read.specs.Files.{file_reads}
+use Rattle.rinex_read.specs.Forms.{rinex4}
+use Rattle.rinex3_nav.specs.Form3.{rinex3}
+use Rattle.item_runs.specs.Files.{file_output, file_report}
+use Rattle.item_runs.specs.Streams.{stream_output, stream_report}
+use Rattle.navbridge.specs.Job.{row_of}
 use Rattle.navbridge.specs.declared.job.Job.{Job}
-use Rattle.navbridge.specs.declared.job.Job.TheVariants.{StreamToFrames, Capture}
+use Rattle.navbridge.specs.declared.job.Job.TheVariants.{StreamToFrames, Capture, Stream, Rinex, Rinex3}
 
 -- what is written of the bytes
 abbrev pub out_of : Job → List ℕ → List ℕ
 out_of StreamToFrames bytes = output_of line_of bytes
 out_of (Capture job) bytes = text_of_capture job.to job.week bytes
+out_of (Stream job) bytes = stream_output job.to job.week bytes
+out_of (Rinex to) bytes = file_output rinex4 to bytes
+out_of (Rinex3 to) bytes = file_output rinex3 to bytes
 
 -- what is reported of them
 abbrev pub report_of : Job → List ℕ → List ℕ
 report_of StreamToFrames bytes = []
 report_of (Capture job) bytes = report_of_capture job.week bytes
+report_of (Stream job) bytes = stream_report job.week bytes
+report_of (Rinex to) bytes = file_report rinex4 bytes
+report_of (Rinex3 to) bytes = file_report rinex3 bytes
 
 -- their first line or header is accepted, where the form has one
 abbrev pub Accepts : Job → List ℕ → Type 0
 Accepts StreamToFrames bytes = Unit {0}
 Accepts (Capture job) bytes = IsSome (capture_of job.week bytes)
+Accepts (Stream job) bytes = Unit {0}
+Accepts (Rinex to) bytes = IsOk (file_reads rinex4 bytes)
+Accepts (Rinex3 to) bytes = IsOk (file_reads rinex3 bytes)
 
 -- the least that is written once the bytes were taken, whatever fails
 abbrev pub least_of : Job → List ℕ → List ℕ
 least_of StreamToFrames bytes = []
 least_of (Capture job) bytes = least_output job.to job.week bytes
+least_of (Stream job) bytes = []
+least_of (Rinex to) bytes = []
+least_of (Rinex3 to) bytes = []
 
--- What is written where a read fails once the bytes were taken: of a stream a front of the whole, of a capture exactly what
--- the lines that have ended close.
+-- What is written where a read fails once the bytes were taken: of a capture exactly what the lines that have ended close, of
+-- a stream and of a navigation file a front of the whole.
 abbrev pub StopsWith : Job → List ℕ → List ℕ → Type 0
 StopsWith StreamToFrames bytes text = IsFront text (out_of StreamToFrames bytes)
 StopsWith (Capture job) bytes text = text ≡ settled_output job.to job.week bytes
+StopsWith (Stream job) bytes text = IsFront text (out_of (Stream job) bytes)
+StopsWith (Rinex to) bytes text = IsFront text (out_of (Rinex to) bytes)
+StopsWith (Rinex3 to) bytes text = IsFront text (out_of (Rinex3 to) bytes)
 
 -- a read failed: these bytes were taken, and this is written of them
 pub record Stops (job : Job) (left left_new written written_new : Option (List ℕ)) : Type 0 where
@@ -46,8 +67,18 @@ pub record Stops (job : Job) (left left_new written written_new : Option (List �
 abbrev pub IsSilent : Job → Type 0
 IsSilent StreamToFrames = Unit {0}
 IsSilent (Capture job) = ⊥
+IsSilent (Stream job) = ⊥
+IsSilent (Rinex to) = ⊥
+IsSilent (Rinex3 to) = ⊥
 
 -- a job that takes memory
 abbrev pub TakesMemory : Job → Type 0
 TakesMemory StreamToFrames = ⊥
 TakesMemory (Capture job) = Unit {0}
+TakesMemory (Stream job) = Unit {0}
+TakesMemory (Rinex to) = ⊥
+TakesMemory (Rinex3 to) = ⊥
+
+-- the leap seconds of a job's header have at most two digits
+abbrev pub HasLeap : Job → Type 0
+HasLeap job = IfSome (row_of job).values.leap (λ leap. leap < 100)

@@ -1,6 +1,7 @@
 //! Captures of which a read or a write fails.
 
-use crate::rows::{HEADER, TO_LIST, TO_RINEX, concat_text, convert_failing, nothing_fails};
+use crate::over_memory::{concat_text, convert_failing, nothing_fails};
+use crate::rows::{HEADER, TO_LIST, TO_RINEX};
 use std::alloc::{AllocError, Global};
 use std::test::Fail;
 

@@ -17,12 +17,22 @@ mod bits;
 mod capture_tests;
 #[cfg(test)]
 mod failures;
+#[cfg(test)]
+mod file_rows;
 mod job;
 mod laws;
 mod options;
 #[cfg(test)]
+mod over_memory;
+#[cfg(test)]
+mod rinex3_rows;
+#[cfg(test)]
 mod rows;
+mod run;
 mod statuses;
+#[cfg(test)]
+mod stream_rows;
+mod table;
 #[cfg(test)]
 mod tests;
 #[cfg(test)]

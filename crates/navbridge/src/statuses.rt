@@ -15,7 +15,8 @@ ghost use Rattle.navbridge.specs.Statuses.{fault_status};
 ghost use Rattle.navbridge.specs.declared.job.Job.{Job};
 
 use crate::job::{Job, job_of};
-use bridge_engine::{BridgeFault, run_capture, run_frames};
+use crate::run::run_job;
+use bridge_engine::BridgeFault;
 use nav_io::{Sink, Source};
 use std::alloc::Global;
 
@@ -27,10 +28,13 @@ use std::alloc::Global;
 /// | 2 | exactly where the words give no job; nothing is read or written |
 /// | 3 | only where the input failed: its count of faults rose, or stands at its last value |
 /// | 4 | only where the output failed: its count of faults rose, or stands at its last value |
-/// | 5 | exactly where the first line of a capture is not accepted for the week of the words, and nothing failed before |
-/// | 6 | for want of memory |
+/// | 5 | exactly where the first line of a capture, or the header of a navigation file, is refused, and nothing failed before |
+/// | 6 | for want of memory, and never in a job from a navigation file nor in that from a stream to frames |
 /// | 7 | only where the report failed: its count of faults rose, or stands at its last value |
 /// | 8 | only where 4,294,967,295 bytes of input were taken and one more was there |
+///
+/// The first line of a capture is accepted for the week of the words, where they name one; the header of a navigation file
+/// is that of its form, whichever was asked for.
 ///
 /// After 3, 4, 6, 7 and 8 the output has a front of what the bytes that were taken would give; after 3 in a capture exactly
 /// what is closed by the lines that have ended. The job `--from stream --to frames` writes nothing to the report.
@@ -71,6 +75,8 @@ pub fn bridge<S: Source, T: Sink, U: Sink>(
     ensures write { result ≡ 4 → Rose (T.faults output.old) (T.faults output.new) }
     ensures report { result ≡ 7 → Rose (U.faults report.old) (U.faults report.new) }
     ensures too_long { result ≡ 8 → TakesTooMany (S.left input.old) (S.left input.new) }
+    ensures memory { (job : Job) → IsJob (map string_bytes words.now) job → result ≡ 6
+        → TakesMemory job }
 
     // What the bytes give is written and reported.
     ensures text { (job : Job) → IsJob (map string_bytes words.now) job → result ≡ 0
@@ -90,7 +96,7 @@ pub fn bridge<S: Source, T: Sink, U: Sink>(
         → IsSilent job ⊎ ¬ Rose (U.faults report.old) (U.faults report.new)
         → (result ≡ 0) ⊎ ((result ≡ 6) × TakesMemory job)) }
 
-    // The first line decides whether the input has the form of the job.
+    // The first line or the header decides whether the input has the form of the job.
     ensures form { result ≡ 5 → (output.new ≡ output.old) × (report.new ≡ report.old) }
     ensures refused { (job : Job) → IsJob (map string_bytes words.now) job → result ≡ 5
         → IfSome (S.left input.old) (λ bytes. ¬ Accepts job bytes) }
@@ -110,19 +116,16 @@ pub fn bridge<S: Source, T: Sink, U: Sink>(
 {
     match job_of(words) {
         None => 2,
-        Some(Job::StreamToFrames) => status_of(run_frames(input, output)),
-        Some(Job::Capture(job)) => {
-            status_of(run_capture(alloc, job.week, &job.to, input, output, report))
-        }
+        Some(job) => status_of(run_job(alloc, &job, input, output, report)),
     }
 }
 
 // The status of a run that ended so.
-fn status_of<C: Copy>(run: Result<C, BridgeFault>) -> u8
+fn status_of(run: Result<(), BridgeFault>) -> u8
     ensures { MatchResult run (λ _. result ≡ 0) (λ fault. result ≡ fault_status fault) }
 {
     match run {
-        Ok(_) => 0,
+        Ok(()) => 0,
         Err(BridgeFault::ReadFault) => 3,
         Err(BridgeFault::WriteFault) => 4,
         Err(BridgeFault::NotThisForm) => 5,

@@ -109,6 +109,20 @@ fn judges_the_words(rt: HostRuntime) -> Result<(), Fail> {
         ("--from capture --to list --week", 2),
         ("--from stream --from capture --to list", 2),
         ("--from capture --to list --leap 18", 2),
+        ("--from stream --to rtcm --week 2295", 0),
+        ("--from stream --to rtcm", 2),
+        ("--from stream --to list --week 2295", 2),
+        ("--from stream --to rinex --week 2295 --leap 18", 2),
+        ("--from rinex --to list", 5),
+        ("--to rtcm --from=rinex", 5),
+        ("--from rinex --to rtcm --week 2295", 2),
+        ("--from rinex --to rinex --leap 18", 2),
+        ("--from rinex --to list --leap 18", 2),
+        ("--from rinex --to count", 2),
+        ("--from rinex3 --to rtcm", 5),
+        ("--from=rinex3 --to=list", 5),
+        ("--from rinex3 --to rinex", 2),
+        ("--from rinex2 --to list", 2),
         ("--from seed --to capture --seed 7 --sats 33 --week 2295", 2),
         (
             "--from seed --to capture --seed 4294967296 --sats 1 --week 2295",
@@ -119,7 +133,7 @@ fn judges_the_words(rt: HostRuntime) -> Result<(), Fail> {
         let words = words_of(rt.alloc(), text)?;
         let mut input = source_of(rt.alloc(), &[], false, &[])?;
         let mut output = MemSink::new(rt.alloc(), 64, Vec::new(rt.alloc()))?;
-        let mut report = MemSink::new(rt.alloc(), 0, Vec::new(rt.alloc()))?;
+        let mut report = MemSink::new(rt.alloc(), 64, Vec::new(rt.alloc()))?;
         let status = bridge(rt.alloc(), &words, &mut input, &mut output, &mut report);
         assert_eq!(rt; status, want, "{text}");
     }

@@ -1,14 +1,15 @@
 //! Texts of captures that a run writes, whole.
 
 use crate::bits::expand;
-use crate::rows::{HEADER, TO_COUNT, TO_RINEX, TO_RTCM, WORDS, concat_text, convert};
+use crate::over_memory::{concat_text, convert};
+use crate::rows::{HEADER, TO_COUNT, TO_RINEX, TO_RTCM, WORDS};
 use std::test::Fail;
 
 // A capture of one ephemeris of GPS.
 const GPS: &str = "NAVCAP 1\n0 L G05 {A}\n6 L G05 {B}\n12 L G05 {C}\n";
 
 // Its record.
-const RECORD: &str = concat!(
+pub(crate) const RECORD: &str = concat!(
     "> EPH G05 LNAV\n",
     "G05 2023 12 31 00 00 00 0.000000000000D+00 0.000000000000D+00 0.000000000000D+00\n",
     "     0.000000000000D+00 0.000000000000D+00 0.000000000000D+00 0.000000000000D+00\n",
@@ -21,7 +22,7 @@ const RECORD: &str = concat!(
 );
 
 // The records of the words of Galileo with word 5.
-const GALILEO: &str = concat!(
+pub(crate) const GALILEO: &str = concat!(
     "> EPH E11 INAV\n",
     "E11 2023 12 31 00 00 00 0.000000000000D+00 0.000000000000D+00 0.000000000000D+00\n",
     "     5.000000000000D+00 0.000000000000D+00 0.000000000000D+00 0.000000000000D+00\n",

@@ -1,4 +1,4 @@
-use Rattle.std.proofs.Common.{List, ℕ, ap, Option, rules}
+use Rattle.std.proofs.Common.{ap}
 use Rattle.std.specs.Prelude.{option_map}
 use Rattle.navbridge.proofs.TableRows.{asked}
 use Rattle.navbridge.proofs.job.job_with.Goals as goal

@@ -1,0 +1,2 @@
+pub mod SlotParts
+pub mod SentCapture

@@ -1,0 +1,54 @@
+-- How a job ended, by its run.
+use Rattle.std.proofs.Common.{◌≡◌, ℕ, List, [], Option, Some, None, Result, Ok, Err, refl, sym, append-nil, subst}
+use Rattle.std.specs.Prelude.{MatchResult, IfErr, IfSome, IsErrOf, OnOk, OnErr}
+use Rattle.std.specs.Io.KnownBytes.{Appends}
+use Rattle.bridge_engine.specs.FrameLines.{line_of}
+use Rattle.bridge_engine.specs.FrameRuns.{RunsPart as FramesPart}
+use Rattle.run_texts.specs.Runs.{RunsPart}
+use Rattle.run_texts.specs.declared.fault.BridgeFault.{BridgeFault}
+use Rattle.navbridge.specs.declared.job.Job.TheVariants.{StreamToFrames}
+use Rattle.navbridge.specs.JobTexts.{out_of, report_of, least_of, Stops}
+
+-- the same end, without what was counted
+abbrev pub Ends : {C : Type 0} → Result C BridgeFault → Result (Unit {0}) BridgeFault → Type 0
+Ends run result = MatchResult run (λ _. result ≡ Ok tt) (λ fault. result ≡ Err fault)
+
+pub ends_err : {C : Type 0} (run : Result C BridgeFault) (result : Result (Unit {0}) BridgeFault) → Ends run result → (P : Type 0) → OnErr run P → OnErr result P
+ends_err (Ok x) result e P p = subst (λ (r : Result (Unit {0}) BridgeFault). OnErr r P) (sym e) tt
+ends_err (Err f) result e P p = subst (λ (r : Result (Unit {0}) BridgeFault). OnErr r P) (sym e) p
+
+pub ends_fault : {C : Type 0} (run : Result C BridgeFault) (result : Result (Unit {0}) BridgeFault) → Ends run result
+    → (Q : BridgeFault → Type 0) (P : Type 0) → ((f : BridgeFault) → Q f → P) → IfErr run Q → OnErr result P
+ends_fault (Ok x) result e Q P by q = subst (λ (r : Result (Unit {0}) BridgeFault). OnErr r P) (sym e) tt
+ends_fault (Err f) result e Q P by q = subst (λ (r : Result (Unit {0}) BridgeFault). OnErr r P) (sym e) (by f q)
+
+pub at_err : (result : Result (Unit {0}) BridgeFault) (f : BridgeFault) (P : Type 0) → IsErrOf result f → OnErr result P → P
+at_err (Ok x) f P is p = absurd (let no : Ok x ≡ Err f = is in cc)
+at_err (Err g) f P is p = p
+
+pub always : (result : Result (Unit {0}) BridgeFault) (P : Type 0) → P → OnOk result P
+always (Ok x) P p = p
+always (Err f) P p = tt
+
+-- nothing is written
+none_written : (left : Option (List ℕ)) → Appends left left []
+none_written None = tt
+none_written (Some xs) = sym (append-nil xs)
+
+pub none_reported : (o u : Option (List ℕ)) → IfSome o (λ bytes. Appends u u (report_of StreamToFrames bytes))
+none_reported None u = tt
+none_reported (Some bytes) u = none_written u
+
+-- what a run over frames leaves
+pub frames_stop : (l l' w w' : Option (List ℕ)) (f : BridgeFault) → FramesPart line_of l l' w w' f → Stops StreamToFrames l l' w w'
+frames_stop l l' w w' f part =
+    record { taken = part.taken; consumes = part.consumes; text = part.text.0; stops = part.text.1; grew = part.text.2 }
+
+pub frames_part : (l l' w w' u : Option (List ℕ)) (f : BridgeFault) → FramesPart line_of l l' w w' f
+    → RunsPart (out_of StreamToFrames) (least_of StreamToFrames) (report_of StreamToFrames) l l' w w' u u
+frames_part l l' w w' u f part = record {
+  taken = part.taken;
+  consumes = part.consumes;
+  text = record { front = part.text.0; within = part.text.1; no_less = (part.text.0, refl); grew = part.text.2 };
+  report_text = ([], ([], refl), none_written u);
+}

@@ -1,0 +1,21 @@
+use Rattle.run_texts.specs.declared.fault.BridgeFault.TheVariants.{ReadFault}
+use Rattle.navbridge.proofs.JobEnds.{always, at_err, ends_err, ends_fault, frames_part, frames_stop, none_reported}
+use Rattle.navbridge.proofs.run.run_job.Goals as goal
+
+pub returns-in-StreamToFrames-clause-report_text : goal.returns-in-StreamToFrames-clause-report_text
+returns-in-StreamToFrames-clause-report_text g c =
+    rw c.in-StreamToFrames.is
+    (always c.ended.result _ (none_reported (g.S.Source.left c.args.input.now) (g.U.Sink.written c.args.report.now)))
+
+pub returns-in-StreamToFrames-clause-stops : goal.returns-in-StreamToFrames-clause-stops
+returns-in-StreamToFrames-clause-stops g c =
+    rw c.in-StreamToFrames.is
+    (λ read. at_err c.ended.result ReadFault _ read (ends_fault _ c.ended.result c.ended.ensures _ _ (λ f part. frames_stop _ _ _ _ f part) c.run_frames.ensures.part))
+
+pub returns-in-StreamToFrames-clause-part : goal.returns-in-StreamToFrames-clause-part
+returns-in-StreamToFrames-clause-part g c =
+    rw c.in-StreamToFrames.is
+    (ends_fault _ c.ended.result c.ended.ensures _ _ (λ f part. frames_part _ _ _ _ (g.U.Sink.written c.args.report.now) f part) c.run_frames.ensures.part)
+
+pub returns-in-Stream-clause-part : goal.returns-in-Stream-clause-part
+returns-in-Stream-clause-part g c = rw c.in-Stream.is (ends_err _ _ c.ended-in-Stream.ensures _ c.run_stream.ensures.part)

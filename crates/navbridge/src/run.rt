@@ -1,0 +1,95 @@
+//! One job, from its input to its output and its report.
+
+ghost use Rattle.std.specs.Prelude.{◌≡◌, ◌⊎◌, ◌^◌, ◌<◌, ◌≤◌, length, IsTrue, IsOk, IsErr, IsErrOf};
+ghost use Rattle.std.specs.Prelude.{IfSome, OnOk, OnErr, MatchResult, Ok, Err};
+ghost use Rattle.std.specs.Io.KnownBytes.{Appends, IsAtEnd};
+ghost use Rattle.nav_io.specs.Causes.{Rose};
+ghost use Rattle.run_texts.specs.Runs.{RunsPart, TakesTooMany};
+ghost use Rattle.navbridge.specs.JobTexts.{out_of, report_of, Accepts, HasLeap, least_of, Stops};
+ghost use Rattle.navbridge.specs.JobTexts.{IsSilent, TakesMemory};
+
+use crate::job::Job;
+use bridge_engine::{BridgeFault, run_capture, run_frames};
+use item_runs::{run_rinex, run_rinex3, run_stream};
+use nav_io::{Sink, Source};
+use std::alloc::Global;
+
+// Does a job: reads the input to its end, and writes and reports what the job makes of its bytes.
+pub(crate) fn run_job<S: Source, T: Sink, U: Sink>(
+    alloc: Global,
+    job: &Job,
+    input: &mut S,
+    output: &mut T,
+    report: &mut U,
+) -> Result<(), BridgeFault>
+    requires leap { HasLeap job.now }
+
+    // A job that is done took the whole input, met no fault, and wrote and reported what the bytes
+    // give.
+    ensures text { OnOk result (IfSome (S.left input.old) (λ bytes.
+        Appends (T.written output.old) (T.written output.new) (out_of job.now bytes))) }
+    ensures report_text { OnOk result (IfSome (S.left input.old) (λ bytes.
+        Appends (U.written report.old) (U.written report.new) (report_of job.now bytes))) }
+    ensures end { OnOk result (IsAtEnd (S.left input.new)) }
+    ensures no_fault { OnOk result ((S.faults input.new ≡ S.faults input.old)
+        × (T.faults output.new ≡ T.faults output.old)
+        × (U.faults report.new ≡ U.faults report.old)) }
+    ensures long { IfSome (S.left input.old) (λ bytes. 2 ^ 32 ≤ length bytes → IsErr result) }
+    ensures silent { IsSilent job.now → report.new ≡ report.old }
+
+    // It is done where nothing fails, or memory was wanting.
+    ensures complete { IfSome (S.left input.old) (λ bytes. length bytes < 2 ^ 32
+        → Accepts job.now bytes
+        → ¬ Rose (S.faults input.old) (S.faults input.new)
+        → ¬ Rose (T.faults output.old) (T.faults output.new)
+        → IsSilent job.now ⊎ ¬ Rose (U.faults report.old) (U.faults report.new)
+        → IsOk result ⊎ (IsErrOf result BridgeFault.NoMemory × TakesMemory job.now)) }
+
+    // Its first line or header decides whether the input has its form.
+    ensures form { IsErrOf result BridgeFault.NotThisForm
+        → (output.new ≡ output.old) × (report.new ≡ report.old) }
+    ensures refused { IfSome (S.left input.old) (λ bytes.
+        IsErrOf result BridgeFault.NotThisForm → ¬ Accepts job.now bytes) }
+    ensures accepted { IfSome (S.left input.old) (λ bytes.
+        IsOk result
+        ⊎ (IsErrOf result BridgeFault.WriteFault ⊎ IsErrOf result BridgeFault.ReportFault)
+        → Accepts job.now bytes) }
+
+    // Each fault has its cause.
+    ensures read { IsErrOf result BridgeFault.ReadFault
+        → Rose (S.faults input.old) (S.faults input.new) }
+    ensures never { IsTrue (S.never_fails input.old) → IsErrOf result BridgeFault.ReadFault → ⊥ }
+    ensures write { IsErrOf result BridgeFault.WriteFault
+        → Rose (T.faults output.old) (T.faults output.new) }
+    ensures report { IsErrOf result BridgeFault.ReportFault
+        → Rose (U.faults report.old) (U.faults report.new) }
+    ensures too_long { IsErrOf result BridgeFault.TooLong
+        → TakesTooMany (S.left input.old) (S.left input.new) }
+    ensures memory { IsErrOf result BridgeFault.NoMemory → TakesMemory job.now }
+
+    // What a fault leaves.
+    ensures stops { IsErrOf result BridgeFault.ReadFault
+        → Stops job.now (S.left input.old) (S.left input.new)
+        (T.written output.old) (T.written output.new) }
+    ensures part { OnErr result (RunsPart (out_of job.now) (least_of job.now) (report_of job.now)
+        (S.left input.old) (S.left input.new) (T.written output.old) (T.written output.new)
+        (U.written report.old) (U.written report.new)) }
+{
+    match job {
+        Job::StreamToFrames => ended(run_frames(input, output)),
+        Job::Capture(job) => ended(run_capture(alloc, job.week, &job.to, input, output, report)),
+        Job::Stream(job) => ended(run_stream(alloc, job.week, &job.to, input, output, report)),
+        Job::Rinex(to) => ended(run_rinex(to, input, output, report)),
+        Job::Rinex3(to) => ended(run_rinex3(to, input, output, report)),
+    }
+}
+
+// How a run ended, without what it counted.
+fn ended<C: Copy>(run: Result<C, BridgeFault>) -> Result<(), BridgeFault>
+    ensures { MatchResult run (λ _. result ≡ Ok tt) (λ fault. result ≡ Err fault) }
+{
+    match run {
+        Ok(_) => Ok(()),
+        Err(fault) => Err(fault),
+    }
+}

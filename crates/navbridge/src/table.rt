@@ -1,0 +1,171 @@
+//! The table of jobs, as it is read: the forms and the values of the options, and the job whose row
+//! has them.
+
+ghost use Rattle.std.specs.Prelude.{◌≡◌, ◌↔◌, None, Some, MatchOption, IsFalse, codes};
+ghost use Rattle.rinex_write.specs.declared.header.HeaderWords.{HeaderWords};
+ghost use Rattle.navbridge.specs.Job.{capture_target, file_target, row_of, stream_target};
+ghost use Rattle.navbridge.specs.Found.{IsRow, IsTarget};
+ghost use Rattle.navbridge.specs.declared.job.Job.{Job};
+
+use crate::job::{CaptureJob, Job, StreamJob};
+use crate::values::Values;
+use bridge_engine::CaptureTo;
+use item_runs::{RinexTo, StreamTo};
+use rinex_write::HeaderWords;
+
+// The job between these forms that has exactly these values.
+pub(crate) fn job_in(from: &[u8], to: &[u8], values: &Values) -> Option<Job>
+    ensures { MatchOption result ((job : Job) → ¬ IsRow (row_of job) from.now to.now values.now)
+        (λ job. IsRow (row_of job) from.now to.now values.now) }
+{
+    if values.seed.is_some() || values.sats.is_some() {
+        return None;
+    }
+    if from == b"capture".as_slice() {
+        let week = values.week;
+        return match capture_to(to, values) {
+            None => None,
+            Some(to) => Some(Job::Capture(CaptureJob { week, to })),
+        };
+    }
+    if from == b"stream".as_slice() {
+        return from_stream(to, values);
+    }
+    if values.week.is_some() {
+        return None;
+    }
+    if from == b"rinex".as_slice() {
+        return match file_to(to, values) {
+            None => None,
+            Some(to) => Some(Job::Rinex(to)),
+        };
+    }
+    if from == b"rinex3".as_slice() {
+        return match file_to(to, values) {
+            None => None,
+            Some(to) => Some(Job::Rinex3(to)),
+        };
+    }
+    None
+}
+
+// The job from a stream to this form that has exactly these values.
+fn from_stream(to: &[u8], values: &Values) -> Option<Job>
+    requires seed { values.now.seed ≡ None }
+    requires sats { values.now.sats ≡ None }
+    ensures { MatchOption result
+        ((job : Job) → ¬ IsRow (row_of job) (codes "stream") to.now values.now)
+        (λ job. IsRow (row_of job) (codes "stream") to.now values.now) }
+{
+    match values.week {
+        None => {
+            if to == b"frames".as_slice() && !has_header(values) {
+                Some(Job::StreamToFrames)
+            } else {
+                None
+            }
+        }
+        Some(week) => match stream_to(to, values) {
+            None => None,
+            Some(to) => Some(Job::Stream(StreamJob { week, to })),
+        },
+    }
+}
+
+// What a capture is converted to.
+fn capture_to(to: &[u8], values: &Values) -> Option<CaptureTo>
+    ensures { MatchOption result
+        ((target : CaptureTo) → ¬ IsTarget (capture_target target) to.now values.now)
+        (λ target. IsTarget (capture_target target) to.now values.now) }
+{
+    if to == b"rinex".as_slice() {
+        return match header_of(values) {
+            None => None,
+            Some(words) => Some(CaptureTo::Rinex(words)),
+        };
+    }
+    if has_header(values) {
+        return None;
+    }
+    if to == b"rtcm".as_slice() {
+        return Some(CaptureTo::Rtcm);
+    }
+    if to == b"list".as_slice() {
+        return Some(CaptureTo::ToList);
+    }
+    if to == b"count".as_slice() {
+        return Some(CaptureTo::Count);
+    }
+    None
+}
+
+// What the ephemerides of a stream are converted to.
+fn stream_to(to: &[u8], values: &Values) -> Option<StreamTo>
+    ensures { MatchOption result
+        ((target : StreamTo) → ¬ IsTarget (stream_target target) to.now values.now)
+        (λ target. IsTarget (stream_target target) to.now values.now) }
+{
+    if to == b"rtcm".as_slice() {
+        return if has_header(values) {
+            None
+        } else {
+            Some(StreamTo::Rtcm)
+        };
+    }
+    let words = header_of(values)?;
+    if to == b"rinex".as_slice() {
+        return Some(StreamTo::Rinex(words));
+    }
+    if to == b"rinex3".as_slice() {
+        return Some(StreamTo::Rinex3(words));
+    }
+    None
+}
+
+// What a navigation file is converted to.
+fn file_to(to: &[u8], values: &Values) -> Option<RinexTo>
+    ensures { MatchOption result
+        ((target : RinexTo) → ¬ IsTarget (file_target target) to.now values.now)
+        (λ target. IsTarget (file_target target) to.now values.now) }
+{
+    if to == b"rinex".as_slice() {
+        return match header_of(values) {
+            None => None,
+            Some(words) => Some(RinexTo::Rinex(words)),
+        };
+    }
+    if to == b"rinex3".as_slice() {
+        return match header_of(values) {
+            None => None,
+            Some(words) => Some(RinexTo::Rinex3(words)),
+        };
+    }
+    if has_header(values) {
+        return None;
+    }
+    if to == b"rtcm".as_slice() {
+        return Some(RinexTo::Rtcm);
+    }
+    if to == b"list".as_slice() {
+        return Some(RinexTo::ToList);
+    }
+    None
+}
+
+// The words of a header, where both are there.
+fn header_of(values: &Values) -> Option<HeaderWords>
+    ensures { MatchOption result ((words : HeaderWords)
+        → ¬ ((values.now.leap ≡ Some words.leap) × (values.now.date ≡ Some words.date)))
+        (λ words. (values.now.leap ≡ Some words.leap) × (values.now.date ≡ Some words.date)) }
+{
+    let date = values.date?;
+    let leap = values.leap?;
+    Some(HeaderWords { date, leap })
+}
+
+// Whether the values have one of the words of a header.
+fn has_header(values: &Values) -> bool
+    ensures { IsFalse result ↔ ((values.now.leap ≡ None) × (values.now.date ≡ None)) }
+{
+    values.leap.is_some() || values.date.is_some()
+}

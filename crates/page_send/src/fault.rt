@@ -1,0 +1,85 @@
+//! Whether an ephemeris may be sent.
+
+ghost use Rattle.std.specs.Prelude.{◌≡◌, ◌↔◌, None, Some, IsOk, IfErr};
+ghost use Rattle.page_send.specs.Sendable.{IsEphemeris, has_other_issue, is_far, is_full};
+ghost use Rattle.page_send.specs.Sendable.{send_fault};
+
+use gnss_week::{RefWeek, is_near_galileo, is_near_gps};
+use nav_eph::NavItem;
+use thiserror::Error;
+
+/// Why an ephemeris may not be sent: the first of these that holds, in this order.
+#[derive(Clone, Copy, PartialEq, Eq, Debug, Error)]
+pub enum SendFault {
+    /// The clock and the orbit of GPS are of different issues: the low eight bits of iodc are not
+    /// iode (IS-GPS-200, 20.3.4.4).
+    #[error("issue")]
+    Issue,
+    /// The week number that is sent would mean another week than that of toe.
+    #[error("week")]
+    Week,
+    /// No slot is left: the stamps of 198,842 slots have 32 bits.
+    #[error("room")]
+    Room,
+}
+
+// The slots whose stamps have 32 bits.
+const SLOTS: u32 = 198_842;
+
+// The clock and the orbit of GPS have different issues.
+fn has_two_issues(item: &NavItem) -> bool
+    ensures { result ≡ has_other_issue item.now }
+{
+    match item {
+        NavItem::Gps(e) => e.clock.iodc.value() % 256 != e.a.iode.value(),
+        NavItem::Gal(_) => false,
+        NavItem::Ion(_) => false,
+    }
+}
+
+// The digits that are sent do not mean the week of toe.
+fn is_far_from(item: &NavItem, r: RefWeek) -> bool
+    ensures { result ≡ is_far r item.now }
+{
+    match item {
+        NavItem::Gps(e) => !is_near_gps(r, e.toe_week),
+        NavItem::Gal(e) => !is_near_galileo(r, e.toe_week),
+        NavItem::Ion(_) => false,
+    }
+}
+
+// There is no such slot.
+fn is_past_the_last(slot: u32) -> bool
+    ensures { result ≡ is_full slot }
+{
+    slot >= SLOTS
+}
+
+/// Whether an ephemeris may be sent in a slot, counted from 0, to a receiver that takes week
+/// numbers near the week `r`.
+///
+/// # Errors
+///
+/// The first of these that holds, in this order:
+///
+/// - `Issue`: an ephemeris of GPS whose iodc has other low eight bits than iode;
+/// - `Week`: the week of toe is none of those that the digits tell apart near `r`: the 1024 of GPS
+///   from `r` - 512 on, the 4096 of Galileo from `r` - 2048 on, or from 1024 on where that is
+///   later;
+/// - `Room`: the slot is 198,842 or more.
+pub fn can_send(item: &NavItem, r: RefWeek, slot: u32) -> Result<(), SendFault>
+    requires ephemeris { IsEphemeris item.now }
+    ensures ok { IsOk result ↔ (send_fault r item.now slot ≡ None) }
+    ensures fault { IfErr result (λ fault. send_fault r item.now slot ≡ Some fault) }
+{
+    if has_two_issues(item) {
+        return Err(SendFault::Issue);
+    }
+    if is_far_from(item, r) {
+        return Err(SendFault::Week);
+    }
+    if is_past_the_last(slot) {
+        return Err(SendFault::Room);
+    }
+    Ok(())
+}

@@ -1,0 +1,3 @@
+pub mod Tolds
+pub mod Follows
+pub mod WholeFiles
