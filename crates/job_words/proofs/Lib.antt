@@ -5,3 +5,4 @@ pub mod Lexed
 pub mod Readings
 pub mod Listings
 pub mod Outcomes
+pub mod Surface

@@ -1,5 +1,5 @@
 -- Options, one after another: which value they have under a name, and whether each name stands once.
-use Rattle.std.proofs.Common.{◌≡◌, ◌∙◌, zero, suc, ◌⊎◌, ◌||◌, ℕ, Bool, List, [], ◌∷◌, ◌++◌, Option, Some, None, cond, false, true, refl, sym, ap, inl, inr, arith, bytes_eq, slice_get, option_and_then, codes, Contains}
+use Rattle.std.proofs.Common.{◌≡◌, ◌∙◌, zero, suc, ◌⊎◌, ◌||◌, ℕ, Bool, List, [], ◌∷◌, ◌++◌, Option, Some, None, cond, false, true, refl, sym, ap, inl, inr, arith, subst, bytes_eq, slice_get, option_and_then, codes, Contains}
 use Rattle.std.specs.List.{find}
 use Rattle.std.proofs.lemmas.Slice.Eq.{bytes_eq-Decides}
 use Rattle.clap.specs.Walk.{Row, Text, first_of}
@@ -108,6 +108,26 @@ away_none (o ∷ os) = (refl, away_none os)
 
 pub new_of : (os : List Choice) → AreOnce os → AreNew [] os
 new_of os once = new_from [] os (away_none os) once
+
+-- under one name stands one value
+two_values : (options : List Choice) → AreOnce options → (name v w : List ℕ) → Contains options (choice name v) → Contains options (choice name w) → v ≡ w
+two_values [] once name v w a b = absurd (none_in (choice name v) a)
+two_values (o ∷ os) once name v w a b = elim (head_or o (choice name v) os a) [
+  | inl e ↦ elim (head_or o (choice name w) os b) [
+    | inl f ↦ ap (λ (q : Choice). q.value) (sym e ∙ f)
+    | inr d ↦ absurd (once.0 w (subst (λ (n : List ℕ). Contains os (choice n w)) (sym (ap (λ (q : Choice). q.name) e)) d))
+  ]
+  | inr c ↦ elim (head_or o (choice name w) os b) [
+    | inl f ↦ absurd (once.0 v (subst (λ (n : List ℕ). Contains os (choice n v)) (sym (ap (λ (q : Choice). q.name) f)) c))
+    | inr d ↦ two_values os once.1 name v w c d
+  ]
+]
+
+pub holds_once : (options : List Choice) → AreOnce options → (name : List ℕ) (a b : Option (List ℕ)) → Holds options name a → Holds options name b → a ≡ b
+holds_once options once name None None a b = refl
+holds_once options once name None (Some w) a b = absurd (a w b)
+holds_once options once name (Some v) None a b = absurd (b v a)
+holds_once options once name (Some v) (Some w) a b = ap Some (two_values options once name v w a b)
 
 -- ---- the names
 

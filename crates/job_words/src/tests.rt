@@ -1,6 +1,6 @@
 //! Words of the command line and what they spell.
 
-use crate::{Found, options_of, words_spell_options_in_one_way};
+use crate::*;
 use std::alloc::{AllocError, Global};
 use std::test::Fail;
 
@@ -27,6 +27,7 @@ fn words_of(alloc: Global, text: &str) -> Result<Vec<String>, AllocError> {
 #[test]
 fn words_spell_options(rt: HostRuntime) -> Result<(), Fail> {
     words_spell_options_in_one_way();
+    words_give_values_in_one_way();
     let forms = Found {
         from: Some("stream"),
         to: Some("frames"),
