@@ -1,4 +1,3 @@
-use Rattle.std.proofs.Common.{◌≡◌}
 use Rattle.navbridge.proofs.TableRows.{gives}
 use Rattle.navbridge.proofs.job.job_of.Goals as goal
 
