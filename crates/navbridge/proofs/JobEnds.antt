@@ -1,12 +1,14 @@
 -- How a job ended, by its run.
-use Rattle.std.proofs.Common.{◌≡◌, ℕ, List, [], Option, Some, None, Result, Ok, Err, refl, sym, append-nil, subst}
+use Rattle.std.proofs.Common.{◌≡◌, ℕ, List, [], Option, Some, None, Result, Ok, Err, refl, sym, append-nil, subst, ◌∙◌}
 use Rattle.std.specs.Prelude.{MatchResult, IfErr, IfSome, IsErrOf, OnOk, OnErr}
-use Rattle.std.specs.Io.KnownBytes.{Appends}
+use Rattle.std.specs.Io.KnownBytes.{Appends, Consumes}
+use Rattle.bridge_engine.specs.Captures.{least_output}
 use Rattle.bridge_engine.specs.FrameLines.{line_of}
 use Rattle.bridge_engine.specs.FrameRuns.{RunsPart as FramesPart}
 use Rattle.run_texts.specs.Runs.{RunsPart}
 use Rattle.run_texts.specs.declared.fault.BridgeFault.{BridgeFault}
-use Rattle.navbridge.specs.declared.job.Job.TheVariants.{StreamToFrames}
+use Rattle.navbridge.specs.declared.job.Job.TheVariants.{StreamToFrames, Capture, Stream, Rinex, Rinex3}
+use Rattle.navbridge.specs.declared.job.Job.{Job}
 use Rattle.navbridge.specs.JobTexts.{out_of, report_of, least_of, Stops}
 
 -- the same end, without what was counted
@@ -51,4 +53,31 @@ frames_part l l' w w' u f part = record {
   consumes = part.consumes;
   text = record { front = part.text.0; within = part.text.1; no_less = (part.text.0, refl); grew = part.text.2 };
   report_text = ([], ([], refl), none_written u);
+}
+
+-- ---- a job that was not begun
+
+none_taken : (left : Option (List ℕ)) → Consumes left left []
+none_taken None = tt
+none_taken (Some xs) = refl
+
+least_of_none : (job : Job) → least_of job [] ≡ []
+unfolding least_output
+least_of_none StreamToFrames = refl
+least_of_none (Capture job) = refl
+least_of_none (Stream job) = refl
+least_of_none (Rinex to) = refl
+least_of_none (Rinex3 to) = refl
+
+pub not_begun : (job : Job) (l w u : Option (List ℕ)) → RunsPart (out_of job) (least_of job) (report_of job) l l w w u u
+not_begun job l w u = record {
+  taken = [];
+  consumes = none_taken l;
+  text = record {
+    front = [];
+    within = (out_of job [], refl);
+    no_less = ([], sym (append-nil (least_of job []) ∙ least_of_none job));
+    grew = none_written w;
+  };
+  report_text = ([], (report_of job [], refl), none_written u);
 }

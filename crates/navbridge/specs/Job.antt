@@ -14,7 +14,7 @@ use Rattle.item_runs.specs.declared.target.RinexTo.TheVariants as files
 use Rattle.navbridge.specs.declared.job.Job.{Job}
 use Rattle.navbridge.specs.declared.job.Job.TheVariants.{StreamToFrames, Capture, Stream, Rinex, Rinex3}
 use Rattle.navbridge.specs.declared.values.Values.{Values}
-use Rattle.navbridge.specs.Options.{Given, GiveValues}
+use Rattle.job_words.specs.Options.{Given, GiveValues}
 
 -- one to ten decimal digits write the number
 pub record Writes (text : List ℕ) (number : ℕ) : Type 0 where

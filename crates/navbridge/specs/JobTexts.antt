@@ -71,7 +71,7 @@ IsSilent (Stream job) = ⊥
 IsSilent (Rinex to) = ⊥
 IsSilent (Rinex3 to) = ⊥
 
--- a job that takes memory
+-- a job whose run takes memory
 abbrev pub TakesMemory : Job → Type 0
 TakesMemory StreamToFrames = ⊥
 TakesMemory (Capture job) = Unit {0}

@@ -21,7 +21,6 @@ mod failures;
 mod file_rows;
 mod job;
 mod laws;
-mod options;
 #[cfg(test)]
 mod over_memory;
 #[cfg(test)]
@@ -38,7 +37,6 @@ mod tests;
 #[cfg(test)]
 mod texts;
 mod values;
-mod words;
 
 // No memory for the list of words.
 const NO_MEMORY: u8 = 6;

@@ -1,5 +1,5 @@
 -- The options that the words of the command line spell, and their values.
-use Rattle.std.specs.Prelude.{◌≡◌, ◌⊎◌, ℕ, List, [], ◌∷◌, ◌++◌, codes, Contains, All, Option, None, Some}
+use Rattle.std.specs.Prelude.{◌≡◌, ◌⊎◌, ℕ, List, [], ◌∷◌, ◌++◌, codes, Contains, Option, None, Some}
 
 -- an option: its name and its value
 pub record Choice : Type 0 where

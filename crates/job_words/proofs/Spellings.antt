@@ -1,7 +1,7 @@
 -- Words begin with a spelling of at most one option.
 use Rattle.std.proofs.Common.{◌≡◌, ◌⊎◌, ℕ, suc, List, [], ◌∷◌, ◌++◌, refl, sym, ap, ◌∙◌, inl, inr, arith, subst}
 use Rattle.std.specs.Prelude.{Contains}
-use Rattle.navbridge.specs.Options.{Choice, choice, BeginsWithDash, Begins, Spells}
+use Rattle.job_words.specs.Options.{Choice, choice, BeginsWithDash, Begins, Spells}
 
 contains_here : (x y : ℕ) (xs : List ℕ) → y ≡ x → Contains (y ∷ xs) x
 contains_here x y xs e = (0, omega arith, e)
