@@ -18,7 +18,8 @@ use Rattle.bridge_engine.specs.declared.counts.Said.{Said}
 use Rattle.run_texts.specs.declared.fault.BridgeFault.{BridgeFault}
 use Rattle.run_texts.specs.declared.fault.BridgeFault.TheVariants.{ReadFault, WriteFault, ReportFault, TooLong, NoMemory, NotThisForm}
 use Rattle.bridge_engine.specs.Captures.{texts_of}
-use Rattle.bridge_engine.specs.Follows.{FollowsBroken, FollowsPart, fault_by}
+use Rattle.run_texts.specs.Causes.{fault_by}
+use Rattle.bridge_engine.specs.Follows.{FollowsBroken, FollowsPart}
 use Rattle.bridge_engine.specs.Notes.{IsReporting}
 use Rattle.run_texts.specs.Runs.{AppendsBetween}
 use Rattle.bridge_engine.specs.Settled.{HasRoom, IsWriting, Settled}

@@ -10,7 +10,8 @@ use Rattle.bridge_engine.specs.declared.counts.CaptureCounts.{CaptureCounts}
 use Rattle.run_texts.specs.declared.fault.BridgeFault.{BridgeFault}
 use Rattle.run_texts.specs.declared.fault.BridgeFault.TheVariants.{ReadFault, WriteFault, ReportFault, TooLong, NoMemory, NotThisForm}
 use Rattle.bridge_engine.specs.Captures.{Capture, capture_of, counts_of, least_output, output_of, report_of_capture, settled_output}
-use Rattle.bridge_engine.specs.Follows.{CaptureBroken, CaptureDone, CapturePart, Faults, HasItsCause}
+use Rattle.run_texts.specs.Causes.{Faults, HasItsCause}
+use Rattle.bridge_engine.specs.Follows.{CaptureBroken, CaptureDone, CapturePart}
 use Rattle.run_texts.specs.Runs.{RunsExactly, RunsPart, RunsWhole, TakesTooMany}
 
 -- all clauses of a run

@@ -11,9 +11,10 @@ use Rattle.period_items.specs.declared.closed.Closed.{Closed}
 use Rattle.period_items.specs.declared.closed.Verdict.{Verdict}
 use Rattle.period_items.specs.declared.closed.Verdict.TheVariants.{Whole, Partial, Contradicted, NoHealth, Again}
 use Rattle.rinex_write.specs.Texts.{header_lines, text_of}
+use Rattle.rinex3_nav.specs.Texts3.{header3_lines, item3_lines}
 use Rattle.capture_log.specs.Log.{log_of, parts_of, mark_after}
 use Rattle.bridge_engine.specs.declared.target.CaptureTo.{CaptureTo}
-use Rattle.bridge_engine.specs.declared.target.CaptureTo.TheVariants.{Rinex, Rtcm, ToList, Count}
+use Rattle.bridge_engine.specs.declared.target.CaptureTo.TheVariants.{Rinex, Rinex3, Rtcm, ToList, Count}
 use Rattle.bridge_engine.specs.declared.counts.CaptureCounts.{CaptureCounts}
 use Rattle.bridge_engine.specs.declared.accept.Accepted.{Accepted}
 use Rattle.run_texts.specs.Reports.{count_line}
@@ -125,10 +126,12 @@ counts_text c =
 -- what is written in front of the periods, of each period, and behind them
 abbrev pub front_text : CaptureTo → List ℕ
 front_text (Rinex words) = text_of (header_lines words)
+front_text (Rinex3 words) = text_of (header3_lines words)
 front_text _ = []
 
 abbrev pub period_text : CaptureTo → Closed → List ℕ
 period_text (Rinex words) c = item_text rinex_item c.verdict
+period_text (Rinex3 words) c = item_text (λ item. text_of (item3_lines item)) c.verdict
 period_text Rtcm c = item_text rtcm_item c.verdict
 period_text ToList c = list_period c
 period_text Count c = []

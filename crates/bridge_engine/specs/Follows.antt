@@ -1,12 +1,9 @@
 -- A capture while it is read, behind its first line. Private functions cite these.
 use Rattle.std.specs.Prelude.{◌≡◌, ℕ, ◌+◌, ◌-◌, ◌*◌, ◌^◌, ◌<◌, ◌≤◌, ◌⊎◌, true, false, List, [], ◌∷◌, ◌++◌, length, take, Option, Some, None, IsSome, IfSome, Result, Ok, Err}
 use Rattle.std.specs.Io.KnownBytes.{Appends}
-use Rattle.nav_io.specs.Causes.{Rose}
 use Rattle.nav_io.specs.Front.{AppendsFront}
 use Rattle.nav_io.specs.Lines.{Line, ends, lines_by}
 use Rattle.nav_io.specs.LinesState.{LinesState, Reads, GivesLine, GivesEnd, BreaksRead, BreaksLong}
-use Rattle.nav_io.specs.declared.lines.LineFault.{LineFault}
-use Rattle.nav_io.specs.declared.lines.LineFault.TheVariants as lines
 use Rattle.inav_page.specs.Keeping.{Keeping}
 use Rattle.issue_periods.specs.Standing.{Standing}
 use Rattle.period_items.specs.PeriodsOf.{periods_of, closed_of}
@@ -88,29 +85,6 @@ FollowsBroken r window to left left_new old new start written reported reported_
 FollowsBroken r window to left left_new old new start written reported reported_new WriteFault = FollowsPart r window to left left_new old new start written reported reported_new
 FollowsBroken r window to left left_new old new start written reported reported_new ReportFault = FollowsPart r window to left left_new old new start written reported reported_new
 FollowsBroken r window to left left_new old new start written reported reported_new NoMemory = FollowsPart r window to left left_new old new start written reported reported_new
-
--- the counts of faults that a run may raise, and that none rose where it is done
-pub record Faults : Type 0 where
-  pub input : ℕ
-  pub output : ℕ
-  pub report : ℕ
-
--- each fault has its cause
-abbrev pub HasItsCause : {T : Type 0} → Faults → Faults → Result T BridgeFault → Type 0
-HasItsCause before now (Ok x) = now ≡ before
-HasItsCause before now (Err ReadFault) = Rose before.input now.input
-HasItsCause before now (Err WriteFault) = Rose before.output now.output
-HasItsCause before now (Err ReportFault) = Rose before.report now.report
-HasItsCause before now (Err fault) = Unit {0}
-
--- the three counts
-abbrev pub faults_of : ℕ → ℕ → ℕ → Faults
-faults_of input output report = record { input = input; output = output; report = report }
-
--- the fault of a run whose lines broke off so
-abbrev pub fault_by : LineFault → BridgeFault
-fault_by lines.ReadFault = ReadFault
-fault_by lines.TooLong = TooLong
 
 -- the first line was given, and it is accepted
 pub record GivesHead (week : Option ℕ) (left left_new : Option (List ℕ)) (old new : LinesState) (head : Accepted) : Type 0 where

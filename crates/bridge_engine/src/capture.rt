@@ -11,7 +11,7 @@ ghost use Rattle.run_texts.specs.Runs.{RunsExactly, RunsPart, RunsWhole, TakesTo
 
 use crate::counts::CaptureCounts;
 use crate::follow::follow_capture;
-use crate::outlet::{CountOutlet, ListOutlet, RinexOutlet, RtcmOutlet};
+use crate::outlet::{CountOutlet, ListOutlet, Rinex3Outlet, RinexOutlet, RtcmOutlet};
 use crate::target::CaptureTo;
 use gnss_week::RefWeek;
 use nav_io::{Sink, Source};
@@ -102,6 +102,10 @@ pub fn run_capture<S: Source, T: Sink, U: Sink>(
     match to {
         CaptureTo::Rinex(words) => {
             let outlet = RinexOutlet { words: *words };
+            follow_capture(alloc, week, &outlet, input, output, report)
+        }
+        CaptureTo::Rinex3(words) => {
+            let outlet = Rinex3Outlet { words: *words };
             follow_capture(alloc, week, &outlet, input, output, report)
         }
         CaptureTo::Rtcm => follow_capture(alloc, week, &RtcmOutlet, input, output, report),

@@ -7,8 +7,8 @@ ghost use Rattle.nav_io.specs.Causes.{Rose};
 ghost use Rattle.nav_io.specs.Front.{AppendsFront};
 ghost use Rattle.bridge_engine.specs.Captures.{back_text, counts_text};
 ghost use Rattle.bridge_engine.specs.Follows.{CaptureBroken, CaptureDone, Follows, FollowsAll};
-ghost use Rattle.bridge_engine.specs.Follows.{FollowsBroken, GivesHead, GivesNoHead, HasItsCause};
-ghost use Rattle.bridge_engine.specs.Follows.{fault_by, faults_of};
+ghost use Rattle.bridge_engine.specs.Follows.{FollowsBroken, GivesHead, GivesNoHead};
+ghost use Rattle.run_texts.specs.Causes.{HasItsCause, fault_by, faults_of};
 
 use crate::accept::{Accepted, accept};
 use crate::counts::{CaptureCounts, Said, Tally, capture_counts_text, counts_with};

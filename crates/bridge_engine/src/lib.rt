@@ -1,6 +1,6 @@
 //! The runs: an input is read to its end and converted while it is read.
 //!
-//! - [`run_capture`], over a capture of subframes, page halves and frames: to RINEX, to RTCM, to a list, to counts;
+//! - [`run_capture`], over a capture of subframes, page halves and frames: to RINEX 4 and RINEX 3, to RTCM, to a list, to counts;
 //! - [`run_frames`], over the frames of a stream of RTCM (10403.3).
 //!
 //! What a run writes and reports is a function of the bytes that it took: `specs/Captures.antt` says it for captures,

@@ -5,7 +5,7 @@ ghost use Rattle.std.specs.Io.KnownBytes.{Appends};
 ghost use Rattle.nav_io.specs.Causes.{HasCause};
 ghost use Rattle.nav_io.specs.Front.{AppendsFront};
 ghost use Rattle.bridge_engine.specs.declared.target.CaptureTo.{CaptureTo};
-ghost use Rattle.bridge_engine.specs.declared.target.CaptureTo.TheVariants.{Rinex, Rtcm};
+ghost use Rattle.bridge_engine.specs.declared.target.CaptureTo.TheVariants.{Rinex, Rinex3, Rtcm};
 ghost use Rattle.bridge_engine.specs.declared.target.CaptureTo.TheVariants.{ToList, Count};
 ghost use Rattle.bridge_engine.specs.Captures.{back_text, front_text, period_text};
 
@@ -14,6 +14,7 @@ use crate::listed::period_line;
 use nav_io::{Failed, Sink};
 use period_items::{Closed, Verdict};
 use rinex_write::{HeaderWords, write_header, write_item};
+use rinex3_nav::{write_header3, write_item3};
 use run_texts::write_message;
 
 // Writes what a capture becomes: a text in front, one for each period, and one behind, each by one
@@ -50,7 +51,7 @@ pub(crate) trait Outlet {
         ensures cause { HasCause (T.faults out.old) (T.faults out.new) result };
 }
 
-// A navigation file of RINEX: a header, and a record for each item.
+// A navigation file of RINEX 4.01: a header, and a record for each item.
 #[derive(Drop)]
 pub(crate) struct RinexOutlet {
     pub(crate) words: HeaderWords,
@@ -67,6 +68,32 @@ impl Outlet for RinexOutlet {
     fn put<T: Sink>(&self, closed: &Closed, out: &mut T) -> Result<(), Failed> {
         match &closed.verdict {
             Verdict::Whole(item) => write_item(item, out),
+            _ => Ok(()),
+        }
+    }
+
+    fn end<T: Sink>(&self, _counts: &CaptureCounts, _out: &mut T) -> Result<(), Failed> {
+        Ok(())
+    }
+}
+
+// A navigation file of RINEX 3.05: a header, and a record for each ephemeris.
+#[derive(Drop)]
+pub(crate) struct Rinex3Outlet {
+    pub(crate) words: HeaderWords,
+    ghost leap: { words.leap < 100 },
+}
+
+impl Outlet for Rinex3Outlet {
+    ghost target = { λ o. Rinex3 o.words };
+
+    fn begin<T: Sink>(&self, out: &mut T) -> Result<(), Failed> {
+        write_header3(&self.words, out)
+    }
+
+    fn put<T: Sink>(&self, closed: &Closed, out: &mut T) -> Result<(), Failed> {
+        match &closed.verdict {
+            Verdict::Whole(item) => write_item3(item, out),
             _ => Ok(()),
         }
     }

@@ -5,6 +5,8 @@ use rinex_write::HeaderWords;
 pub enum CaptureTo {
     /// A navigation file (RINEX 4.01), whose header says these words.
     Rinex(HeaderWords),
+    /// A navigation file (RINEX 3.05), whose header says these words; ionospheres have no record.
+    Rinex3(HeaderWords),
     /// A frame for each ephemeris, of message 1019 or 1046 (RTCM 10403.3).
     Rtcm,
     /// A line for each period.
