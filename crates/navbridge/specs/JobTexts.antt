@@ -10,9 +10,10 @@ use Rattle.rinex_read.specs.Forms.{rinex4}
 use Rattle.rinex3_nav.specs.Form3.{rinex3}
 use Rattle.item_runs.specs.Files.{file_output, file_report}
 use Rattle.item_runs.specs.Streams.{stream_output, stream_report}
+use Rattle.send_runs.specs.Sends.{send_output, send_report}
 use Rattle.navbridge.specs.Job.{row_of}
 use Rattle.navbridge.specs.declared.job.Job.{Job}
-use Rattle.navbridge.specs.declared.job.Job.TheVariants.{StreamToFrames, Capture, Stream, Rinex, Rinex3}
+use Rattle.navbridge.specs.declared.job.Job.TheVariants.{StreamToFrames, Capture, Stream, Rinex, Rinex3, SendRinex, SendRinex3}
 
 -- what is written of the bytes
 abbrev pub out_of : Job → List ℕ → List ℕ
@@ -21,6 +22,8 @@ out_of (Capture job) bytes = text_of_capture job.to job.week bytes
 out_of (Stream job) bytes = stream_output job.to job.week bytes
 out_of (Rinex to) bytes = file_output rinex4 to bytes
 out_of (Rinex3 to) bytes = file_output rinex3 to bytes
+out_of (SendRinex week) bytes = send_output rinex4 week bytes
+out_of (SendRinex3 week) bytes = send_output rinex3 week bytes
 
 -- what is reported of them
 abbrev pub report_of : Job → List ℕ → List ℕ
@@ -29,6 +32,8 @@ report_of (Capture job) bytes = report_of_capture job.week bytes
 report_of (Stream job) bytes = stream_report job.week bytes
 report_of (Rinex to) bytes = file_report rinex4 bytes
 report_of (Rinex3 to) bytes = file_report rinex3 bytes
+report_of (SendRinex week) bytes = send_report rinex4 week bytes
+report_of (SendRinex3 week) bytes = send_report rinex3 week bytes
 
 -- their first line or header is accepted, where the form has one
 abbrev pub Accepts : Job → List ℕ → Type 0
@@ -37,6 +42,8 @@ Accepts (Capture job) bytes = IsSome (capture_of job.week bytes)
 Accepts (Stream job) bytes = Unit {0}
 Accepts (Rinex to) bytes = IsOk (file_reads rinex4 bytes)
 Accepts (Rinex3 to) bytes = IsOk (file_reads rinex3 bytes)
+Accepts (SendRinex week) bytes = IsOk (file_reads rinex4 bytes)
+Accepts (SendRinex3 week) bytes = IsOk (file_reads rinex3 bytes)
 
 -- the least that is written once the bytes were taken, whatever fails
 abbrev pub least_of : Job → List ℕ → List ℕ
@@ -45,6 +52,8 @@ least_of (Capture job) bytes = least_output job.to job.week bytes
 least_of (Stream job) bytes = []
 least_of (Rinex to) bytes = []
 least_of (Rinex3 to) bytes = []
+least_of (SendRinex week) bytes = []
+least_of (SendRinex3 week) bytes = []
 
 -- What is written where a read fails once the bytes were taken: of a capture exactly what the lines that have ended close, of
 -- a stream and of a navigation file a front of the whole.
@@ -54,6 +63,8 @@ StopsWith (Capture job) bytes text = text ≡ settled_output job.to job.week byt
 StopsWith (Stream job) bytes text = IsFront text (out_of (Stream job) bytes)
 StopsWith (Rinex to) bytes text = IsFront text (out_of (Rinex to) bytes)
 StopsWith (Rinex3 to) bytes text = IsFront text (out_of (Rinex3 to) bytes)
+StopsWith (SendRinex week) bytes text = IsFront text (out_of (SendRinex week) bytes)
+StopsWith (SendRinex3 week) bytes text = IsFront text (out_of (SendRinex3 week) bytes)
 
 -- a read failed: these bytes were taken, and this is written of them
 pub record Stops (job : Job) (left left_new written written_new : Option (List ℕ)) : Type 0 where
@@ -70,6 +81,8 @@ IsSilent (Capture job) = ⊥
 IsSilent (Stream job) = ⊥
 IsSilent (Rinex to) = ⊥
 IsSilent (Rinex3 to) = ⊥
+IsSilent (SendRinex week) = ⊥
+IsSilent (SendRinex3 week) = ⊥
 
 -- a job that takes memory
 abbrev pub TakesMemory : Job → Type 0
@@ -78,6 +91,8 @@ TakesMemory (Capture job) = Unit {0}
 TakesMemory (Stream job) = Unit {0}
 TakesMemory (Rinex to) = ⊥
 TakesMemory (Rinex3 to) = ⊥
+TakesMemory (SendRinex week) = ⊥
+TakesMemory (SendRinex3 week) = ⊥
 
 -- the leap seconds of a job's header have at most two digits
 abbrev pub HasLeap : Job → Type 0

@@ -25,6 +25,11 @@ pub enum Job {
     Rinex(RinexTo),
     /// `--from rinex3`: the same of a file of RINEX 3.
     Rinex3(RinexTo),
+    /// `--from rinex --to capture`: the capture that is sent of a navigation file of RINEX 4, near
+    /// this week.
+    SendRinex(RefWeek),
+    /// `--from rinex3 --to capture`: the same of a file of RINEX 3.
+    SendRinex3(RefWeek),
 }
 
 /// A conversion of a capture.

@@ -12,6 +12,7 @@ use crate::job::Job;
 use bridge_engine::{BridgeFault, run_capture, run_frames};
 use item_runs::{run_rinex, run_rinex3, run_stream};
 use nav_io::{Sink, Source};
+use send_runs::{send_rinex, send_rinex3};
 use std::alloc::Global;
 
 // Does a job: reads the input to its end, and writes and reports what the job makes of its bytes.
@@ -81,6 +82,8 @@ pub(crate) fn run_job<S: Source, T: Sink, U: Sink>(
         Job::Stream(job) => ended(run_stream(alloc, job.week, &job.to, input, output, report)),
         Job::Rinex(to) => ended(run_rinex(to, input, output, report)),
         Job::Rinex3(to) => ended(run_rinex3(to, input, output, report)),
+        Job::SendRinex(week) => ended(send_rinex(*week, input, output, report)),
+        Job::SendRinex3(week) => ended(send_rinex3(*week, input, output, report)),
     }
 }
 

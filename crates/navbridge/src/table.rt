@@ -31,20 +31,11 @@ pub(crate) fn job_in(from: &[u8], to: &[u8], values: &Values) -> Option<Job>
     if from == b"stream".as_slice() {
         return from_stream(to, values);
     }
-    if values.week.is_some() {
-        return None;
-    }
     if from == b"rinex".as_slice() {
-        return match file_to(to, values) {
-            None => None,
-            Some(to) => Some(Job::Rinex(to)),
-        };
+        return from_rinex(to, values);
     }
     if from == b"rinex3".as_slice() {
-        return match file_to(to, values) {
-            None => None,
-            Some(to) => Some(Job::Rinex3(to)),
-        };
+        return from_rinex3(to, values);
     }
     None
 }
@@ -72,6 +63,52 @@ fn from_stream(to: &[u8], values: &Values) -> Option<Job>
     }
 }
 
+// The job from a navigation file of RINEX 4 to this form that has exactly these values.
+fn from_rinex(to: &[u8], values: &Values) -> Option<Job>
+    requires seed { values.now.seed ≡ None }
+    requires sats { values.now.sats ≡ None }
+    ensures { MatchOption result
+        ((job : Job) → ¬ IsRow (row_of job) (codes "rinex") to.now values.now)
+        (λ job. IsRow (row_of job) (codes "rinex") to.now values.now) }
+{
+    match values.week {
+        None => match file_to(to, values) {
+            None => None,
+            Some(to) => Some(Job::Rinex(to)),
+        },
+        Some(week) => {
+            if to == b"capture".as_slice() && !has_header(values) {
+                Some(Job::SendRinex(week))
+            } else {
+                None
+            }
+        }
+    }
+}
+
+// The job from a navigation file of RINEX 3 to this form that has exactly these values.
+fn from_rinex3(to: &[u8], values: &Values) -> Option<Job>
+    requires seed { values.now.seed ≡ None }
+    requires sats { values.now.sats ≡ None }
+    ensures { MatchOption result
+        ((job : Job) → ¬ IsRow (row_of job) (codes "rinex3") to.now values.now)
+        (λ job. IsRow (row_of job) (codes "rinex3") to.now values.now) }
+{
+    match values.week {
+        None => match file_to(to, values) {
+            None => None,
+            Some(to) => Some(Job::Rinex3(to)),
+        },
+        Some(week) => {
+            if to == b"capture".as_slice() && !has_header(values) {
+                Some(Job::SendRinex3(week))
+            } else {
+                None
+            }
+        }
+    }
+}
+
 // What a capture is converted to.
 fn capture_to(to: &[u8], values: &Values) -> Option<CaptureTo>
     ensures { MatchOption result
@@ -82,6 +119,12 @@ fn capture_to(to: &[u8], values: &Values) -> Option<CaptureTo>
         return match header_of(values) {
             None => None,
             Some(words) => Some(CaptureTo::Rinex(words)),
+        };
+    }
+    if to == b"rinex3".as_slice() {
+        return match header_of(values) {
+            None => None,
+            Some(words) => Some(CaptureTo::Rinex3(words)),
         };
     }
     if has_header(values) {

@@ -123,6 +123,13 @@ fn judges_the_words(rt: HostRuntime) -> Result<(), Fail> {
         ("--from=rinex3 --to=list", 5),
         ("--from rinex3 --to rinex", 2),
         ("--from rinex2 --to list", 2),
+        ("--from rinex --to capture --week 2295", 5),
+        ("--to=capture --week=2295 --from rinex3", 5),
+        ("--from rinex --to capture", 2),
+        ("--from rinex --to capture --week 2295 --leap 18", 2),
+        ("--from rinex3 --to capture --week 1023", 2),
+        ("--from capture --to rinex3 --leap 18", 2),
+        ("--from capture --to capture --week 2295", 2),
         ("--from seed --to capture --seed 7 --sats 33 --week 2295", 2),
         (
             "--from seed --to capture --seed 4294967296 --sats 1 --week 2295",
