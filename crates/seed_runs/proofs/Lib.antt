@@ -1,0 +1,3 @@
+mod Generated
+mod SeedClauses
+mod CountEnds

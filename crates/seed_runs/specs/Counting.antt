@@ -1,0 +1,44 @@
+-- How the two halves of a run end. Private functions cite these.
+use Rattle.std.specs.Prelude.{◌≡◌, ℕ, List, length, Option, Some, IfSome, Result, Ok, Err}
+use Rattle.std.specs.Io.KnownBytes.{Appends}
+use Rattle.nav_io.specs.Causes.{Rose}
+use Rattle.nav_io.specs.Front.{AppendsFront}
+use Rattle.run_texts.specs.Causes.{Faults}
+use Rattle.run_texts.specs.declared.fault.BridgeFault.{BridgeFault}
+use Rattle.run_texts.specs.declared.fault.BridgeFault.TheVariants.{ReadFault, WriteFault, ReportFault, TooLong, NoMemory, NotThisForm}
+use Rattle.bridge_engine.specs.declared.target.CaptureTo.TheVariants.{Count}
+use Rattle.bridge_engine.specs.Captures.{capture_of, counts_of, output_of, report_of_capture}
+use Rattle.seed_runs.specs.declared.target.SeedCounts.{SeedCounts}
+use Rattle.seed_runs.specs.declared.target.SeedCounts.TheVariants.{Written, Counted}
+use Rattle.seed_runs.specs.Seeds.{CountBroke}
+
+-- the counts of an object that failed rose, and neither the input nor its form nor its length is at fault
+abbrev pub IsSeedFault : Faults → Faults → BridgeFault → Type 0
+IsSeedFault before now ReadFault = ⊥
+IsSeedFault before now WriteFault = Rose before.output now.output
+IsSeedFault before now ReportFault = Rose before.report now.report
+IsSeedFault before now NotThisForm = ⊥
+IsSeedFault before now TooLong = ⊥
+IsSeedFault before now NoMemory = Unit {0}
+
+-- the text was written, or a front of it
+abbrev pub WritesText : List ℕ → Option (List ℕ) → Option (List ℕ) → Faults → Faults → Result SeedCounts BridgeFault → Type 0
+WritesText text written written_new before now (Ok counts) =
+    Appends written written_new text × (counts ≡ Written (length text)) × (now ≡ before)
+WritesText text written written_new before now (Err WriteFault) =
+    AppendsFront written written_new text × Rose before.output now.output
+WritesText text written written_new before now (Err fault) = ⊥
+
+-- the capture was counted, and its counts written and reported
+pub record CountDone (r : ℕ) (text : List ℕ) (written written_new reported reported_new : Option (List ℕ)) (before now : Faults) (counts : SeedCounts) : Type 0 where
+  pub wrote : Appends written written_new (output_of Count (Some r) text)
+  pub told : Appends reported reported_new (report_of_capture (Some r) text)
+  pub counted : IfSome (capture_of (Some r) text) (λ c. counts ≡ Counted (counts_of c))
+  pub quiet : now ≡ before
+
+-- how it ends
+abbrev pub CountsText : ℕ → List ℕ → Option (List ℕ) → Option (List ℕ) → Option (List ℕ) → Option (List ℕ) → Faults → Faults → Result SeedCounts BridgeFault → Type 0
+CountsText r text written written_new reported reported_new before now (Ok counts) =
+    CountDone r text written written_new reported reported_new before now counts
+CountsText r text written written_new reported reported_new before now (Err fault) =
+    CountBroke r text written written_new reported reported_new × IsSeedFault before now fault
