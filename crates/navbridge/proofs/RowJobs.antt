@@ -8,9 +8,11 @@ use Rattle.item_runs.specs.declared.target.StreamTo.{StreamTo}
 use Rattle.item_runs.specs.declared.target.StreamTo.TheVariants as streams
 use Rattle.item_runs.specs.declared.target.RinexTo.{RinexTo}
 use Rattle.item_runs.specs.declared.target.RinexTo.TheVariants as files
+use Rattle.seed_runs.specs.declared.target.SeedTo.{SeedTo}
+use Rattle.seed_runs.specs.declared.target.SeedTo.TheVariants as seeds
 use Rattle.navbridge.specs.declared.job.Job.{Job}
-use Rattle.navbridge.specs.declared.job.Job.TheVariants.{StreamToFrames, Capture, Stream, Rinex, Rinex3, SendRinex, SendRinex3}
-use Rattle.navbridge.specs.Job.{Row, Target, row_of, capture_target, stream_target, file_target}
+use Rattle.navbridge.specs.declared.job.Job.TheVariants.{StreamToFrames, Capture, Stream, Rinex, Rinex3, SendRinex, SendRinex3, Seed}
+use Rattle.navbridge.specs.Job.{Row, Target, row_of, capture_target, stream_target, file_target, seed_word}
 
 -- whether two words are the same
 abbrev same : List ℕ → List ℕ → Bool
@@ -79,10 +81,25 @@ abbrev file3_job : Option ℕ → Target → Option Job
 file3_job None t = option_map Rinex3 (file_at t)
 file3_job (Some week) t = Some (SendRinex3 week)
 
+-- what is written of a capture that is made, and its job
+abbrev seed_at : List ℕ → SeedTo
+seed_at word = if same word (codes "capture") then seeds.Capture else seeds.Count
+
+seed_is_at : (to : SeedTo) → seed_at (seed_word to) ≡ to
+seed_is_at seeds.Capture = refl
+seed_is_at seeds.Count = refl
+
+abbrev seed_job : Option ℕ → Option ℕ → Option ℕ → SeedTo → Option Job
+seed_job None sats week to = None
+seed_job (Some seed) None week to = None
+seed_job (Some seed) (Some sats) None to = None
+seed_job (Some seed) (Some sats) (Some week) to = Some (Seed (record { seed = seed; sats = sats; week = week; to = to }))
+
 abbrev job_at : Row → Option Job
 job_at r =
     if same r.from (codes "stream") then stream_job r.values.week (target_in r) else
     if same r.from (codes "capture") then option_map (λ to. Capture (record { week = r.values.week; to = to })) (capture_at (target_in r)) else
+    if same r.from (codes "seed") then seed_job r.values.seed r.values.sats r.values.week (seed_at r.to) else
     if same r.from (codes "rinex") then file_job r.values.week (target_in r) else
     file3_job r.values.week (target_in r)
 
@@ -94,6 +111,7 @@ job_is_at (Rinex to) = ap (option_map Rinex) (file_is_at to)
 job_is_at (Rinex3 to) = ap (option_map Rinex3) (file_is_at to)
 job_is_at (SendRinex week) = refl
 job_is_at (SendRinex3 week) = refl
+job_is_at (Seed job) = ap (seed_job (Some job.seed) (Some job.sats) (Some job.week)) (seed_is_at job.to)
 
 -- a row has one job
 pub same_job : (a b : Job) → row_of a ≡ row_of b → a ≡ b

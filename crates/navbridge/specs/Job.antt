@@ -11,8 +11,11 @@ use Rattle.item_runs.specs.declared.target.StreamTo.{StreamTo}
 use Rattle.item_runs.specs.declared.target.StreamTo.TheVariants as streams
 use Rattle.item_runs.specs.declared.target.RinexTo.{RinexTo}
 use Rattle.item_runs.specs.declared.target.RinexTo.TheVariants as files
+use Rattle.seed_runs.specs.declared.target.SeedTo.{SeedTo}
+use Rattle.seed_runs.specs.declared.target.SeedTo.TheVariants as seeds
 use Rattle.navbridge.specs.declared.job.Job.{Job}
-use Rattle.navbridge.specs.declared.job.Job.TheVariants.{StreamToFrames, Capture, Stream, Rinex, Rinex3, SendRinex, SendRinex3}
+use Rattle.navbridge.specs.declared.job.SeedJob.{SeedJob}
+use Rattle.navbridge.specs.declared.job.Job.TheVariants.{StreamToFrames, Capture, Stream, Rinex, Rinex3, SendRinex, SendRinex3, Seed}
 use Rattle.navbridge.specs.declared.values.Values.{Values}
 use Rattle.navbridge.specs.Options.{Given, GiveValues}
 
@@ -112,6 +115,19 @@ file_target (files.Rinex3 words) = headed (codes "rinex3") words
 file_target files.Rtcm = plain (codes "rtcm")
 file_target files.ToList = plain (codes "list")
 
+-- what is written of a capture that is made
+abbrev pub seed_word : SeedTo → List ℕ
+seed_word seeds.Capture = codes "capture"
+seed_word seeds.Count = codes "count"
+
+-- the row of a capture that is made: its seed, its number of satellites and its week
+abbrev pub seed_row : SeedJob → Row
+seed_row job = record {
+  from = codes "seed";
+  to = seed_word job.to;
+  values = record { week = Some job.week; leap = None; date = None; seed = Some job.seed; sats = Some job.sats };
+}
+
 -- the table of jobs: a capture may have a week; a stream that is read and a file that is sent must have one
 abbrev pub row_of : Job → Row
 row_of StreamToFrames = row (codes "stream") (plain (codes "frames")) None
@@ -121,6 +137,7 @@ row_of (Rinex to) = row (codes "rinex") (file_target to) None
 row_of (Rinex3 to) = row (codes "rinex3") (file_target to) None
 row_of (SendRinex week) = row (codes "rinex") (plain (codes "capture")) (Some week)
 row_of (SendRinex3 week) = row (codes "rinex3") (plain (codes "capture")) (Some week)
+row_of (Seed job) = seed_row job
 
 -- the options are exactly those of the job's row, and say its values
 pub record Asks (given : Given) (job : Job) : Type 0 where

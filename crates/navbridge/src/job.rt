@@ -11,6 +11,7 @@ use crate::values::values_of;
 use bridge_engine::CaptureTo;
 use gnss_week::RefWeek;
 use item_runs::{RinexTo, StreamTo};
+use seed_runs::SeedTo;
 
 /// Which conversion the words ask for.
 #[derive(Clone, Copy, Debug, PartialEq, Eq)]
@@ -30,6 +31,8 @@ pub enum Job {
     SendRinex(RefWeek),
     /// `--from rinex3 --to capture`: the same of a file of RINEX 3.
     SendRinex3(RefWeek),
+    /// `--from seed`: a capture that is made, or its counts.
+    Seed(SeedJob),
 }
 
 /// A conversion of a capture.
@@ -48,6 +51,19 @@ pub struct StreamJob {
     pub week: RefWeek,
     /// What it is converted to.
     pub to: StreamTo,
+}
+
+/// The making of a capture.
+#[derive(Clone, Copy, Debug, PartialEq, Eq)]
+pub struct SeedJob {
+    /// The seed of its numbers.
+    pub seed: u32,
+    /// How many satellites of each system it has, 1 to 32.
+    pub sats: u8,
+    /// The week in which it begins.
+    pub week: RefWeek,
+    /// Whether it is written, or its counts.
+    pub to: SeedTo,
 }
 
 /// The job that the words give, where they give one: they spell the options of one row of the table

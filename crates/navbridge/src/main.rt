@@ -36,6 +36,8 @@ mod rinex3_rows;
 mod rows;
 mod run;
 #[cfg(test)]
+mod seed_rows;
+#[cfg(test)]
 mod sent_rows;
 mod statuses;
 #[cfg(test)]

@@ -130,6 +130,12 @@ fn judges_the_words(rt: HostRuntime) -> Result<(), Fail> {
         ("--from rinex3 --to capture --week 1023", 2),
         ("--from capture --to rinex3 --leap 18", 2),
         ("--from capture --to capture --week 2295", 2),
+        ("--from seed --to capture --seed 7 --sats 1", 2),
+        ("--from seed --to capture --seed 7 --week 2295", 2),
+        ("--from seed --to list --seed 7 --sats 1 --week 2295", 2),
+        ("--from seed --to count --seed 7 --sats 0 --week 2295", 2),
+        ("--from capture --to count --seed 7", 2),
+        ("--from rinex --to list --sats 1", 2),
         ("--from seed --to capture --seed 7 --sats 33 --week 2295", 2),
         (
             "--from seed --to capture --seed 4294967296 --sats 1 --week 2295",

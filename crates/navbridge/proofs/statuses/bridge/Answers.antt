@@ -1,10 +1,10 @@
 use Rattle.std.proofs.Common.{inl}
-use Rattle.navbridge.proofs.Ends.{accepts, at_fault, at_memory, at_read, at_zero, completes, has_leap, headline, refuses}
+use Rattle.navbridge.proofs.Ends.{accepts, at_fault, at_memory, at_read, at_zero, completes, has_leap, has_sats, headline, overflows, refuses}
 use Rattle.navbridge.proofs.OneJob.{one_job}
 use Rattle.navbridge.proofs.statuses.bridge.Goals as goal
 
 pub run_job-requires : goal.run_job-requires
-run_job-requires g c = record { leap = has_leap _ _ c.in-Some.ensures }
+run_job-requires g c = record { leap = has_leap _ _ c.in-Some.ensures; sats = has_sats _ _ c.in-Some.ensures }
 
 pub returns-in-Some-clause-headline : goal.returns-in-Some-clause-headline
 returns-in-Some-clause-headline g c = λ week header is zero.
@@ -12,6 +12,17 @@ returns-in-Some-clause-headline g c = λ week header is zero.
     (at_zero _ _ c.status_of.ensures zero _ c.run_job.ensures.text)
     (accepts _ _ c.in-Some.job _ c.status_of.ensures c.run_job.ensures.accepted (inl zero))
     (at_zero _ _ c.status_of.ensures zero _ c.run_job.ensures.end)
+
+pub returns-in-Some-clause-end : goal.returns-in-Some-clause-end
+returns-in-Some-clause-end g c = λ job is.
+    rw (one_job _ _ _ is c.in-Some.ensures) (λ zero. at_zero _ _ c.status_of.ensures zero _ c.run_job.ensures.end)
+
+pub returns-in-Some-clause-long : goal.returns-in-Some-clause-long
+returns-in-Some-clause-long g c = λ job is.
+    rw (one_job _ _ _ is c.in-Some.ensures) (overflows _ _ _ c.status_of.ensures c.run_job.ensures.long)
+
+pub returns-in-Some-clause-unread : goal.returns-in-Some-clause-unread
+returns-in-Some-clause-unread g c = λ job is. rw (one_job _ _ _ is c.in-Some.ensures) c.run_job.ensures.unread
 
 pub returns-in-Some-clause-text : goal.returns-in-Some-clause-text
 returns-in-Some-clause-text g c = λ job is.
