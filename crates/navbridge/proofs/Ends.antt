@@ -1,6 +1,6 @@
 -- How a job ended, by its status.
-use Rattle.std.proofs.Common.{◌≡◌, ◌≢◌, ◌⊎◌, ◌^◌, ◌<◌, ℕ, length, subst, List, Option, Some, None, Result, Ok, Err, false, true, refl, sym, ap, ◌∙◌, inl, inr, arith}
-use Rattle.std.specs.Prelude.{MatchResult, IfSome, IsOk, IsErrOf, IsSome, OnOk, OnErr}
+use Rattle.std.proofs.Common.{◌≡◌, ◌≢◌, ◌⊎◌, ◌^◌, ◌<◌, ◌≤◌, ℕ, length, subst, List, Option, Some, None, Result, Ok, Err, false, true, refl, sym, ap, ◌∙◌, inl, inr, arith}
+use Rattle.std.specs.Prelude.{MatchResult, IfSome, IsOk, IsErr, IsErrOf, IsSome, OnOk, OnErr}
 use Rattle.std.specs.Io.KnownBytes.{Appends, IsAtEnd}
 use Rattle.bridge_engine.specs.Captures.{Capture as CaptureOf, capture_of, items, output_of}
 use Rattle.run_texts.specs.declared.fault.BridgeFault.{BridgeFault}
@@ -10,8 +10,8 @@ use Rattle.navbridge.specs.declared.job.Job.TheVariants.{Capture}
 use Rattle.bridge_engine.specs.declared.target.CaptureTo.TheVariants.{Rinex}
 use Rattle.rinex_write.specs.Texts.{rinex_text}
 use Rattle.rinex_write.specs.declared.header.HeaderWords.{HeaderWords}
-use Rattle.navbridge.specs.Job.{IsLeapText, Reads, IsJob, row_of}
-use Rattle.navbridge.specs.JobTexts.{out_of, Accepts, HasLeap, IsSilent, TakesMemory}
+use Rattle.navbridge.specs.Job.{IsLeapText, IsSatsText, Reads, IsJob, row_of}
+use Rattle.navbridge.specs.JobTexts.{out_of, input_of, Accepts, HasLeap, HasSats, IsSilent, TakesMemory}
 use Rattle.navbridge.specs.Statuses.{fault_status}
 use Rattle.navbridge.proofs.Headlines.{headline_text}
 
@@ -93,6 +93,16 @@ pub completes : {C : Type 0} (r : Result C BridgeFault) (s : ℕ) (job : Job) (o
 completes r s job None A B D status h = tt
 completes r s job (Some bytes) A B D status h = λ low accepts a b silent. completed r s (TakesMemory job) status (h low accepts a b silent)
 
+-- a run over too many bytes is not done
+too_many : {C : Type 0} (r : Result C BridgeFault) (s : ℕ) → Ended r s → IsErr r → s ≢ 0
+too_many (Ok x) s h err e = absurd (let no : false ≡ true = err in cc)
+too_many (Err f) s h err e = no_fault f (sym h ∙ e)
+
+pub overflows : {C : Type 0} (r : Result C BridgeFault) (s : ℕ) (o : Option (List ℕ)) → Ended r s
+    → IfSome o (λ bytes. 2 ^ 32 ≤ length bytes → IsErr r) → IfSome o (λ bytes. 2 ^ 32 ≤ length bytes → s ≢ 0)
+overflows r s None status h = tt
+overflows r s (Some bytes) status h = λ many. too_many r s status (h many)
+
 pub refuses : {C : Type 0} (r : Result C BridgeFault) (s : ℕ) (job : Job) (o : Option (List ℕ)) → Ended r s
     → IfSome o (λ bytes. IsErrOf r NotThisForm → Accepts job bytes → ⊥) → s ≡ 5 → IfSome o (λ bytes. Accepts job bytes → ⊥)
 refuses r s job None status h five = tt
@@ -114,6 +124,16 @@ low_leap (Some text) (Some leap) (writes, low) = omega arith
 pub has_leap : (words : List (List ℕ)) (job : Job) → IsJob words job → HasLeap job
 has_leap words job is = low_leap is.given.leap (row_of job).values.leap is.asks.values.leap
 
+-- and 1 to 32 satellites
+in_sats : (text : Option (List ℕ)) (sats : Option ℕ) → Reads IsSatsText text sats → IfSome sats (λ n. (1 ≤ n) × (n ≤ 32))
+in_sats None None reads = tt
+in_sats None (Some sats) reads = absurd reads
+in_sats (Some text) None reads = tt
+in_sats (Some text) (Some sats) (writes, some, few) = (some, few)
+
+pub has_sats : (words : List (List ℕ)) (job : Job) → IsJob words job → HasSats job
+has_sats words job is = in_sats is.given.sats (row_of job).values.sats is.asks.values.sats
+
 -- the capture that some bytes are, and the text of its items
 abbrev Converts : Option ℕ → HeaderWords → List ℕ → Option (List ℕ) → Option (List ℕ) → Option (List ℕ) → Type 0
 Converts week header bytes o w w' =
@@ -125,11 +145,17 @@ converts week header bytes o w w' None e some text end = absurd (let no : false 
 converts week header bytes o w w' (Some capture) e some text end =
     (capture, e, subst (λ (l : List ℕ). Appends w w' l) (headline_text header week bytes capture e) text, end)
 
+in_capture : (week : Option ℕ) (header : HeaderWords) (o o' w w' : Option (List ℕ))
+    → IfSome o (λ bytes. Appends w w' (output_of (Rinex header) week bytes)) → IfSome o (λ bytes. IsSome (capture_of week bytes)) → IsAtEnd o'
+    → IfSome o (λ bytes. Converts week header bytes o' w w')
+in_capture week header None o' w w' text some end = tt
+in_capture week header (Some bytes) o' w w' text some end = converts week header bytes o' w w' (capture_of week bytes) refl some text end
+
 pub headline : (job : Job) (week : Option ℕ) (header : HeaderWords) (o o' w w' : Option (List ℕ))
     → Capture (record { week = week; to = Rinex header }) ≡ job
-    → IfSome o (λ bytes. Appends w w' (out_of job bytes)) → IfSome o (λ bytes. Accepts job bytes) → IsAtEnd o'
-    → IfSome o (λ bytes. Converts week header bytes o' w w')
-headline job week header None o' w w' e text some end = tt
-headline job week header (Some bytes) o' w w' e text some end =
-    converts week header bytes o' w w' (capture_of week bytes) refl (subst (λ (k : Job). Accepts k bytes) (sym e) some)
-    (subst (λ (k : Job). Appends w w' (out_of k bytes)) (sym e) text) end
+    → IfSome (input_of job o) (λ bytes. Appends w w' (out_of job bytes)) → IfSome (input_of job o) (λ bytes. Accepts job bytes)
+    → IsAtEnd (input_of job o') → IfSome o (λ bytes. Converts week header bytes o' w w')
+headline job week header o o' w w' e text some end =
+    in_capture week header o o' w w' (subst (λ (k : Job). IfSome (input_of k o) (λ bytes. Appends w w' (out_of k bytes))) (sym e) text)
+    (subst (λ (k : Job). IfSome (input_of k o) (λ bytes. Accepts k bytes)) (sym e) some)
+    (subst (λ (k : Job). IsAtEnd (input_of k o')) (sym e) end)

@@ -2,14 +2,19 @@
 use Rattle.std.proofs.Common.{◌≡◌, ℕ, List, [], Option, Some, None, Result, Ok, Err, refl, sym, append-nil, subst, ◌∙◌}
 use Rattle.std.specs.Prelude.{MatchResult, IfErr, IfSome, IsErrOf, OnOk, OnErr}
 use Rattle.std.specs.Io.KnownBytes.{Appends, Consumes}
-use Rattle.bridge_engine.specs.Captures.{least_output}
+use Rattle.bridge_engine.specs.Captures.{least_output, output_of, report_of_capture}
+use Rattle.bridge_engine.specs.declared.target.CaptureTo.TheVariants as captures
+use Rattle.nav_vectors.specs.Text.{capture_text}
+use Rattle.seed_runs.specs.declared.target.SeedTo.{SeedTo}
+use Rattle.seed_runs.specs.declared.target.SeedTo.TheVariants as seeds
+use Rattle.seed_runs.specs.Seeds.{SeedBroke}
 use Rattle.bridge_engine.specs.FrameLines.{line_of}
 use Rattle.bridge_engine.specs.FrameRuns.{RunsPart as FramesPart}
 use Rattle.run_texts.specs.Runs.{RunsPart}
 use Rattle.run_texts.specs.declared.fault.BridgeFault.{BridgeFault}
-use Rattle.navbridge.specs.declared.job.Job.TheVariants.{StreamToFrames, Capture, Stream, Rinex, Rinex3}
+use Rattle.navbridge.specs.declared.job.Job.TheVariants.{StreamToFrames, Capture, Stream, Rinex, Rinex3, SendRinex, SendRinex3, Seed}
 use Rattle.navbridge.specs.declared.job.Job.{Job}
-use Rattle.navbridge.specs.JobTexts.{out_of, report_of, least_of, Stops}
+use Rattle.navbridge.specs.JobTexts.{out_of, report_of, least_of, Breaks, Stops}
 
 -- the same end, without what was counted
 abbrev pub Ends : {C : Type 0} → Result C BridgeFault → Result (Unit {0}) BridgeFault → Type 0
@@ -68,9 +73,12 @@ least_of_none (Capture job) = refl
 least_of_none (Stream job) = refl
 least_of_none (Rinex to) = refl
 least_of_none (Rinex3 to) = refl
+least_of_none (SendRinex week) = refl
+least_of_none (SendRinex3 week) = refl
+least_of_none (Seed job) = refl
 
-pub not_begun : (job : Job) (l w u : Option (List ℕ)) → RunsPart (out_of job) (least_of job) (report_of job) l l w w u u
-not_begun job l w u = record {
+none_of_it : (job : Job) (l w u : Option (List ℕ)) → RunsPart (out_of job) (least_of job) (report_of job) l l w w u u
+none_of_it job l w u = record {
   taken = [];
   consumes = none_taken l;
   text = record {
@@ -81,3 +89,22 @@ not_begun job l w u = record {
   };
   report_text = ([], (report_of job [], refl), none_written u);
 }
+
+seed_not_begun : (to : SeedTo) (seed n r : ℕ) (w u : Option (List ℕ)) → SeedBroke to seed n r w w u u
+seed_not_begun seeds.Capture seed n r w u = ([], (capture_text seed n r, refl), none_written w)
+seed_not_begun seeds.Count seed n r w u = record {
+  taken = [];
+  within = (capture_text seed n r, refl);
+  wrote = ([], (output_of captures.Count (Some r) [], refl), none_written w);
+  told = ([], (report_of_capture (Some r) [], refl), none_written u);
+}
+
+pub not_begun : (job : Job) (l w u : Option (List ℕ)) → Breaks job l l w w u u
+not_begun StreamToFrames l w u = none_of_it StreamToFrames l w u
+not_begun (Capture job) l w u = none_of_it (Capture job) l w u
+not_begun (Stream job) l w u = none_of_it (Stream job) l w u
+not_begun (Rinex to) l w u = none_of_it (Rinex to) l w u
+not_begun (Rinex3 to) l w u = none_of_it (Rinex3 to) l w u
+not_begun (SendRinex week) l w u = none_of_it (SendRinex week) l w u
+not_begun (SendRinex3 week) l w u = none_of_it (SendRinex3 week) l w u
+not_begun (Seed job) l w u = seed_not_begun job.to job.seed job.sats job.week w u

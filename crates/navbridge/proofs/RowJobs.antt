@@ -8,9 +8,11 @@ use Rattle.item_runs.specs.declared.target.StreamTo.{StreamTo}
 use Rattle.item_runs.specs.declared.target.StreamTo.TheVariants as streams
 use Rattle.item_runs.specs.declared.target.RinexTo.{RinexTo}
 use Rattle.item_runs.specs.declared.target.RinexTo.TheVariants as files
+use Rattle.seed_runs.specs.declared.target.SeedTo.{SeedTo}
+use Rattle.seed_runs.specs.declared.target.SeedTo.TheVariants as seeds
 use Rattle.navbridge.specs.declared.job.Job.{Job}
-use Rattle.navbridge.specs.declared.job.Job.TheVariants.{StreamToFrames, Capture, Stream, Rinex, Rinex3}
-use Rattle.navbridge.specs.Job.{Row, Target, row_of, capture_target, stream_target, file_target}
+use Rattle.navbridge.specs.declared.job.Job.TheVariants.{StreamToFrames, Capture, Stream, Rinex, Rinex3, SendRinex, SendRinex3, Seed}
+use Rattle.navbridge.specs.Job.{Row, Target, row_of, capture_target, stream_target, file_target, seed_word}
 
 -- whether two words are the same
 abbrev same : List ℕ → List ℕ → Bool
@@ -29,11 +31,13 @@ words_of (Some leap) (Some date) = Some (record { date = date; leap = leap })
 abbrev capture_at : Target → Option CaptureTo
 capture_at t =
     if same t.word (codes "rinex") then option_map captures.Rinex (words_of t.leap t.date) else
+    if same t.word (codes "rinex3") then option_map captures.Rinex3 (words_of t.leap t.date) else
     if same t.word (codes "rtcm") then Some captures.Rtcm else
     if same t.word (codes "list") then Some captures.ToList else Some captures.Count
 
 capture_is_at : (to : CaptureTo) → capture_at (capture_target to) ≡ Some to
 capture_is_at (captures.Rinex words) = refl
+capture_is_at (captures.Rinex3 words) = refl
 capture_is_at captures.Rtcm = refl
 capture_is_at captures.ToList = refl
 capture_is_at captures.Count = refl
@@ -68,12 +72,36 @@ abbrev stream_job : Option ℕ → Target → Option Job
 stream_job None t = Some StreamToFrames
 stream_job (Some week) t = option_map (λ to. Stream (record { week = week; to = to })) (stream_at t)
 
+-- of a navigation file the jobs that send it have a week
+abbrev file_job : Option ℕ → Target → Option Job
+file_job None t = option_map Rinex (file_at t)
+file_job (Some week) t = Some (SendRinex week)
+
+abbrev file3_job : Option ℕ → Target → Option Job
+file3_job None t = option_map Rinex3 (file_at t)
+file3_job (Some week) t = Some (SendRinex3 week)
+
+-- what is written of a capture that is made, and its job
+abbrev seed_at : List ℕ → SeedTo
+seed_at word = if same word (codes "capture") then seeds.Capture else seeds.Count
+
+seed_is_at : (to : SeedTo) → seed_at (seed_word to) ≡ to
+seed_is_at seeds.Capture = refl
+seed_is_at seeds.Count = refl
+
+abbrev seed_job : Option ℕ → Option ℕ → Option ℕ → SeedTo → Option Job
+seed_job None sats week to = None
+seed_job (Some seed) None week to = None
+seed_job (Some seed) (Some sats) None to = None
+seed_job (Some seed) (Some sats) (Some week) to = Some (Seed (record { seed = seed; sats = sats; week = week; to = to }))
+
 abbrev job_at : Row → Option Job
 job_at r =
     if same r.from (codes "stream") then stream_job r.values.week (target_in r) else
     if same r.from (codes "capture") then option_map (λ to. Capture (record { week = r.values.week; to = to })) (capture_at (target_in r)) else
-    if same r.from (codes "rinex") then option_map Rinex (file_at (target_in r)) else
-    option_map Rinex3 (file_at (target_in r))
+    if same r.from (codes "seed") then seed_job r.values.seed r.values.sats r.values.week (seed_at r.to) else
+    if same r.from (codes "rinex") then file_job r.values.week (target_in r) else
+    file3_job r.values.week (target_in r)
 
 job_is_at : (job : Job) → job_at (row_of job) ≡ Some job
 job_is_at StreamToFrames = refl
@@ -81,6 +109,9 @@ job_is_at (Capture job) = ap (option_map (λ (to : CaptureTo). Capture (record {
 job_is_at (Stream job) = ap (option_map (λ (to : StreamTo). Stream (record { week = job.week; to = to }))) (stream_is_at job.to)
 job_is_at (Rinex to) = ap (option_map Rinex) (file_is_at to)
 job_is_at (Rinex3 to) = ap (option_map Rinex3) (file_is_at to)
+job_is_at (SendRinex week) = refl
+job_is_at (SendRinex3 week) = refl
+job_is_at (Seed job) = ap (seed_job (Some job.seed) (Some job.sats) (Some job.week)) (seed_is_at job.to)
 
 -- a row has one job
 pub same_job : (a b : Job) → row_of a ≡ row_of b → a ≡ b

@@ -11,8 +11,11 @@ use Rattle.item_runs.specs.declared.target.StreamTo.{StreamTo}
 use Rattle.item_runs.specs.declared.target.StreamTo.TheVariants as streams
 use Rattle.item_runs.specs.declared.target.RinexTo.{RinexTo}
 use Rattle.item_runs.specs.declared.target.RinexTo.TheVariants as files
+use Rattle.seed_runs.specs.declared.target.SeedTo.{SeedTo}
+use Rattle.seed_runs.specs.declared.target.SeedTo.TheVariants as seeds
 use Rattle.navbridge.specs.declared.job.Job.{Job}
-use Rattle.navbridge.specs.declared.job.Job.TheVariants.{StreamToFrames, Capture, Stream, Rinex, Rinex3}
+use Rattle.navbridge.specs.declared.job.SeedJob.{SeedJob}
+use Rattle.navbridge.specs.declared.job.Job.TheVariants.{StreamToFrames, Capture, Stream, Rinex, Rinex3, SendRinex, SendRinex3, Seed}
 use Rattle.navbridge.specs.declared.values.Values.{Values}
 use Rattle.job_words.specs.Options.{Given, GiveValues}
 
@@ -94,6 +97,7 @@ row from target week = record {
 -- what a capture is converted to
 abbrev pub capture_target : CaptureTo → Target
 capture_target (captures.Rinex words) = headed (codes "rinex") words
+capture_target (captures.Rinex3 words) = headed (codes "rinex3") words
 capture_target captures.Rtcm = plain (codes "rtcm")
 capture_target captures.ToList = plain (codes "list")
 capture_target captures.Count = plain (codes "count")
@@ -111,13 +115,29 @@ file_target (files.Rinex3 words) = headed (codes "rinex3") words
 file_target files.Rtcm = plain (codes "rtcm")
 file_target files.ToList = plain (codes "list")
 
--- the table of jobs: a capture may have a week, a stream that is read must have one
+-- what is written of a capture that is made
+abbrev pub seed_word : SeedTo → List ℕ
+seed_word seeds.Capture = codes "capture"
+seed_word seeds.Count = codes "count"
+
+-- the row of a capture that is made: its seed, its number of satellites and its week
+abbrev pub seed_row : SeedJob → Row
+seed_row job = record {
+  from = codes "seed";
+  to = seed_word job.to;
+  values = record { week = Some job.week; leap = None; date = None; seed = Some job.seed; sats = Some job.sats };
+}
+
+-- the table of jobs: a capture may have a week; a stream that is read and a file that is sent must have one
 abbrev pub row_of : Job → Row
 row_of StreamToFrames = row (codes "stream") (plain (codes "frames")) None
 row_of (Capture job) = row (codes "capture") (capture_target job.to) job.week
 row_of (Stream job) = row (codes "stream") (stream_target job.to) (Some job.week)
 row_of (Rinex to) = row (codes "rinex") (file_target to) None
 row_of (Rinex3 to) = row (codes "rinex3") (file_target to) None
+row_of (SendRinex week) = row (codes "rinex") (plain (codes "capture")) (Some week)
+row_of (SendRinex3 week) = row (codes "rinex3") (plain (codes "capture")) (Some week)
+row_of (Seed job) = seed_row job
 
 -- the options are exactly those of the job's row, and say its values
 pub record Asks (given : Given) (job : Job) : Type 0 where

@@ -11,6 +11,7 @@ use bridge_engine::CaptureTo;
 use gnss_week::RefWeek;
 use item_runs::{RinexTo, StreamTo};
 use job_words::{Found, options_of};
+use seed_runs::SeedTo;
 use std::alloc::{AllocError, Global};
 
 /// Which conversion the words ask for.
@@ -26,6 +27,13 @@ pub enum Job {
     Rinex(RinexTo),
     /// `--from rinex3`: the same of a file of RINEX 3.
     Rinex3(RinexTo),
+    /// `--from rinex --to capture`: the capture that is sent of a navigation file of RINEX 4, near
+    /// this week.
+    SendRinex(RefWeek),
+    /// `--from rinex3 --to capture`: the same of a file of RINEX 3.
+    SendRinex3(RefWeek),
+    /// `--from seed`: a capture that is made, or its counts.
+    Seed(SeedJob),
 }
 
 /// A conversion of a capture.
@@ -44,6 +52,19 @@ pub struct StreamJob {
     pub week: RefWeek,
     /// What it is converted to.
     pub to: StreamTo,
+}
+
+/// The making of a capture.
+#[derive(Clone, Copy, Debug, PartialEq, Eq)]
+pub struct SeedJob {
+    /// The seed of its numbers.
+    pub seed: u32,
+    /// How many satellites of each system it has, 1 to 32.
+    pub sats: u8,
+    /// The week in which it begins.
+    pub week: RefWeek,
+    /// Whether it is written, or its counts.
+    pub to: SeedTo,
 }
 
 /// The job that the words give, where they give one: they spell the options of one row of the table

@@ -16,9 +16,15 @@ mod bits;
 #[cfg(test)]
 mod capture_tests;
 #[cfg(test)]
+mod cut_rows;
+#[cfg(test)]
+mod each_fault;
+#[cfg(test)]
 mod failures;
 #[cfg(test)]
 mod file_rows;
+#[cfg(test)]
+mod health_rows;
 mod job;
 mod laws;
 #[cfg(test)]
@@ -28,6 +34,10 @@ mod rinex3_rows;
 #[cfg(test)]
 mod rows;
 mod run;
+#[cfg(test)]
+mod seed_rows;
+#[cfg(test)]
+mod sent_rows;
 mod statuses;
 #[cfg(test)]
 mod stream_rows;

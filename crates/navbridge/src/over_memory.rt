@@ -60,6 +60,17 @@ pub(crate) fn convert_bytes(
     input: Vec<u8>,
     failing: Failing,
 ) -> Result<Outcome, AllocError> {
+    convert_into(alloc, words, input, failing, 65_536)
+}
+
+// The same with room for this many bytes of output.
+fn convert_into(
+    alloc: Global,
+    words: &str,
+    input: Vec<u8>,
+    failing: Failing,
+    room: usize,
+) -> Result<Outcome, AllocError> {
     let Failing {
         cuts,
         reads,
@@ -68,7 +79,7 @@ pub(crate) fn convert_bytes(
     } = failing;
     let words = words_of(alloc, words)?;
     let mut input = MemSource::new(input, cuts, reads);
-    let mut output = MemSink::new(alloc, 65_536, writes)?;
+    let mut output = MemSink::new(alloc, room, writes)?;
     let mut report = MemSink::new(alloc, 65_536, reports)?;
     let status = bridge(alloc, &words, &mut input, &mut output, &mut report);
     let left = input.left().len();
@@ -83,6 +94,16 @@ pub(crate) fn convert_bytes(
 // A run over these bytes.
 pub(crate) fn convert_all(alloc: Global, words: &str, input: &[u8]) -> Result<Outcome, AllocError> {
     convert_bytes(alloc, words, input.to_vec(alloc)?, nothing_fails(alloc))
+}
+
+// A run over these bytes, with room for a long output.
+pub(crate) fn convert_wide(
+    alloc: Global,
+    words: &str,
+    input: &[u8],
+) -> Result<Outcome, AllocError> {
+    let input = input.to_vec(alloc)?;
+    convert_into(alloc, words, input, nothing_fails(alloc), 1_048_576)
 }
 
 // A run over a capture.

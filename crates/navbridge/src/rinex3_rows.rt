@@ -1,7 +1,7 @@
 //! RINEX 3 navigation files, converted over memory.
 
 use crate::file_rows::{ONE_ITEM, replaced};
-use crate::over_memory::{concat_text, convert_all};
+use crate::over_memory::{concat_text, convert, convert_all};
 use crate::rows::HEADER;
 use crate::stream_rows::GPS_FRAME;
 use crate::texts::{GALILEO, RECORD};
@@ -35,6 +35,30 @@ fn converts_a_file_to_the_older_form_and_back(rt: HostRuntime) -> Result<(), Fai
         assert_eq!(rt; run.status, 0);
         assert_eq!(rt; run.output.bytes(), want, "{words}");
         assert_eq!(rt; run.report.bytes(), ONE_ITEM.as_bytes());
+    }
+    Ok(())
+}
+
+#[test]
+fn converts_a_capture_to_the_older_form(rt: HostRuntime) -> Result<(), Fail> {
+    let words = "--from=capture;--to=rinex3;--week=2295;--date=20240101 000000 UTC;--leap=18";
+    let own_week = "--from=capture;--to=rinex3;--date=20240101 000000 UTC;--leap=18";
+    let gps = "NAVCAP 1\n0 L G05 {A}\n6 L G05 {B}\n12 L G05 {C}\n";
+    let wide = "NAVCAP 2 2295 60\n0 L G05 {A}\n6 L G05 {B}\n12 L G05 {C}\n";
+    let ionosphere = "NAVCAP 1\n18 L G05 {PAGE_18}\n";
+    let header = replaced(rt.alloc(), HEADER, "     4.01", "     3.05")?;
+    let file = concat_text(rt.alloc(), header.as_str(), RECORD)?;
+    let file = replaced(rt.alloc(), file.as_str(), "> EPH G05 LNAV\n", "")?;
+    let cases = [
+        (words, gps, file.as_str(), 0),
+        (own_week, wide, file.as_str(), 0),
+        (own_week, gps, "", 5),
+        (words, ionosphere, header.as_str(), 0),
+    ];
+    for (words, input, want, status) in cases {
+        let run = convert(rt.alloc(), words, input)?;
+        assert_eq!(rt; run.status, status);
+        assert_eq!(rt; run.output.bytes(), want.as_bytes(), "{input}");
     }
     Ok(())
 }

@@ -4,14 +4,16 @@ ghost use Rattle.std.specs.Prelude.{◌≡◌, ◌⊎◌, ◌^◌, ◌<◌, ◌�
 ghost use Rattle.std.specs.Prelude.{IfSome, OnOk, OnErr, MatchResult, Ok, Err};
 ghost use Rattle.std.specs.Io.KnownBytes.{Appends, IsAtEnd};
 ghost use Rattle.nav_io.specs.Causes.{Rose};
-ghost use Rattle.run_texts.specs.Runs.{RunsPart, TakesTooMany};
-ghost use Rattle.navbridge.specs.JobTexts.{out_of, report_of, Accepts, HasLeap, least_of, Stops};
-ghost use Rattle.navbridge.specs.JobTexts.{IsSilent, TakesMemory};
+ghost use Rattle.run_texts.specs.Runs.{TakesTooMany};
+ghost use Rattle.navbridge.specs.JobTexts.{out_of, report_of, input_of, Accepts, Breaks, HasLeap};
+ghost use Rattle.navbridge.specs.JobTexts.{HasSats, IsSilent, ReadsNothing, Stops, TakesMemory};
 
 use crate::job::Job;
 use bridge_engine::{BridgeFault, run_capture, run_frames};
 use item_runs::{run_rinex, run_rinex3, run_stream};
 use nav_io::{Sink, Source};
+use seed_runs::run_seed;
+use send_runs::{send_rinex, send_rinex3};
 use std::alloc::Global;
 
 // Does a job: reads the input to its end, and writes and reports what the job makes of its bytes.
@@ -23,22 +25,25 @@ pub(crate) fn run_job<S: Source, T: Sink, U: Sink>(
     report: &mut U,
 ) -> Result<(), BridgeFault>
     requires leap { HasLeap job.now }
+    requires sats { HasSats job.now }
 
-    // A job that is done took the whole input, met no fault, and wrote and reported what the bytes
+    // A job that is done took the whole input, where it reads one, met no fault, and wrote and reported what the bytes
     // give.
-    ensures text { OnOk result (IfSome (S.left input.old) (λ bytes.
+    ensures text { OnOk result (IfSome (input_of job.now (S.left input.old)) (λ bytes.
         Appends (T.written output.old) (T.written output.new) (out_of job.now bytes))) }
-    ensures report_text { OnOk result (IfSome (S.left input.old) (λ bytes.
+    ensures report_text { OnOk result (IfSome (input_of job.now (S.left input.old)) (λ bytes.
         Appends (U.written report.old) (U.written report.new) (report_of job.now bytes))) }
-    ensures end { OnOk result (IsAtEnd (S.left input.new)) }
+    ensures end { OnOk result (IsAtEnd (input_of job.now (S.left input.new))) }
     ensures no_fault { OnOk result ((S.faults input.new ≡ S.faults input.old)
         × (T.faults output.new ≡ T.faults output.old)
         × (U.faults report.new ≡ U.faults report.old)) }
-    ensures long { IfSome (S.left input.old) (λ bytes. 2 ^ 32 ≤ length bytes → IsErr result) }
+    ensures long { IfSome (input_of job.now (S.left input.old)) (λ bytes.
+        2 ^ 32 ≤ length bytes → IsErr result) }
+    ensures unread { ReadsNothing job.now → input.new ≡ input.old }
     ensures silent { IsSilent job.now → report.new ≡ report.old }
 
     // It is done where nothing fails, or memory was wanting.
-    ensures complete { IfSome (S.left input.old) (λ bytes. length bytes < 2 ^ 32
+    ensures complete { IfSome (input_of job.now (S.left input.old)) (λ bytes. length bytes < 2 ^ 32
         → Accepts job.now bytes
         → ¬ Rose (S.faults input.old) (S.faults input.new)
         → ¬ Rose (T.faults output.old) (T.faults output.new)
@@ -48,9 +53,9 @@ pub(crate) fn run_job<S: Source, T: Sink, U: Sink>(
     // Its first line or header decides whether the input has its form.
     ensures form { IsErrOf result BridgeFault.NotThisForm
         → (output.new ≡ output.old) × (report.new ≡ report.old) }
-    ensures refused { IfSome (S.left input.old) (λ bytes.
+    ensures refused { IfSome (input_of job.now (S.left input.old)) (λ bytes.
         IsErrOf result BridgeFault.NotThisForm → ¬ Accepts job.now bytes) }
-    ensures accepted { IfSome (S.left input.old) (λ bytes.
+    ensures accepted { IfSome (input_of job.now (S.left input.old)) (λ bytes.
         IsOk result
         ⊎ (IsErrOf result BridgeFault.WriteFault ⊎ IsErrOf result BridgeFault.ReportFault)
         → Accepts job.now bytes) }
@@ -71,7 +76,7 @@ pub(crate) fn run_job<S: Source, T: Sink, U: Sink>(
     ensures stops { IsErrOf result BridgeFault.ReadFault
         → Stops job.now (S.left input.old) (S.left input.new)
         (T.written output.old) (T.written output.new) }
-    ensures part { OnErr result (RunsPart (out_of job.now) (least_of job.now) (report_of job.now)
+    ensures part { OnErr result (Breaks job.now
         (S.left input.old) (S.left input.new) (T.written output.old) (T.written output.new)
         (U.written report.old) (U.written report.new)) }
 {
@@ -81,6 +86,11 @@ pub(crate) fn run_job<S: Source, T: Sink, U: Sink>(
         Job::Stream(job) => ended(run_stream(alloc, job.week, &job.to, input, output, report)),
         Job::Rinex(to) => ended(run_rinex(to, input, output, report)),
         Job::Rinex3(to) => ended(run_rinex3(to, input, output, report)),
+        Job::SendRinex(week) => ended(send_rinex(*week, input, output, report)),
+        Job::SendRinex3(week) => ended(send_rinex3(*week, input, output, report)),
+        Job::Seed(job) => ended(run_seed(
+            alloc, job.seed, job.sats, job.week, job.to, output, report,
+        )),
     }
 }
 

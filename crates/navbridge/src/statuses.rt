@@ -7,10 +7,10 @@ ghost use Rattle.nav_io.specs.Causes.{Rose};
 ghost use Rattle.rinex_write.specs.Texts.{rinex_text};
 ghost use Rattle.rinex_write.specs.declared.header.HeaderWords.{HeaderWords};
 ghost use Rattle.bridge_engine.specs.Captures.{Capture, capture_of, items};
-ghost use Rattle.run_texts.specs.Runs.{RunsPart, TakesTooMany};
+ghost use Rattle.run_texts.specs.Runs.{TakesTooMany};
 ghost use Rattle.bridge_engine.specs.declared.target.CaptureTo.TheVariants.{Rinex};
 ghost use Rattle.navbridge.specs.Job.{IsJob, GivesJob};
-ghost use Rattle.navbridge.specs.JobTexts.{out_of, report_of, Accepts, least_of, Stops, IsSilent, TakesMemory};
+ghost use Rattle.navbridge.specs.JobTexts.{out_of, report_of, input_of, Accepts, Breaks, Stops, IsSilent, ReadsNothing, TakesMemory};
 ghost use Rattle.navbridge.specs.Statuses.{fault_status};
 ghost use Rattle.navbridge.specs.declared.job.Job.{Job};
 
@@ -24,7 +24,7 @@ use std::alloc::{AllocError, Global};
 ///
 /// | Status | Comes |
 /// |---|---|
-/// | 0 | the input was read to its end, and all was written |
+/// | 0 | the input was read to its end, where the job reads one, and all was written |
 /// | 2 | where the words give no job, and only there; nothing is read or written |
 /// | 3 | only where the input failed: its count of faults rose, or stands at its last value |
 /// | 4 | only where the output failed: its count of faults rose, or stands at its last value |
@@ -40,7 +40,8 @@ use std::alloc::{AllocError, Global};
 /// file, and that from a stream to frames, take no more: where one of them ends with 6, nothing was read or written.
 ///
 /// After 3, 4, 6, 7 and 8 the output has a front of what the bytes that were taken would give; after 3 in a capture exactly
-/// what is closed by the lines that have ended. The job `--from stream --to frames` writes nothing to the report.
+/// what is closed by the lines that have ended. The jobs `--from stream --to frames` and `--from seed --to capture` write
+/// nothing to the report. The jobs from a seed read nothing.
 pub fn bridge<S: Source, T: Sink, U: Sink>(
     alloc: Global,
     words: &[String],
@@ -70,11 +71,15 @@ pub fn bridge<S: Source, T: Sink, U: Sink>(
         → ((job : Job) → IsJob (map string_bytes words.now) job → ¬ TakesMemory job)
         → (input.new ≡ input.old) × (output.new ≡ output.old) × (report.new ≡ report.old) }
 
-    // A job that is done read the input to its end, and met no fault.
-    ensures end { result ≡ 0 → IsAtEnd (S.left input.new) }
+    // A job that is done read the input to its end, where it reads one, and met no fault.
+    ensures end { (job : Job) → IsJob (map string_bytes words.now) job → result ≡ 0
+        → IsAtEnd (input_of job (S.left input.new)) }
     ensures no_fault { result ≡ 0 → (S.faults input.new ≡ S.faults input.old)
         × (T.faults output.new ≡ T.faults output.old) × (U.faults report.new ≡ U.faults report.old) }
-    ensures long { IfSome (S.left input.old) (λ bytes. 2 ^ 32 ≤ length bytes → result ≢ 0) }
+    ensures long { (job : Job) → IsJob (map string_bytes words.now) job
+        → IfSome (input_of job (S.left input.old)) (λ bytes. 2 ^ 32 ≤ length bytes → result ≢ 0) }
+    ensures reads_nothing { (job : Job) → IsJob (map string_bytes words.now) job → ReadsNothing job
+        → input.new ≡ input.old }
 
     // What failed.
     ensures read { result ≡ 3 → Rose (S.faults input.old) (S.faults input.new) }
@@ -85,17 +90,18 @@ pub fn bridge<S: Source, T: Sink, U: Sink>(
 
     // What the bytes give is written and reported.
     ensures text { (job : Job) → IsJob (map string_bytes words.now) job → result ≡ 0
-        → IfSome (S.left input.old) (λ bytes.
+        → IfSome (input_of job (S.left input.old)) (λ bytes.
         Appends (T.written output.old) (T.written output.new) (out_of job bytes)) }
     ensures report_text { (job : Job) → IsJob (map string_bytes words.now) job → result ≡ 0
-        → IfSome (S.left input.old) (λ bytes.
+        → IfSome (input_of job (S.left input.old)) (λ bytes.
         Appends (U.written report.old) (U.written report.new) (report_of job bytes)) }
     ensures silent { (job : Job) → IsJob (map string_bytes words.now) job → IsSilent job
         → report.new ≡ report.old }
 
     // A job is done where nothing fails, or memory was wanting.
     ensures complete { (job : Job) → IsJob (map string_bytes words.now) job
-        → IfSome (S.left input.old) (λ bytes. length bytes < 2 ^ 32 → Accepts job bytes
+        → IfSome (input_of job (S.left input.old)) (λ bytes. length bytes < 2 ^ 32
+        → Accepts job bytes
         → ¬ Rose (S.faults input.old) (S.faults input.new)
         → ¬ Rose (T.faults output.old) (T.faults output.new)
         → IsSilent job ⊎ ¬ Rose (U.faults report.old) (U.faults report.new)
@@ -104,10 +110,10 @@ pub fn bridge<S: Source, T: Sink, U: Sink>(
     // The first line or the header decides whether the input has the form of the job.
     ensures form { result ≡ 5 → (output.new ≡ output.old) × (report.new ≡ report.old) }
     ensures refused { (job : Job) → IsJob (map string_bytes words.now) job → result ≡ 5
-        → IfSome (S.left input.old) (λ bytes. ¬ Accepts job bytes) }
+        → IfSome (input_of job (S.left input.old)) (λ bytes. ¬ Accepts job bytes) }
     ensures accepted { (job : Job) → IsJob (map string_bytes words.now) job
         → (result ≡ 0) ⊎ ((result ≡ 4) ⊎ (result ≡ 7))
-        → IfSome (S.left input.old) (λ bytes. Accepts job bytes) }
+        → IfSome (input_of job (S.left input.old)) (λ bytes. Accepts job bytes) }
 
     // Where a read fails, what was written is what the job says of the bytes that were taken; after every other fault no less
     // than the least that it says, and a front of the whole.
@@ -115,7 +121,7 @@ pub fn bridge<S: Source, T: Sink, U: Sink>(
         → Stops job (S.left input.old) (S.left input.new)
         (T.written output.old) (T.written output.new) }
     ensures part { (job : Job) → IsJob (map string_bytes words.now) job → result ≢ 0
-        → RunsPart (out_of job) (least_of job) (report_of job)
+        → Breaks job
         (S.left input.old) (S.left input.new) (T.written output.old) (T.written output.new)
         (U.written report.old) (U.written report.new) }
 {

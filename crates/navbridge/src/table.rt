@@ -3,21 +3,26 @@
 
 ghost use Rattle.std.specs.Prelude.{◌≡◌, ◌↔◌, None, Some, MatchOption, IsFalse, codes};
 ghost use Rattle.rinex_write.specs.declared.header.HeaderWords.{HeaderWords};
-ghost use Rattle.navbridge.specs.Job.{capture_target, file_target, row_of, stream_target};
+ghost use Rattle.seed_runs.specs.declared.target.SeedTo.{SeedTo};
+ghost use Rattle.navbridge.specs.Job.{capture_target, file_target, row_of, seed_word, stream_target};
 ghost use Rattle.navbridge.specs.Found.{IsRow, IsTarget};
 ghost use Rattle.navbridge.specs.declared.job.Job.{Job};
 
-use crate::job::{CaptureJob, Job, StreamJob};
+use crate::job::{CaptureJob, Job, SeedJob, StreamJob};
 use crate::values::Values;
 use bridge_engine::CaptureTo;
 use item_runs::{RinexTo, StreamTo};
 use rinex_write::HeaderWords;
+use seed_runs::SeedTo;
 
 // The job between these forms that has exactly these values.
 pub(crate) fn job_in(from: &[u8], to: &[u8], values: &Values) -> Option<Job>
     ensures { MatchOption result ((job : Job) → ¬ IsRow (row_of job) from.now to.now values.now)
         (λ job. IsRow (row_of job) from.now to.now values.now) }
 {
+    if from == b"seed".as_slice() {
+        return from_seed(to, values);
+    }
     if values.seed.is_some() || values.sats.is_some() {
         return None;
     }
@@ -31,20 +36,46 @@ pub(crate) fn job_in(from: &[u8], to: &[u8], values: &Values) -> Option<Job>
     if from == b"stream".as_slice() {
         return from_stream(to, values);
     }
-    if values.week.is_some() {
-        return None;
-    }
     if from == b"rinex".as_slice() {
-        return match file_to(to, values) {
-            None => None,
-            Some(to) => Some(Job::Rinex(to)),
-        };
+        return from_rinex(to, values);
     }
     if from == b"rinex3".as_slice() {
-        return match file_to(to, values) {
-            None => None,
-            Some(to) => Some(Job::Rinex3(to)),
-        };
+        return from_rinex3(to, values);
+    }
+    None
+}
+
+// The job from a seed to this form that has exactly these values.
+fn from_seed(to: &[u8], values: &Values) -> Option<Job>
+    ensures { MatchOption result
+        ((job : Job) → ¬ IsRow (row_of job) (codes "seed") to.now values.now)
+        (λ job. IsRow (row_of job) (codes "seed") to.now values.now) }
+{
+    if has_header(values) {
+        return None;
+    }
+    let seed = values.seed?;
+    let sats = values.sats?;
+    let week = values.week?;
+    let to = seed_to(to)?;
+    Some(Job::Seed(SeedJob {
+        seed,
+        sats,
+        week,
+        to,
+    }))
+}
+
+// What is written of a capture that is made.
+fn seed_to(to: &[u8]) -> Option<SeedTo>
+    ensures { MatchOption result ((target : SeedTo) → ¬ (to.now ≡ seed_word target))
+        (λ target. to.now ≡ seed_word target) }
+{
+    if to == b"capture".as_slice() {
+        return Some(SeedTo::Capture);
+    }
+    if to == b"count".as_slice() {
+        return Some(SeedTo::Count);
     }
     None
 }
@@ -72,6 +103,52 @@ fn from_stream(to: &[u8], values: &Values) -> Option<Job>
     }
 }
 
+// The job from a navigation file of RINEX 4 to this form that has exactly these values.
+fn from_rinex(to: &[u8], values: &Values) -> Option<Job>
+    requires seed { values.now.seed ≡ None }
+    requires sats { values.now.sats ≡ None }
+    ensures { MatchOption result
+        ((job : Job) → ¬ IsRow (row_of job) (codes "rinex") to.now values.now)
+        (λ job. IsRow (row_of job) (codes "rinex") to.now values.now) }
+{
+    match values.week {
+        None => match file_to(to, values) {
+            None => None,
+            Some(to) => Some(Job::Rinex(to)),
+        },
+        Some(week) => {
+            if to == b"capture".as_slice() && !has_header(values) {
+                Some(Job::SendRinex(week))
+            } else {
+                None
+            }
+        }
+    }
+}
+
+// The job from a navigation file of RINEX 3 to this form that has exactly these values.
+fn from_rinex3(to: &[u8], values: &Values) -> Option<Job>
+    requires seed { values.now.seed ≡ None }
+    requires sats { values.now.sats ≡ None }
+    ensures { MatchOption result
+        ((job : Job) → ¬ IsRow (row_of job) (codes "rinex3") to.now values.now)
+        (λ job. IsRow (row_of job) (codes "rinex3") to.now values.now) }
+{
+    match values.week {
+        None => match file_to(to, values) {
+            None => None,
+            Some(to) => Some(Job::Rinex3(to)),
+        },
+        Some(week) => {
+            if to == b"capture".as_slice() && !has_header(values) {
+                Some(Job::SendRinex3(week))
+            } else {
+                None
+            }
+        }
+    }
+}
+
 // What a capture is converted to.
 fn capture_to(to: &[u8], values: &Values) -> Option<CaptureTo>
     ensures { MatchOption result
@@ -82,6 +159,12 @@ fn capture_to(to: &[u8], values: &Values) -> Option<CaptureTo>
         return match header_of(values) {
             None => None,
             Some(words) => Some(CaptureTo::Rinex(words)),
+        };
+    }
+    if to == b"rinex3".as_slice() {
+        return match header_of(values) {
+            None => None,
+            Some(words) => Some(CaptureTo::Rinex3(words)),
         };
     }
     if has_header(values) {

@@ -1,12 +1,12 @@
 use Rattle.std.proofs.Common.{inl}
-use Rattle.navbridge.proofs.Ends.{accepts, at_fault, at_read, at_zero, completes, has_leap, headline, refuses}
+use Rattle.navbridge.proofs.Ends.{accepts, at_fault, at_read, at_zero, completes, has_leap, has_sats, headline, overflows, refuses}
 use Rattle.navbridge.proofs.JobEnds.{not_begun}
 use Rattle.navbridge.proofs.OneJob.{one_job}
 use Rattle.navbridge.proofs.TableRows.{given_job}
 use Rattle.navbridge.proofs.statuses.bridge.Goals as goal
 
 pub run_job-requires : goal.run_job-requires
-run_job-requires g c = record { leap = has_leap _ _ (given_job _ _ c.in-Ok-Some.job c.in-Ok-Some.field-0-is c.in-Ok-Some.ensures) }
+run_job-requires g c = record { leap = has_leap _ _ (given_job _ _ c.in-Ok-Some.job c.in-Ok-Some.field-0-is c.in-Ok-Some.ensures); sats = has_sats _ _ (given_job _ _ c.in-Ok-Some.job c.in-Ok-Some.field-0-is c.in-Ok-Some.ensures) }
 
 pub returns-in-Ok-Some-clause-headline : goal.returns-in-Ok-Some-clause-headline
 returns-in-Ok-Some-clause-headline g c = λ week header is zero.
@@ -14,6 +14,17 @@ returns-in-Ok-Some-clause-headline g c = λ week header is zero.
     (at_zero _ _ c.status_of.ensures zero _ c.run_job.ensures.text)
     (accepts _ _ c.in-Ok-Some.job _ c.status_of.ensures c.run_job.ensures.accepted (inl zero))
     (at_zero _ _ c.status_of.ensures zero _ c.run_job.ensures.end)
+
+pub returns-in-Ok-Some-clause-end : goal.returns-in-Ok-Some-clause-end
+returns-in-Ok-Some-clause-end g c = λ job is.
+    rw (one_job _ _ _ is (given_job _ _ c.in-Ok-Some.job c.in-Ok-Some.field-0-is c.in-Ok-Some.ensures)) (λ zero. at_zero _ _ c.status_of.ensures zero _ c.run_job.ensures.end)
+
+pub returns-in-Ok-Some-clause-long : goal.returns-in-Ok-Some-clause-long
+returns-in-Ok-Some-clause-long g c = λ job is.
+    rw (one_job _ _ _ is (given_job _ _ c.in-Ok-Some.job c.in-Ok-Some.field-0-is c.in-Ok-Some.ensures)) (overflows _ _ _ c.status_of.ensures c.run_job.ensures.long)
+
+pub returns-in-Ok-Some-clause-reads_nothing : goal.returns-in-Ok-Some-clause-reads_nothing
+returns-in-Ok-Some-clause-reads_nothing g c = λ job is. rw (one_job _ _ _ is (given_job _ _ c.in-Ok-Some.job c.in-Ok-Some.field-0-is c.in-Ok-Some.ensures)) c.run_job.ensures.unread
 
 pub returns-in-Ok-Some-clause-text : goal.returns-in-Ok-Some-clause-text
 returns-in-Ok-Some-clause-text g c = λ job is.
