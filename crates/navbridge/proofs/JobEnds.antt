@@ -14,6 +14,8 @@ use Rattle.run_texts.specs.Runs.{RunsPart}
 use Rattle.run_texts.specs.declared.fault.BridgeFault.{BridgeFault}
 use Rattle.navbridge.specs.declared.job.Job.TheVariants.{StreamToFrames, Capture, Stream, Rinex, Rinex3, SendRinex, SendRinex3, Seed}
 use Rattle.navbridge.specs.declared.job.Job.{Job}
+use Rattle.navbridge.specs.declared.job.StreamJob.{StreamJob}
+use Rattle.item_runs.specs.Streams.{RunsSettled, settled_stream_output, settled_stream_report}
 use Rattle.navbridge.specs.JobTexts.{out_of, report_of, least_of, Breaks, Stops}
 
 -- the same end, without what was counted
@@ -36,6 +38,22 @@ at_err (Err g) f P is p = p
 pub always : (result : Result (Unit {0}) BridgeFault) (P : Type 0) → P → OnOk result P
 always (Ok x) P p = p
 always (Err f) P p = tt
+
+-- a fault that it ended with is the fault of its run
+pub run_ends : {C : Type 0} (run : Result C BridgeFault) (result : Result (Unit {0}) BridgeFault) (f : BridgeFault) → Ends run result → IsErrOf result f → IsErrOf run f
+run_ends (Ok x) result f e is = absurd (let done : result ≡ Ok tt = e in let broke : result ≡ Err f = is in cc)
+run_ends (Err g) result f e is = let broke : result ≡ Err g = e in let as : result ≡ Err f = is in cc
+
+-- what a run over the ephemerides of a stream leaves where a read failed
+pub stream_stop : (job : StreamJob) (l l' w w' u u' : Option (List ℕ))
+    → RunsSettled (settled_stream_output job.to job.week) (settled_stream_report job.week) l l' w w' u u' → Stops (Stream job) l l' w w'
+stream_stop job l l' w w' u u' s = record {
+  taken = s.taken;
+  consumes = s.consumes;
+  text = settled_stream_output job.to job.week s.taken;
+  stops = refl;
+  grew = s.text;
+}
 
 -- nothing is written
 none_written : (left : Option (List ℕ)) → Appends left left []
