@@ -1,6 +1,6 @@
 //! The runs.
 
-ghost use Rattle.std.specs.Prelude.{◌≡◌, ◌^◌, ◌<◌, ◌≤◌, length, IsTrue, IsOk, IsErr, IsErrOf, IfOk, IfSome, OnOk, OnErr};
+ghost use Rattle.std.specs.Prelude.{◌≡◌, ◌⊎◌, ◌^◌, ◌<◌, ◌≤◌, length, IsTrue, IsOk, IsErr, IsErrOf, IfOk, IfSome, OnOk, OnErr};
 ghost use Rattle.std.specs.Io.KnownBytes.{Appends};
 ghost use Rattle.nav_io.specs.Causes.{Rose};
 ghost use Rattle.rinex_read.specs.Files.{file_reads};
@@ -30,7 +30,7 @@ use std::alloc::Global;
 ///
 /// # Errors
 ///
-/// - `NotThisForm` only where the header is refused; nothing is written then.
+/// - `NotThisForm` exactly where the header is refused; nothing is written then.
 /// - `ReadFault`, `WriteFault`, `ReportFault` only where the count of faults of the input, the output or the report rose,
 ///   or stands at its last value.
 /// - `TooLong` only where 4,294,967,295 bytes were taken and one more was there.
@@ -63,6 +63,11 @@ pub fn run_merge<S: Source, T: Sink, U: Sink>(
     // The header decides whether it is a file of RINEX 4.
     ensures form { IsErrOf result BridgeFault.NotThisForm
         → (output.new ≡ output.old) × (report.new ≡ report.old) }
+    ensures refused { IfSome (S.left input.old) (λ bytes.
+        IsErrOf result BridgeFault.NotThisForm → IsErr (file_reads rinex4 bytes)) }
+    ensures accepted { IfSome (S.left input.old) (λ bytes.
+        IsOk result ⊎ (IsErrOf result BridgeFault.WriteFault ⊎ IsErrOf result BridgeFault.ReportFault)
+        → IsOk (file_reads rinex4 bytes)) }
 
     // Each fault has its cause; want of memory alone has none.
     ensures read { IsErrOf result BridgeFault.ReadFault
@@ -75,6 +80,14 @@ pub fn run_merge<S: Source, T: Sink, U: Sink>(
     ensures too_long { IsErrOf result BridgeFault.TooLong
         → TakesTooMany (S.left input.old) (S.left input.new) }
     ensures long { IfSome (S.left input.old) (λ bytes. 2 ^ 32 ≤ length bytes → IsErr result) }
+
+    // A run is done where nothing fails, or memory was wanting; one that is done met no fault.
+    ensures complete { IfSome (S.left input.old) (λ bytes. length bytes < 2 ^ 32
+        → IsOk (file_reads rinex4 bytes)
+        → ¬ Rose (S.faults input.old) (S.faults input.new)
+        → ¬ Rose (T.faults output.old) (T.faults output.new)
+        → ¬ Rose (U.faults report.old) (U.faults report.new)
+        → IsOk result ⊎ IsErrOf result BridgeFault.NoMemory) }
     ensures no_fault { OnOk result ((S.faults input.new ≡ S.faults input.old)
         × (T.faults output.new ≡ T.faults output.old)
         × (U.faults report.new ≡ U.faults report.old)) }
@@ -133,6 +146,11 @@ pub fn run_cover<S: Source, T: Sink, U: Sink>(
     // The header decides whether it is a file of RINEX 4.
     ensures form { IsErrOf result BridgeFault.NotThisForm
         → (output.new ≡ output.old) × (report.new ≡ report.old) }
+    ensures refused { IfSome (S.left input.old) (λ bytes.
+        IsErrOf result BridgeFault.NotThisForm → IsErr (file_reads rinex4 bytes)) }
+    ensures accepted { IfSome (S.left input.old) (λ bytes.
+        IsOk result ⊎ (IsErrOf result BridgeFault.WriteFault ⊎ IsErrOf result BridgeFault.ReportFault)
+        → IsOk (file_reads rinex4 bytes)) }
 
     // Each fault has its cause; want of memory alone has none.
     ensures read { IsErrOf result BridgeFault.ReadFault
@@ -145,6 +163,14 @@ pub fn run_cover<S: Source, T: Sink, U: Sink>(
     ensures too_long { IsErrOf result BridgeFault.TooLong
         → TakesTooMany (S.left input.old) (S.left input.new) }
     ensures long { IfSome (S.left input.old) (λ bytes. 2 ^ 32 ≤ length bytes → IsErr result) }
+
+    // A run is done where nothing fails, or memory was wanting; one that is done met no fault.
+    ensures complete { IfSome (S.left input.old) (λ bytes. length bytes < 2 ^ 32
+        → IsOk (file_reads rinex4 bytes)
+        → ¬ Rose (S.faults input.old) (S.faults input.new)
+        → ¬ Rose (T.faults output.old) (T.faults output.new)
+        → ¬ Rose (U.faults report.old) (U.faults report.new)
+        → IsOk result ⊎ IsErrOf result BridgeFault.NoMemory) }
     ensures no_fault { OnOk result ((S.faults input.new ≡ S.faults input.old)
         × (T.faults output.new ≡ T.faults output.old)
         × (U.faults report.new ≡ U.faults report.old)) }
