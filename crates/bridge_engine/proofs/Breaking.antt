@@ -1,17 +1,14 @@
 -- How following ends by each fault, and facts near an equal week with an equal window.
-use Rattle.std.proofs.Common.{◌≡◌, ℕ, ◌+◌, ◌-◌, ◌<◌, ◌≤◌, ◌^◌, List, [], ◌∷◌, length, refl, sym, ap, subst, ◌∙◌, arith}
+use Rattle.std.proofs.Common.{◌≡◌, ℕ, List, sym, subst}
 use Rattle.std.specs.Prelude.{Option, Result, Ok, Err, OnOk, OnErr, IfErr}
 use Rattle.nav_eph.specs.declared.part.Part.{Part}
-use Rattle.nav_io.specs.Lines.{Line}
 use Rattle.nav_io.specs.LinesState.{LinesState}
 use Rattle.nav_io.specs.LineAnswers.{Breaks}
 use Rattle.nav_io.specs.declared.lines.LineFault.{LineFault}
 use Rattle.nav_io.specs.declared.lines.LineFault.TheVariants as lines
 use Rattle.inav_page.specs.Keeping.{Keeping}
 use Rattle.period_items.specs.PeriodsOf.{closed_of}
-use Rattle.issue_periods.specs.Standing.{Standing, Stood}
-use Rattle.issue_periods.specs.Given.{settled}
-use Rattle.capture_log.specs.Log.{mark_after, parts_of}
+use Rattle.issue_periods.specs.Standing.{Standing}
 use Rattle.bridge_engine.specs.declared.target.CaptureTo.{CaptureTo}
 use Rattle.bridge_engine.specs.declared.counts.Tally.{Tally}
 use Rattle.bridge_engine.specs.declared.counts.Said.{Said}

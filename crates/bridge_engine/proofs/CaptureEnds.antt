@@ -1,5 +1,5 @@
 -- How a run over a capture ends: in its first line, in the text in front, in the lines behind, in what stands behind these, or done.
-use Rattle.std.proofs.Common.{◌≡◌, ℕ, ◌+◌, ◌-◌, ◌<◌, ◌≤◌, ◌^◌, true, false, List, [], ◌∷◌, ◌++◌, length, take, drop, length-drop, refl, sym, ap, subst, ◌∙◌, arith, inl, inr, ⊎_elim, append_assoc, append-nil, length-append}
+use Rattle.std.proofs.Common.{◌≡◌, ℕ, ◌+◌, ◌-◌, ◌<◌, ◌≤◌, ◌^◌, true, false, List, [], ◌∷◌, ◌++◌, length, take, drop, length-drop, refl, sym, ap, subst, ◌∙◌, arith, ⊎_elim, append_assoc, append-nil}
 use Rattle.std.specs.Prelude.{Option, None, Some, IfSome, ◌⊎◌}
 use Rattle.std.proofs.lemmas.Bool.{true≢false}
 use Rattle.std.proofs.lemmas.List.{take-append-drop}
@@ -7,7 +7,7 @@ use Rattle.std.specs.Io.KnownBytes.{Appends, Consumes, IsAtEnd}
 use Rattle.std.proofs.KnownBytes.{Appends-nil, Appends-trans, Consumes-all}
 use Rattle.nav_io.specs.Front.{AppendsFront, IsFront}
 use Rattle.nav_io.specs.Lines.{Line, lines_by}
-use Rattle.nav_io.specs.LinesState.{LinesState, Reads, GivesLine, GivesEnd, BreaksRead, BreaksLong}
+use Rattle.nav_io.specs.LinesState.{LinesState, Reads, GivesLine, GivesEnd}
 use Rattle.nav_io.proofs.Surface.{reads_more}
 use Rattle.period_items.specs.PeriodsOf.{closed_of, periods_of}
 use Rattle.capture_log.specs.Log.{log_of, mark_after, parts_of}
@@ -18,15 +18,15 @@ use Rattle.bridge_engine.specs.declared.counts.Tally.{Tally}
 use Rattle.bridge_engine.specs.declared.counts.Said.{Said}
 use Rattle.run_texts.specs.declared.fault.BridgeFault.{BridgeFault}
 use Rattle.run_texts.specs.declared.fault.BridgeFault.TheVariants.{ReadFault, WriteFault, ReportFault, TooLong, NoMemory, NotThisForm}
-use Rattle.bridge_engine.specs.Captures.{Capture, accepted_line, back_text, capture_in, capture_of, counts_of, counts_text, front_text, least_output, output_of, periods, report_of_capture, settled_output, settled_text, texts_of}
-use Rattle.bridge_engine.specs.Follows.{Accepts, CaptureBroken, CaptureDone, CapturePart, FollowsAll, FollowsBroken, FollowsEnded, FollowsPart, GivesHead, GivesNoHead, Refuses, no_tally}
+use Rattle.bridge_engine.specs.Captures.{Capture, accepted_line, back_text, capture_in, capture_of, counts_of, counts_text, front_text, least_output, periods, report_of_capture, settled_output, settled_text, texts_of}
+use Rattle.bridge_engine.specs.Follows.{Accepts, CaptureBroken, CaptureDone, CapturePart, FollowsAll, FollowsBroken, FollowsEnded, FollowsPart, GivesHead, GivesNoHead, no_tally}
 use Rattle.bridge_engine.specs.Notes.{line_report, tallied}
 use Rattle.bridge_engine.specs.Reports.{count_in, is_late, is_malformed, is_refused, is_unused}
 use Rattle.run_texts.specs.Runs.{RunsExactly, TakesTooMany}
 use Rattle.bridge_engine.specs.Settled.{said_of, with_counts}
 use Rattle.bridge_engine.proofs.CaptureFronts.{accepts_first, capture_by, capture_lines, known_lines, least_front, least_none, nothing_part, output_is, refuses_first, refuses_none, report_front, report_is, settled_is}
 use Rattle.bridge_engine.proofs.Following.{all_lines, ended_lines}
-use Rattle.bridge_engine.proofs.Fronts.{LogLaws, appends_behind, appends_longer, front_behind, front_more, front_nil, front_same, front_trans}
+use Rattle.bridge_engine.proofs.Fronts.{LogLaws, appends_behind, appends_longer, front_behind, front_more, front_nil, front_trans}
 use Rattle.bridge_engine.proofs.LineCounts.{ended_before, lines_length, no_pieces, sum_pieces, recent_ended, recent_lines, recent_within}
 use Rattle.bridge_engine.proofs.Writing.{texts_front}
 

@@ -1,22 +1,21 @@
 -- The capture that the bytes taken are, and the least that is written of it.
-use Rattle.std.proofs.Common.{◌≡◌, ℕ, ◌+◌, ◌-◌, ◌<◌, ◌≤◌, ◌^◌, Bool, true, false, List, [], ◌∷◌, ◌++◌, length, take, drop, codes, refl, sym, ap, subst, ◌∙◌, arith, inl, inr, ⊎_elim, append_assoc, append-nil, length-append}
+use Rattle.std.proofs.Common.{◌≡◌, ℕ, ◌+◌, ◌-◌, ◌≤◌, true, false, List, [], ◌∷◌, ◌++◌, length, take, drop, refl, sym, ap, subst, ◌∙◌, arith, ⊎_elim, append_assoc, append-nil, length-append}
 use Rattle.std.specs.Prelude.{Option, None, Some, IfSome, IsSome}
 use Rattle.std.proofs.lemmas.Bool.{true≢false}
 use Rattle.std.proofs.lemmas.List.{take-append-drop}
-use Rattle.std.specs.Io.KnownBytes.{Appends, Consumes, IsAtEnd}
-use Rattle.std.proofs.KnownBytes.{Appends-nil, Appends-trans}
-use Rattle.nav_io.specs.Front.{AppendsFront, IsFront}
+use Rattle.std.specs.Io.KnownBytes.{Consumes}
+use Rattle.std.proofs.KnownBytes.{Appends-nil}
+use Rattle.nav_io.specs.Front.{IsFront}
 use Rattle.nav_io.specs.Lines.{Line, lines_by}
 use Rattle.nav_io.specs.LinesState.{LinesState, Reads}
-use Rattle.period_items.specs.PeriodsOf.{closed_of, periods_of}
-use Rattle.capture_log.specs.Log.{Noted, items_of, log_from, log_of, mark_after, parts_of}
+use Rattle.period_items.specs.PeriodsOf.{closed_of}
+use Rattle.capture_log.specs.Log.{items_of, log_from, log_of, mark_after, parts_of}
 use Rattle.bridge_engine.specs.declared.accept.Accepted.{Accepted}
 use Rattle.bridge_engine.specs.declared.target.CaptureTo.{CaptureTo}
-use Rattle.bridge_engine.specs.Captures.{Capture, accepted_line, capture_in, capture_of, capture_with, back_text, counts_of, counts_text, front_text, least_output, output_of, periods, report_of_capture, settled_output, settled_periods, settled_text, texts_of, whole_report, whole_text, without_last}
+use Rattle.bridge_engine.specs.Captures.{Capture, accepted_line, capture_in, capture_of, capture_with, back_text, counts_of, counts_text, front_text, least_output, output_of, periods, report_of_capture, settled_output, settled_text, texts_of, whole_report, whole_text, without_last}
 use Rattle.bridge_engine.specs.Follows.{Accepts, CapturePart, Refuses}
 use Rattle.bridge_engine.specs.Notes.{line_report}
-use Rattle.run_texts.specs.Runs.{AppendsBetween, RunsPart}
-use Rattle.bridge_engine.proofs.Fronts.{LogLaws, appends_longer, front_behind, front_nil, front_same, front_trans}
+use Rattle.bridge_engine.proofs.Fronts.{LogLaws, front_behind, front_nil}
 use Rattle.bridge_engine.proofs.LineCounts.{IsFrontOf, front_within, lines_front}
 use Rattle.bridge_engine.proofs.Logs.{known_of, log_more, report_append}
 use Rattle.bridge_engine.proofs.Writing.{texts_front}

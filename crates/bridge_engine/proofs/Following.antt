@@ -1,6 +1,6 @@
 -- Steps of a run over lines: what was taken, written, reported and counted between two lines, and how it ends.
-use Rattle.std.proofs.Common.{◌≡◌, ℕ, ◌+◌, ◌-◌, ◌*◌, ◌<◌, ◌≤◌, ◌^◌, Bool, true, false, List, [], ◌∷◌, ◌++◌, length, take, refl, sym, ap, subst, ◌∙◌, arith, append_assoc, append-nil, length-append}
-use Rattle.std.specs.Prelude.{Option, None, Some, Contains, max, unwrap_or}
+use Rattle.std.proofs.Common.{◌≡◌, ℕ, ◌+◌, ◌<◌, ◌≤◌, ◌^◌, true, false, List, [], ◌∷◌, ◌++◌, length, refl, sym, ap, subst, ◌∙◌, arith, append_assoc, append-nil, length-append}
+use Rattle.std.specs.Prelude.{Option, None, Contains, max, unwrap_or}
 use Rattle.std.proofs.lemmas.Bool.{true≢false}
 use Rattle.std.specs.Io.KnownBytes.{Appends}
 use Rattle.std.proofs.KnownBytes.{Appends-nil, Appends-trans}
@@ -19,7 +19,7 @@ use Rattle.issue_periods.specs.Given.{last_from, settled}
 use Rattle.issue_periods.proofs.Surface.{standing, closed_of-last, closed_of-none, settled_nothing}
 use Rattle.inav_page.specs.Heard.{StampedHalf}
 use Rattle.capture_log.specs.Events.{Known, nothing_known, events_of, item_line, known_with}
-use Rattle.capture_log.specs.Log.{Noted, log_of, mark_after, noted, parts_in, parts_of}
+use Rattle.capture_log.specs.Log.{log_of, mark_after, noted, parts_in, parts_of}
 use Rattle.bridge_engine.specs.declared.target.CaptureTo.{CaptureTo}
 use Rattle.bridge_engine.specs.declared.counts.Tally.{Tally}
 use Rattle.bridge_engine.specs.declared.counts.Said.{Said}
@@ -28,7 +28,7 @@ use Rattle.bridge_engine.specs.Follows.{Counted, Follows, FollowsAll, FollowsEnd
 use Rattle.bridge_engine.specs.Notes.{GivesItem, KeepsHalves, Notes, line_report, tallied, total}
 use Rattle.run_texts.specs.Runs.{AppendsBetween}
 use Rattle.bridge_engine.specs.Settled.{HasRoom, Settled, said_of}
-use Rattle.bridge_engine.proofs.Fronts.{LogLaws, appends_behind, appends_whole, counts_low, front_same, periods_low, written_between, written_closed}
+use Rattle.bridge_engine.proofs.Fronts.{LogLaws, appends_behind, appends_whole, counts_low, periods_low, written_between, written_closed}
 use Rattle.bridge_engine.proofs.LineCounts.{ended_before, no_lines, no_pieces, recent_ended, recent_lines, recent_within, sum_pieces}
 use Rattle.bridge_engine.proofs.Logs.{halves_line, known_line, known_of, log_line, parts_append, parts_line, report_append, square_next, tally_append}
 

@@ -1,6 +1,6 @@
 -- The log of one more line, and how many parts lines bring.
-use Rattle.std.proofs.Common.{◌≡◌, ℕ, ◌+◌, ◌*◌, ◌≤◌, Bool, true, false, List, [], ◌∷◌, ◌++◌, length, map, refl, sym, ap, ◌∙◌, arith, append_assoc, append-nil, length-append}
-use Rattle.std.specs.Prelude.{nat_lt, if◌then◌else◌, Option, None, Some, Result, Ok, Err, max}
+use Rattle.std.proofs.Common.{◌≡◌, ℕ, ◌+◌, ◌*◌, ◌≤◌, Bool, true, false, List, [], ◌∷◌, ◌++◌, length, refl, sym, ap, ◌∙◌, arith, append_assoc, append-nil, length-append}
+use Rattle.std.specs.Prelude.{nat_lt, if◌then◌else◌, Option, None, Some, Result, Ok, Err}
 use Rattle.std.specs.List.{flat_map, sum_by}
 use Rattle.std.proofs.Math.Nat.{add-mul, mul-add}
 use Rattle.std.proofs.lemmas.Grind.{flat_map-append}
@@ -23,13 +23,13 @@ use Rattle.rtcm_eph.specs.declared.read.MessageParts.TheVariants.{Gps as GpsPart
 use Rattle.capture_lines.specs.declared.item.LineItem.{LineItem}
 use Rattle.capture_lines.specs.declared.item.LineItem.TheVariants.{Pass, Lnav, Half, Frame, Malformed as MalformedItem}
 use Rattle.capture_log.specs.declared.event.Refusal.TheVariants as refusals
-use Rattle.capture_log.specs.Events.{is_frame, Known, nothing_known, events_of, known_with, item_line, is_late, is_alert, half_of, of_word, of_second, of_frame, of_half, of_words, new_words, with_half, of_message, halves_with, of_subframe}
+use Rattle.capture_log.specs.Events.{is_frame, Known, nothing_known, events_of, known_with, item_line, is_late, is_alert, half_of, of_word, of_second, of_frame, of_half, of_words, new_words, with_half, of_message, of_subframe}
 use Rattle.capture_log.specs.Log.{Noted, noted, items_of, known_from, log_from, log_of, parts_in, parts_of, parts_of_event}
 use Rattle.capture_log.specs.declared.event.Event.{Event}
 use Rattle.capture_log.specs.declared.event.Event.TheVariants.{Heard, Malformed, Late, Refused, Unused}
 use Rattle.bridge_engine.specs.declared.counts.Tally.{Tally}
 use Rattle.bridge_engine.specs.Notes.{line_report, tallied}
-use Rattle.bridge_engine.specs.Reports.{count_in, report_in, is_malformed, is_late as is_late_event, is_refused, is_unused}
+use Rattle.bridge_engine.specs.Reports.{count_in, is_malformed, is_late as is_late_event, is_refused, is_unused}
 
 -- ---- one more line
 

@@ -1,5 +1,5 @@
 -- Writing what is closed: the periods given so far, their texts, and what was counted of them.
-use Rattle.std.proofs.Common.{◌≡◌, ℕ, ◌+◌, ◌<◌, ◌≤◌, ◌^◌, List, [], ◌∷◌, ◌++◌, length, map, sum, refl, sym, ap, subst, ◌∙◌, arith, append_assoc, append-nil, length-append}
+use Rattle.std.proofs.Common.{◌≡◌, ℕ, ◌+◌, ◌<◌, ◌≤◌, ◌^◌, List, [], ◌∷◌, ◌++◌, length, refl, sym, ap, subst, ◌∙◌, arith, append_assoc, append-nil, length-append}
 use Rattle.std.specs.Prelude.{Option, Contains}
 use Rattle.std.specs.Io.KnownBytes.{Appends}
 use Rattle.std.proofs.KnownBytes.{Appends-trans}
@@ -16,7 +16,6 @@ use Rattle.period_items.specs.declared.closed.Verdict.{Verdict}
 use Rattle.period_items.specs.declared.closed.Verdict.TheVariants.{Whole, Partial, Contradicted, NoHealth, Again}
 use Rattle.period_items.proofs.Surface.{closed_of-front}
 use Rattle.issue_periods.specs.Standing.{Standing, Tells, Carries, IsNext, NoneDue, giving, reaching}
-use Rattle.issue_periods.specs.Given.{settled}
 use Rattle.issue_periods.proofs.Surface.{Gives, HasValues, gives_start, gives_more, gives_all, gives_front}
 use Rattle.bridge_engine.specs.declared.target.CaptureTo.{CaptureTo}
 use Rattle.bridge_engine.specs.declared.counts.Said.{Said}

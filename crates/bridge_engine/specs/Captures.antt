@@ -1,5 +1,5 @@
 -- The capture that some bytes are, and what is written and reported of it.
-use Rattle.std.specs.Prelude.{ℕ, ◌+◌, ◌-◌, ◌==◌, Bool, true, false, if◌then◌else◌, List, [], ◌∷◌, ◌++◌, length, take, codes, map, sum, Option, None, Some}
+use Rattle.std.specs.Prelude.{ℕ, ◌+◌, ◌-◌, ◌==◌, true, false, if◌then◌else◌, List, [], ◌∷◌, ◌++◌, length, take, codes, map, sum, Option, None, Some}
 use Rattle.std.specs.List.{flat_map}
 use Rattle.nav_io.specs.Lines.{Line, lines_by}
 use Rattle.nav_eph.specs.declared.items.NavItem.{NavItem}

@@ -1,19 +1,18 @@
 //! The run over a stream: each frame of the input gives a line of the output.
 
-ghost use Rattle.std.specs.Prelude.{◌≡◌, ◌≢◌, ◌+◌, ◌^◌, ◌<◌, ◌≤◌, ◌⊎◌, [], ◌∷◌, ◌++◌, true, not, length, take, IsTrue, IsOk, IsErr, IfOk, IfErr, IfSome, OnOk, OnErr, IsErrOf};
-ghost use Rattle.std.specs.Io.KnownBytes.{Appends, Consumes, IsAtEnd, Keeps};
+ghost use Rattle.std.specs.Prelude.{◌≡◌, ◌+◌, ◌^◌, ◌<◌, ◌≤◌, ◌⊎◌, [], ◌++◌, true, not};
+ghost use Rattle.std.specs.Prelude.{length, take, IsTrue, IsOk, IsErr, IfOk, IfErr, IfSome};
+ghost use Rattle.std.specs.Prelude.{OnOk, OnErr, IsErrOf};
+ghost use Rattle.std.specs.Io.KnownBytes.{Appends};
 ghost use Rattle.nav_io.specs.Causes.{HasCause, Rose};
 ghost use Rattle.rtcm_frame.specs.State.{MayFeed, IsWaiting};
 ghost use Rattle.bridge_engine.specs.FrameLines.{line_of};
 ghost use Rattle.bridge_engine.specs.FrameRuns.{output_of, RunsWhole, RunsPart, Goes, Breaks};
 
 use crate::line::frame_line;
-use nav_io::{Failed, Sink, Source};
+use nav_io::{Failed, MOST_TAKEN, Sink, Source, read_piece};
 use rtcm_frame::Deframer;
 use run_texts::BridgeFault;
-
-// How many bytes a run takes at most.
-const MOST: u64 = 4_294_967_295;
 
 // How many bytes are asked for at once.
 const PIECE: usize = 16_384;
@@ -62,10 +61,8 @@ pub fn run_frames<S: Source, T: Sink>(
     let mut buffer = [0; PIECE];
     let mut taken = 0;
     let mut frames = 0;
-    while taken <= MOST {
-        // One byte more than the most is asked for, so that its presence shows.
-        let most = (MOST - taken + 1).min(PIECE as u64) as usize;
-        match read_piece(input, &mut buffer, most) {
+    while taken <= MOST_TAKEN {
+        match read_piece(input, taken, &mut buffer) {
             Err(Failed) => return Err(BridgeFault::ReadFault),
             Ok(0) => {
                 deframer.finish();
@@ -84,23 +81,6 @@ pub fn run_frames<S: Source, T: Sink>(
         }
     }
     Err(BridgeFault::TooLong)
-}
-
-// Reads at most so many bytes into the front of the buffer.
-fn read_piece<S: Source>(input: &mut S, buffer: &mut [u8], most: usize) -> Result<usize, Failed>
-    requires some { 0 < most }
-    requires room { most ≤ length buffer.old }
-    ensures most { IfOk result (λ count. count ≤ most) }
-    ensures held { IfOk result (λ count. length (take count buffer.new) ≡ count) }
-    ensures bytes { IfOk result (λ count.
-        Consumes (S.left input.old) (S.left input.new) (take count buffer.new)) }
-    ensures end { IfOk result (λ count. count ≡ 0 → IsAtEnd (S.left input.new)) }
-    ensures err { OnErr result (Keeps (S.left input.old) (S.left input.new)) }
-    ensures cause { HasCause (S.faults input.old) (S.faults input.new) result }
-    ensures never { IsTrue (S.never_fails input.old)
-        → IsOk result × IsTrue (S.never_fails input.new) }
-{
-    input.read(&mut buffer[..most])
 }
 
 // Feeds a piece, and writes the lines of the frames that it decides.

@@ -1,5 +1,5 @@
-use Rattle.std.proofs.Common.{◌≡◌, ℕ, refl, sym, ap, ◌∙◌}
-use Rattle.bridge_engine.proofs.CaptureEnds.{IsFresh, IsTaken, all_done, all_taken, end_broken, follow_broken, head_broken, head_part}
+use Rattle.std.proofs.Common.{ℕ, ap, ◌∙◌}
+use Rattle.bridge_engine.proofs.CaptureEnds.{IsFresh, all_done, all_taken, end_broken, follow_broken, head_broken, head_part}
 use Rattle.bridge_engine.specs.Settled.{with_counts}
 use Rattle.bridge_engine.proofs.Following.{follows_start}
 use Rattle.bridge_engine.proofs.Fronts.{LogLaws}

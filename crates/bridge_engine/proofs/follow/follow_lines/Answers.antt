@@ -1,4 +1,4 @@
-use Rattle.std.proofs.Common.{◌≡◌, ℕ, ◌+◌, ◌-◌, ◌≤◌, List, ◌∷◌, [], ◌++◌, length, refl, sym, ap, subst, ◌∙◌, arith}
+use Rattle.std.proofs.Common.{◌≡◌, ℕ, ◌-◌, ◌≤◌, ◌∷◌, [], ◌++◌, refl, sym, ap, ◌∙◌, arith}
 use Rattle.capture_log.specs.Log.{mark_after, parts_of}
 use Rattle.issue_periods.specs.Given.{settled}
 use Rattle.bridge_engine.specs.Notes.{GivesEnd, GivesItem}
@@ -6,7 +6,7 @@ use Rattle.std.specs.Prelude.{Option, max, unwrap_or}
 use Rattle.bridge_engine.proofs.Fronts.{LogLaws}
 use Rattle.bridge_engine.proofs.Logs.{known_of}
 use Rattle.bridge_engine.proofs.Breaking.{all_ok, broken_input, broken_last, broken_output, broken_report, closed_at, room_at, settled_at}
-use Rattle.bridge_engine.proofs.Following.{Between, Taken, all_written, between_start, between_written, last_mark, part_last, part_line, part_written, room_taken, taken_line}
+use Rattle.bridge_engine.proofs.Following.{Taken, all_written, between_start, between_written, last_mark, part_last, part_line, part_written, room_taken, taken_line}
 use Rattle.bridge_engine.proofs.follow.follow_lines.Goals as goal
 
 pub lines-init : goal.lines-init

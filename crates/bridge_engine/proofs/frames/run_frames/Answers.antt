@@ -12,21 +12,21 @@ loop-taken-init g c = record {
 }
 
 pub returns-in-Err-clause-part : goal.returns-in-Err-clause-part
-returns-in-Err-clause-part g c = part_of_read line_of _ _ _ _ _ _ _ _ c.loop-taken.invariant.so_far c.in-Err.ensures.err
+returns-in-Err-clause-part g c = part_of_read line_of _ _ _ _ _ _ _ _ c.loop-taken.invariant.so_far c.in-Err.ensures.bytes
 
 pub returns-in-Ok-take_frames-clause-whole : goal.returns-in-Ok-take_frames-clause-whole
 returns-in-Ok-take_frames-clause-whole g c =
-    run_whole line_of _ _ _ _ _ _ _ _ _ _ _ _ _ _ c.loop-taken.invariant.so_far (omega arith) c.in-Ok-eq0.field-0-test c.in-Ok-eq0.ensures.bytes (c.in-Ok-eq0.ensures.end c.in-Ok-eq0.field-0-test)
+    run_whole line_of _ _ _ _ _ _ _ _ _ _ _ _ _ _ c.loop-taken.invariant.so_far (omega arith) c.in-Ok-eq0.field-0-test c.in-Ok-eq0.ensures.bytes.0 (c.in-Ok-eq0.ensures.bytes.1 c.in-Ok-eq0.field-0-test)
     c.finish.ensures.rest c.finish.ensures.finished c.in-Ok-take_frames.ensures.last c.in-Ok-take_frames.ensures.goes
 
 pub returns-in-Err-take_frames-clause-part : goal.returns-in-Err-take_frames-clause-part
 returns-in-Err-take_frames-clause-part g c =
-    part_of_last line_of _ _ _ _ _ _ _ _ _ _ _ _ c.loop-taken.invariant.so_far c.in-Ok-eq0.field-0-test c.in-Ok-eq0.ensures.bytes c.finish.ensures.rest c.finish.ensures.finished
+    part_of_last line_of _ _ _ _ _ _ _ _ _ _ _ _ c.loop-taken.invariant.so_far c.in-Ok-eq0.field-0-test c.in-Ok-eq0.ensures.bytes.0 c.finish.ensures.rest c.finish.ensures.finished
     c.in-Err-take_frames.ensures.breaks
 
 pub loop-taken-preserved : goal.loop-taken-preserved
 loop-taken-preserved g c = record {
-  so_far = so_far_piece line_of _ _ _ _ _ _ _ _ _ _ _ _ _ c.loop-taken.invariant.so_far c.in-Ok.ensures.bytes c.in-Ok.ensures.held (omega (arith, c.in-Ok.ensures.most))
+  so_far = so_far_piece line_of _ _ _ _ _ _ _ _ _ _ _ _ _ c.loop-taken.invariant.so_far c.in-Ok.ensures.bytes.0 c.in-Ok.ensures.count (omega (arith, c.in-Ok.ensures.most))
       c.in-Ok-take_piece.ensures.goes c.in-Ok-take_piece.ensures.may_feed c.in-Ok-take_piece.ensures.room;
   read = c.in-Ok.ensures.cause.stays ∙ c.loop-taken.invariant.read;
   write = c.in-Ok-take_piece.ensures.cause.stays ∙ c.loop-taken.invariant.write;
@@ -35,7 +35,7 @@ loop-taken-preserved g c = record {
 
 pub returns-in-Err-take_piece-clause-part : goal.returns-in-Err-take_piece-clause-part
 returns-in-Err-take_piece-clause-part g c =
-    part_of_piece line_of _ _ _ _ _ _ _ _ _ _ c.loop-taken.invariant.so_far c.in-Ok.ensures.bytes c.in-Err-take_piece.ensures.breaks
+    part_of_piece line_of _ _ _ _ _ _ _ _ _ _ c.loop-taken.invariant.so_far c.in-Ok.ensures.bytes.0 c.in-Err-take_piece.ensures.breaks
 
 pub returns-clause-part : goal.returns-clause-part
 returns-clause-part g c = part_of_long line_of _ _ _ _ _ _ _ c.loop-taken.invariant.so_far (omega arith)

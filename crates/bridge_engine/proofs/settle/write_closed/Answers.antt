@@ -1,4 +1,4 @@
-use Rattle.std.proofs.Common.{◌≡◌, ℕ, Contains, refl, sym, subst, ◌∙◌, arith}
+use Rattle.std.proofs.Common.{Contains, refl, ◌∙◌}
 use Rattle.period_items.specs.Verdicts.{closed_place}
 use Rattle.issue_periods.specs.Standing.{Tells, Carries, IsNext, NoneDue, giving, reaching}
 use Rattle.issue_periods.proofs.Surface.{next_at, none_at, stood_giving}
