@@ -42,7 +42,7 @@ always (Err f) P p = tt
 -- a fault that it ended with is the fault of its run
 pub run_ends : {C : Type 0} (run : Result C BridgeFault) (result : Result (Unit {0}) BridgeFault) (f : BridgeFault) → Ends run result → IsErrOf result f → IsErrOf run f
 run_ends (Ok x) result f e is = absurd (let done : result ≡ Ok tt = e in let broke : result ≡ Err f = is in cc)
-run_ends (Err g) result f e is = let broke : result ≡ Err g = e in let as : result ≡ Err f = is in cc
+run_ends (Err g) result f e is = let broke : result ≡ Err g = e in let ended : result ≡ Err f = is in cc
 
 -- what a run over the ephemerides of a stream leaves where a read failed
 pub stream_stop : (job : StreamJob) (l l' w w' u u' : Option (List ℕ))
