@@ -1,8 +1,9 @@
-mod RecordLemmas
-mod FileLemmas
+pub mod RecordLemmas
+pub mod FileLemmas
 mod AlikeLemmas
 mod StreamLemmas
-mod WholeLemmas
+pub mod WholeLemmas
+mod DecidedLemmas
 mod MoveLemmas
 mod PieceLemmas
 mod PieceEnds

@@ -4,10 +4,11 @@ use Rattle.std.specs.Prelude.{Option}
 use Rattle.std.proofs.lemmas.List.{take-append-drop}
 use Rattle.std.proofs.Math.Seq.{take-add}
 use Rattle.nav_eph.specs.declared.items.NavItem.{NavItem}
-use Rattle.rtcm_frame.specs.Frames.{frames}
+use Rattle.rtcm_frame.specs.Frames.{decided, frames}
 use Rattle.rtcm_frame.specs.State.{TakesFrame, TakesNone}
 use Rattle.item_runs.specs.declared.counts.StreamCounts.{StreamCounts}
 use Rattle.item_runs.specs.Mirrors.{GivenState, StreamBreaks, StreamGoes, StreamMoves, StreamSoFar, StreamBroke, StreamStops}
+use Rattle.item_runs.proofs.DecidedLemmas.{decided_frame, decided_none}
 
 -- no frame was taken
 pub moves_nowhere : (r : ℕ) (front : List ℕ) (text : NavItem → List ℕ) (more : Bool) (rest : List ℕ) (w u : Option (List ℕ)) (given : GivenState) (c : StreamCounts)
@@ -15,6 +16,7 @@ pub moves_nowhere : (r : ℕ) (front : List ℕ) (text : NavItem → List ℕ) (
 moves_nowhere r front text more rest w u given c = record {
   frames_are = [];
   stream = λ following last. refl;
+  decides = λ following unfinished. refl;
   goes = λ past start begun far. subst (λ (l : List (List ℕ)). StreamSoFar r front text l start w begun u given c) (sym (append-nil past)) far;
 }
 
@@ -27,6 +29,10 @@ moves_more r front text more a b d frame w w1 w2 u u1 u2 g g1 g2 c c1 c2 first t
   stream = λ following last.
       first.stream following last ∙ ap (λ (l : List (List ℕ)). first.frames_are ++ l) (takes.stream following last)
       ∙ sym (append_assoc first.frames_are (frame ∷ []) (frames (d ++ following)));
+  decides = λ following unfinished.
+      first.decides following unfinished
+      ∙ ap (λ (l : List (List ℕ)). first.frames_are ++ l) (decided_frame b frame d (subst (λ (m : Bool). TakesFrame m b frame d) unfinished takes) following)
+      ∙ sym (append_assoc first.frames_are (frame ∷ []) (decided (d ++ following)));
   goes = λ past start begun far.
       subst (λ (l : List (List ℕ)). StreamSoFar r front text l start w2 begun u2 g2 c2) (append_assoc past first.frames_are (frame ∷ []))
       (goes (past ++ first.frames_are) start begun (first.goes past start begun far));
@@ -38,6 +44,9 @@ pub moves_none : (r : ℕ) (front : List ℕ) (text : NavItem → List ℕ) (mor
 moves_none r front text more a b d w w1 u u1 g g1 c c1 first none = record {
   frames_are = first.frames_are;
   stream = λ following last. first.stream following last ∙ ap (λ (l : List (List ℕ)). first.frames_are ++ l) (none.stream following last);
+  decides = λ following unfinished.
+      first.decides following unfinished
+      ∙ ap (λ (l : List (List ℕ)). first.frames_are ++ l) (decided_none b d (subst (λ (m : Bool). TakesNone m b d) unfinished none) following);
   goes = first.goes;
 }
 
@@ -66,6 +75,9 @@ moves_on r front text more a b d w w1 w2 u u1 u2 g g1 g2 c c1 c2 first second = 
   stream = λ following last.
       first.stream following last ∙ ap (λ (l : List (List ℕ)). first.frames_are ++ l) (second.stream following last)
       ∙ sym (append_assoc first.frames_are second.frames_are (frames (d ++ following)));
+  decides = λ following unfinished.
+      first.decides following unfinished ∙ ap (λ (l : List (List ℕ)). first.frames_are ++ l) (second.decides following unfinished)
+      ∙ sym (append_assoc first.frames_are second.frames_are (decided (d ++ following)));
   goes = λ past start begun far.
       subst (λ (l : List (List ℕ)). StreamSoFar r front text l start w2 begun u2 g2 c2) (append_assoc past first.frames_are second.frames_are)
       (second.goes (past ++ first.frames_are) start begun (first.goes past start begun far));
@@ -79,6 +91,9 @@ moves_fed r front text a b d w w1 u u1 g g1 c c1 moves = record {
   stream = λ following last.
       ap frames (append_assoc a d following) ∙ moves.stream (d ++ following) (λ never. cc)
       ∙ ap (λ (l : List ℕ). moves.frames_are ++ frames l) (sym (append_assoc b d following));
+  decides = λ following unfinished.
+      ap decided (append_assoc a d following) ∙ moves.decides (d ++ following) unfinished
+      ∙ ap (λ (l : List ℕ). moves.frames_are ++ decided l) (sym (append_assoc b d following));
   goes = moves.goes;
 }
 

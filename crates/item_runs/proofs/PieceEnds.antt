@@ -1,16 +1,17 @@
 -- How a run over the bytes of a stream ends: with all of them, or with a front of what they give.
-use Rattle.std.proofs.Common.{◌≡◌, ◌<◌, ◌^◌, ℕ, Bool, true, false, not, List, [], ◌++◌, take, ◌∙◌, subst, arith, append-nil}
-use Rattle.std.specs.Prelude.{Option, Result, Ok, Err, IfErr, OnErr}
+use Rattle.std.proofs.Common.{◌≡◌, ◌<◌, ◌^◌, ℕ, Bool, true, false, not, List, [], ◌++◌, take, ◌∙◌, refl, sym, ap, subst, arith, append-nil}
+use Rattle.std.specs.Prelude.{Option, Result, Ok, Err, IfErr, IsErrOf, OnErr}
 use Rattle.std.specs.Io.KnownBytes.{Consumes, IsAtEnd, Keeps}
 use Rattle.std.proofs.KnownBytes.{Consumes-trans, Consumes-kept}
 use Rattle.nav_eph.specs.declared.items.NavItem.{NavItem}
-use Rattle.rtcm_frame.specs.Frames.{frames}
-use Rattle.rtcm_frame.specs.State.{DeframerState}
+use Rattle.rtcm_frame.specs.Frames.{decided, frames}
+use Rattle.rtcm_frame.specs.State.{DeframerState, IsWaiting}
 use Rattle.run_texts.specs.declared.fault.BridgeFault.{BridgeFault}
 use Rattle.run_texts.specs.declared.fault.BridgeFault.TheVariants.{ReadFault, TooLong}
 use Rattle.item_runs.specs.declared.counts.StreamCounts.{StreamCounts}
 use Rattle.item_runs.specs.Streams.{readings, readings_output, readings_report}
-use Rattle.item_runs.specs.Mirrors.{GivenState, IsStreamFault, StreamAll, StreamBroke, StreamMoves, StreamPart, StreamSoFar, StreamStops}
+use Rattle.item_runs.specs.Mirrors.{GivenState, IsStreamFault, StreamAll, StreamBroke, StreamGoes, StreamMoves, StreamPart, StreamSettled, StreamSoFar, StreamStops}
+use Rattle.item_runs.proofs.DecidedLemmas.{decided_waiting}
 use Rattle.item_runs.proofs.MoveLemmas.{moves_fed, moves_on, stops_on}
 use Rattle.item_runs.proofs.PieceLemmas.{PiecesSoFar}
 use Rattle.item_runs.proofs.RecordLemmas.{whole_front}
@@ -21,6 +22,7 @@ moves_last : (r : ℕ) (front : List ℕ) (text : NavItem → List ℕ) (a b : L
 moves_last r front text a b w w1 u u1 g g1 c c1 moves = record {
   frames_are = moves.frames_are;
   stream = λ following last. moves.stream following (λ never. cc);
+  decides = λ following never. cc;
   goes = moves.goes;
 }
 
@@ -82,6 +84,21 @@ part_of_read r front text left l1 l2 w w1 u u1 g g1 c c1 state taken far kept = 
   too_long = λ never. cc;
 }
 
+-- exactly the decided frames were taken
+settled_frames : (bytes rest : List ℕ) (them : List (List ℕ)) → decided (bytes ++ []) ≡ them ++ decided (rest ++ []) → IsWaiting rest → them ≡ decided bytes
+settled_frames bytes rest them is waits =
+    sym (ap decided (sym (append-nil bytes)) ∙ is ∙ ap (λ (l : List ℕ). them ++ decided l) (append-nil rest)
+    ∙ ap (λ (l : List (List ℕ)). them ++ l) (decided_waiting rest waits) ∙ append-nil them)
+
+pub settled_by_read : (r : ℕ) (front : List ℕ) (text : NavItem → List ℕ) (left l1 l2 w w1 u u1 : Option (List ℕ)) (g g1 : GivenState) (c c1 : StreamCounts) (state : DeframerState) (taken : ℕ)
+    → PiecesSoFar r front text left l1 w w1 u u1 g g1 c c1 state taken → Keeps l1 l2 → StreamSettled r front text left l2 w w1 u u1 g g1 c c1
+settled_by_read r front text left l1 l2 w w1 u u1 g g1 c c1 state taken far kept = record {
+  taken = far.bytes;
+  consumes = Consumes-kept left l1 l2 far.bytes far.consumes kept;
+  goes = subst (λ (l : List (List ℕ)). StreamGoes r front text l w w1 u u1 g g1 c c1)
+      (settled_frames far.bytes state.rest far.moves.frames_are (far.moves.decides [] refl) far.may_feed.1) far.moves.goes;
+}
+
 -- too many bytes were there
 pub part_of_long : (r : ℕ) (front : List ℕ) (text : NavItem → List ℕ) (left l1 w w1 u u1 : Option (List ℕ)) (g g1 : GivenState) (c c1 : StreamCounts) (state : DeframerState) (taken : ℕ)
     → PiecesSoFar r front text left l1 w w1 u u1 g g1 c c1 state taken → taken ≡ 2 ^ 32 → StreamPart r front text left l1 w w1 u u1 g c TooLong
@@ -125,6 +142,13 @@ part_of_last r front text left l1 l2 w w1 w2 u u1 u2 g g1 c c1 old last taken n 
       stops = stops_on r front text false far.bytes old.rest w w1 w2 u u1 u2 g g1 c c1 (moves_last r front text far.bytes old.rest w w1 u u1 g g1 c c1 far.moves) from;
       too_long = λ is. absurd (not_long fault kind is);
     }
+
+-- taking a frame does not break off for a read
+pub no_read : {T : Type 0} {P : Type 0} (r : Result T BridgeFault) → IfErr r IsStreamFault → IsErrOf r ReadFault → P
+no_read r kind is = absurd (subst (λ x. IfErr x IsStreamFault) is kind)
+
+pub no_read_of : {T : Type 0} {P : Type 0} (fault : BridgeFault) → IsStreamFault fault → IsErrOf {T = T} (Err fault) ReadFault → P
+no_read_of fault kind is = no_read (Err fault) kind is
 
 -- what an answer that failed says, with its fault
 pub if_err2 : {T : Type 0} {P : Type 0} {Q R : BridgeFault → Type 0} (r : Result T BridgeFault) → OnErr r P → IfErr r Q → ((fault : BridgeFault) → P → Q fault → R fault) → IfErr r R

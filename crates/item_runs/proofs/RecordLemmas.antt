@@ -72,7 +72,7 @@ pub left_few : (s : RecordsState) → lines_left s ≤ 2 * 2 ^ 32 + 1
 left_few s = omega (arith, held_few s.kept)
 
 -- nothing was given
-pub follows_start : (f : Form) (text : ℕ → NavItem → List ℕ) (left w u : Option (List ℕ)) (s : RecordsState) (c : RinexCounts)
+unfoldable pub follows_start : (f : Form) (text : ℕ → NavItem → List ℕ) (left w u : Option (List ℕ)) (s : RecordsState) (c : RinexCounts)
     → Steps f left left s s [] → c ≡ counts_of_reads [] → FollowsReads f text left left s s w w u u c
 follows_start f text left w u s c none nothing = record {
   given = [];
@@ -84,7 +84,7 @@ follows_start f text left w u s c none nothing = record {
 }
 
 -- a record more was given
-pub follows_more : (f : Form) (text : ℕ → NavItem → List ℕ) (left l1 l2 w w1 w2 u u1 u2 : Option (List ℕ)) (s0 s1 s2 : RecordsState) (c : RinexCounts) (read : ItemRead)
+unfoldable pub follows_more : (f : Form) (text : ℕ → NavItem → List ℕ) (left l1 l2 w w1 w2 u u1 u2 : Option (List ℕ)) (s0 s1 s2 : RecordsState) (c : RinexCounts) (read : ItemRead)
     → Follow f → FollowsReads f text left l1 s0 s1 w w1 u u1 c → GivesRecord f l1 l2 s1 s2 read
     → Appends w1 w2 (read_text text read) → Appends u1 u2 (read_report read)
     → FollowsReads f text left l2 s0 s2 w w2 u u2 (counted c read)
@@ -150,7 +150,7 @@ part_of_break f text left l1 l2 w w1 u u1 s0 s1 s2 c NotThisForm follow far brea
 part_of_break f text left l1 l2 w w1 u u1 s0 s1 s2 c NoMemory follow far breaks = absurd breaks
 
 -- no record is left
-pub follows_all : (f : Form) (text : ℕ → NavItem → List ℕ) (left l1 l2 w w1 u u1 : Option (List ℕ)) (s0 s1 s2 : RecordsState) (c : RinexCounts)
+unfoldable pub follows_all : (f : Form) (text : ℕ → NavItem → List ℕ) (left l1 l2 w w1 u u1 : Option (List ℕ)) (s0 s1 s2 : RecordsState) (c : RinexCounts)
     → Follow f → FollowsReads f text left l1 s0 s1 w w1 u u1 c → GivesNone f l1 l2 s1 s2
     → FollowsAll f text left l2 s0 s2 w w1 u u1 c
 follows_all f text left l1 l2 w w1 u u1 s0 s1 s2 c follow far none = record {

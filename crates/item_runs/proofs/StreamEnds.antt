@@ -1,6 +1,6 @@
 -- A stream from its first byte to its end: what was taken of it is what its frames give.
 use Rattle.std.proofs.Common.{◌≡◌, ◌+◌, ℕ, false, List, [], ◌∷◌, ◌++◌, refl, sym, ap, ◌∙◌, subst, append_assoc, append-nil}
-use Rattle.std.specs.Prelude.{Option, IfSome, Ok, Err}
+use Rattle.std.specs.Prelude.{Option, IfSome, IsErrOf, Ok, Err}
 use Rattle.std.specs.Io.KnownBytes.{Appends}
 use Rattle.std.proofs.KnownBytes.{Appends-trans, Consumes-nil, Consumes-whole}
 use Rattle.nav_io.specs.Front.{AppendsFront, IsFront}
@@ -12,9 +12,9 @@ use Rattle.run_texts.specs.declared.fault.BridgeFault.{BridgeFault}
 use Rattle.run_texts.specs.declared.fault.BridgeFault.TheVariants.{TooLong}
 use Rattle.run_texts.specs.Runs.{RunsPart, RunsWhole, TakesTooMany, no_least}
 use Rattle.item_runs.specs.declared.counts.StreamCounts.{StreamCounts}
-use Rattle.item_runs.specs.Streams.{Reading, counts_of_readings, has, items_in, reading_report, readings, readings_output, readings_report, stream_counts, stream_counts_text, stream_output_by, stream_report}
-use Rattle.item_runs.specs.Mirrors.{GivenState, StreamAll, StreamPart, StreamSoFar, is_given, once_text}
-use Rattle.item_runs.proofs.FileLemmas.{between, front_longer, no_front}
+use Rattle.item_runs.specs.Streams.{Reading, RunsSettled, counts_of_readings, has, items_in, reading_report, readings, readings_output, readings_report, settled_output_by, settled_stream_report, stream_counts, stream_counts_text, stream_output_by, stream_report}
+use Rattle.item_runs.specs.Mirrors.{GivenState, StreamAll, StreamPart, StreamSettled, StreamSoFar, is_given, once_text}
+use Rattle.item_runs.proofs.FileLemmas.{between, err_same, front_longer, no_front}
 use Rattle.item_runs.proofs.RecordLemmas.{front_behind, whole_front}
 use Rattle.item_runs.proofs.StreamLemmas.{output_fault, output_item}
 
@@ -152,6 +152,24 @@ part_of_stream r front text left l1 w w1 w2 u u1 g c fault grew none nothing sam
       text = between w w2 (stream_output_by front text r part.taken) (subst (λ (l : List Reading). AppendsFront w w2 (readings_output front text l)) (sym read) out);
       report_text = front_longer u u1 (readings_report 1 (readings r (frames part.taken))) _ (subst (λ (l : List Reading). AppendsFront u u1 (readings_report 1 l)) (sym read) told);
     }
+
+-- a read failed
+pub settled_stream : (r : ℕ) (front : List ℕ) (text : NavItem → List ℕ) (left l1 w w1 w2 u u1 : Option (List ℕ)) (g g1 : GivenState) (c c1 : StreamCounts)
+    → Appends w w1 front → NoneGiven g → c ≡ counts_of_readings [] → Appends u u []
+    → StreamSettled r front text left l1 w1 w2 u u1 g g1 c c1
+    → RunsSettled (settled_output_by front text r) (settled_stream_report r) left l1 w w2 u u1
+settled_stream r front text left l1 w w1 w2 u u1 g g1 c c1 grew none nothing same settled =
+    let far = settled.goes [] w u (begins r front text w w1 u g c grew none nothing same) in
+    record {
+      taken = settled.taken;
+      consumes = settled.consumes;
+      text = far.output;
+      report_text = far.report;
+    }
+
+-- a fault is the same in every answer
+pub fault_in : {T U : Type 0} (fault other : BridgeFault) → IsErrOf {T = T} (Err fault) other → IsErrOf {T = U} (Err fault) other
+fault_in fault other is = ap (λ (x : BridgeFault). Err x) (err_same fault other _ _ refl refl is)
 
 -- too many bytes were there
 pub too_long_of_stream : (r : ℕ) (front : List ℕ) (text : NavItem → List ℕ) (left l1 w1 w2 u u1 : Option (List ℕ)) (g : GivenState) (c : StreamCounts) (fault : BridgeFault)

@@ -12,7 +12,7 @@ use Rattle.nav_eph.specs.declared.items.NavItem.TheVariants.{Gps, Gal, Ion}
 use Rattle.rtcm_eph.specs.Writing.{bytes_1019, bytes_1046}
 use Rattle.rtcm_eph.specs.declared.fault.MessageFault.{MessageFault}
 use Rattle.rtcm_eph.specs.declared.fault.MessageFault.TheVariants.{NoNumber, OtherMessage, Short, BadSat, BadTime, SpareSisa}
-use Rattle.rtcm_frame.specs.Frames.{frames}
+use Rattle.rtcm_frame.specs.Frames.{decided, frames}
 use Rattle.rinex_read.specs.Forms.{Form}
 use Rattle.nav_io.specs.declared.lines.LineFault.TheVariants as lines
 use Rattle.rinex_read.specs.States.{RecordsState, HeaderSteps, Steps, BreaksRecord, lines_left}
@@ -188,10 +188,12 @@ StreamBreaks r front text more written written_new reported reported_new given c
     (past : List (List ℕ)) (start begun : Option (List ℕ)) → StreamSoFar r front text past start written begun reported given counts
     → StreamBroke r front text (past ++ more) start written_new begun reported_new
 
--- Between two rests of bytes these frames are given and taken, which stand before those of the new rest, whatever bytes follow.
+-- Between two rests of bytes these frames are given and taken, which stand before those of the new rest, whatever bytes follow: among the
+-- frames of the bytes, and, where more bytes may come, among those that are decided.
 pub record StreamMoves (r : ℕ) (front : List ℕ) (text : NavItem → List ℕ) (more : Bool) (before after : List ℕ) (written written_new reported reported_new : Option (List ℕ)) (given given_new : GivenState) (counts counts_new : StreamCounts) : Type 0 where
   pub frames_are : List (List ℕ)
   pub stream : (following : List ℕ) → (more ≡ false → following ≡ []) → frames (before ++ following) ≡ frames_are ++ frames (after ++ following)
+  pub decides : (following : List ℕ) → more ≡ true → decided (before ++ following) ≡ frames_are ++ decided (after ++ following)
   pub goes : StreamGoes r front text frames_are written written_new reported reported_new given given_new counts counts_new
 
 -- Of these bytes frames are given, and the last of them is not taken to its end, whatever bytes follow.
@@ -214,6 +216,12 @@ pub record StreamPart (r : ℕ) (front : List ℕ) (text : NavItem → List ℕ)
   pub consumes : Consumes left left_new taken
   pub stops : StreamStops r front text false taken written written_new reported reported_new given counts
   pub too_long : fault ≡ TooLong → length taken ≡ 2 ^ 32
+
+-- These bytes were taken, and exactly their decided frames.
+pub record StreamSettled (r : ℕ) (front : List ℕ) (text : NavItem → List ℕ) (left left_new written written_new reported reported_new : Option (List ℕ)) (given given_new : GivenState) (counts counts_new : StreamCounts) : Type 0 where
+  pub taken : List ℕ
+  pub consumes : Consumes left left_new taken
+  pub goes : StreamGoes r front text (decided taken) written written_new reported reported_new given given_new counts counts_new
 
 -- no more frames were counted than there are
 abbrev pub AreFew : StreamCounts → Type 0

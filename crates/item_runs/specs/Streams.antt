@@ -1,9 +1,10 @@
 -- The items of a stream of RTCM frames, each at its first place only, and what is written and reported of the stream.
-use Rattle.std.specs.Prelude.{ℕ, ◌+◌, ◌||◌, Bool, false, if◌then◌else◌, List, [], ◌∷◌, ◌++◌, length, codes, map, sum, Result, Ok, Err}
+use Rattle.std.specs.Prelude.{ℕ, ◌+◌, ◌||◌, Bool, false, if◌then◌else◌, List, [], ◌∷◌, ◌++◌, length, codes, map, sum, Option, Result, Ok, Err}
 use Rattle.std.specs.List.{flat_map}
+use Rattle.std.specs.Io.KnownBytes.{Appends, Consumes}
 use Rattle.nav_eph.specs.Items.{same_item}
 use Rattle.nav_eph.specs.declared.items.NavItem.{NavItem}
-use Rattle.rtcm_frame.specs.Frames.{frames}
+use Rattle.rtcm_frame.specs.Frames.{decided, frames}
 use Rattle.rtcm_frame.specs.State.{payload_of}
 use Rattle.rtcm_eph.specs.Reading.{item_in}
 use Rattle.rtcm_eph.specs.declared.fault.MessageFault.{MessageFault}
@@ -114,3 +115,24 @@ stream_output to r bytes = stream_output_by (stream_front to) (stream_item to) r
 abbrev pub stream_report : ℕ → List ℕ → List ℕ
 stream_report r bytes =
     readings_report 1 (stream_readings r bytes) ++ stream_counts_text (stream_counts r bytes)
+
+-- what is read of the decided frames of the bytes: those that stay whatever bytes follow
+abbrev pub settled_readings : ℕ → List ℕ → List Reading
+settled_readings r bytes = readings r (decided bytes)
+
+-- what bytes settle of the output and of the report, whatever bytes follow: the text in front, and what the decided frames give
+abbrev pub settled_output_by : List ℕ → (NavItem → List ℕ) → ℕ → List ℕ → List ℕ
+settled_output_by front text r bytes = readings_output front text (settled_readings r bytes)
+
+abbrev pub settled_stream_output : StreamTo → ℕ → List ℕ → List ℕ
+settled_stream_output to r bytes = settled_output_by (stream_front to) (stream_item to) r bytes
+
+abbrev pub settled_stream_report : ℕ → List ℕ → List ℕ
+settled_stream_report r bytes = readings_report 1 (settled_readings r bytes)
+
+-- a read failed: these bytes were taken, and exactly what they settle was written and reported
+pub record RunsSettled (output report : List ℕ → List ℕ) (left left_new written written_new reported reported_new : Option (List ℕ)) : Type 0 where
+  pub taken : List ℕ
+  pub consumes : Consumes left left_new taken
+  pub text : Appends written written_new (output taken)
+  pub report_text : Appends reported reported_new (report taken)

@@ -47,8 +47,8 @@ pub struct RinexCounts {
 }
 
 impl RinexCounts {
-    // Nothing was counted.
-    pub(crate) fn new() -> RinexCounts
+    /// Nothing was counted.
+    pub fn new() -> RinexCounts
         ensures { result ≡ counts_of_reads [] }
     {
         RinexCounts {

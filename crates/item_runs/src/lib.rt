@@ -38,6 +38,6 @@ mod tests;
 pub use crate::counts::{RinexCounts, StreamCounts, file_counts_text};
 pub use crate::file::pass_header;
 pub use crate::files::{run_rinex, run_rinex3};
-pub use crate::records::{next_read, reason_word};
+pub use crate::records::{count_read, fault_of, next_read, reason_word};
 pub use crate::streams::run_stream;
 pub use crate::target::{RinexTo, StreamTo};

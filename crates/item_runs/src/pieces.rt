@@ -2,7 +2,7 @@
 
 ghost use Rattle.std.specs.Prelude.{◌≡◌, ◌+◌, ◌^◌, ◌<◌, ◌≤◌, [], false, length, IsTrue, IsErrOf, IfErr, OnOk};
 ghost use Rattle.run_texts.specs.Causes.{HasItsCause, faults_of};
-ghost use Rattle.item_runs.specs.Mirrors.{StreamAll, StreamPart};
+ghost use Rattle.item_runs.specs.Mirrors.{StreamAll, StreamPart, StreamSettled};
 ghost use Rattle.item_runs.specs.Streams.{counts_of_readings};
 
 use crate::counts::StreamCounts;
@@ -34,6 +34,10 @@ pub(crate) fn follow_pieces<O: Outlet, S: Source, T: Sink, U: Sink>(
     ensures part { IfErr result (StreamPart r (O.front outlet.now) (O.text outlet.now 0)
         (S.left input.old) (S.left input.new) (T.written output.old) (T.written output.new)
         (U.written report.old) (U.written report.new) given.old counts.old) }
+    ensures exact { IsErrOf result BridgeFault.ReadFault → StreamSettled r
+        (O.front outlet.now) (O.text outlet.now 0) (S.left input.old) (S.left input.new)
+        (T.written output.old) (T.written output.new) (U.written report.old)
+        (U.written report.new) given.old given.new counts.old counts.new }
     ensures cause { HasItsCause
         (faults_of (S.faults input.old) (T.faults output.old) (U.faults report.old))
         (faults_of (S.faults input.new) (T.faults output.new) (U.faults report.new)) result }

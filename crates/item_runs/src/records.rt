@@ -18,8 +18,8 @@ use nav_io::{Failed, LineFault, Sink, Source};
 use rinex_read::{FileForm, ItemRead, Reason, RecordReader, steps_follow_one_another};
 use run_texts::{BridgeFault, report_text};
 
-// The fault of a run whose lines broke off so.
-pub(crate) fn fault_of(fault: LineFault) -> BridgeFault
+/// The fault of a run whose lines broke off so.
+pub fn fault_of(fault: LineFault) -> BridgeFault
     ensures { result ≡ fault_by fault }
 {
     match fault {
@@ -84,8 +84,8 @@ fn tell_read<O: Outlet, T: Sink, U: Sink>(
     }
 }
 
-// Counts a record.
-fn count_read(read: &ItemRead, counts: &mut RinexCounts)
+/// Counts a record.
+pub fn count_read(read: &ItemRead, counts: &mut RinexCounts)
     requires record { IsRecord read.now }
     requires room { counts.old.records + 1 < 2 ^ 64 }
     requires counted { AreCounted counts.old }

@@ -4,6 +4,7 @@ ghost use Rattle.std.specs.Prelude.{◌≡◌, ◌^◌, ◌<◌, ◌≤◌, leng
 ghost use Rattle.std.specs.Io.KnownBytes.{Appends};
 ghost use Rattle.run_texts.specs.Causes.{HasItsCause, faults_of};
 ghost use Rattle.run_texts.specs.Runs.{RunsPart, RunsWhole, TakesTooMany, no_least};
+ghost use Rattle.item_runs.specs.Streams.{RunsSettled, settled_output_by, settled_stream_report};
 ghost use Rattle.item_runs.specs.Streams.{stream_counts, stream_output_by, stream_report};
 
 use crate::counts::{StreamCounts, stream_counts_text};
@@ -38,6 +39,10 @@ pub(crate) fn follow_stream<O: Outlet, S: Source, T: Sink, U: Sink>(
         (stream_report r) (S.left input.old) (S.left input.new)
         (T.written output.old) (T.written output.new)
         (U.written report.old) (U.written report.new)) }
+    ensures exact { IsErrOf result BridgeFault.ReadFault → RunsSettled
+        (settled_output_by (O.front outlet.now) (O.text outlet.now 0) r) (settled_stream_report r)
+        (S.left input.old) (S.left input.new) (T.written output.old) (T.written output.new)
+        (U.written report.old) (U.written report.new) }
     ensures cause { HasItsCause
         (faults_of (S.faults input.old) (T.faults output.old) (U.faults report.old))
         (faults_of (S.faults input.new) (T.faults output.new) (U.faults report.new)) result }

@@ -4,7 +4,9 @@ ghost use Rattle.std.specs.Prelude.{◌≡◌, ◌⊎◌, ◌^◌, ◌<◌, ◌�
 ghost use Rattle.std.specs.Io.KnownBytes.{Appends};
 ghost use Rattle.nav_io.specs.Causes.{Rose};
 ghost use Rattle.run_texts.specs.Runs.{RunsPart, RunsWhole, TakesTooMany, no_least};
-ghost use Rattle.item_runs.specs.Streams.{stream_counts, stream_output, stream_report};
+ghost use Rattle.item_runs.specs.Streams.{RunsSettled, settled_stream_output};
+ghost use Rattle.item_runs.specs.Streams.{settled_stream_report, stream_counts, stream_output};
+ghost use Rattle.item_runs.specs.Streams.{stream_report};
 ghost use Rattle.item_runs.specs.Targets.{HasStreamLeap};
 
 use crate::counts::StreamCounts;
@@ -26,7 +28,8 @@ use std::alloc::Global;
 /// # Errors
 ///
 /// - `ReadFault`, `WriteFault`, `ReportFault` only where the count of faults of the input, the output or the report rose, or
-///   stands at its last value.
+///   stands at its last value. After a failed read exactly what the frames give that are decided
+///   by the bytes taken, whatever bytes follow, was written and reported.
 /// - `TooLong` only where 4,294,967,295 bytes were taken and one more was there.
 /// - `NoMemory` for want of memory: what is kept of each item is the 61 or 63 bytes of its message.
 pub fn run_stream<S: Source, T: Sink, U: Sink>(
@@ -50,7 +53,13 @@ pub fn run_stream<S: Source, T: Sink, U: Sink>(
     ensures counts { IfOk result (λ counts. IfSome (S.left input.old) (λ bytes.
         counts ≡ stream_counts r bytes)) }
 
-    // After a fault a front of what the bytes that were taken give was written and reported.
+    // After a failed read exactly what the decided frames give was written and reported.
+    ensures exact { IsErrOf result BridgeFault.ReadFault → RunsSettled
+        (settled_stream_output to.now r) (settled_stream_report r)
+        (S.left input.old) (S.left input.new) (T.written output.old) (T.written output.new)
+        (U.written report.old) (U.written report.new) }
+
+    // After every fault a front of what the bytes that were taken give was written and reported.
     ensures part { OnErr result (RunsPart (stream_output to.now r) no_least (stream_report r)
         (S.left input.old) (S.left input.new) (T.written output.old) (T.written output.new)
         (U.written report.old) (U.written report.new)) }

@@ -82,14 +82,14 @@ at_output (Err TooLong) s h (inr (inl e)) = absurd (omega (arith, h, e))
 at_output (Err TooLong) s h (inr (inr e)) = absurd (omega (arith, h, e))
 
 -- a run that is done, or found no memory
-completed : {C : Type 0} (r : Result C BridgeFault) (s : ℕ) (M : Type 0) → Ended r s → IsOk r ⊎ (IsErrOf r NoMemory × M) → (s ≡ 0) ⊎ ((s ≡ 6) × M)
+completed : {C : Type 0} (r : Result C BridgeFault) (s : ℕ) (M : Type 0) → Ended r s → IsOk r ⊎ (IsErrOf r NoMemory × M) → (s ≡ 0) ⊎ (s ≡ 6)
 completed (Ok x) s M h e = inl h
 completed (Err f) s M h (inl e) = absurd (let no : false ≡ true = e in cc)
-completed (Err f) s M h (inr (e, m)) = inr (h ∙ ap fault_status (let same : f ≡ NoMemory = cc in same), m)
+completed (Err f) s M h (inr (e, m)) = inr (h ∙ ap fault_status (let same : f ≡ NoMemory = cc in same))
 
 pub completes : {C : Type 0} (r : Result C BridgeFault) (s : ℕ) (job : Job) (o : Option (List ℕ)) (A B D : Type 0) → Ended r s
     → IfSome o (λ bytes. length bytes < 2 ^ 32 → Accepts job bytes → (A → ⊥) → (B → ⊥) → IsSilent job ⊎ (D → ⊥) → IsOk r ⊎ (IsErrOf r NoMemory × TakesMemory job))
-    → IfSome o (λ bytes. length bytes < 2 ^ 32 → Accepts job bytes → (A → ⊥) → (B → ⊥) → IsSilent job ⊎ (D → ⊥) → (s ≡ 0) ⊎ ((s ≡ 6) × TakesMemory job))
+    → IfSome o (λ bytes. length bytes < 2 ^ 32 → Accepts job bytes → (A → ⊥) → (B → ⊥) → IsSilent job ⊎ (D → ⊥) → (s ≡ 0) ⊎ (s ≡ 6))
 completes r s job None A B D status h = tt
 completes r s job (Some bytes) A B D status h = λ low accepts a b silent. completed r s (TakesMemory job) status (h low accepts a b silent)
 

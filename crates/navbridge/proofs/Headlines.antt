@@ -3,7 +3,6 @@ use Rattle.std.proofs.Common.{◌≡◌, ℕ, List, [], ◌∷◌, ◌++◌, ref
 use Rattle.std.specs.Prelude.{Option, Some}
 use Rattle.std.specs.List.{flat_map}
 use Rattle.std.proofs.lemmas.Grind.{flat_map-append}
-use Rattle.nav_eph.specs.declared.items.NavItem.{NavItem}
 use Rattle.period_items.specs.PeriodLists.{item_in, items_in}
 use Rattle.period_items.specs.declared.closed.Closed.{Closed}
 use Rattle.period_items.specs.declared.closed.Verdict.{Verdict}

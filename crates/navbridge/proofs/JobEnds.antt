@@ -1,13 +1,22 @@
 -- How a job ended, by its run.
-use Rattle.std.proofs.Common.{◌≡◌, ℕ, List, [], Option, Some, None, Result, Ok, Err, refl, sym, append-nil, subst}
+use Rattle.std.proofs.Common.{◌≡◌, ℕ, List, [], Option, Some, None, Result, Ok, Err, refl, sym, append-nil, subst, ◌∙◌}
 use Rattle.std.specs.Prelude.{MatchResult, IfErr, IfSome, IsErrOf, OnOk, OnErr}
-use Rattle.std.specs.Io.KnownBytes.{Appends}
+use Rattle.std.specs.Io.KnownBytes.{Appends, Consumes}
+use Rattle.bridge_engine.specs.Captures.{least_output, output_of, report_of_capture}
+use Rattle.bridge_engine.specs.declared.target.CaptureTo.TheVariants as captures
+use Rattle.nav_vectors.specs.Text.{capture_text}
+use Rattle.seed_runs.specs.declared.target.SeedTo.{SeedTo}
+use Rattle.seed_runs.specs.declared.target.SeedTo.TheVariants as seeds
+use Rattle.seed_runs.specs.Seeds.{SeedBroke}
 use Rattle.bridge_engine.specs.FrameLines.{line_of}
 use Rattle.bridge_engine.specs.FrameRuns.{RunsPart as FramesPart}
 use Rattle.run_texts.specs.Runs.{RunsPart}
 use Rattle.run_texts.specs.declared.fault.BridgeFault.{BridgeFault}
-use Rattle.navbridge.specs.declared.job.Job.TheVariants.{StreamToFrames}
-use Rattle.navbridge.specs.JobTexts.{out_of, report_of, least_of, Stops}
+use Rattle.navbridge.specs.declared.job.Job.TheVariants.{StreamToFrames, Capture, Stream, Rinex, Rinex3, SendRinex, SendRinex3, Seed}
+use Rattle.navbridge.specs.declared.job.Job.{Job}
+use Rattle.navbridge.specs.declared.job.StreamJob.{StreamJob}
+use Rattle.item_runs.specs.Streams.{RunsSettled, settled_stream_output, settled_stream_report}
+use Rattle.navbridge.specs.JobTexts.{out_of, report_of, least_of, Breaks, Stops}
 
 -- the same end, without what was counted
 abbrev pub Ends : {C : Type 0} → Result C BridgeFault → Result (Unit {0}) BridgeFault → Type 0
@@ -29,6 +38,22 @@ at_err (Err g) f P is p = p
 pub always : (result : Result (Unit {0}) BridgeFault) (P : Type 0) → P → OnOk result P
 always (Ok x) P p = p
 always (Err f) P p = tt
+
+-- a fault that it ended with is the fault of its run
+pub run_ends : {C : Type 0} (run : Result C BridgeFault) (result : Result (Unit {0}) BridgeFault) (f : BridgeFault) → Ends run result → IsErrOf result f → IsErrOf run f
+run_ends (Ok x) result f e is = absurd (let done : result ≡ Ok tt = e in let broke : result ≡ Err f = is in cc)
+run_ends (Err g) result f e is = let broke : result ≡ Err g = e in let as : result ≡ Err f = is in cc
+
+-- what a run over the ephemerides of a stream leaves where a read failed
+pub stream_stop : (job : StreamJob) (l l' w w' u u' : Option (List ℕ))
+    → RunsSettled (settled_stream_output job.to job.week) (settled_stream_report job.week) l l' w w' u u' → Stops (Stream job) l l' w w'
+stream_stop job l l' w w' u u' s = record {
+  taken = s.taken;
+  consumes = s.consumes;
+  text = settled_stream_output job.to job.week s.taken;
+  stops = refl;
+  grew = s.text;
+}
 
 -- nothing is written
 none_written : (left : Option (List ℕ)) → Appends left left []
@@ -52,3 +77,52 @@ frames_part l l' w w' u f part = record {
   text = record { front = part.text.0; within = part.text.1; no_less = (part.text.0, refl); grew = part.text.2 };
   report_text = ([], ([], refl), none_written u);
 }
+
+-- ---- a job that was not begun
+
+none_taken : (left : Option (List ℕ)) → Consumes left left []
+none_taken None = tt
+none_taken (Some xs) = refl
+
+least_of_none : (job : Job) → least_of job [] ≡ []
+unfolding least_output
+least_of_none StreamToFrames = refl
+least_of_none (Capture job) = refl
+least_of_none (Stream job) = refl
+least_of_none (Rinex to) = refl
+least_of_none (Rinex3 to) = refl
+least_of_none (SendRinex week) = refl
+least_of_none (SendRinex3 week) = refl
+least_of_none (Seed job) = refl
+
+none_of_it : (job : Job) (l w u : Option (List ℕ)) → RunsPart (out_of job) (least_of job) (report_of job) l l w w u u
+none_of_it job l w u = record {
+  taken = [];
+  consumes = none_taken l;
+  text = record {
+    front = [];
+    within = (out_of job [], refl);
+    no_less = ([], sym (append-nil (least_of job []) ∙ least_of_none job));
+    grew = none_written w;
+  };
+  report_text = ([], (report_of job [], refl), none_written u);
+}
+
+seed_not_begun : (to : SeedTo) (seed n r : ℕ) (w u : Option (List ℕ)) → SeedBroke to seed n r w w u u
+seed_not_begun seeds.Capture seed n r w u = ([], (capture_text seed n r, refl), none_written w)
+seed_not_begun seeds.Count seed n r w u = record {
+  taken = [];
+  within = (capture_text seed n r, refl);
+  wrote = ([], (output_of captures.Count (Some r) [], refl), none_written w);
+  told = ([], (report_of_capture (Some r) [], refl), none_written u);
+}
+
+pub not_begun : (job : Job) (l w u : Option (List ℕ)) → Breaks job l l w w u u
+not_begun StreamToFrames l w u = none_of_it StreamToFrames l w u
+not_begun (Capture job) l w u = none_of_it (Capture job) l w u
+not_begun (Stream job) l w u = none_of_it (Stream job) l w u
+not_begun (Rinex to) l w u = none_of_it (Rinex to) l w u
+not_begun (Rinex3 to) l w u = none_of_it (Rinex3 to) l w u
+not_begun (SendRinex week) l w u = none_of_it (SendRinex week) l w u
+not_begun (SendRinex3 week) l w u = none_of_it (SendRinex3 week) l w u
+not_begun (Seed job) l w u = seed_not_begun job.to job.seed job.sats job.week w u

@@ -3,8 +3,6 @@ mod DigitTexts
 mod Ends
 mod Headlines
 mod JobEnds
-mod Listings
 mod OneJob
 mod RowJobs
 mod TableRows
-mod Spellings

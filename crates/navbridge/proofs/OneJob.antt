@@ -2,10 +2,9 @@
 use Rattle.std.proofs.Common.{◌≡◌, ℕ, List, Option, Some, None, refl, sym, ap, ◌∙◌, subst}
 use Rattle.navbridge.specs.declared.job.Job.{Job}
 use Rattle.navbridge.specs.declared.values.Values.{Values}
-use Rattle.navbridge.specs.Options.{Choice, Given, GiveValues, HaveValues}
+use Rattle.job_words.specs.Options.{Given}
+use Rattle.job_words.proofs.Surface.{same_given}
 use Rattle.navbridge.specs.Job.{IsWeekText, IsLeapText, IsDateText, IsSeedText, IsSatsText, Reads, ReadsAs, Row, Asks, IsJob, row_of}
-use Rattle.navbridge.proofs.Spellings.{spells_once}
-use Rattle.navbridge.proofs.Listings.{holds_once}
 use Rattle.navbridge.proofs.RowJobs.{same_job}
 
 pub reads_once : {A : Type 0} (kind : List ℕ → A → Type 0) → ((t : List ℕ) (a b : A) → kind t a → kind t b → a ≡ b)
@@ -36,24 +35,6 @@ reads_same g v w a b =
     (reads_once IsDateText (λ t x y p q. p.same ∙ sym q.same) g.date v.date w.date a.date b.date)
     (reads_once IsSeedText (λ t x y p q. sym p.0.value ∙ q.0.value) g.seed v.seed w.seed a.seed b.seed)
     (reads_once IsSatsText (λ t x y p q. sym p.0.value ∙ q.0.value) g.sats v.sats w.sats a.sats b.sats)
-
--- words give one list of values
-abbrev given : Option (List ℕ) → Option (List ℕ) → Option (List ℕ) → Option (List ℕ) → Option (List ℕ) → Option (List ℕ) → Option (List ℕ) → Given
-given from to week leap date seed sats =
-    record { from = from; to = to; week = week; leap = leap; date = date; seed = seed; sats = sats }
-
-pub same_given : (words : List (List ℕ)) (g h : Given) → GiveValues words g → GiveValues words h → g ≡ h
-same_given words g h (s, v) (t, w) =
-    let one = spells_once words s.options t.options s.spelled t.spelled in
-    let w : HaveValues s.options h = subst (λ (os : List Choice). HaveValues os h) (sym one) w in
-    let both = holds_once s.options s.once in
-    ap (λ (x : Option (List ℕ)). given x g.to g.week g.leap g.date g.seed g.sats) (both _ _ _ v.from w.from)
-    ∙ ap (λ (x : Option (List ℕ)). given h.from x g.week g.leap g.date g.seed g.sats) (both _ _ _ v.to w.to)
-    ∙ ap (λ (x : Option (List ℕ)). given h.from h.to x g.leap g.date g.seed g.sats) (both _ _ _ v.week w.week)
-    ∙ ap (λ (x : Option (List ℕ)). given h.from h.to h.week x g.date g.seed g.sats) (both _ _ _ v.leap w.leap)
-    ∙ ap (λ (x : Option (List ℕ)). given h.from h.to h.week h.leap x g.seed g.sats) (both _ _ _ v.date w.date)
-    ∙ ap (λ (x : Option (List ℕ)). given h.from h.to h.week h.leap h.date x g.sats) (both _ _ _ v.seed w.seed)
-    ∙ ap (λ (x : Option (List ℕ)). given h.from h.to h.week h.leap h.date h.seed x) (both _ _ _ v.sats w.sats)
 
 -- a row has one list of values, and one job
 inside : (a b : List ℕ) → Some a ≡ Some b → a ≡ b

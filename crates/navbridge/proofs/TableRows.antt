@@ -3,10 +3,11 @@ use Rattle.std.proofs.Common.{◌≡◌, ℕ, List, Option, Some, None, sym, ap,
 use Rattle.std.specs.Prelude.{MatchOption}
 use Rattle.navbridge.specs.declared.job.Job.{Job}
 use Rattle.navbridge.specs.declared.values.Values.{Values}
-use Rattle.navbridge.specs.Options.{Given, GiveValues}
+use Rattle.job_words.specs.Options.{Given, GiveValues}
 use Rattle.navbridge.specs.Found.{IsRow}
 use Rattle.navbridge.specs.Job.{ReadsAs, row_of, Asks, IsJob, GivesJob}
-use Rattle.navbridge.proofs.OneJob.{reads_same, same_given, same_values}
+use Rattle.job_words.proofs.Surface.{same_given}
+use Rattle.navbridge.proofs.OneJob.{reads_same, same_values}
 
 asks_in : (g : Given) (v : Values) (from to : List ℕ) (job : Job) → g.from ≡ Some from → g.to ≡ Some to → ReadsAs g v → IsRow (row_of job) from to v → Asks g job
 asks_in g v from to job f t reads (ef, et, w, l, d, s, n) = record {
@@ -43,3 +44,7 @@ pub gives : (words : List (List ℕ)) (g : Given) (r : Option Job) → GiveValue
 gives words g None values none = λ given.
     none given.0 (subst (λ (h : Given). Asks h given.0) (same_given words given.1.given g given.1.options values) given.1.asks)
 gives words g (Some job) values asks = record { given = g; options = values; asks = asks }
+
+-- the job that was found is one that the words give
+pub given_job : (words : List (List ℕ)) (r : Option Job) (job : Job) → r ≡ Some job → MatchOption r (GivesJob words → ⊥) (λ j. IsJob words j) → IsJob words job
+given_job words r job is h = subst (λ (o : Option Job). MatchOption o (GivesJob words → ⊥) (λ j. IsJob words j)) is h

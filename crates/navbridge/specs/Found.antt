@@ -1,21 +1,7 @@
--- What the reader of words found, as texts and rows: for its private functions alone.
-use Rattle.std.specs.Prelude.{◌≡◌, ℕ, List, option_map}
-use Rattle.navbridge.specs.declared.options.Found.{Found}
+-- The values that were found, as rows of the table: for private functions alone.
+use Rattle.std.specs.Prelude.{◌≡◌, ℕ, List}
 use Rattle.navbridge.specs.declared.values.Values.{Values}
 use Rattle.navbridge.specs.Job.{Row, Target}
-use Rattle.navbridge.specs.Options.{Given}
-
--- the texts by their names
-abbrev pub given_of : Found → Given
-given_of found = record {
-  from = option_map (λ text. text.now) found.from;
-  to = option_map (λ text. text.now) found.to;
-  week = option_map (λ text. text.now) found.week;
-  leap = option_map (λ text. text.now) found.leap;
-  date = option_map (λ text. text.now) found.date;
-  seed = option_map (λ text. text.now) found.seed;
-  sats = option_map (λ text. text.now) found.sats;
-}
 
 -- the target has this word, and the values those of its header
 abbrev pub IsTarget : Target → List ℕ → Values → Type 0

@@ -17,7 +17,7 @@ use Rattle.navbridge.specs.declared.job.Job.{Job}
 use Rattle.navbridge.specs.declared.job.SeedJob.{SeedJob}
 use Rattle.navbridge.specs.declared.job.Job.TheVariants.{StreamToFrames, Capture, Stream, Rinex, Rinex3, SendRinex, SendRinex3, Seed}
 use Rattle.navbridge.specs.declared.values.Values.{Values}
-use Rattle.navbridge.specs.Options.{Given, GiveValues}
+use Rattle.job_words.specs.Options.{Given, GiveValues}
 
 -- one to ten decimal digits write the number
 pub record Writes (text : List ℕ) (number : ℕ) : Type 0 where

@@ -9,7 +9,7 @@ use Rattle.rinex_read.specs.Files.{file_reads}
 use Rattle.rinex_read.specs.Forms.{rinex4}
 use Rattle.rinex3_nav.specs.Form3.{rinex3}
 use Rattle.item_runs.specs.Files.{file_output, file_report}
-use Rattle.item_runs.specs.Streams.{stream_output, stream_report}
+use Rattle.item_runs.specs.Streams.{settled_stream_output, stream_output, stream_report}
 use Rattle.send_runs.specs.Sends.{send_output, send_report}
 use Rattle.run_texts.specs.Runs.{RunsPart}
 use Rattle.seed_runs.specs.Seeds.{SeedBroke, seed_output, seed_report}
@@ -85,11 +85,12 @@ least_of (SendRinex3 week) bytes = []
 least_of (Seed job) bytes = []
 
 -- What is written where a read fails once the bytes were taken: of a capture exactly what the lines that have ended close, of
--- a stream and of a navigation file a front of the whole. No read fails of a job that reads nothing.
+-- the ephemerides of a stream exactly what the decided frames give, of the frames themselves and of a navigation file a front
+-- of the whole. No read fails of a job that reads nothing.
 abbrev pub StopsWith : Job → List ℕ → List ℕ → Type 0
 StopsWith StreamToFrames bytes text = IsFront text (out_of StreamToFrames bytes)
 StopsWith (Capture job) bytes text = text ≡ settled_output job.to job.week bytes
-StopsWith (Stream job) bytes text = IsFront text (out_of (Stream job) bytes)
+StopsWith (Stream job) bytes text = text ≡ settled_stream_output job.to job.week bytes
 StopsWith (Rinex to) bytes text = IsFront text (out_of (Rinex to) bytes)
 StopsWith (Rinex3 to) bytes text = IsFront text (out_of (Rinex3 to) bytes)
 StopsWith (SendRinex week) bytes text = IsFront text (out_of (SendRinex week) bytes)
@@ -128,7 +129,7 @@ IsSilent (SendRinex week) = ⊥
 IsSilent (SendRinex3 week) = ⊥
 IsSilent (Seed job) = job.to ≡ seeds.Capture
 
--- a job that takes memory
+-- a job whose run takes memory
 abbrev pub TakesMemory : Job → Type 0
 TakesMemory StreamToFrames = ⊥
 TakesMemory (Capture job) = Unit {0}

@@ -1,4 +1,3 @@
-pub mod Options
 pub mod Job
 pub mod JobTexts
 pub mod Found

@@ -1,17 +1,18 @@
 //! The conversions that the program does.
 
-ghost use Rattle.std.specs.Prelude.{MatchOption, map};
+ghost use Rattle.std.specs.Prelude.{IfOk, MatchOption, map};
 ghost use Rattle.std.specs.String.{string_bytes};
 ghost use Rattle.navbridge.specs.Job.{IsJob, GivesJob, Asks};
-ghost use Rattle.navbridge.specs.Found.{given_of};
+ghost use Rattle.job_words.specs.Found.{given_of};
 
-use crate::options::{Found, options_of};
 use crate::table::job_in;
 use crate::values::values_of;
 use bridge_engine::CaptureTo;
 use gnss_week::RefWeek;
 use item_runs::{RinexTo, StreamTo};
+use job_words::{Found, options_of};
 use seed_runs::SeedTo;
+use std::alloc::{AllocError, Global};
 
 /// Which conversion the words ask for.
 #[derive(Clone, Copy, Debug, PartialEq, Eq)]
@@ -68,12 +69,19 @@ pub struct SeedJob {
 
 /// The job that the words give, where they give one: they spell the options of one row of the table
 /// of jobs, in any order, each once and each in its range.
-pub fn job_of(words: &[String]) -> Option<Job>
-    ensures { MatchOption result (¬ GivesJob (map string_bytes words.now))
-        (IsJob (map string_bytes words.now)) }
+///
+/// # Errors
+///
+/// There was no memory to read the words.
+pub fn job_of(alloc: Global, words: &[String]) -> Result<Option<Job>, AllocError>
+    ensures { IfOk result (λ r. MatchOption r (¬ GivesJob (map string_bytes words.now))
+        (IsJob (map string_bytes words.now))) }
 {
-    let found = options_of(words)?;
-    job_with(&found)
+    let spelled = options_of(alloc, words)?;
+    match spelled {
+        None => Ok(None),
+        Some(found) => Ok(job_with(&found)),
+    }
 }
 
 // The job that has exactly these options, each in its range.
@@ -84,6 +92,6 @@ fn job_with(found: &Found) -> Option<Job>
     let (from, to) = (found.from?, found.to?);
     match values_of(found) {
         None => None,
-        Some(values) => job_in(from, to, &values),
+        Some(values) => job_in(from.as_bytes(), to.as_bytes(), &values),
     }
 }

@@ -1,15 +1,8 @@
 //! Laws of the definitions, each on a function with an empty body.
 
 ghost use Rattle.std.specs.Prelude.{◌≡◌, ℕ, List};
-ghost use Rattle.navbridge.specs.Options.{Choice, Spells};
 ghost use Rattle.navbridge.specs.declared.job.Job.{Job};
 ghost use Rattle.navbridge.specs.Job.{IsJob};
-
-/// Words spell one list of options at most.
-pub fn words_spell_options_in_one_way()
-    ensures { (words : List (List ℕ)) (options others : List Choice)
-        → Spells words options → Spells words others → options ≡ others }
-{}
 
 /// Words give one job at most.
 pub fn words_give_one_job()

@@ -27,7 +27,6 @@ mod file_rows;
 mod health_rows;
 mod job;
 mod laws;
-mod options;
 #[cfg(test)]
 mod over_memory;
 #[cfg(test)]
@@ -48,7 +47,6 @@ mod tests;
 #[cfg(test)]
 mod texts;
 mod values;
-mod words;
 
 // No memory for the list of words.
 const NO_MEMORY: u8 = 6;

@@ -1,6 +1,6 @@
 //! The top call: the words of the command line, an input, an output and a report, and the status.
 
-ghost use Rattle.std.specs.Prelude.{◌≡◌, ◌≢◌, ◌^◌, ◌<◌, ◌≤◌, ◌↔◌, ◌⊎◌, ℕ, Option, Some, Result, length, map, IsTrue, IfSome, IfOk, OnOk, IsErrOf, MatchResult};
+ghost use Rattle.std.specs.Prelude.{◌≡◌, ◌≢◌, ◌^◌, ◌<◌, ◌≤◌, ◌⊎◌, ℕ, Option, Some, Result, length, map, IsTrue, IfSome, IfOk, OnOk, IsErrOf, MatchResult};
 ghost use Rattle.std.specs.String.{string_bytes};
 ghost use Rattle.std.specs.Io.KnownBytes.{Appends, IsAtEnd};
 ghost use Rattle.nav_io.specs.Causes.{Rose};
@@ -18,23 +18,26 @@ use crate::job::{Job, job_of};
 use crate::run::run_job;
 use bridge_engine::BridgeFault;
 use nav_io::{Sink, Source};
-use std::alloc::Global;
+use std::alloc::{AllocError, Global};
 
 /// Does the job that the words give, and answers the status.
 ///
 /// | Status | Comes |
 /// |---|---|
 /// | 0 | the input was read to its end, where the job reads one, and all was written |
-/// | 2 | exactly where the words give no job; nothing is read or written |
+/// | 2 | where the words give no job, and only there; nothing is read or written |
 /// | 3 | only where the input failed: its count of faults rose, or stands at its last value |
 /// | 4 | only where the output failed: its count of faults rose, or stands at its last value |
 /// | 5 | exactly where the first line of a capture, or the header of a navigation file, is refused, and nothing failed before |
-/// | 6 | for want of memory, and never in a job from a navigation file nor in that from a stream to frames |
+/// | 6 | for want of memory |
 /// | 7 | only where the report failed: its count of faults rose, or stands at its last value |
 /// | 8 | only where 4,294,967,295 bytes of input were taken and one more was there |
 ///
 /// The first line of a capture is accepted for the week of the words, where they name one; the header of a navigation file
 /// is that of its form, whichever was asked for.
+///
+/// The words are read in memory. Where they give no job, the status is 2, or 6 for want of that memory. A job from a navigation
+/// file, and that from a stream to frames, take no more: where one of them ends with 6, nothing was read or written.
 ///
 /// After 3, 4, 6, 7 and 8 the output has a front of what the bytes that were taken would give; after 3 in a capture exactly
 /// what is closed by the lines that have ended. The jobs `--from stream --to frames` and `--from seed --to capture` write
@@ -59,10 +62,14 @@ pub fn bridge<S: Source, T: Sink, U: Sink>(
     ensures statuses { (result ≡ 0) ⊎ ((result ≡ 2) ⊎ ((result ≡ 3) ⊎ ((result ≡ 4) ⊎ ((result ≡ 5)
         ⊎ ((result ≡ 6) ⊎ ((result ≡ 7) ⊎ (result ≡ 8))))))) }
 
-    // The words alone decide whether there is a job.
-    ensures no_job { (result ≡ 2) ↔ ¬ GivesJob (map string_bytes words.now) }
+    // The words alone decide whether there is a job, where there is memory to read them.
+    ensures no_job { result ≡ 2 → ¬ GivesJob (map string_bytes words.now) }
+    ensures no_job_ends { ¬ GivesJob (map string_bytes words.now) → (result ≡ 2) ⊎ (result ≡ 6) }
     ensures untouched { result ≡ 2 → (input.new ≡ input.old) × (output.new ≡ output.old)
         × (report.new ≡ report.old) }
+    ensures unread { result ≡ 6
+        → ((job : Job) → IsJob (map string_bytes words.now) job → ¬ TakesMemory job)
+        → (input.new ≡ input.old) × (output.new ≡ output.old) × (report.new ≡ report.old) }
 
     // A job that is done read the input to its end, where it reads one, and met no fault.
     ensures end { (job : Job) → IsJob (map string_bytes words.now) job → result ≡ 0
@@ -71,7 +78,7 @@ pub fn bridge<S: Source, T: Sink, U: Sink>(
         × (T.faults output.new ≡ T.faults output.old) × (U.faults report.new ≡ U.faults report.old) }
     ensures long { (job : Job) → IsJob (map string_bytes words.now) job
         → IfSome (input_of job (S.left input.old)) (λ bytes. 2 ^ 32 ≤ length bytes → result ≢ 0) }
-    ensures unread { (job : Job) → IsJob (map string_bytes words.now) job → ReadsNothing job
+    ensures reads_nothing { (job : Job) → IsJob (map string_bytes words.now) job → ReadsNothing job
         → input.new ≡ input.old }
 
     // What failed.
@@ -80,8 +87,6 @@ pub fn bridge<S: Source, T: Sink, U: Sink>(
     ensures write { result ≡ 4 → Rose (T.faults output.old) (T.faults output.new) }
     ensures report { result ≡ 7 → Rose (U.faults report.old) (U.faults report.new) }
     ensures too_long { result ≡ 8 → TakesTooMany (S.left input.old) (S.left input.new) }
-    ensures memory { (job : Job) → IsJob (map string_bytes words.now) job → result ≡ 6
-        → TakesMemory job }
 
     // What the bytes give is written and reported.
     ensures text { (job : Job) → IsJob (map string_bytes words.now) job → result ≡ 0
@@ -100,7 +105,7 @@ pub fn bridge<S: Source, T: Sink, U: Sink>(
         → ¬ Rose (S.faults input.old) (S.faults input.new)
         → ¬ Rose (T.faults output.old) (T.faults output.new)
         → IsSilent job ⊎ ¬ Rose (U.faults report.old) (U.faults report.new)
-        → (result ≡ 0) ⊎ ((result ≡ 6) × TakesMemory job)) }
+        → (result ≡ 0) ⊎ (result ≡ 6)) }
 
     // The first line or the header decides whether the input has the form of the job.
     ensures form { result ≡ 5 → (output.new ≡ output.old) × (report.new ≡ report.old) }
@@ -120,9 +125,10 @@ pub fn bridge<S: Source, T: Sink, U: Sink>(
         (S.left input.old) (S.left input.new) (T.written output.old) (T.written output.new)
         (U.written report.old) (U.written report.new) }
 {
-    match job_of(words) {
-        None => 2,
-        Some(job) => status_of(run_job(alloc, &job, input, output, report)),
+    match job_of(alloc, words) {
+        Err(AllocError) => 6,
+        Ok(None) => 2,
+        Ok(Some(job)) => status_of(run_job(alloc, &job, input, output, report)),
     }
 }
 

@@ -5,10 +5,10 @@ ghost use Rattle.std.specs.List.{list_all};
 ghost use Rattle.std.specs.Char.{is_ascii_digit};
 ghost use Rattle.std.specs.Str.Parse.{digits_value};
 ghost use Rattle.navbridge.specs.Job.{Writes, IsWeekText, IsLeapText, IsDateText, IsSeedText, IsSatsText, Reads, ReadsAs};
-ghost use Rattle.navbridge.specs.Found.{given_of};
+ghost use Rattle.job_words.specs.Found.{given_of};
 
-use crate::options::{Found, is_same};
 use gnss_week::RefWeek;
+use job_words::Found;
 
 /// What the options say beside the forms: of each its value, where it is there.
 #[derive(Clone, Copy, Debug, PartialEq, Eq)]
@@ -48,7 +48,7 @@ pub(crate) fn values_of(found: &Found) -> Option<Values>
 }
 
 // The week that the option says, where it is there.
-fn week_of(text: Option<&[u8]>) -> Option<Option<RefWeek>>
+fn week_of(text: Option<&str>) -> Option<Option<RefWeek>>
     ensures { MatchOption result
         ((week : Option ℕ) → ¬ Reads IsWeekText (option_map (λ t. t.now) text.entry) week)
         (Reads IsWeekText (option_map (λ t. t.now) text.entry)) }
@@ -63,7 +63,7 @@ fn week_of(text: Option<&[u8]>) -> Option<Option<RefWeek>>
 }
 
 // The leap seconds that the option says.
-fn leap_of(text: Option<&[u8]>) -> Option<Option<u8>>
+fn leap_of(text: Option<&str>) -> Option<Option<u8>>
     ensures { MatchOption result
         ((leap : Option ℕ) → ¬ Reads IsLeapText (option_map (λ t. t.now) text.entry) leap)
         (Reads IsLeapText (option_map (λ t. t.now) text.entry)) }
@@ -82,7 +82,7 @@ fn leap_of(text: Option<&[u8]>) -> Option<Option<u8>>
 }
 
 // The date that the option says.
-fn date_of(text: Option<&[u8]>) -> Option<Option<[u8; 19]>>
+fn date_of(text: Option<&str>) -> Option<Option<[u8; 19]>>
     ensures { MatchOption result
         ((date : Option (List ℕ)) → ¬ Reads IsDateText (option_map (λ t. t.now) text.entry) date)
         (Reads IsDateText (option_map (λ t. t.now) text.entry)) }
@@ -90,6 +90,7 @@ fn date_of(text: Option<&[u8]>) -> Option<Option<[u8; 19]>>
     match text {
         None => Some(None),
         Some(text) => {
+            let text = text.as_bytes();
             let date = <[u8; 19]>::try_from(text).ok()?;
             if is_date(text) {
                 Some(Some(date))
@@ -101,7 +102,7 @@ fn date_of(text: Option<&[u8]>) -> Option<Option<[u8; 19]>>
 }
 
 // The seed that the option says.
-fn seed_of(text: Option<&[u8]>) -> Option<Option<u32>>
+fn seed_of(text: Option<&str>) -> Option<Option<u32>>
     ensures { MatchOption result
         ((seed : Option ℕ) → ¬ Reads IsSeedText (option_map (λ t. t.now) text.entry) seed)
         (Reads IsSeedText (option_map (λ t. t.now) text.entry)) }
@@ -113,7 +114,7 @@ fn seed_of(text: Option<&[u8]>) -> Option<Option<u32>>
 }
 
 // The number of satellites that the option says.
-fn sats_of(text: Option<&[u8]>) -> Option<Option<u8>>
+fn sats_of(text: Option<&str>) -> Option<Option<u8>>
     ensures { MatchOption result
         ((sats : Option ℕ) → ¬ Reads IsSatsText (option_map (λ t. t.now) text.entry) sats)
         (Reads IsSatsText (option_map (λ t. t.now) text.entry)) }
@@ -132,14 +133,15 @@ fn sats_of(text: Option<&[u8]>) -> Option<Option<u8>>
 }
 
 // The number below 2^32 that one to ten decimal digits write.
-fn number_of(text: &[u8]) -> Option<u32>
+fn number_of(text: &str) -> Option<u32>
     ensures { MatchOption result ((number : ℕ) → Writes text.now number → 2 ^ 32 ≤ number)
         (Writes text.now) }
 {
-    if text.is_empty() || text.len() > 10 || !are_digits(text) {
+    let digits = text.as_bytes();
+    if digits.is_empty() || digits.len() > 10 || !are_digits(digits) {
         return None;
     }
-    let value = value_of_digits(text);
+    let value = value_of_digits(digits);
     if value > u64::from(u32::MAX) {
         return None;
     }
@@ -181,4 +183,11 @@ fn is_date(text: &[u8]) -> bool
         return false;
     }
     are_digits(&text[9..15])
+}
+
+// Whether two texts are the same.
+fn is_same(one: &[u8], other: &[u8]) -> bool
+    ensures { IsTrue result ↔ (one.now ≡ other.now) }
+{
+    one == other
 }

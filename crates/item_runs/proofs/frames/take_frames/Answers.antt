@@ -1,7 +1,7 @@
 use Rattle.std.proofs.Common.{Bool, not, subst, ap, ◌∙◌, arith}
 use Rattle.std.proofs.lemmas.Result.{err_from_is_err_and}
-use Rattle.rtcm_frame.specs.State.{TakesFrame}
-use Rattle.item_runs.proofs.MoveLemmas.{moves_more, stops_more}
+use Rattle.rtcm_frame.specs.State.{TakesFrame, TakesNone}
+use Rattle.item_runs.proofs.MoveLemmas.{moves_more, moves_none, stops_more}
 use Rattle.item_runs.proofs.frames.take_frames.Goals as goal
 
 pub returns-in_err-take_frame-clause-breaks : goal.returns-in_err-take_frame-clause-breaks
@@ -21,3 +21,8 @@ loop-frame-preserved g c =
       few = c.in_ok-take_frame.ensures.some;
       room = omega (arith, takes.shorter, c.loop-frame.invariant.room, c.in_ok-take_frame.ensures.frames);
     }
+
+pub returns-clause-goes : goal.returns-clause-goes
+returns-clause-goes g c =
+    let none = subst (λ (b : Bool). TakesNone (not b) c.loop-frame.deframer.rest c.next_frame.new.self.rest) c.loop-frame.invariant.finished c.in_default.ensures.none in
+    moves_none c.args.r _ _ _ _ _ _ _ _ _ _ _ _ _ _ c.loop-frame.invariant.moves none

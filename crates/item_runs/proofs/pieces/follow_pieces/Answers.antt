@@ -1,12 +1,18 @@
-use Rattle.std.proofs.Common.{◌∙◌, ap, arith}
+use Rattle.std.proofs.Common.{◌∙◌, refl, ap, arith}
 use Rattle.std.proofs.lemmas.Result.{err_from_is_err_and}
-use Rattle.item_runs.proofs.PieceLemmas.{so_far_piece}
-use Rattle.item_runs.proofs.PieceEnds.{if_err2, part_of_last, part_of_long, part_of_piece, part_of_read, pieces_all}
+use Rattle.item_runs.proofs.PieceLemmas.{so_far_piece, so_far_start}
+use Rattle.item_runs.proofs.PieceEnds.{if_err2, no_read, no_read_of, part_of_last, part_of_long, part_of_piece, part_of_read, pieces_all, settled_by_read}
 use Rattle.item_runs.proofs.StreamLemmas.{on_ok2}
 use Rattle.item_runs.proofs.pieces.follow_pieces.Goals as goal
 
 pub returns-in-Err-clause-part : goal.returns-in-Err-clause-part
 returns-in-Err-clause-part g c = part_of_read c.args.r _ _ _ _ _ _ _ _ _ _ _ _ _ _ _ c.loop-taken.invariant.so_far c.in-Err.ensures.bytes
+
+pub returns-in-Err-clause-exact : goal.returns-in-Err-clause-exact
+returns-in-Err-clause-exact g c = λ is. settled_by_read c.args.r _ _ _ _ _ _ _ _ _ _ _ _ _ _ _ c.loop-taken.invariant.so_far c.in-Err.ensures.bytes
+
+pub returns-in-Ok-eq0-clause-exact : goal.returns-in-Ok-eq0-clause-exact
+returns-in-Ok-eq0-clause-exact g c = no_read c.take_frames.result c.take_frames.ensures.kinds
 
 pub returns-in-Ok-eq0-clause-all : goal.returns-in-Ok-eq0-clause-all
 returns-in-Ok-eq0-clause-all g c =
@@ -21,6 +27,17 @@ returns-in-Ok-eq0-clause-part g c =
     (λ fault breaks kind.
     part_of_last c.args.r _ _ _ _ _ _ _ _ _ _ _ _ _ _ _ _ _ _ _ _ fault c.loop-taken.invariant.so_far c.in-Ok-eq0.field-0-test c.in-Ok-eq0.ensures.bytes.0
     c.finish.ensures.rest c.finish.ensures.finished breaks kind)
+
+pub loop-taken-init : goal.loop-taken-init
+loop-taken-init g c = record {
+  so_far = so_far_start c.args.r _ _ _ _ _ _ _ _ c.new-deframer.ensures.rest c.new-deframer.ensures.finished (ap (λ x. x.frames) c.requires.nothing);
+  few = rw c.requires.nothing (omega arith);
+  limit = omega arith;
+  read = refl;
+  write = refl;
+  told = refl;
+  never = λ quiet. quiet;
+}
 
 pub loop-taken-preserved : goal.loop-taken-preserved
 loop-taken-preserved g c =
@@ -40,6 +57,11 @@ returns-in_err-take_piece-in-Ok-clause-part g c =
     let p = err_from_is_err_and c.from_residual.result c.from_residual.ensures.1 in
     rw (p.1, p.2) (part_of_piece c.args.r _ _ _ _ _ _ _ _ _ _ _ _ _ _ _ _ _ _ _ c.loop-taken.invariant.so_far c.in-Ok.ensures.bytes.0
     c.in_err-take_piece-in-Ok.ensures.breaks c.in_err-take_piece-in-Ok.ensures.kinds)
+
+pub returns-in_err-take_piece-in-Ok-clause-exact : goal.returns-in_err-take_piece-in-Ok-clause-exact
+returns-in_err-take_piece-in-Ok-clause-exact g c =
+    let p = err_from_is_err_and c.from_residual.result c.from_residual.ensures.1 in
+    rw (p.1, p.2) (no_read_of _ c.in_err-take_piece-in-Ok.ensures.kinds)
 
 pub returns-clause-part : goal.returns-clause-part
 returns-clause-part g c = part_of_long c.args.r _ _ _ _ _ _ _ _ _ _ _ _ _ _ c.loop-taken.invariant.so_far (omega (arith, c.loop-taken.invariant.limit))

@@ -3,7 +3,7 @@ use Rattle.std.proofs.lemmas.Result.{err_from_is_err_and}
 use Rattle.std.proofs.KnownBytes.{Appends-nil}
 use Rattle.std.specs.Io.KnownBytes.{Appends}
 use Rattle.nav_io.specs.Front.{AppendsFront}
-use Rattle.item_runs.proofs.StreamEnds.{counts_stream, part_of_begin, part_of_counts, part_of_stream, whole_stream}
+use Rattle.item_runs.proofs.StreamEnds.{counts_stream, fault_in, part_of_begin, part_of_counts, part_of_stream, settled_stream, whole_stream}
 use Rattle.item_runs.proofs.WholeLemmas.{text_of_whole}
 use Rattle.item_runs.proofs.stream.follow_stream.Goals as goal
 
@@ -14,6 +14,11 @@ pub returns-in_err-follow_pieces-clause-part : goal.returns-in_err-follow_pieces
 returns-in_err-follow_pieces-clause-part g c =
     let p = err_from_is_err_and c.from_residual.result c.from_residual.ensures.1 in
     rw p.1 (part_of_stream c.args.r _ _ _ _ _ _ _ _ _ _ _ _ c.in-Ok.ensures.bytes c.new-given.ensures c.new-counts.ensures (Appends-nil _) c.in_err-follow_pieces.ensures.part)
+
+pub returns-in_err-follow_pieces-clause-exact : goal.returns-in_err-follow_pieces-clause-exact
+returns-in_err-follow_pieces-clause-exact g c =
+    let p = err_from_is_err_and c.from_residual.result c.from_residual.ensures.1 in
+    rw (p.1, p.2) (λ is. settled_stream c.args.r _ _ _ _ _ _ _ _ _ _ _ _ _ c.in-Ok.ensures.bytes c.new-given.ensures c.new-counts.ensures (Appends-nil _) (c.in_err-follow_pieces.ensures.exact (fault_in _ _ is)))
 
 pub returns-in-Ok-write-clause-whole : goal.returns-in-Ok-write-clause-whole
 returns-in-Ok-write-clause-whole g c =

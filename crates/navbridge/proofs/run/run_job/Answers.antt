@@ -1,5 +1,5 @@
 use Rattle.run_texts.specs.declared.fault.BridgeFault.TheVariants.{ReadFault}
-use Rattle.navbridge.proofs.JobEnds.{always, at_err, ends_err, ends_fault, frames_part, frames_stop, none_reported}
+use Rattle.navbridge.proofs.JobEnds.{always, at_err, ends_err, ends_fault, frames_part, frames_stop, none_reported, run_ends, stream_stop}
 use Rattle.navbridge.proofs.run.run_job.Goals as goal
 
 pub returns-in-StreamToFrames-clause-report_text : goal.returns-in-StreamToFrames-clause-report_text
@@ -19,3 +19,8 @@ returns-in-StreamToFrames-clause-part g c =
 
 pub returns-in-Stream-clause-part : goal.returns-in-Stream-clause-part
 returns-in-Stream-clause-part g c = rw c.in-Stream.is (ends_err _ _ c.ended-in-Stream.ensures _ c.run_stream.ensures.part)
+
+pub returns-in-Stream-clause-stops : goal.returns-in-Stream-clause-stops
+returns-in-Stream-clause-stops g c =
+    rw c.in-Stream.is
+    (λ read. stream_stop _ _ _ _ _ _ _ (c.run_stream.ensures.exact (run_ends _ c.ended-in-Stream.result ReadFault c.ended-in-Stream.ensures read)))

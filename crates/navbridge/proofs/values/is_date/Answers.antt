@@ -1,4 +1,4 @@
-use Rattle.std.proofs.Common.{rules, arith, refl}
+use Rattle.std.proofs.Common.{rules, refl}
 use Rattle.navbridge.proofs.Dates.{date_form}
 use Rattle.navbridge.proofs.values.is_date.Goals as goal
 

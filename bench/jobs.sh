@@ -1,0 +1,145 @@
+#!/usr/bin/env bash
+# The whole jobs: what the built program takes beside plain C programs of the same job on the same files, in one sitting.
+#
+#   bench/jobs.sh [MEGABYTES]      50 where none is said: the bytes of each stream
+#
+# It wants the program that `rt run` leaves in crates/navbridge/out (or the one that NAVBRIDGE names). Inputs are made in
+# bench/build. First each job is run once into a file, and its bytes are compared with those of the C program, or with
+# what the maker of the input knows; then it is timed with the output sent to /dev/null, the least of five runs. Times
+# are of the processor (user and system), which other work on the machine moves less than the clock; both are printed.
+# "not built" stands where the program answers that the words give no job.
+set -eu
+cd "$(git rev-parse --show-toplevel)"
+size=$((${1:-50} * 1000000))
+runs=${RUNS:-5}
+here=bench/build
+program=${NAVBRIDGE:-crates/navbridge/out/navbridge}
+mkdir -p "$here"
+for name in frames streams captures spent; do
+  if [ ! -x "$here/$name" ] || [ "bench/$name.c" -nt "$here/$name" ] || [ bench/records.h -nt "$here/$name" ]; then
+    ${CC:-cc} -O2 -o "$here/$name" "bench/$name.c"
+  fi
+done
+date=(--date '20240101 000000 UTC' --leap 18)
+week=(--week 2295)
+
+# a file of that name, made by the command where it is not there yet
+made() { # file, command
+  local file=$here/$1
+  shift
+  if [ ! -e "$file" ]; then
+    "$@" > "$file.part"
+    mv "$file.part" "$file"
+  fi
+}
+from_file() { # input, command
+  local input=$1
+  shift
+  "$@" < "$here/$input" 2> /dev/null
+}
+records() { # version: 200,000 records
+  head -c 13600000 "$here/distinct.$size" | "$here/streams" "$1" 2295 '20240101 000000 UTC' 18 2> /dev/null
+}
+shuffled() { # capture
+  python3 -c '
+import random, sys
+lines = open(sys.argv[1], "rb").read().splitlines(keepends=True)
+rest = lines[1:]
+random.Random(7).shuffle(rest)
+sys.stdout.buffer.write(lines[0] + b"".join(rest))' "$here/$1"
+}
+made "frames.$size" "$here/frames" make "$size"
+made "start.$size" "$here/frames" start "$size"
+made "start.$((size / 2))" "$here/frames" start $((size / 2))
+made "distinct.$size" "$here/streams" make distinct "$size"
+made "repeated.$size" "$here/streams" make repeated "$size"
+made records.rinex records rinex
+made records.rinex3 records rinex3
+made records.rtcm head -c 13600000 "$here/distinct.$size"
+made hour.capture "$here/captures" make 7 32 2295
+made hour.rinex "$here/captures" rinex 7 32 2295 '20240101 000000 UTC' 18
+made shuffled.capture shuffled hour.capture
+made partial.capture "$here/captures" partial 200000
+made partial.list "$here/captures" list 200000
+for window in 600 7200; do
+  for hours in 1 10; do made "hours.$hours.$window" "$here/captures" hours 7 12 2295 "$hours" "$window"; done
+done
+
+# what a run takes: seconds on the clock, of the processor, kilobytes at the peak, status
+spend() { # input, command
+  local input=$1
+  shift
+  "$here/spent" "$runs" "$here/$input" /dev/null /dev/null "$@"
+}
+line() { printf '%-46s %7s %8s %8s %8s %7s %8s  %s\n' "$@"; }
+bare=$({ "$here/spent" "$runs" /dev/null /dev/null /dev/null "$program" || true; } | cut -d' ' -f3)
+echo "load $(cut -d' ' -f1-3 /proc/loadavg); a run without words has $bare kB at its peak"
+line job MB 'MB/s' clock,s proc,s 'C,s' ratio 'peak, same'
+# A job: its name, its input, the file that its output must be (or -), the C command (or -), the program's words.
+job() { # name, input, expected, C command, words
+  local name=$1 input=$2 expected=$3 plain=$4 same=- bytes
+  shift 4
+  bytes=$(stat -c %s "$here/$input")
+  local status=0
+  "$program" "$@" < "$here/$input" > "$here/output" 2> "$here/report" || status=$?
+  if [ "$status" != 0 ]; then
+    line "$name" "$((bytes / 1000000))" - - - - - "$([ "$status" = 2 ] && echo 'not built' || echo "STATUS $status")"
+    return 0
+  fi
+  if [ "$expected" != - ]; then
+    same=$(cmp -s "$here/output" "$here/$expected" && echo same || echo DIFFERS)
+  elif [ "$plain" != - ]; then
+    # shellcheck disable=SC2086
+    eval "$here/$plain" < "$here/$input" > "$here/plain.output" 2> "$here/plain.report"
+    same=$(cmp -s "$here/output" "$here/plain.output" && echo same || echo DIFFERS)
+    cmp -s "$here/report" "$here/plain.report" || same="$same, REPORT DIFFERS"
+    rm -f "$here/plain.output"
+  fi
+  rm -f "$here/output"
+  local ours theirs=
+  ours=$(spend "$input" "$program" "$@")
+  peak=$(cut -d' ' -f3 <<< "$ours")
+  if [ "$plain" != - ]; then theirs=$(eval "spend $input $here/$plain"); fi
+  # shellcheck disable=SC2046
+  line "$name" $(awk -v o="$ours" -v c="$theirs" -v b="$bytes" 'BEGIN {
+    split(o, p, " "); n = split(c, q, " ")
+    printf "%.1f %.0f %.3f %.3f %s %s %.1fMB,", b / 1e6, b / p[2] / 1e6, p[1], p[2], \
+      n ? sprintf("%.3f", q[2]) : "-", n ? sprintf("%.2f", p[2] / q[2]) : "-", p[3] / 1000 }') 2> /dev/null |
+    sed "s/,\$/, $same/"
+}
+words="2295 '20240101 000000 UTC' 18"
+job 'frames of 67 bytes, stream to frames' "frames.$size" - 'streams frames' --from stream --to frames
+job 'frames of 67 bytes, against printf' "frames.$size" - 'frames lines' --from stream --to frames
+job 'bytes D3, stream to frames' "start.$size" - - --from stream --to frames
+job 'half as many bytes D3' "start.$((size / 2))" - - --from stream --to frames
+job 'distinct frames to rinex' "distinct.$size" - "streams rinex $words" --from stream --to rinex "${week[@]}" "${date[@]}"
+job 'the same, C that keeps no table' "distinct.$size" - "streams rinex $words plain" \
+  --from stream --to rinex "${week[@]}" "${date[@]}"
+job 'repeated frames to rinex' "repeated.$size" - "streams rinex $words" --from stream --to rinex "${week[@]}" "${date[@]}"
+job 'distinct frames to rtcm' "distinct.$size" - 'streams rtcm 2295' --from stream --to rtcm "${week[@]}"
+job 'distinct frames to rinex3' "distinct.$size" - "streams rinex3 $words" \
+  --from stream --to rinex3 "${week[@]}" "${date[@]}"
+job '200,000 records, rinex to rinex' records.rinex records.rinex - --from rinex --to rinex "${date[@]}"
+job '200,000 records, rinex to rtcm' records.rinex records.rtcm - --from rinex --to rtcm
+job '200,000 records, rinex to list' records.rinex - - --from rinex --to list
+job '200,000 records, rinex to rinex3' records.rinex records.rinex3 - --from rinex --to rinex3 "${date[@]}"
+job '200,000 records, rinex3 to rinex' records.rinex3 records.rinex - --from rinex3 --to rinex "${date[@]}"
+job '200,000 records, rinex to merged' records.rinex - - --from rinex --to merged "${date[@]}"
+job '200,000 records, rinex to cover' records.rinex - - --from rinex --to cover
+# (no input is read; the megabytes are those that are written)
+job '32 and 32 satellites, seed to capture' hour.capture hour.capture - \
+  --from seed --to capture --seed 7 --sats 32 "${week[@]}"
+job 'capture of 32 and 32 satellites to rinex' hour.capture hour.rinex - --from capture --to rinex "${week[@]}" "${date[@]}"
+job 'its lines in random order' shuffled.capture hour.rinex - --from capture --to rinex "${week[@]}" "${date[@]}"
+job '200,000 partial periods of one key to list' partial.capture partial.list - --from capture --to list "${week[@]}"
+peak=
+for window in 600 7200; do
+  for hours in 1 10; do
+    one=$peak
+    job "12 and 12 satellites, $hours h, window $window s" "hours.$hours.$window" - - --from capture --to rinex "${date[@]}"
+  done
+  if [ -n "$one" ]; then
+    awk -v w="$window" -v o="$one" -v t="$peak" 'BEGIN { printf "peak of ten hours by that of one, window %d s: %.2f\n", w, t / o }'
+  fi
+done
+echo "load $(cut -d' ' -f1-3 /proc/loadavg)"

@@ -1,0 +1,16 @@
+//! What a merge counts.
+
+/// What a run that merges navigation files counts.
+#[derive(Clone, Copy, Debug, PartialEq, Eq)]
+pub struct MergeCounts {
+    /// The records.
+    pub records: u64,
+    /// The records that were refused.
+    pub refused: u64,
+    /// The records of other kinds, which were passed over.
+    pub passed: u64,
+    /// The items that were read, repeats included.
+    pub items: u64,
+    /// The items that were written.
+    pub kept: u64,
+}

@@ -1,0 +1,8 @@
+pub mod Spellings
+pub mod Rules
+pub mod Turns
+pub mod Lexed
+pub mod Readings
+pub mod Listings
+pub mod Outcomes
+pub mod Surface

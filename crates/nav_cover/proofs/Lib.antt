@@ -1,0 +1,2 @@
+mod SweepLemmas
+mod CoverLemmas

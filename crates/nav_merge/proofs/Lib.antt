@@ -1,0 +1,4 @@
+mod Orders
+mod InsertLemmas
+mod MergeLemmas
+mod HeldLemmas
