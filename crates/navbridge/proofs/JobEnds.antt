@@ -12,7 +12,7 @@ use Rattle.bridge_engine.specs.FrameLines.{line_of}
 use Rattle.bridge_engine.specs.FrameRuns.{RunsPart as FramesPart}
 use Rattle.run_texts.specs.Runs.{RunsPart}
 use Rattle.run_texts.specs.declared.fault.BridgeFault.{BridgeFault}
-use Rattle.navbridge.specs.declared.job.Job.TheVariants.{StreamToFrames, Capture, Stream, Rinex, Rinex3, SendRinex, SendRinex3, Seed}
+use Rattle.navbridge.specs.declared.job.Job.TheVariants.{StreamToFrames, Capture, Stream, Rinex, Rinex3, SendRinex, SendRinex3, Merge, Cover, Seed}
 use Rattle.navbridge.specs.declared.job.Job.{Job}
 use Rattle.navbridge.specs.declared.job.StreamJob.{StreamJob}
 use Rattle.item_runs.specs.Streams.{RunsSettled, settled_stream_output, settled_stream_report}
@@ -42,7 +42,7 @@ always (Err f) P p = tt
 -- a fault that it ended with is the fault of its run
 pub run_ends : {C : Type 0} (run : Result C BridgeFault) (result : Result (Unit {0}) BridgeFault) (f : BridgeFault) → Ends run result → IsErrOf result f → IsErrOf run f
 run_ends (Ok x) result f e is = absurd (let done : result ≡ Ok tt = e in let broke : result ≡ Err f = is in cc)
-run_ends (Err g) result f e is = let broke : result ≡ Err g = e in let ended : result ≡ Err f = is in cc
+run_ends (Err g) result f e is = let broke : result ≡ Err g = e in let same : result ≡ Err f = is in cc
 
 -- what a run over the ephemerides of a stream leaves where a read failed
 pub stream_stop : (job : StreamJob) (l l' w w' u u' : Option (List ℕ))
@@ -93,6 +93,8 @@ least_of_none (Rinex to) = refl
 least_of_none (Rinex3 to) = refl
 least_of_none (SendRinex week) = refl
 least_of_none (SendRinex3 week) = refl
+least_of_none (Merge words) = refl
+least_of_none Cover = refl
 least_of_none (Seed job) = refl
 
 none_of_it : (job : Job) (l w u : Option (List ℕ)) → RunsPart (out_of job) (least_of job) (report_of job) l l w w u u
@@ -125,4 +127,6 @@ not_begun (Rinex to) l w u = none_of_it (Rinex to) l w u
 not_begun (Rinex3 to) l w u = none_of_it (Rinex3 to) l w u
 not_begun (SendRinex week) l w u = none_of_it (SendRinex week) l w u
 not_begun (SendRinex3 week) l w u = none_of_it (SendRinex3 week) l w u
+not_begun (Merge words) l w u = none_of_it (Merge words) l w u
+not_begun Cover l w u = none_of_it Cover l w u
 not_begun (Seed job) l w u = seed_not_begun job.to job.seed job.sats job.week w u

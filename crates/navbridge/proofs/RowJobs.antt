@@ -11,7 +11,7 @@ use Rattle.item_runs.specs.declared.target.RinexTo.TheVariants as files
 use Rattle.seed_runs.specs.declared.target.SeedTo.{SeedTo}
 use Rattle.seed_runs.specs.declared.target.SeedTo.TheVariants as seeds
 use Rattle.navbridge.specs.declared.job.Job.{Job}
-use Rattle.navbridge.specs.declared.job.Job.TheVariants.{StreamToFrames, Capture, Stream, Rinex, Rinex3, SendRinex, SendRinex3, Seed}
+use Rattle.navbridge.specs.declared.job.Job.TheVariants.{StreamToFrames, Capture, Stream, Rinex, Rinex3, SendRinex, SendRinex3, Merge, Cover, Seed}
 use Rattle.navbridge.specs.Job.{Row, Target, row_of, capture_target, stream_target, file_target, seed_word}
 
 -- whether two words are the same
@@ -74,7 +74,9 @@ stream_job (Some week) t = option_map (λ to. Stream (record { week = week; to =
 
 -- of a navigation file the jobs that send it have a week
 abbrev file_job : Option ℕ → Target → Option Job
-file_job None t = option_map Rinex (file_at t)
+file_job None t =
+    if same t.word (codes "merged") then option_map Merge (words_of t.leap t.date) else
+    if same t.word (codes "cover") then Some Cover else option_map Rinex (file_at t)
 file_job (Some week) t = Some (SendRinex week)
 
 abbrev file3_job : Option ℕ → Target → Option Job
@@ -107,10 +109,15 @@ job_is_at : (job : Job) → job_at (row_of job) ≡ Some job
 job_is_at StreamToFrames = refl
 job_is_at (Capture job) = ap (option_map (λ (to : CaptureTo). Capture (record { week = job.week; to = to }))) (capture_is_at job.to)
 job_is_at (Stream job) = ap (option_map (λ (to : StreamTo). Stream (record { week = job.week; to = to }))) (stream_is_at job.to)
-job_is_at (Rinex to) = ap (option_map Rinex) (file_is_at to)
+job_is_at (Rinex (files.Rinex words)) = refl
+job_is_at (Rinex (files.Rinex3 words)) = refl
+job_is_at (Rinex files.Rtcm) = refl
+job_is_at (Rinex files.ToList) = refl
 job_is_at (Rinex3 to) = ap (option_map Rinex3) (file_is_at to)
 job_is_at (SendRinex week) = refl
 job_is_at (SendRinex3 week) = refl
+job_is_at (Merge words) = refl
+job_is_at Cover = refl
 job_is_at (Seed job) = ap (seed_job (Some job.seed) (Some job.sats) (Some job.week)) (seed_is_at job.to)
 
 -- a row has one job

@@ -15,7 +15,7 @@ use Rattle.seed_runs.specs.declared.target.SeedTo.{SeedTo}
 use Rattle.seed_runs.specs.declared.target.SeedTo.TheVariants as seeds
 use Rattle.navbridge.specs.declared.job.Job.{Job}
 use Rattle.navbridge.specs.declared.job.SeedJob.{SeedJob}
-use Rattle.navbridge.specs.declared.job.Job.TheVariants.{StreamToFrames, Capture, Stream, Rinex, Rinex3, SendRinex, SendRinex3, Seed}
+use Rattle.navbridge.specs.declared.job.Job.TheVariants.{StreamToFrames, Capture, Stream, Rinex, Rinex3, SendRinex, SendRinex3, Merge, Cover, Seed}
 use Rattle.navbridge.specs.declared.values.Values.{Values}
 use Rattle.job_words.specs.Options.{Given, GiveValues}
 
@@ -137,6 +137,8 @@ row_of (Rinex to) = row (codes "rinex") (file_target to) None
 row_of (Rinex3 to) = row (codes "rinex3") (file_target to) None
 row_of (SendRinex week) = row (codes "rinex") (plain (codes "capture")) (Some week)
 row_of (SendRinex3 week) = row (codes "rinex3") (plain (codes "capture")) (Some week)
+row_of (Merge words) = row (codes "rinex") (headed (codes "merged") words) None
+row_of Cover = row (codes "rinex") (plain (codes "cover")) None
 row_of (Seed job) = seed_row job
 
 -- the options are exactly those of the job's row, and say its values

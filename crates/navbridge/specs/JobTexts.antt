@@ -11,12 +11,13 @@ use Rattle.rinex3_nav.specs.Form3.{rinex3}
 use Rattle.item_runs.specs.Files.{file_output, file_report}
 use Rattle.item_runs.specs.Streams.{settled_stream_output, stream_output, stream_report}
 use Rattle.send_runs.specs.Sends.{send_output, send_report}
+use Rattle.archive_runs.specs.Archives.{cover_output, cover_report, merge_output, merge_report}
 use Rattle.run_texts.specs.Runs.{RunsPart}
 use Rattle.seed_runs.specs.Seeds.{SeedBroke, seed_output, seed_report}
 use Rattle.seed_runs.specs.declared.target.SeedTo.TheVariants as seeds
 use Rattle.navbridge.specs.Job.{row_of}
 use Rattle.navbridge.specs.declared.job.Job.{Job}
-use Rattle.navbridge.specs.declared.job.Job.TheVariants.{StreamToFrames, Capture, Stream, Rinex, Rinex3, SendRinex, SendRinex3, Seed}
+use Rattle.navbridge.specs.declared.job.Job.TheVariants.{StreamToFrames, Capture, Stream, Rinex, Rinex3, SendRinex, SendRinex3, Merge, Cover, Seed}
 
 -- a job that reads nothing
 abbrev pub ReadsNothing : Job → Type 0
@@ -27,6 +28,8 @@ ReadsNothing (Rinex to) = ⊥
 ReadsNothing (Rinex3 to) = ⊥
 ReadsNothing (SendRinex week) = ⊥
 ReadsNothing (SendRinex3 week) = ⊥
+ReadsNothing (Merge words) = ⊥
+ReadsNothing Cover = ⊥
 ReadsNothing (Seed job) = Unit {0}
 
 -- the bytes that a job has to read, where an input has these left and they are known: none of a job that reads nothing
@@ -38,6 +41,8 @@ input_of (Rinex to) left = left
 input_of (Rinex3 to) left = left
 input_of (SendRinex week) left = left
 input_of (SendRinex3 week) left = left
+input_of (Merge words) left = left
+input_of Cover left = left
 input_of (Seed job) left = Some []
 
 -- what is written of the bytes
@@ -49,6 +54,8 @@ out_of (Rinex to) bytes = file_output rinex4 to bytes
 out_of (Rinex3 to) bytes = file_output rinex3 to bytes
 out_of (SendRinex week) bytes = send_output rinex4 week bytes
 out_of (SendRinex3 week) bytes = send_output rinex3 week bytes
+out_of (Merge words) bytes = merge_output words bytes
+out_of Cover bytes = cover_output bytes
 out_of (Seed job) bytes = seed_output job.to job.seed job.sats job.week
 
 -- what is reported of them
@@ -60,6 +67,8 @@ report_of (Rinex to) bytes = file_report rinex4 bytes
 report_of (Rinex3 to) bytes = file_report rinex3 bytes
 report_of (SendRinex week) bytes = send_report rinex4 week bytes
 report_of (SendRinex3 week) bytes = send_report rinex3 week bytes
+report_of (Merge words) bytes = merge_report bytes
+report_of Cover bytes = cover_report bytes
 report_of (Seed job) bytes = seed_report job.to job.seed job.sats job.week
 
 -- their first line or header is accepted, where the form has one
@@ -71,6 +80,8 @@ Accepts (Rinex to) bytes = IsOk (file_reads rinex4 bytes)
 Accepts (Rinex3 to) bytes = IsOk (file_reads rinex3 bytes)
 Accepts (SendRinex week) bytes = IsOk (file_reads rinex4 bytes)
 Accepts (SendRinex3 week) bytes = IsOk (file_reads rinex3 bytes)
+Accepts (Merge words) bytes = IsOk (file_reads rinex4 bytes)
+Accepts Cover bytes = IsOk (file_reads rinex4 bytes)
 Accepts (Seed job) bytes = Unit {0}
 
 -- the least that is written once the bytes were taken, whatever fails
@@ -82,6 +93,8 @@ least_of (Rinex to) bytes = []
 least_of (Rinex3 to) bytes = []
 least_of (SendRinex week) bytes = []
 least_of (SendRinex3 week) bytes = []
+least_of (Merge words) bytes = []
+least_of Cover bytes = []
 least_of (Seed job) bytes = []
 
 -- What is written where a read fails once the bytes were taken: of a capture exactly what the lines that have ended close, of
@@ -95,6 +108,8 @@ StopsWith (Rinex to) bytes text = IsFront text (out_of (Rinex to) bytes)
 StopsWith (Rinex3 to) bytes text = IsFront text (out_of (Rinex3 to) bytes)
 StopsWith (SendRinex week) bytes text = IsFront text (out_of (SendRinex week) bytes)
 StopsWith (SendRinex3 week) bytes text = IsFront text (out_of (SendRinex3 week) bytes)
+StopsWith (Merge words) bytes text = IsFront text (out_of (Merge words) bytes)
+StopsWith Cover bytes text = IsFront text (out_of Cover bytes)
 StopsWith (Seed job) bytes text = ⊥
 
 -- a read failed: these bytes were taken, and this is written of them
@@ -116,6 +131,8 @@ Breaks (Rinex3 to) l l' w w' u u' = RunsPart (out_of (Rinex3 to)) (least_of (Rin
 Breaks (SendRinex week) l l' w w' u u' = RunsPart (out_of (SendRinex week)) (least_of (SendRinex week)) (report_of (SendRinex week)) l l' w w' u u'
 Breaks (SendRinex3 week) l l' w w' u u' =
     RunsPart (out_of (SendRinex3 week)) (least_of (SendRinex3 week)) (report_of (SendRinex3 week)) l l' w w' u u'
+Breaks (Merge words) l l' w w' u u' = RunsPart (out_of (Merge words)) (least_of (Merge words)) (report_of (Merge words)) l l' w w' u u'
+Breaks Cover l l' w w' u u' = RunsPart (out_of Cover) (least_of Cover) (report_of Cover) l l' w w' u u'
 Breaks (Seed job) l l' w w' u u' = SeedBroke job.to job.seed job.sats job.week w w' u u'
 
 -- a job that writes nothing to the report
@@ -127,6 +144,8 @@ IsSilent (Rinex to) = ⊥
 IsSilent (Rinex3 to) = ⊥
 IsSilent (SendRinex week) = ⊥
 IsSilent (SendRinex3 week) = ⊥
+IsSilent (Merge words) = ⊥
+IsSilent Cover = ⊥
 IsSilent (Seed job) = job.to ≡ seeds.Capture
 
 -- a job whose run takes memory
@@ -138,6 +157,8 @@ TakesMemory (Rinex to) = ⊥
 TakesMemory (Rinex3 to) = ⊥
 TakesMemory (SendRinex week) = ⊥
 TakesMemory (SendRinex3 week) = ⊥
+TakesMemory (Merge words) = Unit {0}
+TakesMemory Cover = Unit {0}
 TakesMemory (Seed job) = Unit {0}
 
 -- the leap seconds of a job's header have at most two digits

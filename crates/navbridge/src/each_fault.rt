@@ -1,4 +1,5 @@
-//! A capture of which each read, each write of the output and each write of the report fails in turn.
+//! A capture of which each read, each write of the output and each write of the report fails in
+//! turn.
 
 use crate::bits::expand;
 use crate::over_memory::{Failing, Outcome, concat_text, convert_bytes, nothing_fails};

@@ -25,7 +25,8 @@ const TWO_BEHIND: &str = concat!(
     "8 P E11 B {EVEN_5}\n9 P E11 B {ODD_5}\n",
 );
 
-// Two blocks of lines, their list, whether the ionosphere stands first, and the accuracy and the health of the record.
+// Two blocks of lines, their list, whether the ionosphere stands first, and the accuracy and the
+// health of the record.
 #[derive(Clone, Copy)]
 struct Taken {
     front: &'static str,

@@ -10,6 +10,7 @@ use crate::values::values_of;
 use bridge_engine::CaptureTo;
 use gnss_week::RefWeek;
 use item_runs::{RinexTo, StreamTo};
+use rinex_write::HeaderWords;
 use job_words::{Found, options_of};
 use seed_runs::SeedTo;
 use std::alloc::{AllocError, Global};
@@ -32,6 +33,10 @@ pub enum Job {
     SendRinex(RefWeek),
     /// `--from rinex3 --to capture`: the same of a file of RINEX 3.
     SendRinex3(RefWeek),
+    /// `--from rinex --to merged`: navigation files of RINEX 4, one behind the other, to one.
+    Merge(HeaderWords),
+    /// `--from rinex --to cover`: the times for which they have an ephemeris.
+    Cover,
     /// `--from seed`: a capture that is made, or its counts.
     Seed(SeedJob),
 }

@@ -12,6 +12,8 @@ use std::io::ErrorKind;
 use std::process::ExitCode;
 
 #[cfg(test)]
+mod archive_rows;
+#[cfg(test)]
 mod bits;
 #[cfg(test)]
 mod capture_tests;

@@ -9,6 +9,7 @@ ghost use Rattle.navbridge.specs.JobTexts.{out_of, report_of, input_of, Accepts,
 ghost use Rattle.navbridge.specs.JobTexts.{HasSats, IsSilent, ReadsNothing, Stops, TakesMemory};
 
 use crate::job::Job;
+use archive_runs::{run_cover, run_merge};
 use bridge_engine::{BridgeFault, run_capture, run_frames};
 use item_runs::{run_rinex, run_rinex3, run_stream};
 use nav_io::{Sink, Source};
@@ -88,6 +89,8 @@ pub(crate) fn run_job<S: Source, T: Sink, U: Sink>(
         Job::Rinex3(to) => ended(run_rinex3(to, input, output, report)),
         Job::SendRinex(week) => ended(send_rinex(*week, input, output, report)),
         Job::SendRinex3(week) => ended(send_rinex3(*week, input, output, report)),
+        Job::Merge(words) => ended(run_merge(alloc, words, input, output, report)),
+        Job::Cover => ended(run_cover(alloc, input, output, report)),
         Job::Seed(job) => ended(run_seed(
             alloc, job.seed, job.sats, job.week, job.to, output, report,
         )),

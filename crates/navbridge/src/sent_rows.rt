@@ -98,8 +98,8 @@ fn says_why_an_ephemeris_is_not_sent(rt: HostRuntime) -> Result<(), Fail> {
     Ok(())
 }
 
-// The lines of Galileo in three orders, each line twice or more: backwards and again backwards, and by the digits of two
-// numbers.
+// The lines of Galileo in three orders, each line at least once: backwards and again backwards, and
+// by the digits of two numbers.
 const ORDERS: [&[usize]; 3] = [
     &[9, 8, 7, 6, 5, 4, 3, 2, 1, 0, 9, 8, 7, 6, 5, 4, 3, 2, 1, 0],
     &[

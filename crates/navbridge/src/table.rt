@@ -112,10 +112,7 @@ fn from_rinex(to: &[u8], values: &Values) -> Option<Job>
         (λ job. IsRow (row_of job) (codes "rinex") to.now values.now) }
 {
     match values.week {
-        None => match file_to(to, values) {
-            None => None,
-            Some(to) => Some(Job::Rinex(to)),
-        },
+        None => whole_file(to, values),
         Some(week) => {
             if to == b"capture".as_slice() && !has_header(values) {
                 Some(Job::SendRinex(week))
@@ -123,6 +120,34 @@ fn from_rinex(to: &[u8], values: &Values) -> Option<Job>
                 None
             }
         }
+    }
+}
+
+// The job that has no week.
+fn whole_file(to: &[u8], values: &Values) -> Option<Job>
+    requires week { values.now.week ≡ None }
+    requires seed { values.now.seed ≡ None }
+    requires sats { values.now.sats ≡ None }
+    ensures { MatchOption result
+        ((job : Job) → ¬ IsRow (row_of job) (codes "rinex") to.now values.now)
+        (λ job. IsRow (row_of job) (codes "rinex") to.now values.now) }
+{
+    if to == b"merged".as_slice() {
+        return match header_of(values) {
+            None => None,
+            Some(words) => Some(Job::Merge(words)),
+        };
+    }
+    if to == b"cover".as_slice() {
+        return if has_header(values) {
+            None
+        } else {
+            Some(Job::Cover)
+        };
+    }
+    match file_to(to, values) {
+        None => None,
+        Some(to) => Some(Job::Rinex(to)),
     }
 }
 
