@@ -42,6 +42,8 @@ pub(crate) fn follow_archive<A: Archive, S: Source, T: Sink, U: Sink>(
     ensures accepted { IfSome (S.left input.old) (λ bytes.
         IsOk result ⊎ (IsErrOf result BridgeFault.WriteFault ⊎ IsErrOf result BridgeFault.ReportFault)
         → IsOk (file_reads rinex4 bytes)) }
+    ensures memory { IfSome (S.left input.old) (λ bytes.
+        IsErrOf result BridgeFault.NoMemory → IsOk (file_reads rinex4 bytes)) }
     ensures cause { HasItsCause
         (faults_of (S.faults input.old) (T.faults output.old) (U.faults report.old))
         (faults_of (S.faults input.new) (T.faults output.new) (U.faults report.new)) result }

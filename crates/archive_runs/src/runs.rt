@@ -68,6 +68,8 @@ pub fn run_merge<S: Source, T: Sink, U: Sink>(
     ensures accepted { IfSome (S.left input.old) (λ bytes.
         IsOk result ⊎ (IsErrOf result BridgeFault.WriteFault ⊎ IsErrOf result BridgeFault.ReportFault)
         → IsOk (file_reads rinex4 bytes)) }
+    ensures memory { IfSome (S.left input.old) (λ bytes.
+        IsErrOf result BridgeFault.NoMemory → IsOk (file_reads rinex4 bytes)) }
 
     // Each fault has its cause; want of memory alone has none.
     ensures read { IsErrOf result BridgeFault.ReadFault
@@ -151,6 +153,8 @@ pub fn run_cover<S: Source, T: Sink, U: Sink>(
     ensures accepted { IfSome (S.left input.old) (λ bytes.
         IsOk result ⊎ (IsErrOf result BridgeFault.WriteFault ⊎ IsErrOf result BridgeFault.ReportFault)
         → IsOk (file_reads rinex4 bytes)) }
+    ensures memory { IfSome (S.left input.old) (λ bytes.
+        IsErrOf result BridgeFault.NoMemory → IsOk (file_reads rinex4 bytes)) }
 
     // Each fault has its cause; want of memory alone has none.
     ensures read { IsErrOf result BridgeFault.ReadFault
