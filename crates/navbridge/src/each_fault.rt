@@ -12,7 +12,7 @@ use std::test::Fail;
 const WORD_5: &str = "8 P E11 B {EVEN_5}\n9 P E11 B {ODD_5}\n";
 
 // How many bytes each read gives.
-const PIECE: usize = 7;
+const PIECE: u32 = 7;
 
 // The capture of the five words.
 fn capture_of(alloc: Global) -> Result<Vec<u8>, AllocError> {
@@ -25,16 +25,15 @@ fn capture_of(alloc: Global) -> Result<Vec<u8>, AllocError> {
 fn convert_in_pieces(alloc: Global, mut failing: Failing) -> Result<Outcome, AllocError> {
     let input = capture_of(alloc)?;
     for _ in input.as_slice() {
-        failing.cuts.push(PIECE as u32)?;
+        failing.cuts.push(PIECE)?;
     }
     convert_bytes(alloc, TO_RINEX, input, failing)
 }
 
 #[test]
 fn writes_the_header_where_a_read_fails(rt: HostRuntime) -> Result<(), Fail> {
-    let size = capture_of(rt.alloc())?.len();
-    let reads = (size / PIECE) as u32;
-    for read in 0..reads {
+    // The capture has 419 bytes, and a last read gives none.
+    for read in 0..61 {
         let mut failing = nothing_fails(rt.alloc());
         failing.reads.push(read)?;
         let run = convert_in_pieces(rt.alloc(), failing)?;

@@ -63,11 +63,12 @@ const TAKEN: [Taken; 3] = [
 #[test]
 fn takes_the_health_nearest_the_end(rt: HostRuntime) -> Result<(), Fail> {
     for case in TAKEN {
-        let lines = concat_text(rt.alloc(), case.front, case.back)?;
+        let (front, back) = (case.front, case.back);
+        let lines = concat_text(rt.alloc(), front, back)?;
         let input = concat_text(rt.alloc(), "NAVCAP 1\n", lines.as_str())?;
         let run = convert(rt.alloc(), TO_LIST, input.as_str())?;
         assert_eq!(rt; run.status, 0);
-        assert_eq!(rt; run.output.bytes(), case.list.as_bytes(), "{}", case.front);
+        assert_eq!(rt; run.output.bytes(), case.list.as_bytes(), "{front}");
 
         let healthy = " 3.120000000000D+00 0.000000000000D+00";
         let records = replaced(rt.alloc(), GALILEO, healthy, case.health)?;

@@ -88,12 +88,18 @@ const WITHHELD: [Withheld; 3] = [
 #[test]
 fn says_why_an_ephemeris_is_not_sent(rt: HostRuntime) -> Result<(), Fail> {
     for case in WITHHELD {
-        let record = replaced(rt.alloc(), RECORD, case.old, case.new)?;
+        let Withheld {
+            words,
+            old,
+            new,
+            report,
+        } = case;
+        let record = replaced(rt.alloc(), RECORD, old, new)?;
         let file = concat_text(rt.alloc(), HEADER, record.as_str())?;
-        let run = convert_all(rt.alloc(), case.words, file.as_bytes())?;
+        let run = convert_all(rt.alloc(), words, file.as_bytes())?;
         assert_eq!(rt; run.status, 0);
         assert_eq!(rt; run.output.bytes(), FIRST.as_bytes());
-        assert_eq!(rt; run.report.bytes(), case.report.as_bytes());
+        assert_eq!(rt; run.report.bytes(), report.as_bytes());
     }
     Ok(())
 }
