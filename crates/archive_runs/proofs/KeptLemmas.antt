@@ -9,7 +9,6 @@ use Rattle.std.proofs.lemmas.List.Elements.{Contains-append_left, Contains-push,
 use Rattle.nav_io.specs.Front.{AppendsFront}
 use Rattle.nav_eph.specs.Satellite.{Satellite}
 use Rattle.nav_eph.specs.declared.items.NavItem.{NavItem}
-use Rattle.nav_merge.specs.Merging.{merged_of}
 use Rattle.nav_cover.specs.declared.range.CoverRange.{CoverRange}
 use Rattle.nav_cover.specs.Covering.{AreCovering, AreCovers, AreRanges, CoversSecond, IsIn}
 use Rattle.rinex_read.specs.Forms.{rinex4}

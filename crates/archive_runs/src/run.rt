@@ -40,7 +40,8 @@ pub(crate) fn follow_archive<A: Archive, S: Source, T: Sink, U: Sink>(
     ensures refused { IfSome (S.left input.old) (λ bytes.
         IsErrOf result BridgeFault.NotThisForm → IsErr (file_reads rinex4 bytes)) }
     ensures accepted { IfSome (S.left input.old) (λ bytes.
-        IsOk result ⊎ (IsErrOf result BridgeFault.WriteFault ⊎ IsErrOf result BridgeFault.ReportFault)
+        IsOk result
+        ⊎ (IsErrOf result BridgeFault.WriteFault ⊎ IsErrOf result BridgeFault.ReportFault)
         → IsOk (file_reads rinex4 bytes)) }
     ensures memory { IfSome (S.left input.old) (λ bytes.
         IsErrOf result BridgeFault.NoMemory → IsOk (file_reads rinex4 bytes)) }

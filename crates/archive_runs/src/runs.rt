@@ -66,7 +66,8 @@ pub fn run_merge<S: Source, T: Sink, U: Sink>(
     ensures refused { IfSome (S.left input.old) (λ bytes.
         IsErrOf result BridgeFault.NotThisForm → IsErr (file_reads rinex4 bytes)) }
     ensures accepted { IfSome (S.left input.old) (λ bytes.
-        IsOk result ⊎ (IsErrOf result BridgeFault.WriteFault ⊎ IsErrOf result BridgeFault.ReportFault)
+        IsOk result
+        ⊎ (IsErrOf result BridgeFault.WriteFault ⊎ IsErrOf result BridgeFault.ReportFault)
         → IsOk (file_reads rinex4 bytes)) }
     ensures memory { IfSome (S.left input.old) (λ bytes.
         IsErrOf result BridgeFault.NoMemory → IsOk (file_reads rinex4 bytes)) }
@@ -151,7 +152,8 @@ pub fn run_cover<S: Source, T: Sink, U: Sink>(
     ensures refused { IfSome (S.left input.old) (λ bytes.
         IsErrOf result BridgeFault.NotThisForm → IsErr (file_reads rinex4 bytes)) }
     ensures accepted { IfSome (S.left input.old) (λ bytes.
-        IsOk result ⊎ (IsErrOf result BridgeFault.WriteFault ⊎ IsErrOf result BridgeFault.ReportFault)
+        IsOk result
+        ⊎ (IsErrOf result BridgeFault.WriteFault ⊎ IsErrOf result BridgeFault.ReportFault)
         → IsOk (file_reads rinex4 bytes)) }
     ensures memory { IfSome (S.left input.old) (λ bytes.
         IsErrOf result BridgeFault.NoMemory → IsOk (file_reads rinex4 bytes)) }

@@ -5,6 +5,7 @@ use nav_eph::{
     GpsClock, GpsEph, GpsIon, GpsOrbitA, GpsOrbitB, GpsSide, IonContent, IonEph, NavItem, Sat,
     SentSecond, Step16, System,
 };
+use std::alloc::Global;
 use std::test::Fail;
 
 fn clock(toc: Step16) -> GpsClock {
@@ -70,22 +71,45 @@ fn gps(toe: u64, fit: U<1>) -> Result<NavItem, Fail> {
     }))
 }
 
-// The ionosphere that G07 says at the start of week 2295.
-fn ionosphere() -> Result<NavItem, Fail> {
-    Ok(NavItem::Ion(IonEph {
+// What is said of the ionosphere.
+fn ionosphere_of_gps() -> GpsIon {
+    GpsIon {
+        alpha0: S::from_digits(11),
+        alpha1: S::from_digits(0),
+        alpha2: S::from_digits(0),
+        alpha3: S::from_digits(0),
+        beta0: S::from_digits(44),
+        beta1: S::from_digits(0),
+        beta2: S::from_digits(0),
+        beta3: S::from_digits(0),
+    }
+}
+
+// Adds what the ionosphere covers that G07 says at the start of week 2295.
+fn add_ionosphere(cover: &mut Cover) -> Result<(), Fail> {
+    let content = IonContent::Gps(ionosphere_of_gps());
+    let item = NavItem::Ion(IonEph {
         sat: Sat::new(System::Gps, 7).ok_or("a satellite")?,
         moment: Moment::new(1_388_016_000).ok_or("a moment")?,
-        content: IonContent::Gps(GpsIon {
-            alpha0: S::from_digits(11),
-            alpha1: S::from_digits(0),
-            alpha2: S::from_digits(0),
-            alpha3: S::from_digits(0),
-            beta0: S::from_digits(44),
-            beta1: S::from_digits(0),
-            beta2: S::from_digits(0),
-            beta3: S::from_digits(0),
-        }),
-    }))
+        content,
+    });
+    cover.add(&item)?;
+    Ok(())
+}
+
+// Adds what items cover.
+fn add_items(cover: &mut Cover, items: &[NavItem]) -> Result<(), Fail> {
+    for item in items {
+        cover.add(item)?;
+    }
+    Ok(())
+}
+
+// Adds what an ephemeris of G05 covers, of a toe in steps and with a fit interval flag.
+fn add_ephemeris(alloc: Global, cover: &mut Cover, toe: u64, fit: u64) -> Result<(), Fail> {
+    let mut items = Vec::new(alloc);
+    items.push(gps(toe, U::new(fit).ok_or("a flag")?)?)?;
+    add_items(cover, items.as_slice())
 }
 
 // What items are added, and the ranges that they cover.
@@ -138,9 +162,9 @@ fn ranges_of_items(rt: HostRuntime) -> Result<(), Fail> {
     ];
     for row in &rows {
         let mut cover = Cover::new(rt.alloc());
-        cover.add(&ionosphere()?)?;
+        add_ionosphere(&mut cover)?;
         for toe in &row.toes {
-            cover.add(&gps(*toe, U::new(row.fit).ok_or("a flag")?)?)?;
+            add_ephemeris(rt.alloc(), &mut cover, *toe, row.fit)?;
         }
         for range in row.ranges.iter().take(row.count) {
             let first = cover.take_first().ok_or("a range")?;

@@ -1,4 +1,3 @@
-use Rattle.std.proofs.Common.{◌∙◌, refl}
 use Rattle.nav_merge.specs.Merging.{merged_of}
 use Rattle.archive_runs.proofs.runs.run_merge.Goals as goal
 
