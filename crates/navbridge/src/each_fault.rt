@@ -69,7 +69,10 @@ fn writes_a_front_where_a_write_fails(rt: HostRuntime) -> Result<(), Fail> {
         let run = convert_in_pieces(rt.alloc(), failing)?;
         assert_eq!(rt; run.status, if write < 1 { 7 } else { 0 });
         assert_eq!(rt; run.output.bytes(), file.as_bytes());
-        assert!(rt; counts.as_bytes().starts_with(run.report.bytes()), "{write}");
+        assert!(rt;
+            counts.as_bytes().starts_with(run.report.bytes()),
+            "{write}"
+        );
     }
     Ok(())
 }

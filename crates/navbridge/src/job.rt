@@ -10,8 +10,8 @@ use crate::values::values_of;
 use bridge_engine::CaptureTo;
 use gnss_week::RefWeek;
 use item_runs::{RinexTo, StreamTo};
-use rinex_write::HeaderWords;
 use job_words::{Found, options_of};
+use rinex_write::HeaderWords;
 use seed_runs::SeedTo;
 use std::alloc::{AllocError, Global};
 
