@@ -3,7 +3,8 @@ use Rattle.std.proofs.Common.{◌≡◌, ℕ, ◌+◌, ◌<◌, ◌≤◌, ◌�
 use Rattle.nav_eph.specs.Values.{IsPartValue}
 use Rattle.nav_eph.specs.declared.part.Part.{Part}
 use Rattle.nav_eph.specs.declared.items.NavItem.{NavItem}
-use Rattle.period_laws.proofs.Surface.{In, In-from_contains, contains_from_In, In-append_left, In-append_right, In-append_cases, covered}
+use Rattle.period_laws.proofs.Surface.{In, In-from_contains, contains_from_In, covered}
+use Rattle.circle_laws.proofs.AppendLemmas.{In-append_left, In-append_right, In-append_cases}
 use Rattle.period_items.specs.declared.key.Key.{Key}
 use Rattle.period_items.specs.declared.key.Place.{Place}
 use Rattle.period_items.specs.declared.closed.Finding.TheVariants.{Complete}

@@ -20,7 +20,8 @@ use Rattle.inav_word.specs.Reading.{reading_of}
 use Rattle.capture_lines.specs.Late.{IsAccepted, stamp_of}
 use Rattle.capture_lines.specs.declared.item.LineItem.{LineItem}
 use Rattle.capture_lines.specs.declared.item.LineItem.TheVariants.{Lnav, Half, Frame}
-use Rattle.period_laws.proofs.Surface.{In, In-append_right, In-from_contains, contains_from_In}
+use Rattle.period_laws.proofs.Surface.{In, In-from_contains, contains_from_In}
+use Rattle.circle_laws.proofs.AppendLemmas.{In-append_right}
 use Rattle.capture_log.specs.Events.{half_of, is_alert, of_subframe, of_word}
 use Rattle.capture_log.specs.Heard.{IsHalfHeard, IsPartHeard}
 use Rattle.capture_log.specs.declared.event.Event.{Event}

@@ -1,3 +1,4 @@
+pub mod AppendLemmas
 pub mod SlotFacts
 pub mod Slots
 pub mod History

@@ -19,7 +19,8 @@ use Rattle.lnav_subframe.specs.Bytes.{subframe_bytes}
 use Rattle.inav_word.specs.Writing.{word1_bytes, word2_bytes, word3_bytes, word4_bytes, word5_bytes}
 use Rattle.inav_page.specs.Pages.{bytes_of_half, even_of, odd_of}
 use Rattle.inav_page.specs.declared.signal.Signal.TheVariants.{E1b}
-use Rattle.period_laws.proofs.Surface.{In, In-append_cases}
+use Rattle.period_laws.proofs.Surface.{In}
+use Rattle.circle_laws.proofs.AppendLemmas.{In-append_cases}
 use Rattle.page_send.specs.Slots.{count_of, galileo_second, galileo_week_number, gps_week_number, half_item, items_at, no_ionosphere, slot_stamp, subframe_item}
 use Rattle.page_send.specs.Sendable.{first_fault, has_other_issue, is_far, is_full, is_sent, no_fault, sendable, slots_items}
 use Rattle.circle_laws.specs.SlotParts.{parts_at, slots_parts}

@@ -34,7 +34,8 @@ use Rattle.capture_lines.specs.Late.{stamp_of}
 use Rattle.capture_lines.specs.Spellings.{IsEnded, IsHalfLine, IsLnavLine}
 use Rattle.capture_lines.specs.Texts.{half_text, lnav_text}
 use Rattle.capture_lines.specs.declared.item.LineItem.{LineItem}
-use Rattle.period_laws.proofs.Surface.{In, In-append_cases, In-append_left, In-append_right, In-from_contains, contains_from_In}
+use Rattle.period_laws.proofs.Surface.{In, In-from_contains, contains_from_In}
+use Rattle.circle_laws.proofs.AppendLemmas.{In-append_cases, In-append_left, In-append_right}
 use Rattle.capture_log.specs.Events.{of_subframe, of_word}
 use Rattle.capture_log.specs.Heard.{IsPartHeard}
 use Rattle.capture_log.specs.declared.event.Event.{Event}
