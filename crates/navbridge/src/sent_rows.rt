@@ -106,15 +106,10 @@ fn says_why_an_ephemeris_is_not_sent(rt: HostRuntime) -> Result<(), Fail> {
 
 // The lines of Galileo in three orders, each line at least once: backwards and again backwards, and
 // by the digits of two numbers.
-const ORDERS: [&[usize]; 3] = [
-    &[9, 8, 7, 6, 5, 4, 3, 2, 1, 0, 9, 8, 7, 6, 5, 4, 3, 2, 1, 0],
-    &[
-        3, 1, 4, 1, 5, 9, 2, 6, 5, 3, 5, 8, 9, 7, 9, 3, 2, 3, 8, 4, 6, 2, 6, 4, 3, 3, 8, 3, 2, 7,
-        9, 5, 0,
-    ],
-    &[
-        2, 7, 1, 8, 2, 8, 1, 8, 2, 8, 4, 5, 9, 0, 4, 5, 2, 3, 5, 3, 6,
-    ],
+const ORDERS: [&[u8]; 3] = [
+    b"98765432109876543210",
+    b"314159265358979323846264338327950",
+    b"271828182845904523536",
 ];
 
 #[test]
@@ -144,8 +139,8 @@ fn comes_back_in_any_order(rt: HostRuntime) -> Result<(), Fail> {
     let back = replaced(rt.alloc(), back.as_str(), "31 00 00 08", "31 00 00 00")?;
     for order in ORDERS {
         let mut input = String::from_str(rt.alloc(), FIRST)?;
-        for number in order {
-            if let Some(line) = LINES.get(*number) {
+        for digit in order {
+            if let Some(line) = LINES.get(usize::from(digit.wrapping_sub(b'0'))) {
                 input.push_str(line)?;
             }
         }
