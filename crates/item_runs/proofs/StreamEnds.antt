@@ -10,9 +10,9 @@ use Rattle.rtcm_frame.specs.State.{payload_of}
 use Rattle.rtcm_eph.specs.Reading.{item_in}
 use Rattle.run_texts.specs.declared.fault.BridgeFault.{BridgeFault}
 use Rattle.run_texts.specs.declared.fault.BridgeFault.TheVariants.{TooLong}
-use Rattle.run_texts.specs.Runs.{RunsPart, RunsWhole, TakesTooMany, no_least}
+use Rattle.run_texts.specs.Runs.{RunsPart, RunsSettled, RunsWhole, TakesTooMany, no_least}
 use Rattle.item_runs.specs.declared.counts.StreamCounts.{StreamCounts}
-use Rattle.item_runs.specs.Streams.{Reading, RunsSettled, counts_of_readings, has, items_in, reading_report, readings, readings_output, readings_report, settled_output_by, settled_stream_report, stream_counts, stream_counts_text, stream_output_by, stream_report}
+use Rattle.item_runs.specs.Streams.{Reading, counts_of_readings, has, items_in, reading_report, readings, readings_output, readings_report, settled_output_by, settled_stream_report, stream_counts, stream_counts_text, stream_output_by, stream_report}
 use Rattle.item_runs.specs.Mirrors.{GivenState, StreamAll, StreamPart, StreamSettled, StreamSoFar, is_given, once_text}
 use Rattle.item_runs.proofs.FileLemmas.{between, err_same, front_longer, no_front}
 use Rattle.item_runs.proofs.RecordLemmas.{front_behind, whole_front}

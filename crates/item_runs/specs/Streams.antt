@@ -1,7 +1,6 @@
 -- The items of a stream of RTCM frames, each at its first place only, and what is written and reported of the stream.
-use Rattle.std.specs.Prelude.{ℕ, ◌+◌, ◌||◌, Bool, false, if◌then◌else◌, List, [], ◌∷◌, ◌++◌, length, codes, map, sum, Option, Result, Ok, Err}
+use Rattle.std.specs.Prelude.{ℕ, ◌+◌, ◌||◌, Bool, false, if◌then◌else◌, List, [], ◌∷◌, ◌++◌, length, codes, map, sum, Result, Ok, Err}
 use Rattle.std.specs.List.{flat_map}
-use Rattle.std.specs.Io.KnownBytes.{Appends, Consumes}
 use Rattle.nav_eph.specs.Items.{same_item}
 use Rattle.nav_eph.specs.declared.items.NavItem.{NavItem}
 use Rattle.rtcm_frame.specs.Frames.{decided, frames}
@@ -129,10 +128,3 @@ settled_stream_output to r bytes = settled_output_by (stream_front to) (stream_i
 
 abbrev pub settled_stream_report : ℕ → List ℕ → List ℕ
 settled_stream_report r bytes = readings_report 1 (settled_readings r bytes)
-
--- a read failed: these bytes were taken, and exactly what they settle was written and reported
-pub record RunsSettled (output report : List ℕ → List ℕ) (left left_new written written_new reported reported_new : Option (List ℕ)) : Type 0 where
-  pub taken : List ℕ
-  pub consumes : Consumes left left_new taken
-  pub text : Appends written written_new (output taken)
-  pub report_text : Appends reported reported_new (report taken)

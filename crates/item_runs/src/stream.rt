@@ -3,8 +3,8 @@
 ghost use Rattle.std.specs.Prelude.{◌≡◌, ◌^◌, ◌<◌, ◌≤◌, length, IsTrue, IsErrOf, IfOk, IfSome, OnOk, OnErr};
 ghost use Rattle.std.specs.Io.KnownBytes.{Appends};
 ghost use Rattle.run_texts.specs.Causes.{HasItsCause, faults_of};
-ghost use Rattle.run_texts.specs.Runs.{RunsPart, RunsWhole, TakesTooMany, no_least};
-ghost use Rattle.item_runs.specs.Streams.{RunsSettled, settled_output_by, settled_stream_report};
+ghost use Rattle.run_texts.specs.Runs.{RunsPart, RunsSettled, RunsWhole, TakesTooMany, no_least};
+ghost use Rattle.item_runs.specs.Streams.{settled_output_by, settled_stream_report};
 ghost use Rattle.item_runs.specs.Streams.{stream_counts, stream_output_by, stream_report};
 
 use crate::counts::{StreamCounts, stream_counts_text};

@@ -3,8 +3,8 @@
 ghost use Rattle.std.specs.Prelude.{◌≡◌, ◌⊎◌, ◌^◌, ◌<◌, ◌≤◌, length, IsTrue, IsOk, IsErr, IsErrOf, IfOk, IfSome, OnOk, OnErr};
 ghost use Rattle.std.specs.Io.KnownBytes.{Appends};
 ghost use Rattle.nav_io.specs.Causes.{Rose};
-ghost use Rattle.run_texts.specs.Runs.{RunsPart, RunsWhole, TakesTooMany, no_least};
-ghost use Rattle.item_runs.specs.Streams.{RunsSettled, settled_stream_output};
+ghost use Rattle.run_texts.specs.Runs.{RunsPart, RunsSettled, RunsWhole, TakesTooMany, no_least};
+ghost use Rattle.item_runs.specs.Streams.{settled_stream_output};
 ghost use Rattle.item_runs.specs.Streams.{settled_stream_report, stream_counts, stream_output};
 ghost use Rattle.item_runs.specs.Streams.{stream_report};
 ghost use Rattle.item_runs.specs.Targets.{HasStreamLeap};

@@ -10,12 +10,12 @@ use Rattle.seed_runs.specs.declared.target.SeedTo.TheVariants as seeds
 use Rattle.seed_runs.specs.Seeds.{SeedBroke}
 use Rattle.bridge_engine.specs.FrameLines.{line_of}
 use Rattle.bridge_engine.specs.FrameRuns.{RunsPart as FramesPart}
-use Rattle.run_texts.specs.Runs.{RunsPart}
+use Rattle.run_texts.specs.Runs.{RunsPart, RunsSettled}
 use Rattle.run_texts.specs.declared.fault.BridgeFault.{BridgeFault}
 use Rattle.navbridge.specs.declared.job.Job.TheVariants.{StreamToFrames, Capture, Stream, Rinex, Rinex3, SendRinex, SendRinex3, Merge, Cover, Seed}
 use Rattle.navbridge.specs.declared.job.Job.{Job}
 use Rattle.navbridge.specs.declared.job.StreamJob.{StreamJob}
-use Rattle.item_runs.specs.Streams.{RunsSettled, settled_stream_output, settled_stream_report}
+use Rattle.item_runs.specs.Streams.{settled_stream_output, settled_stream_report}
 use Rattle.navbridge.specs.JobTexts.{out_of, report_of, least_of, Breaks, Stops}
 
 -- the same end, without what was counted

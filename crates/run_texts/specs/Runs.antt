@@ -32,6 +32,13 @@ pub record RunsExactly (settled : List ℕ → List ℕ) (left left_new written 
   pub consumes : Consumes left left_new taken
   pub text : Appends written written_new (settled taken)
 
+-- a read failed: these bytes were taken, and exactly what they settle was written and reported
+pub record RunsSettled (output report : List ℕ → List ℕ) (left left_new written written_new reported reported_new : Option (List ℕ)) : Type 0 where
+  pub taken : List ℕ
+  pub consumes : Consumes left left_new taken
+  pub text : Appends written written_new (output taken)
+  pub report_text : Appends reported reported_new (report taken)
+
 -- more bytes than a run takes were there
 pub record TakesTooMany (left left_new : Option (List ℕ)) : Type 0 where
   pub taken : List ℕ
