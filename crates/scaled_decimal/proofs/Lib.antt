@@ -9,7 +9,9 @@ pub mod ColumnLemmas
 pub mod SizeLemmas
 pub mod BlankLemmas
 pub mod PrintLemmas
-pub mod FillLemmas
+pub mod DigitLemmas
+pub mod TableLemmas
+pub mod QuotientLemmas
 pub mod WalkLemmas
 pub mod ReadLemmas
 pub mod GrammarLemmas

@@ -1,5 +1,5 @@
 -- The size of a scale that is accepted: its parts, and that each number at it is in reach.
-use Rattle.std.proofs.Common.{◌≡◌, ℕ, zero, suc, ◌+◌, ◌*◌, ◌^◌, ◌<◌, ◌≤◌, Bool, true, false, refl, sym, ap, ap₂, ◌∙◌, subst, arith, ℤ, pos, negsuc, ◌≤ℤ◌, mul-pos, mul-le-mul}
+use Rattle.std.proofs.Common.{◌≡◌, ℕ, zero, suc, ◌+◌, ◌*◌, ◌%◌, ◌^◌, ◌<◌, ◌≤◌, Bool, true, false, refl, sym, ap, ap₂, ◌∙◌, subst, arith, ℤ, pos, negsuc, ◌≤ℤ◌, mul-pos, mul-le-mul}
 use Rattle.std.proofs.Math.Nat.{pow-le-pow_right, one-le-pow}
 use Rattle.std.proofs.lemmas.Int.{ints}
 use Rattle.scaled_decimal.specs.declared.scales.Scale.{Scale}
@@ -125,3 +125,11 @@ is_sized s two ten f w g a b h two_is ten_is f_is a_is b_is pi wf wt tens gf gt 
     subst (λ y. IsSized s f w g a y) (sym b_plain)
     (subst (λ x. IsSized s f w g x (two_to s.two).under) (sym a_plain)
     (subst (λ n. IsSized s n w g (two_to s.two).over (two_to s.two).under) (sym f_is) plain))
+
+-- the same product in another order, which fits in 128 bits
+pub product_is : (f w g a x y : ℕ) → x ≡ f * g → y ≡ w → ((f * w) * g) * a ≤ ((60 * 3141592653589800000) * 100) * 2 ^ 16
+    → ((x * y) * a) % 2 ^ 128 ≡ ((f * w) * g) * a
+product_is f w g a x y x_is y_is most =
+    let turned : (x * y) * a ≡ ((f * g) * w) * a = ap₂ (λ m n. (m * n) * a) x_is y_is in
+    let same : (x * y) * a ≡ ((f * w) * g) * a = omega arith in
+    omega arith

@@ -1,5 +1,6 @@
 -- What private functions keep on the way, cited by no public clause.
 use Rattle.std.specs.Prelude.{◌≡◌, ℕ, ◌*◌, ◌^◌, ◌<◌, ◌≤◌, ℤ, pos, negsuc, ◌≤ℤ◌}
+use Rattle.scaled_decimal.specs.Fractions.{IsNearest}
 
 -- a fraction with its first digit at the place k, times the power p / q of ten that takes that place to 12
 pub record IsMoved (over under k over' under' : ℕ) : Type 0 where
@@ -11,6 +12,13 @@ pub record IsMoved (over under k over' under' : ℕ) : Type 0 where
   pub over_is : over' ≡ over * p
   pub under_is : under' ≡ under * q
   pub below : over' < 10 ^ 13 * under'
+
+-- the thirteen digits of a fraction with its first digit at the place k
+pub record AreDigits (over under k d : ℕ) : Type 0 where
+  pub over' : ℕ
+  pub under' : ℕ
+  pub moved : IsMoved over under k over' under'
+  pub nearest : IsNearest (record { over = over'; under = under' }) d
 
 -- a number taken ten times k times, which is at most another one
 pub record IsReached (over start k reached : ℕ) : Type 0 where

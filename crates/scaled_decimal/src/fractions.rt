@@ -1,38 +1,34 @@
 //! Fractions in 128 bits: the size of a scale, and the whole number nearest to a fraction.
 
-ghost use Rattle.std.specs.Prelude.{◌≡◌, ◌*◌, ◌^◌, ◌<◌, ◌≤◌, ◌≤ℤ◌, pos, negsuc};
+ghost use Rattle.std.specs.Prelude.{◌≡◌, ◌+◌, ◌*◌, ◌/◌, ◌^◌, ◌<◌, ◌≤◌, ◌≤ℤ◌, pos, negsuc};
 ghost use Rattle.scaled_decimal.specs.Fractions.{IsNearest, two_to, ten_to};
 ghost use Rattle.scaled_decimal.specs.ScaleValue.{size_of, pi_part, AreWithin};
 
+use crate::powers::{fifths, power_of_five, power_of_two};
 use crate::scales::Scale;
 
-/// The size of a scale times 10^20, as a fraction.
+/// The size of a scale times 10^20, as a fraction by 2^bits.
 #[derive(Clone, Copy)]
 pub(crate) struct Ratio {
     pub(crate) over: u128,
-    pub(crate) under: u128,
+    pub(crate) bits: u32,
 }
 
-fn power_of_two(exponent: u32) -> u128
-    requires { exponent < 128 }
-    ensures { result ≡ 2 ^ exponent }
-{
-    1 << exponent
-}
-
-// Two to the power of an exponent, as a fraction.
-fn two_parts(exponent: i32) -> (u128, u128)
+// Two to the power of an exponent, as a fraction of powers of two: their exponents.
+fn two_parts(exponent: i32) -> (u32, u32)
     requires from { negsuc 58 ≤ℤ exponent }
     requires to { exponent ≤ℤ pos 16 }
-    ensures over { result.0 ≡ (two_to exponent).over }
-    ensures under { result.1 ≡ (two_to exponent).under }
+    ensures over { 2 ^ result.0 ≡ (two_to exponent).over }
+    ensures under { 2 ^ result.1 ≡ (two_to exponent).under }
+    ensures up { result.0 ≤ 16 }
+    ensures bits { result.1 ≤ 59 }
 {
-    let power = power_of_two(exponent.unsigned_abs());
-    if exponent < 0 { (1, power) } else { (power, 1) }
+    let size = exponent.unsigned_abs();
+    if exponent < 0 { (0, size) } else { (size, 0) }
 }
 
 // 10^18 times pi or 1.
-fn pi_part(pi: bool) -> u128
+fn pi_part(pi: bool) -> u64
     ensures whole { (pi_part pi).over * 10 ^ 18 ≡ (pi_part pi).under * result }
     ensures from { 10 ^ 18 ≤ result }
     ensures to { result ≤ 3141592653589800000 }
@@ -45,7 +41,7 @@ fn pi_part(pi: bool) -> u128
 }
 
 // 100 times 10^ten.
-fn hundredths(ten: i32) -> u128
+fn hundredths(ten: i32) -> u64
     requires from { negsuc 1 ≤ℤ ten }
     requires to { ten ≤ℤ pos 0 }
     ensures whole { (ten_to ten).over * 100 ≡ (ten_to ten).under * result }
@@ -64,18 +60,96 @@ fn hundredths(ten: i32) -> u128
 /// The size of a scale.
 pub(crate) fn ratio_of(scale: &Scale) -> Ratio
     requires { AreWithin scale.now.factor scale.now.two scale.now.ten }
-    ensures same { (size_of scale.now).over * (result.under * 10 ^ 20)
+    ensures same { (size_of scale.now).over * (2 ^ result.bits * 10 ^ 20)
         ≡ result.over * (size_of scale.now).under }
-    ensures some { 0 < result.under }
-    ensures under { result.under ≤ 2 ^ 59 }
-    ensures least { result.under ≤ result.over }
+    ensures bits { result.bits ≤ 59 }
+    ensures least { 2 ^ result.bits ≤ result.over }
     ensures most { 4294967296 * result.over ≤ 10 ^ 37 }
 {
     let whole = pi_part(scale.pi);
-    let tens = hundredths(scale.ten);
-    let (power, under) = two_parts(scale.two);
-    let over = u128::from(scale.factor) * whole * tens * power;
-    Ratio { over, under }
+    let tens = u64::from(scale.factor) * hundredths(scale.ten);
+    let (power, bits) = two_parts(scale.two);
+    let over = u128::from(tens) * u128::from(whole) << power;
+    Ratio { over, bits }
+}
+
+// The whole number or the next one, by the rest of a division, halves to even.
+fn rounded(whole: u128, rest: u128, under: u128) -> u128
+    requires rest { rest < under }
+    requires whole { whole * under + rest < 2 ^ 128 }
+    ensures { IsNearest (record { over = whole * under + rest; under = under }) result }
+{
+    let gap = under - rest;
+    if rest < gap || (rest == gap && whole % 2 == 0) {
+        whole
+    } else {
+        whole + 1
+    }
+}
+
+/// The whole number nearest to a fraction by a power of two, halves to even.
+pub(crate) fn nearest_by_two(over: u128, bits: u32) -> u128
+    requires { bits ≤ 59 }
+    ensures { IsNearest (record { over = over; under = 2 ^ bits }) result }
+{
+    let whole = over >> bits;
+    rounded(whole, over - (whole << bits), power_of_two(bits))
+}
+
+// The quotient of a number by a power of five.
+fn quotient_by_five(part: u128, five: u64, guess: u64) -> u128
+    requires { 0 < five }
+    ensures { result ≡ part / five }
+{
+    let five = u128::from(five);
+    let whole = u128::from(guess);
+    let taken = whole * five;
+    if taken <= part {
+        let rest = part - taken;
+        if rest < five {
+            return whole;
+        }
+        if rest - five < five {
+            return whole + 1;
+        }
+    }
+    part / five
+}
+
+/// The whole number nearest to a fraction by 2^bits x 10^tens, halves to even.
+pub(crate) fn nearest_by_ten(over: u128, bits: u32, tens: u32) -> u128
+    requires bits { bits ≤ 59 }
+    requires tens { tens < 25 }
+    requires fits { 2 ^ bits * 10 ^ tens ≤ over }
+    ensures { IsNearest (record { over = over; under = 2 ^ bits * 10 ^ tens }) result }
+{
+    let five = power_of_five(tens);
+    let under = u128::from(five) << (bits + tens);
+    let part = over >> (bits + tens);
+    let whole = quotient_by_five(part, five, fifths(part, tens));
+    rounded(whole, over - whole * under, under)
+}
+
+// A quotient: from the 64 bits of each number at the front of the first one, which give it or a
+// little less, else by a division.
+fn quotient(over: u128, under: u128) -> u128
+    requires { 0 < under }
+    ensures { result ≡ over / under }
+{
+    let drop = 64 - over.leading_zeros().min(64);
+    let size = under >> drop;
+    if size < 0xffff_ffff_ffff_ffff {
+        let front = (over >> drop) % (1 << 64);
+        let whole = u128::from(front as u64 / (size as u64 + 1));
+        let rest = over - whole * under;
+        if rest < under {
+            return whole;
+        }
+        if rest - under < under {
+            return whole + 1;
+        }
+    }
+    over / under
 }
 
 /// The whole number nearest to a fraction, halves to even.
@@ -83,12 +157,6 @@ pub(crate) fn nearest(over: u128, under: u128) -> u128
     requires { 0 < under }
     ensures { IsNearest (record { over = over; under = under }) result }
 {
-    let whole = over / under;
-    let rest = over % under;
-    let gap = under - rest;
-    if rest < gap || (rest == gap && whole % 2 == 0) {
-        whole
-    } else {
-        whole + 1
-    }
+    let whole = quotient(over, under);
+    rounded(whole, over - whole * under, under)
 }

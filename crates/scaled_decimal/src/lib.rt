@@ -17,6 +17,7 @@
 mod fractions;
 mod grammar;
 mod laws;
+mod powers;
 mod printing;
 mod reading;
 mod scales;

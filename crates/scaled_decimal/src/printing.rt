@@ -1,14 +1,15 @@
 //! Printing a number at a scale.
 
-ghost use Rattle.std.specs.Prelude.{◌≡◌, ◌+◌, ◌*◌, ◌^◌, ◌<◌, ◌≤◌, ◌∷◌, ◌++◌, take};
-ghost use Rattle.std.specs.Prelude.{drop, ◌≤ℤ◌, pos, negsuc, length, unsigned_abs};
+ghost use Rattle.std.specs.Prelude.{◌≡◌, ◌+◌, ◌*◌, ◌%◌, ◌^◌, ◌<◌, ◌≤◌, ◌∷◌};
+ghost use Rattle.std.specs.Prelude.{◌≤ℤ◌, pos, negsuc, unsigned_abs};
 ghost use Rattle.scaled_decimal.specs.Fractions.{scaled};
 ghost use Rattle.scaled_decimal.specs.ScaleValue.{size_of, AreWithin};
-ghost use Rattle.scaled_decimal.specs.Mirrors.{IsMoved};
+ghost use Rattle.scaled_decimal.specs.Mirrors.{AreDigits};
 ghost use Rattle.scaled_decimal.specs.NumberText.{carried, parts_to, parts_at, digits};
 ghost use Rattle.scaled_decimal.specs.NumberText.{exponent_sign, body, sign_column, number_text};
 
-use crate::fractions::{Ratio, nearest, ratio_of};
+use crate::fractions::{nearest_by_ten, nearest_by_two, ratio_of};
+use crate::powers::{power_of_ten, power_of_two};
 use crate::scales::Scale;
 
 // Thirteen digits, with a point after the first, and an exponent.
@@ -40,8 +41,8 @@ fn steps_to(over: u128, start: u128, limit: u32) -> u32
     limit
 }
 
-// The place of the first digit of a fraction.
-fn place_of(over: u128, under: u128) -> u32
+// The place of the first digit of a fraction, by steps.
+fn place_by_steps(over: u128, under: u128) -> u32
     requires least { under ≤ over }
     requires most { over < under * 10 ^ 37 }
     requires under { under ≤ 2 ^ 59 }
@@ -58,21 +59,43 @@ fn place_of(over: u128, under: u128) -> u32
     }
 }
 
-// A fraction with its first digit at a place, times the power of ten that takes that place to 12.
-fn shifted(over: u128, under: u128, place: u32) -> Ratio
-    requires some { 0 < under }
-    requires under { under ≤ 2 ^ 59 }
-    requires at_most { under * 10 ^ place ≤ over }
-    requires below { over < under * 10 ^ (place + 1) }
+// The place of the first digit of a fraction by 2^bits: about 3/10 of the bits before its point,
+// which the powers of ten there confirm.
+fn place_of(over: u128, bits: u32) -> u32
+    requires bits { bits ≤ 59 }
+    requires least { 2 ^ bits ≤ over }
+    requires most { over < 2 ^ bits * 10 ^ 37 }
+    requires over { over < 10 ^ 37 }
+    ensures at_most { 2 ^ bits * 10 ^ result ≤ over }
+    ensures below { over < 2 ^ bits * 10 ^ (result + 1) }
+    ensures limit { result ≤ 36 }
+{
+    let whole = over >> bits;
+    let most = (128u32.saturating_sub(whole.leading_zeros()) * 1233 >> 12).min(36);
+    let place = if whole < power_of_ten(most) {
+        most.saturating_sub(1)
+    } else {
+        most
+    };
+    if power_of_ten(place) <= whole && whole < power_of_ten(place + 1) {
+        place
+    } else {
+        place_by_steps(over, power_of_two(bits))
+    }
+}
+
+// The thirteen digits of a fraction by 2^bits with its first digit at a place.
+fn digits_at(over: u128, bits: u32, place: u32) -> u128
+    requires bits { bits ≤ 59 }
+    requires at_most { 2 ^ bits * 10 ^ place ≤ over }
+    requires below { over < 2 ^ bits * 10 ^ (place + 1) }
     requires place { place ≤ 36 }
-    ensures { IsMoved over under place result.over result.under }
+    ensures { AreDigits over (2 ^ bits) place result }
 {
     if place <= 12 {
-        let over = over * 10u128.pow(12 - place);
-        Ratio { over, under }
+        nearest_by_two(over * power_of_ten(12 - place), bits)
     } else {
-        let under = under * 10u128.pow(place - 12);
-        Ratio { over, under }
+        nearest_by_ten(over, bits, place - 12)
     }
 }
 
@@ -102,32 +125,30 @@ fn parts_of(number: u64, scale: &Scale) -> Parts
 {
     let size = ratio_of(scale);
     let over = u128::from(number) * size.over;
-    let place = place_of(over, size.under);
-    let moved = shifted(over, size.under, place);
-    let digits = nearest(moved.over, moved.under) as u64;
+    let place = place_of(over, size.bits);
+    let digits = digits_at(over, size.bits, place) as u64;
     carried(digits, place as i32 - 20)
 }
 
-// Writes the last digits of a number, as many as there is room for.
-fn fill_digits(into: &mut [u8], number: u64)
-    ensures { into.new ≡ digits (length into.old) number }
+// The last digit of a number.
+fn last_digit(number: u32) -> u8
+    ensures { result ≡ 48 + number % 10 }
 {
-    let mut left = number;
-    let mut place = into.len();
-    while place > 0 {
-        place -= 1;
-        into[place] = b'0' + (left % 10) as u8;
-        left /= 10;
-    }
+    b'0' + (number % 10) as u8
 }
 
-// Writes the last digits of a number into some columns of a text.
-fn put_digits(text: &mut [u8], from: usize, count: usize, number: u64)
-    requires { from + count ≤ length text.old }
-    ensures { text.new ≡ take from text.old ++ (digits count number ++ drop
-        (from + count) text.old) }
+// The last six digits of a number.
+fn six_digits(number: u32) -> [u8; 6]
+    ensures { result ≡ digits 6 number }
 {
-    fill_digits(&mut text[from..from + count], number);
+    [
+        last_digit(number / 10 / 10 / 10 / 10 / 10),
+        last_digit(number / 10 / 10 / 10 / 10),
+        last_digit(number / 10 / 10 / 10),
+        last_digit(number / 10 / 10),
+        last_digit(number / 10),
+        last_digit(number),
+    ]
 }
 
 fn exponent_sign(exponent: i32) -> u8
@@ -141,13 +162,32 @@ fn text_of(sign: u8, parts: &Parts) -> [u8; 19]
     ensures { result ≡ sign ∷ body
         (record { digits = parts.now.digits; exponent = parts.now.exponent }) }
 {
-    let mut text = *b" 0.000000000000D+00";
-    text[0] = sign;
-    text[16] = exponent_sign(parts.exponent);
-    put_digits(&mut text, 1, 1, parts.digits / 1_000_000_000_000);
-    put_digits(&mut text, 3, 12, parts.digits % 1_000_000_000_000);
-    put_digits(&mut text, 17, 2, u64::from(parts.exponent.unsigned_abs()));
-    text
+    let first = (parts.digits / 1_000_000_000_000 % 10) as u32;
+    let others = parts.digits % 1_000_000_000_000;
+    let [a, b, c, d, e, f] = six_digits((others / 1_000_000) as u32);
+    let [g, h, i, j, k, l] = six_digits((others % 1_000_000) as u32);
+    let exponent = parts.exponent.unsigned_abs();
+    [
+        sign,
+        last_digit(first),
+        b'.',
+        a,
+        b,
+        c,
+        d,
+        e,
+        f,
+        g,
+        h,
+        i,
+        j,
+        k,
+        l,
+        b'D',
+        exponent_sign(parts.exponent),
+        last_digit(exponent / 10),
+        last_digit(exponent),
+    ]
 }
 
 // The digits and the exponent of a number.

@@ -9,6 +9,7 @@ ghost use Rattle.scaled_decimal.specs.NumberReading.{at_size, signed, seen, numb
 
 use crate::fractions::{nearest, ratio_of};
 use crate::grammar::{Decimal, decimal_of, trimmed};
+use crate::powers::power_of_ten;
 use crate::scales::Scale;
 use thiserror::Error;
 
@@ -29,32 +30,52 @@ pub enum DecimalFault {
 // The greatest number, without its sign.
 const GREATEST: u128 = 4_294_967_295;
 
-// digits x 10^up x under; None where that has more than 128 bits.
-fn wide_product(digits: u128, up: u32, under: u128) -> Option<u128>
-    ensures { SomeIff result (digits * 10 ^ up * under < 2 ^ 128) (digits * 10 ^ up * under) }
+// number x 10^tens; None where that has more than 128 bits.
+fn tenfold(number: u128, tens: u32) -> Option<u128>
+    ensures { SomeIff result (number * 10 ^ tens < 2 ^ 128) (number * 10 ^ tens) }
 {
-    if digits == 0 || under == 0 {
+    if number == 0 {
         return Some(0);
     }
-    let power = 10u128.checked_pow(up)?;
-    digits.checked_mul(power)?.checked_mul(under)
+    if tens > 38 {
+        return None;
+    }
+    number.checked_mul(power_of_ten(tens))
 }
 
-// The whole number nearest to digits x 10^up / 10^down divided by a ratio; None only where it is
-// above 2^32.
-fn nearest_at(digits: u64, up: u32, down: u32, over: u128, under: u128) -> Option<u128>
+// number x 2^bits; None where that has more than 128 bits.
+fn doubled(number: u128, bits: u32) -> Option<u128>
+    requires { bits ≤ 59 }
+    ensures { SomeIff result (number * 2 ^ bits < 2 ^ 128) (number * 2 ^ bits) }
+{
+    if number > u128::MAX >> bits {
+        return None;
+    }
+    Some(number << bits)
+}
+
+// digits x 10^up x 2^bits; None where that has more than 128 bits.
+fn wide_product(digits: u128, up: u32, bits: u32) -> Option<u128>
+    requires { bits ≤ 59 }
+    ensures { SomeIff result (digits * 10 ^ up * 2 ^ bits < 2 ^ 128) (digits * 10 ^ up * 2 ^ bits) }
+{
+    doubled(tenfold(digits, up)?, bits)
+}
+
+// The whole number nearest to digits x 10^up / 10^down divided by over / 2^bits; None only where it
+// is above 2^32.
+fn nearest_at(digits: u64, up: u32, down: u32, over: u128, bits: u32) -> Option<u128>
     requires digits { digits < 10 ^ 18 }
     requires one { (up ≡ 0) ⊎ (down ≡ 0) }
     requires over { 0 < over }
     requires most { 4294967296 * over ≤ 10 ^ 37 }
-    requires some { 0 < under }
-    requires under { under ≤ 2 ^ 59 }
-    ensures { MatchOption result (8589934592 * (over * 10 ^ down) < digits * 10 ^ up * under)
-        (λ n. IsNearest (record { over = digits * 10 ^ up * under; under = over * 10 ^ down }) n) }
+    requires bits { bits ≤ 59 }
+    ensures { MatchOption result (8589934592 * (over * 10 ^ down) < digits * 10 ^ up * 2 ^ bits)
+        (λ n. IsNearest (record { over = digits * 10 ^ up * 2 ^ bits; under = over * 10 ^ down }) n) }
 {
     match (
-        wide_product(u128::from(digits), up, under),
-        wide_product(over, down, 1),
+        wide_product(u128::from(digits), up, bits),
+        tenfold(over, down),
     ) {
         (Some(wide), Some(size)) => Some(nearest(wide, size)),
         (None, _) => None,
@@ -88,7 +109,7 @@ fn value_at(decimal: &Decimal, scale: &Scale) -> Option<u128>
 {
     let size = ratio_of(scale);
     let (up, down) = shifts(decimal.exponent + 20);
-    nearest_at(decimal.digits, up, down, size.over, size.under)
+    nearest_at(decimal.digits, up, down, size.over, size.bits)
 }
 
 // The same; None exactly where it is above the greatest number.

@@ -1,11 +1,6 @@
-use Rattle.std.proofs.Common.{◌*◌, ◌^◌, refl}
-use Rattle.scaled_decimal.proofs.PrintLemmas.{from_high}
+use Rattle.std.proofs.Common.{arith}
+use Rattle.scaled_decimal.proofs.QuotientLemmas.{two_to_59}
 use Rattle.scaled_decimal.proofs.printing.place_of.Goals as goal
 
-pub returns-then-high-over-clause-at_most : goal.returns-then-high-over-clause-at_most
-returns-then-high-over-clause-at_most c =
-    (from_high c.args.over c.args.under (c.args.under * 10 ^ 16) c.steps_to.result refl c.steps_to.ensures.at_most c.steps_to.ensures.below).0
-
-pub returns-then-high-over-clause-below : goal.returns-then-high-over-clause-below
-returns-then-high-over-clause-below c =
-    (from_high c.args.over c.args.under (c.args.under * 10 ^ 16) c.steps_to.result refl c.steps_to.ensures.at_most c.steps_to.ensures.below).1
+pub place_by_steps-requires-clause-under : goal.place_by_steps-requires-clause-under
+place_by_steps-requires-clause-under c = let least = two_to_59 c.args.bits c.requires.bits in omega arith

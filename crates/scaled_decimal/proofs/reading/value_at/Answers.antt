@@ -1,4 +1,5 @@
-use Rattle.std.proofs.Common.{◌≡◌, ◌+ℤ◌, ℤ, pos, arith, w32, to_z, of_z}
+use Rattle.std.proofs.Common.{◌≡◌, ◌^◌, ◌+ℤ◌, ℤ, pos, arith, w32, to_z, of_z}
+use Rattle.std.proofs.lemmas.Nat.{pow_pos}
 use Rattle.std.proofs.lemmas.Int.{ints}
 use Rattle.scaled_decimal.specs.ScaleValue.{size_of}
 use Rattle.scaled_decimal.specs.NumberReading.{Reading}
@@ -14,10 +15,10 @@ returns c =
     let shift = c.shifts-up in
     let x : ℤ = to_z w32 (of_z w32 (to_z w32 (of_z w32 d.exponent) +ℤ pos 20)) in
     let is : x ≡ d.exponent +ℤ pos 20 = omega (arith, ints, c.requires.decimal.from, c.requires.decimal.to) in
-    value_cases (size_of c.args.scale.now) r x shift.result.0 shift.result.1 size.result.over size.result.under c.nearest_at.result
+    value_cases (size_of c.args.scale.now) r x shift.result.0 shift.result.1 size.result.over (2 ^ size.result.bits) c.nearest_at.result
     (record {
       some = (is_scale c.args.scale.now c.requires.scale).some;
-      pos_o = omega (arith, size.ensures.some, size.ensures.least);
+      pos_o = let some = pow_pos size.result.bits in omega (arith, size.ensures.least);
       size = size.ensures.same;
       shift = is;
       over_is = shift.ensures.over;
