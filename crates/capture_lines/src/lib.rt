@@ -3,8 +3,8 @@
 //! IS-GPS-200 (20.3.2) and of the Galileo OS SIS ICD (4.3.2), the frames those of RTCM 10403.3.
 //!
 //! - [`read_first`], the first line, which tells the form;
-//! - [`read_line`], what a further line stands for ([`LineItem`]): a subframe, a page half, a
-//!   frame, nothing (a comment), or none of these;
+//! - [`read_line`] and [`read_line_into`], what a further line stands for ([`LineItem`]): a
+//!   subframe, a page half, a frame, nothing (a comment), or none of these;
 //! - [`write_lnav`], [`write_half_line`] and [`write_rtcm`], which write a line into a text of
 //!   fixed size ([`LineText`]).
 //!
@@ -34,5 +34,5 @@ pub use crate::laws::{
     each_first_line_is_one_head, each_line_stands_for_one_thing, late_is_behind_the_greatest_stamp,
     spellings_are_lines, stamps_have_32_bits, texts_stand_for_their_items,
 };
-pub use crate::line::read_line;
+pub use crate::line::{read_line, read_line_into};
 pub use crate::write::{LineText, write_half_line, write_lnav, write_rtcm};

@@ -29,18 +29,30 @@ const LONGEST_COMMENT: usize = 2200;
 /// The stamp has one to ten decimal digits and is at most 4,294,967,295; hexadecimal digits are of
 /// either case. A line of at most 2,200 bytes that begins with `#`, is empty or has blanks alone is
 /// `Pass`; every other line is `Malformed`.
-#[tactic(auto, unfolding(crate::specs::Reading::item_of))]
 pub fn read_line(line: &[u8]) -> LineItem
     ensures item { result ≡ item_of line.now }
     ensures stands { StandsFor result line.now }
 {
+    let mut item = LineItem::Malformed;
+    read_line_into(line, &mut item);
+    item
+}
+
+/// [`read_line`] into an item of the caller's, whatever it was before: an item has room for a whole
+/// frame, and so nothing of that size is moved.
+#[tactic(auto, unfolding(crate::specs::Reading::item_of))]
+pub fn read_line_into(line: &[u8], item: &mut LineItem)
+    ensures item { item.new ≡ item_of line.now }
+    ensures stands { StandsFor item.new line.now }
+{
     if is_passed_line(line) {
-        return LineItem::Pass;
+        *item = LineItem::Pass;
+        return;
     }
     let count = digit_count(line);
     match number_of(line, count) {
-        Some(stamp) => form(stamp, &line[count..]),
-        None => LineItem::Malformed,
+        Some(stamp) => read_form(stamp, &line[count..], item),
+        None => *item = LineItem::Malformed,
     }
 }
 
@@ -74,17 +86,17 @@ fn begins(text: &[u8], front: &[u8]) -> bool
 
 // What stands behind the stamp.
 #[tactic(auto, unfolding(crate::specs::Reading::form_in))]
-fn form(stamp: u32, rest: &[u8]) -> LineItem
-    ensures { result ≡ form_in stamp rest.now }
+fn read_form(stamp: u32, rest: &[u8], item: &mut LineItem)
+    ensures { item.new ≡ form_in stamp rest.now }
 {
     if begins(rest, b" L G") {
-        lnav(stamp, rest)
+        read_lnav(stamp, rest, item);
     } else if begins(rest, b" P E") {
-        half(stamp, rest)
+        read_half_line(stamp, rest, item);
     } else if begins(rest, b" R ") {
-        frame(stamp, &rest[3..])
+        read_frame(stamp, &rest[3..], item);
     } else {
-        LineItem::Malformed
+        *item = LineItem::Malformed;
     }
 }
 
@@ -113,67 +125,66 @@ fn signal_of(letter: u8) -> Option<Signal>
 
 // A subframe.
 #[tactic(auto, unfolding(crate::specs::Reading::lnav_in))]
-fn lnav(stamp: u32, rest: &[u8]) -> LineItem
-    ensures { result ≡ lnav_in stamp rest.now }
+fn read_lnav(stamp: u32, rest: &[u8], item: &mut LineItem)
+    ensures { item.new ≡ lnav_in stamp rest.now }
 {
+    *item = LineItem::Malformed;
     if rest.len() < 7 || rest[6] != b' ' {
-        return LineItem::Malformed;
+        return;
     }
     let Some(sat) = satellite(System::Gps, rest[4], rest[5]) else {
-        return LineItem::Malformed;
+        return;
     };
-    match <[u8; 38]>::from_hex(&rest[7..]) {
-        Ok(bytes) => LineItem::Lnav {
-            stamp,
-            sat,
-            bits: Bits::from_bytes(bytes),
-        },
-        Err(_) => LineItem::Malformed,
+    if let Ok(bytes) = <[u8; 38]>::from_hex(&rest[7..]) {
+        let bits = Bits::from_bytes(bytes);
+        *item = LineItem::Lnav { stamp, sat, bits };
     }
 }
 
 // A page half.
 #[tactic(auto, unfolding(crate::specs::Reading::half_in))]
-fn half(stamp: u32, rest: &[u8]) -> LineItem
-    ensures { result ≡ half_in stamp rest.now }
+fn read_half_line(stamp: u32, rest: &[u8], item: &mut LineItem)
+    ensures { item.new ≡ half_in stamp rest.now }
 {
+    *item = LineItem::Malformed;
     if rest.len() < 9 || rest[6] != b' ' || rest[8] != b' ' {
-        return LineItem::Malformed;
+        return;
     }
     let Some(sat) = satellite(System::Gal, rest[4], rest[5]) else {
-        return LineItem::Malformed;
+        return;
     };
     let Some(signal) = signal_of(rest[7]) else {
-        return LineItem::Malformed;
+        return;
     };
-    match <[u8; 15]>::from_hex(&rest[9..]) {
-        Ok(bytes) => LineItem::Half {
+    if let Ok(bytes) = <[u8; 15]>::from_hex(&rest[9..]) {
+        let bits = Bits::from_bytes(bytes);
+        *item = LineItem::Half {
             stamp,
             sat,
             signal,
-            bits: Bits::from_bytes(bytes),
-        },
-        Err(_) => LineItem::Malformed,
+            bits,
+        };
     }
 }
 
 // A frame, of these digits.
 #[tactic(auto, unfolding(crate::specs::Reading::frame_in))]
-fn frame(stamp: u32, digits: &[u8]) -> LineItem
-    ensures { result ≡ frame_in stamp digits.now }
+fn read_frame(stamp: u32, digits: &[u8], item: &mut LineItem)
+    ensures { item.new ≡ frame_in stamp digits.now }
 {
+    *item = LineItem::Malformed;
     if digits.len() < FEWEST_DIGITS || digits.len() > MOST_DIGITS {
-        return LineItem::Malformed;
+        return;
     }
     let mut room = [0u8; LONGEST_FRAME];
     let count = digits.len() / 2;
     if decode_to_slice(digits, &mut room[..count]).is_err() {
-        return LineItem::Malformed;
+        return;
     }
-    LineItem::Frame {
+    *item = LineItem::Frame {
         stamp,
         bytes: copied(&room[..count]),
-    }
+    };
 }
 
 // These bytes.

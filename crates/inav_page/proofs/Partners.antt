@@ -1,8 +1,7 @@
 -- The partners of a half among the keys, and the words that it makes with them.
 use Rattle.std.proofs.Common.{◌≡◌, ℕ, zero, suc, ◌+◌, ◌-◌, ◌*◌, ◌/◌, ◌%◌, ◌<◌, ◌≤◌, ◌^◌, List, [], ◌∷◌, ◌++◌, Bool, true, false, length, map, None, Some, inl, inr, refl, sym, ap, subst, ◌∙◌, ⊎_elim, arith}
-use Rattle.std.proofs.lemmas.Bool.{cond-true, cond-false, cond_both}
-use Rattle.std.proofs.lemmas.List.{map-append, append-nil, length-map}
-use Rattle.std.proofs.lemmas.List.Elements.{filter-append}
+use Rattle.std.proofs.lemmas.Bool.{cases_Bool, cond-false, cond_both}
+use Rattle.std.proofs.lemmas.List.{map-append, length-map}
 use Rattle.std.proofs.lemmas.List.Kept.{IsStrictlySortedBy-filter}
 use Rattle.std.specs.Prelude.{Contains}
 use Rattle.std.specs.List.{filter, AllByRecursion}
@@ -291,3 +290,40 @@ words-fewer keys slot half =
       length-map (keys_in_slot keys slot kind) (λ key. word_by kind half key.1),
       filter-fewer (in_range slot kind) keys,
     )
+
+-- one that does not pass is left out
+filter-less : (p : ℕ × ℕ → Bool) (keys : List (ℕ × ℕ)) (key : ℕ × ℕ) → In keys key → p key ≡ false → length (filter p keys) < length keys
+filter-less p [] key there fails = absurd there
+filter-less p (x ∷ xs) key there fails =
+    let P : List (ℕ × ℕ) → Type 0 = λ found. length found < suc (length xs) in
+    let fewer = filter-fewer p xs in
+    ⊎_elim
+    (λ (here : x ≡ key). subst P (sym (cond-false (p x) (x ∷ filter p xs) (filter p xs) (ap p here ∙ fails))) (omega (arith, fewer)))
+    (λ (later : In xs key).
+    let less = filter-less p xs key later fails in
+    cond_both (p x) (x ∷ filter p xs) (filter p xs) P (λ passes. omega (arith, less)) (λ out. omega (arith, less)))
+    there
+
+not_other : (kind : HalfKind) → kind ≡ other_kind kind → ⊥
+not_other Even same = not_both Even refl same
+not_other Odd same = not_both Odd (same) refl
+
+-- a half that is among the keys is none of its own partners
+pub words-less : (keys : List (ℕ × ℕ)) (slot half : ℕ) (key : ℕ × ℕ) → Contains keys key → key.1 ≡ half
+    → length (words_in_slot keys slot half) < length keys
+unfolding keys_in_slot
+words-less keys slot half key there own =
+    let kind = kind_of half in
+    let fails : in_range slot kind key ≡ false =
+    ⊎_elim
+    (λ (passes : in_range slot kind key ≡ true). absurd (not_other kind (sym (ap kind_of own) ∙ (range_to slot kind key passes).1)))
+    (λ (out : in_range slot kind key ≡ false). out)
+    (cases_Bool (in_range slot kind key)) in
+    omega (
+      arith,
+      length-map (keys_in_slot keys slot kind) (λ key. word_by kind half key.1),
+      filter-less (in_range slot kind) keys key (In-from_contains keys key there) fails,
+    )
+
+pub some-key : (keys : List (ℕ × ℕ)) (key : ℕ × ℕ) → Contains keys key → 0 < length keys
+some-key keys key there = let less = filter-less (λ k. false) keys key (In-from_contains keys key there) refl in omega (arith, less)

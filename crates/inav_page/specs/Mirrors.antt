@@ -1,6 +1,6 @@
 -- How halves are kept in order, which private functions compute: a half by the number of its stamp, satellite
 -- and signal, the remainder that its partners have too, and its bits.
-use Rattle.std.specs.Prelude.{◌≡◌, ℕ, ◌+◌, ◌-◌, ◌*◌, ◌/◌, ◌%◌, ◌^◌, ◌<◌, ◌≤◌, List, Bool, Option, SomeIff, nat_eq, map, if◌then◌else◌, bit_xor, Contains}
+use Rattle.std.specs.Prelude.{◌≡◌, ℕ, ◌+◌, ◌-◌, ◌*◌, ◌/◌, ◌%◌, ◌^◌, ◌<◌, ◌≤◌, List, Option, SomeIff, nat_eq, map, if◌then◌else◌, bit_xor, Contains}
 use Rattle.std.specs.Ordering.{nat_cmp, ordering_then}
 use Rattle.std.specs.List.{filter}
 use Rattle.std.specs.declared.cmp.Ordering.{Ordering}
@@ -13,6 +13,7 @@ use Rattle.inav_page.specs.declared.signal.Signal.{Signal}
 use Rattle.inav_page.specs.declared.signal.Signal.TheVariants.{E1b, E5b}
 use Rattle.inav_page.specs.Pages.{digits_at, kind_of, page_crc}
 use Rattle.inav_page.specs.Heard.{StampedHalf, word_by}
+use Rattle.inav_page.specs.Keeping.{IsRecent}
 
 -- the place of a signal in their order, and the signal at a place
 abbrev pub signal_number : Signal → ℕ
@@ -59,6 +60,10 @@ pub record IsKey (key : ℕ × ℕ) : Type 0 where
 
 abbrev pub AreKeys : List (ℕ × ℕ) → Type 0
 AreKeys keys = (key : ℕ × ℕ) → Contains keys key → IsKey key
+
+-- the halves under the keys are recent
+abbrev pub AreRecent : ℕ → ℕ → List (ℕ × ℕ) → Type 0
+AreRecent window greatest keys = (key : ℕ × ℕ) → Contains keys key → IsRecent window greatest (half_of key)
 
 -- the stamp of the partners of a half of that kind: none past the last second, and none before the first
 abbrev pub HasPartnerStamp : HalfKind → ℕ → Option ℕ → Type 0

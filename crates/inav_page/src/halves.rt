@@ -8,7 +8,7 @@ ghost use Rattle.inav_page.specs.Keeping.{stamped, IsKeptWith};
 
 use crate::half::Half;
 use crate::joined::Joined;
-use crate::keys::{Key, first_slot, forget, keep};
+use crate::keys::{Key, join_with_kept, keep, raise};
 use crate::signal::Signal;
 use nav_eph::Sat;
 use std::alloc::{AllocError, Global};
@@ -31,7 +31,7 @@ pub struct Halves {
 impl Model for Halves {
     ghost use Rattle.std.specs.Prelude.{◌≡◌, ℕ, ◌≤◌, map};
     ghost use Rattle.inav_page.specs.Keeping.{Keeping};
-    ghost use Rattle.inav_page.specs.Mirrors.{half_of, AreKeys};
+    ghost use Rattle.inav_page.specs.Mirrors.{half_of, AreKeys, AreRecent};
 
     ghost Value = { Keeping };
 
@@ -41,7 +41,8 @@ impl Model for Halves {
       kept = map half_of h.kept.keys;
     } };
 
-    ghost invariant = { λ h. (h.window ≤ 14400) × AreKeys h.kept.keys };
+    ghost invariant = { λ h. (h.window ≤ 14400) × AreKeys h.kept.keys
+        × AreRecent h.window h.greatest h.kept.keys };
 }
 
 impl Halves {
@@ -65,10 +66,11 @@ impl Halves {
     /// Takes a half that was received at a second of the logger, and gives the words that it makes
     /// with the partners that are kept, ascending by the partners' bits; none where this very half
     /// is kept already. Then it is kept as well, and what is older than the greatest stamp by more
-    /// than the window and a second is forgotten.
+    /// than the window and a second is forgotten; a half that is itself too old is not kept.
     ///
-    /// The cost is that of a CRC, of three searches among the halves that are kept, of the words,
-    /// and of what is forgotten: each half is forgotten once. On an error nothing has changed.
+    /// The cost is that of a CRC, of two searches among the halves that are kept, of the words, and,
+    /// where the greatest stamp rises, of what is forgotten: each half is forgotten once. On an
+    /// error nothing has changed.
     pub fn take(
         &mut self,
         stamp: u32,
@@ -94,10 +96,11 @@ impl Halves {
         ensures err { OnErr result (self.new ≡ self.old) }
     {
         let number = sat.number();
+        if stamp < self.greatest.saturating_sub(self.window + 1) {
+            return join_with_kept(self.alloc, &self.kept, stamp, number, signal, half);
+        }
         let joined = keep(self.alloc, &mut self.kept, stamp, number, signal, half)?;
-        self.greatest = self.greatest.max(stamp);
-        let oldest = self.greatest.saturating_sub(self.window + 1);
-        forget(&mut self.kept, first_slot(oldest));
+        self.greatest = raise(&mut self.kept, self.window, self.greatest, stamp);
         Ok(joined)
     }
 }

@@ -2,16 +2,16 @@
 //! their partners have too, part, and bits. So the partners of a half stand one behind the other.
 
 ghost use Rattle.std.specs.Prelude.{◌≡◌, ℕ, ◌+◌, ◌*◌, ◌/◌, ◌^◌, ◌<◌, ◌≤◌, ◌⊎◌, ◌↔◌, SomeIff, IfOk};
-ghost use Rattle.std.specs.Prelude.{OnOk, OnErr, List, [], length, map, Contains};
+ghost use Rattle.std.specs.Prelude.{OnOk, OnErr, List, [], length, map, max, Contains};
 ghost use Rattle.std.specs.List.Sorted.{IsStrictlySortedBy};
 ghost use Rattle.nav_eph.specs.declared.sat.System.TheVariants.{Gal};
 ghost use Rattle.inav_page.specs.Pages.{kind_of};
 ghost use Rattle.inav_page.specs.Heard.{AreWordsWith, stamp_by, word_by};
-ghost use Rattle.inav_page.specs.Keeping.{stamped};
+ghost use Rattle.inav_page.specs.Keeping.{stamped, IsRecent};
 ghost use Rattle.inav_page.specs.Mirrors.{end_of_partners, first_partner, half_of, key_cmp};
 ghost use Rattle.inav_page.specs.Mirrors.{place_of};
 ghost use Rattle.inav_page.specs.Mirrors.{remainder_of, slot_of, words_in_slot};
-ghost use Rattle.inav_page.specs.Mirrors.{AreKeys, HasPartnerStamp, IsKey};
+ghost use Rattle.inav_page.specs.Mirrors.{AreKeys, AreRecent, HasPartnerStamp, IsKey};
 
 use crate::half::{Half, HalfKind, ODD};
 use crate::joined::Joined;
@@ -116,6 +116,8 @@ fn joined_with(
     ensures stamp { IfOk result (λ joined. (joined.words ≡ [] → ⊥) →
         joined.stamp ≡ stamp_by (kind_of half.now) stamp) }
     ensures count { IfOk result (λ joined. length joined.words ≤ length kept.now.keys) }
+    ensures others { IfOk result (λ joined. (key : ℕ × ℕ) → Contains kept.now.keys key →
+        key.1 ≡ half.now → length joined.words < length kept.now.keys) }
 {
     let kind = half.kind();
     let Some(other) = partner_stamp(kind, stamp) else {
@@ -145,8 +147,29 @@ fn key_of(stamp: u32, number: u8, signal: Signal, half: &Half) -> (Key, u64)
     )
 }
 
+// The words that a half makes with those that are kept, and their stamp.
+pub(crate) fn join_with_kept(
+    alloc: Global,
+    kept: &BTreeSet<Key>,
+    stamp: u32,
+    number: u8,
+    signal: Signal,
+    half: &Half,
+) -> Result<Joined, AllocError>
+    requires number { number < 64 }
+    requires keys { AreKeys kept.now.keys }
+    ensures words { IfOk result (λ joined. AreWordsWith (Contains (map half_of kept.now.keys))
+        (stamped stamp (record { system = Gal; number = number }) signal half.now) joined.words) }
+    ensures stamp { IfOk result (λ joined. (joined.words ≡ [] → ⊥) →
+        joined.stamp ≡ stamp_by (kind_of half.now) stamp) }
+    ensures count { IfOk result (λ joined. length joined.words ≤ length kept.now.keys) }
+{
+    joined_with(alloc, kept, stamp, number, signal, remainder(half), half)
+}
+
 // Keeps a half, and gives the words that it makes with those that were kept; none where it was kept
-// already, and then nothing is sought.
+// already, and then nothing is sought. It goes in before its partners are sought, among which it
+// never is.
 pub(crate) fn keep(
     alloc: Global,
     kept: &mut BTreeSet<Key>,
@@ -175,16 +198,20 @@ pub(crate) fn keep(
     ensures err { OnErr result (kept.new ≡ kept.old) }
 {
     let (key, remainder) = key_of(stamp, number, signal, half);
-    if kept.contains(&key) {
+    if !kept.insert(key)? {
         return Ok(Joined::none(alloc));
     }
-    let joined = joined_with(alloc, kept, stamp, number, signal, remainder, half)?;
-    kept.insert(key)?;
-    Ok(joined)
+    match joined_with(alloc, kept, stamp, number, signal, remainder, half) {
+        Ok(joined) => Ok(joined),
+        Err(error) => {
+            kept.remove(&key);
+            Err(error)
+        }
+    }
 }
 
 // Forgets what stands before a slot.
-pub(crate) fn forget(kept: &mut BTreeSet<Key>, from: u64)
+fn forget(kept: &mut BTreeSet<Key>, from: u64)
     ensures kept { (key : ℕ × ℕ) →
         Contains kept.new.keys key ↔ (Contains kept.old.keys key × (from ≤ key.0)) }
     ensures fewer { length kept.new.keys ≤ length kept.old.keys }
@@ -195,4 +222,21 @@ pub(crate) fn forget(kept: &mut BTreeSet<Key>, from: u64)
         }
         kept.pop_first();
     }
+}
+
+// The greatest stamp once this one was taken. Only where it rises is anything forgotten: what is
+// older than it by more than the window and a second.
+pub(crate) fn raise(kept: &mut BTreeSet<Key>, window: u32, greatest: u32, stamp: u32) -> u32
+    requires window { window ≤ 14400 }
+    requires recent { AreRecent window greatest kept.old.keys }
+    ensures greatest { result ≡ max greatest stamp }
+    ensures kept { (key : ℕ × ℕ) → Contains kept.new.keys key ↔
+        (Contains kept.old.keys key × IsRecent window result (half_of key)) }
+    ensures fewer { length kept.new.keys ≤ length kept.old.keys }
+{
+    if stamp <= greatest {
+        return greatest;
+    }
+    forget(kept, first_slot(stamp.saturating_sub(window + 1)));
+    stamp
 }

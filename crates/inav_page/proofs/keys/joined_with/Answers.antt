@@ -1,4 +1,4 @@
-use Rattle.std.proofs.Common.{◌≡◌, ℕ, List, Option, ◌≤◌, length, map, ◌∙◌, sym, ap, subst, arith}
+use Rattle.std.proofs.Common.{◌≡◌, ℕ, List, Option, ◌<◌, ◌≤◌, length, map, ◌∙◌, sym, ap, subst, arith}
 use Rattle.std.specs.Prelude.{Contains}
 use Rattle.nav_eph.specs.declared.sat.System.TheVariants.{Gal}
 use Rattle.inav_page.specs.declared.half.HalfKind.{HalfKind}
@@ -6,7 +6,7 @@ use Rattle.inav_page.specs.Pages.{kind_of}
 use Rattle.inav_page.specs.Heard.{AreWordsWith}
 use Rattle.inav_page.specs.Keeping.{stamped}
 use Rattle.inav_page.specs.Mirrors.{half_of, place_of, remainder_of, slot_of, words_in_slot, HasPartnerStamp}
-use Rattle.inav_page.proofs.Partners.{no_words, words_of_partners, words-fewer}
+use Rattle.inav_page.proofs.Partners.{no_words, some-key, words_of_partners, words-fewer, words-less}
 use Rattle.inav_page.proofs.keys.joined_with.Goals as goal
 
 pub returns-in_default-clause-words : goal.returns-in_default-clause-words
@@ -43,3 +43,16 @@ returns-clause-count c =
     let words : c.new.result.words ≡ words_in_slot keys c.slot.result half = c.new.ensures.words ∙ c.in_ok-words.ensures.words in
     let P : List (List ℕ) → Type 0 = λ ws. length ws ≤ length keys in
     subst P (sym words) (words-fewer keys c.slot.result half)
+
+pub returns-in_default-clause-others : goal.returns-in_default-clause-others
+returns-in_default-clause-others c =
+    let P : List (List ℕ) → Type 0 = λ ws. length ws < length c.args.kept.now.keys in
+    λ key there own. subst P (sym c.none.ensures) (some-key c.args.kept.now.keys key there)
+
+pub returns-clause-others : goal.returns-clause-others
+returns-clause-others c =
+    let half = c.args.half.now in
+    let keys = c.args.kept.now.keys in
+    let words : c.new.result.words ≡ words_in_slot keys c.slot.result half = c.new.ensures.words ∙ c.in_ok-words.ensures.words in
+    let P : List (List ℕ) → Type 0 = λ ws. length ws < length keys in
+    λ key there own. subst P (sym words) (words-less keys c.slot.result half key there own)

@@ -1,4 +1,4 @@
-use Rattle.std.proofs.Common.{◌/◌, ◌%◌, ◌<◌, arith}
+use Rattle.std.proofs.Common.{◌/◌, ◌%◌, arith}
 use Rattle.std.proofs.lemmas.Nat.{xor_lt}
 use Rattle.inav_page.proofs.page.remainder.Goals as goal
 
