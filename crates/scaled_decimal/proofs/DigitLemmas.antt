@@ -53,3 +53,19 @@ assembled sign plus m n k first x y s t first_is s_is t_is x_is y_is =
     ∙ ap (λ u. sign ∷ first ∷ 46 ∷ (u ++ 68 ∷ plus ∷ x ∷ y ∷ [])) (twelve n)
     ∙ ap (λ f. sign ∷ f ∷ 46 ∷ (digits 12 n ++ 68 ∷ plus ∷ x ∷ y ∷ [])) first_is
     ∙ ap₂ (λ x y. sign ∷ (48 + m % 10) ∷ 46 ∷ (digits 12 n ++ 68 ∷ plus ∷ x ∷ y ∷ [])) x_is y_is
+
+last_two : (n : ℕ) → digits 2 (n % 100) ≡ digits 2 n
+last_two n =
+    let whole : n / 10 ^ 2 * 10 ^ 2 + n % 10 ^ 2 ≡ n = div-add-mod' n (10 ^ 2) in
+    sym (digits_behind 2 (n / 10 ^ 2) (n % 10 ^ 2)) ∙ ap (digits 2) whole
+
+-- six digits are three pairs
+pub six_of : (n : ℕ) (s t u : List ℕ) → s ≡ digits 2 (n / 100 / 100 % 100) → t ≡ digits 2 (n / 100 % 100) → u ≡ digits 2 (n % 100)
+    → get_or s 0 0 ∷ get_or s 1 0 ∷ get_or t 0 0 ∷ get_or t 1 0 ∷ get_or u 0 0 ∷ get_or u 1 0 ∷ [] ≡ digits 6 n
+unfolding digits
+six_of n s t u s_is t_is u_is =
+    let hundred : n / 100 ≡ n / 10 / 10 = sym (div-div-eq-div-mul n 10 10) in
+    let second : n / 100 / 100 ≡ n / 10 / 10 / 10 / 10 = ap (λ x. x / 100) hundred ∙ sym (div-div-eq-div-mul (n / 10 / 10) 10 10) in
+    ap (λ s. get_or s 0 0 ∷ get_or s 1 0 ∷ get_or t 0 0 ∷ get_or t 1 0 ∷ get_or u 0 0 ∷ get_or u 1 0 ∷ []) (s_is ∙ last_two (n / 100 / 100) ∙ ap (digits 2) second)
+    ∙ ap₂ (λ t u. get_or (digits 2 (n / 10 / 10 / 10 / 10)) 0 0 ∷ get_or (digits 2 (n / 10 / 10 / 10 / 10)) 1 0 ∷ get_or t 0 0 ∷ get_or t 1 0 ∷ get_or u 0 0 ∷ get_or u 1 0 ∷ [])
+    (t_is ∙ last_two (n / 100) ∙ ap (digits 2) hundred) (u_is ∙ last_two n)

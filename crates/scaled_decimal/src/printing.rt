@@ -72,16 +72,14 @@ fn place_of(over: u128, bits: u32) -> u32
 {
     let whole = over >> bits;
     let most = (128u32.saturating_sub(whole.leading_zeros()) * 1233 >> 12).min(36);
-    let place = if whole < power_of_ten(most) {
-        most.saturating_sub(1)
-    } else {
-        most
-    };
-    if power_of_ten(place) <= whole && whole < power_of_ten(place + 1) {
-        place
-    } else {
-        place_by_steps(over, power_of_two(bits))
+    if whole < power_of_ten(most) {
+        if most > 0 && power_of_ten(most - 1) <= whole {
+            return most - 1;
+        }
+    } else if whole < power_of_ten(most + 1) {
+        return most;
     }
+    place_by_steps(over, power_of_two(bits))
 }
 
 // The thirteen digits of a fraction by 2^bits with its first digit at a place.
@@ -137,18 +135,23 @@ fn last_digit(number: u32) -> u8
     b'0' + (number % 10) as u8
 }
 
+// The two digits of a number.
+fn two_digits(number: u32) -> [u8; 2]
+    requires { number < 100 }
+    ensures { result ≡ digits 2 number }
+{
+    let place = 2 * number as usize;
+    [PAIRS[place], PAIRS[place + 1]]
+}
+
 // The last six digits of a number.
 fn six_digits(number: u32) -> [u8; 6]
     ensures { result ≡ digits 6 number }
 {
-    [
-        last_digit(number / 10 / 10 / 10 / 10 / 10),
-        last_digit(number / 10 / 10 / 10 / 10),
-        last_digit(number / 10 / 10 / 10),
-        last_digit(number / 10 / 10),
-        last_digit(number / 10),
-        last_digit(number),
-    ]
+    let [a, b] = two_digits(number / 100 / 100 % 100);
+    let [c, d] = two_digits(number / 100 % 100);
+    let [e, f] = two_digits(number % 100);
+    [a, b, c, d, e, f]
 }
 
 fn exponent_sign(exponent: i32) -> u8
@@ -224,3 +227,9 @@ pub fn print(n: i64, scale: &Scale) -> [u8; 19]
 {
     text_of(sign_column(n), &parts_at(n.unsigned_abs(), scale))
 }
+
+// The digits of 0 to 99.
+const PAIRS: [u8; 200] =
+    *b"00010203040506070809101112131415161718192021222324252627282930313233343536373839\
+    40414243444546474849505152535455565758596061626364656667686970717273747576777879\
+    8081828384858687888990919293949596979899";

@@ -1,7 +1,5 @@
-use Rattle.scaled_decimal.proofs.DigitLemmas.{six}
+use Rattle.scaled_decimal.proofs.DigitLemmas.{six_of}
 use Rattle.scaled_decimal.proofs.printing.six_digits.Goals as goal
 
 pub returns : goal.returns
-returns c =
-    six c.args.number _ _ _ _ _ _ c.last_digit.ensures c.last_digit-2.ensures c.last_digit-3.ensures
-    c.last_digit-4.ensures c.last_digit-5.ensures c.last_digit-6.ensures
+returns c = six_of c.args.number _ _ _ c.two_digits.ensures c.two_digits-2.ensures c.two_digits-3.ensures
