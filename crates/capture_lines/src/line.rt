@@ -7,10 +7,10 @@ ghost use Rattle.capture_lines.specs.Reading.{lnav_in, satellite_in, signal_in};
 ghost use Rattle.capture_lines.specs.Spellings.{StandsFor};
 ghost use Rattle.capture_lines.specs.declared.item.LineItem.TheVariants.{Frame, Half, Lnav};
 
+use crate::digits::decode;
 use crate::item::{LONGEST_FRAME, LineItem};
 use crate::numbers::{digit_count, number_of};
 use arrayvec::ArrayVec;
-use hex::{FromHex, decode_to_slice};
 use inav_page::Signal;
 use nav_bits::Bits;
 use nav_eph::{Sat, System};
@@ -137,10 +137,12 @@ fn read_lnav(stamp: u32, rest: &[u8], item: &mut LineItem)
         *item = LineItem::Malformed;
         return;
     };
-    match <[u8; 38]>::from_hex(&rest[7..]) {
-        Ok(bytes) => put_lnav(stamp, sat, Bits::from_bytes(bytes), item),
-        Err(_) => *item = LineItem::Malformed,
+    let mut bytes = [0u8; 38];
+    if !decode(&rest[7..], &mut bytes) {
+        *item = LineItem::Malformed;
+        return;
     }
+    put_lnav(stamp, sat, Bits::from_bytes(bytes), item);
 }
 
 // Puts a subframe. Whatever is put anew is cleared to its full size, so that in a subframe the
@@ -179,10 +181,12 @@ fn read_half_line(stamp: u32, rest: &[u8], item: &mut LineItem)
         *item = LineItem::Malformed;
         return;
     };
-    match <[u8; 15]>::from_hex(&rest[9..]) {
-        Ok(bytes) => put_half(stamp, sat, signal, Bits::from_bytes(bytes), item),
-        Err(_) => *item = LineItem::Malformed,
+    let mut bytes = [0u8; 15];
+    if !decode(&rest[9..], &mut bytes) {
+        *item = LineItem::Malformed;
+        return;
     }
+    put_half(stamp, sat, signal, Bits::from_bytes(bytes), item);
 }
 
 // Puts a page half, in the same way.
@@ -221,7 +225,7 @@ fn read_frame(stamp: u32, digits: &[u8], item: &mut LineItem)
     }
     let mut room = [0u8; LONGEST_FRAME];
     let count = digits.len() / 2;
-    if decode_to_slice(digits, &mut room[..count]).is_err() {
+    if !decode(digits, &mut room[..count]) {
         *item = LineItem::Malformed;
         return;
     }
