@@ -1,3 +1,4 @@
+pub mod HexPairs
 pub mod NumberTexts
 pub mod Heads
 pub mod Bodies

@@ -1,6 +1,6 @@
 -- The first line of a capture: `NAVCAP 1`, or `NAVCAP 2`, the week and the window. One space stands between its words,
 -- and nothing in front of the first or behind the last.
-use Rattle.std.specs.Prelude.{◌≡◌, ℕ, ◌≤◌, ◌==◌, ◌&&◌, nat_eq, nat_le, List, ◌∷◌, ◌++◌, length, take, drop, slice_index, codes, if◌then◌else◌, Option, Some, None}
+use Rattle.std.specs.Prelude.{◌≡◌, ℕ, ◌≤◌, ◌==◌, ◌&&◌, nat_eq, nat_le, List, ◌++◌, length, take, drop, slice_index, codes, if◌then◌else◌, Option, Some, None}
 use Rattle.std.specs.List.{prefix_len, starts_with}
 use Rattle.std.specs.Char.{is_ascii_digit}
 use Rattle.std.specs.Str.{bytes_eq}

@@ -19,6 +19,7 @@
 //! ```
 #![tactic(auto)]
 
+mod digits;
 mod head;
 mod item;
 mod laws;

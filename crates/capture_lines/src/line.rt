@@ -5,11 +5,12 @@ ghost use Rattle.std.specs.List.{list_all, starts_with};
 ghost use Rattle.capture_lines.specs.Reading.{form_in, frame_in, half_in, is_passed, item_of};
 ghost use Rattle.capture_lines.specs.Reading.{lnav_in, satellite_in, signal_in};
 ghost use Rattle.capture_lines.specs.Spellings.{StandsFor};
+ghost use Rattle.capture_lines.specs.declared.item.LineItem.TheVariants.{Frame, Half, Lnav};
 
+use crate::digits::decode;
 use crate::item::{LONGEST_FRAME, LineItem};
 use crate::numbers::{digit_count, number_of};
 use arrayvec::ArrayVec;
-use hex::{FromHex, decode_to_slice};
 use inav_page::Signal;
 use nav_bits::Bits;
 use nav_eph::{Sat, System};
@@ -128,15 +129,37 @@ fn signal_of(letter: u8) -> Option<Signal>
 fn read_lnav(stamp: u32, rest: &[u8], item: &mut LineItem)
     ensures { item.new ≡ lnav_in stamp rest.now }
 {
-    *item = LineItem::Malformed;
     if rest.len() < 7 || rest[6] != b' ' {
+        *item = LineItem::Malformed;
         return;
     }
     let Some(sat) = satellite(System::Gps, rest[4], rest[5]) else {
+        *item = LineItem::Malformed;
         return;
     };
-    if let Ok(bytes) = <[u8; 38]>::from_hex(&rest[7..]) {
-        let bits = Bits::from_bytes(bytes);
+    let mut bytes = [0u8; 38];
+    if !decode(&rest[7..], &mut bytes) {
+        *item = LineItem::Malformed;
+        return;
+    }
+    put_lnav(stamp, sat, Bits::from_bytes(bytes), item);
+}
+
+// Puts a subframe. Whatever is put anew is cleared to its full size, so that in a subframe the
+// parts alone are changed.
+fn put_lnav(stamp: u32, sat: Sat, bits: Bits<38>, item: &mut LineItem)
+    ensures { item.new ≡ Lnav stamp sat bits }
+{
+    if let LineItem::Lnav {
+        stamp: own_stamp,
+        sat: own_sat,
+        bits: own_bits,
+    } = item
+    {
+        *own_stamp = stamp;
+        *own_sat = sat;
+        *own_bits = bits;
+    } else {
         *item = LineItem::Lnav { stamp, sat, bits };
     }
 }
@@ -146,18 +169,42 @@ fn read_lnav(stamp: u32, rest: &[u8], item: &mut LineItem)
 fn read_half_line(stamp: u32, rest: &[u8], item: &mut LineItem)
     ensures { item.new ≡ half_in stamp rest.now }
 {
-    *item = LineItem::Malformed;
     if rest.len() < 9 || rest[6] != b' ' || rest[8] != b' ' {
+        *item = LineItem::Malformed;
         return;
     }
     let Some(sat) = satellite(System::Gal, rest[4], rest[5]) else {
+        *item = LineItem::Malformed;
         return;
     };
     let Some(signal) = signal_of(rest[7]) else {
+        *item = LineItem::Malformed;
         return;
     };
-    if let Ok(bytes) = <[u8; 15]>::from_hex(&rest[9..]) {
-        let bits = Bits::from_bytes(bytes);
+    let mut bytes = [0u8; 15];
+    if !decode(&rest[9..], &mut bytes) {
+        *item = LineItem::Malformed;
+        return;
+    }
+    put_half(stamp, sat, signal, Bits::from_bytes(bytes), item);
+}
+
+// Puts a page half, in the same way.
+fn put_half(stamp: u32, sat: Sat, signal: Signal, bits: Bits<15>, item: &mut LineItem)
+    ensures { item.new ≡ Half stamp sat signal bits }
+{
+    if let LineItem::Half {
+        stamp: own_stamp,
+        sat: own_sat,
+        signal: own_signal,
+        bits: own_bits,
+    } = item
+    {
+        *own_stamp = stamp;
+        *own_sat = sat;
+        *own_signal = signal;
+        *own_bits = bits;
+    } else {
         *item = LineItem::Half {
             stamp,
             sat,
@@ -172,19 +219,48 @@ fn read_half_line(stamp: u32, rest: &[u8], item: &mut LineItem)
 fn read_frame(stamp: u32, digits: &[u8], item: &mut LineItem)
     ensures { item.new ≡ frame_in stamp digits.now }
 {
-    *item = LineItem::Malformed;
     if digits.len() < FEWEST_DIGITS || digits.len() > MOST_DIGITS {
+        *item = LineItem::Malformed;
         return;
     }
     let mut room = [0u8; LONGEST_FRAME];
     let count = digits.len() / 2;
-    if decode_to_slice(digits, &mut room[..count]).is_err() {
+    if !decode(digits, &mut room[..count]) {
+        *item = LineItem::Malformed;
         return;
     }
-    *item = LineItem::Frame {
-        stamp,
-        bytes: copied(&room[..count]),
-    };
+    put_frame(stamp, &room[..count], item);
+}
+
+// Puts a frame, in the same way.
+fn put_frame(stamp: u32, bytes: &[u8], item: &mut LineItem)
+    requires { length bytes.now ≤ 1029 }
+    ensures { item.new ≡ Frame stamp (record { items = bytes.now }) }
+{
+    if let LineItem::Frame {
+        stamp: own_stamp,
+        bytes: own_bytes,
+    } = item
+    {
+        *own_stamp = stamp;
+        refill(own_bytes, bytes);
+    } else {
+        *item = LineItem::Frame {
+            stamp,
+            bytes: copied(bytes),
+        };
+    }
+}
+
+// These bytes in place of others.
+fn refill(into: &mut ArrayVec<u8, LONGEST_FRAME>, bytes: &[u8])
+    requires { length bytes.now ≤ 1029 }
+    ensures { into.new.items ≡ bytes.now }
+{
+    into.clear();
+    if into.try_extend_from_slice(bytes).is_err() {
+        unreachable!();
+    }
 }
 
 // These bytes.
@@ -193,8 +269,6 @@ fn copied(bytes: &[u8]) -> ArrayVec<u8, LONGEST_FRAME>
     ensures { result.items ≡ bytes.now }
 {
     let mut copy = ArrayVec::new();
-    if copy.try_extend_from_slice(bytes).is_err() {
-        unreachable!();
-    }
+    refill(&mut copy, bytes);
     copy
 }
