@@ -123,7 +123,7 @@ own_equal Less same = cc
 own_equal Equal same = refl
 own_equal Greater same = cc
 
-equal_keys : (xs ys : List ℕ) → is_eq (slice_cmp nat_cmp xs ys) ≡ true → xs ≡ ys
+pub equal_keys : (xs ys : List ℕ) → is_eq (slice_cmp nat_cmp xs ys) ≡ true → xs ≡ ys
 equal_keys xs ys same = slice_cmp-IsAntisymmetric nat_cmp-IsAntisymmetric xs ys (is_equal (slice_cmp nat_cmp xs ys) same)
 
 own_key : (xs : List ℕ) → is_eq (slice_cmp nat_cmp xs xs) ≡ true
@@ -153,6 +153,10 @@ read_is : (r : ℕ) (payload : List ℕ) (item : NavItem) → Laws r → item_in
 read_is r payload item laws is =
     is_read r (content_of payload) item (subst (GivesItem r (content_of payload)) is (laws.gives payload))
     (subst (λ (x : Result NavItem MessageFault). IfOk x IsItem) is (laws.whole payload))
+
+-- an item that is read is sent as itself
+pub read_own : (r : ℕ) (payload : List ℕ) (item : NavItem) → Laws r → item_in r payload ≡ Ok item → sent_alike item item ≡ true
+read_own r payload item laws is = own_alike r item (read_is r payload item laws is)
 
 -- among the items of frames an ephemeris is looked for by its message
 pub looked_for : (r : ℕ) (frames : List (List ℕ)) (payload : List ℕ) (item : NavItem) → Laws r → item_in r payload ≡ Ok item

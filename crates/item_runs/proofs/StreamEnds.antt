@@ -13,8 +13,9 @@ use Rattle.run_texts.specs.declared.fault.BridgeFault.TheVariants.{TooLong}
 use Rattle.run_texts.specs.Runs.{RunsPart, RunsSettled, RunsWhole, TakesTooMany, no_least}
 use Rattle.item_runs.specs.declared.counts.StreamCounts.{StreamCounts}
 use Rattle.item_runs.specs.Streams.{Reading, counts_of_readings, has, items_in, reading_report, readings, readings_output, readings_report, settled_output_by, settled_stream_report, stream_counts, stream_counts_text, stream_output_by, stream_report}
-use Rattle.item_runs.specs.Mirrors.{GivenState, StreamAll, StreamPart, StreamSettled, StreamSoFar, is_given, once_text}
+use Rattle.item_runs.specs.Mirrors.{GivenState, NothingKept, StreamAll, StreamPart, StreamSettled, StreamSoFar, is_given, once_text}
 use Rattle.item_runs.proofs.FileLemmas.{between, err_same, front_longer, no_front}
+use Rattle.item_runs.proofs.KnownLemmas.{none_known}
 use Rattle.item_runs.proofs.RecordLemmas.{front_behind, whole_front}
 use Rattle.item_runs.proofs.StreamLemmas.{output_fault, output_item}
 
@@ -54,9 +55,9 @@ front_within w w1 some whole (rest, is) grew = subst (AppendsFront w w1) (sym is
 
 -- ---- a stream begins
 
--- nothing was given
+-- nothing was given, and nothing is kept
 abbrev pub NoneGiven : GivenState → Type 0
-NoneGiven g = (other : NavItem) → is_given g other ≡ false
+NoneGiven g = ((other : NavItem) → is_given g other ≡ false) × NothingKept g
 
 -- the text in front was written, and no frame was taken
 begins : (r : ℕ) (front : List ℕ) (text : NavItem → List ℕ) (w w1 u : Option (List ℕ)) (g : GivenState) (c : StreamCounts)
@@ -65,7 +66,8 @@ begins r front text w w1 u g c grew none nothing same = record {
   output = subst (Appends w w1) (sym (append-nil front)) grew;
   report = same;
   counts_are = nothing;
-  holds = none;
+  holds = none.0;
+  known = none_known r g none.1;
 }
 
 -- ---- and ends

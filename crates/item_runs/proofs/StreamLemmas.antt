@@ -1,9 +1,9 @@
 -- Frames after frames: what was written, reported, counted and kept of them.
-use Rattle.std.proofs.Common.{◌≡◌, ℕ, ◌+◌, ◌||◌, Bool, true, false, if◌then◌else◌, List, [], ◌∷◌, ◌++◌, length, map, sum, refl, sym, ap, subst, ◌∙◌, arith, append_assoc, append-nil, length-append}
+use Rattle.std.proofs.Common.{◌≡◌, ℕ, ◌+◌, ◌||◌, Bool, true, false, if◌then◌else◌, List, [], ◌∷◌, ◌++◌, length, map, sum, refl, sym, ap, subst, ◌∙◌, arith, append_assoc, append-nil, length-append, inl}
 use Rattle.std.specs.Prelude.{Option, Result, Ok, Err, OnOk, OnErr}
 use Rattle.std.specs.List.{flat_map, sum_by}
 use Rattle.std.specs.Io.KnownBytes.{Appends}
-use Rattle.std.proofs.KnownBytes.{Appends-trans}
+use Rattle.std.proofs.KnownBytes.{Appends-nil, Appends-trans}
 use Rattle.std.proofs.lemmas.Grind.{flat_map-append}
 use Rattle.std.proofs.lemmas.List.Sums.{sum-map, sum_by-append}
 use Rattle.nav_io.specs.Front.{AppendsFront}
@@ -15,7 +15,9 @@ use Rattle.rtcm_eph.specs.Reading.{item_in}
 use Rattle.rtcm_frame.specs.State.{payload_of}
 use Rattle.item_runs.specs.declared.counts.StreamCounts.{StreamCounts}
 use Rattle.item_runs.specs.Streams.{Reading, readings, has, items_in, first_places, first_places_behind, reading_report, readings_report, counts_of_readings, is_refused, is_unused, readings_output}
-use Rattle.item_runs.specs.Mirrors.{GivenState, StreamBroke, StreamSoFar, any_alike, is_given, once_text, sent_alike, with_fault, with_item, with_refusal, with_unused}
+use Rattle.item_runs.specs.Mirrors.{GivenState, KeptPlaces, StandsIn, StreamBroke, StreamSoFar, any_alike, is_given, once_text, sent_alike, with_fault, with_item, with_refusal, with_unused}
+use Rattle.item_runs.proofs.AlikeLemmas.{Laws, looked_for, read_own}
+use Rattle.item_runs.proofs.KnownLemmas.{adds_nothing, is_known, known_more}
 use Rattle.item_runs.proofs.RecordLemmas.{front_behind, whole_front}
 
 -- an item, where it was not there before
@@ -162,8 +164,9 @@ pub so_far_item : (r : ℕ) (front : List ℕ) (text : NavItem → List ℕ) (pa
     → StreamSoFar r front text past w w1 u u1 given c
     → Appends w1 w2 (once_text text before item) → c1 ≡ with_item c before
     → ((other : NavItem) → is_given given_new other ≡ (sent_alike item other || is_given given other))
+    → sent_alike item item ≡ true → KeptPlaces given given_new (payload_of frame)
     → StreamSoFar r front text (past ++ frame ∷ []) w w2 u u1 given_new c1
-so_far_item r front text past frame item w w1 w2 u u1 given given_new c c1 before is was looked far output counts adds =
+so_far_item r front text past frame item w w1 w2 u u1 given given_new c c1 before is was looked far output counts adds own kept =
     let rs = readings r past in
     let more = readings_more r past frame (Ok item) is in
     let there : before ≡ has (items_in rs) item = was ∙ far.holds item ∙ looked in
@@ -175,7 +178,19 @@ so_far_item r front text past frame item w w1 w2 u u1 given given_new c c1 befor
           ∙ counts_item rs item ∙ ap counts_of_readings (sym more);
       holds = λ other. adds other ∙ ap (λ (b : Bool). sent_alike item other || b) (far.holds other) ∙ sym (any_more (items_in rs) item other)
           ∙ ap (λ (l : List NavItem). any_alike l other) (sym (items_more rs item)) ∙ ap (λ (l : List Reading). any_alike (items_in l) other) (sym more);
+      known = known_more r given given_new (payload_of frame) item is own adds kept far.known;
     }
+
+-- a frame whose payload is kept
+pub so_far_again : (r : ℕ) (front : List ℕ) (text : NavItem → List ℕ) (past : List (List ℕ)) (frame : List ℕ)
+    (w w1 u u1 : Option (List ℕ)) (given : GivenState) (c c1 : StreamCounts) (laws : Laws r)
+    → StandsIn given (payload_of frame) → StreamSoFar r front text past w w1 u u1 given c → c1 ≡ with_item c true
+    → StreamSoFar r front text (past ++ frame ∷ []) w w1 u u1 given c1
+so_far_again r front text past frame w w1 u u1 given c c1 laws stands far counts =
+    let known = is_known r given (payload_of frame) stands far.known in
+    so_far_item r front text past frame known.item w w1 w1 u u1 given given c c1 true known.is (sym known.given)
+    (looked_for r past (payload_of frame) known.item laws known.is) far (Appends-nil w1) counts
+    (adds_nothing given known.item known.given) (read_own r (payload_of frame) known.item laws known.is) (inl refl, inl refl)
 
 -- a frame that is refused or not used
 pub so_far_fault : (r : ℕ) (front : List ℕ) (text : NavItem → List ℕ) (past : List (List ℕ)) (frame : List ℕ) (fault : MessageFault)
@@ -195,6 +210,7 @@ so_far_fault r front text past frame fault w w1 u u1 u2 given c c1 number is nth
           (Appends-trans u u1 u2 _ _ far.report (subst (λ n. Appends u1 u2 (reading_report n (Err fault))) place report));
       counts_are = counts ∙ ap (λ (x : StreamCounts). with_fault x fault) far.counts_are ∙ counts_fault rs fault ∙ ap counts_of_readings (sym more);
       holds = λ other. far.holds other ∙ ap (λ (l : List NavItem). any_alike l other) (sym (items_same rs fault)) ∙ ap (λ (l : List Reading). any_alike (items_in l) other) (sym more);
+      known = far.known;
     }
 
 -- a frame whose item is not written to its end
@@ -233,9 +249,9 @@ broke_fault r front text past frame fault w w1 u u1 u2 given c number is nth far
           (front_behind u u1 u2 _ _ far.report (subst (λ n. AppendsFront u1 u2 (reading_report n (Err fault))) place report));
     }
 
-pub on_ok3 : {T E P Q S R : Type 0} (r : Result T E) → OnOk r P → OnOk r Q → OnOk r S → (P → Q → S → R) → OnOk r R
-on_ok3 (Ok x) p q s f = f p q s
-on_ok3 (Err e) p q s f = tt
+pub on_ok4 : {T E P Q S V R : Type 0} (r : Result T E) → OnOk r P → OnOk r Q → OnOk r S → OnOk r V → (P → Q → S → V → R) → OnOk r R
+on_ok4 (Ok x) p q s v f = f p q s v
+on_ok4 (Err e) p q s v f = tt
 
 pub on_ok2 : {T E P Q R : Type 0} (r : Result T E) → OnOk r P → OnOk r Q → (P → Q → R) → OnOk r R
 on_ok2 (Ok x) p q f = f p q

@@ -1,6 +1,6 @@
 -- A stream and a file while they are read. Private functions cite these.
-use Rattle.std.specs.Prelude.{◌≡◌, ◌+◌, ◌^◌, ◌<◌, ◌≤◌, ◌||◌, ◌⊎◌, ℕ, Bool, true, false, if◌then◌else◌, List, [], ◌∷◌, ◌++◌, length, Option}
-use Rattle.std.specs.List.{flat_map}
+use Rattle.std.specs.Prelude.{◌≡◌, ◌+◌, ◌^◌, ◌<◌, ◌≤◌, ◌||◌, ◌⊎◌, ℕ, Bool, true, false, if◌then◌else◌, List, [], ◌∷◌, ◌++◌, length, Option, None, Some, Ok, IfSome, replicate, slice_get, slice_set}
+use Rattle.std.specs.List.{All, flat_map}
 use Rattle.std.specs.Ordering.{nat_cmp}
 use Rattle.std.specs.Cmp.Lexicographic.{slice_cmp}
 use Rattle.std.specs.BTreeSet.{BTreeSet, contains}
@@ -9,6 +9,7 @@ use Rattle.std.specs.Io.KnownBytes.{Appends, Consumes, IsAtEnd}
 use Rattle.nav_io.specs.Front.{AppendsFront}
 use Rattle.nav_eph.specs.declared.items.NavItem.{NavItem}
 use Rattle.nav_eph.specs.declared.items.NavItem.TheVariants.{Gps, Gal, Ion}
+use Rattle.rtcm_eph.specs.Reading.{item_in}
 use Rattle.rtcm_eph.specs.Writing.{bytes_1019, bytes_1046}
 use Rattle.rtcm_eph.specs.declared.fault.MessageFault.{MessageFault}
 use Rattle.rtcm_eph.specs.declared.fault.MessageFault.TheVariants.{NoNumber, OtherMessage, Short, BadSat, BadTime, SpareSisa}
@@ -105,10 +106,32 @@ IsFileFault _ = ⊥
 
 -- ---- streams
 
--- what was given of a stream: the messages of its ephemerides, of GPS and of Galileo
+-- what was given of a stream: the messages of its ephemerides, of GPS and of Galileo, and payloads that were read, as they came
 pub record GivenState : Type 0 where
   pub gps : BTreeSet (List ℕ)
   pub gal : BTreeSet (List ℕ)
+  pub gps_seen : List (Option (List ℕ))
+  pub gal_seen : List (Option (List ℕ))
+
+-- no payload is kept
+abbrev pub NothingKept : GivenState → Type 0
+NothingKept s = (s.gps_seen ≡ replicate 256 None) × (s.gal_seen ≡ replicate 256 None)
+
+-- the payload stands in a place
+abbrev pub StandsIn : GivenState → List ℕ → Type 0
+StandsIn s payload =
+    ((i : ℕ) × (slice_get s.gps_seen i ≡ Some (Some payload))) ⊎ ((i : ℕ) × (slice_get s.gal_seen i ≡ Some (Some payload)))
+
+-- the payload was put in a place, or nothing was
+abbrev pub MaySet : List (Option (List ℕ)) → List (Option (List ℕ)) → List ℕ → Type 0
+MaySet old new payload = (new ≡ old) ⊎ ((i : ℕ) × (new ≡ slice_set old i (Some payload)))
+
+abbrev pub KeptPlaces : GivenState → GivenState → List ℕ → Type 0
+KeptPlaces old new payload = MaySet old.gps_seen new.gps_seen payload × MaySet old.gal_seen new.gal_seen payload
+
+-- nothing else changed
+abbrev pub KeptMore : GivenState → GivenState → List ℕ → Type 0
+KeptMore old new payload = KeptPlaces old new payload × (new.gps ≡ old.gps) × (new.gal ≡ old.gal)
 
 -- whether a set has a message
 abbrev pub has_key : BTreeSet (List ℕ) → List ℕ → Bool
@@ -124,6 +147,17 @@ abbrev pub is_given : GivenState → NavItem → Bool
 is_given s (Gps e) = has_key s.gps (bytes_1019 e)
 is_given s (Gal e) = has_key s.gal (bytes_1046 e)
 is_given s (Ion e) = false
+
+-- the payload is read, near the reference week r, as an item that was given
+pub record IsKnown (r : ℕ) (s : GivenState) (payload : List ℕ) : Type 0 where
+  pub item : NavItem
+  pub is : item_in r payload ≡ Ok item
+  pub given : is_given s item ≡ true
+
+-- every payload that is kept is
+abbrev pub AreKnown : ℕ → GivenState → Type 0
+AreKnown r s =
+    All (λ place. IfSome place (IsKnown r s)) s.gps_seen × All (λ place. IfSome place (IsKnown r s)) s.gal_seen
 
 -- two ephemerides for which the same message is sent
 abbrev pub sent_alike : NavItem → NavItem → Bool
@@ -170,6 +204,7 @@ pub record StreamSoFar (r : ℕ) (front : List ℕ) (text : NavItem → List ℕ
   pub report : Appends reported reported_new (readings_report 1 (readings r past))
   pub counts_are : counts ≡ counts_of_readings (readings r past)
   pub holds : (other : NavItem) → is_given given other ≡ any_alike (items_in (readings r past)) other
+  pub known : AreKnown r given
 
 -- Of what these frames give a front was written and reported.
 pub record StreamBroke (r : ℕ) (front : List ℕ) (text : NavItem → List ℕ) (past : List (List ℕ)) (written written_new reported reported_new : Option (List ℕ)) : Type 0 where

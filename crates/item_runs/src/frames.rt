@@ -9,7 +9,7 @@ ghost use Rattle.rtcm_eph.specs.declared.fault.MessageFault.{MessageFault};
 ghost use Rattle.run_texts.specs.Causes.{HasItsCause, faults_of};
 ghost use Rattle.run_texts.specs.Reports.{report_line};
 ghost use Rattle.item_runs.specs.Streams.{reading_report};
-ghost use Rattle.item_runs.specs.Mirrors.{AreFew, HasRoom, IsStreamFault, StreamBreaks, StreamGoes, StreamMoves, StreamStops, is_given, once_text, sent_alike, with_fault, with_item, with_refusal, with_unused};
+ghost use Rattle.item_runs.specs.Mirrors.{AreFew, HasRoom, IsStreamFault, KeptPlaces, StreamBreaks, StreamGoes, StreamMoves, StreamStops, is_given, once_text, sent_alike, with_fault, with_item, with_refusal, with_unused};
 
 use crate::counts::StreamCounts;
 use crate::given::Given;
@@ -93,10 +93,11 @@ fn tell_fault<U: Sink>(
     }
 }
 
-// Writes an item that was not given before, and counts it.
+// Writes an item that was read of a payload, where it was not given before, and counts it.
 fn give_item<O: Outlet, T: Sink>(
     outlet: &O,
     item: &NavItem,
+    payload: &[u8],
     given: &mut Given,
     output: &mut T,
     counts: &mut StreamCounts,
@@ -108,6 +109,7 @@ fn give_item<O: Outlet, T: Sink>(
         (counts.new ≡ with_item counts.old (is_given given.old item.now)) }
     ensures given { OnOk result ((other : NavItem) → is_given given.new other
         ≡ (sent_alike item.now other || is_given given.old other)) }
+    ensures kept { OnOk result (KeptPlaces given.old given.new payload.now) }
     ensures part { OnErr result (AppendsFront (T.written output.old) (T.written output.new)
         (once_text (O.text outlet.now 0) (is_given given.old item.now) item.now)) }
     ensures cause { HasItsCause (faults_of 0 (T.faults output.old) 0)
@@ -115,7 +117,7 @@ fn give_item<O: Outlet, T: Sink>(
     ensures kinds { IfErr result (λ fault. (fault ≡ BridgeFault.WriteFault)
         ⊎ (fault ≡ BridgeFault.NoMemory)) }
 {
-    match given.add(item) {
+    match given.add(item, payload) {
         Err(_) => Err(BridgeFault::NoMemory),
         Ok(false) => {
             counts.frames += 1;
@@ -161,8 +163,13 @@ fn take_frame<O: Outlet, T: Sink, U: Sink>(
     message_bytes();
     sent_1019_is_read();
     sent_1046_is_read();
-    match read_item(frame.payload(), r) {
-        Ok(item) => give_item(outlet, &item, given, output, counts),
+    let payload = frame.payload();
+    if given.knows(payload) {
+        counts.frames += 1;
+        return Ok(());
+    }
+    match read_item(payload, r) {
+        Ok(item) => give_item(outlet, &item, payload, given, output, counts),
         Err(fault) => tell_fault(fault, counts.frames + 1, report, counts),
     }
 }

@@ -29,6 +29,7 @@ mod given;
 mod outlet;
 mod pieces;
 mod records;
+mod seen;
 mod stream;
 mod streams;
 mod target;
