@@ -9,10 +9,10 @@ use Rattle.bridge_engine.specs.declared.target.CaptureTo.{CaptureTo}
 use Rattle.bridge_engine.specs.declared.counts.CaptureCounts.{CaptureCounts}
 use Rattle.run_texts.specs.declared.fault.BridgeFault.{BridgeFault}
 use Rattle.run_texts.specs.declared.fault.BridgeFault.TheVariants.{ReadFault, WriteFault, ReportFault, TooLong, NoMemory, NotThisForm}
-use Rattle.bridge_engine.specs.Captures.{Capture, capture_of, counts_of, least_output, output_of, report_of_capture, settled_output}
+use Rattle.bridge_engine.specs.Captures.{Capture, capture_of, counts_of, least_output, output_of, report_of_capture, settled_output, settled_report}
 use Rattle.run_texts.specs.Causes.{Faults, HasItsCause}
 use Rattle.bridge_engine.specs.Follows.{CaptureBroken, CaptureDone, CapturePart}
-use Rattle.run_texts.specs.Runs.{RunsExactly, RunsPart, RunsWhole, TakesTooMany}
+use Rattle.run_texts.specs.Runs.{RunsPart, RunsSettled, RunsWhole, TakesTooMany}
 
 -- all clauses of a run
 pub record Promised (to : CaptureTo) (week : Option ℕ) (left left_new written written_new reported reported_new : Option (List ℕ)) (before now : Faults) (result : Result CaptureCounts BridgeFault) : Type 0 where
@@ -20,7 +20,7 @@ pub record Promised (to : CaptureTo) (week : Option ℕ) (left left_new written 
   pub text : OnOk result (IfSome left (λ bytes. Appends written written_new (output_of to week bytes)))
   pub report_text : OnOk result (IfSome left (λ bytes. Appends reported reported_new (report_of_capture week bytes)))
   pub counts : IfOk result (λ counts. IfSome left (λ bytes. IfSome (capture_of week bytes) (λ capture. counts ≡ counts_of capture)))
-  pub exact : IsErrOf result ReadFault → RunsExactly (settled_output to week) left left_new written written_new
+  pub exact : IsErrOf result ReadFault → RunsSettled (settled_output to week) (settled_report week) left left_new written written_new reported reported_new
   pub part : OnErr result (RunsPart (output_of to week) (least_output to week) (report_of_capture week) left left_new written written_new reported reported_new)
   pub refused : IfSome left (λ bytes. IsErrOf result NotThisForm → capture_of week bytes ≡ None)
   pub accepted : IfSome left (λ bytes. IsOk result ⊎ (IsErrOf result WriteFault ⊎ IsErrOf result ReportFault) → IsSome (capture_of week bytes))

@@ -18,13 +18,13 @@ use Rattle.bridge_engine.specs.declared.counts.Tally.{Tally}
 use Rattle.bridge_engine.specs.declared.counts.Said.{Said}
 use Rattle.run_texts.specs.declared.fault.BridgeFault.{BridgeFault}
 use Rattle.run_texts.specs.declared.fault.BridgeFault.TheVariants.{ReadFault, WriteFault, ReportFault, TooLong, NoMemory, NotThisForm}
-use Rattle.bridge_engine.specs.Captures.{Capture, accepted_line, back_text, capture_in, capture_of, counts_of, counts_text, front_text, least_output, periods, report_of_capture, settled_output, settled_text, texts_of}
+use Rattle.bridge_engine.specs.Captures.{Capture, accepted_line, back_text, capture_in, capture_of, counts_of, counts_text, front_text, least_output, periods, refusals_text, report_of_capture, settled_output, settled_report, settled_text, texts_of}
 use Rattle.bridge_engine.specs.Follows.{Accepts, CaptureBroken, CaptureDone, CapturePart, FollowsAll, FollowsBroken, FollowsEnded, FollowsPart, GivesHead, GivesNoHead, no_tally}
 use Rattle.bridge_engine.specs.Notes.{line_report, tallied}
 use Rattle.bridge_engine.specs.Reports.{count_in, is_late, is_malformed, is_refused, is_unused}
-use Rattle.run_texts.specs.Runs.{RunsExactly, TakesTooMany}
+use Rattle.run_texts.specs.Runs.{RunsSettled, TakesTooMany}
 use Rattle.bridge_engine.specs.Settled.{said_of, with_counts}
-use Rattle.bridge_engine.proofs.CaptureFronts.{accepts_first, capture_by, capture_lines, known_lines, least_front, least_none, nothing_part, output_is, refuses_first, refuses_none, report_front, report_is, settled_is}
+use Rattle.bridge_engine.proofs.CaptureFronts.{accepts_first, capture_by, capture_lines, known_lines, least_front, least_none, nothing_part, output_is, refuses_first, refuses_none, report_front, report_is, settled_is, settled_report_is}
 use Rattle.bridge_engine.proofs.Following.{all_lines, ended_lines}
 use Rattle.bridge_engine.proofs.Fronts.{LogLaws, appends_behind, appends_longer, front_behind, front_more, front_nil, front_trans}
 use Rattle.bridge_engine.proofs.LineCounts.{ended_before, lines_length, no_pieces, sum_pieces, recent_ended, recent_lines, recent_within}
@@ -81,6 +81,7 @@ head_broken to week left left1 written reported old new ReadFault fresh h =
         taken = t;
         consumes = h.reads.consumes;
         text = subst (Appends written written) (sym (settled_is to week t [] none)) (Appends-nil written);
+        report_text = subst (Appends reported reported) (sym (settled_report_is week t [] none)) (Appends-nil reported);
       },
     )
 head_broken to week left left1 written reported old new TooLong fresh h =
@@ -182,21 +183,24 @@ follow_part laws to week left left1 left2 written written1 written2 reported rep
           (report_front head.window (p.given ++ p.last) more) (front_more (line_report (log_of head.window c.lines)) (counts_text (counts_of c)))) p.report);
     }
 
--- exactly what is closed by the lines that have ended
-pub follow_exact : (to : CaptureTo) (week : Option ℕ) (left left1 left2 written written1 written2 : Option (List ℕ)) (old middle new : LinesState) (head : Accepted) → IsFresh old
-    → GivesHead week left left1 old middle head → Appends written written1 (front_text to) → FollowsEnded head.week head.window to left1 left2 middle new written1 written2
-    → RunsExactly (settled_output to week) left left2 written written2
-follow_exact to week left left1 left2 written written1 written2 old middle new head fresh h begun p =
+-- exactly what is closed by the lines that have ended, and exactly what they bring
+pub follow_exact : (to : CaptureTo) (week : Option ℕ) (left left1 left2 written written1 written2 reported reported2 : Option (List ℕ)) (old middle new : LinesState) (head : Accepted) → IsFresh old
+    → GivesHead week left left1 old middle head → Appends written written1 (front_text to) → FollowsEnded head.week head.window to left1 left2 middle new written1 written2 reported reported2
+    → RunsSettled (settled_output to week) (settled_report week) left left2 written written2 reported reported2
+follow_exact to week left left1 left2 written written1 written2 reported reported2 old middle new head fresh h begun p =
     let t = h.gives.reads.taken ++ p.reads.taken in
     let reads = reads_more left left1 left2 old middle new (h.line ∷ []) p.given h.gives.reads p.reads in
     let ended : lines_by true t ≡ h.line ∷ p.given = ap (lines_by true) (held_none old.rest t fresh.rest) ∙ ended_lines left left2 old new (h.line ∷ p.given) reads p.more p.none in
     let closed = texts_of to (closed_of head.week head.window (mark_after head.window p.given) (parts_of head.window p.given)) in
     let text : settled_output to week t ≡ front_text to ++ closed =
     settled_is to week t (h.line ∷ p.given) ended ∙ ap (settled_text to) (capture_lines week head h.line p.given h.accepted) in
+    let report : settled_report week t ≡ line_report (log_of head.window p.given) =
+    settled_report_is week t (h.line ∷ p.given) ended ∙ ap refusals_text (capture_lines week head h.line p.given h.accepted) in
     record {
       taken = t;
       consumes = reads.consumes;
       text = subst (Appends written written2) (sym text) (Appends-trans written written1 written2 (front_text to) closed begun p.text);
+      report_text = subst (Appends reported reported2) (sym report) p.report;
     }
 
 follow_long : (week : Option ℕ) (left left1 left2 : Option (List ℕ)) (old middle new : LinesState) (head : Accepted) (given : List Line) → IsFresh old
@@ -211,7 +215,7 @@ follow_faults : (laws : LogLaws) (to : CaptureTo) (week : Option ℕ) (left left
     → CaptureBroken to week left left2 written written2 reported reported2 fault
 follow_faults laws to week left left1 left2 written written1 written2 reported reported2 old middle new head ReadFault fresh h begun p = (
   follow_part laws to week left left1 left2 written written1 written2 reported reported2 old middle new head fresh h begun p.1,
-  follow_exact to week left left1 left2 written written1 written2 old middle new head fresh h begun p.0,
+  follow_exact to week left left1 left2 written written1 written2 reported reported2 old middle new head fresh h begun p.0,
 )
 follow_faults laws to week left left1 left2 written written1 written2 reported reported2 old middle new head TooLong fresh h begun p = (
   follow_part laws to week left left1 left2 written written1 written2 reported reported2 old middle new head fresh h begun p.1,

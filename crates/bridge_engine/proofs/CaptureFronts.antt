@@ -12,7 +12,7 @@ use Rattle.period_items.specs.PeriodsOf.{closed_of}
 use Rattle.capture_log.specs.Log.{items_of, log_from, log_of, mark_after, parts_of}
 use Rattle.bridge_engine.specs.declared.accept.Accepted.{Accepted}
 use Rattle.bridge_engine.specs.declared.target.CaptureTo.{CaptureTo}
-use Rattle.bridge_engine.specs.Captures.{Capture, accepted_line, capture_in, capture_of, capture_with, back_text, counts_of, counts_text, front_text, least_output, output_of, periods, report_of_capture, settled_output, settled_text, texts_of, whole_report, whole_text, without_last}
+use Rattle.bridge_engine.specs.Captures.{Capture, accepted_line, capture_in, capture_of, capture_with, back_text, counts_of, counts_text, front_text, least_output, output_of, periods, refusals_text, report_of_capture, settled_output, settled_report, settled_text, texts_of, whole_report, whole_text, without_last}
 use Rattle.bridge_engine.specs.Follows.{Accepts, CapturePart, Refuses}
 use Rattle.bridge_engine.specs.Notes.{line_report}
 use Rattle.bridge_engine.proofs.Fronts.{LogLaws, front_behind, front_nil}
@@ -118,6 +118,10 @@ report_is week t c e = ap whole_report e
 pub settled_is : (to : CaptureTo) (week : Option ℕ) (t : List ℕ) (lines : List Line) → lines_by true t ≡ lines → settled_output to week t ≡ settled_text to (capture_in week lines)
 unfolding settled_output
 settled_is to week t lines e = ap (λ (l : List Line). settled_text to (capture_in week l)) e
+
+pub settled_report_is : (week : Option ℕ) (t : List ℕ) (lines : List Line) → lines_by true t ≡ lines → settled_report week t ≡ refusals_text (capture_in week lines)
+unfolding settled_report
+settled_report_is week t lines e = ap (λ (l : List Line). refusals_text (capture_in week l)) e
 
 -- the report of lines is a front of that of more
 pub report_front : (window : ℕ) (lines more : List Line) → IsFront (line_report (log_of window lines)) (line_report (log_of window (lines ++ more)))

@@ -233,13 +233,14 @@ room_line window n lines keeping tally greatest counted e low =
 pub ended_read : (now : Standing → Type 0) (r window : ℕ) (to : CaptureTo) (left left1 left2 : Option (List ℕ)) (old middle state : LinesState) (start written reported reported1 : Option (List ℕ))
     (keeping : Keeping) (tally : Tally) (said : Said) (greatest : ℕ)
     → Between now r window to left left1 old middle start written reported reported1 keeping tally said greatest → BreaksRead left1 left2 middle state
-    → FollowsEnded r window to left left2 old state start written
+    → FollowsEnded r window to left left2 old state start written reported reported1
 ended_read now r window to left left1 left2 old middle state start written reported reported1 keeping tally said greatest b breaks = record {
   given = b.given ++ [];
   reads = reads_more left left1 left2 old middle state b.given [] b.reads breaks.reads;
   more = breaks.more;
   none = breaks.none;
   text = subst (λ (l : List Line). Appends start written (texts_of to (closed_of r window (mark_after window l) (parts_of window l)))) (sym (append-nil b.given)) b.follows.settled.text;
+  report = subst (λ (l : List Line). Appends reported reported1 (line_report (log_of window l))) (sym (append-nil b.given)) b.follows.report;
 }
 
 reported_nil : (window : ℕ) (given : List Line) (reported reported_new : Option (List ℕ)) → Appends reported reported_new (line_report (log_of window given))

@@ -15,10 +15,10 @@ use Rattle.bridge_engine.specs.declared.counts.Said.{Said}
 use Rattle.run_texts.specs.declared.fault.BridgeFault.{BridgeFault}
 use Rattle.run_texts.specs.declared.fault.BridgeFault.TheVariants.{ReadFault, WriteFault, ReportFault, TooLong, NoMemory, NotThisForm}
 use Rattle.bridge_engine.specs.declared.counts.CaptureCounts.{CaptureCounts}
-use Rattle.bridge_engine.specs.Captures.{accepted_line, capture_of, counts_of, least_output, output_of, report_of_capture, settled_output, texts_of}
+use Rattle.bridge_engine.specs.Captures.{accepted_line, capture_of, counts_of, least_output, output_of, report_of_capture, settled_output, settled_report, texts_of}
 use Rattle.bridge_engine.specs.declared.accept.Accepted.{Accepted}
 use Rattle.bridge_engine.specs.Notes.{KeepsHalves, line_report, tallied, total}
-use Rattle.run_texts.specs.Runs.{AppendsBetween, RunsExactly, RunsPart, RunsWhole, TakesTooMany}
+use Rattle.run_texts.specs.Runs.{AppendsBetween, RunsPart, RunsSettled, RunsWhole, TakesTooMany}
 use Rattle.bridge_engine.specs.Settled.{Settled, said_of}
 
 -- nothing was counted
@@ -54,13 +54,14 @@ pub record FollowsAll (r window : ℕ) (to : CaptureTo) (left left_new : Option 
   pub counts : tally ≡ tallied no_tally (log_of window given)
   pub verdicts : said ≡ said_of (periods_of r window (parts_of window given))
 
--- A read failed. The lines that have ended were taken, and exactly what is closed by them was written.
-pub record FollowsEnded (r window : ℕ) (to : CaptureTo) (left left_new : Option (List ℕ)) (old new : LinesState) (start written : Option (List ℕ)) : Type 0 where
+-- A read failed. The lines that have ended were taken, and exactly what is closed by them was written, and what they bring was reported.
+pub record FollowsEnded (r window : ℕ) (to : CaptureTo) (left left_new : Option (List ℕ)) (old new : LinesState) (start written reported reported_new : Option (List ℕ)) : Type 0 where
   pub given : List Line
   pub reads : Reads left left_new old new given
   pub more : new.ended ≡ false
   pub none : ends new.rest ≡ false
   pub text : Appends start written (texts_of to (closed_of r window (mark_after window given) (parts_of window given)))
+  pub report : Appends reported reported_new (line_report (log_of window given))
 
 -- The lines that were given were taken, the last one maybe in part; all but the last 4,096 bytes have no more of them. A front was written of what the lines and
 -- whatever may follow them give, no less than what is closed without the last line; and a front of what they bring was reported.
@@ -75,10 +76,10 @@ pub record FollowsPart (r window : ℕ) (to : CaptureTo) (left left_new : Option
       (texts_of to (periods_of r window (parts_of window ((given ++ last) ++ more))))
   pub report : AppendsFront reported reported_new (line_report (log_of window (given ++ last)))
 
--- How following ends before all lines were taken: by every fault a front was written, and by a read that failed exactly what is closed.
+-- How following ends before all lines were taken: by every fault a front was written, and by a read that failed exactly what is closed, and reported exactly what the lines bring.
 abbrev pub FollowsBroken : ℕ → ℕ → CaptureTo → Option (List ℕ) → Option (List ℕ) → LinesState → LinesState → Option (List ℕ) → Option (List ℕ) → Option (List ℕ) → Option (List ℕ) → BridgeFault → Type 0
 FollowsBroken r window to left left_new old new start written reported reported_new ReadFault =
-    FollowsEnded r window to left left_new old new start written × FollowsPart r window to left left_new old new start written reported reported_new
+    FollowsEnded r window to left left_new old new start written reported reported_new × FollowsPart r window to left left_new old new start written reported reported_new
 FollowsBroken r window to left left_new old new start written reported reported_new TooLong =
     (new.taken ≡ 2 ^ 32) × FollowsPart r window to left left_new old new start written reported reported_new
 FollowsBroken r window to left left_new old new start written reported reported_new NotThisForm = ⊥
@@ -121,7 +122,8 @@ pub record CaptureDone (to : CaptureTo) (week : Option ℕ) (left left_new writt
 -- how the run ends by each fault
 abbrev pub CaptureBroken : CaptureTo → Option ℕ → Option (List ℕ) → Option (List ℕ) → Option (List ℕ) → Option (List ℕ) → Option (List ℕ) → Option (List ℕ) → BridgeFault → Type 0
 CaptureBroken to week left left_new written written_new reported reported_new ReadFault =
-    CapturePart to week left left_new written written_new reported reported_new × RunsExactly (settled_output to week) left left_new written written_new
+    CapturePart to week left left_new written written_new reported reported_new
+    × RunsSettled (settled_output to week) (settled_report week) left left_new written written_new reported reported_new
 CaptureBroken to week left left_new written written_new reported reported_new TooLong =
     CapturePart to week left left_new written written_new reported reported_new × TakesTooMany left left_new
 CaptureBroken to week left left_new written written_new reported reported_new NotThisForm =
