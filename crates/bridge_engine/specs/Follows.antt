@@ -10,6 +10,7 @@ use Rattle.period_items.specs.PeriodsOf.{periods_of, closed_of}
 use Rattle.capture_log.specs.Events.{nothing_known}
 use Rattle.capture_log.specs.Log.{items_of, known_from, log_of, mark_after, parts_of}
 use Rattle.bridge_engine.specs.declared.target.CaptureTo.{CaptureTo}
+use Rattle.bridge_engine.specs.declared.target.CaptureTo.TheVariants.{Count}
 use Rattle.bridge_engine.specs.declared.counts.Tally.{Tally}
 use Rattle.bridge_engine.specs.declared.counts.Said.{Said}
 use Rattle.run_texts.specs.declared.fault.BridgeFault.{BridgeFault}
@@ -19,6 +20,7 @@ use Rattle.bridge_engine.specs.Captures.{accepted_line, capture_of, counts_of, l
 use Rattle.bridge_engine.specs.declared.accept.Accepted.{Accepted}
 use Rattle.bridge_engine.specs.Notes.{KeepsHalves, line_report, tallied, total}
 use Rattle.run_texts.specs.Runs.{AppendsBetween, RunsPart, RunsSettled, RunsWhole, TakesTooMany}
+use Rattle.bridge_engine.specs.Runs.{WritesLast}
 use Rattle.bridge_engine.specs.Settled.{Settled, said_of}
 
 -- nothing was counted
@@ -101,10 +103,21 @@ GivesNoHead week left left_new old new ReadFault = BreaksRead left left_new old 
 GivesNoHead week left left_new old new TooLong = BreaksLong left left_new old new
 GivesNoHead week left left_new old new _ = ⊥
 
+-- a front was written and reported of what all bytes give that were there
+abbrev pub CaptureFront : CaptureTo → Option ℕ → Option (List ℕ) → Option (List ℕ) → Option (List ℕ) → Option (List ℕ) → Option (List ℕ) → Type 0
+CaptureFront to week left written written_new reported reported_new =
+    IfSome left (λ bytes. AppendsFront written written_new (output_of to week bytes) × AppendsFront reported reported_new (report_of_capture week bytes))
+
+-- counts are written at the end alone
+abbrev pub CountsLast : CaptureTo → Option ℕ → Option (List ℕ) → Option (List ℕ) → Option (List ℕ) → Option (List ℕ) → Type 0
+CountsLast Count week left left_new written written_new = WritesLast (output_of Count week) left left_new written written_new
+CountsLast to week left left_new written written_new = Unit {0}
+
 -- the run broke off: a front was written of what the bytes taken give, no less than the least, and a front was reported
-abbrev pub CapturePart : CaptureTo → Option ℕ → Option (List ℕ) → Option (List ℕ) → Option (List ℕ) → Option (List ℕ) → Option (List ℕ) → Option (List ℕ) → Type 0
-CapturePart to week left left_new written written_new reported reported_new =
-    RunsPart (output_of to week) (least_output to week) (report_of_capture week) left left_new written written_new reported reported_new
+pub record CapturePart (to : CaptureTo) (week : Option ℕ) (left left_new written written_new reported reported_new : Option (List ℕ)) : Type 0 where
+  pub part : RunsPart (output_of to week) (least_output to week) (report_of_capture week) left left_new written written_new reported reported_new
+  pub front : CaptureFront to week left written written_new reported reported_new
+  pub last : CountsLast to week left left_new written written_new
 
 -- the first line of the bytes that were there is accepted, or it is not
 abbrev pub Accepts : Option ℕ → Option (List ℕ) → Type 0

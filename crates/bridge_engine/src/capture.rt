@@ -4,9 +4,10 @@ ghost use Rattle.std.specs.Prelude.{◌≡◌, ◌⊎◌, ◌^◌, ◌<◌, ◌�
 ghost use Rattle.std.specs.Prelude.{IsSome, IsErrOf, IfOk, IfSome, OnOk, OnErr};
 ghost use Rattle.std.specs.Io.KnownBytes.{Appends};
 ghost use Rattle.nav_io.specs.Causes.{Rose};
+ghost use Rattle.nav_io.specs.Front.{AppendsFront};
 ghost use Rattle.bridge_engine.specs.Captures.{capture_of, counts_of, least_output, output_of};
 ghost use Rattle.bridge_engine.specs.Captures.{report_of_capture, settled_output, settled_report};
-ghost use Rattle.bridge_engine.specs.Runs.{HasLeap};
+ghost use Rattle.bridge_engine.specs.Runs.{HasLeap, WritesLast};
 ghost use Rattle.run_texts.specs.Runs.{RunsPart, RunsSettled, RunsWhole, TakesTooMany};
 
 use crate::counts::CaptureCounts;
@@ -68,6 +69,18 @@ pub fn run_capture<S: Source, T: Sink, U: Sink>(
         (report_of_capture week) (S.left input.old) (S.left input.new)
         (T.written output.old) (T.written output.new)
         (U.written report.old) (U.written report.new)) }
+
+    // After any fault a front was written and reported of what the whole input gives, whatever of
+    // it was not taken; and no count is written before the input was read to its end.
+    ensures front { OnErr result (IfSome (S.left input.old) (λ bytes.
+        AppendsFront (T.written output.old) (T.written output.new)
+        (output_of to.now week bytes))) }
+    ensures report_front { OnErr result (IfSome (S.left input.old) (λ bytes.
+        AppendsFront (U.written report.old) (U.written report.new)
+        (report_of_capture week bytes))) }
+    ensures last { to.now ≡ CaptureTo.Count → OnErr result (WritesLast
+        (output_of CaptureTo.Count week) (S.left input.old) (S.left input.new)
+        (T.written output.old) (T.written output.new)) }
 
     // The first line decides whether it is a capture.
     ensures form { IsErrOf result BridgeFault.NotThisForm
