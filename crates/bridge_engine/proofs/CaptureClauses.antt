@@ -5,14 +5,17 @@ use Rattle.std.specs.Io.KnownBytes.{Appends, Consumes, IsAtEnd}
 use Rattle.std.proofs.KnownBytes.{Consumes-all}
 use Rattle.std.proofs.lemmas.Bool.{true≢false}
 use Rattle.nav_io.specs.Causes.{Rose}
+use Rattle.nav_io.specs.Front.{AppendsFront}
 use Rattle.bridge_engine.specs.declared.target.CaptureTo.{CaptureTo}
+use Rattle.bridge_engine.specs.declared.target.CaptureTo.TheVariants.{Count}
 use Rattle.bridge_engine.specs.declared.counts.CaptureCounts.{CaptureCounts}
 use Rattle.run_texts.specs.declared.fault.BridgeFault.{BridgeFault}
 use Rattle.run_texts.specs.declared.fault.BridgeFault.TheVariants.{ReadFault, WriteFault, ReportFault, TooLong, NoMemory, NotThisForm}
-use Rattle.bridge_engine.specs.Captures.{Capture, capture_of, counts_of, least_output, output_of, report_of_capture, settled_output}
+use Rattle.bridge_engine.specs.Captures.{Capture, capture_of, counts_of, least_output, output_of, report_of_capture, settled_output, settled_report}
 use Rattle.run_texts.specs.Causes.{Faults, HasItsCause}
-use Rattle.bridge_engine.specs.Follows.{CaptureBroken, CaptureDone, CapturePart}
-use Rattle.run_texts.specs.Runs.{RunsExactly, RunsPart, RunsWhole, TakesTooMany}
+use Rattle.bridge_engine.specs.Follows.{CaptureBroken, CaptureDone, CaptureFront, CapturePart, CountsLast}
+use Rattle.bridge_engine.specs.Runs.{WritesLast}
+use Rattle.run_texts.specs.Runs.{RunsPart, RunsSettled, RunsWhole, TakesTooMany}
 
 -- all clauses of a run
 pub record Promised (to : CaptureTo) (week : Option ℕ) (left left_new written written_new reported reported_new : Option (List ℕ)) (before now : Faults) (result : Result CaptureCounts BridgeFault) : Type 0 where
@@ -20,8 +23,11 @@ pub record Promised (to : CaptureTo) (week : Option ℕ) (left left_new written 
   pub text : OnOk result (IfSome left (λ bytes. Appends written written_new (output_of to week bytes)))
   pub report_text : OnOk result (IfSome left (λ bytes. Appends reported reported_new (report_of_capture week bytes)))
   pub counts : IfOk result (λ counts. IfSome left (λ bytes. IfSome (capture_of week bytes) (λ capture. counts ≡ counts_of capture)))
-  pub exact : IsErrOf result ReadFault → RunsExactly (settled_output to week) left left_new written written_new
+  pub exact : IsErrOf result ReadFault → RunsSettled (settled_output to week) (settled_report week) left left_new written written_new reported reported_new
   pub part : OnErr result (RunsPart (output_of to week) (least_output to week) (report_of_capture week) left left_new written written_new reported reported_new)
+  pub front : OnErr result (IfSome left (λ bytes. AppendsFront written written_new (output_of to week bytes)))
+  pub report_front : OnErr result (IfSome left (λ bytes. AppendsFront reported reported_new (report_of_capture week bytes)))
+  pub last : to ≡ Count → OnErr result (WritesLast (output_of Count week) left left_new written written_new)
   pub refused : IfSome left (λ bytes. IsErrOf result NotThisForm → capture_of week bytes ≡ None)
   pub accepted : IfSome left (λ bytes. IsOk result ⊎ (IsErrOf result WriteFault ⊎ IsErrOf result ReportFault) → IsSome (capture_of week bytes))
   pub read : IsErrOf result ReadFault → Rose before.input now.input
@@ -76,6 +82,9 @@ promised_done to week left left_new written written_new reported reported_new be
       counts = done.counted;
       exact = λ e. absurd (no_error counts ReadFault e);
       part = tt;
+      front = tt;
+      report_front = tt;
+      last = λ e. tt;
       refused = known_any left _ (λ bytes e. absurd (no_error counts NotThisForm e));
       accepted = known_accepted week left _ done.accepts;
       read = λ e. absurd (no_error counts ReadFault e);
@@ -106,6 +115,16 @@ broken_part to week left left_new written written_new reported reported_new Repo
 broken_part to week left left_new written written_new reported reported_new TooLong h = h.0
 broken_part to week left left_new written written_new reported reported_new NoMemory h = h.0
 broken_part to week left left_new written written_new reported reported_new NotThisForm h = h.0
+
+first_front : (to : CaptureTo) (week : Option ℕ) (left written written_new reported reported_new : Option (List ℕ)) → CaptureFront to week left written written_new reported reported_new
+    → IfSome left (λ bytes. AppendsFront written written_new (output_of to week bytes))
+first_front to week None written written_new reported reported_new h = tt
+first_front to week (Some bytes) written written_new reported reported_new h = h.0
+
+second_front : (to : CaptureTo) (week : Option ℕ) (left written written_new reported reported_new : Option (List ℕ)) → CaptureFront to week left written written_new reported reported_new
+    → IfSome left (λ bytes. AppendsFront reported reported_new (report_of_capture week bytes))
+second_front to week None written written_new reported reported_new h = tt
+second_front to week (Some bytes) written written_new reported reported_new h = h.1
 
 known_refused : (week : Option ℕ) (left : Option (List ℕ)) (P : Type 0) → (P → IfSome left (λ bytes. capture_of week bytes ≡ None)) → IfSome left (λ bytes. P → capture_of week bytes ≡ None)
 known_refused week None P f = tt
@@ -139,6 +158,7 @@ promised_broken : (to : CaptureTo) (week : Option ℕ) (left left_new written wr
     → CaptureBroken to week left left_new written written_new reported reported_new fault → HasItsCause {T = CaptureCounts} before now (Err fault)
     → Promised to week left left_new written written_new reported reported_new before now (Err fault)
 promised_broken to week left left_new written written_new reported reported_new before now fault h cause =
+    let broke = broken_part to week left left_new written written_new reported reported_new fault h in
     let broken : (other : BridgeFault) → failed fault ≡ failed other → CaptureBroken to week left left_new written written_new reported reported_new other =
     λ other e. subst (CaptureBroken to week left left_new written written_new reported reported_new) (same_fault fault other e) h in
     let caused : (other : BridgeFault) → failed fault ≡ failed other → HasItsCause {T = CaptureCounts} before now (Err other) =
@@ -149,7 +169,10 @@ promised_broken to week left left_new written written_new reported reported_new 
       report_text = tt;
       counts = tt;
       exact = λ e. (broken ReadFault e).1;
-      part = broken_part to week left left_new written written_new reported reported_new fault h;
+      part = broke.part;
+      front = first_front to week left written written_new reported reported_new broke.front;
+      report_front = second_front to week left written written_new reported reported_new broke.front;
+      last = λ e. subst (λ (t : CaptureTo). CountsLast t week left left_new written written_new) e broke.last;
       refused = known_refused week left _ (λ e. (broken NotThisForm e).1);
       accepted = known_some week left _ (λ any. ⊎_elim (λ (ok : IsOk (failed fault)). absurd cc)
           (λ (either : IsErrOf (failed fault) WriteFault ⊎ IsErrOf (failed fault) ReportFault).

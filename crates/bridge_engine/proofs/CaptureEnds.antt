@@ -18,13 +18,13 @@ use Rattle.bridge_engine.specs.declared.counts.Tally.{Tally}
 use Rattle.bridge_engine.specs.declared.counts.Said.{Said}
 use Rattle.run_texts.specs.declared.fault.BridgeFault.{BridgeFault}
 use Rattle.run_texts.specs.declared.fault.BridgeFault.TheVariants.{ReadFault, WriteFault, ReportFault, TooLong, NoMemory, NotThisForm}
-use Rattle.bridge_engine.specs.Captures.{Capture, accepted_line, back_text, capture_in, capture_of, counts_of, counts_text, front_text, least_output, periods, report_of_capture, settled_output, settled_text, texts_of}
-use Rattle.bridge_engine.specs.Follows.{Accepts, CaptureBroken, CaptureDone, CapturePart, FollowsAll, FollowsBroken, FollowsEnded, FollowsPart, GivesHead, GivesNoHead, no_tally}
+use Rattle.bridge_engine.specs.Captures.{Capture, accepted_line, back_text, capture_in, capture_of, counts_of, counts_text, front_text, least_output, output_of, periods, refusals_text, report_of_capture, settled_output, settled_report, settled_text, texts_of}
+use Rattle.bridge_engine.specs.Follows.{Accepts, CaptureBroken, CaptureDone, CaptureFront, CapturePart, FollowsAll, FollowsBroken, FollowsEnded, FollowsPart, GivesHead, GivesNoHead, no_tally}
 use Rattle.bridge_engine.specs.Notes.{line_report, tallied}
 use Rattle.bridge_engine.specs.Reports.{count_in, is_late, is_malformed, is_refused, is_unused}
-use Rattle.run_texts.specs.Runs.{RunsExactly, TakesTooMany}
+use Rattle.run_texts.specs.Runs.{RunsPart, RunsSettled, TakesTooMany}
 use Rattle.bridge_engine.specs.Settled.{said_of, with_counts}
-use Rattle.bridge_engine.proofs.CaptureFronts.{accepts_first, capture_by, capture_lines, known_lines, least_front, least_none, nothing_part, output_is, refuses_first, refuses_none, report_front, report_is, settled_is}
+use Rattle.bridge_engine.proofs.CaptureFronts.{Follow, accepts_first, capture_by, capture_lines, front_all, front_head, fronts_of, known_lines, last_all, last_front, last_texts, least_front, least_none, lines_follow, nothing_part, output_is, refuses_first, refuses_none, report_front, report_is, settled_is, settled_report_is}
 use Rattle.bridge_engine.proofs.Following.{all_lines, ended_lines}
 use Rattle.bridge_engine.proofs.Fronts.{LogLaws, appends_behind, appends_longer, front_behind, front_more, front_nil, front_trans}
 use Rattle.bridge_engine.proofs.LineCounts.{ended_before, lines_length, no_pieces, sum_pieces, recent_ended, recent_lines, recent_within}
@@ -81,6 +81,7 @@ head_broken to week left left1 written reported old new ReadFault fresh h =
         taken = t;
         consumes = h.reads.consumes;
         text = subst (Appends written written) (sym (settled_is to week t [] none)) (Appends-nil written);
+        report_text = subst (Appends reported reported) (sym (settled_report_is week t [] none)) (Appends-nil reported);
       },
     )
 head_broken to week left left1 written reported old new TooLong fresh h =
@@ -120,15 +121,19 @@ head_part to week left left1 written written_new reported old new head fresh h (
     ap (capture_in week) (fresh_lines left left1 old new (h.line ∷ []) h.gives.reads fresh) ∙ capture_lines week head h.line (lines_by false new.rest) h.accepted in
     let behind = texts_of to (periods c) ++ back_text to (counts_of c) in (
       record {
-        taken = t;
-        consumes = h.gives.reads.consumes;
-        text = record {
-          front = front;
-          within = subst (IsFront front) (sym (output_is to week t c capture)) (front_trans front (front_text to) (front_text to ++ behind) within (front_more (front_text to) behind));
-          no_less = subst (λ (l : List ℕ). IsFront l front) (sym (least_none to week t recent)) (front_nil front);
-          grew = text;
+        part = record {
+          taken = t;
+          consumes = h.gives.reads.consumes;
+          text = record {
+            front = front;
+            within = subst (IsFront front) (sym (output_is to week t c capture)) (front_trans front (front_text to) (front_text to ++ behind) within (front_more (front_text to) behind));
+            no_less = subst (λ (l : List ℕ). IsFront l front) (sym (least_none to week t recent)) (front_nil front);
+            grew = text;
+          };
+          report_text = ([], front_nil (report_of_capture week t), Appends-nil reported);
         };
-        report_text = ([], front_nil (report_of_capture week t), Appends-nil reported);
+        front = front_head to week head h.line left written written_new reported h.accepted (known_lines left left1 old new (h.line ∷ []) h.gives.reads fresh.rest fresh.ended) (front, within, text);
+        last = last_front to week left left1 written written_new (front, within, text);
       },
       head_accepts week left left1 old new head fresh h,
     )
@@ -144,6 +149,15 @@ recent_head line a b front rest n e few all recent =
     ap (λ (l : List ℕ). l ++ b) e ∙ append_assoc front rest b ∙ ap (λ (l : List ℕ). front ++ l) (sym (take-append-drop k s)) ∙ sym (append_assoc front (take k s) (drop k s)) in
     recent_within (a ++ b) (front ++ take k s) (drop k s) (n + 1) whole (omega (arith, length-drop k s))
     (omega (arith, sum_pieces front (take k s), ended_before front rest (line ∷ []) (ap (lines_by false) (sym e) ∙ all), lines_length true (take k s), recent))
+
+-- a front of what all bytes give
+follow_front : (to : CaptureTo) (week : Option ℕ) (left left1 left2 written written1 written2 reported reported2 : Option (List ℕ)) (middle new : LinesState) (head : Accepted) (line : Line) → accepted_line week line ≡ Some head
+    → Appends written written1 (front_text to) → (p : FollowsPart head.week head.window to left1 left2 middle new written1 written2 reported reported2)
+    → Follow left new (line ∷ (p.given ++ p.last)) → CaptureFront to week left written written2 reported reported2
+follow_front to week None left1 left2 written written1 written2 reported reported2 middle new head line accepted begun p k = tt
+follow_front to week (Some bytes) left1 left2 written written1 written2 reported reported2 middle new head line accepted begun p k =
+    let text = p.text k.0 k.2 in
+    fronts_of to week head line (p.given ++ p.last) k.0 bytes written written1 written2 reported reported2 accepted k.1 begun (text.front, text.within, text.grew) p.report
 
 -- a front of the output of the lines
 pub follow_part : (laws : LogLaws) (to : CaptureTo) (week : Option ℕ) (left left1 left2 written written1 written2 reported reported2 : Option (List ℕ)) (old middle new : LinesState) (head : Accepted) → IsFresh old
@@ -167,36 +181,44 @@ follow_part laws to week left left1 left2 written written1 written2 reported rep
     (fresh_lines left left1 old middle (h.line ∷ []) h.gives.reads fresh) p.recent in
     let least = least_front laws to week head h.line p.given p.last more t h.accepted p.few (fresh_lines left left2 old new (h.line ∷ (p.given ++ p.last)) reads fresh) (omega (arith, recent)) in
     record {
-      taken = t;
-      consumes = reads.consumes;
-      text = record {
-        front = front_text to ++ text.front;
-        within = subst (IsFront (front_text to ++ text.front)) (sym (output_is to week t c capture))
-            (front_behind (front_text to) text.front (texts ++ back) (front_trans text.front texts (texts ++ back) text.within (front_more texts back)));
-        no_less = front_trans (least_output to week t) (front_text to ++ closed) (front_text to ++ text.front) least (front_behind (front_text to) closed text.front text.no_less);
-        grew = Appends-trans written written1 written2 (front_text to) text.front begun text.grew;
+      part = record {
+        taken = t;
+        consumes = reads.consumes;
+        text = record {
+          front = front_text to ++ text.front;
+          within = subst (IsFront (front_text to ++ text.front)) (sym (output_is to week t c capture))
+              (front_behind (front_text to) text.front (texts ++ back) (front_trans text.front texts (texts ++ back) text.within (front_more texts back)));
+          no_less = front_trans (least_output to week t) (front_text to ++ closed) (front_text to ++ text.front) least (front_behind (front_text to) closed text.front text.no_less);
+          grew = Appends-trans written written1 written2 (front_text to) text.front begun text.grew;
+        };
+        report_text = subst (AppendsFront reported reported2) (sym (report_is week t c capture))
+            (appends_longer reported reported2 (line_report (log_of head.window (p.given ++ p.last))) (line_report (log_of head.window c.lines) ++ counts_text (counts_of c))
+            (front_trans (line_report (log_of head.window (p.given ++ p.last))) (line_report (log_of head.window c.lines)) (line_report (log_of head.window c.lines) ++ counts_text (counts_of c))
+            (report_front head.window (p.given ++ p.last) more) (front_more (line_report (log_of head.window c.lines)) (counts_text (counts_of c)))) p.report);
       };
-      report_text = subst (AppendsFront reported reported2) (sym (report_is week t c capture))
-          (appends_longer reported reported2 (line_report (log_of head.window (p.given ++ p.last))) (line_report (log_of head.window c.lines) ++ counts_text (counts_of c))
-          (front_trans (line_report (log_of head.window (p.given ++ p.last))) (line_report (log_of head.window c.lines)) (line_report (log_of head.window c.lines) ++ counts_text (counts_of c))
-          (report_front head.window (p.given ++ p.last) more) (front_more (line_report (log_of head.window c.lines)) (counts_text (counts_of c)))) p.report);
+      front = follow_front to week left left1 left2 written written1 written2 reported reported2 middle new head h.line h.accepted begun p
+          (lines_follow left left2 old new (h.line ∷ (p.given ++ p.last)) reads fresh.rest fresh.ended);
+      last = last_texts to week left left2 written written1 written2 (periods c) begun (text.front, text.within, text.grew);
     }
 
--- exactly what is closed by the lines that have ended
-pub follow_exact : (to : CaptureTo) (week : Option ℕ) (left left1 left2 written written1 written2 : Option (List ℕ)) (old middle new : LinesState) (head : Accepted) → IsFresh old
-    → GivesHead week left left1 old middle head → Appends written written1 (front_text to) → FollowsEnded head.week head.window to left1 left2 middle new written1 written2
-    → RunsExactly (settled_output to week) left left2 written written2
-follow_exact to week left left1 left2 written written1 written2 old middle new head fresh h begun p =
+-- exactly what is closed by the lines that have ended, and exactly what they bring
+pub follow_exact : (to : CaptureTo) (week : Option ℕ) (left left1 left2 written written1 written2 reported reported2 : Option (List ℕ)) (old middle new : LinesState) (head : Accepted) → IsFresh old
+    → GivesHead week left left1 old middle head → Appends written written1 (front_text to) → FollowsEnded head.week head.window to left1 left2 middle new written1 written2 reported reported2
+    → RunsSettled (settled_output to week) (settled_report week) left left2 written written2 reported reported2
+follow_exact to week left left1 left2 written written1 written2 reported reported2 old middle new head fresh h begun p =
     let t = h.gives.reads.taken ++ p.reads.taken in
     let reads = reads_more left left1 left2 old middle new (h.line ∷ []) p.given h.gives.reads p.reads in
     let ended : lines_by true t ≡ h.line ∷ p.given = ap (lines_by true) (held_none old.rest t fresh.rest) ∙ ended_lines left left2 old new (h.line ∷ p.given) reads p.more p.none in
     let closed = texts_of to (closed_of head.week head.window (mark_after head.window p.given) (parts_of head.window p.given)) in
     let text : settled_output to week t ≡ front_text to ++ closed =
     settled_is to week t (h.line ∷ p.given) ended ∙ ap (settled_text to) (capture_lines week head h.line p.given h.accepted) in
+    let report : settled_report week t ≡ line_report (log_of head.window p.given) =
+    settled_report_is week t (h.line ∷ p.given) ended ∙ ap refusals_text (capture_lines week head h.line p.given h.accepted) in
     record {
       taken = t;
       consumes = reads.consumes;
       text = subst (Appends written written2) (sym text) (Appends-trans written written1 written2 (front_text to) closed begun p.text);
+      report_text = subst (Appends reported reported2) (sym report) p.report;
     }
 
 follow_long : (week : Option ℕ) (left left1 left2 : Option (List ℕ)) (old middle new : LinesState) (head : Accepted) (given : List Line) → IsFresh old
@@ -211,7 +233,7 @@ follow_faults : (laws : LogLaws) (to : CaptureTo) (week : Option ℕ) (left left
     → CaptureBroken to week left left2 written written2 reported reported2 fault
 follow_faults laws to week left left1 left2 written written1 written2 reported reported2 old middle new head ReadFault fresh h begun p = (
   follow_part laws to week left left1 left2 written written1 written2 reported reported2 old middle new head fresh h begun p.1,
-  follow_exact to week left left1 left2 written written1 written2 old middle new head fresh h begun p.0,
+  follow_exact to week left left1 left2 written written1 written2 reported reported2 old middle new head fresh h begun p.0,
 )
 follow_faults laws to week left left1 left2 written written1 written2 reported reported2 old middle new head TooLong fresh h begun p = (
   follow_part laws to week left left1 left2 written written1 written2 reported reported2 old middle new head fresh h begun p.1,
@@ -308,7 +330,7 @@ end_part laws to week left left2 written written2 written3 reported reported2 re
     let below : IsFront closed texts = subst (λ (l : List Line). IsFront closed (texts_of to (periods_of head.week head.window (parts_of head.window l)))) nil front in
     let behind = subst (λ (x : CaptureCounts). AppendsFront written2 written3 (back_text to x)) t.counted back in
     let counted = subst (λ (x : CaptureCounts). AppendsFront reported2 reported3 (counts_text x)) t.counted report in
-    record {
+    let part : RunsPart (output_of to week) (least_output to week) (report_of_capture week) left left2 written written3 reported reported3 = record {
       taken = t.taken;
       consumes = t.consumes;
       text = record {
@@ -321,6 +343,13 @@ end_part laws to week left left2 written written2 written3 reported reported2 re
       };
       report_text = subst (AppendsFront reported reported3) (sym (report_is week t.taken c capture))
           (appends_behind reported reported2 reported3 (line_report (log_of head.window t.given)) (counts_text (counts_of c)) t.report counted);
+    } in
+    let text : AppendsFront written written3 (output_of to week t.taken) = (part.text.front, part.text.within, part.text.grew) in
+    let same = Consumes-all left left2 t.taken [] t.taken t.consumes t.end refl in
+    record {
+      part = part;
+      front = front_all to week left written written3 reported reported3 t.taken same text part.report_text;
+      last = last_all to week left left2 written written3 t.taken t.consumes t.end text;
     }
 
 pub end_broken : (laws : LogLaws) (to : CaptureTo) (week : Option ℕ) (left left2 written written2 written3 reported reported2 reported3 : Option (List ℕ)) (head : Accepted) (counts : CaptureCounts) (fault : BridgeFault)

@@ -1,21 +1,23 @@
 -- The capture that the bytes taken are, and the least that is written of it.
-use Rattle.std.proofs.Common.{◌≡◌, ℕ, ◌+◌, ◌-◌, ◌≤◌, true, false, List, [], ◌∷◌, ◌++◌, length, take, drop, refl, sym, ap, subst, ◌∙◌, arith, ⊎_elim, append_assoc, append-nil, length-append}
-use Rattle.std.specs.Prelude.{Option, None, Some, IfSome, IsSome}
+use Rattle.std.proofs.Common.{◌≡◌, ℕ, ◌+◌, ◌-◌, ◌≤◌, true, false, List, [], ◌∷◌, ◌++◌, length, take, drop, refl, sym, ap, subst, ◌∙◌, arith, inl, inr, ⊎_elim, append_assoc, append-nil, length-append}
+use Rattle.std.specs.Prelude.{Option, None, Some, IfSome, IsSome, ◌⊎◌}
 use Rattle.std.proofs.lemmas.Bool.{true≢false}
 use Rattle.std.proofs.lemmas.List.{take-append-drop}
-use Rattle.std.specs.Io.KnownBytes.{Consumes}
-use Rattle.std.proofs.KnownBytes.{Appends-nil}
-use Rattle.nav_io.specs.Front.{IsFront}
+use Rattle.std.specs.Io.KnownBytes.{Appends, Consumes, IsAtEnd}
+use Rattle.std.proofs.KnownBytes.{Appends-nil, Appends-trans}
+use Rattle.nav_io.specs.Front.{AppendsFront, IsFront}
 use Rattle.nav_io.specs.Lines.{Line, lines_by}
 use Rattle.nav_io.specs.LinesState.{LinesState, Reads}
 use Rattle.period_items.specs.PeriodsOf.{closed_of}
+use Rattle.period_items.specs.declared.closed.Closed.{Closed}
 use Rattle.capture_log.specs.Log.{items_of, log_from, log_of, mark_after, parts_of}
 use Rattle.bridge_engine.specs.declared.accept.Accepted.{Accepted}
 use Rattle.bridge_engine.specs.declared.target.CaptureTo.{CaptureTo}
-use Rattle.bridge_engine.specs.Captures.{Capture, accepted_line, capture_in, capture_of, capture_with, back_text, counts_of, counts_text, front_text, least_output, output_of, periods, report_of_capture, settled_output, settled_text, texts_of, whole_report, whole_text, without_last}
-use Rattle.bridge_engine.specs.Follows.{Accepts, CapturePart, Refuses}
+use Rattle.bridge_engine.specs.declared.target.CaptureTo.TheVariants.{Rinex, Rinex3, Rtcm, ToList, Count}
+use Rattle.bridge_engine.specs.Captures.{Capture, accepted_line, capture_in, capture_of, capture_with, back_text, counts_of, counts_text, front_text, least_output, output_of, periods, refusals_text, report_of_capture, settled_output, settled_report, settled_text, texts_of, whole_report, whole_text, without_last}
+use Rattle.bridge_engine.specs.Follows.{Accepts, CaptureFront, CapturePart, CountsLast, Refuses}
 use Rattle.bridge_engine.specs.Notes.{line_report}
-use Rattle.bridge_engine.proofs.Fronts.{LogLaws, front_behind, front_nil}
+use Rattle.bridge_engine.proofs.Fronts.{LogLaws, appends_behind, appends_longer, front_behind, front_more, front_nil, front_trans}
 use Rattle.bridge_engine.proofs.LineCounts.{IsFrontOf, front_within, lines_front}
 use Rattle.bridge_engine.proofs.Logs.{known_of, log_more, report_append}
 use Rattle.bridge_engine.proofs.Writing.{texts_front}
@@ -119,26 +121,123 @@ pub settled_is : (to : CaptureTo) (week : Option ℕ) (t : List ℕ) (lines : Li
 unfolding settled_output
 settled_is to week t lines e = ap (λ (l : List Line). settled_text to (capture_in week l)) e
 
+pub settled_report_is : (week : Option ℕ) (t : List ℕ) (lines : List Line) → lines_by true t ≡ lines → settled_report week t ≡ refusals_text (capture_in week lines)
+unfolding settled_report
+settled_report_is week t lines e = ap (λ (l : List Line). refusals_text (capture_in week l)) e
+
 -- the report of lines is a front of that of more
 pub report_front : (window : ℕ) (lines more : List Line) → IsFront (line_report (log_of window lines)) (line_report (log_of window (lines ++ more)))
 report_front window lines more =
     let behind = log_from window (known_of window lines) (2 + length lines) (items_of more) in
     (line_report behind, ap line_report (log_more window lines more) ∙ report_append (log_of window lines) behind)
 
+-- ---- counts are written at the end alone
+
+no_texts : (cs : List Closed) → texts_of Count cs ≡ []
+no_texts [] = refl
+no_texts (c ∷ cs) = no_texts cs
+
+appends_none : (a b : Option (List ℕ)) (front : List ℕ) → IsFront front [] → Appends a b front → Appends a b []
+appends_none a b [] within h = h
+appends_none a b (x ∷ xs) (rest, e) h = absurd (omega (arith, ap length e, length-append (x ∷ xs) rest))
+
+last_by : (to : CaptureTo) (week : Option ℕ) (left left_new written written_new : Option (List ℕ)) → (to ≡ Count → CountsLast Count week left left_new written written_new)
+    → CountsLast to week left left_new written written_new
+last_by (Rinex words) week left left_new written written_new h = tt
+last_by (Rinex3 words) week left left_new written written_new h = tt
+last_by Rtcm week left left_new written written_new h = tt
+last_by ToList week left left_new written written_new h = tt
+last_by Count week left left_new written written_new h = h refl
+
+pub last_nothing : (to : CaptureTo) (week : Option ℕ) (left left_new written written_new : Option (List ℕ)) → Appends written written_new [] → CountsLast to week left left_new written written_new
+last_nothing to week left left_new written written_new h = last_by to week left left_new written written_new (λ e. inl h)
+
+pub last_front : (to : CaptureTo) (week : Option ℕ) (left left_new written written_new : Option (List ℕ)) → AppendsFront written written_new (front_text to)
+    → CountsLast to week left left_new written written_new
+last_front to week left left_new written written_new h =
+    last_by to week left left_new written written_new
+    (λ e. let none : AppendsFront written written_new [] = subst (λ (t : CaptureTo). AppendsFront written written_new (front_text t)) e h in
+    inl (appends_none written written_new none.0 none.1 none.2))
+
+pub last_texts : (to : CaptureTo) (week : Option ℕ) (left left_new written written1 written2 : Option (List ℕ)) (cs : List Closed) → Appends written written1 (front_text to)
+    → AppendsFront written1 written2 (texts_of to cs) → CountsLast to week left left_new written written2
+last_texts to week left left_new written written1 written2 cs begun h =
+    last_by to week left left_new written written2
+    (λ e. let first : Appends written written1 [] = subst (λ (t : CaptureTo). Appends written written1 (front_text t)) e begun in
+    let none : AppendsFront written1 written2 [] = subst (AppendsFront written1 written2) (no_texts cs) (subst (λ (t : CaptureTo). AppendsFront written1 written2 (texts_of t cs)) e h) in
+    inl (Appends-trans written written1 written2 [] [] first (appends_none written1 written2 none.0 none.1 none.2)))
+
+pub last_all : (to : CaptureTo) (week : Option ℕ) (left left_new written written_new : Option (List ℕ)) (t : List ℕ) → Consumes left left_new t → IsAtEnd left_new
+    → AppendsFront written written_new (output_of to week t) → CountsLast to week left left_new written written_new
+last_all to week left left_new written written_new t consumes end h =
+    last_by to week left left_new written written_new
+    (λ e. inr (record { taken = t; consumes = consumes; end = end; text = subst (λ (x : CaptureTo). AppendsFront written written_new (output_of x week t)) e h }))
+
+-- ---- fronts of what all bytes give
+
+-- behind a first line that is accepted, of lines that these bytes have and maybe more
+pub fronts_of : (to : CaptureTo) (week : Option ℕ) (head : Accepted) (line : Line) (lines more : List Line) (bytes : List ℕ) (written written1 written2 reported reported2 : Option (List ℕ)) → accepted_line week line ≡ Some head
+    → lines_by false bytes ≡ (line ∷ lines) ++ more → Appends written written1 (front_text to) → AppendsFront written1 written2 (texts_of to (periods (capture_by head (lines ++ more))))
+    → AppendsFront reported reported2 (line_report (log_of head.window lines))
+    → AppendsFront written written2 (output_of to week bytes) × AppendsFront reported reported2 (report_of_capture week bytes)
+fronts_of to week head line lines more bytes written written1 written2 reported reported2 accepted all begun text report =
+    let c = capture_by head (lines ++ more) in
+    let capture : capture_of week bytes ≡ Some c = ap (capture_in week) all ∙ capture_lines week head line (lines ++ more) accepted in
+    let texts = texts_of to (periods c) in
+    let back = back_text to (counts_of c) in
+    let told = line_report (log_of head.window lines) in
+    let all_told = line_report (log_of head.window c.lines) in (
+      subst (AppendsFront written written2) (sym (output_is to week bytes c capture))
+          (appends_behind written written1 written2 (front_text to) (texts ++ back) begun (appends_longer written1 written2 texts (texts ++ back) (front_more texts back) text)),
+      subst (AppendsFront reported reported2) (sym (report_is week bytes c capture))
+          (appends_longer reported reported2 told (all_told ++ counts_text (counts_of c))
+          (front_trans told all_told (all_told ++ counts_text (counts_of c)) (report_front head.window lines more) (front_more all_told (counts_text (counts_of c)))) report),
+    )
+
+-- nothing was reported, and a front of the text in front was written
+pub front_head : (to : CaptureTo) (week : Option ℕ) (head : Accepted) (line : Line) (left written written_new reported : Option (List ℕ)) → accepted_line week line ≡ Some head
+    → IfSome left (λ bytes. IsFrontOf (line ∷ []) (lines_by false bytes)) → AppendsFront written written_new (front_text to) → CaptureFront to week left written written_new reported reported
+front_head to week head line None written written_new reported e front h = tt
+front_head to week head line (Some bytes) written written_new reported e (more, all) h =
+    let c = capture_by head more in
+    let capture : capture_of week bytes ≡ Some c = ap (capture_in week) all ∙ capture_lines week head line more e in
+    let behind = texts_of to (periods c) ++ back_text to (counts_of c) in (
+      subst (AppendsFront written written_new) (sym (output_is to week bytes c capture)) (appends_longer written written_new (front_text to) (front_text to ++ behind) (front_more (front_text to) behind) h),
+      ([], front_nil (report_of_capture week bytes), Appends-nil reported),
+    )
+
+-- what was taken is all that was there
+pub front_all : (to : CaptureTo) (week : Option ℕ) (left written written_new reported reported_new : Option (List ℕ)) (t : List ℕ) → IfSome left (λ bytes. t ≡ bytes)
+    → AppendsFront written written_new (output_of to week t) → AppendsFront reported reported_new (report_of_capture week t) → CaptureFront to week left written written_new reported reported_new
+front_all to week None written written_new reported reported_new t same text report = tt
+front_all to week (Some bytes) written written_new reported reported_new t same text report = (
+  subst (λ (l : List ℕ). AppendsFront written written_new (output_of to week l)) same text,
+  subst (λ (l : List ℕ). AppendsFront reported reported_new (report_of_capture week l)) same report,
+)
+
+front_nothing : (to : CaptureTo) (week : Option ℕ) (left written reported : Option (List ℕ)) → CaptureFront to week left written written reported reported
+front_nothing to week None written reported = tt
+front_nothing to week (Some bytes) written reported =
+    (([], front_nil (output_of to week bytes), Appends-nil written), ([], front_nil (report_of_capture week bytes), Appends-nil reported))
+
 -- ---- nothing was written
 
 pub nothing_part : (to : CaptureTo) (week : Option ℕ) (left left_new written reported : Option (List ℕ)) (t : List ℕ) → Consumes left left_new t
     → length (lines_by true (take (length t - 4096) t)) ≤ 1 → CapturePart to week left left_new written written reported reported
 nothing_part to week left left_new written reported t consumes few = record {
-  taken = t;
-  consumes = consumes;
-  text = record {
-    front = [];
-    within = front_nil (output_of to week t);
-    no_less = ([], sym (append-nil (least_output to week t) ∙ least_none to week t few));
-    grew = Appends-nil written;
+  part = record {
+    taken = t;
+    consumes = consumes;
+    text = record {
+      front = [];
+      within = front_nil (output_of to week t);
+      no_less = ([], sym (append-nil (least_output to week t) ∙ least_none to week t few));
+      grew = Appends-nil written;
+    };
+    report_text = ([], front_nil (report_of_capture week t), Appends-nil reported);
   };
-  report_text = ([], front_nil (report_of_capture week t), Appends-nil reported);
+  front = front_nothing to week left written reported;
+  last = last_nothing to week left left_new written written (Appends-nil written);
 }
 
 -- ---- the lines of all bytes that were there
@@ -153,6 +252,22 @@ known_lines (Some bytes) (Some behind) old new lines reads none begins =
     (refl, ⊎_elim (λ (before : old.ended ≡ true). absurd (true≢false (sym before ∙ begins))) (λ (at : behind ≡ []). at) (reads.at_end ended)) in (
       lines_by false (new.rest ++ behind),
       ap (lines_by false) reads.consumes ∙ ap (λ (l : List ℕ). lines_by false (l ++ (reads.taken ++ behind))) (sym none) ∙ reads.stream false behind may,
+    )
+
+-- those that follow them
+abbrev pub Follow : Option (List ℕ) → LinesState → List Line → Type 0
+Follow left new lines = IfSome left (λ bytes. (more : List Line) × (lines_by false bytes ≡ lines ++ more) × (new.ended ≡ true → new.rest ≡ [] → more ≡ []))
+
+pub lines_follow : (left left_new : Option (List ℕ)) (old new : LinesState) (lines : List Line) → Reads left left_new old new lines → old.rest ≡ [] → old.ended ≡ false → Follow left new lines
+lines_follow None left_new old new lines reads none begins = tt
+lines_follow (Some bytes) None old new lines reads none begins = absurd reads.consumes
+lines_follow (Some bytes) (Some behind) old new lines reads none begins =
+    let at : new.ended ≡ true → behind ≡ [] = λ ended.
+    ⊎_elim (λ (before : old.ended ≡ true). absurd (true≢false (sym before ∙ begins))) (λ (at : behind ≡ []). at) (reads.at_end ended) in (
+      lines_by false (new.rest ++ behind),
+      ap (lines_by false) reads.consumes ∙ ap (λ (l : List ℕ). lines_by false (l ++ (reads.taken ++ behind))) (sym none)
+          ∙ reads.stream false behind (λ ended. (refl, at ended)),
+      λ ended rest. ap (λ (l : List ℕ). lines_by false (l ++ behind)) rest ∙ ap (lines_by false) (at ended),
     )
 
 -- the first line is accepted

@@ -1,5 +1,5 @@
 -- Steps of a run over lines: what was taken, written, reported and counted between two lines, and how it ends.
-use Rattle.std.proofs.Common.{◌≡◌, ℕ, ◌+◌, ◌<◌, ◌≤◌, ◌^◌, true, false, List, [], ◌∷◌, ◌++◌, length, refl, sym, ap, subst, ◌∙◌, arith, append_assoc, append-nil, length-append}
+use Rattle.std.proofs.Common.{◌≡◌, ℕ, ◌+◌, ◌-◌, ◌<◌, ◌≤◌, ◌^◌, true, false, List, [], ◌∷◌, ◌++◌, length, refl, sym, ap, subst, ◌∙◌, arith, append_assoc, append-nil, length-append}
 use Rattle.std.specs.Prelude.{Option, None, Contains, max, unwrap_or}
 use Rattle.std.proofs.lemmas.Bool.{true≢false}
 use Rattle.std.specs.Io.KnownBytes.{Appends}
@@ -80,7 +80,7 @@ between_start now r window to left state start reported keeping tally said held 
 }
 
 -- What a line brings was taken too; what is closed by it was not written yet.
-pub record Taken (now : Standing → Type 0) (r window : ℕ) (to : CaptureTo) (left left_new : Option (List ℕ)) (old new : LinesState) (start written reported reported_new : Option (List ℕ)) (keeping : Keeping) (tally : Tally) (said : Said) (greatest : ℕ) : Type 0 where
+pub record Taken (now : Standing → Type 0) (r window : ℕ) (to : CaptureTo) (left left_new : Option (List ℕ)) (old new : LinesState) (start written reported reported_new : Option (List ℕ)) (keeping : Keeping) (tally : Tally) (said : Said) (greatest before : ℕ) : Type 0 where
   pub given : List Line
   pub line : Line
   pub reads : Reads left left_new old new (given ++ line ∷ [])
@@ -91,7 +91,8 @@ pub record Taken (now : Standing → Type 0) (r window : ℕ) (to : CaptureTo) (
   pub number : new.number ≡ old.number + length (given ++ line ∷ [])
   pub few : new.number < 2 ^ 32
   pub rising : mark_after window given ≤ mark_after window (given ++ line ∷ [])
-  pub settled : Settled now r window to (parts_of window (given ++ line ∷ [])) (mark_after window given) start written said
+  pub since : before ≡ mark_after window given
+  pub settled : Settled now r window to (parts_of window (given ++ line ∷ [])) before start written said
   pub report : Appends reported reported_new (line_report (log_of window (given ++ line ∷ [])))
   pub counted : Counted window (given ++ line ∷ []) keeping tally greatest
 
@@ -156,22 +157,23 @@ mark_line window given line =
 
 -- a line was taken
 pub taken_line : (laws : LogLaws) (now new : Standing → Type 0) (r window m : ℕ) (to : CaptureTo) (left left1 left2 : Option (List ℕ)) (old middle state : LinesState) (start written reported reported1 reported2 : Option (List ℕ))
-    (keeping keeping_new : Keeping) (tally tally_new : Tally) (said : Said) (greatest greatest_new : ℕ) (item : LineItem)
+    (keeping keeping_new : Keeping) (tally tally_new : Tally) (said : Said) (greatest greatest_new before : ℕ) (item : LineItem)
     (b : Between now r window to left left1 old middle start written reported reported1 keeping tally said greatest) → GivesItem left1 left2 middle state item
     → m ≡ 2 + length b.given
     → Notes now new reported1 reported2 tally tally_new (noted m (events_of window (known_of window b.given) item))
     → KeepsHalves keeping_new window (known_with window (known_of window b.given) item)
     → length keeping_new.kept ≤ length keeping.kept + 1 → total tally_new ≤ total tally + length keeping.kept + 1
-    → greatest_new ≡ max greatest (unwrap_or (stamp_of item) 0)
-    → Taken new r window to left left2 old state start written reported reported2 keeping_new tally_new said greatest_new
-taken_line laws now new r window m to left left1 left2 old middle state start written reported reported1 reported2 keeping keeping_new tally tally_new said greatest greatest_new item
-    b gives e notes keeps kept room raised =
+    → greatest_new ≡ max greatest (unwrap_or (stamp_of item) 0) → before ≡ greatest - window
+    → Taken new r window to left left2 old state start written reported reported2 keeping_new tally_new said greatest_new before
+taken_line laws now new r window m to left left1 left2 old middle state start written reported reported1 reported2 keeping keeping_new tally tally_new said greatest greatest_new before item
+    b gives e notes keeps kept room raised was =
     let line = gives.line in
     let log = noted m (events_of window (known_of window b.given) (item_line line)) in
     let noted_line : Notes now new reported1 reported2 tally tally_new log =
     subst (λ (i : LineItem). Notes now new reported1 reported2 tally tally_new (noted m (events_of window (known_of window b.given) i))) gives.item_is notes in
     let keeps_line = subst (λ (i : LineItem). KeepsHalves keeping_new window (known_with window (known_of window b.given) i)) gives.item_is keeps in
     let raised_line = subst (λ (i : LineItem). greatest_new ≡ max greatest (unwrap_or (stamp_of i) 0)) gives.item_is raised in
+    let since : before ≡ mark_after window b.given = was ∙ ap (λ (n : ℕ). n - window) b.follows.counted.greatest_is in
     record {
       given = b.given;
       line = line;
@@ -183,7 +185,9 @@ taken_line laws now new r window m to left left1 left2 old middle state start wr
       number = omega (arith, gives.gives.number, b.number, length-append b.given (line ∷ []));
       few = omega (arith, gives.gives.numbered, gives.gives.low);
       rising = mark_line window b.given line;
-      settled = settled_line laws now new r window m to b.given line start written said e noted_line.parts b.follows.settled;
+      since = since;
+      settled = subst (λ (n : ℕ). Settled new r window to (parts_of window (b.given ++ line ∷ [])) n start written said) (sym since)
+          (settled_line laws now new r window m to b.given line start written said e noted_line.parts b.follows.settled);
       report = subst (Appends reported reported2) (sym (ap line_report (log_line window m b.given line e) ∙ report_append (log_of window b.given) log))
           (Appends-trans reported reported1 reported2 (line_report (log_of window b.given)) (line_report log) b.follows.report noted_line.text);
       counted = counted_line window m b.given line keeping keeping_new tally tally_new greatest greatest_new e b.follows.counted noted_line.counts keeps_line kept room raised_line;
@@ -191,11 +195,11 @@ taken_line laws now new r window m to left left1 left2 old middle state start wr
 
 -- what is closed by it was written
 pub between_written : (now new : Standing → Type 0) (r window : ℕ) (to : CaptureTo) (left left_new : Option (List ℕ)) (old state : LinesState) (start written written_new reported reported_new : Option (List ℕ))
-    (keeping : Keeping) (tally : Tally) (said said_new : Said) (greatest : ℕ)
-    (t : Taken now r window to left left_new old state start written reported reported_new keeping tally said greatest)
+    (keeping : Keeping) (tally : Tally) (said said_new : Said) (greatest before : ℕ)
+    (t : Taken now r window to left left_new old state start written reported reported_new keeping tally said greatest before)
     (mark : ℕ) → mark ≡ mark_after window (t.given ++ t.line ∷ []) → Settled new r window to (parts_of window (t.given ++ t.line ∷ [])) mark start written_new said_new
     → Between new r window to left left_new old state start written_new reported reported_new keeping tally said_new greatest
-between_written now new r window to left left_new old state start written written_new reported reported_new keeping tally said said_new greatest t mark e settles = record {
+between_written now new r window to left left_new old state start written written_new reported reported_new keeping tally said said_new greatest before t mark e settles = record {
   given = t.given ++ t.line ∷ [];
   reads = t.reads;
   front = t.front;
@@ -210,12 +214,12 @@ between_written now new r window to left left_new old state start written writte
 -- ---- room
 
 -- the number of lines is low, since each has a byte
-pub room_taken : (now : Standing → Type 0) (r window mark n : ℕ) (to : CaptureTo) (given lines : List Line) (start written : Option (List ℕ)) (keeping : Keeping) (tally : Tally) (said : Said) (greatest : ℕ)
-    → Settled now r window to (parts_of window lines) (mark_after window given) start written said → Counted window lines keeping tally greatest
-    → n ≡ 1 + length lines → n < 2 ^ 32 → mark_after window given ≤ mark → HasRoom now r window mark said
-room_taken now r window mark n to given lines start written keeping tally said greatest settles counted e low rising = record {
+pub room_taken : (now : Standing → Type 0) (r window before mark n : ℕ) (to : CaptureTo) (lines : List Line) (start written : Option (List ℕ)) (keeping : Keeping) (tally : Tally) (said : Said) (greatest : ℕ)
+    → Settled now r window to (parts_of window lines) before start written said → Counted window lines keeping tally greatest
+    → n ≡ 1 + length lines → n < 2 ^ 32 → before ≤ mark → HasRoom now r window mark said
+room_taken now r window before mark n to lines start written keeping tally said greatest settles counted e low rising = record {
   parts = parts_of window lines;
-  before = mark_after window given;
+  before = before;
   low = rising;
   few = periods_low r window (length lines) (parts_of window lines) counted.parts (omega (arith, e, low));
   stands = settles.stands;
@@ -233,13 +237,14 @@ room_line window n lines keeping tally greatest counted e low =
 pub ended_read : (now : Standing → Type 0) (r window : ℕ) (to : CaptureTo) (left left1 left2 : Option (List ℕ)) (old middle state : LinesState) (start written reported reported1 : Option (List ℕ))
     (keeping : Keeping) (tally : Tally) (said : Said) (greatest : ℕ)
     → Between now r window to left left1 old middle start written reported reported1 keeping tally said greatest → BreaksRead left1 left2 middle state
-    → FollowsEnded r window to left left2 old state start written
+    → FollowsEnded r window to left left2 old state start written reported reported1
 ended_read now r window to left left1 left2 old middle state start written reported reported1 keeping tally said greatest b breaks = record {
   given = b.given ++ [];
   reads = reads_more left left1 left2 old middle state b.given [] b.reads breaks.reads;
   more = breaks.more;
   none = breaks.none;
   text = subst (λ (l : List Line). Appends start written (texts_of to (closed_of r window (mark_after window l) (parts_of window l)))) (sym (append-nil b.given)) b.follows.settled.text;
+  report = subst (λ (l : List Line). Appends reported reported1 (line_report (log_of window l))) (sym (append-nil b.given)) b.follows.report;
 }
 
 reported_nil : (window : ℕ) (given : List Line) (reported reported_new : Option (List ℕ)) → Appends reported reported_new (line_report (log_of window given))
@@ -316,21 +321,23 @@ part_line laws now r window m to left left1 left2 old middle state start written
 
 -- what is closed by a line was not written whole
 pub part_written : (laws : LogLaws) (now : Standing → Type 0) (r window : ℕ) (to : CaptureTo) (left left_new : Option (List ℕ)) (old state : LinesState) (start written written_new reported reported_new : Option (List ℕ))
-    (keeping : Keeping) (tally : Tally) (said : Said) (greatest : ℕ)
-    (t : Taken now r window to left left_new old state start written reported reported_new keeping tally said greatest)
+    (keeping : Keeping) (tally : Tally) (said : Said) (greatest before : ℕ)
+    (t : Taken now r window to left left_new old state start written reported reported_new keeping tally said greatest before)
     (mark : ℕ) → mark ≡ mark_after window (t.given ++ t.line ∷ [])
-    → AppendsBetween start written_new (texts_of to (closed_of r window (mark_after window t.given) (parts_of window (t.given ++ t.line ∷ []))))
+    → AppendsBetween start written_new (texts_of to (closed_of r window before (parts_of window (t.given ++ t.line ∷ []))))
     (texts_of to (closed_of r window mark (parts_of window (t.given ++ t.line ∷ []))))
     → FollowsPart r window to left left_new old state start written_new reported reported_new
-part_written laws now r window to left left_new old state start written written_new reported reported_new keeping tally said greatest t mark e between = record {
+part_written laws now r window to left left_new old state start written written_new reported reported_new keeping tally said greatest before t mark e between = record {
   given = t.given;
   last = t.line ∷ [];
   few = omega arith;
   reads = t.reads;
   recent = recent_lines (old.rest ++ t.reads.taken) t.front state.rest (t.given ++ t.line ∷ []) t.split t.held (all_lines left left_new old state (t.given ++ t.line ∷ []) t.reads);
   text = λ more none. written_between laws r window to t.given (t.line ∷ []) more start written_new
-      (subst (λ (m : ℕ). AppendsBetween start written_new (texts_of to (closed_of r window (mark_after window t.given) (parts_of window (t.given ++ t.line ∷ []))))
-      (texts_of to (closed_of r window m (parts_of window (t.given ++ t.line ∷ []))))) e between);
+      (subst (λ (n : ℕ). AppendsBetween start written_new (texts_of to (closed_of r window n (parts_of window (t.given ++ t.line ∷ []))))
+      (texts_of to (closed_of r window (mark_after window (t.given ++ t.line ∷ [])) (parts_of window (t.given ++ t.line ∷ []))))) t.since
+      (subst (λ (m : ℕ). AppendsBetween start written_new (texts_of to (closed_of r window before (parts_of window (t.given ++ t.line ∷ []))))
+      (texts_of to (closed_of r window m (parts_of window (t.given ++ t.line ∷ []))))) e between));
   report = appends_whole reported reported_new (line_report (log_of window (t.given ++ t.line ∷ []))) t.report;
 }
 

@@ -159,6 +159,11 @@ abbrev pub whole_report : Option Capture → List ℕ
 whole_report None = []
 whole_report (Some c) = report_in (codes "line") (log_of c.window c.lines) ++ counts_text (counts_of c)
 
+-- what is reported of it once its lines were taken and more may come: a line for each refusal
+abbrev pub refusals_text : Option Capture → List ℕ
+refusals_text None = []
+refusals_text (Some c) = report_in (codes "line") (log_of c.window c.lines)
+
 -- the output and the report of a capture's bytes, converted for a week
 unfoldable pub output_of : CaptureTo → Option ℕ → List ℕ → List ℕ
 output_of to week bytes = whole_text to (capture_of week bytes)
@@ -166,9 +171,12 @@ output_of to week bytes = whole_text to (capture_of week bytes)
 unfoldable pub report_of_capture : Option ℕ → List ℕ → List ℕ
 report_of_capture week bytes = whole_report (capture_of week bytes)
 
--- what is written once the lines that have ended in the bytes were taken
+-- what is written and reported once the lines that have ended in the bytes were taken
 unfoldable pub settled_output : CaptureTo → Option ℕ → List ℕ → List ℕ
 settled_output to week bytes = settled_text to (ended_capture week bytes)
+
+unfoldable pub settled_report : Option ℕ → List ℕ → List ℕ
+settled_report week bytes = refusals_text (ended_capture week bytes)
 
 -- all but the last
 abbrev pub without_last : List Line → List Line

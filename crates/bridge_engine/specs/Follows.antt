@@ -10,15 +10,17 @@ use Rattle.period_items.specs.PeriodsOf.{periods_of, closed_of}
 use Rattle.capture_log.specs.Events.{nothing_known}
 use Rattle.capture_log.specs.Log.{items_of, known_from, log_of, mark_after, parts_of}
 use Rattle.bridge_engine.specs.declared.target.CaptureTo.{CaptureTo}
+use Rattle.bridge_engine.specs.declared.target.CaptureTo.TheVariants.{Count}
 use Rattle.bridge_engine.specs.declared.counts.Tally.{Tally}
 use Rattle.bridge_engine.specs.declared.counts.Said.{Said}
 use Rattle.run_texts.specs.declared.fault.BridgeFault.{BridgeFault}
 use Rattle.run_texts.specs.declared.fault.BridgeFault.TheVariants.{ReadFault, WriteFault, ReportFault, TooLong, NoMemory, NotThisForm}
 use Rattle.bridge_engine.specs.declared.counts.CaptureCounts.{CaptureCounts}
-use Rattle.bridge_engine.specs.Captures.{accepted_line, capture_of, counts_of, least_output, output_of, report_of_capture, settled_output, texts_of}
+use Rattle.bridge_engine.specs.Captures.{accepted_line, capture_of, counts_of, least_output, output_of, report_of_capture, settled_output, settled_report, texts_of}
 use Rattle.bridge_engine.specs.declared.accept.Accepted.{Accepted}
 use Rattle.bridge_engine.specs.Notes.{KeepsHalves, line_report, tallied, total}
-use Rattle.run_texts.specs.Runs.{AppendsBetween, RunsExactly, RunsPart, RunsWhole, TakesTooMany}
+use Rattle.run_texts.specs.Runs.{AppendsBetween, RunsPart, RunsSettled, RunsWhole, TakesTooMany}
+use Rattle.bridge_engine.specs.Runs.{WritesLast}
 use Rattle.bridge_engine.specs.Settled.{Settled, said_of}
 
 -- nothing was counted
@@ -54,13 +56,14 @@ pub record FollowsAll (r window : ℕ) (to : CaptureTo) (left left_new : Option 
   pub counts : tally ≡ tallied no_tally (log_of window given)
   pub verdicts : said ≡ said_of (periods_of r window (parts_of window given))
 
--- A read failed. The lines that have ended were taken, and exactly what is closed by them was written.
-pub record FollowsEnded (r window : ℕ) (to : CaptureTo) (left left_new : Option (List ℕ)) (old new : LinesState) (start written : Option (List ℕ)) : Type 0 where
+-- A read failed. The lines that have ended were taken, and exactly what is closed by them was written, and what they bring was reported.
+pub record FollowsEnded (r window : ℕ) (to : CaptureTo) (left left_new : Option (List ℕ)) (old new : LinesState) (start written reported reported_new : Option (List ℕ)) : Type 0 where
   pub given : List Line
   pub reads : Reads left left_new old new given
   pub more : new.ended ≡ false
   pub none : ends new.rest ≡ false
   pub text : Appends start written (texts_of to (closed_of r window (mark_after window given) (parts_of window given)))
+  pub report : Appends reported reported_new (line_report (log_of window given))
 
 -- The lines that were given were taken, the last one maybe in part; all but the last 4,096 bytes have no more of them. A front was written of what the lines and
 -- whatever may follow them give, no less than what is closed without the last line; and a front of what they bring was reported.
@@ -75,10 +78,10 @@ pub record FollowsPart (r window : ℕ) (to : CaptureTo) (left left_new : Option
       (texts_of to (periods_of r window (parts_of window ((given ++ last) ++ more))))
   pub report : AppendsFront reported reported_new (line_report (log_of window (given ++ last)))
 
--- How following ends before all lines were taken: by every fault a front was written, and by a read that failed exactly what is closed.
+-- How following ends before all lines were taken: by every fault a front was written, and by a read that failed exactly what is closed, and reported exactly what the lines bring.
 abbrev pub FollowsBroken : ℕ → ℕ → CaptureTo → Option (List ℕ) → Option (List ℕ) → LinesState → LinesState → Option (List ℕ) → Option (List ℕ) → Option (List ℕ) → Option (List ℕ) → BridgeFault → Type 0
 FollowsBroken r window to left left_new old new start written reported reported_new ReadFault =
-    FollowsEnded r window to left left_new old new start written × FollowsPart r window to left left_new old new start written reported reported_new
+    FollowsEnded r window to left left_new old new start written reported reported_new × FollowsPart r window to left left_new old new start written reported reported_new
 FollowsBroken r window to left left_new old new start written reported reported_new TooLong =
     (new.taken ≡ 2 ^ 32) × FollowsPart r window to left left_new old new start written reported reported_new
 FollowsBroken r window to left left_new old new start written reported reported_new NotThisForm = ⊥
@@ -100,10 +103,21 @@ GivesNoHead week left left_new old new ReadFault = BreaksRead left left_new old 
 GivesNoHead week left left_new old new TooLong = BreaksLong left left_new old new
 GivesNoHead week left left_new old new _ = ⊥
 
+-- a front was written and reported of what all bytes give that were there
+abbrev pub CaptureFront : CaptureTo → Option ℕ → Option (List ℕ) → Option (List ℕ) → Option (List ℕ) → Option (List ℕ) → Option (List ℕ) → Type 0
+CaptureFront to week left written written_new reported reported_new =
+    IfSome left (λ bytes. AppendsFront written written_new (output_of to week bytes) × AppendsFront reported reported_new (report_of_capture week bytes))
+
+-- counts are written at the end alone
+abbrev pub CountsLast : CaptureTo → Option ℕ → Option (List ℕ) → Option (List ℕ) → Option (List ℕ) → Option (List ℕ) → Type 0
+CountsLast Count week left left_new written written_new = WritesLast (output_of Count week) left left_new written written_new
+CountsLast to week left left_new written written_new = Unit {0}
+
 -- the run broke off: a front was written of what the bytes taken give, no less than the least, and a front was reported
-abbrev pub CapturePart : CaptureTo → Option ℕ → Option (List ℕ) → Option (List ℕ) → Option (List ℕ) → Option (List ℕ) → Option (List ℕ) → Option (List ℕ) → Type 0
-CapturePart to week left left_new written written_new reported reported_new =
-    RunsPart (output_of to week) (least_output to week) (report_of_capture week) left left_new written written_new reported reported_new
+pub record CapturePart (to : CaptureTo) (week : Option ℕ) (left left_new written written_new reported reported_new : Option (List ℕ)) : Type 0 where
+  pub part : RunsPart (output_of to week) (least_output to week) (report_of_capture week) left left_new written written_new reported reported_new
+  pub front : CaptureFront to week left written written_new reported reported_new
+  pub last : CountsLast to week left left_new written written_new
 
 -- the first line of the bytes that were there is accepted, or it is not
 abbrev pub Accepts : Option ℕ → Option (List ℕ) → Type 0
@@ -121,7 +135,8 @@ pub record CaptureDone (to : CaptureTo) (week : Option ℕ) (left left_new writt
 -- how the run ends by each fault
 abbrev pub CaptureBroken : CaptureTo → Option ℕ → Option (List ℕ) → Option (List ℕ) → Option (List ℕ) → Option (List ℕ) → Option (List ℕ) → Option (List ℕ) → BridgeFault → Type 0
 CaptureBroken to week left left_new written written_new reported reported_new ReadFault =
-    CapturePart to week left left_new written written_new reported reported_new × RunsExactly (settled_output to week) left left_new written written_new
+    CapturePart to week left left_new written written_new reported reported_new
+    × RunsSettled (settled_output to week) (settled_report week) left left_new written written_new reported reported_new
 CaptureBroken to week left left_new written written_new reported reported_new TooLong =
     CapturePart to week left left_new written written_new reported reported_new × TakesTooMany left left_new
 CaptureBroken to week left left_new written written_new reported reported_new NotThisForm =

@@ -4,10 +4,11 @@ ghost use Rattle.std.specs.Prelude.{◌≡◌, ◌⊎◌, ◌^◌, ◌<◌, ◌�
 ghost use Rattle.std.specs.Prelude.{IsSome, IsErrOf, IfOk, IfSome, OnOk, OnErr};
 ghost use Rattle.std.specs.Io.KnownBytes.{Appends};
 ghost use Rattle.nav_io.specs.Causes.{Rose};
+ghost use Rattle.nav_io.specs.Front.{AppendsFront};
 ghost use Rattle.bridge_engine.specs.Captures.{capture_of, counts_of, least_output, output_of};
-ghost use Rattle.bridge_engine.specs.Captures.{report_of_capture, settled_output};
-ghost use Rattle.bridge_engine.specs.Runs.{HasLeap};
-ghost use Rattle.run_texts.specs.Runs.{RunsExactly, RunsPart, RunsWhole, TakesTooMany};
+ghost use Rattle.bridge_engine.specs.Captures.{report_of_capture, settled_output, settled_report};
+ghost use Rattle.bridge_engine.specs.Runs.{HasLeap, WritesLast};
+ghost use Rattle.run_texts.specs.Runs.{RunsPart, RunsSettled, RunsWhole, TakesTooMany};
 
 use crate::counts::CaptureCounts;
 use crate::follow::follow_capture;
@@ -31,7 +32,7 @@ use std::alloc::Global;
 /// - `NotThisForm` exactly where the first line is not accepted; nothing is written then.
 /// - `ReadFault`, `WriteFault`, `ReportFault` only where the count of faults of the input, the
 ///   output or the report rose, or stands at its last value. After a failed read exactly what is
-///   closed by the lines that have ended was written.
+///   closed by the lines that have ended was written, and exactly what they bring reported.
 /// - `TooLong` only where 4,294,967,295 bytes were taken and one more was there.
 /// - `NoMemory` for want of memory.
 pub fn run_capture<S: Source, T: Sink, U: Sink>(
@@ -55,9 +56,12 @@ pub fn run_capture<S: Source, T: Sink, U: Sink>(
     ensures counts { IfOk result (λ counts. IfSome (S.left input.old) (λ bytes.
         IfSome (capture_of week bytes) (λ capture. counts ≡ counts_of capture))) }
 
-    // After a failed read exactly that was written which is closed by the lines that have ended.
-    ensures exact { IsErrOf result BridgeFault.ReadFault → RunsExactly (settled_output to.now week)
-        (S.left input.old) (S.left input.new) (T.written output.old) (T.written output.new) }
+    // After a failed read exactly that was written which is closed by the lines that have ended,
+    // and exactly what they bring was reported.
+    ensures exact { IsErrOf result BridgeFault.ReadFault
+        → RunsSettled (settled_output to.now week) (settled_report week)
+        (S.left input.old) (S.left input.new) (T.written output.old) (T.written output.new)
+        (U.written report.old) (U.written report.new) }
 
     // After every other fault no less than what was closed 4,096 bytes and a line before, and a
     // front of the whole.
@@ -65,6 +69,18 @@ pub fn run_capture<S: Source, T: Sink, U: Sink>(
         (report_of_capture week) (S.left input.old) (S.left input.new)
         (T.written output.old) (T.written output.new)
         (U.written report.old) (U.written report.new)) }
+
+    // After any fault a front was written and reported of what the whole input gives, whatever of
+    // it was not taken; and no count is written before the input was read to its end.
+    ensures front { OnErr result (IfSome (S.left input.old) (λ bytes.
+        AppendsFront (T.written output.old) (T.written output.new)
+        (output_of to.now week bytes))) }
+    ensures report_front { OnErr result (IfSome (S.left input.old) (λ bytes.
+        AppendsFront (U.written report.old) (U.written report.new)
+        (report_of_capture week bytes))) }
+    ensures last { to.now ≡ CaptureTo.Count → OnErr result (WritesLast
+        (output_of CaptureTo.Count week) (S.left input.old) (S.left input.new)
+        (T.written output.old) (T.written output.new)) }
 
     // The first line decides whether it is a capture.
     ensures form { IsErrOf result BridgeFault.NotThisForm

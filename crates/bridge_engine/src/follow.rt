@@ -1,6 +1,6 @@
 //! A capture, line by line, for one outlet.
 
-ghost use Rattle.std.specs.Prelude.{◌≡◌, ◌⊎◌, ◌^◌, ◌<◌, ◌≤◌, [], length};
+ghost use Rattle.std.specs.Prelude.{◌≡◌, ◌⊎◌, ◌-◌, ◌^◌, ◌<◌, ◌≤◌, [], length};
 ghost use Rattle.std.specs.Prelude.{IsTrue, IsErrOf, IfOk, IfErr, OnOk, OnErr};
 ghost use Rattle.std.specs.Io.KnownBytes.{Appends};
 ghost use Rattle.nav_io.specs.Causes.{Rose};
@@ -15,7 +15,8 @@ use crate::counts::{CaptureCounts, Said, Tally, capture_counts_text, counts_with
 use crate::item::{stamp_of_item, take_item};
 use crate::next::next_item;
 use crate::outlet::Outlet;
-use crate::settle::write_closed;
+use crate::settle::{write_closed, write_risen};
+use capture_lines::LineItem;
 use capture_log::{parts_of_lines_are_values, what_is_closed_stays};
 use gnss_week::RefWeek;
 use inav_page::Halves;
@@ -124,6 +125,13 @@ pub(crate) fn follow_capture<O: Outlet, S: Source, T: Sink, U: Sink>(
     }
 }
 
+// The mark at which lines are closed whose greatest stamp this is.
+fn mark_at(greatest: u32, window: u32) -> u64
+    ensures { result ≡ greatest - window }
+{
+    u64::from(greatest.saturating_sub(window))
+}
+
 // Takes the lines behind the first, one after another, and writes what is closed by each; at the
 // end of the input all that is left.
 pub(crate) fn follow_lines<A: Assembly, O: Outlet, S: Source, T: Sink, U: Sink>(
@@ -161,22 +169,25 @@ pub(crate) fn follow_lines<A: Assembly, O: Outlet, S: Source, T: Sink, U: Sink>(
     what_is_closed_stays();
     parts_of_lines_are_values();
     let mut greatest = 0;
+    let mut item = LineItem::Malformed;
     'lines: loop {
-        let item = match next_item(lines, input) {
-            Ok(Some(item)) => item,
-            Ok(None) => return write_closed(outlet, assembly, u64::MAX, output, said),
+        match next_item(lines, input, &mut item) {
+            Ok(true) => {}
+            Ok(false) => return write_closed(outlet, assembly, u64::MAX, output, said),
             Err(fault) => return Err(fault_of(fault)),
-        };
+        }
         let number = lines.number();
+        let stamp = stamp_of_item(&item);
         match take_item(
-            &item, number, window, greatest, halves, assembly, report, tally,
+            &item, stamp, number, window, greatest, halves, assembly, report, tally,
         ) {
             Ok(()) => {}
             Err(fault) => return Err(fault),
         }
-        greatest = greatest.max(stamp_of_item(&item).unwrap_or(0));
-        let mark = u64::from(greatest.saturating_sub(window));
-        match write_closed(outlet, assembly, mark, output, said) {
+        let before = mark_at(greatest, window);
+        greatest = greatest.max(stamp.unwrap_or(0));
+        let mark = mark_at(greatest, window);
+        match write_risen(outlet, assembly, before, mark, output, said) {
             Ok(()) => {}
             Err(fault) => return Err(fault),
         }

@@ -42,10 +42,11 @@ fn is_behind(stamp: Option<u32>, window: u32, greatest: u32) -> bool
     }
 }
 
-// Takes what the line with this number brings. `greatest` is the greatest stamp of the lines before
-// it.
+// Takes what the line with this number and this stamp brings. `greatest` is the greatest stamp of
+// the lines before it.
 pub(crate) fn take_item<A: Assembly, U: Sink>(
     item: &LineItem,
+    stamp: Option<u32>,
     number: u32,
     window: u32,
     greatest: u32,
@@ -54,6 +55,7 @@ pub(crate) fn take_item<A: Assembly, U: Sink>(
     report: &mut U,
     tally: &mut Tally,
 ) -> Result<(), BridgeFault>
+    requires stamp { stamp ≡ stamp_of item.now }
     requires system { HasSystem item.now }
     requires stood { Stood (A.stands_for assembly.old) (λ at. at.mark ≤ greatest - window) }
     requires room { total tally.old + length halves.old.kept + 1 < 2 ^ 64 }
@@ -72,7 +74,7 @@ pub(crate) fn take_item<A: Assembly, U: Sink>(
     ensures cause { IsReporting (U.faults report.old) (U.faults report.new) result }
 {
     let least = greatest.saturating_sub(window);
-    if is_behind(stamp_of_item(item), window, greatest) {
+    if is_behind(stamp, window, greatest) {
         return take_event(&Event::Late, number, least, assembly, report, tally);
     }
     match item {

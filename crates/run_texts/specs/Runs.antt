@@ -26,12 +26,6 @@ pub record RunsPart (output least report : List ℕ → List ℕ) (left left_new
   pub text : AppendsBetween written written_new (least taken) (output taken)
   pub report_text : AppendsFront reported reported_new (report taken)
 
--- a read failed: exactly this was written of the bytes that were taken
-pub record RunsExactly (settled : List ℕ → List ℕ) (left left_new written written_new : Option (List ℕ)) : Type 0 where
-  pub taken : List ℕ
-  pub consumes : Consumes left left_new taken
-  pub text : Appends written written_new (settled taken)
-
 -- a read failed: these bytes were taken, and exactly what they settle was written and reported
 pub record RunsSettled (output report : List ℕ → List ℕ) (left left_new written written_new reported reported_new : Option (List ℕ)) : Type 0 where
   pub taken : List ℕ

@@ -33,13 +33,13 @@ pub write_closed-requires-clause-room : goal.write_closed-requires-clause-room
 write_closed-requires-clause-room g c =
     let b = c.lines.invariant.between in
     room_at _ _ _ _ _ _ _ (sym c.lines.invariant.reference) (sym c.lines.invariant.window)
-    (room_taken _ _ _ last_mark c.lines.lines.number _ b.given b.given _ _ _ _ _ _ b.follows.settled b.follows.counted (omega (arith, b.number, c.requires.first)) b.few
+    (room_taken _ _ _ (mark_after c.args.window b.given) last_mark c.lines.lines.number _ b.given _ _ _ _ _ _ b.follows.settled b.follows.counted (omega (arith, b.number, c.requires.first)) b.few
     (omega (arith, b.follows.counted.greatest_is, c.lines.invariant.low)))
 
-pub returns-in-Ok-None-clause-all : goal.returns-in-Ok-None-clause-all
-returns-in-Ok-None-clause-all g c =
+pub returns-in-Ok-false-clause-all : goal.returns-in-Ok-false-clause-all
+returns-in-Ok-false-clause-all g c =
     let laws : LogLaws = record { later = c.what_is_closed_stays.ensures.later; rise = c.what_is_closed_stays.ensures.rise; front = c.what_is_closed_stays.ensures.front; values = c.parts_of_lines_are_values.ensures } in
-    let gives : GivesEnd (g.S.Source.left c.lines.input) (g.S.Source.left c.next_item.new.source) c.lines.lines c.next_item.new.lines = rw c.in-Ok-None.field-0-is at c.in-Ok-None.ensures.end in
+    let gives : GivesEnd (g.S.Source.left c.lines.input) (g.S.Source.left c.next_item.new.source) c.lines.lines c.next_item.new.lines = c.in-Ok-false.ensures.end c.in-Ok-false.field-0-test in
     let b = c.lines.invariant.between in
     let r = g.A.Assembly.reference c.args.assembly.now in
     let w = c.args.window in
@@ -53,10 +53,10 @@ returns-in-Ok-None-clause-all g c =
     (λ wrote. all_written laws _ _ r w to _ _ _ _ _ _ start _ _ _ _ _ _ _ _ _ (omega (arith, c.ranges.window.fits)) b gives
     (settled_at _ _ r _ w to parts last_mark start _ _ c.lines.invariant.reference c.lines.invariant.window (wrote parts before start low settles)))
 
-pub returns-in-Ok-None-clause-broken : goal.returns-in-Ok-None-clause-broken
-returns-in-Ok-None-clause-broken g c =
+pub returns-in-Ok-false-clause-broken : goal.returns-in-Ok-false-clause-broken
+returns-in-Ok-false-clause-broken g c =
     let laws : LogLaws = record { later = c.what_is_closed_stays.ensures.later; rise = c.what_is_closed_stays.ensures.rise; front = c.what_is_closed_stays.ensures.front; values = c.parts_of_lines_are_values.ensures } in
-    let gives : GivesEnd (g.S.Source.left c.lines.input) (g.S.Source.left c.next_item.new.source) c.lines.lines c.next_item.new.lines = rw c.in-Ok-None.field-0-is at c.in-Ok-None.ensures.end in
+    let gives : GivesEnd (g.S.Source.left c.lines.input) (g.S.Source.left c.next_item.new.source) c.lines.lines c.next_item.new.lines = c.in-Ok-false.ensures.end c.in-Ok-false.field-0-test in
     let b = c.lines.invariant.between in
     let r = g.A.Assembly.reference c.args.assembly.now in
     let w = c.args.window in
@@ -80,100 +80,98 @@ pub returns-in-Err-take_item-clause-broken : goal.returns-in-Err-take_item-claus
 returns-in-Err-take_item-clause-broken g c =
     let laws : LogLaws = record { later = c.what_is_closed_stays.ensures.later; rise = c.what_is_closed_stays.ensures.rise; front = c.what_is_closed_stays.ensures.front; values = c.parts_of_lines_are_values.ensures } in
     let b = c.lines.invariant.between in
-    let gives : GivesItem (g.S.Source.left c.lines.input) (g.S.Source.left c.next_item.new.source) c.lines.lines c.next_item.new.lines c.in-Ok-Some.item = rw c.in-Ok-Some.field-0-is at c.in-Ok-Some.ensures.item in
+    let gives : GivesItem (g.S.Source.left c.lines.input) (g.S.Source.left c.next_item.new.source) c.lines.lines c.next_item.new.lines c.next_item.new.item = c.in-Ok-true.ensures.item c.in-Ok-true.field-0-test in
     let took = c.in-Err-take_item.ensures.took (known_of c.args.window b.given) (sym b.follows.counted.greatest_is) b.follows.counted.keeps in
     broken_report _ _ _ _ _ _ _ _ _ _ _ _ _ c.in-Err-take_item.fault c.in-Err-take_item.ensures.cause
-    (part_line laws _ _ _ c.number-number.result _ _ _ _ _ _ _ _ _ _ _ _ _ _ _ _ c.in-Ok-Some.item b gives
+    (part_line laws _ _ _ c.number-number.result _ _ _ _ _ _ _ _ _ _ _ _ _ _ _ _ c.next_item.new.item b gives
     (omega (arith, c.number-number.ensures, gives.gives.number, b.number, c.requires.first)) took.1)
 
-pub write_closed-requires-in-lines-clause-room : goal.write_closed-requires-in-lines-clause-room
-write_closed-requires-in-lines-clause-room g c =
+pub write_risen-requires-clause-room : goal.write_risen-requires-clause-room
+write_risen-requires-clause-room g c =
     let laws : LogLaws = record { later = c.what_is_closed_stays.ensures.later; rise = c.what_is_closed_stays.ensures.rise; front = c.what_is_closed_stays.ensures.front; values = c.parts_of_lines_are_values.ensures } in
     let b = c.lines.invariant.between in
-    let gives : GivesItem (g.S.Source.left c.lines.input) (g.S.Source.left c.next_item.new.source) c.lines.lines c.next_item.new.lines c.in-Ok-Some.item = rw c.in-Ok-Some.field-0-is at c.in-Ok-Some.ensures.item in
+    let gives : GivesItem (g.S.Source.left c.lines.input) (g.S.Source.left c.next_item.new.source) c.lines.lines c.next_item.new.lines c.next_item.new.item = c.in-Ok-true.ensures.item c.in-Ok-true.field-0-test in
     let known = known_of c.args.window b.given in
     let same = sym b.follows.counted.greatest_is in
     let t : Taken (g.A.Assembly.stands_for c.take_item.new.assembly) (g.A.Assembly.reference c.args.assembly.now) c.args.window (g.O.Outlet.target c.args.outlet.now)
     (g.S.Source.left c.args.input.now) (g.S.Source.left c.next_item.new.source) c.args.lines.now c.next_item.new.lines (g.T.Sink.written c.args.output.now) (g.T.Sink.written c.lines.output)
-    (g.U.Sink.written c.args.report.now) (g.U.Sink.written c.take_item.new.report) c.take_item.new.halves c.take_item.new.tally c.lines.said c.max-greatest.result =
-    taken_line laws _ _ _ _ c.number-number.result _ _ _ _ _ _ _ _ _ _ _ _ _ _ _ _ _ c.lines.greatest c.max-greatest.result c.in-Ok-Some.item b gives
+    (g.U.Sink.written c.args.report.now) (g.U.Sink.written c.take_item.new.report) c.take_item.new.halves c.take_item.new.tally c.lines.said c.max-greatest.result c.mark_at-before.result =
+    taken_line laws _ _ _ _ c.number-number.result _ _ _ _ _ _ _ _ _ _ _ _ _ _ _ _ _ c.lines.greatest c.max-greatest.result c.mark_at-before.result c.next_item.new.item b gives
     (omega (arith, c.number-number.ensures, gives.gives.number, b.number, c.requires.first)) (c.in-Ok.ensures.took known same b.follows.counted.keeps).0
     (c.in-Ok.ensures.keeps known same b.follows.counted.keeps) c.in-Ok.ensures.kept c.in-Ok.ensures.room
-    (c.max-greatest.ensures ∙ ap (max c.lines.greatest) (c.unwrap_or.ensures ∙ ap (λ (o : Option ℕ). unwrap_or o 0) c.stamp_of_item.ensures)) in
+    (c.max-greatest.ensures ∙ ap (max c.lines.greatest) (c.unwrap_or.ensures ∙ ap (λ (o : Option ℕ). unwrap_or o 0) c.stamp_of_item-stamp.ensures)) c.mark_at-before.ensures in
     let reference = sym (c.in-Ok.ensures.reference ∙ c.lines.invariant.reference) in
     let window = sym (c.in-Ok.ensures.window ∙ c.lines.invariant.window) in
-    let mark : c.from-mark.result ≡ mark_after c.args.window (t.given ++ t.line ∷ []) =
-    c.from-mark.ensures ∙ c.saturating_sub.ensures ∙ ap (λ (n : ℕ). n - c.args.window) t.counted.greatest_is in
+    let mark : c.mark_at-mark.result ≡ mark_after c.args.window (t.given ++ t.line ∷ []) =
+    c.mark_at-mark.ensures ∙ ap (λ (n : ℕ). n - c.args.window) t.counted.greatest_is in
     room_at _ _ _ _ _ _ _ reference window
-    (room_taken _ _ _ c.from-mark.result c.next_item.new.lines.number _ t.given (t.given ++ t.line ∷ []) _ _ _ _ _ _ t.settled t.counted (omega (arith, t.number, c.requires.first))
-    (omega (arith, gives.gives.numbered, gives.gives.low)) (omega (arith, t.rising, mark)))
+    (room_taken _ _ _ c.mark_at-before.result c.mark_at-mark.result c.next_item.new.lines.number _ (t.given ++ t.line ∷ []) _ _ _ _ _ _ t.settled t.counted (omega (arith, t.number, c.requires.first))
+    (omega (arith, gives.gives.numbered, gives.gives.low)) (omega (arith, t.rising, t.since, mark)))
 
 pub lines-preserved : goal.lines-preserved
 lines-preserved g c =
     let laws : LogLaws = record { later = c.what_is_closed_stays.ensures.later; rise = c.what_is_closed_stays.ensures.rise; front = c.what_is_closed_stays.ensures.front; values = c.parts_of_lines_are_values.ensures } in
     let b = c.lines.invariant.between in
-    let gives : GivesItem (g.S.Source.left c.lines.input) (g.S.Source.left c.next_item.new.source) c.lines.lines c.next_item.new.lines c.in-Ok-Some.item = rw c.in-Ok-Some.field-0-is at c.in-Ok-Some.ensures.item in
+    let gives : GivesItem (g.S.Source.left c.lines.input) (g.S.Source.left c.next_item.new.source) c.lines.lines c.next_item.new.lines c.next_item.new.item = c.in-Ok-true.ensures.item c.in-Ok-true.field-0-test in
     let known = known_of c.args.window b.given in
     let same = sym b.follows.counted.greatest_is in
     let t : Taken (g.A.Assembly.stands_for c.take_item.new.assembly) (g.A.Assembly.reference c.args.assembly.now) c.args.window (g.O.Outlet.target c.args.outlet.now)
     (g.S.Source.left c.args.input.now) (g.S.Source.left c.next_item.new.source) c.args.lines.now c.next_item.new.lines (g.T.Sink.written c.args.output.now) (g.T.Sink.written c.lines.output)
-    (g.U.Sink.written c.args.report.now) (g.U.Sink.written c.take_item.new.report) c.take_item.new.halves c.take_item.new.tally c.lines.said c.max-greatest.result =
-    taken_line laws _ _ _ _ c.number-number.result _ _ _ _ _ _ _ _ _ _ _ _ _ _ _ _ _ c.lines.greatest c.max-greatest.result c.in-Ok-Some.item b gives
+    (g.U.Sink.written c.args.report.now) (g.U.Sink.written c.take_item.new.report) c.take_item.new.halves c.take_item.new.tally c.lines.said c.max-greatest.result c.mark_at-before.result =
+    taken_line laws _ _ _ _ c.number-number.result _ _ _ _ _ _ _ _ _ _ _ _ _ _ _ _ _ c.lines.greatest c.max-greatest.result c.mark_at-before.result c.next_item.new.item b gives
     (omega (arith, c.number-number.ensures, gives.gives.number, b.number, c.requires.first)) (c.in-Ok.ensures.took known same b.follows.counted.keeps).0
     (c.in-Ok.ensures.keeps known same b.follows.counted.keeps) c.in-Ok.ensures.kept c.in-Ok.ensures.room
-    (c.max-greatest.ensures ∙ ap (max c.lines.greatest) (c.unwrap_or.ensures ∙ ap (λ (o : Option ℕ). unwrap_or o 0) c.stamp_of_item.ensures)) in
+    (c.max-greatest.ensures ∙ ap (max c.lines.greatest) (c.unwrap_or.ensures ∙ ap (λ (o : Option ℕ). unwrap_or o 0) c.stamp_of_item-stamp.ensures)) c.mark_at-before.ensures in
     let reference = sym (c.in-Ok.ensures.reference ∙ c.lines.invariant.reference) in
     let window = sym (c.in-Ok.ensures.window ∙ c.lines.invariant.window) in
-    let mark : c.from-mark.result ≡ mark_after c.args.window (t.given ++ t.line ∷ []) =
-    c.from-mark.ensures ∙ c.saturating_sub.ensures ∙ ap (λ (n : ℕ). n - c.args.window) t.counted.greatest_is in
+    let mark : c.mark_at-mark.result ≡ mark_after c.args.window (t.given ++ t.line ∷ []) =
+    c.mark_at-mark.ensures ∙ ap (λ (n : ℕ). n - c.args.window) t.counted.greatest_is in
     let r = g.A.Assembly.reference c.args.assembly.now in
     let w = c.args.window in
     let to = g.O.Outlet.target c.args.outlet.now in
     let lines = t.given ++ t.line ∷ [] in
     let parts = parts_of w lines in
-    let before = mark_after w t.given in
+    let before = c.mark_at-before.result in
     let start = g.T.Sink.written c.args.output.now in
-    let low : before ≤ c.from-mark.result = omega (arith, t.rising, mark) in
     let settles = settled_at _ r _ w _ to parts before start _ _ reference window t.settled in
-    let wrote = settled_at _ _ r _ w to parts c.from-mark.result start _ _ (sym reference) (sym window) (c.in-Ok-write_closed.ensures.ok parts before start low settles) in
+    let wrote = settled_at _ _ r _ w to parts c.mark_at-mark.result start _ _ (sym reference) (sym window) (c.in-Ok-write_risen.ensures.ok parts start settles) in
     record {
-      reference = c.in-Ok-write_closed.ensures.reference ∙ sym reference;
-      window = c.in-Ok-write_closed.ensures.window ∙ sym window;
+      reference = c.in-Ok-write_risen.ensures.reference ∙ sym reference;
+      window = c.in-Ok-write_risen.ensures.window ∙ sym window;
       low = omega arith;
-      between = between_written _ _ _ _ _ _ _ _ _ _ _ _ _ _ _ _ _ _ _ t c.from-mark.result mark wrote;
-      input = c.in-Ok-Some.ensures.quiet ∙ c.lines.invariant.input;
-      output = c.in-Ok-write_closed.ensures.cause ∙ c.lines.invariant.output;
+      between = between_written _ _ _ _ _ _ _ _ _ _ _ _ _ _ _ _ _ _ _ _ t c.mark_at-mark.result mark wrote;
+      input = c.in-Ok-true.ensures.quiet ∙ c.lines.invariant.input;
+      output = c.in-Ok-write_risen.ensures.cause ∙ c.lines.invariant.output;
       report = c.in-Ok.ensures.cause ∙ c.lines.invariant.report;
-      never = λ quiet. (c.in-Ok-Some.ensures.never (c.lines.invariant.never quiet)).1;
+      never = λ quiet. (c.in-Ok-true.ensures.never (c.lines.invariant.never quiet)).1;
     }
 
-pub returns-in-Err-write_closed-clause-broken : goal.returns-in-Err-write_closed-clause-broken
-returns-in-Err-write_closed-clause-broken g c =
+pub returns-in-Err-write_risen-clause-broken : goal.returns-in-Err-write_risen-clause-broken
+returns-in-Err-write_risen-clause-broken g c =
     let laws : LogLaws = record { later = c.what_is_closed_stays.ensures.later; rise = c.what_is_closed_stays.ensures.rise; front = c.what_is_closed_stays.ensures.front; values = c.parts_of_lines_are_values.ensures } in
     let b = c.lines.invariant.between in
-    let gives : GivesItem (g.S.Source.left c.lines.input) (g.S.Source.left c.next_item.new.source) c.lines.lines c.next_item.new.lines c.in-Ok-Some.item = rw c.in-Ok-Some.field-0-is at c.in-Ok-Some.ensures.item in
+    let gives : GivesItem (g.S.Source.left c.lines.input) (g.S.Source.left c.next_item.new.source) c.lines.lines c.next_item.new.lines c.next_item.new.item = c.in-Ok-true.ensures.item c.in-Ok-true.field-0-test in
     let known = known_of c.args.window b.given in
     let same = sym b.follows.counted.greatest_is in
     let t : Taken (g.A.Assembly.stands_for c.take_item.new.assembly) (g.A.Assembly.reference c.args.assembly.now) c.args.window (g.O.Outlet.target c.args.outlet.now)
     (g.S.Source.left c.args.input.now) (g.S.Source.left c.next_item.new.source) c.args.lines.now c.next_item.new.lines (g.T.Sink.written c.args.output.now) (g.T.Sink.written c.lines.output)
-    (g.U.Sink.written c.args.report.now) (g.U.Sink.written c.take_item.new.report) c.take_item.new.halves c.take_item.new.tally c.lines.said c.max-greatest.result =
-    taken_line laws _ _ _ _ c.number-number.result _ _ _ _ _ _ _ _ _ _ _ _ _ _ _ _ _ c.lines.greatest c.max-greatest.result c.in-Ok-Some.item b gives
+    (g.U.Sink.written c.args.report.now) (g.U.Sink.written c.take_item.new.report) c.take_item.new.halves c.take_item.new.tally c.lines.said c.max-greatest.result c.mark_at-before.result =
+    taken_line laws _ _ _ _ c.number-number.result _ _ _ _ _ _ _ _ _ _ _ _ _ _ _ _ _ c.lines.greatest c.max-greatest.result c.mark_at-before.result c.next_item.new.item b gives
     (omega (arith, c.number-number.ensures, gives.gives.number, b.number, c.requires.first)) (c.in-Ok.ensures.took known same b.follows.counted.keeps).0
     (c.in-Ok.ensures.keeps known same b.follows.counted.keeps) c.in-Ok.ensures.kept c.in-Ok.ensures.room
-    (c.max-greatest.ensures ∙ ap (max c.lines.greatest) (c.unwrap_or.ensures ∙ ap (λ (o : Option ℕ). unwrap_or o 0) c.stamp_of_item.ensures)) in
+    (c.max-greatest.ensures ∙ ap (max c.lines.greatest) (c.unwrap_or.ensures ∙ ap (λ (o : Option ℕ). unwrap_or o 0) c.stamp_of_item-stamp.ensures)) c.mark_at-before.ensures in
     let reference = sym (c.in-Ok.ensures.reference ∙ c.lines.invariant.reference) in
     let window = sym (c.in-Ok.ensures.window ∙ c.lines.invariant.window) in
-    let mark : c.from-mark.result ≡ mark_after c.args.window (t.given ++ t.line ∷ []) =
-    c.from-mark.ensures ∙ c.saturating_sub.ensures ∙ ap (λ (n : ℕ). n - c.args.window) t.counted.greatest_is in
+    let mark : c.mark_at-mark.result ≡ mark_after c.args.window (t.given ++ t.line ∷ []) =
+    c.mark_at-mark.ensures ∙ ap (λ (n : ℕ). n - c.args.window) t.counted.greatest_is in
     let r = g.A.Assembly.reference c.args.assembly.now in
     let w = c.args.window in
     let to = g.O.Outlet.target c.args.outlet.now in
     let lines = t.given ++ t.line ∷ [] in
     let parts = parts_of w lines in
-    let before = mark_after w t.given in
+    let before = c.mark_at-before.result in
     let start = g.T.Sink.written c.args.output.now in
-    let low : before ≤ c.from-mark.result = omega (arith, t.rising, mark) in
     let settles = settled_at _ r _ w _ to parts before start _ _ reference window t.settled in
-    broken_output _ _ _ _ _ _ _ _ _ _ _ _ _ c.in-Err-write_closed.fault c.in-Err-write_closed.ensures.cause
-    (part_written laws _ r w to _ _ _ _ start _ _ _ _ _ _ _ _ t c.from-mark.result mark
-    (closed_at _ r _ w to parts before c.from-mark.result start _ (sym reference) (sym window) (c.in-Err-write_closed.ensures.err parts before start low settles)))
+    broken_output _ _ _ _ _ _ _ _ _ _ _ _ _ c.in-Err-write_risen.fault c.in-Err-write_risen.ensures.cause
+    (part_written laws _ r w to _ _ _ _ start _ _ _ _ _ _ _ _ _ t c.mark_at-mark.result mark
+    (closed_at _ r _ w to parts before c.mark_at-mark.result start _ (sym reference) (sym window) (c.in-Err-write_risen.ensures.err parts start settles)))

@@ -13,7 +13,7 @@ use Rattle.bridge_engine.proofs.item.take_item.Goals as goal
 pub returns-then-is_behind-clause-took : goal.returns-then-is_behind-clause-took
 returns-then-is_behind-clause-took g c known at keeps =
     let behind : Behind (stamp_of c.args.item.now) c.args.window known.greatest c.is_behind.result =
-    behind_item c.stamp_of_item.result _ c.args.window c.args.greatest known.greatest c.is_behind.result c.stamp_of_item.ensures (sym at) c.is_behind.ensures.stamped
+    behind_item c.args.stamp _ c.args.window c.args.greatest known.greatest c.is_behind.result c.requires.stamp (sym at) c.is_behind.ensures.stamped
     c.is_behind.ensures.unstamped in
     takes_of (g.A.Assembly.stands_for c.args.assembly.now) (g.A.Assembly.stands_for c.take_event.new.assembly)
     (g.U.Sink.written c.args.report.now) (g.U.Sink.written c.take_event.new.report) c.args.tally.now c.take_event.new.tally _ _ c.take_event.result
@@ -23,28 +23,28 @@ pub returns-then-is_behind-clause-keeps : goal.returns-then-is_behind-clause-kee
 returns-then-is_behind-clause-keeps g c =
     always c.take_event.result _ (λ known at keeps.
     let behind : Behind (stamp_of c.args.item.now) c.args.window known.greatest c.is_behind.result =
-    behind_item c.stamp_of_item.result _ c.args.window c.args.greatest known.greatest c.is_behind.result c.stamp_of_item.ensures (sym at) c.is_behind.ensures.stamped
+    behind_item c.args.stamp _ c.args.window c.args.greatest known.greatest c.is_behind.result c.requires.stamp (sym at) c.is_behind.ensures.stamped
     c.is_behind.ensures.unstamped in
     keeps_item c.args.halves.now c.args.window known c.args.item.now (late_halves c.args.window known c.args.item.now c.is_behind.result behind c.if-is_behind.true) keeps)
 
 pub take_subframe-requires-clause-later : goal.take_subframe-requires-clause-later
 take_subframe-requires-clause-later g c =
     let timely : nat_lt (c.in-Lnav.stamp + c.args.window) c.args.greatest ≡ false =
-    in_time c.stamp_of_item.result c.in-Lnav.stamp c.args.window c.args.greatest c.is_behind.result (c.stamp_of_item.ensures ∙ ap stamp_of c.in-Lnav.is)
+    in_time c.args.stamp c.in-Lnav.stamp c.args.window c.args.greatest c.is_behind.result (c.requires.stamp ∙ ap stamp_of c.in-Lnav.is)
     c.is_behind.ensures.stamped c.if-is_behind.false in
     omega (arith, c.saturating_sub-least.ensures, not_behind c.in-Lnav.stamp c.args.window c.args.greatest timely)
 
 pub take_half-requires-clause-later : goal.take_half-requires-clause-later
 take_half-requires-clause-later g c =
     let timely : nat_lt (c.in-Half.stamp + c.args.window) c.args.greatest ≡ false =
-    in_time c.stamp_of_item.result c.in-Half.stamp c.args.window c.args.greatest c.is_behind.result (c.stamp_of_item.ensures ∙ ap stamp_of c.in-Half.is)
+    in_time c.args.stamp c.in-Half.stamp c.args.window c.args.greatest c.is_behind.result (c.requires.stamp ∙ ap stamp_of c.in-Half.is)
     c.is_behind.ensures.stamped c.if-is_behind.false in
     omega (arith, c.saturating_sub-least.ensures, not_behind c.in-Half.stamp c.args.window c.args.greatest timely)
 
 pub take_frame-requires-clause-later : goal.take_frame-requires-clause-later
 take_frame-requires-clause-later g c =
     let timely : nat_lt (c.in-Frame.stamp + c.args.window) c.args.greatest ≡ false =
-    in_time c.stamp_of_item.result c.in-Frame.stamp c.args.window c.args.greatest c.is_behind.result (c.stamp_of_item.ensures ∙ ap stamp_of c.in-Frame.is)
+    in_time c.args.stamp c.in-Frame.stamp c.args.window c.args.greatest c.is_behind.result (c.requires.stamp ∙ ap stamp_of c.in-Frame.is)
     c.is_behind.ensures.stamped c.if-is_behind.false in
     omega (arith, c.saturating_sub-least.ensures, not_behind c.in-Frame.stamp c.args.window c.args.greatest timely)
 
@@ -92,7 +92,7 @@ returns-in-Frame-clause-keeps g c =
 pub returns-in-Lnav-clause-took : goal.returns-in-Lnav-clause-took
 returns-in-Lnav-clause-took g c known at keeps =
     let timely : nat_lt (c.in-Lnav.stamp + c.args.window) c.args.greatest ≡ false =
-    in_time c.stamp_of_item.result c.in-Lnav.stamp c.args.window c.args.greatest c.is_behind.result (c.stamp_of_item.ensures ∙ ap stamp_of c.in-Lnav.is)
+    in_time c.args.stamp c.in-Lnav.stamp c.args.window c.args.greatest c.is_behind.result (c.requires.stamp ∙ ap stamp_of c.in-Lnav.is)
     c.is_behind.ensures.stamped c.if-is_behind.false in
     let late : is_late c.args.window known c.in-Lnav.stamp ≡ false = ap (nat_lt (c.in-Lnav.stamp + c.args.window)) at ∙ timely in
     takes_of (g.A.Assembly.stands_for c.args.assembly.now) (g.A.Assembly.stands_for c.take_subframe.new.assembly)
@@ -102,7 +102,7 @@ returns-in-Lnav-clause-took g c known at keeps =
 pub returns-in-Frame-clause-took : goal.returns-in-Frame-clause-took
 returns-in-Frame-clause-took g c known at keeps =
     let timely : nat_lt (c.in-Frame.stamp + c.args.window) c.args.greatest ≡ false =
-    in_time c.stamp_of_item.result c.in-Frame.stamp c.args.window c.args.greatest c.is_behind.result (c.stamp_of_item.ensures ∙ ap stamp_of c.in-Frame.is)
+    in_time c.args.stamp c.in-Frame.stamp c.args.window c.args.greatest c.is_behind.result (c.requires.stamp ∙ ap stamp_of c.in-Frame.is)
     c.is_behind.ensures.stamped c.if-is_behind.false in
     let late : is_late c.args.window known c.in-Frame.stamp ≡ false = ap (nat_lt (c.in-Frame.stamp + c.args.window)) at ∙ timely in
     takes_of (g.A.Assembly.stands_for c.args.assembly.now) (g.A.Assembly.stands_for c.take_frame.new.assembly)
@@ -113,7 +113,7 @@ returns-in-Frame-clause-took g c known at keeps =
 pub returns-in-Half-clause-took : goal.returns-in-Half-clause-took
 returns-in-Half-clause-took g c known at keeps =
     let timely : nat_lt (c.in-Half.stamp + c.args.window) c.args.greatest ≡ false =
-    in_time c.stamp_of_item.result c.in-Half.stamp c.args.window c.args.greatest c.is_behind.result (c.stamp_of_item.ensures ∙ ap stamp_of c.in-Half.is)
+    in_time c.args.stamp c.in-Half.stamp c.args.window c.args.greatest c.is_behind.result (c.requires.stamp ∙ ap stamp_of c.in-Half.is)
     c.is_behind.ensures.stamped c.if-is_behind.false in
     let late : is_late c.args.window known c.in-Half.stamp ≡ false = ap (nat_lt (c.in-Half.stamp + c.args.window)) at ∙ timely in
     let near : known.greatest ≤ c.in-Half.stamp + c.args.window = omega (arith, at, not_behind c.in-Half.stamp c.args.window c.args.greatest timely) in
@@ -124,7 +124,7 @@ returns-in-Half-clause-took g c known at keeps =
 pub returns-in-Half-clause-keeps : goal.returns-in-Half-clause-keeps
 returns-in-Half-clause-keeps g c =
     let timely : nat_lt (c.in-Half.stamp + c.args.window) c.args.greatest ≡ false =
-    in_time c.stamp_of_item.result c.in-Half.stamp c.args.window c.args.greatest c.is_behind.result (c.stamp_of_item.ensures ∙ ap stamp_of c.in-Half.is)
+    in_time c.args.stamp c.in-Half.stamp c.args.window c.args.greatest c.is_behind.result (c.requires.stamp ∙ ap stamp_of c.in-Half.is)
     c.is_behind.ensures.stamped c.if-is_behind.false in
     after_call c.take_half.result _ _
     (λ took known at keeps.
