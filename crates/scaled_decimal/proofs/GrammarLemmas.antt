@@ -1,5 +1,5 @@
 -- The texts that are read are those of the grammar, and what is read is their value.
-use Rattle.std.proofs.Common.{◌≡◌, ◌⊎◌, ℕ, ◌+◌, ◌-◌, ◌*◌, ◌≤◌, Bool, true, false, ◌==◌, ◌&&◌, nat_le, if◌then◌else◌, List, [], ◌∷◌, ◌++◌, length, Some, None, Option, option_map, refl, sym, ap, ◌∙◌, inl, inr, ⊎_elim, subst, arith, ne_eqb, append-nil, append_assoc, ℤ, pos, ◌-ℤ◌}
+use Rattle.std.proofs.Common.{◌≡◌, ℕ, ◌+◌, ◌-◌, ◌*◌, ◌≤◌, Bool, true, false, ◌==◌, ◌&&◌, nat_le, if◌then◌else◌, List, [], ◌∷◌, ◌++◌, length, Some, None, Option, option_map, refl, sym, ap, ◌∙◌, inl, inr, ⊎_elim, subst, arith, ne_eqb, append-nil, ℤ, pos, ◌-ℤ◌}
 use Rattle.std.proofs.lemmas.Bool.{and_parts, leb-true, le-leb, eqb-true}
 use Rattle.scaled_decimal.specs.Values.{Reading, Decimal, signed, is_letter}
 use Rattle.scaled_decimal.specs.Grammar.{AreDecimals, number_behind, IsSign, IsSignedNumber, IsExponentText, IsExponent, IsPoint, IsDecimalText}

@@ -1,8 +1,7 @@
 -- The walks over a text: blanks at its ends, and digits.
-use Rattle.std.proofs.Common.{◌≡◌, ◌≢◌, ℕ, suc, ◌+◌, ◌-◌, ◌*◌, ◌^◌, ◌<◌, ◌≤◌, true, false, if◌then◌else◌, List, [], ◌∷◌, ◌++◌, length, get_or, take, drop, refl, sym, ap, ◌∙◌, arith, eq-eqb, ne_eqb, drop-cons, add-one, pow-suc, take-suc, nat_le, ◌&&◌, Some, None, option_map, ℤ, pos, ◌-ℤ◌, le-leb}
+use Rattle.std.proofs.Common.{◌≡◌, ◌≢◌, ℕ, suc, ◌+◌, ◌-◌, ◌*◌, ◌^◌, ◌<◌, ◌≤◌, true, false, if◌then◌else◌, List, [], ◌∷◌, ◌++◌, length, get_or, take, drop, refl, sym, ap, ◌∙◌, arith, eq-eqb, ne_eqb, drop-cons, add-one, pow-suc, take-suc}
 use Rattle.std.proofs.Math.Nat.{pow-le-pow_right}
-use Rattle.scaled_decimal.specs.NumberReading.{trim_start, trim_end, before_trimmed, span, is_decimal, Mantissa, mantissa, exponent_after, reading}
-use Rattle.scaled_decimal.proofs.SpanLemmas.{read_from}
+use Rattle.scaled_decimal.specs.NumberReading.{trim_start, trim_end, before_trimmed, span, is_decimal}
 use Rattle.scaled_decimal.proofs.TextLemmas.{kept_behind, no_blank}
 
 at_place : (text : List ℕ) (i : ℕ) → i < length text → drop i text ≡ get_or text i 0 ∷ drop (i + 1) text

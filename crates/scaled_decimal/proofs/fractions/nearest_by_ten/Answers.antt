@@ -1,4 +1,4 @@
-use Rattle.std.proofs.Common.{◌≡◌, ◌*◌, ◌+◌, ◌≤◌, ◌/◌, ◌%◌, ◌^◌, ◌-◌, ap, ◌∙◌, arith}
+use Rattle.std.proofs.Common.{◌≡◌, ◌*◌, ◌+◌, ◌%◌, ◌^◌, ◌∙◌, arith}
 use Rattle.scaled_decimal.proofs.QuotientLemmas.{five_pos, fits_whole, two_by_ten, IsDivided, front_divided, nearest_of}
 use Rattle.scaled_decimal.proofs.fractions.nearest_by_ten.Goals as goal
 use Rattle.scaled_decimal.proofs.fractions.nearest_by_ten.Goals.{After-quotient_by_five-whole}

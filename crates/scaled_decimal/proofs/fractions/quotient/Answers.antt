@@ -1,4 +1,4 @@
-use Rattle.std.proofs.Common.{◌*◌, ◌≤◌, ◌-◌, arith}
+use Rattle.std.proofs.Common.{◌-◌, arith}
 use Rattle.scaled_decimal.proofs.QuotientLemmas.{guess_taken, is_quotient, is_next_quotient}
 use Rattle.scaled_decimal.proofs.fractions.quotient.Goals as goal
 
