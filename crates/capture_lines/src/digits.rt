@@ -1,22 +1,23 @@
 //! Hexadecimal digits, read without a branch for each: which digit comes is not to be foreseen.
 
-ghost use Rattle.std.specs.Prelude.{◌≡◌, ◌<◌, ◌≤◌, ◌*◌, length, unwrap_or, true, false, MatchResult};
-ghost use Rattle.hex.specs.Hex.{decode_sized, hex_digit_value};
+ghost use Rattle.std.specs.Prelude.{◌≡◌, ◌≤◌, ℕ, length, true, false, Some, MatchResult};
+ghost use Rattle.hex.specs.Hex.{decode_sized, hex_digit_value, is_hex_digit};
 
-// What stands for a byte that is no digit.
-const NO_DIGIT: u8 = 16;
-
-// The value of a digit of either case.
-fn digit_value(digit: u8) -> u8
-    ensures value { result ≡ unwrap_or (hex_digit_value digit) 16 }
-    ensures most { result ≤ 16 }
+// Whether it is a digit, of either case.
+fn is_digit(digit: u8) -> bool
+    ensures { result ≡ is_hex_digit digit }
 {
-    match digit {
-        b'0'..=b'9' => digit - b'0',
-        b'a'..=b'f' => digit - b'a' + 10,
-        b'A'..=b'F' => digit - b'A' + 10,
-        _ => NO_DIGIT,
-    }
+    (digit.wrapping_sub(b'0') < 10)
+        | (digit.wrapping_sub(b'A') < 6)
+        | (digit.wrapping_sub(b'a') < 6)
+}
+
+// The value of a digit; what is no digit has none.
+fn digit_value(digit: u8) -> u8
+    ensures value { (value : ℕ) → hex_digit_value digit ≡ Some value → result ≡ value }
+    ensures most { result ≤ 42 }
+{
+    digit % 16 + digit / 64 * 9
 }
 
 // Writes the bytes of the digits, two for each, and says whether it could: where there are not two
@@ -29,12 +30,12 @@ pub(crate) fn decode(digits: &[u8], into: &mut [u8]) -> bool
     if digits.len() % 2 != 0 || digits.len() / 2 != count {
         return false;
     }
-    let mut greatest: u8 = 0;
+    let mut all = true;
     'bytes: for i in 0..count {
-        let high = digit_value(digits[2 * i]);
-        let low = digit_value(digits[2 * i + 1]);
-        greatest = greatest.max(high.max(low));
-        into[i] = high % 16 * 16 + low % 16;
+        let high = digits[2 * i];
+        let low = digits[2 * i + 1];
+        all = all & is_digit(high) & is_digit(low);
+        into[i] = digit_value(high) % 16 * 16 + digit_value(low) % 16;
     }
-    greatest < NO_DIGIT
+    all
 }

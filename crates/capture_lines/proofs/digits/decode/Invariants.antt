@@ -2,4 +2,4 @@ use Rattle.capture_lines.proofs.HexPairs.{IsDecoded}
 use Rattle.capture_lines.proofs.digits.decode.Given as goal
 
 abbrev pub invariant-bytes : goal.invariant-bytes
-invariant-bytes l = IsDecoded l.digits l.into l.i l.greatest
+invariant-bytes l = IsDecoded l.digits l.into l.i l.all
