@@ -1,11 +1,11 @@
 #!/usr/bin/env bash
-# Lines of a capture: MB/s of nav_io's `Lines` alone, and of `Lines` and capture_lines' `read_line`.
+# Lines of a capture: MB/s of nav_io's `Lines` alone, and of `Lines` and capture_lines' `read_line_into`.
 #
 #   bench/capture.sh [MEGABYTES]      12 where none is said
 #
-# The capture has lines of subframes, page halves and frames, as a logger of twelve satellites of each system writes them. A
-# program over the two crates is made in a folder of its own, proved and built there, and timed as a whole, the least of
-# five runs.
+# The capture has lines of subframes, page halves and frames, as a logger of twelve satellites of each system writes them,
+# their digits taken at random. A program over the two crates is made in a folder of its own, proved and built there, and
+# timed as a whole, the least of five runs.
 set -eu
 cd "$(git rev-parse --show-toplevel)"
 megabytes=${1:-12}
@@ -21,7 +21,7 @@ mkdir -p "$folder/crates/capture/src"
 cat > "$folder/crates/capture/src/main.rt" <<'PROGRAM'
 #![tactic(auto)]
 
-use capture_lines::{LineItem, read_line};
+use capture_lines::{LineItem, read_line_into};
 use nav_io::{LineKind, Lines, ReadSource};
 use std::process::ExitCode;
 
@@ -29,15 +29,25 @@ const MOST_LINES: u32 = 4_000_000_000;
 
 const READS: bool = WAY;
 
+// What is counted of bytes.
+fn weight_of(bytes: &[u8]) -> u32 {
+    let mut sum: u32 = 0;
+    for byte in bytes {
+        sum = sum.wrapping_mul(31).wrapping_add(u32::from(*byte));
+    }
+    sum
+}
+
 // What is counted of a line.
-fn weight(line: &[u8]) -> u32 {
+fn weight(line: &[u8], item: &mut LineItem) -> u32 {
     if !READS {
         return if line.is_empty() { 0 } else { 1 };
     }
-    match read_line(line) {
-        LineItem::Lnav { stamp, sat, .. } => stamp ^ sat.number() as u32,
-        LineItem::Half { stamp, sat, .. } => stamp ^ sat.number() as u32,
-        LineItem::Frame { stamp, bytes } => stamp ^ bytes.len() as u32,
+    read_line_into(line, item);
+    match item {
+        LineItem::Lnav { stamp, bits, .. } => *stamp ^ weight_of(bits.bytes().as_slice()),
+        LineItem::Half { stamp, bits, .. } => *stamp ^ weight_of(bits.bytes().as_slice()),
+        LineItem::Frame { stamp, bytes } => *stamp ^ weight_of(bytes.as_slice()),
         LineItem::Pass => 1,
         LineItem::Malformed => 2,
     }
@@ -46,10 +56,11 @@ fn weight(line: &[u8]) -> u32 {
 fn main(rt: HostRuntime) -> ExitCode {
     let mut source = ReadSource::new(rt.stdin());
     let mut lines = Lines::new();
+    let mut item = LineItem::Pass;
     let mut sum: u32 = 0;
     for _ in 0..MOST_LINES {
         match lines.next(&mut source) {
-            Ok(LineKind::Text) => sum = sum.wrapping_add(weight(lines.text())),
+            Ok(LineKind::Text) => sum = sum.wrapping_add(weight(lines.text(), &mut item)),
             Ok(LineKind::Long) => sum = sum.wrapping_add(1),
             _ => break,
         }
@@ -57,18 +68,20 @@ fn main(rt: HostRuntime) -> ExitCode {
     ExitCode::from((sum % 2) as u8)
 }
 PROGRAM
-awk -v most=$((megabytes * 1000000)) 'BEGIN {
-  lnav = "8b00004800021043dc000580000029ffffff580000029ffffff580000029ffffff58000008c0"
-  even = "0188c0007fffffff5d98683842d080"; odd = "ac6000000000000000003374bc4000"
-  frame = "d3003d3fb14f70"; for (i = 0; i < 60; i++) frame = frame "00"
-  size = 0; print "NAVCAP 1"
+awk -v most=$((megabytes * 1000000)) '
+function digits(count,   text) {
+  text = ""
+  while (length(text) < count) { state = state * 16807 % 2147483647; text = text sprintf("%04x", int(state / 32768) % 65536) }
+  return substr(text, 1, count)
+}
+BEGIN {
+  state = 5; size = 0; print "NAVCAP 1"
   for (second = 0; size < most; second++) {
     for (sat = 1; sat <= 12; sat++) {
       line = ""
-      if (second % 6 == 0) line = sprintf("%d L G%02d %s\n", second, sat, lnav)
-      half = second % 2 ? odd : even
-      line = line sprintf("%d P E%02d B %s\n%d P E%02d 5 %s\n", second, sat, half, second, sat, half)
-      if (second % 30 == 0) line = line sprintf("%d R %s\n", second, frame)
+      if (second % 6 == 0) line = sprintf("%d L G%02d %s\n", second, sat, digits(76))
+      line = line sprintf("%d P E%02d B %s\n%d P E%02d 5 %s\n", second, sat, digits(30), second, sat, digits(30))
+      if (second % 30 == 0) line = line sprintf("%d R %s\n", second, digits(134))
       size += length(line); printf "%s", line
     }
   }
@@ -78,7 +91,7 @@ lines=$(wc -l < "$folder/capture.txt")
 for way in false true; do
   sed "s/= WAY;/= $way;/" "$folder/crates/capture/src/main.rt" > "$folder/main.$way"
 done
-printf '%-24s %8s %12s %10s\n' "$lines lines" MB/s lines/s seconds
+printf '%-26s %8s %12s %10s\n' "$lines lines" MB/s lines/s seconds
 for way in false true; do
   cp "$folder/main.$way" "$folder/crates/capture/src/main.rt"
   (cd "$folder/crates/capture" && rt run < /dev/null > "$folder/$way.log" 2>&1) || true
@@ -91,7 +104,7 @@ for way in false true; do
     to=$(date +%s%N)
     if [ -z "$best" ] || [ $((to - from)) -lt "$best" ]; then best=$((to - from)); fi
   done
-  name=$([ "$way" = true ] && echo 'lines and read_line' || echo 'lines alone')
+  name=$([ "$way" = true ] && echo 'lines and read_line_into' || echo 'lines alone')
   awk -v n="$name" -v b="$bytes" -v l="$lines" -v t="$best" \
-    'BEGIN { s = t / 1e9; printf "%-24s %8.0f %12.0f %10.4f\n", n, b / s / 1e6, l / s, s }'
+    'BEGIN { s = t / 1e9; printf "%-26s %8.0f %12.0f %10.4f\n", n, b / s / 1e6, l / s, s }'
 done

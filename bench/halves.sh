@@ -84,13 +84,13 @@ use std::alloc::AllocError;
 use std::process::ExitCode;
 
 // Takes the even half of one word and the odd half of another, a second later, and counts the words.
-fn pair(halves: &mut Halves, sat: Sat, i: u64) -> Result<u64, AllocError>
+fn pair(halves: &mut Halves, sat: Sat, i: u32) -> Result<u64, AllocError>
     requires { sat.system ≡ Gal }
 {
     let mut first = Bits::<16>::zero();
-    first.put(0, 32, i);
+    first.put(0, 32, u64::from(i));
     let mut second = Bits::<16>::zero();
-    second.put(32, 32, i);
+    second.put(32, 32, u64::from(i));
     let even = halves.take(0, sat, Signal::E1b, &split(&first).0)?;
     let odd = halves.take(1, sat, Signal::E1b, &split(&second).1)?;
     Ok((even.len() as u64).wrapping_add(odd.len() as u64))
@@ -100,7 +100,7 @@ fn main(rt: HostRuntime) -> Result<ExitCode, AllocError> {
     let mut halves = Halves::new(rt.alloc(), 7200);
     let mut words: u64 = 0;
     if let Some(sat) = Sat::new(System::Gal, 11) {
-        for i in 0..50_000u64 {
+        for i in 0..50_000u32 {
             words = words.wrapping_add(pair(&mut halves, sat, i)?);
         }
     }
