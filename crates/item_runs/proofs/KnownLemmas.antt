@@ -47,15 +47,17 @@ pub known_more : (r : ℕ) (g g1 : GivenState) (payload : List ℕ) (item : NavI
     → KeptPlaces g g1 payload → AreKnown r g → AreKnown r g1
 known_more r g g1 payload item is own adds kept known =
     let stays : (other : NavItem) → is_given g other ≡ true → is_given g1 other ≡ true = λ other was. adds other ∙ or_second (sent_alike item other) (is_given g other) was in
-    let new : IsKnown r g1 payload = record { item = item; is = is; given = adds item ∙ or_first (sent_alike item item) (is_given g item) own } in
-    (places_set r g1 g.gps_seen g1.gps_seen payload kept.0 new (places_stay r g g1 stays g.gps_seen known.0),
-    places_set r g1 g.gal_seen g1.gal_seen payload kept.1 new (places_stay r g g1 stays g.gal_seen known.1))
+    let new : IsKnown r g1 payload = record { item = item; is = is; given = adds item ∙ or_first (sent_alike item item) (is_given g item) own } in (
+      places_set r g1 g.gps_seen g1.gps_seen payload kept.0 new (places_stay r g g1 stays g.gps_seen known.0),
+      places_set r g1 g.gal_seen g1.gal_seen payload kept.1 new (places_stay r g g1 stays g.gal_seen known.1),
+    )
 
 -- at first no payload is kept
 pub none_known : (r : ℕ) (g : GivenState) → NothingKept g → AreKnown r g
-none_known r g none =
-    (subst (All (PlaceKnown r g)) (sym none.0) (All-replicate (PlaceKnown r g) 256 None tt),
-    subst (All (PlaceKnown r g)) (sym none.1) (All-replicate (PlaceKnown r g) 256 None tt))
+none_known r g none = (
+  subst (All (PlaceKnown r g)) (sym none.0) (All-replicate (PlaceKnown r g) 256 None tt),
+  subst (All (PlaceKnown r g)) (sym none.1) (All-replicate (PlaceKnown r g) 256 None tt),
+)
 
 -- a payload that is kept
 place_known : (r : ℕ) (g : GivenState) (places : List (Option (List ℕ))) (i : ℕ) (payload : List ℕ)

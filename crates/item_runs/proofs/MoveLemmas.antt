@@ -55,6 +55,7 @@ pub stops_more : (r : ℕ) (front : List ℕ) (text : NavItem → List ℕ) (mor
     → StreamMoves r front text more a b w w1 u u1 g g1 c c1 → TakesFrame more b frame d → StreamBreaks r front text (frame ∷ []) w1 w2 u1 u2 g1 c1
     → StreamStops r front text more a w w2 u u2 g c
 stops_more r front text more a b d frame w w1 w2 u u1 u2 g g1 c c1 first takes breaks = record {
+  done = first.frames_are;
   frames_are = first.frames_are ++ frame ∷ [];
   stream = λ following last. (
     frames (d ++ following),
@@ -62,12 +63,12 @@ stops_more r front text more a b d frame w w1 w2 u u1 u2 g g1 c c1 first takes b
         ∙ sym (append_assoc first.frames_are (frame ∷ []) (frames (d ++ following))),
   );
   breaks = λ past start begun far.
-      subst (λ (l : List (List ℕ)). StreamBroke r front text l start w2 begun u2) (append_assoc past first.frames_are (frame ∷ []))
+      subst (λ (l : List (List ℕ)). StreamBroke r front text (past ++ first.frames_are) l start w2 begun u2) (append_assoc past first.frames_are (frame ∷ []))
       (breaks (past ++ first.frames_are) start begun (first.goes past start begun far));
 }
 
 -- one after another
-pub moves_on : (r : ℕ) (front : List ℕ) (text : NavItem → List ℕ) (more : Bool) (a b d : List ℕ) (w w1 w2 u u1 u2 : Option (List ℕ)) (g g1 g2 : GivenState) (c c1 c2 : StreamCounts)
+unfoldable pub moves_on : (r : ℕ) (front : List ℕ) (text : NavItem → List ℕ) (more : Bool) (a b d : List ℕ) (w w1 w2 u u1 u2 : Option (List ℕ)) (g g1 g2 : GivenState) (c c1 c2 : StreamCounts)
     → StreamMoves r front text more a b w w1 u u1 g g1 c c1 → StreamMoves r front text more b d w1 w2 u1 u2 g1 g2 c1 c2
     → StreamMoves r front text more a d w w2 u u2 g g2 c c2
 moves_on r front text more a b d w w1 w2 u u1 u2 g g1 g2 c c1 c2 first second = record {
@@ -84,7 +85,7 @@ moves_on r front text more a b d w w1 w2 u u1 u2 g g1 g2 c c1 c2 first second = 
 }
 
 -- bytes came behind
-pub moves_fed : (r : ℕ) (front : List ℕ) (text : NavItem → List ℕ) (a b d : List ℕ) (w w1 u u1 : Option (List ℕ)) (g g1 : GivenState) (c c1 : StreamCounts)
+unfoldable pub moves_fed : (r : ℕ) (front : List ℕ) (text : NavItem → List ℕ) (a b d : List ℕ) (w w1 u u1 : Option (List ℕ)) (g g1 : GivenState) (c c1 : StreamCounts)
     → StreamMoves r front text true a b w w1 u u1 g g1 c c1 → StreamMoves r front text true (a ++ d) (b ++ d) w w1 u u1 g g1 c c1
 moves_fed r front text a b d w w1 u u1 g g1 c c1 moves = record {
   frames_are = moves.frames_are;
@@ -98,10 +99,11 @@ moves_fed r front text a b d w w1 u u1 g g1 c c1 moves = record {
 }
 
 -- frames were taken, and then one is not taken to its end
-pub stops_on : (r : ℕ) (front : List ℕ) (text : NavItem → List ℕ) (more : Bool) (a b : List ℕ) (w w1 w2 u u1 u2 : Option (List ℕ)) (g g1 : GivenState) (c c1 : StreamCounts)
+unfoldable pub stops_on : (r : ℕ) (front : List ℕ) (text : NavItem → List ℕ) (more : Bool) (a b : List ℕ) (w w1 w2 u u1 u2 : Option (List ℕ)) (g g1 : GivenState) (c c1 : StreamCounts)
     → StreamMoves r front text more a b w w1 u u1 g g1 c c1 → StreamStops r front text more b w1 w2 u1 u2 g1 c1
     → StreamStops r front text more a w w2 u u2 g c
 stops_on r front text more a b w w1 w2 u u1 u2 g g1 c c1 first stops = record {
+  done = first.frames_are ++ stops.done;
   frames_are = first.frames_are ++ stops.frames_are;
   stream = λ following last. (
     (stops.stream following last).0,
@@ -109,14 +111,16 @@ stops_on r front text more a b w w1 w2 u u1 u2 g g1 c c1 first stops = record {
         ∙ sym (append_assoc first.frames_are stops.frames_are (stops.stream following last).0),
   );
   breaks = λ past start begun far.
-      subst (λ (l : List (List ℕ)). StreamBroke r front text l start w2 begun u2) (append_assoc past first.frames_are stops.frames_are)
-      (stops.breaks (past ++ first.frames_are) start begun (first.goes past start begun far));
+      subst (λ (l : List (List ℕ)). StreamBroke r front text l (past ++ (first.frames_are ++ stops.frames_are)) start w2 begun u2) (append_assoc past first.frames_are stops.done)
+      (subst (λ (l : List (List ℕ)). StreamBroke r front text ((past ++ first.frames_are) ++ stops.done) l start w2 begun u2) (append_assoc past first.frames_are stops.frames_are)
+      (stops.breaks (past ++ first.frames_are) start begun (first.goes past start begun far)));
 }
 
 -- bytes came behind
 pub stops_fed : (r : ℕ) (front : List ℕ) (text : NavItem → List ℕ) (a d : List ℕ) (w w1 u u1 : Option (List ℕ)) (g : GivenState) (c : StreamCounts)
     → StreamStops r front text true a w w1 u u1 g c → StreamStops r front text true (a ++ d) w w1 u u1 g c
 stops_fed r front text a d w w1 u u1 g c stops = record {
+  done = stops.done;
   frames_are = stops.frames_are;
   stream = λ following last.
       let whole = stops.stream (d ++ following) (λ never. cc) in

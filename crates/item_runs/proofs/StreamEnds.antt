@@ -1,23 +1,23 @@
 -- A stream from its first byte to its end: what was taken of it is what its frames give.
-use Rattle.std.proofs.Common.{◌≡◌, ◌+◌, ℕ, false, List, [], ◌∷◌, ◌++◌, refl, sym, ap, ◌∙◌, subst, append_assoc, append-nil}
+use Rattle.std.proofs.Common.{◌≡◌, ◌+◌, ◌-◌, ℕ, false, List, [], ◌∷◌, ◌++◌, length, take, refl, sym, ap, ◌∙◌, subst, append_assoc, append-nil}
 use Rattle.std.specs.Prelude.{Option, IfSome, IsErrOf, Ok, Err}
 use Rattle.std.specs.Io.KnownBytes.{Appends}
 use Rattle.std.proofs.KnownBytes.{Appends-trans, Consumes-nil, Consumes-whole}
 use Rattle.nav_io.specs.Front.{AppendsFront, IsFront}
 use Rattle.nav_eph.specs.declared.items.NavItem.{NavItem}
-use Rattle.rtcm_frame.specs.Frames.{frames}
+use Rattle.rtcm_frame.specs.Frames.{decided, frames}
 use Rattle.rtcm_frame.specs.State.{payload_of}
 use Rattle.rtcm_eph.specs.Reading.{item_in}
 use Rattle.run_texts.specs.declared.fault.BridgeFault.{BridgeFault}
 use Rattle.run_texts.specs.declared.fault.BridgeFault.TheVariants.{TooLong}
-use Rattle.run_texts.specs.Runs.{RunsPart, RunsSettled, RunsWhole, TakesTooMany, no_least}
+use Rattle.run_texts.specs.Runs.{RunsPart, RunsSettled, RunsWhole, TakesTooMany, AppendsBetween}
 use Rattle.item_runs.specs.declared.counts.StreamCounts.{StreamCounts}
-use Rattle.item_runs.specs.Streams.{Reading, counts_of_readings, has, items_in, reading_report, readings, readings_output, readings_report, settled_output_by, settled_stream_report, stream_counts, stream_counts_text, stream_output_by, stream_report}
-use Rattle.item_runs.specs.Mirrors.{GivenState, NothingKept, StreamAll, StreamPart, StreamSettled, StreamSoFar, is_given, once_text}
+use Rattle.item_runs.specs.Streams.{Reading, counts_of_readings, has, items_in, least_output_by, reading_report, readings, readings_output, readings_report, settled_output_by, settled_stream_report, stream_counts, stream_counts_text, stream_output_by, stream_report}
+use Rattle.item_runs.specs.Mirrors.{BeginsSettled, GivenState, NothingKept, StreamAll, StreamPart, StreamSettled, StreamSoFar, is_given, once_text}
 use Rattle.item_runs.proofs.FileLemmas.{between, err_same, front_longer, no_front}
 use Rattle.item_runs.proofs.KnownLemmas.{none_known}
 use Rattle.item_runs.proofs.RecordLemmas.{front_behind, whole_front}
-use Rattle.item_runs.proofs.StreamLemmas.{output_fault, output_item}
+use Rattle.item_runs.proofs.StreamLemmas.{between_whole, output_fault, output_item}
 
 -- ---- the readings of more frames begin with those of fewer
 
@@ -52,6 +52,24 @@ output_longer front text (y ∷ ys) xs =
 -- what grew by a front of a front
 front_within : (w w1 : Option (List ℕ)) (some whole : List ℕ) → IsFront some whole → AppendsFront w w1 some → AppendsFront w w1 whole
 front_within w w1 some whole (rest, is) grew = subst (AppendsFront w w1) (sym is) (front_longer w w1 some rest grew)
+
+-- what grew by no less than a text and at most another one did so by no less than a front of the one, and at most what the other begins
+between_within : (w w1 : Option (List ℕ)) (least some more whole : List ℕ) → IsFront least some → IsFront more whole → AppendsBetween w w1 some more → AppendsBetween w w1 least whole
+between_within w w1 least some more whole low high grew = record {
+  front = grew.front;
+  within = front_twice grew.front more whole grew.within high;
+  no_less = front_twice least some grew.front low grew.no_less;
+  grew = grew.grew;
+}
+
+-- the least that is written is a front of what frames give that begin with those that were decided before the last piece
+least_front : (r : ℕ) (front : List ℕ) (text : NavItem → List ℕ) (taken : List ℕ) (them : List (List ℕ))
+    → BeginsSettled them taken → IsFront (least_output_by front text r taken) (readings_output front text (readings r them))
+least_front r front text [] them begins = (readings_output front text (readings r them), refl)
+least_front r front text (b ∷ bs) them (rest, is) =
+    let first = decided (take (length (b ∷ bs) - 16384) (b ∷ bs)) in
+    subst (λ (l : List Reading). IsFront (readings_output front text (readings r first)) (readings_output front text l))
+    (sym (ap (readings r) is ∙ readings_append r first rest)) (output_longer front text (readings r rest) (readings r first))
 
 -- ---- a stream begins
 
@@ -113,19 +131,22 @@ counts_stream r front text left l1 w w1 w2 u u1 g g1 c c1 grew none nothing same
 pub part_of_counts : (r : ℕ) (front : List ℕ) (text : NavItem → List ℕ) (left l1 w w1 w2 u u1 u2 : Option (List ℕ)) (g g1 : GivenState) (c c1 : StreamCounts)
     → Appends w w1 front → NoneGiven g → c ≡ counts_of_readings [] → Appends u u []
     → StreamAll r front text left l1 w1 w2 u u1 g g1 c c1 → AppendsFront u1 u2 (stream_counts_text c1)
-    → RunsPart (stream_output_by front text r) no_least (stream_report r) left l1 w w2 u u2
+    → RunsPart (stream_output_by front text r) (least_output_by front text r) (stream_report r) left l1 w w2 u u2
 part_of_counts r front text left l1 w w1 w2 u u1 u2 g g1 c c1 grew none nothing same all counts =
     let far = all_so_far r front text left l1 w w1 w2 u u1 g g1 c c1 grew none nothing same all in
+    let least = subst (λ (l : List (List ℕ)). IsFront (least_output_by front text r all.taken) (readings_output front text (readings r l)))
+    (sym (all_frames all.taken all.moves.frames_are (all.moves.stream [] (λ last. refl)))) (least_front r front text all.taken all.moves.frames_are all.settles) in
     record {
       taken = all.taken;
       consumes = all.consumes;
-      text = between w w2 (stream_output_by front text r all.taken) (whole_front w w2 (stream_output_by front text r all.taken) far.output);
+      text = between_within w w2 (least_output_by front text r all.taken) _ _ _ least ([], sym (append-nil (stream_output_by front text r all.taken)))
+          (between_whole w w2 (stream_output_by front text r all.taken) far.output);
       report_text = front_behind u u1 u2 _ _ far.report (subst (λ (x : StreamCounts). AppendsFront u1 u2 (stream_counts_text x)) far.counts_are counts);
     }
 
 -- the text in front is not written to its end
 pub part_of_begin : (r : ℕ) (front : List ℕ) (text : NavItem → List ℕ) (left w w1 u : Option (List ℕ))
-    → AppendsFront w w1 front → RunsPart (stream_output_by front text r) no_least (stream_report r) left left w w1 u u
+    → AppendsFront w w1 front → RunsPart (stream_output_by front text r) (least_output_by front text r) (stream_report r) left left w w1 u u
 part_of_begin r front text left w w1 u grew = record {
   taken = [];
   consumes = Consumes-nil left;
@@ -137,21 +158,22 @@ part_of_begin r front text left w w1 u grew = record {
 pub part_of_stream : (r : ℕ) (front : List ℕ) (text : NavItem → List ℕ) (left l1 w w1 w2 u u1 : Option (List ℕ)) (g : GivenState) (c : StreamCounts) (fault : BridgeFault)
     → Appends w w1 front → NoneGiven g → c ≡ counts_of_readings [] → Appends u u []
     → StreamPart r front text left l1 w1 w2 u u1 g c fault
-    → RunsPart (stream_output_by front text r) no_least (stream_report r) left l1 w w2 u u1
+    → RunsPart (stream_output_by front text r) (least_output_by front text r) (stream_report r) left l1 w w2 u u1
 part_of_stream r front text left l1 w w1 w2 u u1 g c fault grew none nothing same part =
     let some = part.stops.frames_are in
     let more = part.stops.stream [] (λ last. refl) in
     let is : frames part.taken ≡ some ++ more.0 = ap frames (sym (append-nil part.taken)) ∙ more.1 in
     let read : readings r (frames part.taken) ≡ readings r some ++ readings r more.0 = ap (readings r) is ∙ readings_append r some more.0 in
     let broke = part.stops.breaks [] w u (begins r front text w w1 u g c grew none nothing same) in
-    let out : AppendsFront w w2 (readings_output front text (readings r some ++ readings r more.0)) =
-    front_within w w2 (readings_output front text (readings r some)) _ (output_longer front text (readings r more.0) (readings r some)) broke.output in
+    let out : AppendsBetween w w2 (least_output_by front text r part.taken) (readings_output front text (readings r some ++ readings r more.0)) =
+    between_within w w2 (least_output_by front text r part.taken) (readings_output front text (readings r part.stops.done)) (readings_output front text (readings r some)) _
+    (least_front r front text part.taken part.stops.done part.settles) (output_longer front text (readings r more.0) (readings r some)) broke.output in
     let told : AppendsFront u u1 (readings_report 1 (readings r some ++ readings r more.0)) =
     front_within u u1 (readings_report 1 (readings r some)) _ (report_longer 1 (readings r some) (readings r more.0)) broke.report in
     record {
       taken = part.taken;
       consumes = part.consumes;
-      text = between w w2 (stream_output_by front text r part.taken) (subst (λ (l : List Reading). AppendsFront w w2 (readings_output front text l)) (sym read) out);
+      text = subst (λ (l : List Reading). AppendsBetween w w2 (least_output_by front text r part.taken) (readings_output front text l)) (sym read) out;
       report_text = front_longer u u1 (readings_report 1 (readings r (frames part.taken))) _ (subst (λ (l : List Reading). AppendsFront u u1 (readings_report 1 l)) (sym read) told);
     }
 

@@ -13,12 +13,31 @@ use Rattle.rtcm_eph.specs.declared.fault.MessageFault.{MessageFault}
 use Rattle.rtcm_eph.specs.declared.fault.MessageFault.TheVariants.{NoNumber, OtherMessage, Short, BadSat, BadTime, SpareSisa}
 use Rattle.rtcm_eph.specs.Reading.{item_in}
 use Rattle.rtcm_frame.specs.State.{payload_of}
+use Rattle.run_texts.specs.Runs.{AppendsBetween}
 use Rattle.item_runs.specs.declared.counts.StreamCounts.{StreamCounts}
 use Rattle.item_runs.specs.Streams.{Reading, readings, has, items_in, first_places, first_places_behind, reading_report, readings_report, counts_of_readings, is_refused, is_unused, readings_output}
 use Rattle.item_runs.specs.Mirrors.{GivenState, KeptPlaces, StandsIn, StreamBroke, StreamSoFar, any_alike, is_given, once_text, sent_alike, with_fault, with_item, with_refusal, with_unused}
 use Rattle.item_runs.proofs.AlikeLemmas.{Laws, looked_for, read_own}
 use Rattle.item_runs.proofs.KnownLemmas.{adds_nothing, is_known, known_more}
 use Rattle.item_runs.proofs.RecordLemmas.{front_behind, whole_front}
+
+-- what grew by a text and a front of another one
+between_behind : (w w1 w2 : Option (List ℕ)) (some more : List ℕ) → Appends w w1 some → AppendsFront w1 w2 more → AppendsBetween w w2 some (some ++ more)
+between_behind w w1 w2 some more whole (front, (rest, is), grew) = record {
+  front = some ++ front;
+  within = (rest, ap (λ (l : List ℕ). some ++ l) is ∙ sym (append_assoc some front rest));
+  no_less = (front, refl);
+  grew = Appends-trans w w1 w2 some front whole grew;
+}
+
+-- what grew by a whole text
+pub between_whole : (w w1 : Option (List ℕ)) (text : List ℕ) → Appends w w1 text → AppendsBetween w w1 text text
+between_whole w w1 text whole = record {
+  front = text;
+  within = ([], sym (append-nil text));
+  no_less = ([], sym (append-nil text));
+  grew = whole;
+}
 
 -- an item, where it was not there before
 abbrev pub once : Bool → NavItem → List NavItem
@@ -220,14 +239,14 @@ pub broke_item : (r : ℕ) (front : List ℕ) (text : NavItem → List ℕ) (pas
     → any_alike (items_in (readings r past)) item ≡ has (items_in (readings r past)) item
     → StreamSoFar r front text past w w1 u u1 given c
     → AppendsFront w1 w2 (once_text text before item)
-    → StreamBroke r front text (past ++ frame ∷ []) w w2 u u1
+    → StreamBroke r front text past (past ++ frame ∷ []) w w2 u u1
 broke_item r front text past frame item w w1 w2 u u1 given c before is was looked far output =
     let rs = readings r past in
     let more = readings_more r past frame (Ok item) is in
     let there : before ≡ has (items_in rs) item = was ∙ far.holds item ∙ looked in
     record {
-      output = subst (AppendsFront w w2) (sym (ap (readings_output front text) more ∙ output_item front text rs item))
-          (front_behind w w1 w2 _ _ far.output (subst (λ (b : Bool). AppendsFront w1 w2 (once_text text b item)) there output));
+      output = subst (AppendsBetween w w2 (readings_output front text rs)) (sym (ap (readings_output front text) more ∙ output_item front text rs item))
+          (between_behind w w1 w2 _ _ far.output (subst (λ (b : Bool). AppendsFront w1 w2 (once_text text b item)) there output));
       report = whole_front u u1 _ (subst (Appends u u1) (sym (ap (readings_report 1) more ∙ report_more 1 rs (Ok item) ∙ append-nil (readings_report 1 rs))) far.report);
     }
 
@@ -237,14 +256,15 @@ pub broke_fault : (r : ℕ) (front : List ℕ) (text : NavItem → List ℕ) (pa
     → item_in r (payload_of frame) ≡ Err fault → number ≡ c.frames + 1
     → StreamSoFar r front text past w w1 u u1 given c
     → AppendsFront u1 u2 (reading_report number (Err fault))
-    → StreamBroke r front text (past ++ frame ∷ []) w w1 u u2
+    → StreamBroke r front text past (past ++ frame ∷ []) w w1 u u2
 broke_fault r front text past frame fault w w1 u u1 u2 given c number is nth far report =
     let rs = readings r past in
     let more = readings_more r past frame (Err fault) is in
     let frames : c.frames ≡ length rs = ap (λ (x : StreamCounts). x.frames) far.counts_are in
     let place : number ≡ 1 + length rs = omega (arith, nth, frames) in
     record {
-      output = whole_front w w1 _ (subst (Appends w w1) (sym (ap (readings_output front text) more ∙ output_fault front text rs fault)) far.output);
+      output = subst (AppendsBetween w w1 (readings_output front text rs)) (sym (ap (readings_output front text) more ∙ output_fault front text rs fault))
+          (between_whole w w1 _ far.output);
       report = subst (AppendsFront u u2) (sym (ap (readings_report 1) more ∙ report_more 1 rs (Err fault)))
           (front_behind u u1 u2 _ _ far.report (subst (λ n. AppendsFront u1 u2 (reading_report n (Err fault))) place report));
     }

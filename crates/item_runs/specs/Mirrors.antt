@@ -1,5 +1,5 @@
 -- A stream and a file while they are read. Private functions cite these.
-use Rattle.std.specs.Prelude.{◌≡◌, ◌+◌, ◌^◌, ◌<◌, ◌≤◌, ◌||◌, ◌⊎◌, ℕ, Bool, true, false, if◌then◌else◌, List, [], ◌∷◌, ◌++◌, length, Option, None, Some, Ok, IfSome, replicate, slice_get, slice_set}
+use Rattle.std.specs.Prelude.{◌≡◌, ◌+◌, ◌-◌, ◌^◌, ◌<◌, ◌≤◌, ◌||◌, ◌⊎◌, ℕ, Bool, true, false, if◌then◌else◌, List, [], ◌∷◌, ◌++◌, length, take, Option, None, Some, Ok, IfSome, replicate, slice_get, slice_set}
 use Rattle.std.specs.List.{All, flat_map}
 use Rattle.std.specs.Ordering.{nat_cmp}
 use Rattle.std.specs.Cmp.Lexicographic.{slice_cmp}
@@ -14,6 +14,7 @@ use Rattle.rtcm_eph.specs.Writing.{bytes_1019, bytes_1046}
 use Rattle.rtcm_eph.specs.declared.fault.MessageFault.{MessageFault}
 use Rattle.rtcm_eph.specs.declared.fault.MessageFault.TheVariants.{NoNumber, OtherMessage, Short, BadSat, BadTime, SpareSisa}
 use Rattle.rtcm_frame.specs.Frames.{decided, frames}
+use Rattle.run_texts.specs.Runs.{AppendsBetween}
 use Rattle.rinex_read.specs.Forms.{Form}
 use Rattle.nav_io.specs.declared.lines.LineFault.TheVariants as lines
 use Rattle.rinex_read.specs.States.{RecordsState, HeaderSteps, Steps, BreaksRecord, lines_left}
@@ -206,10 +207,10 @@ pub record StreamSoFar (r : ℕ) (front : List ℕ) (text : NavItem → List ℕ
   pub holds : (other : NavItem) → is_given given other ≡ any_alike (items_in (readings r past)) other
   pub known : AreKnown r given
 
--- Of what these frames give a front was written and reported.
-pub record StreamBroke (r : ℕ) (front : List ℕ) (text : NavItem → List ℕ) (past : List (List ℕ)) (written written_new reported reported_new : Option (List ℕ)) : Type 0 where
-  pub output : AppendsFront written written_new (readings_output front text (readings r past))
-  pub report : AppendsFront reported reported_new (readings_report 1 (readings r past))
+-- Of what these frames give a front was written and reported, no less than what the first of them give.
+pub record StreamBroke (r : ℕ) (front : List ℕ) (text : NavItem → List ℕ) (done frames_are : List (List ℕ)) (written written_new reported reported_new : Option (List ℕ)) : Type 0 where
+  pub output : AppendsBetween written written_new (readings_output front text (readings r done)) (readings_output front text (readings r frames_are))
+  pub report : AppendsFront reported reported_new (readings_report 1 (readings r frames_are))
 
 -- These frames come behind others that were taken, and are taken.
 abbrev pub StreamGoes : ℕ → List ℕ → (NavItem → List ℕ) → List (List ℕ) → Option (List ℕ) → Option (List ℕ) → Option (List ℕ) → Option (List ℕ) → GivenState → GivenState → StreamCounts → StreamCounts → Type 0
@@ -221,7 +222,7 @@ StreamGoes r front text more written written_new reported reported_new given giv
 abbrev pub StreamBreaks : ℕ → List ℕ → (NavItem → List ℕ) → List (List ℕ) → Option (List ℕ) → Option (List ℕ) → Option (List ℕ) → Option (List ℕ) → GivenState → StreamCounts → Type 0
 StreamBreaks r front text more written written_new reported reported_new given counts =
     (past : List (List ℕ)) (start begun : Option (List ℕ)) → StreamSoFar r front text past start written begun reported given counts
-    → StreamBroke r front text (past ++ more) start written_new begun reported_new
+    → StreamBroke r front text past (past ++ more) start written_new begun reported_new
 
 -- Between two rests of bytes these frames are given and taken, which stand before those of the new rest, whatever bytes follow: among the
 -- frames of the bytes, and, where more bytes may come, among those that are decided.
@@ -233,9 +234,15 @@ pub record StreamMoves (r : ℕ) (front : List ℕ) (text : NavItem → List ℕ
 
 -- Of these bytes frames are given, and the last of them is not taken to its end, whatever bytes follow.
 pub record StreamStops (r : ℕ) (front : List ℕ) (text : NavItem → List ℕ) (more : Bool) (before : List ℕ) (written written_new reported reported_new : Option (List ℕ)) (given : GivenState) (counts : StreamCounts) : Type 0 where
+  pub done : List (List ℕ)
   pub frames_are : List (List ℕ)
   pub stream : (following : List ℕ) → (more ≡ false → following ≡ []) → (rest : List (List ℕ)) × (frames (before ++ following) ≡ frames_are ++ rest)
-  pub breaks : StreamBreaks r front text frames_are written written_new reported reported_new given counts
+  pub breaks : (past : List (List ℕ)) (start begun : Option (List ℕ)) → StreamSoFar r front text past start written begun reported given counts
+      → StreamBroke r front text (past ++ done) (past ++ frames_are) start written_new begun reported_new
+
+-- These frames begin with those that are decided by all of the bytes but the last piece.
+abbrev pub BeginsSettled : List (List ℕ) → List ℕ → Type 0
+BeginsSettled them taken = (rest : List (List ℕ)) × (them ≡ decided (take (length taken - 16384) taken) ++ rest)
 
 -- The whole input was taken, and its frames.
 pub record StreamAll (r : ℕ) (front : List ℕ) (text : NavItem → List ℕ) (left left_new written written_new reported reported_new : Option (List ℕ)) (given given_new : GivenState) (counts counts_new : StreamCounts) : Type 0 where
@@ -244,12 +251,14 @@ pub record StreamAll (r : ℕ) (front : List ℕ) (text : NavItem → List ℕ) 
   pub end : IsAtEnd left_new
   pub fits : length taken < 2 ^ 32
   pub moves : StreamMoves r front text false taken [] written written_new reported reported_new given given_new counts counts_new
+  pub settles : BeginsSettled moves.frames_are taken
 
 -- These bytes were taken, and of what their frames give a front was written and reported.
 pub record StreamPart (r : ℕ) (front : List ℕ) (text : NavItem → List ℕ) (left left_new written written_new reported reported_new : Option (List ℕ)) (given : GivenState) (counts : StreamCounts) (fault : BridgeFault) : Type 0 where
   pub taken : List ℕ
   pub consumes : Consumes left left_new taken
   pub stops : StreamStops r front text false taken written written_new reported reported_new given counts
+  pub settles : BeginsSettled stops.done taken
   pub too_long : fault ≡ TooLong → length taken ≡ 2 ^ 32
 
 -- These bytes were taken, and exactly their decided frames.

@@ -1,5 +1,5 @@
 -- The items of a stream of RTCM frames, each at its first place only, and what is written and reported of the stream.
-use Rattle.std.specs.Prelude.{ℕ, ◌+◌, ◌||◌, Bool, false, if◌then◌else◌, List, [], ◌∷◌, ◌++◌, length, codes, map, sum, Result, Ok, Err}
+use Rattle.std.specs.Prelude.{ℕ, ◌+◌, ◌-◌, ◌||◌, Bool, false, if◌then◌else◌, List, [], ◌∷◌, ◌++◌, length, take, codes, map, sum, Result, Ok, Err}
 use Rattle.std.specs.List.{flat_map}
 use Rattle.nav_eph.specs.Items.{same_item}
 use Rattle.nav_eph.specs.declared.items.NavItem.{NavItem}
@@ -128,3 +128,12 @@ settled_stream_output to r bytes = settled_output_by (stream_front to) (stream_i
 
 abbrev pub settled_stream_report : ℕ → List ℕ → List ℕ
 settled_stream_report r bytes = readings_report 1 (settled_readings r bytes)
+
+-- the least that is written once the bytes were taken, whatever fails: what all of them but the last 16,384 settle, which are taken at
+-- once; nothing where no byte was taken
+abbrev pub least_output_by : List ℕ → (NavItem → List ℕ) → ℕ → List ℕ → List ℕ
+least_output_by front text r [] = []
+least_output_by front text r (b ∷ bs) = settled_output_by front text r (take (length (b ∷ bs) - 16384) (b ∷ bs))
+
+abbrev pub least_stream_output : StreamTo → ℕ → List ℕ → List ℕ
+least_stream_output to r bytes = least_output_by (stream_front to) (stream_item to) r bytes

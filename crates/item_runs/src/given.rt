@@ -29,10 +29,10 @@ impl Model for Given {
     ghost Value = { GivenState };
 
     ghost view = { λ g. record {
-        gps = g.gps;
-        gal = g.gal;
-        gps_seen = g.gps_seen.places;
-        gal_seen = g.gal_seen.places;
+      gps = g.gps;
+      gal = g.gal;
+      gps_seen = g.gps_seen.places;
+      gal_seen = g.gal_seen.places;
     } };
 }
 

@@ -3,7 +3,8 @@
 ghost use Rattle.std.specs.Prelude.{◌≡◌, ◌^◌, ◌<◌, ◌≤◌, length, IsTrue, IsErrOf, IfOk, IfSome, OnOk, OnErr};
 ghost use Rattle.std.specs.Io.KnownBytes.{Appends};
 ghost use Rattle.run_texts.specs.Causes.{HasItsCause, faults_of};
-ghost use Rattle.run_texts.specs.Runs.{RunsPart, RunsSettled, RunsWhole, TakesTooMany, no_least};
+ghost use Rattle.run_texts.specs.Runs.{RunsPart, RunsSettled, RunsWhole, TakesTooMany};
+ghost use Rattle.item_runs.specs.Streams.{least_output_by};
 ghost use Rattle.item_runs.specs.Streams.{settled_output_by, settled_stream_report};
 ghost use Rattle.item_runs.specs.Streams.{stream_counts, stream_output_by, stream_report};
 
@@ -35,7 +36,7 @@ pub(crate) fn follow_stream<O: Outlet, S: Source, T: Sink, U: Sink>(
     ensures counts { IfOk result (λ counts. IfSome (S.left input.old) (λ bytes.
         counts ≡ stream_counts r bytes)) }
     ensures part { OnErr result (RunsPart
-        (stream_output_by (O.front outlet.now) (O.text outlet.now 0) r) no_least
+        (stream_output_by (O.front outlet.now) (O.text outlet.now 0) r) (least_output_by (O.front outlet.now) (O.text outlet.now 0) r)
         (stream_report r) (S.left input.old) (S.left input.new)
         (T.written output.old) (T.written output.new)
         (U.written report.old) (U.written report.new)) }

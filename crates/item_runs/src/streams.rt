@@ -3,8 +3,8 @@
 ghost use Rattle.std.specs.Prelude.{◌≡◌, ◌⊎◌, ◌^◌, ◌<◌, ◌≤◌, length, IsTrue, IsOk, IsErr, IsErrOf, IfOk, IfSome, OnOk, OnErr};
 ghost use Rattle.std.specs.Io.KnownBytes.{Appends};
 ghost use Rattle.nav_io.specs.Causes.{Rose};
-ghost use Rattle.run_texts.specs.Runs.{RunsPart, RunsSettled, RunsWhole, TakesTooMany, no_least};
-ghost use Rattle.item_runs.specs.Streams.{settled_stream_output};
+ghost use Rattle.run_texts.specs.Runs.{RunsPart, RunsSettled, RunsWhole, TakesTooMany};
+ghost use Rattle.item_runs.specs.Streams.{least_stream_output, settled_stream_output};
 ghost use Rattle.item_runs.specs.Streams.{settled_stream_report, stream_counts, stream_output};
 ghost use Rattle.item_runs.specs.Streams.{stream_report};
 ghost use Rattle.item_runs.specs.Targets.{HasStreamLeap};
@@ -29,7 +29,8 @@ use std::alloc::Global;
 ///
 /// - `ReadFault`, `WriteFault`, `ReportFault` only where the count of faults of the input, the output or the report rose, or
 ///   stands at its last value. After a failed read exactly what the frames give that are decided
-///   by the bytes taken, whatever bytes follow, was written and reported.
+///   by the bytes taken, whatever bytes follow, was written and reported. After any fault no less was written than what all
+///   of these bytes but the last 16,384 decide.
 /// - `TooLong` only where 4,294,967,295 bytes were taken and one more was there.
 /// - `NoMemory` for want of memory: what is kept of each item is the 61 or 63 bytes of its message.
 pub fn run_stream<S: Source, T: Sink, U: Sink>(
@@ -59,9 +60,11 @@ pub fn run_stream<S: Source, T: Sink, U: Sink>(
         (S.left input.old) (S.left input.new) (T.written output.old) (T.written output.new)
         (U.written report.old) (U.written report.new) }
 
-    // After every fault a front of what the bytes that were taken give was written and reported.
-    ensures part { OnErr result (RunsPart (stream_output to.now r) no_least (stream_report r)
-        (S.left input.old) (S.left input.new) (T.written output.old) (T.written output.new)
+    // After every fault a front of what the bytes that were taken give was written, no less than what all of them but the
+    // last 16,384 settle, and a front was reported.
+    ensures part { OnErr result (RunsPart (stream_output to.now r) (least_stream_output to.now r)
+        (stream_report r) (S.left input.old) (S.left input.new)
+        (T.written output.old) (T.written output.new)
         (U.written report.old) (U.written report.new)) }
 
     // Each fault has its cause, and no stream is of another form.

@@ -9,7 +9,7 @@ use Rattle.rinex_read.specs.Files.{file_reads}
 use Rattle.rinex_read.specs.Forms.{rinex4}
 use Rattle.rinex3_nav.specs.Form3.{rinex3}
 use Rattle.item_runs.specs.Files.{file_output, file_report}
-use Rattle.item_runs.specs.Streams.{settled_stream_output, stream_output, stream_report}
+use Rattle.item_runs.specs.Streams.{least_stream_output, settled_stream_output, stream_output, stream_report}
 use Rattle.send_runs.specs.Sends.{send_output, send_report}
 use Rattle.archive_runs.specs.Archives.{cover_output, cover_report, merge_output, merge_report}
 use Rattle.run_texts.specs.Runs.{RunsPart}
@@ -88,7 +88,7 @@ Accepts (Seed job) bytes = Unit {0}
 abbrev pub least_of : Job → List ℕ → List ℕ
 least_of StreamToFrames bytes = []
 least_of (Capture job) bytes = least_output job.to job.week bytes
-least_of (Stream job) bytes = []
+least_of (Stream job) bytes = least_stream_output job.to job.week bytes
 least_of (Rinex to) bytes = []
 least_of (Rinex3 to) bytes = []
 least_of (SendRinex week) bytes = []

@@ -55,7 +55,7 @@ loop-taken-preserved g c =
 pub returns-in_err-take_piece-in-Ok-clause-part : goal.returns-in_err-take_piece-in-Ok-clause-part
 returns-in_err-take_piece-in-Ok-clause-part g c =
     let p = err_from_is_err_and c.from_residual.result c.from_residual.ensures.1 in
-    rw (p.1, p.2) (part_of_piece c.args.r _ _ _ _ _ _ _ _ _ _ _ _ _ _ _ _ _ _ _ c.loop-taken.invariant.so_far c.in-Ok.ensures.bytes.0
+    rw (p.1, p.2) (part_of_piece c.args.r _ _ _ _ _ _ _ _ _ _ _ _ _ _ _ _ _ _ _ c.loop-taken.invariant.so_far c.in-Ok.ensures.bytes.0 (omega (arith, c.in-Ok.ensures.count, c.in-Ok.ensures.within))
     c.in_err-take_piece-in-Ok.ensures.breaks c.in_err-take_piece-in-Ok.ensures.kinds)
 
 pub returns-in_err-take_piece-in-Ok-clause-exact : goal.returns-in_err-take_piece-in-Ok-clause-exact

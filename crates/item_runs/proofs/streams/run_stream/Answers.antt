@@ -11,3 +11,12 @@ returns-in-Rinex3-clause-exact g c = rw c.in-Rinex3.is c.follow_stream-in-Rinex3
 
 pub returns-in-Rtcm-clause-exact : goal.returns-in-Rtcm-clause-exact
 returns-in-Rtcm-clause-exact g c = rw c.in-Rtcm.is c.follow_stream-in-Rtcm.ensures.exact
+
+pub returns-in-Rinex-clause-part : goal.returns-in-Rinex-clause-part
+returns-in-Rinex-clause-part g c = rw c.in-Rinex.is c.follow_stream.ensures.part
+
+pub returns-in-Rinex3-clause-part : goal.returns-in-Rinex3-clause-part
+returns-in-Rinex3-clause-part g c = rw c.in-Rinex3.is c.follow_stream-in-Rinex3.ensures.part
+
+pub returns-in-Rtcm-clause-part : goal.returns-in-Rtcm-clause-part
+returns-in-Rtcm-clause-part g c = rw c.in-Rtcm.is c.follow_stream-in-Rtcm.ensures.part
