@@ -4,17 +4,16 @@ use Rattle.std.specs.Prelude.{Option, None, Some, IfSome, IsSome, Result, Err}
 use Rattle.std.proofs.lemmas.Bool.{true≢false}
 use Rattle.std.specs.Io.KnownBytes.{Appends, Consumes}
 use Rattle.nav_io.specs.Causes.{Rose}
-use Rattle.nav_io.specs.Front.{IsFront}
+use Rattle.nav_io.specs.Front.{AppendsFront}
 use Rattle.run_texts.specs.Causes.{faults_of}
-use Rattle.run_texts.specs.Runs.{RunsPart, TakesTooMany}
+use Rattle.run_texts.specs.Runs.{TakesTooMany}
 use Rattle.run_texts.specs.declared.fault.BridgeFault.{BridgeFault}
 use Rattle.run_texts.specs.declared.fault.BridgeFault.TheVariants.{ReadFault, WriteFault, ReportFault, TooLong, NoMemory, NotThisForm}
 use Rattle.bridge_engine.specs.declared.counts.CaptureCounts.{CaptureCounts}
 use Rattle.bridge_engine.specs.declared.target.CaptureTo.TheVariants.{Count}
 use Rattle.bridge_engine.specs.Captures.{Capture, capture_of, counts_of, output_of, report_of_capture}
 use Rattle.seed_runs.specs.declared.target.SeedCounts.TheVariants.{Counted}
-use Rattle.seed_runs.specs.Seeds.{CountBroke}
-use Rattle.seed_runs.specs.Counting.{CountDone, IsSeedFault}
+use Rattle.seed_runs.specs.Counting.{CountBroke, CountDone, IsSeedFault}
 
 -- ---- done
 
@@ -43,20 +42,6 @@ count_done r text left written written_new reported reported_new o o1 u u1 count
 
 -- ---- broken off
 
-taken_front : (text taken : List ℕ) (left_new : Option (List ℕ)) → Consumes (Some text) left_new taken → IsFront taken text
-taken_front text taken None h = absurd h
-taken_front text taken (Some rest) h = (rest, h)
-
-broke_of : (r : ℕ) (text : List ℕ) (least : List ℕ → List ℕ) (left_new written written_new reported reported_new : Option (List ℕ))
-    → RunsPart (output_of Count (Some r)) least (report_of_capture (Some r)) (Some text) left_new written written_new reported reported_new
-    → CountBroke r text written written_new reported reported_new
-broke_of r text least left_new written written_new reported reported_new part = record {
-  taken = part.taken;
-  within = taken_front text part.taken left_new part.consumes;
-  wrote = (part.text.front, part.text.within, part.text.grew);
-  told = part.report_text;
-}
-
 -- more bytes than there are were not taken
 not_too_many : (text : List ℕ) (left_new : Option (List ℕ)) → length text < 2 ^ 32 → TakesTooMany (Some text) left_new → ⊥
 not_too_many text None low long = absurd long.consumes
@@ -82,13 +67,15 @@ cause_of r text left_new o o1 u u1 NotThisForm low some h = not_refused (capture
 cause_of r text left_new o o1 u u1 TooLong low some h = not_too_many text left_new low (h.too_long refl)
 cause_of r text left_new o o1 u u1 NoMemory low some h = tt
 
-pub count_broke : (r : ℕ) (text left : List ℕ) (least : List ℕ → List ℕ) (left_new written written_new reported reported_new : Option (List ℕ)) (o o1 u u1 : ℕ) (fault : BridgeFault) → left ≡ text
+pub count_broke : (r : ℕ) (text left : List ℕ) (left_new written written_new reported reported_new : Option (List ℕ)) (o o1 u u1 : ℕ) (fault : BridgeFault) → left ≡ text
     → length text < 2 ^ 32 → IsSome (capture_of (Some r) text)
-    → RunsPart (output_of Count (Some r)) least (report_of_capture (Some r)) (Some left) left_new written written_new reported reported_new
+    → AppendsFront written written_new (output_of Count (Some r) left) → AppendsFront reported reported_new (report_of_capture (Some r) left)
     → Causes r left left_new o o1 u u1 (Err fault)
     → CountBroke r text written written_new reported reported_new × IsSeedFault (faults_of 0 o u) (faults_of 0 o1 u1) fault
-count_broke r text left least left_new written written_new reported reported_new o o1 u u1 fault same low some part causes = (
-  broke_of r text least left_new written written_new reported reported_new
-      (subst (λ (l : List ℕ). RunsPart (output_of Count (Some r)) least (report_of_capture (Some r)) (Some l) left_new written written_new reported reported_new) same part),
+count_broke r text left left_new written written_new reported reported_new o o1 u u1 fault same low some wrote told causes = (
+  (
+    subst (λ (l : List ℕ). AppendsFront written written_new (output_of Count (Some r) l)) same wrote,
+    subst (λ (l : List ℕ). AppendsFront reported reported_new (report_of_capture (Some r) l)) same told,
+  ),
   cause_of r text left_new o o1 u u1 fault low some (subst (λ (l : List ℕ). Causes r l left_new o o1 u u1 (Err fault)) same causes),
 )

@@ -99,13 +99,8 @@ promised_broken to seed n r written written_new reported reported_new before now
 
 -- nothing was written and nothing reported
 pub nothing_broke : (to : SeedTo) (seed n r : ℕ) (written reported : Option (List ℕ)) → SeedBroke to seed n r written written reported reported
-nothing_broke seeds.Capture seed n r written reported = ([], (capture_text seed n r, refl), Appends-nil written)
-nothing_broke seeds.Count seed n r written reported = record {
-  taken = [];
-  within = (capture_text seed n r, refl);
-  wrote = ([], (output_of captures.Count (Some r) [], refl), Appends-nil written);
-  told = ([], (report_of_capture (Some r) [], refl), Appends-nil reported);
-}
+nothing_broke to seed n r written reported =
+    (([], (seed_output to seed n r, refl), Appends-nil written), ([], (seed_report to seed n r, refl), Appends-nil reported))
 
 -- ---- the capture
 
@@ -117,7 +112,8 @@ written_by seed n r text written written_new reported o o1 u (Ok counts) same h 
     promised_done seeds.Capture seed n r written written_new reported reported (faults_of 0 o u) (faults_of 0 o1 u) counts (subst (Appends written written_new) same h.0) (Appends-nil reported)
     (h.1 ∙ ap (λ (l : List ℕ). Written (length l)) same) (ap (λ (f : Faults). f.output) h.2) refl
 written_by seed n r text written written_new reported o o1 u (Err WriteFault) same h =
-    promised_broken seeds.Capture seed n r written written_new reported reported (faults_of 0 o u) (faults_of 0 o1 u) WriteFault (subst (AppendsFront written written_new) same h.0) h.1
+    promised_broken seeds.Capture seed n r written written_new reported reported (faults_of 0 o u) (faults_of 0 o1 u) WriteFault
+    (subst (AppendsFront written written_new) same h.0, ([], ([], refl), Appends-nil reported)) h.1
 written_by seed n r text written written_new reported o o1 u (Err ReadFault) same h = absurd h
 written_by seed n r text written written_new reported o o1 u (Err ReportFault) same h = absurd h
 written_by seed n r text written written_new reported o o1 u (Err NotThisForm) same h = absurd h
@@ -160,7 +156,8 @@ counted_by seed n r written written_new reported reported_new before now (Ok cou
     promised_done seeds.Count seed n r written written_new reported reported_new before now counts (subst (Appends written written_new) output h.wrote) (subst (Appends reported reported_new) report h.told)
     (known_counts counts (capture_of (Some r) (capture_text seed n r)) (generated seed n r) capture h.counted) (ap (λ (f : Faults). f.output) h.quiet) (ap (λ (f : Faults). f.report) h.quiet)
 counted_by seed n r written written_new reported reported_new before now (Err fault) capture output report h =
-    promised_broken seeds.Count seed n r written written_new reported reported_new before now fault h.0 h.1
+    promised_broken seeds.Count seed n r written written_new reported reported_new before now fault
+    (subst (AppendsFront written written_new) output h.0.0, subst (AppendsFront reported reported_new) report h.0.1) h.1
 
 pub promised_count : (to : SeedTo) (seed n r : ℕ) (text : List ℕ) (written written_new reported reported_new : Option (List ℕ)) (before now : Faults) (result : Result SeedCounts BridgeFault)
     → to ≡ seeds.Count → text ≡ capture_text seed n r

@@ -10,7 +10,6 @@ use Rattle.bridge_engine.specs.declared.target.CaptureTo.TheVariants.{Count}
 use Rattle.bridge_engine.specs.Captures.{capture_of, counts_of, output_of, report_of_capture}
 use Rattle.seed_runs.specs.declared.target.SeedCounts.{SeedCounts}
 use Rattle.seed_runs.specs.declared.target.SeedCounts.TheVariants.{Written, Counted}
-use Rattle.seed_runs.specs.Seeds.{CountBroke}
 
 -- the counts of an object that failed rose, and neither the input nor its form nor its length is at fault
 abbrev pub IsSeedFault : Faults → Faults → BridgeFault → Type 0
@@ -35,6 +34,11 @@ pub record CountDone (r : ℕ) (text : List ℕ) (written written_new reported r
   pub told : Appends reported reported_new (report_of_capture (Some r) text)
   pub counted : IfSome (capture_of (Some r) text) (λ c. counts ≡ Counted (counts_of c))
   pub quiet : now ≡ before
+
+-- a front was written and reported of what the text gives
+abbrev pub CountBroke : ℕ → List ℕ → Option (List ℕ) → Option (List ℕ) → Option (List ℕ) → Option (List ℕ) → Type 0
+CountBroke r text written written_new reported reported_new =
+    AppendsFront written written_new (output_of Count (Some r) text) × AppendsFront reported reported_new (report_of_capture (Some r) text)
 
 -- how it ends
 abbrev pub CountsText : ℕ → List ℕ → Option (List ℕ) → Option (List ℕ) → Option (List ℕ) → Option (List ℕ) → Faults → Faults → Result SeedCounts BridgeFault → Type 0

@@ -1,13 +1,12 @@
 -- What the runs over a generated capture write, report and count.
-use Rattle.std.specs.Prelude.{ℕ, false, List, [], ◌++◌, length, codes, Option, Some}
-use Rattle.nav_io.specs.Front.{AppendsFront, IsFront}
+use Rattle.std.specs.Prelude.{ℕ, false, List, [], ◌++◌, length, codes, Option}
+use Rattle.nav_io.specs.Front.{AppendsFront}
 use Rattle.nav_io.specs.Lines.{lines_by}
 use Rattle.nav_vectors.specs.Capture.{lines_of}
 use Rattle.nav_vectors.specs.Text.{capture_text, text_of_lines}
 use Rattle.capture_log.specs.Log.{log_of}
 use Rattle.bridge_engine.specs.Reports.{report_in}
-use Rattle.bridge_engine.specs.declared.target.CaptureTo.TheVariants as captures
-use Rattle.bridge_engine.specs.Captures.{Capture, counts_of, counts_text, output_of, report_of_capture}
+use Rattle.bridge_engine.specs.Captures.{Capture, counts_of, counts_text}
 use Rattle.seed_runs.specs.declared.target.SeedTo.{SeedTo}
 use Rattle.seed_runs.specs.declared.target.SeedTo.TheVariants as seeds
 use Rattle.seed_runs.specs.declared.target.SeedCounts.{SeedCounts}
@@ -33,15 +32,7 @@ abbrev pub seed_counts : SeedTo → ℕ → ℕ → ℕ → SeedCounts
 seed_counts seeds.Capture seed n r = Written (length (capture_text seed n r))
 seed_counts seeds.Count seed n r = Counted (counts_of (generated seed n r))
 
--- The counting broke off: this front of a capture's text was taken, and a front was written and reported of what it gives.
-pub record CountBroke (r : ℕ) (text : List ℕ) (written written_new reported reported_new : Option (List ℕ)) : Type 0 where
-  pub taken : List ℕ
-  pub within : IsFront taken text
-  pub wrote : AppendsFront written written_new (output_of captures.Count (Some r) taken)
-  pub told : AppendsFront reported reported_new (report_of_capture (Some r) taken)
-
--- The run broke off: a front of the capture was written, or the counting broke off.
+-- The run broke off: a front was written and reported of what the seed gives.
 abbrev pub SeedBroke : SeedTo → ℕ → ℕ → ℕ → Option (List ℕ) → Option (List ℕ) → Option (List ℕ) → Option (List ℕ) → Type 0
-SeedBroke seeds.Capture seed n r written written_new reported reported_new = AppendsFront written written_new (capture_text seed n r)
-SeedBroke seeds.Count seed n r written written_new reported reported_new =
-    CountBroke r (capture_text seed n r) written written_new reported reported_new
+SeedBroke to seed n r written written_new reported reported_new =
+    AppendsFront written written_new (seed_output to seed n r) × AppendsFront reported reported_new (seed_report to seed n r)

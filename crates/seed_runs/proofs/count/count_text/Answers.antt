@@ -9,7 +9,8 @@ returns-in-Ok g c =
 
 pub returns : goal.returns
 returns g c =
-    count_broke c.args.week c.args.text.items c.new-input.result.left _ _ _ _ _ _ _ _ _ _ c.in-Err.fault c.new-input.ensures.left c.requires.short c.requires.accepted c.in-Err.ensures.part
+    count_broke c.args.week c.args.text.items c.new-input.result.left _ _ _ _ _ _ _ _ _ c.in-Err.fault c.new-input.ensures.left c.requires.short c.requires.accepted c.in-Err.ensures.front
+    c.in-Err.ensures.report_front
     (record {
       never = c.in-Err.ensures.never (rw (c.new-input.ensures.fails, c.new-2.ensures.items) refl);
       write = c.in-Err.ensures.write;
