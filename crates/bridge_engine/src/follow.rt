@@ -37,7 +37,7 @@ fn fault_of(fault: LineFault) -> BridgeFault
 }
 
 // Reads the first line, and judges it.
-fn first_line<S: Source>(
+pub(crate) fn first_line<S: Source>(
     lines: &mut Lines,
     week: Option<RefWeek>,
     input: &mut S,

@@ -2,21 +2,20 @@
 use Rattle.std.proofs.Common.{◌≡◌, ℕ, List, [], Option, Some, None, Result, Ok, Err, refl, sym, append-nil, subst, ◌∙◌}
 use Rattle.std.specs.Prelude.{MatchResult, IfErr, IfSome, IsErrOf, OnOk, OnErr}
 use Rattle.std.specs.Io.KnownBytes.{Appends, Consumes}
-use Rattle.bridge_engine.specs.Captures.{least_output, output_of, report_of_capture}
-use Rattle.bridge_engine.specs.declared.target.CaptureTo.TheVariants as captures
-use Rattle.nav_vectors.specs.Text.{capture_text}
+use Rattle.nav_io.specs.Front.{IsFront}
+use Rattle.bridge_engine.specs.Captures.{least_output, settled_output, settled_report}
 use Rattle.seed_runs.specs.declared.target.SeedTo.{SeedTo}
-use Rattle.seed_runs.specs.declared.target.SeedTo.TheVariants as seeds
-use Rattle.seed_runs.specs.Seeds.{SeedBroke}
+use Rattle.seed_runs.specs.Seeds.{SeedBroke, seed_output, seed_report}
 use Rattle.bridge_engine.specs.FrameLines.{line_of}
 use Rattle.bridge_engine.specs.FrameRuns.{RunsPart as FramesPart}
 use Rattle.run_texts.specs.Runs.{RunsPart, RunsSettled}
 use Rattle.run_texts.specs.declared.fault.BridgeFault.{BridgeFault}
 use Rattle.navbridge.specs.declared.job.Job.TheVariants.{StreamToFrames, Capture, Stream, Rinex, Rinex3, SendRinex, SendRinex3, Merge, Cover, Seed}
 use Rattle.navbridge.specs.declared.job.Job.{Job}
+use Rattle.navbridge.specs.declared.job.CaptureJob.{CaptureJob}
 use Rattle.navbridge.specs.declared.job.StreamJob.{StreamJob}
 use Rattle.item_runs.specs.Streams.{settled_stream_output, settled_stream_report}
-use Rattle.navbridge.specs.JobTexts.{out_of, report_of, least_of, Breaks, Stops}
+use Rattle.navbridge.specs.JobTexts.{out_of, report_of, least_of, Breaks, Stops, StopsWith}
 
 -- the same end, without what was counted
 abbrev pub Ends : {C : Type 0} → Result C BridgeFault → Result (Unit {0}) BridgeFault → Type 0
@@ -46,13 +45,42 @@ run_ends (Err g) result f e is = let broke : result ≡ Err g = e in let same : 
 
 -- what a run over the ephemerides of a stream leaves where a read failed
 pub stream_stop : (job : StreamJob) (l l' w w' u u' : Option (List ℕ))
-    → RunsSettled (settled_stream_output job.to job.week) (settled_stream_report job.week) l l' w w' u u' → Stops (Stream job) l l' w w'
+    → RunsSettled (settled_stream_output job.to job.week) (settled_stream_report job.week) l l' w w' u u' → Stops (Stream job) l l' w w' u u'
 stream_stop job l l' w w' u u' s = record {
   taken = s.taken;
   consumes = s.consumes;
   text = settled_stream_output job.to job.week s.taken;
-  stops = refl;
+  told = settled_stream_report job.week s.taken;
+  stops = (refl, refl);
   grew = s.text;
+  report_grew = s.report_text;
+}
+
+-- what a run over a capture leaves there
+pub capture_stop : (job : CaptureJob) (l l' w w' u u' : Option (List ℕ))
+    → RunsSettled (settled_output job.to job.week) (settled_report job.week) l l' w w' u u' → Stops (Capture job) l l' w w' u u'
+capture_stop job l l' w w' u u' s = record {
+  taken = s.taken;
+  consumes = s.consumes;
+  text = settled_output job.to job.week s.taken;
+  told = settled_report job.week s.taken;
+  stops = (refl, refl);
+  grew = s.text;
+  report_grew = s.report_text;
+}
+
+-- what a run leaves there that promises a front
+pub front_stop : (job : Job) (l l' w w' u u' : Option (List ℕ))
+    → ((bytes text told : List ℕ) → IsFront text (out_of job bytes) → IsFront told (report_of job bytes) → StopsWith job bytes text told)
+    → RunsPart (out_of job) (least_of job) (report_of job) l l' w w' u u' → Stops job l l' w w' u u'
+front_stop job l l' w w' u u' by part = record {
+  taken = part.taken;
+  consumes = part.consumes;
+  text = part.text.front;
+  told = part.report_text.0;
+  stops = by part.taken part.text.front part.report_text.0 part.text.within part.report_text.1;
+  grew = part.text.grew;
+  report_grew = part.report_text.2;
 }
 
 -- nothing is written
@@ -65,9 +93,16 @@ none_reported None u = tt
 none_reported (Some bytes) u = none_written u
 
 -- what a run over frames leaves
-pub frames_stop : (l l' w w' : Option (List ℕ)) (f : BridgeFault) → FramesPart line_of l l' w w' f → Stops StreamToFrames l l' w w'
-frames_stop l l' w w' f part =
-    record { taken = part.taken; consumes = part.consumes; text = part.text.0; stops = part.text.1; grew = part.text.2 }
+pub frames_stop : (l l' w w' u : Option (List ℕ)) (f : BridgeFault) → FramesPart line_of l l' w w' f → Stops StreamToFrames l l' w w' u u
+frames_stop l l' w w' u f part = record {
+  taken = part.taken;
+  consumes = part.consumes;
+  text = part.text.0;
+  told = [];
+  stops = (part.text.1, ([], refl));
+  grew = part.text.2;
+  report_grew = none_written u;
+}
 
 pub frames_part : (l l' w w' u : Option (List ℕ)) (f : BridgeFault) → FramesPart line_of l l' w w' f
     → RunsPart (out_of StreamToFrames) (least_of StreamToFrames) (report_of StreamToFrames) l l' w w' u u
@@ -111,13 +146,7 @@ none_of_it job l w u = record {
 }
 
 seed_not_begun : (to : SeedTo) (seed n r : ℕ) (w u : Option (List ℕ)) → SeedBroke to seed n r w w u u
-seed_not_begun seeds.Capture seed n r w u = ([], (capture_text seed n r, refl), none_written w)
-seed_not_begun seeds.Count seed n r w u = record {
-  taken = [];
-  within = (capture_text seed n r, refl);
-  wrote = ([], (output_of captures.Count (Some r) [], refl), none_written w);
-  told = ([], (report_of_capture (Some r) [], refl), none_written u);
-}
+seed_not_begun to seed n r w u = (([], (seed_output to seed n r, refl), none_written w), ([], (seed_report to seed n r, refl), none_written u))
 
 pub not_begun : (job : Job) (l w u : Option (List ℕ)) → Breaks job l l w w u u
 not_begun StreamToFrames l w u = none_of_it StreamToFrames l w u

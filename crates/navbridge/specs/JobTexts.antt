@@ -2,14 +2,14 @@
 use Rattle.std.specs.Prelude.{◌≡◌, ◌<◌, ◌≤◌, ℕ, List, [], Option, Some, IsSome, IsOk, IfSome}
 use Rattle.std.specs.Io.KnownBytes.{Appends, Consumes}
 use Rattle.nav_io.specs.Front.{IsFront}
-use Rattle.bridge_engine.specs.Captures.{capture_of, output_of as text_of_capture, report_of_capture, settled_output, least_output}
+use Rattle.bridge_engine.specs.Captures.{capture_of, output_of as text_of_capture, report_of_capture, settled_output, settled_report, least_output}
 use Rattle.bridge_engine.specs.FrameLines.{line_of}
 use Rattle.bridge_engine.specs.FrameRuns.{output_of}
 use Rattle.rinex_read.specs.Files.{file_reads}
 use Rattle.rinex_read.specs.Forms.{rinex4}
 use Rattle.rinex3_nav.specs.Form3.{rinex3}
 use Rattle.item_runs.specs.Files.{file_output, file_report}
-use Rattle.item_runs.specs.Streams.{least_stream_output, settled_stream_output, stream_output, stream_report}
+use Rattle.item_runs.specs.Streams.{least_stream_output, settled_stream_output, settled_stream_report, stream_output, stream_report}
 use Rattle.send_runs.specs.Sends.{send_output, send_report}
 use Rattle.archive_runs.specs.Archives.{cover_output, cover_report, merge_output, merge_report}
 use Rattle.run_texts.specs.Runs.{RunsPart}
@@ -97,31 +97,33 @@ least_of (Merge words) bytes = []
 least_of Cover bytes = []
 least_of (Seed job) bytes = []
 
--- What is written where a read fails once the bytes were taken: of a capture exactly what the lines that have ended close, of
--- the ephemerides of a stream exactly what the decided frames give, of the frames themselves and of a navigation file a front
--- of the whole. No read fails of a job that reads nothing.
-abbrev pub StopsWith : Job → List ℕ → List ℕ → Type 0
-StopsWith StreamToFrames bytes text = IsFront text (out_of StreamToFrames bytes)
-StopsWith (Capture job) bytes text = text ≡ settled_output job.to job.week bytes
-StopsWith (Stream job) bytes text = text ≡ settled_stream_output job.to job.week bytes
-StopsWith (Rinex to) bytes text = IsFront text (out_of (Rinex to) bytes)
-StopsWith (Rinex3 to) bytes text = IsFront text (out_of (Rinex3 to) bytes)
-StopsWith (SendRinex week) bytes text = IsFront text (out_of (SendRinex week) bytes)
-StopsWith (SendRinex3 week) bytes text = IsFront text (out_of (SendRinex3 week) bytes)
-StopsWith (Merge words) bytes text = IsFront text (out_of (Merge words) bytes)
-StopsWith Cover bytes text = IsFront text (out_of Cover bytes)
-StopsWith (Seed job) bytes text = ⊥
+-- What is written and reported where a read fails once the bytes were taken: of a capture exactly what the lines that have
+-- ended close and bring, of the ephemerides of a stream exactly what the decided frames give, of the frames themselves and of a
+-- navigation file a front of the whole. No read fails of a job that reads nothing.
+abbrev pub StopsWith : Job → List ℕ → List ℕ → List ℕ → Type 0
+StopsWith StreamToFrames bytes text told = IsFront text (out_of StreamToFrames bytes) × IsFront told (report_of StreamToFrames bytes)
+StopsWith (Capture job) bytes text told = (text ≡ settled_output job.to job.week bytes) × (told ≡ settled_report job.week bytes)
+StopsWith (Stream job) bytes text told = (text ≡ settled_stream_output job.to job.week bytes) × (told ≡ settled_stream_report job.week bytes)
+StopsWith (Rinex to) bytes text told = IsFront text (out_of (Rinex to) bytes) × IsFront told (report_of (Rinex to) bytes)
+StopsWith (Rinex3 to) bytes text told = IsFront text (out_of (Rinex3 to) bytes) × IsFront told (report_of (Rinex3 to) bytes)
+StopsWith (SendRinex week) bytes text told = IsFront text (out_of (SendRinex week) bytes) × IsFront told (report_of (SendRinex week) bytes)
+StopsWith (SendRinex3 week) bytes text told = IsFront text (out_of (SendRinex3 week) bytes) × IsFront told (report_of (SendRinex3 week) bytes)
+StopsWith (Merge words) bytes text told = IsFront text (out_of (Merge words) bytes) × IsFront told (report_of (Merge words) bytes)
+StopsWith Cover bytes text told = IsFront text (out_of Cover bytes) × IsFront told (report_of Cover bytes)
+StopsWith (Seed job) bytes text told = ⊥
 
--- a read failed: these bytes were taken, and this is written of them
-pub record Stops (job : Job) (left left_new written written_new : Option (List ℕ)) : Type 0 where
+-- a read failed: these bytes were taken, and this is written and told of them
+pub record Stops (job : Job) (left left_new written written_new reported reported_new : Option (List ℕ)) : Type 0 where
   pub taken : List ℕ
   pub consumes : Consumes left left_new taken
   pub text : List ℕ
-  pub stops : StopsWith job taken text
+  pub told : List ℕ
+  pub stops : StopsWith job taken text told
   pub grew : Appends written written_new text
+  pub report_grew : Appends reported reported_new told
 
 -- A job broke off: a front was written and reported of what the bytes that were taken give, no less than the least; of a
--- capture that is made a front of it, or a front of what a front of it gives.
+-- capture that is made, or of its counts, a front of the whole.
 abbrev pub Breaks : Job → Option (List ℕ) → Option (List ℕ) → Option (List ℕ) → Option (List ℕ) → Option (List ℕ) → Option (List ℕ) → Type 0
 Breaks StreamToFrames l l' w w' u u' = RunsPart (out_of StreamToFrames) (least_of StreamToFrames) (report_of StreamToFrames) l l' w w' u u'
 Breaks (Capture job) l l' w w' u u' = RunsPart (out_of (Capture job)) (least_of (Capture job)) (report_of (Capture job)) l l' w w' u u'

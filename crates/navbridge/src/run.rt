@@ -76,7 +76,8 @@ pub(crate) fn run_job<S: Source, T: Sink, U: Sink>(
     // What a fault leaves.
     ensures stops { IsErrOf result BridgeFault.ReadFault
         → Stops job.now (S.left input.old) (S.left input.new)
-        (T.written output.old) (T.written output.new) }
+        (T.written output.old) (T.written output.new)
+        (U.written report.old) (U.written report.new) }
     ensures part { OnErr result (Breaks job.now
         (S.left input.old) (S.left input.new) (T.written output.old) (T.written output.new)
         (U.written report.old) (U.written report.new)) }

@@ -115,11 +115,12 @@ pub fn bridge<S: Source, T: Sink, U: Sink>(
         → (result ≡ 0) ⊎ ((result ≡ 4) ⊎ (result ≡ 7))
         → IfSome (input_of job (S.left input.old)) (λ bytes. Accepts job bytes) }
 
-    // Where a read fails, what was written is what the job says of the bytes that were taken; after every other fault no less
-    // than the least that it says, and a front of the whole.
+    // Where a read fails, what was written and reported is what the job says of the bytes that were taken; after every other
+    // fault no less than the least that it says, and a front of the whole.
     ensures stops { (job : Job) → IsJob (map string_bytes words.now) job → result ≡ 3
         → Stops job (S.left input.old) (S.left input.new)
-        (T.written output.old) (T.written output.new) }
+        (T.written output.old) (T.written output.new)
+        (U.written report.old) (U.written report.new) }
     ensures part { (job : Job) → IsJob (map string_bytes words.now) job → result ≢ 0
         → Breaks job
         (S.left input.old) (S.left input.new) (T.written output.old) (T.written output.new)
