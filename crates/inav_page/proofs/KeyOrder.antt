@@ -1,15 +1,14 @@
 -- The order of keys: what a range of them holds, and that it ascends.
-use Rattle.std.proofs.Common.{◌≡◌, ℕ, ◌+◌, ◌<◌, ◌≤◌, ◌^◌, ◌⊎◌, Bool, not, refl, true, false, inl, inr, sym, ap, ◌∙◌, ⊎_elim, arith}
+use Rattle.std.proofs.Common.{◌≡◌, ℕ, ◌+◌, ◌<◌, ◌≤◌, ◌^◌, ◌⊎◌, Bool, true, false, inl, inr, sym, ap, ◌∙◌, ⊎_elim, arith}
 use Rattle.std.proofs.lemmas.Bool.{cases_lt, cases_order, lt-ltb, le-ltb, eq-eqb, ne_eqb, cond-true, cond-false, true≢false}
 use Rattle.std.specs.declared.cmp.Ordering.TheVariants.{Less, Equal, Greater}
-use Rattle.std.specs.Ordering.{nat_cmp, ordering_then, is_gt, is_le}
+use Rattle.std.specs.Ordering.{nat_cmp, ordering_then, is_gt}
 use Rattle.std.specs.Cmp.{IsTotalOrder, nat_cmp_total, then_total, on_total}
 use Rattle.std.proofs.lemmas.Map.Lookups.{CmpEqualImpliesEq, exact_pairs, exact_unsigned}
 use Rattle.std.proofs.lemmas.Map.Keys.{le_from_not_gt}
 use Rattle.std.proofs.lemmas.Map.Views.{IsInRange-from_range_contains, range_contains-from_IsInRange}
 use Rattle.std.proofs.lemmas.Cmp.{ranked}
 use Rattle.std.specs.declared.ops.Bound.TheVariants.{Included, Excluded}
-use Rattle.std.specs.BTreeMap.Comparable.{le_lt_trans}
 use Rattle.std.specs.BTreeMap.Range.{range_contains}
 use Rattle.inav_page.specs.declared.half.HalfKind.{HalfKind}
 use Rattle.inav_page.specs.declared.half.HalfKind.TheVariants.{Even, Odd}
@@ -144,12 +143,3 @@ range_from place Odd key at even =
 
 pub key_cmp_same : (a b : ℕ × ℕ) → a ≡ b → key_cmp a b ≡ Equal
 key_cmp_same a b e = first_same a b (ap (λ k. k.0) e) ∙ same a.1 b.1 (ap (λ k. k.1) e)
-
-not_false : (b : Bool) → not b ≡ false → b ≡ true
-not_false true h = refl
-not_false false h = absurd (true≢false h)
-
--- what comes behind a key that is past an end is past it as well
-pub past_behind : (end key later : ℕ × ℕ) → not (is_le (key_cmp end key)) ≡ false → key_cmp key later ≡ Less → not (is_le (key_cmp end later)) ≡ false
-past_behind end key later past behind =
-    ap (λ o. not (is_le o)) (le_lt_trans key_cmp_total end key later (not_false (is_le (key_cmp end key)) past) behind)

@@ -1,13 +1,12 @@
 -- The partners of a half among the keys, and the words that it makes with them.
-use Rattle.std.proofs.Common.{◌≡◌, ℕ, zero, suc, ◌&&◌, not, cond, ◌+◌, ◌-◌, ◌*◌, ◌/◌, ◌%◌, ◌<◌, ◌≤◌, ◌^◌, List, [], ◌∷◌, ◌++◌, Bool, true, false, length, map, None, Some, inl, inr, refl, sym, ap, subst, ◌∙◌, ⊎_elim, arith}
-use Rattle.std.proofs.lemmas.Bool.{cases_Bool, cond-false, cond_both, cond-true}
-use Rattle.std.proofs.lemmas.List.{map-append, append-nil, length-map}
+use Rattle.std.proofs.Common.{◌≡◌, ℕ, zero, suc, ◌+◌, ◌-◌, ◌*◌, ◌/◌, ◌%◌, ◌<◌, ◌≤◌, ◌^◌, List, [], ◌∷◌, ◌++◌, Bool, true, false, length, map, None, Some, inl, inr, refl, sym, ap, subst, ◌∙◌, ⊎_elim, arith}
+use Rattle.std.proofs.lemmas.Bool.{cases_Bool, cond-false, cond_both}
+use Rattle.std.proofs.lemmas.List.{map-append, length-map}
 use Rattle.std.proofs.lemmas.List.Kept.{IsStrictlySortedBy-filter}
 use Rattle.std.specs.Prelude.{Contains}
 use Rattle.std.specs.List.{filter, AllByRecursion}
 use Rattle.std.specs.BTreeMap.Range.{range_contains}
-use Rattle.std.specs.declared.ops.Bound.TheVariants.{Included, Unbounded}
-use Rattle.std.specs.Ordering.{is_le}
+use Rattle.std.specs.declared.ops.Bound.TheVariants.{Included, Excluded}
 use Rattle.std.specs.List.Sorted.{IsStrictlySortedBy}
 use Rattle.std.specs.declared.cmp.Ordering.TheVariants.{Less}
 use Rattle.nav_eph.specs.Satellite.{Satellite}
@@ -24,7 +23,7 @@ use Rattle.inav_page.proofs.Surface.{not_both}
 use Rattle.inav_page.proofs.PageNumbers.{right_to, right_from}
 use Rattle.inav_page.proofs.Remainders.{is_right_by, same_remainder, right_by_remainder, remainder-lt}
 use Rattle.inav_page.proofs.Membership.{In, contains_from_In, In-from_contains, filter_in, in_filter, in_map, map_in}
-use Rattle.inav_page.proofs.KeyOrder.{key_lt, past_behind, in_range, range_to, range_from, other_kind}
+use Rattle.inav_page.proofs.KeyOrder.{key_lt, in_range, range_to, range_from, other_kind}
 
 -- ---- keys and halves
 
@@ -254,76 +253,6 @@ no_words keys stamp number signal half are none =
       words_are = refl;
     }
 
--- ---- a range without an end, left at the first key that is past it
-
-filter_both : (a b : ℕ × ℕ → Bool) (keys : List (ℕ × ℕ)) → filter (λ k. a k && b k) keys ≡ filter b (filter (λ k. a k && true) keys)
-filter_both a b [] = refl
-filter_both a b (x ∷ xs) = by (a x) (filter_both a b xs)
-  where
-    by : (c : Bool) → filter (λ k. a k && b k) xs ≡ filter b (filter (λ k. a k && true) xs)
-        → cond (c && b x) (x ∷ filter (λ k. a k && b k) xs) (filter (λ k. a k && b k) xs)
-        ≡ filter b (cond (c && true) (x ∷ filter (λ k. a k && true) xs) (filter (λ k. a k && true) xs))
-    by true more = ap (λ ys. cond (b x) (x ∷ ys) ys) more
-    by false more = more
-
-filter_none : (b : ℕ × ℕ → Bool) (keys : List (ℕ × ℕ)) → ((k : ℕ × ℕ) → In keys k → b k ≡ false) → filter b keys ≡ []
-filter_none b [] fail = refl
-filter_none b (x ∷ xs) fail =
-    cond-false (b x) (x ∷ filter b xs) (filter b xs) (fail x (inl refl)) ∙ filter_none b xs (λ k h. fail k (inr h))
-
-filter_front : (b : ℕ × ℕ → Bool) (front keys : List (ℕ × ℕ)) → ((k : ℕ × ℕ) → In front k → b k ≡ true) → ((k : ℕ × ℕ) → In keys k → b k ≡ false)
-    → filter b (front ++ keys) ≡ front
-filter_front b [] keys pass fail = filter_none b keys fail
-filter_front b (x ∷ xs) keys pass fail =
-    cond-true (b x) (x ∷ filter b (xs ++ keys)) (filter b (xs ++ keys)) (pass x (inl refl))
-    ∙ ap (λ ys. x ∷ ys) (filter_front b xs keys (λ k h. pass k (inr h)) fail)
-
-in_all : (P : ℕ × ℕ → Type 0) (keys : List (ℕ × ℕ)) (k : ℕ × ℕ) → AllByRecursion P keys → In keys k → P k
-in_all P [] k all h = absurd h
-in_all P (x ∷ xs) k all h = ⊎_elim (λ (here : x ≡ k). subst P here all.0) (λ (later : In xs k). in_all P xs k all.1 later) h
-
-behind : (front rest : List (ℕ × ℕ)) (key k : ℕ × ℕ) → IsStrictlySortedBy key_cmp (front ++ key ∷ rest) → In rest k → key_cmp key k ≡ Less
-unfolding IsStrictlySortedBy
-behind [] rest key k sorted h = in_all (λ z. key_cmp key z ≡ Less) rest k sorted.0 h
-behind (x ∷ xs) rest key k sorted h = behind xs rest key k sorted.1 h
-
--- whether a key is before the end
-abbrev pub before_end : ℕ → HalfKind → ℕ × ℕ → Bool
-before_end slot kind key = not (is_le (key_cmp (end_of_partners slot kind) key))
-
--- the keys from the first partner on
-abbrev pub keys_onward : List (ℕ × ℕ) → ℕ → HalfKind → List (ℕ × ℕ)
-keys_onward keys slot kind = filter (range_contains key_cmp (Included (first_partner slot kind)) Unbounded) keys
-
-keys_of_both : (keys : List (ℕ × ℕ)) (slot : ℕ) (kind : HalfKind) → keys_in_slot keys slot kind ≡ filter (before_end slot kind) (keys_onward keys slot kind)
-unfolding keys_in_slot
-keys_of_both keys slot kind = filter_both (λ k. is_le (key_cmp (first_partner slot kind) k)) (before_end slot kind) keys
-
--- all of them, where each is before the end
-pub none_past : (keys : List (ℕ × ℕ)) (slot : ℕ) (kind : HalfKind) → ((k : ℕ × ℕ) → In (keys_onward keys slot kind) k → before_end slot kind k ≡ true)
-    → keys_in_slot keys slot kind ≡ keys_onward keys slot kind
-none_past keys slot kind pass =
-    let onward = keys_onward keys slot kind in
-    keys_of_both keys slot kind ∙ ap (filter (before_end slot kind)) (sym (append-nil onward))
-    ∙ filter_front (before_end slot kind) onward [] pass (λ k h. absurd h)
-
--- those in front of the first that is past it
-pub some_past : (keys : List (ℕ × ℕ)) (slot : ℕ) (kind : HalfKind) (found rest : List (ℕ × ℕ)) (key : ℕ × ℕ) → IsStrictlySortedBy key_cmp keys
-    → keys_onward keys slot kind ≡ found ++ key ∷ rest → ((k : ℕ × ℕ) → In found k → before_end slot kind k ≡ true)
-    → before_end slot kind key ≡ false → keys_in_slot keys slot kind ≡ found
-some_past keys slot kind found rest key sorted split pass past =
-    let onward = keys_onward keys slot kind in
-    let P : List (ℕ × ℕ) → Type 0 = IsStrictlySortedBy key_cmp in
-    let ordered : P (found ++ key ∷ rest) =
-    subst P split (IsStrictlySortedBy-filter key_cmp (range_contains key_cmp (Included (first_partner slot kind)) Unbounded) keys sorted) in
-    let Q : ℕ × ℕ → Type 0 = λ k. before_end slot kind k ≡ false in
-    keys_of_both keys slot kind ∙ ap (filter (before_end slot kind)) split
-    ∙ filter_front (before_end slot kind) found (key ∷ rest) pass
-    (λ k h. ⊎_elim
-    (λ (here : key ≡ k). subst Q here past)
-    (λ (later : In rest k). past_behind (end_of_partners slot kind) key k past (behind found rest key k ordered later))
-    h)
-
 -- ---- words, as the code finds them one after another
 
 pub found_more : {A : Type 0} (shows : A → ℕ × ℕ) (kind : HalfKind) (half : ℕ) (ys : List A) (y : A) (words : List (List ℕ)) (w : List ℕ)
@@ -336,22 +265,12 @@ found_more shows kind half ys y words w so is =
     ∙ map-append (λ key. word_by kind half key.1) (map shows ys) (shows y ∷ []))
 
 -- the range that the code asks for
-pub range_is : (keys : List (ℕ × ℕ)) (slot : ℕ) (kind : HalfKind) (start : ℕ × ℕ) → start ≡ first_partner slot kind
-    → filter (range_contains key_cmp (Included start) Unbounded) keys ≡ keys_onward keys slot kind
-range_is keys slot kind start first = ap (λ s. filter (range_contains key_cmp (Included s) Unbounded) keys) first
-
--- keys before the end and one more
-pub before_more : {A : Type 0} (shows : A → ℕ × ℕ) (slot : ℕ) (kind : HalfKind) (ys : List A) (y : A)
-    → ((k : ℕ × ℕ) → In (map shows ys) k → before_end slot kind k ≡ true) → before_end slot kind (shows y) ≡ true
-    → (k : ℕ × ℕ) → In (map shows (ys ++ y ∷ [])) k → before_end slot kind k ≡ true
-before_more shows slot kind [] y so own k h =
-    let P : ℕ × ℕ → Type 0 = λ k. before_end slot kind k ≡ true in
-    ⊎_elim (λ (here : shows y ≡ k). subst P here own) (λ (none : ⊥). absurd none) h
-before_more shows slot kind (x ∷ xs) y so own k h =
-    ⊎_elim
-    (λ (here : shows x ≡ k). so k (inl here))
-    (λ (later : In (map shows (xs ++ y ∷ [])) k). before_more shows slot kind xs y (λ z there. so z (inr there)) own k later)
-    h
+pub range_is : (keys : List (ℕ × ℕ)) (slot : ℕ) (kind : HalfKind) (start end : ℕ × ℕ) → start ≡ first_partner slot kind → end ≡ end_of_partners slot kind
+    → filter (range_contains key_cmp (Included start) (Excluded end)) keys ≡ keys_in_slot keys slot kind
+unfolding keys_in_slot
+range_is keys slot kind start end first last =
+    ap (λ s. filter (range_contains key_cmp (Included s) (Excluded end)) keys) first
+    ∙ ap (λ e. filter (range_contains key_cmp (Included (first_partner slot kind)) (Excluded e)) keys) last
 
 -- ---- how many
 

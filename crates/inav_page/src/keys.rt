@@ -4,7 +4,6 @@
 ghost use Rattle.std.specs.Prelude.{◌≡◌, ℕ, ◌+◌, ◌*◌, ◌/◌, ◌^◌, ◌<◌, ◌≤◌, ◌⊎◌, ◌↔◌, SomeIff, IfOk};
 ghost use Rattle.std.specs.Prelude.{OnOk, OnErr, List, [], length, map, max, Contains};
 ghost use Rattle.std.specs.List.Sorted.{IsStrictlySortedBy};
-ghost use Rattle.std.specs.Ordering.{is_le};
 ghost use Rattle.nav_eph.specs.declared.sat.System.TheVariants.{Gal};
 ghost use Rattle.inav_page.specs.Pages.{kind_of};
 ghost use Rattle.inav_page.specs.Heard.{AreWordsWith, stamp_by, word_by};
@@ -77,13 +76,6 @@ fn word_of_two(kind: HalfKind, one: u128, other: u128) -> Bits<16>
     }
 }
 
-// Whether a key is not before an end.
-fn is_past(key: &Key, end: &Key) -> bool
-    ensures { result ≡ is_le (key_cmp end.now key.now) }
-{
-    end.cmp(key).is_le()
-}
-
 // The words of a half with those that are kept in a slot.
 fn words_with(
     alloc: Global,
@@ -99,12 +91,7 @@ fn words_with(
     let number = half.number();
     let mut words = Vec::new(alloc);
     let _length = kept.len();
-    // An end that is given is sought as well, and most halves have few partners.
-    let others = others_in(slot, kind);
-    for key in kept.range(others.start..) {
-        if is_past(key, &others.end) {
-            return Ok(words);
-        }
+    for key in kept.range(others_in(slot, kind)) {
         words.push(word_of_two(kind, number, key.1))?;
     }
     Ok(words)
