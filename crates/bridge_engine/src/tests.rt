@@ -16,8 +16,11 @@ use slot_assembly::SlotAssembly;
 use std::alloc::{AllocError, Global};
 use std::test::Fail;
 
-// The bytes of a capture that are taken: some 200 seconds. The plain assembly takes long over more.
-const BYTES: usize = 40_000;
+// The bytes of a capture that are taken with a short window: some 200 seconds.
+const FRONT: usize = 40_000;
+
+// More bytes than a capture has.
+const WHOLE: usize = 4_000_000;
 
 // Writes the list of a capture's periods, by the assembly.
 fn list_over<A: Assembly>(
@@ -57,24 +60,30 @@ fn list_over<A: Assembly>(
     )
 }
 
-// The first lines of a generated capture, the last one broken off.
-fn first_lines(alloc: Global, seed: u8, week: RefWeek) -> Result<Vec<u8>, AllocError> {
+// The first bytes of a generated capture.
+fn first_bytes(alloc: Global, seed: u8, week: RefWeek, most: usize) -> Result<Vec<u8>, AllocError> {
     let mut text = make_capture(alloc, u32::from(seed), 2, week)?;
-    text.truncate(BYTES);
+    text.truncate(most);
     Ok(text)
 }
 
 // Whether both assemblies list the same periods, and some.
-fn list_the_same(alloc: Global, seed: u8, week: RefWeek, window: u32) -> Result<bool, AllocError>
+fn list_the_same(
+    alloc: Global,
+    seed: u8,
+    week: RefWeek,
+    window: u32,
+    most: usize,
+) -> Result<bool, AllocError>
     requires least { 60 ≤ window }
     requires most { window ≤ 14400 }
 {
-    let mut some = MemSink::new(alloc, 4_000, Vec::new(alloc))?;
-    let mut other = MemSink::new(alloc, 4_000, Vec::new(alloc))?;
-    let mut report = MemSink::new(alloc, 4_000, Vec::new(alloc))?;
+    let mut some = MemSink::new(alloc, 1_000_000, Vec::new(alloc))?;
+    let mut other = MemSink::new(alloc, 1_000_000, Vec::new(alloc))?;
+    let mut report = MemSink::new(alloc, 1_000_000, Vec::new(alloc))?;
     let mut plain = PlainAssembly::new(alloc, week, window);
     let mut slots = SlotAssembly::new(alloc, week, window);
-    let text = first_lines(alloc, seed, week)?;
+    let text = first_bytes(alloc, seed, week, most)?;
     let one = list_over(
         alloc,
         week,
@@ -84,7 +93,7 @@ fn list_the_same(alloc: Global, seed: u8, week: RefWeek, window: u32) -> Result<
         &mut some,
         &mut report,
     );
-    let text = first_lines(alloc, seed, week)?;
+    let text = first_bytes(alloc, seed, week, most)?;
     let two = list_over(
         alloc,
         week,
@@ -103,8 +112,8 @@ fn both_assemblies_list_the_same(rt: HostRuntime) -> Result<(), Fail> {
     let week = RefWeek::new(2295).ok_or("a week")?;
     let seeds: [u8; 5] = [1, 2, 3, 4, 5];
     for seed in seeds {
-        assert!(rt; list_the_same(rt.alloc(), seed, week, 60)?);
-        assert!(rt; list_the_same(rt.alloc(), seed, week, 7_200)?);
+        assert!(rt; list_the_same(rt.alloc(), seed, week, 60, FRONT)?);
+        assert!(rt; list_the_same(rt.alloc(), seed, week, 7_200, WHOLE)?);
     }
     Ok(())
 }
