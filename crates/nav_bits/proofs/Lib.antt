@@ -1,4 +1,5 @@
 pub mod Digits
+pub mod EightBytes
 pub mod BytePart
 pub mod Halves
 pub mod PutFields

@@ -1,11 +1,10 @@
 -- The packed fields of a table stand in their bytes, and in no other bytes.
-use Rattle.std.proofs.Common.{◌≡◌, ℕ, zero, suc, ◌+◌, ◌-◌, ◌*◌, ◌%◌, ◌^◌, ◌<◌, ◌≤◌, List, [], ◌∷◌, ℤ, pos, negsuc, neg_ℤ, lit<, refl, sym, ap, ◌∙◌, subst, zero-add, arith}
-use Rattle.std.specs.Prelude.{slice_index, length}
+use Rattle.std.proofs.Common.{◌≡◌, ℕ, suc, ◌+◌, ◌-◌, ◌*◌, ◌^◌, ◌<◌, ◌≤◌, List, [], ◌∷◌, ℤ, pos, negsuc, neg_ℤ, lit<, refl, sym, ap, ◌∙◌, subst, zero-add, arith}
 use Rattle.std.proofs.Math.Nat.{mod-eq_of_lt}
 use Rattle.std.proofs.lemmas.Nat.{pow-add, pow_pos, same_from_place, mul-add-lt}
 use Rattle.std.proofs.lemmas.Int.{ints}
 use Rattle.std.specs.Int.{bytes_high_first}
-use Rattle.nav_bits.specs.Bits.{number_at, signed_at}
+use Rattle.nav_bits.specs.Bits.{number_at}
 use Rattle.nav_bits.specs.Fields.{Field, unsigned, signed, reserved, StandFrom, table_width}
 use Rattle.nav_bits.specs.Laws.{number_at-append, number_at-lt}
 use Rattle.nav_bits.specs.Packed.{AllFit, AreBytes, ZerosFrom, digits_of, pack, packed, width_of}

@@ -11,8 +11,8 @@ fn part_of(bytes: &[u8], byte: usize, skip: usize, width: usize) -> u8
     (bytes[byte] >> (8 - skip - width)) & (u8::MAX >> (8 - width))
 }
 
-/// The number of `width` digits that stands from the place `at` on, read a byte at a time.
-pub(crate) fn number_of(bytes: &[u8], at: usize, width: usize) -> u64
+// The number of `width` digits that stands from the place `at` on, read a byte at a time.
+fn number_by_bytes(bytes: &[u8], at: usize, width: usize) -> u64
     requires most { width ≤ 64 }
     requires inside { at + width ≤ 8 * length bytes.now }
     ensures { result ≡ number_at bytes.now at width }
@@ -27,6 +27,42 @@ pub(crate) fn number_of(bytes: &[u8], at: usize, width: usize) -> u64
         done += step;
     }
     value
+}
+
+// The number of the 64 digits of eight bytes, from the byte `first` on.
+fn eight_bytes(bytes: &[u8], first: usize) -> u64
+    requires inside { first + 8 ≤ length bytes.now }
+    ensures { result ≡ number_at bytes.now (8 * first) 64 }
+{
+    u64::from_be_bytes([
+        bytes[first],
+        bytes[first + 1],
+        bytes[first + 2],
+        bytes[first + 3],
+        bytes[first + 4],
+        bytes[first + 5],
+        bytes[first + 6],
+        bytes[first + 7],
+    ])
+}
+
+/// The number of `width` digits that stands from the place `at` on, read at once where eight bytes
+/// hold it.
+pub(crate) fn number_of(bytes: &[u8], at: usize, width: usize) -> u64
+    requires most { width ≤ 64 }
+    requires inside { at + width ≤ 8 * length bytes.now }
+    ensures { result ≡ number_at bytes.now at width }
+{
+    let length = bytes.len();
+    if width == 0 || length < 8 {
+        return number_by_bytes(bytes, at, width);
+    }
+    let first = (at / 8).min(length - 8);
+    let skip = at - 8 * first;
+    if skip + width > 64 {
+        return number_by_bytes(bytes, at, width);
+    }
+    (eight_bytes(bytes, first) >> (64 - skip - width)) & (u64::MAX >> (64 - width))
 }
 
 // Writes a number of `width` digits into one byte, behind its first `skip` bits.
