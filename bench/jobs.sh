@@ -62,7 +62,7 @@ made shuffled.capture shuffled hour.capture
 made partial.capture "$here/captures" partial 200000
 made partial.list "$here/captures" list 200000
 for window in 600 7200; do
-  for hours in 1 10; do made "hours.$hours.$window" "$here/captures" hours 7 12 2295 "$hours" "$window"; done
+  for hours in 1 4 10; do made "hours.$hours.$window" "$here/captures" hours 7 12 2295 "$hours" "$window"; done
 done
 
 # what a run takes: seconds on the clock, of the processor, kilobytes at the peak, status
@@ -132,14 +132,15 @@ job '32 and 32 satellites, seed to capture' hour.capture hour.capture - \
 job 'capture of 32 and 32 satellites to rinex' hour.capture hour.rinex - --from capture --to rinex "${week[@]}" "${date[@]}"
 job 'its lines in random order' shuffled.capture hour.rinex - --from capture --to rinex "${week[@]}" "${date[@]}"
 job '200,000 partial periods of one key to list' partial.capture partial.list - --from capture --to list "${week[@]}"
-peak=
+# (four hours fill two windows of 7,200 s, one hour does not)
 for window in 600 7200; do
-  for hours in 1 10; do
-    one=$peak
+  peaks=()
+  for hours in 1 4 10; do
+    peak=
     job "12 and 12 satellites, $hours h, window $window s" "hours.$hours.$window" - - --from capture --to rinex "${date[@]}"
+    peaks+=("${peak:-nan}")
   done
-  if [ -n "$one" ]; then
-    awk -v w="$window" -v o="$one" -v t="$peak" 'BEGIN { printf "peak of ten hours by that of one, window %d s: %.2f\n", w, t / o }'
-  fi
+  awk -v w="$window" -v one="${peaks[0]}" -v four="${peaks[1]}" -v ten="${peaks[2]}" 'BEGIN {
+    printf "peak of ten hours, window %d s: %.2f times that of one, %.2f times that of four\n", w, ten / one, ten / four }'
 done
 echo "load $(cut -d' ' -f1-3 /proc/loadavg)"
