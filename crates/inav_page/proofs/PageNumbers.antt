@@ -1,10 +1,10 @@
 -- Parts of pages as numbers: what is kept of them, their CRC and their word.
-use Rattle.std.proofs.Common.{◌≡◌, ℕ, ◌+◌, ◌-◌, ◌*◌, ◌/◌, ◌%◌, ◌^◌, ◌<◌, ◌≤◌, List, [], ◌∷◌, length, slice_index, true, refl, sym, ap, subst, ◌∙◌, ⊎_elim, arith}
-use Rattle.std.proofs.Math.Nat.{mod-eq_of_lt}
+use Rattle.std.proofs.Common.{◌≡◌, ℕ, zero, suc, ◌+◌, ◌-◌, ◌*◌, ◌/◌, ◌%◌, ◌^◌, ◌<◌, ◌≤◌, List, ◌∷◌, ◌++◌, length, slice_index, true, refl, sym, ap, subst, ◌∙◌, ⊎_elim, arith}
+use Rattle.std.proofs.Math.Nat.{pow-suc, mod-eq_of_lt}
+use Rattle.std.proofs.lemmas.Nat.{pow-add, shr-shr}
 use Rattle.std.proofs.lemmas.Bool.{cases_lt, lt-ltb, le-ltb, eqb-true, eq-eqb, cond-true, cond-false}
-use Rattle.std.specs.Int.{bytes_high_first}
+use Rattle.std.specs.Int.{byte_at, bytes_high_first}
 use Rattle.nav_bits.specs.Bits.{number_at}
-use Rattle.nav_bits.specs.Fields.{Stand}
 use Rattle.nav_bits.specs.Laws.{number_at-append, number_at-lt}
 use Rattle.nav_bits.specs.Packed.{AreBytes}
 use Rattle.crc24q.specs.Division.{IsCrc}
@@ -80,29 +80,50 @@ pub right_from : (even odd : ℕ) → HasRightCrc even odd → has_right_crc eve
 right_from even odd is =
     eq-eqb (page_crc even odd) (digits_at odd 82 24) (one_remainder (protected_of even odd) (page_crc even odd) (digits_at odd 82 24) (page_crc_is even odd) is)
 
--- the number that stands in four pieces behind four places
-pieces : (bytes : List ℕ) (a b c d : ℕ) → Stand bytes 0 0 ((4, 0) ∷ (50, a) ∷ (64, b) ∷ (18, c) ∷ (64, d) ∷ [])
-    → number_at bytes 0 200 ≡ (a * 2 ^ 64 + b) * 2 ^ 82 + (c * 2 ^ 64 + d)
-pieces bytes a b c d stand =
-    let none : number_at bytes 0 4 ≡ 0 = stand.0 in
-    let one : number_at bytes 4 50 ≡ a = stand.1.0 in
-    let two : number_at bytes 54 64 ≡ b = stand.1.1.0 in
-    let three : number_at bytes 118 18 ≡ c = stand.1.1.1.0 in
-    let four : number_at bytes 136 64 ≡ d = stand.1.1.1.1.0 in
-    omega (arith, none, one, two, three, four, number_at-append bytes 0 136 64, number_at-append bytes 0 118 18, number_at-append bytes 0 54 64, number_at-append bytes 0 4 50)
+pow_256 : (k : ℕ) → 256 ^ k ≡ 2 ^ (8 * k)
+pow_256 zero = refl
+pow_256 (suc k) =
+    let more : 8 * suc k ≡ 8 * k + 8 = omega arith in
+    pow-suc 256 k ∙ ap (λ n. n * 256) (pow_256 k) ∙ sym (ap (λ n. 2 ^ n) more ∙ pow-add 2 (8 * k) 8)
+
+byte_is : (k n : ℕ) → byte_at k n ≡ n / 2 ^ (8 * k) % 256
+byte_is zero n = let e : n / 1 ≡ n = omega arith in ap (λ m. m % 256) (sym e)
+byte_is (suc k) n = ap (λ m. n / m % 256) (pow_256 (suc k))
+
+byte_above : (k n : ℕ) → byte_at (k + 9) n ≡ byte_at k (n / 2 ^ 72)
+byte_above k n =
+    let place : 8 * (k + 9) ≡ 72 + 8 * k = omega arith in
+    byte_is (k + 9) n ∙ ap (λ m. n / 2 ^ m % 256) place ∙ sym (ap (λ m. m % 256) (shr-shr n 72 (8 * k))) ∙ sym (byte_is k (n / 2 ^ 72))
+
+-- the bytes of a number in two pieces
+two_pieces : (k n : ℕ) → bytes_high_first (k + 9) n ≡ bytes_high_first k (n / 2 ^ 72) ++ bytes_high_first 9 n
+two_pieces zero n = refl
+two_pieces (suc k) n =
+    let more : suc k + 9 ≡ suc (k + 9) = omega arith in
+    ap (λ m. bytes_high_first m n) more
+    ∙ ap (λ b. b ∷ bytes_high_first (k + 9) n) (byte_above k n)
+    ∙ ap (λ bs. byte_at k (n / 2 ^ 72) ∷ bs) (two_pieces k n)
+
+-- the lowest bytes rest on the lowest digits
+low_bytes : (n m : ℕ) → n % 2 ^ 72 ≡ m % 2 ^ 72 → bytes_high_first 9 n ≡ bytes_high_first 9 m
+low_bytes n m same =
+    same_from_number (bytes_high_first 9 n) (bytes_high_first 9 m) 9 (bytes_of-length 9 n) (bytes_of-length 9 m) (bytes_of-lt 9 n) (bytes_of-lt 9 m)
+    (number_at-bytes_of 9 n ∙ same ∙ sym (number_at-bytes_of 9 m))
 
 -- the bytes of which the code takes the CRC are those of the 196 bits
-pub crc_of_pieces : (bytes : List ℕ) (even odd e o : ℕ) → length bytes ≡ 25 → ((i : ℕ) → slice_index bytes i < 256)
-    → e ≡ even / 2 ^ 6 % 2 ^ 114 → o ≡ odd / 2 ^ 38 % 2 ^ 82
-    → Stand bytes 0 0 ((4, 0) ∷ (50, e / 2 ^ 64) ∷ (64, e % 2 ^ 64) ∷ (18, o / 2 ^ 64) ∷ (64, o % 2 ^ 64) ∷ [])
+pub crc_of_pieces : (bytes : List ℕ) (even odd e o : ℕ) → e ≡ even / 2 ^ 6 % 2 ^ 114 → o ≡ odd / 2 ^ 38 % 2 ^ 82
+    → bytes ≡ bytes_high_first 16 (e * 2 ^ 10 + o / 2 ^ 72) ++ bytes_high_first 9 o
     → crc_from 0 bytes ≡ page_crc even odd
 unfolding page_crc
-crc_of_pieces bytes even odd e o long each e_is o_is stand =
+crc_of_pieces bytes even odd e o e_is o_is bytes_are =
     let p = protected_of even odd in
-    let number : number_at bytes 0 200 ≡ p =
-    pieces bytes (e / 2 ^ 64) (e % 2 ^ 64) (o / 2 ^ 64) (o % 2 ^ 64) stand ∙ omega (arith, e_is, o_is) in
-    ap (crc_from 0) (same_from_number bytes (bytes_high_first 25 p) 25 long (bytes_of-length 25 p) each (bytes_of-lt 25 p)
-    (number ∙ sym (number_of_25 p (protected-lt even odd))))
+    let high : e * 2 ^ 10 + o / 2 ^ 72 ≡ p / 2 ^ 72 = omega (arith, e_is, o_is) in
+    let low : o % 2 ^ 72 ≡ p % 2 ^ 72 = omega (arith, e_is, o_is) in
+    ap (crc_from 0)
+    (bytes_are
+    ∙ ap (λ n. bytes_high_first 16 n ++ bytes_high_first 9 o) high
+    ∙ ap (λ bs. bytes_high_first 16 (p / 2 ^ 72) ++ bs) (low_bytes o p low)
+    ∙ sym (two_pieces 16 p))
 
 -- ---- the word
 

@@ -1,5 +1,5 @@
 -- The partners of a half among the keys, and the words that it makes with them.
-use Rattle.std.proofs.Common.{◌≡◌, ℕ, zero, suc, ◌+◌, ◌-◌, ◌*◌, ◌/◌, ◌%◌, ◌<◌, ◌≤◌, ◌^◌, List, [], ◌∷◌, ◌++◌, Bool, true, false, length, map, None, Some, inl, inr, refl, sym, ap, subst, ◌∙◌, ⊎_elim, arith}
+use Rattle.std.proofs.Common.{◌≡◌, ℕ, zero, suc, ◌+◌, ◌-◌, ◌*◌, ◌/◌, ◌%◌, ◌<◌, ◌≤◌, ◌^◌, ◌⊎◌, List, [], ◌∷◌, ◌++◌, Bool, true, false, length, map, None, Some, inl, inr, refl, sym, ap, subst, ◌∙◌, ⊎_elim, arith}
 use Rattle.std.proofs.lemmas.Bool.{cases_Bool, cond-false, cond_both}
 use Rattle.std.proofs.lemmas.List.{map-append, length-map}
 use Rattle.std.proofs.lemmas.List.Kept.{IsStrictlySortedBy-filter}
@@ -18,7 +18,7 @@ use Rattle.inav_page.specs.declared.signal.Signal.TheVariants.{E1b, E5b}
 use Rattle.inav_page.specs.Pages.{kind_of}
 use Rattle.inav_page.specs.Heard.{StampedHalf, MakeWord, ArePartners, AreWordsWith, IsAbove, IsAscending, word_by, word_with}
 use Rattle.inav_page.specs.Keeping.{stamped}
-use Rattle.inav_page.specs.Mirrors.{signal_number, signal_of, place_of, slot_of, half_of, remainder_by, remainder_of, key_cmp, first_partner, end_of_partners, keys_in_slot, words_by, words_in_slot, IsKey, AreKeys, HasPartnerStamp}
+use Rattle.inav_page.specs.Mirrors.{signal_number, signal_of, place_of, slot_of, half_of, remainder_by, remainder_of, key_cmp, first_partner, end_of_partners, keys_in_slot, words_by, words_in_slot, IsKey, AreKeys, AreUpToOrAt, HasPartnerStamp}
 use Rattle.inav_page.proofs.Surface.{not_both}
 use Rattle.inav_page.proofs.PageNumbers.{right_to, right_from}
 use Rattle.inav_page.proofs.Remainders.{is_right_by, same_remainder, right_by_remainder, remainder-lt}
@@ -79,27 +79,27 @@ same_key a b first second e =
 -- ---- partners, one by one
 
 -- what makes a key the partner of a half of that kind at a stamp
-pub is_partner : (stamp number : ℕ) (signal : Signal) (half other : ℕ) (kind : HalfKind) (key : ℕ × ℕ) → kind_of half ≡ kind → number < 64
-    → HasPartnerStamp kind stamp (Some other) → key.0 / 2 ^ 24 ≡ place_of other number signal → kind_of key.1 ≡ other_kind kind → is_right_by kind half key.1 ≡ true
+pub is_partner : (stamp greatest number : ℕ) (signal : Signal) (half other : ℕ) (kind : HalfKind) (key : ℕ × ℕ) → kind_of half ≡ kind → number < 64
+    → HasPartnerStamp kind stamp greatest (Some other) → key.0 / 2 ^ 24 ≡ place_of other number signal → kind_of key.1 ≡ other_kind kind → is_right_by kind half key.1 ≡ true
     → ArePartners (stamped stamp (record { system = Gal; number = number }) signal half) (half_of key)
-is_partner stamp number signal half other Even key kind_is fits has at its right =
+is_partner stamp greatest number signal half other Even key kind_is fits has at its right =
     let taken = stamped stamp (record { system = Gal; number = number }) signal half in
     let P : StampedHalf → Type 0 = ArePartners taken in
     subst P (sym (half_of_place other number signal key fits at))
     (inl (record { is_even = kind_is; is_odd = its; stamp = has.1; sat = refl; signal = refl; crc = right_to half key.1 right }))
-is_partner stamp number signal half other Odd key kind_is fits has at its right =
+is_partner stamp greatest number signal half other Odd key kind_is fits has at its right =
     let taken = stamped stamp (record { system = Gal; number = number }) signal half in
     let P : StampedHalf → Type 0 = ArePartners taken in
-    let low : 1 ≤ stamp = has.0 in
+    let low : 1 ≤ stamp = has.0.0 in
     let is : other ≡ stamp - 1 = has.1 in
     subst P (sym (half_of_place other number signal key fits at))
     (inr (record { is_even = its; is_odd = kind_is; stamp = omega (arith, low, is); sat = refl; signal = refl; crc = right_to key.1 half right }))
 
 -- the place of a partner
-pub partner_place : (stamp number : ℕ) (signal : Signal) (half other : ℕ) (kind : HalfKind) (key : ℕ × ℕ) → kind_of half ≡ kind
-    → HasPartnerStamp kind stamp (Some other) → ArePartners (stamped stamp (record { system = Gal; number = number }) signal half) (half_of key)
+pub partner_place : (stamp greatest number : ℕ) (signal : Signal) (half other : ℕ) (kind : HalfKind) (key : ℕ × ℕ) → kind_of half ≡ kind
+    → HasPartnerStamp kind stamp greatest (Some other) → ArePartners (stamped stamp (record { system = Gal; number = number }) signal half) (half_of key)
     → (key.0 / 2 ^ 24 ≡ place_of other number signal) × (kind_of key.1 ≡ other_kind kind) × (is_right_by kind half key.1 ≡ true)
-partner_place stamp number signal half other Even key kind_is has partners =
+partner_place stamp greatest number signal half other Even key kind_is has partners =
     let taken = stamped stamp (record { system = Gal; number = number }) signal half in
     ⊎_elim
     (λ (make : MakeWord taken (half_of key)).
@@ -112,7 +112,7 @@ partner_place stamp number signal half other Even key kind_is has partners =
     ))
     (λ (make : MakeWord (half_of key) taken). absurd (not_both (kind_of half) kind_is make.is_odd))
     partners
-partner_place stamp number signal half other Odd key kind_is has partners =
+partner_place stamp greatest number signal half other Odd key kind_is has partners =
     let taken = stamped stamp (record { system = Gal; number = number }) signal half in
     let is : other ≡ stamp - 1 = has.1 in
     ⊎_elim
@@ -128,20 +128,31 @@ partner_place stamp number signal half other Odd key kind_is has partners =
     ))
     partners
 
--- a half whose partners would be past the last second, or before the first, has none
-pub no_partner : (stamp number : ℕ) (signal : Signal) (half : ℕ) (kind : HalfKind) (key : ℕ × ℕ) → kind_of half ≡ kind
-    → HasPartnerStamp kind stamp None → key.0 < 2 ^ 63 → ArePartners (stamped stamp (record { system = Gal; number = number }) signal half) (half_of key) → ⊥
-no_partner stamp number signal half Even key kind_is none fits partners =
+-- a half whose partners would be above the greatest stamp, or before the first second, has none
+pub no_partner : (stamp greatest number : ℕ) (signal : Signal) (half : ℕ) (kind : HalfKind) (key : ℕ × ℕ) → kind_of half ≡ kind
+    → HasPartnerStamp kind stamp greatest None → (((half_of key).stamp ≤ greatest) ⊎ ((half_of key).stamp ≡ stamp))
+    → ArePartners (stamped stamp (record { system = Gal; number = number }) signal half) (half_of key) → ⊥
+no_partner stamp greatest number signal half Even key kind_is none early partners =
     let taken = stamped stamp (record { system = Gal; number = number }) signal half in
     ⊎_elim
-    (λ (make : MakeWord taken (half_of key)). let is : key.0 / 2 ^ 24 / 128 ≡ stamp + 1 = make.stamp in none (omega (arith, is, fits)))
+    (λ (make : MakeWord taken (half_of key)).
+    let is : key.0 / 2 ^ 24 / 128 ≡ stamp + 1 = make.stamp in
+    ⊎_elim
+    (λ (low : key.0 / 2 ^ 24 / 128 ≤ greatest). none (omega (arith, is, low)))
+    (λ (own : key.0 / 2 ^ 24 / 128 ≡ stamp). absurd (omega (arith, is, own)))
+    early)
     (λ (make : MakeWord (half_of key) taken). not_both (kind_of half) kind_is make.is_odd)
     partners
-no_partner stamp number signal half Odd key kind_is none fits partners =
+no_partner stamp greatest number signal half Odd key kind_is none early partners =
     let taken = stamped stamp (record { system = Gal; number = number }) signal half in
     ⊎_elim
     (λ (make : MakeWord taken (half_of key)). not_both (kind_of half) make.is_even kind_is)
-    (λ (make : MakeWord (half_of key) taken). let is : stamp ≡ key.0 / 2 ^ 24 / 128 + 1 = make.stamp in none (omega (arith, is)))
+    (λ (make : MakeWord (half_of key) taken).
+    let is : stamp ≡ key.0 / 2 ^ 24 / 128 + 1 = make.stamp in
+    ⊎_elim
+    (λ (low : key.0 / 2 ^ 24 / 128 ≤ greatest). none (omega (arith, is), omega (arith, is, low)))
+    (λ (own : key.0 / 2 ^ 24 / 128 ≡ stamp). absurd (omega (arith, is, own)))
+    early)
     partners
 
 -- ---- all partners
@@ -194,11 +205,11 @@ remainder_of_kind : (key : ℕ × ℕ) (kind : HalfKind) → IsKey key → kind_
 remainder_of_kind key kind is own = is.remainder ∙ ap (λ k. remainder_by k key.1) own
 
 -- the words in the slot of the partners are those of the half with its partners
-pub words_of_partners : (keys : List (ℕ × ℕ)) (stamp number : ℕ) (signal : Signal) (half other slot : ℕ) → AreKeys keys
-    → IsStrictlySortedBy key_cmp keys → number < 64 → HasPartnerStamp (kind_of half) stamp (Some other)
+pub words_of_partners : (keys : List (ℕ × ℕ)) (stamp greatest number : ℕ) (signal : Signal) (half other slot : ℕ) → AreKeys keys
+    → IsStrictlySortedBy key_cmp keys → number < 64 → HasPartnerStamp (kind_of half) stamp greatest (Some other)
     → slot ≡ slot_of (place_of other number signal) (remainder_of half)
     → AreWordsWith (Contains (map half_of keys)) (stamped stamp (record { system = Gal; number = number }) signal half) (words_in_slot keys slot half)
-words_of_partners keys stamp number signal half other slot are sorted fits has slot_is =
+words_of_partners keys stamp greatest number signal half other slot are sorted fits has slot_is =
     let kind = kind_of half in
     let place = place_of other number signal in
     let taken = stamped stamp (record { system = Gal; number = number }) signal half in
@@ -210,10 +221,10 @@ words_of_partners keys stamp number signal half other slot are sorted fits has s
     let own = remainder_of_kind key (other_kind kind) (are key (contains_from_In keys key is.0)) is.2 in
     let here : key.0 / 2 ^ 24 ≡ place = ap (λ n. n / 2 ^ 24) is.1 ∙ parts.0 in
     let same : remainder_by kind half ≡ remainder_by (other_kind kind) key.1 = sym parts.1 ∙ sym (ap (λ n. n % 2 ^ 24) is.1) ∙ own in
-    (is.0, is_partner stamp number signal half other kind key refl fits has here is.2 (right_by_remainder kind half key.1 same)) in
+    (is.0, is_partner stamp greatest number signal half other kind key refl fits has here is.2 (right_by_remainder kind half key.1 same)) in
     let stands : (key : ℕ × ℕ) → In keys key → ArePartners taken (half_of key) → In found key =
     λ key there partners.
-    let is = partner_place stamp number signal half other kind key refl has partners in
+    let is = partner_place stamp greatest number signal half other kind key refl has partners in
     let own = remainder_of_kind key (other_kind kind) (are key (contains_from_In keys key there)) is.1 in
     let same : remainder_by kind half ≡ remainder_by (other_kind kind) key.1 = same_remainder kind half key.1 is.2 in
     let rest : key.0 % 2 ^ 24 ≡ slot % 2 ^ 24 = own ∙ sym same ∙ sym parts.1 in
@@ -236,9 +247,10 @@ words_of_partners keys stamp number signal half other slot are sorted fits has s
       words_are = sym (map-map (word_with taken) half_of found);
     }
 
-pub no_words : (keys : List (ℕ × ℕ)) (stamp number : ℕ) (signal : Signal) (half : ℕ) → AreKeys keys → HasPartnerStamp (kind_of half) stamp None
+pub no_words : (keys : List (ℕ × ℕ)) (stamp greatest number : ℕ) (signal : Signal) (half : ℕ) → AreUpToOrAt greatest stamp keys
+    → HasPartnerStamp (kind_of half) stamp greatest None
     → AreWordsWith (Contains (map half_of keys)) (stamped stamp (record { system = Gal; number = number }) signal half) []
-no_words keys stamp number signal half are none =
+no_words keys stamp greatest number signal half early none =
     let taken = stamped stamp (record { system = Gal; number = number }) signal half in
     record {
       partners = [];
@@ -246,8 +258,8 @@ no_words keys stamp number signal half are none =
         λ h. absurd (In-from_contains [] one h),
         λ h. let key = map_in half_of keys one (In-from_contains (map half_of keys) one h.0) in
             let P : StampedHalf → Type 0 = ArePartners taken in
-            let fits = (are key.0 (contains_from_In keys key.0 key.1)).fits in
-            absurd (no_partner stamp number signal half (kind_of half) key.0 refl none fits (subst P (sym key.2) h.1)),
+            let at = early key.0 (contains_from_In keys key.0 key.1) in
+            absurd (no_partner stamp greatest number signal half (kind_of half) key.0 refl none at (subst P (sym key.2) h.1)),
       );
       ascending = tt;
       words_are = refl;

@@ -1,5 +1,5 @@
 -- What taking a half leaves kept, from keys to the halves that contracts see.
-use Rattle.std.proofs.Common.{◌≡◌, ℕ, ◌+◌, ◌-◌, ◌*◌, ◌/◌, ◌<◌, ◌≤◌, ◌^◌, List, Bool, true, false, if◌then◌else◌, ◌⊎◌, ◌↔◌, map, inl, inr, refl, sym, ap, subst, ◌∙◌, ⊎_elim, arith}
+use Rattle.std.proofs.Common.{◌≡◌, ℕ, ◌+◌, ◌-◌, ◌*◌, ◌/◌, ◌<◌, ◌≤◌, ◌^◌, max, List, Bool, true, false, if◌then◌else◌, ◌⊎◌, ◌↔◌, map, inl, inr, refl, sym, ap, subst, ◌∙◌, ⊎_elim, arith}
 use Rattle.std.specs.Prelude.{Contains, Result, Ok, Err, IfOk, OnOk}
 use Rattle.nav_eph.specs.Satellite.{Satellite, IsSat}
 use Rattle.nav_eph.specs.declared.sat.System.{System}
@@ -8,7 +8,7 @@ use Rattle.inav_page.specs.declared.signal.Signal.{Signal}
 use Rattle.inav_page.specs.Pages.{kind_of}
 use Rattle.inav_page.specs.Heard.{StampedHalf, MakeWord, ArePartners, AreWordsWith}
 use Rattle.inav_page.specs.Keeping.{stamped, IsRecent}
-use Rattle.inav_page.specs.Mirrors.{half_of, place_of, IsKey, AreKeys, AreRecent}
+use Rattle.inav_page.specs.Mirrors.{half_of, place_of, IsKey, AreKeys, AreRecent, AreUpTo, AreUpToOrAt}
 use Rattle.inav_page.proofs.Surface.{not_both}
 use Rattle.inav_page.proofs.Membership.{contains_from_In, In-from_contains, in_map, map_in}
 use Rattle.inav_page.proofs.Partners.{same_key, half_of_place}
@@ -149,6 +149,29 @@ recent_inserted old inserted key taken window greatest is recent late puts q h =
     (λ (was : Contains old q). recent q was)
     (λ (same : key ≡ q). let at = ap (λ s. s.stamp) (sym is ∙ ap half_of same) in omega (arith, late, at))
     ((puts q).0 h)
+
+-- keys up to a stamp and one of another are up to the first or at the other
+pub early_inserted : (old inserted : List (ℕ × ℕ)) (key : ℕ × ℕ) (taken : StampedHalf) (greatest : ℕ) → half_of key ≡ taken
+    → AreUpTo greatest old → ((q : ℕ × ℕ) → Contains inserted q ↔ (Contains old q ⊎ (key ≡ q)))
+    → AreUpToOrAt greatest taken.stamp inserted
+early_inserted old inserted key taken greatest is early puts q h =
+    ⊎_elim
+    (λ (was : Contains old q). inl (early q was))
+    (λ (same : key ≡ q). inr (ap (λ s. s.stamp) (ap half_of (sym same) ∙ is)))
+    ((puts q).0 h)
+
+-- and up to the greater of the two
+pub early_after : (old inserted new : List (ℕ × ℕ)) (key : ℕ × ℕ) (taken : StampedHalf) (window greatest raised : ℕ) → half_of key ≡ taken
+    → AreUpTo greatest old → raised ≡ max greatest taken.stamp
+    → ((q : ℕ × ℕ) → Contains inserted q ↔ (Contains old q ⊎ (key ≡ q)))
+    → ((q : ℕ × ℕ) → Contains new q ↔ (Contains inserted q × IsRecent window raised (half_of q))) → AreUpTo raised new
+early_after old inserted new key taken window greatest raised is early raises puts forgets q h =
+    let more : greatest ≤ raised = omega (arith, raises) in
+    let own : taken.stamp ≤ raised = omega (arith, raises) in
+    ⊎_elim
+    (λ (low : (half_of q).stamp ≤ greatest). omega (arith, low, more))
+    (λ (at : (half_of q).stamp ≡ taken.stamp). omega (arith, at, own))
+    (early_inserted old inserted key taken greatest is early puts q ((forgets q).0 h).0)
 
 -- ---- the words of a half that is in already
 

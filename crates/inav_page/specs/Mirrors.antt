@@ -1,6 +1,6 @@
 -- How halves are kept in order, which private functions compute: a half by the number of its stamp, satellite
 -- and signal, the remainder that its partners have too, and its bits.
-use Rattle.std.specs.Prelude.{◌≡◌, ℕ, ◌+◌, ◌-◌, ◌*◌, ◌/◌, ◌%◌, ◌^◌, ◌<◌, ◌≤◌, List, Option, SomeIff, nat_eq, map, if◌then◌else◌, bit_xor, Contains}
+use Rattle.std.specs.Prelude.{◌≡◌, ℕ, ◌+◌, ◌-◌, ◌*◌, ◌/◌, ◌%◌, ◌^◌, ◌<◌, ◌≤◌, ◌⊎◌, List, Option, SomeIff, nat_eq, map, if◌then◌else◌, bit_xor, Contains}
 use Rattle.std.specs.Ordering.{nat_cmp, ordering_then}
 use Rattle.std.specs.List.{filter}
 use Rattle.std.specs.declared.cmp.Ordering.{Ordering}
@@ -65,10 +65,19 @@ AreKeys keys = (key : ℕ × ℕ) → Contains keys key → IsKey key
 abbrev pub AreRecent : ℕ → ℕ → List (ℕ × ℕ) → Type 0
 AreRecent window greatest keys = (key : ℕ × ℕ) → Contains keys key → IsRecent window greatest (half_of key)
 
--- the stamp of the partners of a half of that kind: none past the last second, and none before the first
-abbrev pub HasPartnerStamp : HalfKind → ℕ → Option ℕ → Type 0
-HasPartnerStamp Even stamp other = SomeIff other (stamp + 1 < 2 ^ 32) (stamp + 1)
-HasPartnerStamp Odd stamp other = SomeIff other (1 ≤ stamp) (stamp - 1)
+-- the stamps of the halves under the keys are at most the greatest that was taken
+abbrev pub AreUpTo : ℕ → List (ℕ × ℕ) → Type 0
+AreUpTo greatest keys = (key : ℕ × ℕ) → Contains keys key → (half_of key).stamp ≤ greatest
+
+-- or that of a half which was put in since
+abbrev pub AreUpToOrAt : ℕ → ℕ → List (ℕ × ℕ) → Type 0
+AreUpToOrAt greatest stamp keys =
+    (key : ℕ × ℕ) → Contains keys key → ((half_of key).stamp ≤ greatest) ⊎ ((half_of key).stamp ≡ stamp)
+
+-- the stamp of the partners of a half of that kind: none above the greatest that was taken, and none before the first second
+abbrev pub HasPartnerStamp : HalfKind → ℕ → ℕ → Option ℕ → Type 0
+HasPartnerStamp Even stamp greatest other = SomeIff other (stamp < greatest) (stamp + 1)
+HasPartnerStamp Odd stamp greatest other = SomeIff other ((1 ≤ stamp) × (stamp ≤ greatest + 1)) (stamp - 1)
 
 -- the first key of the other kind in a slot, and the one behind the last
 abbrev pub first_partner : ℕ → HalfKind → ℕ × ℕ

@@ -31,7 +31,7 @@ pub struct Halves {
 impl Model for Halves {
     ghost use Rattle.std.specs.Prelude.{◌≡◌, ℕ, ◌≤◌, map};
     ghost use Rattle.inav_page.specs.Keeping.{Keeping};
-    ghost use Rattle.inav_page.specs.Mirrors.{half_of, AreKeys, AreRecent};
+    ghost use Rattle.inav_page.specs.Mirrors.{half_of, AreKeys, AreRecent, AreUpTo};
 
     ghost Value = { Keeping };
 
@@ -42,7 +42,7 @@ impl Model for Halves {
     } };
 
     ghost invariant = { λ h. (h.window ≤ 14400) × AreKeys h.kept.keys
-        × AreRecent h.window h.greatest h.kept.keys };
+        × AreRecent h.window h.greatest h.kept.keys × AreUpTo h.greatest h.kept.keys };
 }
 
 impl Halves {
@@ -68,8 +68,10 @@ impl Halves {
     /// is kept already. Then it is kept as well, and what is older than the greatest stamp by more
     /// than the window and a second is forgotten; a half that is itself too old is not kept.
     ///
-    /// The cost is that of a CRC, of two searches among the halves that are kept, of the words, and,
-    /// where the greatest stamp rises, of what is forgotten: each half is forgotten once. On an
+    /// The cost is that of a CRC, of its insertion among the halves that are kept, of a search there
+    /// for its partners, of the words, and, where the greatest stamp rises, of what is forgotten:
+    /// each half is forgotten once. The search is left out where the partners' stamp is above the
+    /// greatest, as that of an even half is where halves come in the order of their stamps. On an
     /// error nothing has changed.
     pub fn take(
         &mut self,
@@ -95,12 +97,13 @@ impl Halves {
         ensures window { self.new.window ≡ self.old.window }
         ensures err { OnErr result (self.new ≡ self.old) }
     {
+        let (alloc, greatest) = (self.alloc, self.greatest);
         let number = sat.number();
-        if stamp < self.greatest.saturating_sub(self.window + 1) {
-            return join_with_kept(self.alloc, &self.kept, stamp, number, signal, half);
+        if stamp < greatest.saturating_sub(self.window + 1) {
+            return join_with_kept(alloc, &self.kept, greatest, stamp, number, signal, half);
         }
-        let joined = keep(self.alloc, &mut self.kept, stamp, number, signal, half)?;
-        self.greatest = raise(&mut self.kept, self.window, self.greatest, stamp);
+        let joined = keep(alloc, &mut self.kept, greatest, stamp, number, signal, half)?;
+        self.greatest = raise(&mut self.kept, self.window, greatest, stamp);
         Ok(joined)
     }
 }

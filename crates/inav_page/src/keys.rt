@@ -9,9 +9,9 @@ ghost use Rattle.inav_page.specs.Pages.{kind_of};
 ghost use Rattle.inav_page.specs.Heard.{AreWordsWith, stamp_by, word_by};
 ghost use Rattle.inav_page.specs.Keeping.{stamped, IsRecent};
 ghost use Rattle.inav_page.specs.Mirrors.{end_of_partners, first_partner, half_of, key_cmp};
-ghost use Rattle.inav_page.specs.Mirrors.{place_of};
-ghost use Rattle.inav_page.specs.Mirrors.{remainder_of, slot_of, words_in_slot};
-ghost use Rattle.inav_page.specs.Mirrors.{AreKeys, AreRecent, HasPartnerStamp, IsKey};
+ghost use Rattle.inav_page.specs.Mirrors.{place_of, remainder_of, slot_of, words_in_slot};
+ghost use Rattle.inav_page.specs.Mirrors.{AreKeys, AreRecent, AreUpTo, AreUpToOrAt};
+ghost use Rattle.inav_page.specs.Mirrors.{HasPartnerStamp, IsKey};
 
 use crate::half::{Half, HalfKind, ODD};
 use crate::joined::Joined;
@@ -44,13 +44,25 @@ pub(crate) fn first_slot(stamp: u32) -> u64
     u64::from(stamp) * 128 * 0x100_0000
 }
 
-// The stamp of the partners of a half, where it is one.
-pub(crate) fn partner_stamp(kind: HalfKind, stamp: u32) -> Option<u32>
-    ensures { HasPartnerStamp kind stamp result }
+// The stamp of the partners of a half, where any can be kept: it is not above the greatest stamp.
+fn partner_stamp(kind: HalfKind, stamp: u32, greatest: u32) -> Option<u32>
+    ensures { HasPartnerStamp kind stamp greatest result }
 {
     match kind {
-        HalfKind::Even => stamp.checked_add(1),
-        HalfKind::Odd => stamp.checked_sub(1),
+        HalfKind::Even => {
+            if stamp < greatest {
+                Some(stamp + 1)
+            } else {
+                None
+            }
+        }
+        HalfKind::Odd => {
+            if 0 < stamp && stamp - 1 <= greatest {
+                Some(stamp - 1)
+            } else {
+                None
+            }
+        }
     }
 }
 
@@ -97,10 +109,12 @@ fn words_with(
     Ok(words)
 }
 
-// The words that a half with this remainder makes with those that are kept, and their stamp.
+// The words that a half with this remainder makes with those that are kept, and their stamp. Where
+// its partners' stamp is above the greatest, none of them is kept, and nothing is sought.
 fn joined_with(
     alloc: Global,
     kept: &BTreeSet<Key>,
+    greatest: u32,
     stamp: u32,
     number: u8,
     signal: Signal,
@@ -109,6 +123,7 @@ fn joined_with(
 ) -> Result<Joined, AllocError>
     requires number { number < 64 }
     requires keys { AreKeys kept.now.keys }
+    requires early { AreUpToOrAt greatest stamp kept.now.keys }
     requires remainder { remainder ≡ remainder_of half.now }
     requires fits { remainder < 2 ^ 24 }
     ensures words { IfOk result (λ joined. AreWordsWith (Contains (map half_of kept.now.keys))
@@ -120,7 +135,7 @@ fn joined_with(
         key.1 ≡ half.now → length joined.words < length kept.now.keys) }
 {
     let kind = half.kind();
-    let Some(other) = partner_stamp(kind, stamp) else {
+    let Some(other) = partner_stamp(kind, stamp, greatest) else {
         return Ok(Joined::none(alloc));
     };
     let words = words_with(alloc, kept, slot(other, number, signal, remainder), half)?;
@@ -151,6 +166,7 @@ fn key_of(stamp: u32, number: u8, signal: Signal, half: &Half) -> (Key, u64)
 pub(crate) fn join_with_kept(
     alloc: Global,
     kept: &BTreeSet<Key>,
+    greatest: u32,
     stamp: u32,
     number: u8,
     signal: Signal,
@@ -158,13 +174,23 @@ pub(crate) fn join_with_kept(
 ) -> Result<Joined, AllocError>
     requires number { number < 64 }
     requires keys { AreKeys kept.now.keys }
+    requires early { AreUpTo greatest kept.now.keys }
     ensures words { IfOk result (λ joined. AreWordsWith (Contains (map half_of kept.now.keys))
         (stamped stamp (record { system = Gal; number = number }) signal half.now) joined.words) }
     ensures stamp { IfOk result (λ joined. (joined.words ≡ [] → ⊥) →
         joined.stamp ≡ stamp_by (kind_of half.now) stamp) }
     ensures count { IfOk result (λ joined. length joined.words ≤ length kept.now.keys) }
 {
-    joined_with(alloc, kept, stamp, number, signal, remainder(half), half)
+    joined_with(
+        alloc,
+        kept,
+        greatest,
+        stamp,
+        number,
+        signal,
+        remainder(half),
+        half,
+    )
 }
 
 // Keeps a half, and gives the words that it makes with those that were kept; none where it was kept
@@ -173,6 +199,7 @@ pub(crate) fn join_with_kept(
 pub(crate) fn keep(
     alloc: Global,
     kept: &mut BTreeSet<Key>,
+    greatest: u32,
     stamp: u32,
     number: u8,
     signal: Signal,
@@ -180,6 +207,7 @@ pub(crate) fn keep(
 ) -> Result<Joined, AllocError>
     requires number { number < 64 }
     requires keys { AreKeys kept.old.keys }
+    requires early { AreUpTo greatest kept.old.keys }
     ensures words { IfOk result (λ joined. (Contains (map half_of kept.old.keys)
         (stamped stamp (record { system = Gal; number = number }) signal half.now) → ⊥) →
         AreWordsWith (Contains (map half_of kept.old.keys))
@@ -201,7 +229,9 @@ pub(crate) fn keep(
     if !kept.insert(key)? {
         return Ok(Joined::none(alloc));
     }
-    match joined_with(alloc, kept, stamp, number, signal, remainder, half) {
+    match joined_with(
+        alloc, kept, greatest, stamp, number, signal, remainder, half,
+    ) {
         Ok(joined) => Ok(joined),
         Err(error) => {
             kept.remove(&key);

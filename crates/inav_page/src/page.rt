@@ -9,10 +9,7 @@ ghost use Rattle.inav_page.specs.Mirrors.{remainder_of};
 
 use crate::half::{Half, HalfKind, ODD};
 use crc24q::crc_bytes;
-use nav_bits::{Bits, put_numbers};
-
-// The low 64 bits of a number.
-const LOW: u128 = 1 << 64;
+use nav_bits::Bits;
 
 // Contracts see bytes as numbers: each is below 256.
 fn are_bytes(bytes: &[u8])
@@ -29,17 +26,8 @@ fn crc_of(even: u128, odd: u128) -> u64
     let even = (even >> 6) % (1 << 114);
     let odd = (odd >> 38) % (1 << 82);
     let mut bytes = [0u8; 25];
-    put_numbers(
-        &mut bytes,
-        0,
-        &[
-            (4, 0),
-            (50, (even / LOW) as u64),
-            (64, (even % LOW) as u64),
-            (18, (odd / LOW) as u64),
-            (64, (odd % LOW) as u64),
-        ],
-    );
+    bytes[..16].copy_from_slice(&((even << 10) + (odd >> 72)).to_be_bytes());
+    bytes[16..].copy_from_slice(&odd.to_be_bytes()[7..]);
     are_bytes(&bytes);
     crc_bytes(&bytes).value()
 }

@@ -9,7 +9,7 @@ use Rattle.inav_page.specs.Keeping.{stamped}
 use Rattle.inav_page.specs.Mirrors.{half_of, key_cmp}
 use Rattle.inav_page.proofs.Inserting.{in_inserted, taken_out, was_in, was_not_in}
 use Rattle.inav_page.proofs.Partners.{half_of_place}
-use Rattle.inav_page.proofs.Taking.{halves_inserted, in_key, key_in, keys_inserted, words_of_others}
+use Rattle.inav_page.proofs.Taking.{early_inserted, halves_inserted, in_key, key_in, keys_inserted, words_of_others}
 use Rattle.inav_page.proofs.keys.keep.Goals as goal
 
 pub returns-then-not-branch-clause-words : goal.returns-then-not-branch-clause-words
@@ -36,6 +36,17 @@ pub joined_with-requires-clause-keys : goal.joined_with-requires-clause-keys
 joined_with-requires-clause-keys c =
     let key = c.key_of-remainder.result.0 in
     keys_inserted c.args.kept.now.keys c.insert.new.self.keys key c.requires.keys c.key_of-remainder.ensures.key
+    (in_inserted c.args.kept.now c.insert.new.self key c.in_ok-insert.ensures.updates)
+
+pub joined_with-requires-clause-early : goal.joined_with-requires-clause-early
+joined_with-requires-clause-early c =
+    let sat : Satellite = record { system = Gal; number = c.args.number } in
+    let key = c.key_of-remainder.result.0 in
+    let taken = stamped c.args.stamp sat c.args.signal c.args.half.now in
+    let is : half_of key ≡ taken =
+    half_of_place c.args.stamp c.args.number c.args.signal key c.requires.number c.key_of-remainder.ensures.place
+    ∙ ap (stamped c.args.stamp sat c.args.signal) c.key_of-remainder.ensures.bits in
+    early_inserted c.args.kept.now.keys c.insert.new.self.keys key taken c.args.greatest is c.requires.early
     (in_inserted c.args.kept.now c.insert.new.self key c.in_ok-insert.ensures.updates)
 
 pub returns-in-Ok-clause-words : goal.returns-in-Ok-clause-words

@@ -5,7 +5,7 @@ use Rattle.nav_eph.specs.declared.sat.System.TheVariants.{Gal}
 use Rattle.inav_page.specs.Heard.{StampedHalf}
 use Rattle.inav_page.specs.Keeping.{Keeping, stamped, IsKeptWith}
 use Rattle.inav_page.specs.Mirrors.{half_of}
-use Rattle.inav_page.proofs.Taking.{if_ok, kept_after, kept_without, keys_after, not_among, on_ok, recent_inserted, satellite_is}
+use Rattle.inav_page.proofs.Taking.{early_after, if_ok, kept_after, kept_without, keys_after, not_among, on_ok, recent_inserted, satellite_is}
 use Rattle.inav_page.proofs.halves.Halves.take.Goals as goal
 
 pub returns-then-stamp-saturating_sub-clause-again : goal.returns-then-stamp-saturating_sub-clause-again
@@ -35,11 +35,15 @@ raise-self-inside-requires-clause-recent c =
 
 pub invariant_of-self-2 : goal.invariant_of-self-2
 invariant_of-self-2 c =
-    let got = c.in_ok-joined.ensures.kept in (
+    let got = c.in_ok-joined.ensures.kept in
+    let taken = stamped c.args.stamp (record { system = Gal; number = c.number-number.result }) c.args.signal c.args.half.now in (
       c.self.invariant.0,
       keys_after c.self.inside.kept.keys c.keep.new.kept.keys c.raise-self-inside.new.kept.keys got.0 c.self.inside.window
           c.raise-self-inside.result c.self.invariant.1 got.1 got.3 c.raise-self-inside.ensures.kept,
       λ key h. ((c.raise-self-inside.ensures.kept key).0 h).1,
+      early_after c.self.inside.kept.keys c.keep.new.kept.keys c.raise-self-inside.new.kept.keys got.0 taken c.self.inside.window
+          c.self.inside.greatest c.raise-self-inside.result got.2 c.self.invariant.3 c.raise-self-inside.ensures.greatest got.3
+          c.raise-self-inside.ensures.kept,
     )
 
 pub returns-clause-again : goal.returns-clause-again
