@@ -59,13 +59,12 @@ impl PackedSlot {
     pub(crate) fn of(alloc: Global, slot: Slot) -> Result<PackedSlot, AllocError>
         ensures { IfOk result (λ packed. slot_of packed ≡ slot) }
     {
-        let digest = slot.digest;
-        match digest {
+        match &slot.digest {
             Digest::Ion(sending) => Ok(PackedSlot::Ionosphere(IonSlot {
                 key: slot.key,
                 start: slot.start,
                 end: slot.end,
-                sending,
+                sending: *sending,
             })),
             _ => Ok(PackedSlot::Ephemeris(Box::new(alloc, slot)?)),
         }

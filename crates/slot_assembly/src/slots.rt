@@ -214,10 +214,10 @@ impl OpenSlots {
         requires indexed { AreIndexed self.now.slots.entries self.now.ends.keys }
         ensures { IsFirstDue self.now.slots.entries window mark result }
     {
-        let (_, packed) = self.slots.first_key_value()?;
-        let slot = packed.slot();
-        if slot.end as u64 + (window as u64) < mark {
-            Some(slot)
+        let (at, packed) = self.slots.first_key_value()?;
+        let before = mark.saturating_sub(window as u64);
+        if at.end < before {
+            Some(packed.slot())
         } else {
             None
         }
