@@ -3,6 +3,7 @@ mod Changes
 mod SatOrder
 mod HealthChanges
 mod TakeLemmas
+mod EndLemmas
 mod JoinLemmas
 mod StepLemmas
 mod KeptLemmas

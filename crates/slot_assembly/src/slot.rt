@@ -1,8 +1,10 @@
 //! A slot: what is kept of an open period.
 
-ghost use Rattle.std.specs.Prelude.{◌≡◌, IfOk};
+ghost use Rattle.std.specs.Prelude.{◌≡◌, IfOk, Some};
 ghost use Rattle.period_items.specs.DigestsOf.{digest_join};
+ghost use Rattle.period_items.specs.declared.digest.Digest.TheVariants.{Ion};
 ghost use Rattle.slot_assembly.specs.Slots.{IsOne, slot_of, slot_with};
+ghost use Rattle.slot_assembly.specs.declared.slot.PackedSlot.TheVariants.{Ionosphere};
 
 use nav_bits::U;
 use nav_eph::{
@@ -54,18 +56,52 @@ const _: () = prove!(size_of::<PackedSlot>() <= 112);
 
 const _: () = prove!(size_of::<Slot>() <= 456);
 
+// The earlier of a sending and that of another slot of an ionosphere.
+fn earlier(sending: &Sending, other: &PackedSlot) -> Sending
+    ensures { Ion result ≡ digest_join (Ion sending.now) (slot_of other.now).digest }
+{
+    let one = Digest::Ion(*sending);
+    match one.join(other.digest()) {
+        Digest::Ion(first) => first,
+        Digest::Gps(_) => *sending,
+        Digest::Gal(_) => *sending,
+    }
+}
+
+impl Slot {
+    // Joins another slot of its key into it.
+    fn add(&mut self, other: &Slot)
+        ensures { self.new ≡ slot_with self.old (Some other.now) }
+    {
+        self.start = self.start.min(other.start);
+        self.end = self.end.max(other.end);
+        self.digest = self.digest.join(other.digest);
+    }
+}
+
+impl IonSlot {
+    // Joins another slot of its key into it.
+    fn add(&mut self, other: &PackedSlot)
+        ensures { slot_of (Ionosphere self.new) ≡ slot_with (slot_of (Ionosphere self.old))
+            (Some (slot_of other.now)) }
+    {
+        self.start = self.start.min(other.start());
+        self.end = self.end.max(other.end());
+        self.sending = earlier(&self.sending, other);
+    }
+}
+
 impl PackedSlot {
     // Packs a slot.
     pub(crate) fn of(alloc: Global, slot: Slot) -> Result<PackedSlot, AllocError>
         ensures { IfOk result (λ packed. slot_of packed ≡ slot) }
     {
-        let digest = slot.digest;
-        match digest {
+        match &slot.digest {
             Digest::Ion(sending) => Ok(PackedSlot::Ionosphere(IonSlot {
                 key: slot.key,
                 start: slot.start,
                 end: slot.end,
-                sending,
+                sending: *sending,
             })),
             _ => Ok(PackedSlot::Ephemeris(Box::new(alloc, slot)?)),
         }
@@ -85,6 +121,49 @@ impl PackedSlot {
             },
         }
     }
+
+    // The stamp of its first member.
+    pub(crate) fn start(&self) -> u32
+        ensures { result ≡ (slot_of self.now).start }
+    {
+        match self {
+            PackedSlot::Ephemeris(boxed) => boxed.start,
+            PackedSlot::Ionosphere(slot) => slot.start,
+        }
+    }
+
+    // The stamp of its last member.
+    pub(crate) fn end(&self) -> u32
+        ensures { result ≡ (slot_of self.now).end }
+    {
+        match self {
+            PackedSlot::Ephemeris(boxed) => boxed.end,
+            PackedSlot::Ionosphere(slot) => slot.end,
+        }
+    }
+
+    // What its members come to.
+    fn digest(&self) -> Digest
+        ensures { result ≡ (slot_of self.now).digest }
+    {
+        match self {
+            PackedSlot::Ephemeris(boxed) => boxed.digest,
+            PackedSlot::Ionosphere(slot) => Digest::Ion(slot.sending),
+        }
+    }
+
+    // Joins another slot of its key into it, where it stands.
+    pub(crate) fn add(&mut self, other: &PackedSlot)
+        ensures { slot_of self.new ≡ slot_with (slot_of self.old) (Some (slot_of other.now)) }
+    {
+        match self {
+            PackedSlot::Ephemeris(boxed) => match other {
+                PackedSlot::Ephemeris(more) => boxed.add(more),
+                PackedSlot::Ionosphere(_) => boxed.add(&other.slot()),
+            },
+            PackedSlot::Ionosphere(slot) => slot.add(other),
+        }
+    }
 }
 
 // The slot of one part; `None` for health, which has no key.
@@ -99,19 +178,4 @@ pub(crate) fn one_of(part: &Part) -> Option<Slot>
         end: part.stamp,
         digest,
     })
-}
-
-// A slot together with another one of its key, if there is one.
-pub(crate) fn joined(slot: Slot, other: &Option<Slot>) -> Slot
-    ensures { result ≡ slot_with slot other.now }
-{
-    match other {
-        None => slot,
-        Some(more) => Slot {
-            key: slot.key,
-            start: slot.start.min(more.start),
-            end: slot.end.max(more.end),
-            digest: slot.digest.join(more.digest),
-        },
-    }
 }

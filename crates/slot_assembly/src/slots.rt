@@ -3,13 +3,16 @@
 ghost use Rattle.std.specs.Prelude.{◌≡◌, ◌<◌, ◌≤◌, ℕ, Some};
 ghost use Rattle.std.specs.Prelude.{None, IfSome, IfNone, IsSome, OnOk, OnErr};
 ghost use Rattle.std.specs.BTreeMap.{btree_map_len};
+ghost use Rattle.slot_assembly.specs.Joins.{IsJoinedWithFirst, IsJoinedWithSecond};
+ghost use Rattle.slot_assembly.specs.Joins.{IsPutForEnds, IsWithoutEnd, packed_in};
+ghost use Rattle.slot_assembly.specs.Order.{by_end, rank_of};
 ghost use Rattle.slot_assembly.specs.Slots.{AreIndexed, AreSameSlots, HasEnd};
 ghost use Rattle.slot_assembly.specs.Slots.{IsChanged, IsFirstDue, IsFirstFrom};
-ghost use Rattle.slot_assembly.specs.Slots.{IsFirstTouched, IsReplaced, IsSecondTouched, IsTaken};
-ghost use Rattle.slot_assembly.specs.Slots.{IsWithout, at_of, kept_at};
+ghost use Rattle.slot_assembly.specs.Slots.{IsFirstTouched, IsTaken};
+ghost use Rattle.slot_assembly.specs.Slots.{at_of, kept_at, slot_of};
 
 use crate::order::{ByEnd, ByKey, Rank, rank_of_key};
-use crate::slot::{IonSlot, PackedSlot, Slot, joined};
+use crate::slot::{IonSlot, PackedSlot, Slot};
 use gnss_week::Second;
 use nav_bits::U;
 use nav_eph::{
@@ -70,18 +73,17 @@ fn next_end(ends: &BTreeSet<ByKey>, rank: Rank, from: u64) -> Option<u64>
 }
 
 // The slot that is kept at a place.
-fn slot_at(slots: &BTreeMap<ByEnd, PackedSlot>, at: ByEnd) -> Option<Slot>
-    ensures { result ≡ kept_at slots.now.entries at }
+fn slot_at(slots: &BTreeMap<ByEnd, PackedSlot>, at: ByEnd) -> Option<&PackedSlot>
+    ensures { packed_in result ≡ kept_at slots.now.entries at }
 {
-    let packed = slots.get(&at)?;
-    Some(packed.slot())
+    slots.get(&at)
 }
 
 impl OpenSlots {
     // The first slot of a key that ends from a stamp on.
-    fn first_from(&self, rank: Rank, from: u64) -> Option<Slot>
+    fn first_from(&self, rank: Rank, from: u64) -> Option<&PackedSlot>
         requires indexed { AreIndexed self.now.slots.entries self.now.ends.keys }
-        ensures { IsFirstFrom self.now.slots.entries rank from result }
+        ensures { IsFirstFrom self.now.slots.entries rank from (packed_in result) }
     {
         match next_end(&self.ends, rank, from) {
             None => None,
@@ -90,15 +92,15 @@ impl OpenSlots {
     }
 
     // The same, where it begins by a limit.
-    fn first_touched(&self, rank: Rank, from: u64, limit: u64) -> Option<Slot>
+    fn first_touched(&self, rank: Rank, from: u64, limit: u64) -> Option<&PackedSlot>
         requires indexed { AreIndexed self.now.slots.entries self.now.ends.keys }
-        ensures { IsFirstTouched self.now.slots.entries rank from limit result }
+        ensures { IsFirstTouched self.now.slots.entries rank from limit (packed_in result) }
     {
         match self.first_from(rank, from) {
             None => None,
-            Some(slot) => {
-                if slot.start as u64 <= limit {
-                    Some(slot)
+            Some(packed) => {
+                if packed.start() as u64 <= limit {
+                    Some(packed)
                 } else {
                     None
                 }
@@ -106,30 +108,51 @@ impl OpenSlots {
         }
     }
 
-    // The slot behind a first one, where it begins by a limit.
-    fn second_touched(&self, rank: Rank, first: &Option<Slot>, limit: u64) -> Option<Slot>
+    // Joins that one into a slot, and gives its end.
+    fn join_first(&self, rank: Rank, from: u64, limit: u64, packed: &mut PackedSlot) -> Option<u32>
         requires indexed { AreIndexed self.now.slots.entries self.now.ends.keys }
-        ensures { IsSecondTouched self.now.slots.entries rank limit first.now result }
+        ensures { IsJoinedWithFirst self.now.slots.entries rank from limit (slot_of packed.old)
+            (slot_of packed.new) result }
+    {
+        match self.first_touched(rank, from, limit) {
+            None => None,
+            Some(other) => {
+                packed.add(other);
+                Some(other.end())
+            }
+        }
+    }
+
+    // Joins the slot behind a first one, where it begins by a limit, and gives its end.
+    fn join_second(
+        &self,
+        rank: Rank,
+        first: Option<u32>,
+        limit: u64,
+        packed: &mut PackedSlot,
+    ) -> Option<u32>
+        requires indexed { AreIndexed self.now.slots.entries self.now.ends.keys }
+        ensures { IsJoinedWithSecond self.now.slots.entries rank limit first (slot_of packed.old)
+            (slot_of packed.new) result }
     {
         match first {
             None => None,
-            Some(slot) => self.first_touched(rank, slot.end as u64 + 1, limit),
+            Some(end) => self.join_first(rank, end as u64 + 1, limit, packed),
         }
     }
 
     // Puts a slot at its place.
-    fn put(&mut self, slot: Slot) -> Result<(), AllocError>
+    fn put(&mut self, rank: Rank, packed: PackedSlot) -> Result<(), AllocError>
         requires indexed { AreIndexed self.old.slots.entries self.old.ends.keys }
+        requires rank { rank ≡ rank_of (slot_of packed).key }
         ensures indexed { AreIndexed self.new.slots.entries self.new.ends.keys }
-        ensures ok { OnOk result (IsChanged self.old.slots.entries (at_of slot) (Some slot)
-            self.new.slots.entries) }
+        ensures ok { OnOk result (IsChanged self.old.slots.entries (at_of (slot_of packed))
+            (Some (slot_of packed)) self.new.slots.entries) }
         ensures err { OnErr result (AreSameSlots self.old.slots.entries self.new.slots.entries) }
     {
         let _inside: Option<Inside> = None;
-        let rank = rank_of_key(&slot.key);
-        let end = slot.end as u64;
+        let end = packed.end() as u64;
         let place = rank.with_end(end);
-        let packed = PackedSlot::of(self.alloc, slot)?;
         self.ends.insert(place)?;
         match self.slots.insert(rank.at_end(end), packed) {
             Ok(_) => Ok(()),
@@ -138,6 +161,20 @@ impl OpenSlots {
                 Err(none.into())
             }
         }
+    }
+
+    // Drops the slot of a key with an end.
+    fn drop_at(&mut self, rank: Rank, end: u64)
+        requires indexed { AreIndexed self.old.slots.entries self.old.ends.keys }
+        ensures indexed { AreIndexed self.new.slots.entries self.new.ends.keys }
+        ensures gone { IsChanged self.old.slots.entries (by_end rank end) None
+            self.new.slots.entries }
+        ensures fewer { IsSome (kept_at self.old.slots.entries (by_end rank end))
+            → btree_map_len self.new.slots < btree_map_len self.old.slots }
+    {
+        let _inside: Option<Inside> = None;
+        self.ends.remove(&rank.with_end(end));
+        self.slots.remove(&rank.at_end(end));
     }
 
     // Drops a slot.
@@ -149,46 +186,44 @@ impl OpenSlots {
         ensures fewer { IsSome (kept_at self.old.slots.entries (at_of slot.now))
             → btree_map_len self.new.slots < btree_map_len self.old.slots }
     {
-        let _inside: Option<Inside> = None;
-        let rank = rank_of_key(&slot.key);
-        let end = slot.end as u64;
-        self.ends.remove(&rank.with_end(end));
-        self.slots.remove(&rank.at_end(end));
+        self.drop_at(rank_of_key(&slot.key), slot.end as u64);
     }
 
-    // Drops a slot, if there is one and it ends elsewhere.
-    fn drop_other(&mut self, slot: &Option<Slot>, end: u32)
+    // Drops the slot of a key with an end, if there is one and it ends elsewhere.
+    fn drop_other(&mut self, rank: Rank, other: Option<u32>, end: u32)
         requires indexed { AreIndexed self.old.slots.entries self.old.ends.keys }
         ensures indexed { AreIndexed self.new.slots.entries self.new.ends.keys }
-        ensures gone { IsWithout self.old.slots.entries slot.now end self.new.slots.entries }
+        ensures gone { IsWithoutEnd self.old.slots.entries rank other end self.new.slots.entries }
     {
-        match slot {
+        match other {
             None => {}
-            Some(other) => {
-                if other.end != end {
-                    self.drop_slot(other);
+            Some(place) => {
+                if place != end {
+                    self.drop_at(rank, place as u64);
                 }
             }
         }
     }
 
-    // Puts a slot in the place of two others.
+    // Puts a slot in the place of those of its key with two ends.
     fn replace(
         &mut self,
-        slot: Slot,
-        first: &Option<Slot>,
-        second: &Option<Slot>,
+        rank: Rank,
+        packed: PackedSlot,
+        first: Option<u32>,
+        second: Option<u32>,
     ) -> Result<(), AllocError>
         requires indexed { AreIndexed self.old.slots.entries self.old.ends.keys }
+        requires rank { rank ≡ rank_of (slot_of packed).key }
         ensures indexed { AreIndexed self.new.slots.entries self.new.ends.keys }
-        ensures ok { OnOk result (IsReplaced self.old.slots.entries slot first.now second.now
-            self.new.slots.entries) }
+        ensures ok { OnOk result (IsPutForEnds self.old.slots.entries rank (slot_of packed) first
+            second self.new.slots.entries) }
         ensures err { OnErr result (AreSameSlots self.old.slots.entries self.new.slots.entries) }
     {
-        let end = slot.end;
-        self.put(slot)?;
-        self.drop_other(first, end);
-        self.drop_other(second, end);
+        let end = packed.end();
+        self.put(rank, packed)?;
+        self.drop_other(rank, first, end);
+        self.drop_other(rank, second, end);
         Ok(())
     }
 
@@ -203,10 +238,10 @@ impl OpenSlots {
         let rank = rank_of_key(&one.key);
         let from = one.end.saturating_sub(window) as u64;
         let limit = one.end as u64 + window as u64;
-        let first = self.first_touched(rank, from, limit);
-        let second = self.second_touched(rank, &first, limit);
-        self.replace(joined(joined(one, &first), &second), &first, &second)?;
-        Ok(())
+        let mut packed = PackedSlot::of(self.alloc, one)?;
+        let first = self.join_first(rank, from, limit, &mut packed);
+        let second = self.join_second(rank, first, limit, &mut packed);
+        self.replace(rank, packed, first, second)
     }
 
     // The first slot of all, where its end and the window after it are below the mark.
@@ -214,10 +249,10 @@ impl OpenSlots {
         requires indexed { AreIndexed self.now.slots.entries self.now.ends.keys }
         ensures { IsFirstDue self.now.slots.entries window mark result }
     {
-        let (_, packed) = self.slots.first_key_value()?;
-        let slot = packed.slot();
-        if slot.end as u64 + (window as u64) < mark {
-            Some(slot)
+        let (at, packed) = self.slots.first_key_value()?;
+        let before = mark.saturating_sub(window as u64);
+        if at.end < before {
+            Some(packed.slot())
         } else {
             None
         }
