@@ -152,11 +152,43 @@ fn quotient(over: u128, under: u128) -> u128
     over / under
 }
 
-/// The whole number nearest to a fraction, halves to even.
-pub(crate) fn nearest(over: u128, under: u128) -> u128
+// The whole number that a fraction is close above or below, nearly always: the quotient of the 64 bits
+// of each number at the front of the first one, or a little less.
+fn guess(over: u128, under: u128) -> u64
+    requires { 0 < under }
+    ensures { result * under ≤ over }
+{
+    let high = (over >> 64) as u64;
+    let drop = (64 - high.leading_zeros()) % 64;
+    let size = under >> drop;
+    if size >= 0xffff_ffff_ffff_ffff {
+        return 0;
+    }
+    let front = (over >> drop) % (1 << 64);
+    front as u64 / (size as u64 + 1)
+}
+
+// The whole number nearest to a fraction, by the whole number below or above it.
+fn nearest_by_division(over: u128, under: u128) -> u128
     requires { 0 < under }
     ensures { IsNearest (record { over = over; under = under }) result }
 {
     let whole = quotient(over, under);
     rounded(whole, over - whole * under, under)
+}
+
+/// The whole number nearest to a fraction, halves to even.
+pub(crate) fn nearest(over: u128, under: u128) -> u128
+    requires { 0 < under }
+    ensures { IsNearest (record { over = over; under = under }) result }
+{
+    if over < 1 << 127 {
+        let sum = over + under / 2;
+        let whole = u128::from(guess(sum, under));
+        let rest = sum - whole * under;
+        if 0 < rest && rest < under {
+            return whole;
+        }
+    }
+    nearest_by_division(over, under)
 }

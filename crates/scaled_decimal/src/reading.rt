@@ -48,6 +48,7 @@ fn doubled(number: u128, bits: u32) -> Option<u128>
     requires { bits ≤ 59 }
     ensures { SomeIff result (number * 2 ^ bits < 2 ^ 128) (number * 2 ^ bits) }
 {
+    let bits = bits % 64;
     if number > u128::MAX >> bits {
         return None;
     }
@@ -64,7 +65,7 @@ fn wide_product(digits: u128, up: u32, bits: u32) -> Option<u128>
 
 // The whole number nearest to digits x 10^up / 10^down divided by over / 2^bits; None only where it
 // is above 2^32.
-fn nearest_at(digits: u64, up: u32, down: u32, over: u128, bits: u32) -> Option<u128>
+fn nearest_by_any(digits: u64, up: u32, down: u32, over: u128, bits: u32) -> Option<u128>
     requires digits { digits < 10 ^ 18 }
     requires one { (up ≡ 0) ⊎ (down ≡ 0) }
     requires over { 0 < over }
@@ -80,6 +81,39 @@ fn nearest_at(digits: u64, up: u32, down: u32, over: u128, bits: u32) -> Option<
         (Some(wide), Some(size)) => Some(nearest(wide, size)),
         (None, _) => None,
         (_, None) => Some(0),
+    }
+}
+
+// The same for powers of ten at which each product with one has at most 128 bits.
+fn nearest_by_few(digits: u64, up: u32, down: u32, over: u128, bits: u32) -> Option<u128>
+    requires digits { digits < 10 ^ 18 }
+    requires up { up ≤ 19 }
+    requires down { down ≤ 11 }
+    requires one { (up ≡ 0) ⊎ (down ≡ 0) }
+    requires over { 0 < over }
+    requires most { 4294967296 * over ≤ 10 ^ 37 }
+    requires bits { bits ≤ 59 }
+    ensures { MatchOption result (8589934592 * (over * 10 ^ down) < digits * 10 ^ up * 2 ^ bits)
+        (λ n. IsNearest (record { over = digits * 10 ^ up * 2 ^ bits; under = over * 10 ^ down }) n) }
+{
+    let wide = doubled(u128::from(digits) * power_of_ten(up), bits)?;
+    Some(nearest(wide, over * power_of_ten(down)))
+}
+
+// The same for all powers of ten.
+fn nearest_at(digits: u64, up: u32, down: u32, over: u128, bits: u32) -> Option<u128>
+    requires digits { digits < 10 ^ 18 }
+    requires one { (up ≡ 0) ⊎ (down ≡ 0) }
+    requires over { 0 < over }
+    requires most { 4294967296 * over ≤ 10 ^ 37 }
+    requires bits { bits ≤ 59 }
+    ensures { MatchOption result (8589934592 * (over * 10 ^ down) < digits * 10 ^ up * 2 ^ bits)
+        (λ n. IsNearest (record { over = digits * 10 ^ up * 2 ^ bits; under = over * 10 ^ down }) n) }
+{
+    if up <= 19 && down <= 11 {
+        nearest_by_few(digits, up, down, over, bits)
+    } else {
+        nearest_by_any(digits, up, down, over, bits)
     }
 }
 
