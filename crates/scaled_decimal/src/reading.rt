@@ -8,7 +8,7 @@ ghost use Rattle.scaled_decimal.specs.Mirrors.{IsDecimalRead};
 ghost use Rattle.scaled_decimal.specs.NumberReading.{at_size, signed, seen, number, read_of};
 
 use crate::fractions::{nearest, ratio_of};
-use crate::grammar::{Decimal, decimal_of, trimmed};
+use crate::grammar::{Decimal, decimal_of, trimmed, usual};
 use crate::powers::power_of_ten;
 use crate::scales::Scale;
 use thiserror::Error;
@@ -182,6 +182,22 @@ fn within(nearest: i64, low: i64, high: i64) -> Result<i64, DecimalFault>
     Ok(nearest)
 }
 
+// The number of a value at a scale, within a range.
+fn within_range(decimal: &Decimal, scale: &Scale, low: i64, high: i64) -> Result<i64, DecimalFault>
+    requires decimal { IsDecimalRead decimal.now.digits decimal.now.exponent }
+    requires scale { AreWithin scale.now.factor scale.now.two scale.now.ten }
+    requires low { negsuc 4294967294 ≤ℤ low }
+    requires high { high ≤ℤ pos 4294967295 }
+    ensures { let value = at_size (size_of scale.now)
+        (record { digits = decimal.now.digits; exponent = decimal.now.exponent })
+        in result ≡ read_of low high (number (signed decimal.now.minus (nearest_to value))) }
+{
+    let Some(magnitude) = magnitude(decimal, scale) else {
+        return Err(DecimalFault::OutOfRange);
+    };
+    within(signed(decimal.minus, magnitude), low, high)
+}
+
 /// The number that a text says at a scale, within a range from `low` to `high`: the whole number
 /// nearest to the text's value divided by the scale, halves to even (RINEX 4.01, navigation
 /// records, D19.12).
@@ -202,6 +218,9 @@ pub fn read(text: &[u8], scale: &Scale, low: i64, high: i64) -> Result<i64, Deci
     requires high { high ≤ℤ pos 4294967295 }
     ensures { result ≡ read_of low high (seen (size_of scale.now) text.now) }
 {
+    if let Some(decimal) = usual(text) {
+        return within_range(&decimal, scale, low, high);
+    }
     let text = trimmed(text);
     if text.is_empty() {
         return Err(DecimalFault::Blank);
@@ -209,8 +228,5 @@ pub fn read(text: &[u8], scale: &Scale, low: i64, high: i64) -> Result<i64, Deci
     let Some(decimal) = decimal_of(text) else {
         return Err(DecimalFault::NotANumber);
     };
-    let Some(magnitude) = magnitude(&decimal, scale) else {
-        return Err(DecimalFault::OutOfRange);
-    };
-    within(signed(decimal.minus, magnitude), low, high)
+    within_range(&decimal, scale, low, high)
 }
