@@ -251,17 +251,14 @@ fn two_digits(tens: u8, ones: u8) -> Option<u64>
     Some(u64::from(tens - b'0') * 10 + u64::from(ones - b'0'))
 }
 
-// Whether a character is a minus; None where it is neither that nor another one.
+// Whether a character is a minus; None where it is neither that nor another one. Signs come in no
+// order, so that there is no branch between the two.
 fn minus_or(c: u8, other: u8) -> Option<bool>
     ensures { MatchOption result (Unit {0}) (λ minus. IsMinus minus c other) }
 {
-    if c == b'-' {
-        Some(true)
-    } else if c == other {
-        Some(false)
-    } else {
-        None
-    }
+    let minus = c >= b'-';
+    let wanted = if minus { b'-' } else { other };
+    if c == wanted { Some(minus) } else { None }
 }
 
 // A number of two digits with its sign.
