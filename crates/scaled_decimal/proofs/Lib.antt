@@ -15,4 +15,5 @@ pub mod QuotientLemmas
 pub mod WalkLemmas
 pub mod ReadLemmas
 pub mod GrammarLemmas
+pub mod UsualLemmas
 pub mod Surface

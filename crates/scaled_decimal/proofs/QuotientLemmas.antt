@@ -121,3 +121,24 @@ nearest_none d i j o b small (inl none) most fits large =
       even_above = λ x. refl;
       even_below = λ x. refl;
     }
+
+-- what is above the most that can be doubled b times has more than 128 bits
+pub too_wide : (n b c : ℕ) → c ≡ b → (2 ^ 128 - 1) / 2 ^ c < n → n * 2 ^ b < 2 ^ 128 → ⊥
+too_wide n b c same more less =
+    let q : ℕ = (2 ^ 128 - 1) / 2 ^ c in
+    let power : 2 ^ c ≡ 2 ^ b = ap (λ i. 2 ^ i) same in
+    let some : 0 < 2 ^ c = pow_pos c in
+    let parts : q * 2 ^ c + (2 ^ 128 - 1) % 2 ^ c ≡ 2 ^ 128 - 1 = div-add-mod' (2 ^ 128 - 1) (2 ^ c) in
+    let rest : (2 ^ 128 - 1) % 2 ^ c < 2 ^ c = mod_below (2 ^ 128 - 1) (2 ^ c) some in
+    let next : q + 1 ≤ n = omega (arith, more) in
+    let step : (q + 1) * 2 ^ c ≤ n * 2 ^ c = mul-le-mul_right (2 ^ c) next in
+    let turned : n * 2 ^ c ≡ n * 2 ^ b = ap (λ i. n * i) power in
+    omega arith
+
+-- a size by at most 10^11 has at most 128 bits
+pub few_tens : (o k t : ℕ) → 4294967296 * o ≤ 10 ^ 37 → k ≤ 11 → t ≡ 10 ^ k → o * t < 2 ^ 128
+few_tens o k t most few is =
+    let power : 10 ^ k ≤ 10 ^ 11 = pow-le-pow_right (omega arith) few in
+    let to : t ≤ 10 ^ 11 = omega arith in
+    let more : o * t ≤ o * 10 ^ 11 = mul-le-mul_left o to in
+    omega arith

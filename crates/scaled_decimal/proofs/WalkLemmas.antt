@@ -4,7 +4,7 @@ use Rattle.std.proofs.Math.Nat.{pow-le-pow_right}
 use Rattle.scaled_decimal.specs.NumberReading.{trim_start, trim_end, before_trimmed, span, is_decimal}
 use Rattle.scaled_decimal.proofs.TextLemmas.{kept_behind, no_blank}
 
-at_place : (text : List ℕ) (i : ℕ) → i < length text → drop i text ≡ get_or text i 0 ∷ drop (i + 1) text
+pub at_place : (text : List ℕ) (i : ℕ) → i < length text → drop i text ≡ get_or text i 0 ∷ drop (i + 1) text
 at_place text i h = rw (add-one, drop-cons text i 0)
 
 pub blank_more : (text : List ℕ) (i : ℕ) → i < length text → get_or text i 0 ≡ 32 → trim_start text ≡ trim_start (drop i text) → trim_start text ≡ trim_start (drop (i + 1) text)

@@ -1,5 +1,6 @@
 -- What private functions keep on the way, cited by no public clause.
-use Rattle.std.specs.Prelude.{◌≡◌, ℕ, ◌*◌, ◌^◌, ◌<◌, ◌≤◌, ℤ, pos, negsuc, ◌≤ℤ◌}
+use Rattle.std.specs.Prelude.{◌≡◌, ◌≢◌, ℕ, ◌*◌, ◌^◌, ◌<◌, ◌≤◌, Bool, true, false, List, drop, get_or, Some, ℤ, pos, negsuc, ◌≤ℤ◌}
+use Rattle.scaled_decimal.specs.NumberReading.{is_decimal, mantissa, exponent_after}
 use Rattle.scaled_decimal.specs.Fractions.{IsNearest}
 
 -- a fraction with its first digit at the place k, times the power p / q of ten that takes that place to 12
@@ -35,3 +36,22 @@ pub record IsDecimalRead (digits : ℕ) (e : ℤ) : Type 0 where
   pub below : digits < 10 ^ 18
   pub from : negsuc 1018 ≤ℤ e
   pub to : e ≤ℤ pos 999
+
+-- a minus, or another character
+abbrev pub IsMinus : Bool → ℕ → ℕ → Type 0
+IsMinus true c other = c ≡ 45
+IsMinus false c other = c ≡ other
+
+-- the mantissa of a text in the usual form: from byte 1 to 15 a digit, a point and twelve digits
+pub record IsUsualMantissa (text : List ℕ) (n : ℕ) : Type 0 where
+  pub first : 48 ≤ get_or text 1 0
+  pub read : mantissa (drop 1 text) ≡ record { number = n; count = 13; places = 12; rest = drop 15 text }
+  pub below : n < 10 ^ 13
+
+-- its exponent: from byte 15 a letter, a sign and two digits
+pub record IsUsualExponent (text : List ℕ) (e : ℤ) : Type 0 where
+  pub letter : is_decimal (get_or text 15 0) ≡ false
+  pub last : get_or text 18 0 ≢ 32
+  pub read : exponent_after (drop 15 text) ≡ Some e
+  pub from : negsuc 98 ≤ℤ e
+  pub to : e ≤ℤ pos 99

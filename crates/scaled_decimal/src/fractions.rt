@@ -130,26 +130,29 @@ pub(crate) fn nearest_by_ten(over: u128, bits: u32, tens: u32) -> u128
     rounded(whole, over - whole * under, under)
 }
 
-// A quotient: from the 64 bits of each number at the front of the first one, which give it or a
-// little less, else by a division.
-fn quotient(over: u128, under: u128) -> u128
+// The whole number that a fraction is close above or below, nearly always: the quotient of the 64 bits
+// of each number at the front of the first one, or a little less.
+fn guess(over: u128, under: u128) -> u64
     requires { 0 < under }
-    ensures { result ≡ over / under }
+    ensures { result * under ≤ over }
 {
-    let drop = 64 - over.leading_zeros().min(64);
+    let high = (over >> 64) as u64;
+    let drop = (64 - high.leading_zeros()) % 64;
     let size = under >> drop;
-    if size < 0xffff_ffff_ffff_ffff {
-        let front = (over >> drop) % (1 << 64);
-        let whole = u128::from(front as u64 / (size as u64 + 1));
-        let rest = over - whole * under;
-        if rest < under {
-            return whole;
-        }
-        if rest - under < under {
-            return whole + 1;
-        }
+    if size >= 0xffff_ffff_ffff_ffff {
+        return 0;
     }
-    over / under
+    let front = (over >> drop) % (1 << 64);
+    front as u64 / (size as u64 + 1)
+}
+
+// The whole number nearest to a fraction, by the whole number below or above it.
+fn nearest_by_division(over: u128, under: u128) -> u128
+    requires { 0 < under }
+    ensures { IsNearest (record { over = over; under = under }) result }
+{
+    let whole = over / under;
+    rounded(whole, over - whole * under, under)
 }
 
 /// The whole number nearest to a fraction, halves to even.
@@ -157,6 +160,13 @@ pub(crate) fn nearest(over: u128, under: u128) -> u128
     requires { 0 < under }
     ensures { IsNearest (record { over = over; under = under }) result }
 {
-    let whole = quotient(over, under);
-    rounded(whole, over - whole * under, under)
+    if over < 1 << 127 {
+        let sum = over + under / 2;
+        let whole = u128::from(guess(sum, under));
+        let rest = sum - whole * under;
+        if 0 < rest && rest < under {
+            return whole;
+        }
+    }
+    nearest_by_division(over, under)
 }

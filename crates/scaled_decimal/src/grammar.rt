@@ -2,7 +2,10 @@
 
 ghost use Rattle.std.specs.Prelude.{◌≡◌, ◌+◌, ◌^◌, ◌<◌, ◌≤◌, ◌≤ℤ◌, pos};
 ghost use Rattle.std.specs.Prelude.{negsuc, length, MatchOption, Some, None};
+ghost use Rattle.std.specs.Prelude.{◌-◌, ◌*◌, ℕ, drop, get_or, true, false};
 ghost use Rattle.scaled_decimal.specs.Mirrors.{IsExponentRead, IsDecimalRead};
+ghost use Rattle.scaled_decimal.specs.Mirrors.{IsUsualMantissa, IsUsualExponent, IsMinus};
+ghost use Rattle.scaled_decimal.specs.Values.{is_letter, signed};
 ghost use Rattle.scaled_decimal.specs.NumberReading.{trim_start, trim_end, is_decimal, span};
 ghost use Rattle.scaled_decimal.specs.NumberReading.{mantissa, exponent_digits, signed_exponent};
 ghost use Rattle.scaled_decimal.specs.NumberReading.{exponent_after, reading, decimal_of};
@@ -228,4 +231,109 @@ pub(crate) fn decimal_of(text: &[u8]) -> Option<Decimal>
         [b'+', rest @ ..] => reading(false, rest),
         _ => reading(false, text),
     }
+}
+
+// The letter of an exponent.
+fn is_letter(c: u8) -> bool
+    ensures { result ≡ is_letter c }
+{
+    c == b'D' || c == b'd' || c == b'E' || c == b'e'
+}
+
+// The number of two digits; None where one of them is none.
+fn two_digits(tens: u8, ones: u8) -> Option<u64>
+    ensures { MatchOption result (Unit {0}) (λ n. (is_decimal tens ≡ true) × (is_decimal ones ≡ true)
+        × (n ≡ (tens - 48) * 10 + (ones - 48)) × (n ≤ 99)) }
+{
+    if !is_decimal(tens) || !is_decimal(ones) {
+        return None;
+    }
+    Some(u64::from(tens - b'0') * 10 + u64::from(ones - b'0'))
+}
+
+// Whether a character is a minus; None where it is neither that nor another one. Signs come in no
+// order, so that there is no branch between the two.
+fn minus_or(c: u8, other: u8) -> Option<bool>
+    ensures { MatchOption result (Unit {0}) (λ minus. IsMinus minus c other) }
+{
+    let minus = c >= b'-';
+    let wanted = if minus { b'-' } else { other };
+    if c == wanted { Some(minus) } else { None }
+}
+
+// A number of two digits with its sign.
+fn signed(minus: bool, number: u64) -> i32
+    requires { number ≤ 99 }
+    ensures { result ≡ signed minus number }
+{
+    let number = number as i32;
+    if minus { -number } else { number }
+}
+
+// A digit and those between two places of a text; None where one of these is none.
+fn digits_behind(first: u64, text: &[u8], from: usize, to: usize) -> Option<u64>
+    requires first { first < 10 }
+    requires from { from ≤ to }
+    requires few { to ≤ from + 12 }
+    requires to { to ≤ length text.now }
+    ensures { MatchOption result (Unit {0}) (λ n. ((k : ℕ) → span first k (drop from text.now)
+        ≡ span n (k + (to - from)) (drop to text.now)) × (n < 10 ^ (1 + (to - from)))) }
+{
+    let mut number = first;
+    for place in from..to {
+        let c = text[place];
+        if !is_decimal(c) {
+            return None;
+        }
+        number = number * 10 + u64::from(c - b'0');
+    }
+    Some(number)
+}
+
+// The mantissa of a text in the usual form.
+fn usual_mantissa(text: &[u8]) -> Option<u64>
+    requires long { length text.now ≡ 19 }
+    requires end { is_decimal (get_or text.now 15 0) ≡ false }
+    ensures { MatchOption result (Unit {0}) (λ n. IsUsualMantissa text.now n) }
+{
+    let first = text[1];
+    if !is_decimal(first) || text[2] != b'.' {
+        return None;
+    }
+    digits_behind(u64::from(first - b'0'), text, 3, 15)
+}
+
+// The exponent of a text in the usual form.
+fn usual_exponent(text: &[u8]) -> Option<i32>
+    requires { length text.now ≡ 19 }
+    ensures { MatchOption result (Unit {0}) (λ e. IsUsualExponent text.now e) }
+{
+    if !is_letter(text[15]) {
+        return None;
+    }
+    let minus = minus_or(text[16], b'+')?;
+    let number = two_digits(text[17], text[18])?;
+    Some(signed(minus, number))
+}
+
+/// The value of a text in the form that is usual: a blank or `-`, one digit, a point, twelve digits,
+/// a letter, a sign and two digits. None where a text has another form.
+pub(crate) fn usual(text: &[u8]) -> Option<Decimal>
+    ensures { MatchOption result (Unit {0}) (λ d. (decimal_of (trim_end (trim_start text.now))
+        ≡ Some (record {
+          minus = d.minus;
+          value = record { digits = d.digits; exponent = d.exponent };
+        })) × IsDecimalRead d.digits d.exponent) }
+{
+    if text.len() != 19 {
+        return None;
+    }
+    let minus = minus_or(text[0], b' ')?;
+    let exponent = usual_exponent(text)?;
+    let digits = usual_mantissa(text)?;
+    Some(Decimal {
+        minus,
+        digits,
+        exponent: exponent - 12,
+    })
 }

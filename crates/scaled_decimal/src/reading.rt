@@ -8,7 +8,7 @@ ghost use Rattle.scaled_decimal.specs.Mirrors.{IsDecimalRead};
 ghost use Rattle.scaled_decimal.specs.NumberReading.{at_size, signed, seen, number, read_of};
 
 use crate::fractions::{nearest, ratio_of};
-use crate::grammar::{Decimal, decimal_of, trimmed};
+use crate::grammar::{Decimal, decimal_of, trimmed, usual};
 use crate::powers::power_of_ten;
 use crate::scales::Scale;
 use thiserror::Error;
@@ -48,6 +48,7 @@ fn doubled(number: u128, bits: u32) -> Option<u128>
     requires { bits ≤ 59 }
     ensures { SomeIff result (number * 2 ^ bits < 2 ^ 128) (number * 2 ^ bits) }
 {
+    let bits = bits % 64;
     if number > u128::MAX >> bits {
         return None;
     }
@@ -64,7 +65,7 @@ fn wide_product(digits: u128, up: u32, bits: u32) -> Option<u128>
 
 // The whole number nearest to digits x 10^up / 10^down divided by over / 2^bits; None only where it
 // is above 2^32.
-fn nearest_at(digits: u64, up: u32, down: u32, over: u128, bits: u32) -> Option<u128>
+fn nearest_by_any(digits: u64, up: u32, down: u32, over: u128, bits: u32) -> Option<u128>
     requires digits { digits < 10 ^ 18 }
     requires one { (up ≡ 0) ⊎ (down ≡ 0) }
     requires over { 0 < over }
@@ -80,6 +81,39 @@ fn nearest_at(digits: u64, up: u32, down: u32, over: u128, bits: u32) -> Option<
         (Some(wide), Some(size)) => Some(nearest(wide, size)),
         (None, _) => None,
         (_, None) => Some(0),
+    }
+}
+
+// The same for powers of ten at which each product with one has at most 128 bits.
+fn nearest_by_few(digits: u64, up: u32, down: u32, over: u128, bits: u32) -> Option<u128>
+    requires digits { digits < 10 ^ 18 }
+    requires up { up ≤ 19 }
+    requires down { down ≤ 11 }
+    requires one { (up ≡ 0) ⊎ (down ≡ 0) }
+    requires over { 0 < over }
+    requires most { 4294967296 * over ≤ 10 ^ 37 }
+    requires bits { bits ≤ 59 }
+    ensures { MatchOption result (8589934592 * (over * 10 ^ down) < digits * 10 ^ up * 2 ^ bits)
+        (λ n. IsNearest (record { over = digits * 10 ^ up * 2 ^ bits; under = over * 10 ^ down }) n) }
+{
+    let wide = doubled(u128::from(digits) * power_of_ten(up), bits)?;
+    Some(nearest(wide, over * power_of_ten(down)))
+}
+
+// The same for all powers of ten.
+fn nearest_at(digits: u64, up: u32, down: u32, over: u128, bits: u32) -> Option<u128>
+    requires digits { digits < 10 ^ 18 }
+    requires one { (up ≡ 0) ⊎ (down ≡ 0) }
+    requires over { 0 < over }
+    requires most { 4294967296 * over ≤ 10 ^ 37 }
+    requires bits { bits ≤ 59 }
+    ensures { MatchOption result (8589934592 * (over * 10 ^ down) < digits * 10 ^ up * 2 ^ bits)
+        (λ n. IsNearest (record { over = digits * 10 ^ up * 2 ^ bits; under = over * 10 ^ down }) n) }
+{
+    if up <= 19 && down <= 11 {
+        nearest_by_few(digits, up, down, over, bits)
+    } else {
+        nearest_by_any(digits, up, down, over, bits)
     }
 }
 
@@ -148,6 +182,22 @@ fn within(nearest: i64, low: i64, high: i64) -> Result<i64, DecimalFault>
     Ok(nearest)
 }
 
+// The number of a value at a scale, within a range.
+fn within_range(decimal: &Decimal, scale: &Scale, low: i64, high: i64) -> Result<i64, DecimalFault>
+    requires decimal { IsDecimalRead decimal.now.digits decimal.now.exponent }
+    requires scale { AreWithin scale.now.factor scale.now.two scale.now.ten }
+    requires low { negsuc 4294967294 ≤ℤ low }
+    requires high { high ≤ℤ pos 4294967295 }
+    ensures { let value = at_size (size_of scale.now)
+        (record { digits = decimal.now.digits; exponent = decimal.now.exponent })
+        in result ≡ read_of low high (number (signed decimal.now.minus (nearest_to value))) }
+{
+    let Some(magnitude) = magnitude(decimal, scale) else {
+        return Err(DecimalFault::OutOfRange);
+    };
+    within(signed(decimal.minus, magnitude), low, high)
+}
+
 /// The number that a text says at a scale, within a range from `low` to `high`: the whole number
 /// nearest to the text's value divided by the scale, halves to even (RINEX 4.01, navigation
 /// records, D19.12).
@@ -168,6 +218,9 @@ pub fn read(text: &[u8], scale: &Scale, low: i64, high: i64) -> Result<i64, Deci
     requires high { high ≤ℤ pos 4294967295 }
     ensures { result ≡ read_of low high (seen (size_of scale.now) text.now) }
 {
+    if let Some(decimal) = usual(text) {
+        return within_range(&decimal, scale, low, high);
+    }
     let text = trimmed(text);
     if text.is_empty() {
         return Err(DecimalFault::Blank);
@@ -175,8 +228,5 @@ pub fn read(text: &[u8], scale: &Scale, low: i64, high: i64) -> Result<i64, Deci
     let Some(decimal) = decimal_of(text) else {
         return Err(DecimalFault::NotANumber);
     };
-    let Some(magnitude) = magnitude(&decimal, scale) else {
-        return Err(DecimalFault::OutOfRange);
-    };
-    within(signed(decimal.minus, magnitude), low, high)
+    within_range(&decimal, scale, low, high)
 }

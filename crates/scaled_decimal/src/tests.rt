@@ -46,7 +46,29 @@ const ONE: (bool, u32, i32, i32) = (NO, 1, 0, 0);
 
 const ANGLE: (bool, u32, i32, i32) = (PI, 1, -31, 0);
 
-static READINGS: [Reading; 30] = [
+static READINGS: [Reading; 37] = [
+    (b" 2.500000000000e+00", ONE, BYTE, Ok(2)),
+    (b"-3.500000000000E+00", ONE, ANY, Ok(-4)),
+    (
+        b" 4.294967295500d+09",
+        ONE,
+        ANY,
+        Err(DecimalFault::OutOfRange),
+    ),
+    (b"-4.294967295499D+09", ONE, ANY, Ok(-4_294_967_295)),
+    (b"+1.000000000000D+00", ONE, BYTE, Ok(1)),
+    (
+        b" 1.00000000000:D+00",
+        ONE,
+        BYTE,
+        Err(DecimalFault::NotANumber),
+    ),
+    (
+        b" 1.000000000000D 00",
+        ONE,
+        BYTE,
+        Err(DecimalFault::NotANumber),
+    ),
     (b"1.462918079267e-09", ANGLE, SIGNED, Ok(1)),
     (b"1.462918079268D-09", ANGLE, SIGNED, Ok(1)),
     (b"-0.5", ANGLE, SIGNED, Ok(-341_782_638)),

@@ -1,7 +1,7 @@
 use Rattle.std.proofs.Common.{◌*◌, ◌^◌, ◌<◌, arith, mul-pos}
 use Rattle.scaled_decimal.proofs.PowerLemmas.{power_pos}
 use Rattle.scaled_decimal.proofs.QuotientLemmas.{nearest_none}
-use Rattle.scaled_decimal.proofs.reading.nearest_at.Goals as goal
+use Rattle.scaled_decimal.proofs.reading.nearest_by_any.Goals as goal
 
 pub nearest-requires : goal.nearest-requires
 nearest-requires c =
