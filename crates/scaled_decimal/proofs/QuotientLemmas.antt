@@ -1,7 +1,7 @@
 -- Quotients by guesses that are confirmed.
 use Rattle.std.proofs.Common.{◌≡◌, ℕ, ◌+◌, ◌-◌, ◌*◌, ◌/◌, ◌%◌, ◌^◌, ◌<◌, ◌≤◌, ◌⊎◌, refl, sym, ap, ◌∙◌, subst, inl, inr, arith, mul-le-mul, mul-le-mul_left, mul-le-mul_right, div-add-mod'}
 use Rattle.std.proofs.Math.Nat.{one-le-pow, pow-le-pow_right}
-use Rattle.std.proofs.lemmas.Nat.{pow_pos, pow-add, mul-pow, shr_split, mod_below, div-mul-add}
+use Rattle.std.proofs.lemmas.Nat.{pow_pos, pow-add, mul-pow, shr_split, mod_below}
 use Rattle.scaled_decimal.specs.Fractions.{IsNearest}
 
 -- w at most the first bits of o, by one more than those of u, is at most the quotient
@@ -23,16 +23,6 @@ guess_low o u d w g front is =
 -- the same, of the last 64 bits of what is left of o
 pub guess_taken : (o u d g : ℕ) → g ≡ o / 2 ^ d % 2 ^ 64 / (u / 2 ^ d + 1) → g * u ≤ o
 guess_taken o u d g is = guess_low o u d (o / 2 ^ d % 2 ^ 64) g (omega arith) is
-
-pub is_quotient : (o u g : ℕ) → g * u ≤ o → o - g * u < u → g ≡ o / u
-is_quotient o u g low small =
-    let sum : g * u + (o - g * u) ≡ o = omega arith in
-    sym (ap (λ n. n / u) (sym sum) ∙ div-mul-add g u (o - g * u) small)
-
-pub is_next_quotient : (o u g : ℕ) → g * u ≤ o → u ≤ o - g * u → o - g * u - u < u → g + 1 ≡ o / u
-is_next_quotient o u g low more small =
-    let sum : (g + 1) * u + (o - g * u - u) ≡ o = omega arith in
-    sym (ap (λ n. n / u) (sym sum) ∙ div-mul-add (g + 1) u (o - g * u - u) small)
 
 pub five_pos : (k f : ℕ) → f ≡ 5 ^ k → 0 < f
 five_pos k f is = let one : 1 ≤ 5 ^ k = one-le-pow k 5 (omega arith) in omega arith

@@ -1,5 +1,5 @@
 -- The number that is read: the nearest to the value, and its range.
-use Rattle.std.proofs.Common.{◌≡◌, ◌≢◌, ℕ, zero, suc, ◌+◌, ◌*◌, ◌^◌, ◌<◌, ◌≤◌, Bool, true, false, ◌&&◌, if◌then◌else◌, length, List, [], ◌∷◌, Some, None, Option, MatchOption, Ok, Err, refl, sym, ap, ◌∙◌, subst, inl, inr, arith, ℤ, pos, negsuc, ◌+ℤ◌, ◌≤ℤ◌, ◌<ℤ◌, int_le, mul-pos, mul-le-mul_right}
+use Rattle.std.proofs.Common.{◌≡◌, ◌≢◌, ℕ, ◌+◌, ◌*◌, ◌^◌, ◌<◌, ◌≤◌, Bool, true, false, ◌&&◌, if◌then◌else◌, length, List, [], ◌∷◌, Some, None, Option, MatchOption, Ok, Err, refl, sym, ap, ◌∙◌, subst, inl, inr, arith, ℤ, pos, ◌+ℤ◌, ◌≤ℤ◌, ◌<ℤ◌, int_le, mul-pos, mul-le-mul_right}
 use Rattle.std.proofs.Math.Nat.{eq_of_mul-eq-mul_right}
 use Rattle.std.proofs.lemmas.Nat.{pow-add}
 use Rattle.std.proofs.lemmas.Bool.{cases_lt}
@@ -105,12 +105,6 @@ read_high low high z h = go (int_le low z)
     go : (b : Bool) → (if b && int_le z high then Ok z else Err faults.OutOfRange) ≡ Err faults.OutOfRange
     go true = ap (λ b. if b then Ok z else Err faults.OutOfRange) (le_false z high h)
     go false = refl
-
-pub read_large : (low high : ℤ) (minus : Bool) (n : ℕ) → negsuc 4294967294 ≤ℤ low → high ≤ℤ pos 4294967295 → 4294967295 < n
-    → read_of low high (number (signed minus n)) ≡ Err faults.OutOfRange
-read_large low high true zero from to h = absurd (omega arith)
-read_large low high true (suc n) from to h = read_low low high (negsuc n) (omega (arith, ints))
-read_large low high false n from to h = read_high low high (pos n) (omega (arith, ints))
 
 -- what is seen in a text that was trimmed
 pub seen_nothing : (s : Fraction) (text t : List ℕ) → t ≡ trim_end (trim_start text) → length t ≡ 0 → seen s text ≡ blank
