@@ -1,17 +1,19 @@
 //! Taking what a line brings: parts go to the assembly, refusals to the report, and the rest is
 //! counted.
 
-ghost use Rattle.std.specs.Prelude.{◌≡◌, ◌+◌, ◌^◌, ◌<◌, ◌≤◌, ◌∷◌, [], OnOk, OnErr};
+ghost use Rattle.std.specs.Prelude.{◌≡◌, ◌+◌, ◌^◌, ◌<◌, ◌≤◌, ◌∷◌, [], codes, length, OnOk, OnErr};
 ghost use Rattle.std.specs.Io.KnownBytes.{Appends};
 ghost use Rattle.nav_io.specs.Front.{AppendsFront};
 ghost use Rattle.issue_periods.specs.Standing.{Stood};
+ghost use Rattle.run_texts.specs.Reports.{report_line};
 ghost use Rattle.capture_log.specs.Log.{noted};
 ghost use Rattle.bridge_engine.specs.Notes.{AreFrom, IfHeard, IsReporting, Takes};
 ghost use Rattle.bridge_engine.specs.Notes.{total, weight, weights};
+ghost use Rattle.bridge_engine.specs.Reports.{refusal_text};
 
 use crate::counts::Tally;
 use crate::report::refused_text;
-use capture_log::Event;
+use capture_log::{Event, Refusal};
 use issue_periods::Assembly;
 use nav_io::{Failed, Sink};
 use run_texts::{BridgeFault, report_text};
@@ -28,6 +30,34 @@ fn write_line<U: Sink>(line: &[u8], report: &mut U) -> Result<(), BridgeFault>
         Ok(()) => Ok(()),
         Err(Failed) => Err(BridgeFault::ReportFault),
     }
+}
+
+// Reports in a word why the line with this number is not taken. The room for the text is made here,
+// and not where a part is taken.
+fn report_reason<U: Sink>(number: u64, reason: &[u8], report: &mut U) -> Result<(), BridgeFault>
+    requires { length reason.now ≤ 32 }
+    ensures text { OnOk result (Appends (U.written report.old) (U.written report.new)
+        (report_line (codes "line") number reason.now)) }
+    ensures part { OnErr result (AppendsFront (U.written report.old) (U.written report.new)
+        (report_line (codes "line") number reason.now)) }
+    ensures cause { IsReporting (U.faults report.old) (U.faults report.new) result }
+{
+    write_line(report_text(b"line", number, reason).as_slice(), report)
+}
+
+// Reports why what the line with this number says is refused.
+fn report_refusal<U: Sink>(
+    number: u64,
+    refusal: &Refusal,
+    report: &mut U,
+) -> Result<(), BridgeFault>
+    ensures text { OnOk result (Appends (U.written report.old) (U.written report.new)
+        (report_line (codes "line") number (refusal_text refusal.now))) }
+    ensures part { OnErr result (AppendsFront (U.written report.old) (U.written report.new)
+        (report_line (codes "line") number (refusal_text refusal.now))) }
+    ensures cause { IsReporting (U.faults report.old) (U.faults report.new) result }
+{
+    write_line(refused_text(b"line", number, refusal).as_slice(), report)
 }
 
 // Takes an event that the line with this number brings.
@@ -58,20 +88,17 @@ pub(crate) fn take_event<A: Assembly, U: Sink>(
             Err(_) => Err(BridgeFault::NoMemory),
         },
         Event::Malformed => {
-            write_line(
-                report_text(b"line", number, b"malformed").as_slice(),
-                report,
-            )?;
+            report_reason(number, b"malformed", report)?;
             tally.malformed += 1;
             Ok(())
         }
         Event::Late => {
-            write_line(report_text(b"line", number, b"late").as_slice(), report)?;
+            report_reason(number, b"late", report)?;
             tally.late += 1;
             Ok(())
         }
         Event::Refused(refusal) => {
-            write_line(refused_text(b"line", number, refusal).as_slice(), report)?;
+            report_refusal(number, refusal, report)?;
             tally.refused += 1;
             Ok(())
         }
