@@ -3,7 +3,7 @@
 #
 #   bench/jobs.sh [MEGABYTES]      50 where none is said: the bytes of each stream
 #
-# It wants the program that `rt run` leaves in crates/navbridge/out (or the one that NAVBRIDGE names). Inputs are made in
+# It wants the program that `rt ci` and `rt run` leave in crates/navbridge/out (or the one that NAVBRIDGE names). Inputs are made in
 # bench/build. First each job is run once into a file, and its bytes are compared with those of the C program, or with
 # what the maker of the input knows; then it is timed with the output sent to /dev/null, the least of five runs. Times
 # are of the processor (user and system), which other work on the machine moves less than the clock; both are printed.

@@ -3,7 +3,7 @@
 #
 #   examples/check.sh
 #
-# PROGRAM names the program (crates/navbridge/out/navbridge where it is not set, which `rt run` leaves there). Each line of
+# PROGRAM names the program (crates/navbridge/out/navbridge where it is not set, which `rt ci` and `rt run` leave there). Each line of
 # examples/runs.txt is a run: its status, its input, the file of its output, the file of its report (- for none), its words.
 cd "$(dirname "$0")" || exit 1
 program=${PROGRAM:-../crates/navbridge/out/navbridge}
