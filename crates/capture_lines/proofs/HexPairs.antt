@@ -13,7 +13,7 @@ pub record IsDecoded (digits into : List ℕ) (i : ℕ) (all : Bool) : Type 0 wh
   pub bad : all ≡ false → (e : FromHexError) × (decode_pairs 0 digits ≡ Err e)
 
 -- the value of a digit
-below : (c v : ℕ) → hex_digit_value c ≡ Some v → v < 16
+pub below : (c v : ℕ) → hex_digit_value c ≡ Some v → v < 16
 below c v h = grind arith
 
 -- once one was none, it stays so

@@ -1,4 +1,5 @@
 pub mod HexPairs
+pub mod HexValues
 pub mod NumberTexts
 pub mod Heads
 pub mod Bodies
