@@ -6,25 +6,8 @@ use Rattle.std.proofs.KnownBytes.{Appends-trans}
 use Rattle.std.proofs.lemmas.Grind.{flat_map-append}
 use Rattle.nav_io.specs.Front.{AppendsFront}
 use Rattle.rtcm_frame.specs.Frames.{frames}
-use Rattle.rtcm_frame.specs.State.{TakesFrame}
 use Rattle.bridge_engine.specs.FrameRuns.{output_of, Goes, Breaks}
 use Rattle.bridge_engine.proofs.Goings.{goes_fed}
-
--- the write of a frame's line failed
-pub breaks_frame : (line : List ℕ → List ℕ) (more : Bool) (old frame new : List ℕ) (v w : Option (List ℕ))
-    → TakesFrame more old frame new → AppendsFront v w (line frame) → Breaks line more old v w
-breaks_frame line more old frame new v w takes (front, whole, out) = record {
-  text = λ following last. (
-    front,
-    (
-      whole.0 ++ flat_map line (frames (new ++ following)),
-      ap (flat_map line) (takes.stream following last)
-          ∙ ap (λ (l : List ℕ). l ++ flat_map line (frames (new ++ following))) whole.1
-          ∙ append_assoc front whole.0 (flat_map line (frames (new ++ following))),
-    ),
-    out,
-  );
-}
 
 -- lines were written, and then a write failed
 pub breaks_on : (line : List ℕ → List ℕ) (more : Bool) (a b : List ℕ) (u v w : Option (List ℕ)) (k n : ℕ)

@@ -1,11 +1,10 @@
 -- Laws of what was given between two rests.
-use Rattle.std.proofs.Common.{◌+◌, ℕ, Bool, true, List, [], ◌∷◌, ◌++◌, refl, sym, ap, ◌∙◌, arith, subst, append_assoc, append-nil, length-append}
+use Rattle.std.proofs.Common.{◌+◌, ℕ, Bool, true, List, [], ◌++◌, refl, sym, ap, ◌∙◌, arith, subst, append_assoc, length-append}
 use Rattle.std.specs.Prelude.{Option}
 use Rattle.std.specs.Io.KnownBytes.{Appends}
 use Rattle.std.proofs.KnownBytes.{Appends-nil, Appends-trans}
 use Rattle.std.proofs.lemmas.Grind.{flat_map-append}
 use Rattle.rtcm_frame.specs.Frames.{frames}
-use Rattle.rtcm_frame.specs.State.{TakesFrame, TakesNone}
 use Rattle.bridge_engine.specs.FrameRuns.{Goes}
 
 -- nothing was given
@@ -27,25 +26,6 @@ goes_on line more a b c u v w k m n first second = record {
       ∙ sym (append_assoc first.given second.given (frames (c ++ following)));
   text = subst (λ (l : List ℕ). Appends u w l) (sym (flat_map-append line first.given second.given)) (Appends-trans u v w _ _ first.text second.text);
   counts = omega (arith, first.counts, second.counts, length-append first.given second.given);
-}
-
--- a frame was given
-pub goes_frame : (line : List ℕ → List ℕ) (more : Bool) (old frame new : List ℕ) (v w : Option (List ℕ)) (n : ℕ)
-    → TakesFrame more old frame new → Appends v w (line frame) → Goes line more old new v w n (n + 1)
-goes_frame line more old frame new v w n takes text = record {
-  given = frame ∷ [];
-  stream = takes.stream;
-  text = subst (λ (l : List ℕ). Appends v w l) (sym (append-nil (line frame))) text;
-  counts = omega arith;
-}
-
--- no frame was left
-pub goes_none : (line : List ℕ → List ℕ) (more : Bool) (old new : List ℕ) (w : Option (List ℕ)) (n : ℕ) → TakesNone more old new → Goes line more old new w w n n
-goes_none line more old new w n takes = record {
-  given = [];
-  stream = takes.stream;
-  text = Appends-nil w;
-  counts = omega arith;
 }
 
 -- bytes came behind

@@ -8,6 +8,7 @@ mod Following
 mod FrameEvents
 mod Fronts
 mod Goings
+mod Holding
 mod ItemEvents
 mod Keeping
 mod LineCounts

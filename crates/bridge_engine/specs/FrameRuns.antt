@@ -41,3 +41,18 @@ pub record Goes (line : List ℕ → List ℕ) (more : Bool) (before after : Lis
 -- A write failed: whatever bytes follow, a front of the lines was written.
 pub record Breaks (line : List ℕ → List ℕ) (more : Bool) (before : List ℕ) (old new : Option (List ℕ)) : Type 0 where
   pub text : (following : List ℕ) → (more ≡ false → following ≡ []) → AppendsFront old new (output_of line (before ++ following))
+
+-- Some bytes were kept and a line was gathered behind them: what was not written of these is kept.
+pub record Gathers (old new : Option (List ℕ)) (held kept line : List ℕ) : Type 0 where
+  pub out : List ℕ
+  pub text : Appends old new out
+  pub same : held ++ line ≡ out ++ kept
+
+-- The same as Goes, where the last bytes of the lines are held and not written yet.
+pub record Holds (line : List ℕ → List ℕ) (more : Bool) (before after : List ℕ) (old new : Option (List ℕ)) (held : List ℕ) (count counted : ℕ) : Type 0 where
+  pub given : List (List ℕ)
+  pub stream : (following : List ℕ) → (more ≡ false → following ≡ []) → frames (before ++ following) ≡ given ++ frames (after ++ following)
+  pub out : List ℕ
+  pub text : Appends old new out
+  pub same : text_of line given ≡ out ++ held
+  pub counts : counted ≡ count + length given

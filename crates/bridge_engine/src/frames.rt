@@ -5,17 +5,22 @@ ghost use Rattle.std.specs.Prelude.{length, take, IsTrue, IsOk, IsErr, IfOk, IfE
 ghost use Rattle.std.specs.Prelude.{OnOk, OnErr, IsErrOf};
 ghost use Rattle.std.specs.Io.KnownBytes.{Appends};
 ghost use Rattle.nav_io.specs.Causes.{HasCause, Rose};
+ghost use Rattle.nav_io.specs.Front.{AppendsFront};
 ghost use Rattle.rtcm_frame.specs.State.{MayFeed, IsWaiting};
 ghost use Rattle.bridge_engine.specs.FrameLines.{line_of};
-ghost use Rattle.bridge_engine.specs.FrameRuns.{output_of, RunsWhole, RunsPart, Goes, Breaks};
+ghost use Rattle.bridge_engine.specs.FrameRuns.{output_of, RunsWhole, RunsPart, Goes, Breaks, Gathers};
 
-use crate::line::frame_line;
+use crate::line::{Line, frame_line};
+use arrayvec::ArrayVec;
 use nav_io::{Failed, MOST_TAKEN, Sink, Source, read_piece};
 use rtcm_frame::Deframer;
 use run_texts::BridgeFault;
 
 // How many bytes are asked for at once.
 const PIECE: usize = 16_384;
+
+// Lines that are written together, those of the frames that one feeding decides.
+type Gathered = ArrayVec<u8, 1024>;
 
 /// What a run over the frames of a stream counts.
 #[derive(Clone, Copy, Debug, PartialEq, Eq)]
@@ -134,7 +139,39 @@ fn take_some<T: Sink>(
     Ok(count)
 }
 
-// Writes the lines of the frames that are decided.
+// Writes the lines that were gathered, where there are any.
+fn write_gathered<T: Sink>(lines: &Gathered, output: &mut T) -> Result<(), Failed>
+    ensures text { OnOk result
+        (Appends (T.written output.old) (T.written output.new) lines.now.items) }
+    ensures part { OnErr result
+        (AppendsFront (T.written output.old) (T.written output.new) lines.now.items) }
+    ensures cause { HasCause (T.faults output.old) (T.faults output.new) result }
+{
+    if lines.is_empty() {
+        return Ok(());
+    }
+    output.write(lines.as_slice())
+}
+
+// Gathers a line behind others. Where there is no room for it, those are written first.
+fn gather<T: Sink>(line: &Line, lines: &mut Gathered, output: &mut T) -> Result<(), Failed>
+    ensures gathers { OnOk result (Gathers (T.written output.old) (T.written output.new)
+        lines.old.items lines.new.items line.now.items) }
+    ensures part { OnErr result
+        (AppendsFront (T.written output.old) (T.written output.new) lines.old.items) }
+    ensures cause { HasCause (T.faults output.old) (T.faults output.new) result }
+{
+    if lines.remaining_capacity() < line.len() {
+        write_gathered(lines, output)?;
+        lines.clear();
+    }
+    if lines.try_extend_from_slice(line.as_slice()).is_err() {
+        unreachable!();
+    }
+    Ok(())
+}
+
+// Writes the lines of the frames that are decided, gathered.
 fn take_frames<T: Sink>(
     deframer: &mut Deframer,
     output: &mut T,
@@ -152,9 +189,10 @@ fn take_frames<T: Sink>(
         (T.written output.old) (T.written output.new)) }
     ensures cause { HasCause (T.faults output.old) (T.faults output.new) result }
 {
+    let mut lines = Gathered::new();
     while let Some(frame) = deframer.next_frame() {
-        output.write(frame_line(&frame).as_slice())?;
+        gather(&frame_line(&frame), &mut lines, output)?;
         *frames += 1;
     }
-    Ok(())
+    write_gathered(&lines, output)
 }

@@ -77,10 +77,16 @@ fn answers_faults_in_mid_stream(rt: HostRuntime) -> Result<(), Fail> {
     assert_eq!(rt; status, 3);
     assert_eq!(rt; output.bytes(), b"- 0\n".as_slice());
 
-    let whole = source_of(rt.alloc(), two.as_slice(), false, &[])?;
-    let (status, output) = frames_of(rt.alloc(), whole, &[1])?;
+    let in_pieces = source_of(rt.alloc(), two.as_slice(), true, &[])?;
+    let (status, output) = frames_of(rt.alloc(), in_pieces, &[1])?;
     assert_eq!(rt; status, 4);
     assert_eq!(rt; output.bytes(), b"- 0\n".as_slice());
+
+    // The lines of one piece are one write.
+    let whole = source_of(rt.alloc(), two.as_slice(), false, &[])?;
+    let (status, output) = frames_of(rt.alloc(), whole, &[1])?;
+    assert_eq!(rt; status, 0);
+    assert_eq!(rt; output.bytes(), b"- 0\n- 0\n".as_slice());
     Ok(())
 }
 

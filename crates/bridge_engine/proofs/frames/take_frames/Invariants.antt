@@ -1,11 +1,11 @@
 use Rattle.std.proofs.Common.{◌≡◌, ◌+◌, ◌≤◌, not, length}
 use Rattle.bridge_engine.specs.FrameLines.{line_of}
-use Rattle.bridge_engine.specs.FrameRuns.{Goes}
+use Rattle.bridge_engine.specs.FrameRuns.{Holds}
 use Rattle.bridge_engine.proofs.frames.take_frames.Given as goal
 
 abbrev pub invariant-loop-frame : goal.invariant-loop-frame
 invariant-loop-frame g l = record {
-  goes : Goes line_of (not l.fn.deframer.finished) l.fn.deframer.rest l.deframer.rest (g.T.Sink.written l.fn.output) (g.T.Sink.written l.output) l.fn.frames l.frames;
+  holds : Holds line_of (not l.fn.deframer.finished) l.fn.deframer.rest l.deframer.rest (g.T.Sink.written l.fn.output) (g.T.Sink.written l.output) l.lines.items l.fn.frames l.frames;
   finished : l.deframer.finished ≡ l.fn.deframer.finished;
   faults : g.T.Sink.faults l.output ≡ g.T.Sink.faults l.fn.output;
   room : l.frames + length l.deframer.rest ≤ l.fn.frames + length l.fn.deframer.rest;
