@@ -1,6 +1,7 @@
 pub mod RecordLemmas
 pub mod FileLemmas
 mod AlikeLemmas
+mod MessageKeys
 mod KnownLemmas
 mod StreamLemmas
 pub mod WholeLemmas

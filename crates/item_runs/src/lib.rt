@@ -26,6 +26,7 @@ mod file;
 mod files;
 mod frames;
 mod given;
+mod messages;
 mod outlet;
 mod pieces;
 mod records;
