@@ -2,6 +2,7 @@ pub mod RecordLemmas
 pub mod FileLemmas
 mod AlikeLemmas
 mod MessageKeys
+mod SentLemmas
 mod KnownLemmas
 mod StreamLemmas
 pub mod WholeLemmas

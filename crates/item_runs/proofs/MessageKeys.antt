@@ -147,7 +147,7 @@ pub adds_first_to : (old : MessagesState) (firsts new : Places) (list list_new :
     → place ≡ length list → list_new ≡ list ++ message ∷ []
     → Updates nat_cmp firsts new mix (Some place)
     → AddsKey old (kept new.entries list_new others) message
-adds_first_to old firsts new list list_new others message mix place is within none of_it at grown set =
+adds_first_to old firsts new list l1 others message mix place is within none of_it at grown set =
     let set_at : Updates nat_cmp firsts new mix (Some (length list)) =
     subst (λ (p : ℕ). Updates nat_cmp firsts new mix (Some p)) at set in
     let updates : Updates nat_cmp firsts new (mix_of message) (Some (length list)) =
@@ -156,7 +156,7 @@ adds_first_to old firsts new list list_new others message mix place is within no
     let after : List Message → MessagesState = λ l. kept new.entries l others in
     let free : first_of before message ≡ None =
     subst (λ (s : MessagesState). first_of s message ≡ None) is none in
-    subst (λ (s : MessagesState). AddsKey s (after list_new) message) (sym is)
+    subst (λ (s : MessagesState). AddsKey s (after l1) message) (sym is)
     (subst (λ (l : List Message). AddsKey before (after l) message) (sym grown)
     (adds_first firsts new list others message within free updates))
 

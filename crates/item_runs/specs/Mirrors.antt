@@ -12,7 +12,7 @@ use Rattle.nav_bits.specs.Bits.{number_at}
 use Rattle.nav_io.specs.Front.{AppendsFront}
 use Rattle.nav_eph.specs.declared.items.NavItem.{NavItem}
 use Rattle.nav_eph.specs.declared.items.NavItem.TheVariants.{Gps, Gal, Ion}
-use Rattle.rtcm_eph.specs.Reading.{item_in}
+use Rattle.rtcm_eph.specs.Reading.{GivesItem, content_of, item_in}
 use Rattle.rtcm_eph.specs.Writing.{bytes_1019, bytes_1046}
 use Rattle.rtcm_eph.specs.declared.fault.MessageFault.{MessageFault}
 use Rattle.rtcm_eph.specs.declared.fault.MessageFault.TheVariants.{NoNumber, OtherMessage, Short, BadSat, BadTime, SpareSisa}
@@ -183,6 +183,10 @@ KeptPlaces old new payload = MaySet old.gps_seen new.gps_seen payload × MaySet 
 -- nothing else changed
 abbrev pub KeptMore : GivenState → GivenState → List ℕ → Type 0
 KeptMore old new payload = KeptPlaces old new payload × (new.gps ≡ old.gps) × (new.gal ≡ old.gal)
+
+-- the item was read of the payload, near some reference week
+abbrev pub IsReadOf : List ℕ → NavItem → Type 0
+IsReadOf payload item = (r : ℕ) × GivesItem r (content_of payload) (Ok item)
 
 -- whether an ephemeris was given, by the message that is sent for it
 abbrev pub is_given : GivenState → NavItem → Bool

@@ -3,12 +3,12 @@
 ghost use Rattle.std.specs.Prelude.{◌≡◌, ◌||◌, not, false, ℕ, List, None, OnOk, OnErr, IfOk, IsTrue, replicate};
 ghost use Rattle.nav_eph.specs.declared.items.NavItem.{NavItem};
 ghost use Rattle.rtcm_eph.specs.Writing.{bytes_1019, bytes_1046};
-ghost use Rattle.item_runs.specs.Mirrors.{KeptMore, KeptPlaces, NothingKept, StandsIn, has_key, is_given, sent_alike};
+ghost use Rattle.item_runs.specs.Mirrors.{IsReadOf, KeptMore, KeptPlaces, NothingKept, StandsIn, has_key, is_given, sent_alike};
 
 use crate::messages::Messages;
 use crate::seen::{Seen, place_of};
+use crate::sent::{sent_1019, sent_1046};
 use nav_eph::NavItem;
-use rtcm_eph::{write_1019, write_1046};
 use std::alloc::{AllocError, Global};
 use std::marker::Model;
 
@@ -70,8 +70,10 @@ impl Given {
         }
     }
 
-    // Adds an item by the message that is sent for it; whether that was not there.
-    fn add_item(&mut self, item: &NavItem) -> Result<bool, AllocError>
+    // Adds the item that was read of a payload, by the message that is sent for it; whether that
+    // was not there.
+    fn add_item(&mut self, item: &NavItem, payload: &[u8]) -> Result<bool, AllocError>
+        requires read { IsReadOf payload.now item.now }
         ensures added { IfOk result (λ added. added ≡ not (is_given self.old item.now)) }
         ensures adds { OnOk result ((other : NavItem)
             → is_given self.new other ≡ (sent_alike item.now other || is_given self.old other)) }
@@ -79,20 +81,21 @@ impl Given {
             × (self.new.gal_seen ≡ self.old.gal_seen)) }
     {
         match item {
-            NavItem::Gps(e) => self.gps.add(&write_1019(e)),
-            NavItem::Gal(e) => self.gal.add(&write_1046(e)),
+            NavItem::Gps(e) => self.gps.add(&sent_1019(e, payload)),
+            NavItem::Gal(e) => self.gal.add(&sent_1046(e, payload)),
             NavItem::Ion(_) => Ok(true),
         }
     }
 
     // Adds the item that was read of a payload, and keeps the payload; whether the item was not there.
     pub(crate) fn add(&mut self, item: &NavItem, payload: &[u8]) -> Result<bool, AllocError>
+        requires read { IsReadOf payload.now item.now }
         ensures added { IfOk result (λ added. added ≡ not (is_given self.old item.now)) }
         ensures adds { OnOk result ((other : NavItem)
             → is_given self.new other ≡ (sent_alike item.now other || is_given self.old other)) }
         ensures kept { OnOk result (KeptPlaces self.old self.new payload.now) }
     {
-        let added = self.add_item(item)?;
+        let added = self.add_item(item, payload)?;
         self.keep(payload);
         Ok(added)
     }

@@ -31,6 +31,7 @@ mod outlet;
 mod pieces;
 mod records;
 mod seen;
+mod sent;
 mod stream;
 mod streams;
 mod target;
