@@ -1,6 +1,8 @@
 pub mod RecordLemmas
 pub mod FileLemmas
 mod AlikeLemmas
+mod MessageKeys
+mod SentLemmas
 mod KnownLemmas
 mod StreamLemmas
 pub mod WholeLemmas

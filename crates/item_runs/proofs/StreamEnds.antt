@@ -16,7 +16,7 @@ use Rattle.item_runs.specs.Streams.{Reading, counts_of_readings, has, items_in, 
 use Rattle.item_runs.specs.Mirrors.{BeginsSettled, GivenState, NothingKept, StreamAll, StreamPart, StreamSettled, StreamSoFar, is_given, once_text}
 use Rattle.item_runs.proofs.FileLemmas.{between, err_same, front_longer, no_front}
 use Rattle.item_runs.proofs.KnownLemmas.{none_known}
-use Rattle.item_runs.proofs.RecordLemmas.{front_behind, whole_front}
+use Rattle.item_runs.proofs.RecordLemmas.{front_behind}
 use Rattle.item_runs.proofs.StreamLemmas.{between_whole, output_fault, output_item}
 
 -- ---- the readings of more frames begin with those of fewer

@@ -1,15 +1,18 @@
 -- A stream and a file while they are read. Private functions cite these.
-use Rattle.std.specs.Prelude.{◌≡◌, ◌+◌, ◌-◌, ◌^◌, ◌<◌, ◌≤◌, ◌||◌, ◌⊎◌, ℕ, Bool, true, false, if◌then◌else◌, List, [], ◌∷◌, ◌++◌, length, take, Option, None, Some, Ok, IfSome, replicate, slice_get, slice_set}
+use Rattle.std.specs.Prelude.{◌≡◌, ◌+◌, ◌-◌, ◌*◌, ◌%◌, ◌^◌, ◌<◌, ◌≤◌, ◌||◌, ◌⊎◌, ℕ, Bool, true, false, if◌then◌else◌, List, [], ◌∷◌, ◌++◌, length, take, Option, None, Some, Ok, IfSome, replicate, slice_get, slice_set, bit_xor}
 use Rattle.std.specs.List.{All, flat_map}
 use Rattle.std.specs.Ordering.{nat_cmp}
 use Rattle.std.specs.Cmp.Lexicographic.{slice_cmp}
 use Rattle.std.specs.BTreeSet.{BTreeSet, contains}
 use Rattle.std.specs.BTreeMap.{is_at}
+use Rattle.std.specs.Map.{lookup}
+use Rattle.std.specs.Option.{unwrap_or}
 use Rattle.std.specs.Io.KnownBytes.{Appends, Consumes, IsAtEnd}
+use Rattle.nav_bits.specs.Bits.{number_at}
 use Rattle.nav_io.specs.Front.{AppendsFront}
 use Rattle.nav_eph.specs.declared.items.NavItem.{NavItem}
 use Rattle.nav_eph.specs.declared.items.NavItem.TheVariants.{Gps, Gal, Ion}
-use Rattle.rtcm_eph.specs.Reading.{item_in}
+use Rattle.rtcm_eph.specs.Reading.{GivesItem, content_of, item_in}
 use Rattle.rtcm_eph.specs.Writing.{bytes_1019, bytes_1046}
 use Rattle.rtcm_eph.specs.declared.fault.MessageFault.{MessageFault}
 use Rattle.rtcm_eph.specs.declared.fault.MessageFault.TheVariants.{NoNumber, OtherMessage, Short, BadSat, BadTime, SpareSisa}
@@ -107,10 +110,57 @@ IsFileFault _ = ⊥
 
 -- ---- streams
 
+-- a mix with the eight bytes more that stand from a place on
+abbrev pub mixed : ℕ → List ℕ → ℕ → ℕ
+mixed mix message at = bit_xor (mix * 11400714819323198485 % 2 ^ 64) (number_at message at 64)
+
+-- the mix of a message, a number of its first 61 bytes
+unfoldable pub mix_of : List ℕ → ℕ
+mix_of message =
+    let m1 = mixed (mixed 0 message 0) message 64 in
+    let m3 = mixed (mixed m1 message 128) message 192 in
+    let m5 = mixed (mixed m3 message 256) message 320 in
+    mixed (mixed m5 message 384) message 424
+
+-- messages, each once: by mixes the places in a list of the first ones, and the others
+pub record MessagesState : Type 0 where
+  pub firsts : List (ℕ × ℕ)
+  pub list : List (List ℕ)
+  pub others : BTreeSet (List ℕ)
+
+-- the place of the first message with a mix
+abbrev pub place_of_mix : List (ℕ × ℕ) → ℕ → Option ℕ
+place_of_mix firsts mix = lookup (is_at (nat_cmp mix)) firsts
+
+-- whether this message stands in a place
+abbrev pub stands_in : Option (List ℕ) → List ℕ → Bool
+stands_in None message = false
+stands_in (Some x) message = is_at (slice_cmp nat_cmp x) message
+
+-- whether this message stands at a place of a list, where there is a place
+abbrev pub first_in : List (List ℕ) → Option ℕ → List ℕ → Option Bool
+first_in list None message = None
+first_in list (Some place) message = Some (stands_in (slice_get list place) message)
+
+-- whether this message is the first with its mix, where there is such a one
+abbrev pub first_of : MessagesState → List ℕ → Option Bool
+first_of s message = first_in s.list (place_of_mix s.firsts (mix_of message)) message
+
+-- whether a message is among them
+abbrev pub has_key : MessagesState → List ℕ → Bool
+has_key s message =
+    unwrap_or (first_of s message) false || contains (slice_cmp nat_cmp) s.others message
+
+-- this message is among them as well, and no other one more
+abbrev pub AddsKey : MessagesState → MessagesState → List ℕ → Type 0
+AddsKey old new message =
+    (other : List ℕ) → has_key new other
+    ≡ (is_at (slice_cmp nat_cmp message) other || has_key old other)
+
 -- what was given of a stream: the messages of its ephemerides, of GPS and of Galileo, and payloads that were read, as they came
 pub record GivenState : Type 0 where
-  pub gps : BTreeSet (List ℕ)
-  pub gal : BTreeSet (List ℕ)
+  pub gps : MessagesState
+  pub gal : MessagesState
   pub gps_seen : List (Option (List ℕ))
   pub gal_seen : List (Option (List ℕ))
 
@@ -134,14 +184,9 @@ KeptPlaces old new payload = MaySet old.gps_seen new.gps_seen payload × MaySet 
 abbrev pub KeptMore : GivenState → GivenState → List ℕ → Type 0
 KeptMore old new payload = KeptPlaces old new payload × (new.gps ≡ old.gps) × (new.gal ≡ old.gal)
 
--- whether a set has a message
-abbrev pub has_key : BTreeSet (List ℕ) → List ℕ → Bool
-has_key set message = contains (slice_cmp nat_cmp) set message
-
--- the set has this message as well, and no other one more
-abbrev pub AddsKey : BTreeSet (List ℕ) → BTreeSet (List ℕ) → List ℕ → Type 0
-AddsKey old new message =
-    (other : List ℕ) → has_key new other ≡ (is_at (slice_cmp nat_cmp message) other || has_key old other)
+-- the item was read of the payload, near some reference week
+abbrev pub IsReadOf : List ℕ → NavItem → Type 0
+IsReadOf payload item = (r : ℕ) × GivesItem r (content_of payload) (Ok item)
 
 -- whether an ephemeris was given, by the message that is sent for it
 abbrev pub is_given : GivenState → NavItem → Bool

@@ -9,7 +9,7 @@ ghost use Rattle.rtcm_eph.specs.declared.fault.MessageFault.{MessageFault};
 ghost use Rattle.run_texts.specs.Causes.{HasItsCause, faults_of};
 ghost use Rattle.run_texts.specs.Reports.{report_line};
 ghost use Rattle.item_runs.specs.Streams.{reading_report};
-ghost use Rattle.item_runs.specs.Mirrors.{AreFew, HasRoom, IsStreamFault, KeptPlaces, StreamBreaks, StreamGoes, StreamMoves, StreamStops, is_given, once_text, sent_alike, with_fault, with_item, with_refusal, with_unused};
+ghost use Rattle.item_runs.specs.Mirrors.{AreFew, HasRoom, IsReadOf, IsStreamFault, KeptPlaces, StreamBreaks, StreamGoes, StreamMoves, StreamStops, is_given, once_text, sent_alike, with_fault, with_item, with_refusal, with_unused};
 
 use crate::counts::StreamCounts;
 use crate::given::Given;
@@ -102,6 +102,7 @@ fn give_item<O: Outlet, T: Sink>(
     output: &mut T,
     counts: &mut StreamCounts,
 ) -> Result<(), BridgeFault>
+    requires read { IsReadOf payload.now item.now }
     requires room { HasRoom counts.old }
     ensures output { OnOk result (Appends (T.written output.old) (T.written output.new)
         (once_text (O.text outlet.now 0) (is_given given.old item.now) item.now)) }

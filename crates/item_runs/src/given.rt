@@ -1,24 +1,23 @@
 //! What was given of a stream, so that each item is given at its first place only.
 
 ghost use Rattle.std.specs.Prelude.{◌≡◌, ◌||◌, not, false, ℕ, List, None, OnOk, OnErr, IfOk, IsTrue, replicate};
-ghost use Rattle.std.specs.BTreeSet.{BTreeSet, contains};
 ghost use Rattle.nav_eph.specs.declared.items.NavItem.{NavItem};
 ghost use Rattle.rtcm_eph.specs.Writing.{bytes_1019, bytes_1046};
-ghost use Rattle.item_runs.specs.Mirrors.{AddsKey, KeptMore, KeptPlaces, NothingKept, StandsIn, has_key, is_given, sent_alike};
+ghost use Rattle.item_runs.specs.Mirrors.{IsReadOf, KeptMore, KeptPlaces, NothingKept, StandsIn, has_key, is_given, sent_alike};
 
+use crate::messages::Messages;
 use crate::seen::{Seen, place_of};
+use crate::sent::{sent_1019, sent_1046};
 use nav_eph::NavItem;
-use rtcm_eph::{write_1019, write_1046};
 use std::alloc::{AllocError, Global};
-use std::collections::BTreeSet;
 use std::marker::Model;
 
 // The messages of the ephemerides that were given, each once. Two ephemerides of a stream are equal where the same message
 // is sent for them. Beside them stand payloads as they came, so that most repeats need not be read.
 #[derive(Drop)]
 pub(crate) struct Given {
-    gps: BTreeSet<[u8; 61], Global>,
-    gal: BTreeSet<[u8; 63], Global>,
+    gps: Messages<61>,
+    gal: Messages<63>,
     gps_seen: Seen<61>,
     gal_seen: Seen<63>,
 }
@@ -36,28 +35,6 @@ impl Model for Given {
     } };
 }
 
-// Adds a message of 61 bytes; whether it was not there.
-fn add_gps(set: &mut BTreeSet<[u8; 61], Global>, message: [u8; 61]) -> Result<bool, AllocError>
-    ensures added { IfOk result (λ added. added ≡ not (has_key set.old message)) }
-    ensures adds { OnOk result (AddsKey set.old set.new message) }
-{
-    match set.insert(message) {
-        Ok(added) => Ok(added),
-        Err(_) => Err(AllocError),
-    }
-}
-
-// Adds a message of 63 bytes; whether it was not there.
-fn add_gal(set: &mut BTreeSet<[u8; 63], Global>, message: [u8; 63]) -> Result<bool, AllocError>
-    ensures added { IfOk result (λ added. added ≡ not (has_key set.old message)) }
-    ensures adds { OnOk result (AddsKey set.old set.new message) }
-{
-    match set.insert(message) {
-        Ok(added) => Ok(added),
-        Err(_) => Err(AllocError),
-    }
-}
-
 impl Given {
     // Nothing was given.
     pub(crate) fn new(alloc: Global) -> Given
@@ -65,8 +42,8 @@ impl Given {
         ensures kept { NothingKept result }
     {
         Given {
-            gps: BTreeSet::new(alloc),
-            gal: BTreeSet::new(alloc),
+            gps: Messages::new(alloc),
+            gal: Messages::new(alloc),
             gps_seen: Seen::new(),
             gal_seen: Seen::new(),
         }
@@ -93,8 +70,10 @@ impl Given {
         }
     }
 
-    // Adds an item by the message that is sent for it; whether that was not there.
-    fn add_item(&mut self, item: &NavItem) -> Result<bool, AllocError>
+    // Adds the item that was read of a payload, by the message that is sent for it; whether that
+    // was not there.
+    fn add_item(&mut self, item: &NavItem, payload: &[u8]) -> Result<bool, AllocError>
+        requires read { IsReadOf payload.now item.now }
         ensures added { IfOk result (λ added. added ≡ not (is_given self.old item.now)) }
         ensures adds { OnOk result ((other : NavItem)
             → is_given self.new other ≡ (sent_alike item.now other || is_given self.old other)) }
@@ -102,20 +81,21 @@ impl Given {
             × (self.new.gal_seen ≡ self.old.gal_seen)) }
     {
         match item {
-            NavItem::Gps(e) => add_gps(&mut self.gps, *write_1019(e).bytes()),
-            NavItem::Gal(e) => add_gal(&mut self.gal, *write_1046(e).bytes()),
+            NavItem::Gps(e) => self.gps.add(&sent_1019(e, payload)),
+            NavItem::Gal(e) => self.gal.add(&sent_1046(e, payload)),
             NavItem::Ion(_) => Ok(true),
         }
     }
 
     // Adds the item that was read of a payload, and keeps the payload; whether the item was not there.
     pub(crate) fn add(&mut self, item: &NavItem, payload: &[u8]) -> Result<bool, AllocError>
+        requires read { IsReadOf payload.now item.now }
         ensures added { IfOk result (λ added. added ≡ not (is_given self.old item.now)) }
         ensures adds { OnOk result ((other : NavItem)
             → is_given self.new other ≡ (sent_alike item.now other || is_given self.old other)) }
         ensures kept { OnOk result (KeptPlaces self.old self.new payload.now) }
     {
-        let added = self.add_item(item)?;
+        let added = self.add_item(item, payload)?;
         self.keep(payload);
         Ok(added)
     }
