@@ -5,6 +5,7 @@ pub mod EntryLemmas
 pub mod DivisionLemmas
 pub mod LookupLemmas
 pub mod StepLemmas
+pub mod MoverLemmas
 pub mod MessageLemmas
 pub mod BitLemmas
 pub mod Surface

@@ -79,13 +79,13 @@ are_at f i (x ∷ xs) all (suc k) h =
     let next : suc i + k ≡ i + suc k = omega arith in
     are_at f (suc i) xs all.1 k (omega arith) ∙ ap f next
 
-twice : (n m x y : ℕ) → m < 2 ^ 23 → x ≡ shift n m → y ≡ turned x → y ≡ shift n (m * 2)
+pub twice : (n m x y : ℕ) → m < 2 ^ 23 → x ≡ shift n m → y ≡ turned x → y ≡ shift n (m * 2)
 unfolding shift
 twice n m x y h x_is y_is =
     let order : suc n ≡ n + 1 = omega arith in
     y_is ∙ ap turned x_is ∙ ap (λ k. shift k m) order ∙ shift-add n 1 m ∙ ap (shift n) (turned_small m h)
 
-both : (n a b x y : ℕ) → a < 2 ^ 24 → b < 2 ^ 24 → x ≡ shift n a → y ≡ shift n b → bit_xor x y ≡ shift n (bit_xor a b)
+pub both : (n a b x y : ℕ) → a < 2 ^ 24 → b < 2 ^ 24 → x ≡ shift n a → y ≡ shift n b → bit_xor x y ≡ shift n (bit_xor a b)
 both n a b x y ha hb x_is y_is = ap (λ k. bit_xor k y) x_is ∙ ap (bit_xor (shift n a)) y_is ∙ sym (shift-xor n a b ha hb)
 
 pub multiple_is : (n one two four eight : ℕ) → one ≡ shift n 1 → two ≡ turned one → four ≡ turned two → eight ≡ turned four → (d : ℕ) → d < 16

@@ -1,3 +1,4 @@
 pub mod Division
 pub mod Register
 pub mod BitLists
+pub mod Movers

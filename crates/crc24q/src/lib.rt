@@ -13,6 +13,7 @@
 
 mod laws;
 mod message;
+mod mover;
 mod powers;
 mod register;
 mod shifts;
@@ -25,5 +26,6 @@ pub use crate::laws::{
     every_polynomial_has_a_crc, one_crc, the_register_holds_the_crc,
 };
 pub use crate::message::{crc_bits, crc_bytes};
+pub use crate::mover::Mover;
 pub use crate::register::with_byte;
 pub use crate::shifts::shifted;

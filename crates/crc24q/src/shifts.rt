@@ -71,7 +71,7 @@ pub(crate) fn with_bit(state: u32, bit: u32) -> u32
 }
 
 // x times a register.
-fn moved_1(state: u32) -> u32
+pub(crate) fn moved_1(state: u32) -> u32
     requires { state < 2 ^ 24 }
     ensures value { result ≡ turned state }
     ensures fits { result < 2 ^ 24 }

@@ -86,3 +86,15 @@ fn the_register_moves_past_zeros(rt: HostRuntime) {
     assert_eq!(rt; shifted(state, 2), 0x47ea4b);
     assert_eq!(rt; shifted(state, 0), state);
 }
+
+// The empty frame of RTCM, and the check value by its first bytes and its last ones.
+#[test]
+fn a_mover_moves_past_its_zeros(rt: HostRuntime) {
+    let mut mover = Mover::new(2);
+    assert_eq!(rt; mover.moved(with_byte(0, 0xd3)), 0x47ea4b);
+    mover.set_count(4);
+    assert_eq!(rt; mover.count(), 4);
+    let first = crc_bytes(b"12345").value() as u32;
+    let last = crc_bytes(b"6789").value() as u32;
+    assert_eq!(rt; mover.moved(first) ^ last, 0xcde703);
+}

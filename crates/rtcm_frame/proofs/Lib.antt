@@ -7,6 +7,7 @@ mod ChosenFrames
 mod OpenPlace
 mod FirstPlace
 mod Takes
+mod Starts
 mod Promising
 mod StandardLaws
 mod WriteLaws

@@ -6,7 +6,7 @@ ghost use Rattle.rtcm_frame.specs.Frames.{frame_size};
 ghost use Rattle.rtcm_frame.specs.State.{IsWaiting};
 ghost use Rattle.rtcm_frame.specs.Mirrors.{from_first, Promises};
 
-use crate::form::{is_held, waits, wanted_of};
+use crate::form::{is_held, next_start, waits, wanted_of};
 use crate::frame::Frame;
 use crate::window::Window;
 use std::marker::Model;
@@ -173,7 +173,7 @@ fn find(window: &mut Window, start: usize, more: bool) -> (usize, usize)
         if size != 0 {
             return (place, size);
         }
-        place += 1;
+        place = next_start(window.bytes(), place + 1);
     }
     (place, 0)
 }

@@ -1,11 +1,11 @@
 //! The form of one frame, at the beginning of some bytes (RTCM 10403.3, the transport layer).
 
-ghost use Rattle.std.specs.Prelude.{◌≡◌, ◌<◌, ◌≤◌, ◌^◌, ◌&&◌, ◌↔◌, IsTrue, length, take};
+ghost use Rattle.std.specs.Prelude.{◌≡◌, ◌<◌, ◌≤◌, ◌^◌, ◌&&◌, ◌↔◌, IsTrue, length, take, drop};
 ghost use Rattle.std.specs.Prelude.{slice_index, if◌then◌else◌, Bool};
 ghost use Rattle.rtcm_frame.specs.Checksum.{checksum};
 ghost use Rattle.rtcm_frame.specs.Frames.{announced, frame_size, is_open, is_right};
 ghost use Rattle.rtcm_frame.specs.State.{IsWaiting};
-ghost use Rattle.rtcm_frame.specs.Mirrors.{Promises};
+ghost use Rattle.rtcm_frame.specs.Mirrors.{from_first, Promises};
 
 use byteorder::{BigEndian, ByteOrder};
 use crc24q::crc_bytes;
@@ -51,6 +51,21 @@ pub fn is_held(bytes: &[u8], more: bool) -> bool
     ensures { result ≡ (more && is_open bytes.now) }
 {
     more && opens(bytes)
+}
+
+// The first place from this one on at which a byte D3 stands, or the end.
+pub fn next_start(bytes: &[u8], from: usize) -> usize
+    requires { from ≤ length bytes.now }
+    ensures onward { from ≤ result }
+    ensures inside { result ≤ length bytes.now }
+    ensures passed { (more : Bool) →
+        from_first more (drop result bytes.now) ≡ from_first more (drop from bytes.now) }
+{
+    let mut place = from;
+    while place < bytes.len() && bytes[place] != PREAMBLE {
+        place += 1;
+    }
+    place
 }
 
 // The size of the frame that is announced at the beginning of these bytes and ends in them, or 0

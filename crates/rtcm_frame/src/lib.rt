@@ -22,6 +22,7 @@
 //! ```
 #![tactic(auto)]
 
+mod body_mover;
 mod deframer;
 mod form;
 mod frame;

@@ -7,9 +7,10 @@ ghost use Rattle.crc24q.specs.Register.{crc_from};
 ghost use Rattle.rtcm_frame.specs.Frames.{is_right};
 ghost use Rattle.rtcm_frame.specs.States.{AreStates};
 
+use crate::body_mover::BodyMover;
 use arrayvec::ArrayVec;
 use byteorder::{BigEndian, ByteOrder};
-use crc24q::{shifted, with_byte};
+use crc24q::with_byte;
 
 // Computes the registers up to the one before this place.
 pub fn extend(bytes: &[u8], states: &mut ArrayVec<u32, 4097>, end: usize)
@@ -58,7 +59,7 @@ pub fn begin_states(states: &mut ArrayVec<u32, 4097>)
 // Whether the last three bytes are the checksum of those before them, by the registers before and
 // after these.
 #[tactic(auto, unfolding(crate::specs::Frames::is_right))]
-pub fn has_right_checksum_by(before: u32, after: u32, frame: &[u8]) -> bool
+pub fn has_right_checksum_by(mover: &mut BodyMover, before: u32, after: u32, frame: &[u8]) -> bool
     requires before { before < 2 ^ 24 }
     requires after { after ≡ crc_from before (take (length frame.now - 3) frame.now) }
     requires shortest { 3 ≤ length frame.now }
@@ -66,5 +67,5 @@ pub fn has_right_checksum_by(before: u32, after: u32, frame: &[u8]) -> bool
     ensures { result ≡ is_right frame.now }
 {
     let end = frame.len() - 3;
-    after ^ shifted(before, end) == BigEndian::read_u24(&frame[end..])
+    after ^ mover.moved(before, end) == BigEndian::read_u24(&frame[end..])
 }

@@ -69,6 +69,18 @@ fn finds_the_frames_of_a_stream(rt: HostRuntime) -> Result<(), Fail> {
     Ok(())
 }
 
+// A stream of one byte alone announces a frame of 985 bytes at each place. The one at place 300 is
+// right, since the checksum of 982 bytes D3 follows there, and a frame stands behind it.
+#[test]
+fn finds_a_frame_behind_many_false_starts(rt: HostRuntime) -> Result<(), Fail> {
+    let mut bytes = vec![in rt.alloc(); 0xd3u8; 1282]?;
+    bytes.extend_from_slice(b"\x48\x1d\x21")?;
+    bytes.extend_from_slice(EMPTY)?;
+    let frames = frames_of(&rt, rt.alloc(), bytes.as_slice())?;
+    assert_eq!(rt; frames.as_slice(), &bytes.as_slice()[300..]);
+    Ok(())
+}
+
 #[test]
 fn writes_and_reads_one_frame(rt: HostRuntime) -> Result<(), Fail> {
     let mut bytes = ArrayVec::new();

@@ -3,6 +3,7 @@
 ghost use Rattle.std.specs.Prelude.{◌≡◌, ◌+◌, ◌<◌, ◌≤◌, [], ◌∷◌, ◌++◌, length, take, drop};
 ghost use Rattle.rtcm_frame.specs.Frames.{frame_size, is_right};
 
+use crate::body_mover::BodyMover;
 use crate::form::{announced_within, has_right_checksum};
 use crate::states::{begin_states, cut_states, extend, has_right_checksum_by};
 use arrayvec::ArrayVec;
@@ -19,6 +20,8 @@ pub struct Window {
     bytes: ArrayVec<u8, CAPACITY>,
     // the register before each byte, up to some byte
     states: ArrayVec<u32, 4097>,
+    // moves them past the bodies of frames
+    mover: BodyMover,
 }
 
 impl Model for Window {
@@ -42,6 +45,7 @@ impl Window {
         Window {
             bytes: ArrayVec::new(),
             states,
+            mover: BodyMover::new(),
         }
     }
 
@@ -111,7 +115,8 @@ impl Window {
         extend(self.bytes.as_slice(), &mut self.states, place + size - 3);
         let before = self.states.as_slice()[place];
         let after = self.states.as_slice()[place + size - 3];
-        has_right_checksum_by(before, after, &self.bytes.as_slice()[place..place + size])
+        let frame = &self.bytes.as_slice()[place..place + size];
+        has_right_checksum_by(&mut self.mover, before, after, frame)
     }
 
     // The size of the frame that begins at this place, or 0 where none does.

@@ -20,7 +20,7 @@ unfolding is_right
 returns c =
     let end : ℕ = length c.args.frame.now - 3 in
     let count : length (take end c.args.frame.now) ≡ end = length-take-le end c.args.frame.now (omega arith) in
-    let sum : bit_xor c.args.after c.shifted.result ≡ crc_from 0 (take end c.args.frame.now) =
-    body_sum c.args.before c.args.after c.shifted.result (take end c.args.frame.now) end c.requires.before count c.requires.after c.shifted.ensures.value in
+    let sum : bit_xor c.args.after c.moved.result ≡ crc_from 0 (take end c.args.frame.now) =
+    body_sum c.args.before c.args.after c.moved.result (take end c.args.frame.now) end c.requires.before count c.requires.after c.moved.ensures in
     let number : c.read_u24.result ≡ big_number 3 (drop end c.args.frame.now) = c.read_u24.ensures ∙ ap (big_number 3) (take_rest c.args.frame.now end) in
     ap (λ n. nat_eq n c.read_u24.result) sum ∙ ap (nat_eq (crc_from 0 (take end c.args.frame.now))) number

@@ -1,0 +1,109 @@
+//! The register moved past one number of bytes that are all 0, by tables made for that number.
+
+ghost use Rattle.std.specs.Prelude.{◌≡◌, ℕ, ◌*◌, ◌^◌, ◌<◌, slice_index};
+ghost use Rattle.crc24q.specs.Register.{shift};
+ghost use Rattle.crc24q.specs.Movers.{AreMoved};
+
+use crate::powers::power;
+use crate::register::with_byte;
+use crate::shifts::moved_1;
+use std::marker::Model;
+
+/// Moves registers past so many bytes 0 as it was made for: what [`shifted`](crate::shifted) does,
+/// by three look-ups that do not wait for one another.
+///
+/// A contract sees the number of bytes. The tables have 3 KB, and to make them takes the time of
+/// some twenty moves by `shifted`: they pay where the same number comes again and again.
+#[derive(Drop)]
+pub struct Mover {
+    count: usize,
+    // each byte at the end of the register, in its middle and at its head, moved
+    low: [u32; 256],
+    middle: [u32; 256],
+    high: [u32; 256],
+}
+
+impl Model for Mover {
+    ghost use Rattle.std.specs.Prelude.{ℕ, ◌*◌, ◌<◌};
+    ghost use Rattle.crc24q.specs.Movers.{AreMoved};
+
+    ghost Value = { ℕ };
+
+    ghost view = { λ m. m.count };
+
+    ghost invariant = { λ m. (m.count < 1029) × AreMoved (8 * m.count) m.low m.middle m.high };
+}
+
+impl Mover {
+    /// A mover past so many bytes: up to 1,028 of them, as many as a frame may have.
+    pub fn new(count: usize) -> Self
+        requires { count < 1029 }
+        ensures { result ≡ count }
+    {
+        let mut low = [0; 256];
+        let mut middle = [0; 256];
+        let mut high = [0; 256];
+        fill_tables(count, &mut low, &mut middle, &mut high);
+        Mover {
+            count,
+            low,
+            middle,
+            high,
+        }
+    }
+
+    /// Makes it a mover past so many bytes.
+    pub fn set_count(&mut self, count: usize)
+        requires { count < 1029 }
+        ensures { self.new ≡ count }
+    {
+        fill_tables(count, &mut self.low, &mut self.middle, &mut self.high);
+        self.count = count;
+    }
+
+    /// Past how many bytes it moves a register.
+    pub fn count(&self) -> usize
+        ensures { result ≡ self.now }
+    {
+        self.count
+    }
+
+    /// The register after `count` bytes 0, going on from `state`.
+    pub fn moved(&self, state: u32) -> u32
+        requires { state < 2 ^ 24 }
+        ensures value { result ≡ shift (8 * self.now) state }
+        ensures fits { result < 2 ^ 24 }
+    {
+        let low = self.low[(state & 255) as usize];
+        let middle = self.middle[(state >> 8 & 255) as usize];
+        self.high[(state >> 16) as usize] ^ (middle ^ low)
+    }
+}
+
+// Makes the three tables.
+fn fill_tables(count: usize, low: &mut [u32; 256], middle: &mut [u32; 256], high: &mut [u32; 256])
+    requires { count < 1029 }
+    ensures { AreMoved (8 * count) low.new middle.new high.new }
+{
+    let one = power(count);
+    let next = with_byte(one, 0);
+    fill(low, one);
+    fill(middle, next);
+    fill(high, with_byte(next, 0));
+}
+
+// Makes the products of a power of x with the polynomials of degree below 8: x times that of the
+// higher seven digits and, where the last digit is 1, the power.
+fn fill(entries: &mut [u32; 256], one: u32)
+    requires { one < 2 ^ 24 }
+    ensures { (n : ℕ) → one ≡ shift n 1 →
+        (d : ℕ) → d < 256 → slice_index entries.new d ≡ shift n d }
+{
+    entries[0] = 0;
+    entries[1] = one;
+    for half in 1..128 {
+        let even = moved_1(entries[half]);
+        entries[2 * half] = even;
+        entries[2 * half + 1] = even ^ one;
+    }
+}
