@@ -63,12 +63,12 @@ impl Halves {
     /// is kept already. Then it is kept as well, and what is older than the greatest stamp by more
     /// than the window and a second is forgotten; a half that is itself too old is not kept.
     ///
-    /// The cost is that of a CRC, of a search among the halves that are kept of its own second, once
-    /// whether it is there and once to put it in, of a search for its partners among those of their
-    /// second, and of the words. A second is found with no search. What is forgotten is freed a
-    /// second at a time, when another comes to its place, so that each half is freed once, and a
-    /// stamp that is far above the others costs no more. The first half of all makes the places, as
-    /// many as the window has seconds, and two. On an error nothing has changed.
+    /// The cost is that of a CRC, of two searches among the halves of its own second that are kept,
+    /// one whether it is there and one to put it in, of a search for its partners among those of
+    /// theirs, and of the words. A second is found with no search. What is forgotten is freed when
+    /// another second comes to its place, so that each half is freed once, and a stamp that is far
+    /// above the others costs no more. The first half of all makes the places, two more than the
+    /// window has seconds. On an error nothing has changed.
     pub fn take(
         &mut self,
         stamp: u32,

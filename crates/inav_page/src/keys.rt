@@ -198,7 +198,8 @@ pub(crate) fn keep(
         AreWordsWith (Contains (map half_of (keys_in kept.old)))
         (stamped stamp (record { system = Gal; number = number }) signal half.now) joined.words) }
     ensures again { IfOk result (λ joined. Contains (map half_of (keys_in kept.old))
-        (stamped stamp (record { system = Gal; number = number }) signal half.now) → joined.words ≡ []) }
+        (stamped stamp (record { system = Gal; number = number }) signal half.now) →
+        joined.words ≡ []) }
     ensures stamp { IfOk result (λ joined. (joined.words ≡ [] → ⊥) →
         joined.stamp ≡ stamp_by (kind_of half.now) stamp) }
     ensures count { IfOk result (λ joined. length joined.words ≤ length (keys_in kept.old)) }
