@@ -4,7 +4,7 @@ pub mod Surface
 pub mod Deciding
 pub mod KeyOrder
 pub mod Remainders
-pub mod Forgetting
 pub mod Partners
 pub mod Inserting
+pub mod Placing
 pub mod Taking

@@ -1,6 +1,6 @@
 -- The partners of a half among the keys, and the words that it makes with them.
-use Rattle.std.proofs.Common.{◌≡◌, ℕ, zero, suc, ◌+◌, ◌-◌, ◌*◌, ◌/◌, ◌%◌, ◌<◌, ◌≤◌, ◌^◌, ◌⊎◌, List, [], ◌∷◌, ◌++◌, Bool, true, false, length, map, None, Some, inl, inr, refl, sym, ap, subst, ◌∙◌, ⊎_elim, arith}
-use Rattle.std.proofs.lemmas.Bool.{cases_Bool, cond-false, cond_both}
+use Rattle.std.proofs.Common.{◌≡◌, ℕ, zero, suc, ◌+◌, ◌-◌, ◌*◌, ◌/◌, ◌%◌, ◌<◌, ◌≤◌, ◌^◌, List, [], ◌∷◌, ◌++◌, Bool, true, length, map, None, Some, inl, inr, refl, sym, ap, subst, ◌∙◌, ⊎_elim, arith}
+use Rattle.std.proofs.lemmas.Bool.{cond_both}
 use Rattle.std.proofs.lemmas.List.{map-append, length-map}
 use Rattle.std.proofs.lemmas.List.Kept.{IsStrictlySortedBy-filter}
 use Rattle.std.specs.Prelude.{Contains}
@@ -18,7 +18,7 @@ use Rattle.inav_page.specs.declared.signal.Signal.TheVariants.{E1b, E5b}
 use Rattle.inav_page.specs.Pages.{kind_of}
 use Rattle.inav_page.specs.Heard.{StampedHalf, MakeWord, ArePartners, AreWordsWith, IsAbove, IsAscending, word_by, word_with}
 use Rattle.inav_page.specs.Keeping.{stamped}
-use Rattle.inav_page.specs.Mirrors.{signal_number, signal_of, place_of, slot_of, half_of, remainder_by, remainder_of, key_cmp, first_partner, end_of_partners, keys_in_slot, words_by, words_in_slot, IsKey, AreKeys, AreUpToOrAt, HasPartnerStamp}
+use Rattle.inav_page.specs.Mirrors.{signal_number, signal_of, place_of, slot_of, half_of, remainder_by, remainder_of, key_cmp, first_partner, end_of_partners, keys_in_slot, words_by, words_in_slot, IsKey, AreKeys, IsSecondOf, HasPartnerStamp}
 use Rattle.inav_page.proofs.Surface.{not_both}
 use Rattle.inav_page.proofs.PageNumbers.{right_to, right_from}
 use Rattle.inav_page.proofs.Remainders.{is_right_by, same_remainder, right_by_remainder, remainder-lt}
@@ -52,6 +52,9 @@ half_of_place stamp number signal key fits at =
     let signal_is : signal_of (key.0 / 2 ^ 24 % 2) ≡ signal = ap signal_of lane_is ∙ signal_again signal in
     λ i. record { stamp = stamp_is i; sat = record { system = Gal; number = number_is i }; signal = signal_is i; half = key.1 }
 
+stamp_at_place : (stamp number : ℕ) (signal : Signal) (place : ℕ) → number < 64 → place ≡ place_of stamp number signal → place / 128 ≡ stamp
+stamp_at_place stamp number signal place fits at = let small = signal_number-lt signal in omega (arith, at, small, fits)
+
 -- the place of a half
 pub place_back : (key : ℕ × ℕ) → key.0 / 2 ^ 24 ≡ place_of (half_of key).stamp (half_of key).sat.number (half_of key).signal
 place_back key =
@@ -79,27 +82,27 @@ same_key a b first second e =
 -- ---- partners, one by one
 
 -- what makes a key the partner of a half of that kind at a stamp
-pub is_partner : (stamp greatest number : ℕ) (signal : Signal) (half other : ℕ) (kind : HalfKind) (key : ℕ × ℕ) → kind_of half ≡ kind → number < 64
-    → HasPartnerStamp kind stamp greatest (Some other) → key.0 / 2 ^ 24 ≡ place_of other number signal → kind_of key.1 ≡ other_kind kind → is_right_by kind half key.1 ≡ true
+pub is_partner : (stamp number : ℕ) (signal : Signal) (half other : ℕ) (kind : HalfKind) (key : ℕ × ℕ) → kind_of half ≡ kind → number < 64
+    → HasPartnerStamp kind stamp (Some other) → key.0 / 2 ^ 24 ≡ place_of other number signal → kind_of key.1 ≡ other_kind kind → is_right_by kind half key.1 ≡ true
     → ArePartners (stamped stamp (record { system = Gal; number = number }) signal half) (half_of key)
-is_partner stamp greatest number signal half other Even key kind_is fits has at its right =
+is_partner stamp number signal half other Even key kind_is fits has at its right =
     let taken = stamped stamp (record { system = Gal; number = number }) signal half in
     let P : StampedHalf → Type 0 = ArePartners taken in
     subst P (sym (half_of_place other number signal key fits at))
     (inl (record { is_even = kind_is; is_odd = its; stamp = has.1; sat = refl; signal = refl; crc = right_to half key.1 right }))
-is_partner stamp greatest number signal half other Odd key kind_is fits has at its right =
+is_partner stamp number signal half other Odd key kind_is fits has at its right =
     let taken = stamped stamp (record { system = Gal; number = number }) signal half in
     let P : StampedHalf → Type 0 = ArePartners taken in
-    let low : 1 ≤ stamp = has.0.0 in
+    let low : 1 ≤ stamp = has.0 in
     let is : other ≡ stamp - 1 = has.1 in
     subst P (sym (half_of_place other number signal key fits at))
     (inr (record { is_even = its; is_odd = kind_is; stamp = omega (arith, low, is); sat = refl; signal = refl; crc = right_to key.1 half right }))
 
 -- the place of a partner
-pub partner_place : (stamp greatest number : ℕ) (signal : Signal) (half other : ℕ) (kind : HalfKind) (key : ℕ × ℕ) → kind_of half ≡ kind
-    → HasPartnerStamp kind stamp greatest (Some other) → ArePartners (stamped stamp (record { system = Gal; number = number }) signal half) (half_of key)
+pub partner_place : (stamp number : ℕ) (signal : Signal) (half other : ℕ) (kind : HalfKind) (key : ℕ × ℕ) → kind_of half ≡ kind
+    → HasPartnerStamp kind stamp (Some other) → ArePartners (stamped stamp (record { system = Gal; number = number }) signal half) (half_of key)
     → (key.0 / 2 ^ 24 ≡ place_of other number signal) × (kind_of key.1 ≡ other_kind kind) × (is_right_by kind half key.1 ≡ true)
-partner_place stamp greatest number signal half other Even key kind_is has partners =
+partner_place stamp number signal half other Even key kind_is has partners =
     let taken = stamped stamp (record { system = Gal; number = number }) signal half in
     ⊎_elim
     (λ (make : MakeWord taken (half_of key)).
@@ -112,7 +115,7 @@ partner_place stamp greatest number signal half other Even key kind_is has partn
     ))
     (λ (make : MakeWord (half_of key) taken). absurd (not_both (kind_of half) kind_is make.is_odd))
     partners
-partner_place stamp greatest number signal half other Odd key kind_is has partners =
+partner_place stamp number signal half other Odd key kind_is has partners =
     let taken = stamped stamp (record { system = Gal; number = number }) signal half in
     let is : other ≡ stamp - 1 = has.1 in
     ⊎_elim
@@ -128,31 +131,26 @@ partner_place stamp greatest number signal half other Odd key kind_is has partne
     ))
     partners
 
--- a half whose partners would be above the greatest stamp, or before the first second, has none
-pub no_partner : (stamp greatest number : ℕ) (signal : Signal) (half : ℕ) (kind : HalfKind) (key : ℕ × ℕ) → kind_of half ≡ kind
-    → HasPartnerStamp kind stamp greatest None → (((half_of key).stamp ≤ greatest) ⊎ ((half_of key).stamp ≡ stamp))
+-- a half whose partners would come before the first second, or after the last, has none
+pub no_partner : (stamp number : ℕ) (signal : Signal) (half : ℕ) (kind : HalfKind) (key : ℕ × ℕ) → kind_of half ≡ kind
+    → HasPartnerStamp kind stamp None → IsKey key
     → ArePartners (stamped stamp (record { system = Gal; number = number }) signal half) (half_of key) → ⊥
-no_partner stamp greatest number signal half Even key kind_is none early partners =
+no_partner stamp number signal half Even key kind_is none is partners =
     let taken = stamped stamp (record { system = Gal; number = number }) signal half in
     ⊎_elim
     (λ (make : MakeWord taken (half_of key)).
-    let is : key.0 / 2 ^ 24 / 128 ≡ stamp + 1 = make.stamp in
-    ⊎_elim
-    (λ (low : key.0 / 2 ^ 24 / 128 ≤ greatest). none (omega (arith, is, low)))
-    (λ (own : key.0 / 2 ^ 24 / 128 ≡ stamp). absurd (omega (arith, is, own)))
-    early)
+    let at : key.0 / 2 ^ 24 / 128 ≡ stamp + 1 = make.stamp in
+    let fits : key.0 < 2 ^ 63 = is.fits in
+    none (omega (arith, at, fits)))
     (λ (make : MakeWord (half_of key) taken). not_both (kind_of half) kind_is make.is_odd)
     partners
-no_partner stamp greatest number signal half Odd key kind_is none early partners =
+no_partner stamp number signal half Odd key kind_is none is partners =
     let taken = stamped stamp (record { system = Gal; number = number }) signal half in
     ⊎_elim
     (λ (make : MakeWord taken (half_of key)). not_both (kind_of half) make.is_even kind_is)
     (λ (make : MakeWord (half_of key) taken).
-    let is : stamp ≡ key.0 / 2 ^ 24 / 128 + 1 = make.stamp in
-    ⊎_elim
-    (λ (low : key.0 / 2 ^ 24 / 128 ≤ greatest). none (omega (arith, is), omega (arith, is, low)))
-    (λ (own : key.0 / 2 ^ 24 / 128 ≡ stamp). absurd (omega (arith, is, own)))
-    early)
+    let at : stamp ≡ key.0 / 2 ^ 24 / 128 + 1 = make.stamp in
+    none (omega (arith, at)))
     partners
 
 -- ---- all partners
@@ -204,66 +202,84 @@ sorted_in_slot keys slot kind sorted = IsStrictlySortedBy-filter key_cmp (in_ran
 remainder_of_kind : (key : ℕ × ℕ) (kind : HalfKind) → IsKey key → kind_of key.1 ≡ kind → key.0 % 2 ^ 24 ≡ remainder_by kind key.1
 remainder_of_kind key kind is own = is.remainder ∙ ap (λ k. remainder_by k key.1) own
 
--- the words in the slot of the partners are those of the half with its partners
-pub words_of_partners : (keys : List (ℕ × ℕ)) (stamp greatest number : ℕ) (signal : Signal) (half other slot : ℕ) → AreKeys keys
-    → IsStrictlySortedBy key_cmp keys → number < 64 → HasPartnerStamp (kind_of half) stamp greatest (Some other)
+-- the words in the slot of the partners, among the keys of their second, are those of the half with its partners among all
+pub words_of_partners : (all second : List (ℕ × ℕ)) (stamp number : ℕ) (signal : Signal) (half other slot : ℕ) → AreKeys all
+    → IsSecondOf all other second → IsStrictlySortedBy key_cmp second → number < 64 → HasPartnerStamp (kind_of half) stamp (Some other)
     → slot ≡ slot_of (place_of other number signal) (remainder_of half)
-    → AreWordsWith (Contains (map half_of keys)) (stamped stamp (record { system = Gal; number = number }) signal half) (words_in_slot keys slot half)
-words_of_partners keys stamp greatest number signal half other slot are sorted fits has slot_is =
+    → AreWordsWith (Contains (map half_of all)) (stamped stamp (record { system = Gal; number = number }) signal half) (words_in_slot second slot half)
+words_of_partners all second stamp number signal half other slot are those sorted fits has slot_is =
     let kind = kind_of half in
     let place = place_of other number signal in
     let taken = stamped stamp (record { system = Gal; number = number }) signal half in
-    let found = keys_in_slot keys slot kind in
+    let found = keys_in_slot second slot kind in
     let parts = slot_parts slot place (remainder_of half) (remainder-lt kind half) slot_is in
-    let partner : (key : ℕ × ℕ) → In found key → In keys key × ArePartners taken (half_of key) =
+    let partner : (key : ℕ × ℕ) → In found key → In all key × ArePartners taken (half_of key) =
     λ key h.
-    let is = in_slot keys slot kind key h in
-    let own = remainder_of_kind key (other_kind kind) (are key (contains_from_In keys key is.0)) is.2 in
+    let is = in_slot second slot kind key h in
+    let there : Contains all key = ((those.0 key).0 (contains_from_In second key is.0)).0 in
+    let own = remainder_of_kind key (other_kind kind) (are key there) is.2 in
     let here : key.0 / 2 ^ 24 ≡ place = ap (λ n. n / 2 ^ 24) is.1 ∙ parts.0 in
     let same : remainder_by kind half ≡ remainder_by (other_kind kind) key.1 = sym parts.1 ∙ sym (ap (λ n. n % 2 ^ 24) is.1) ∙ own in
-    (is.0, is_partner stamp greatest number signal half other kind key refl fits has here is.2 (right_by_remainder kind half key.1 same)) in
-    let stands : (key : ℕ × ℕ) → In keys key → ArePartners taken (half_of key) → In found key =
+    (In-from_contains all key there, is_partner stamp number signal half other kind key refl fits has here is.2 (right_by_remainder kind half key.1 same)) in
+    let stands : (key : ℕ × ℕ) → In all key → ArePartners taken (half_of key) → In found key =
     λ key there partners.
-    let is = partner_place stamp greatest number signal half other kind key refl has partners in
-    let own = remainder_of_kind key (other_kind kind) (are key (contains_from_In keys key there)) is.1 in
+    let is = partner_place stamp number signal half other kind key refl has partners in
+    let own = remainder_of_kind key (other_kind kind) (are key (contains_from_In all key there)) is.1 in
     let same : remainder_by kind half ≡ remainder_by (other_kind kind) key.1 = same_remainder kind half key.1 is.2 in
     let rest : key.0 % 2 ^ 24 ≡ slot % 2 ^ 24 = own ∙ sym same ∙ sym parts.1 in
     let front : key.0 / 2 ^ 24 ≡ slot / 2 ^ 24 = is.0 ∙ sym parts.0 in
-    stands_in_slot keys slot kind key there (omega (arith, whole_slot key.0, whole_slot slot, rest, front)) is.1 in
+    let its : (half_of key).stamp ≡ other = stamp_at_place other number signal (key.0 / 2 ^ 24) fits is.0 in
+    let of_second : In second key = In-from_contains second key ((those.0 key).1 (contains_from_In all key there, its)) in
+    stands_in_slot second slot kind key of_second (omega (arith, whole_slot key.0, whole_slot slot, rest, front)) is.1 in
     record {
       partners = map half_of found;
       each = λ one. (
         λ h. let key = map_in half_of found one (In-from_contains (map half_of found) one h) in
             let is = partner key.0 key.1 in
-            let P : StampedHalf → Type 0 = λ h. Contains (map half_of keys) h × ArePartners taken h in
-            subst P key.2 (contains_from_In (map half_of keys) (half_of key.0) (in_map half_of keys key.0 is.0), is.1),
-        λ h. let key = map_in half_of keys one (In-from_contains (map half_of keys) one h.0) in
+            let P : StampedHalf → Type 0 = λ h. Contains (map half_of all) h × ArePartners taken h in
+            subst P key.2 (contains_from_In (map half_of all) (half_of key.0) (in_map half_of all key.0 is.0), is.1),
+        λ h. let key = map_in half_of all one (In-from_contains (map half_of all) one h.0) in
             let P : StampedHalf → Type 0 = ArePartners taken in
             let Q : StampedHalf → Type 0 = Contains (map half_of found) in
             subst Q key.2 (contains_from_In (map half_of found) (half_of key.0)
             (in_map half_of found key.0 (stands key.0 key.1 (subst P (sym key.2) h.1)))),
       );
-      ascending = keys_ascend slot found (λ key h. (in_slot keys slot kind key h).1) (sorted_in_slot keys slot kind sorted);
+      ascending = keys_ascend slot found (λ key h. (in_slot second slot kind key h).1) (sorted_in_slot second slot kind sorted);
       words_are = sym (map-map (word_with taken) half_of found);
     }
 
-pub no_words : (keys : List (ℕ × ℕ)) (stamp greatest number : ℕ) (signal : Signal) (half : ℕ) → AreUpToOrAt greatest stamp keys
-    → HasPartnerStamp (kind_of half) stamp greatest None
+-- no words, where no key is a partner
+no_words : (keys : List (ℕ × ℕ)) (taken : StampedHalf) → ((key : ℕ × ℕ) → Contains keys key → ArePartners taken (half_of key) → ⊥)
+    → AreWordsWith (Contains (map half_of keys)) taken []
+no_words keys taken none = record {
+  partners = [];
+  each = λ one. (
+    λ h. absurd (In-from_contains [] one h),
+    λ h. let key = map_in half_of keys one (In-from_contains (map half_of keys) one h.0) in
+        let P : StampedHalf → Type 0 = ArePartners taken in
+        absurd (none key.0 (contains_from_In keys key.0 key.1) (subst P (sym key.2) h.1)),
+  );
+  ascending = tt;
+  words_are = refl;
+}
+
+-- as where there is no second that they could be of
+pub no_words_at_ends : (keys : List (ℕ × ℕ)) (stamp number : ℕ) (signal : Signal) (half : ℕ) → AreKeys keys
+    → HasPartnerStamp (kind_of half) stamp None
     → AreWordsWith (Contains (map half_of keys)) (stamped stamp (record { system = Gal; number = number }) signal half) []
-no_words keys stamp greatest number signal half early none =
-    let taken = stamped stamp (record { system = Gal; number = number }) signal half in
-    record {
-      partners = [];
-      each = λ one. (
-        λ h. absurd (In-from_contains [] one h),
-        λ h. let key = map_in half_of keys one (In-from_contains (map half_of keys) one h.0) in
-            let P : StampedHalf → Type 0 = ArePartners taken in
-            let at = early key.0 (contains_from_In keys key.0 key.1) in
-            absurd (no_partner stamp greatest number signal half (kind_of half) key.0 refl none at (subst P (sym key.2) h.1)),
-      );
-      ascending = tt;
-      words_are = refl;
-    }
+no_words_at_ends keys stamp number signal half are none =
+    no_words keys (stamped stamp (record { system = Gal; number = number }) signal half)
+    (λ key there. no_partner stamp number signal half (kind_of half) key refl none (are key there))
+
+-- or where that second has no keys
+pub no_words_of_none : (keys : List (ℕ × ℕ)) (stamp number : ℕ) (signal : Signal) (half other : ℕ) → number < 64
+    → HasPartnerStamp (kind_of half) stamp (Some other) → IsSecondOf keys other []
+    → AreWordsWith (Contains (map half_of keys)) (stamped stamp (record { system = Gal; number = number }) signal half) []
+no_words_of_none keys stamp number signal half other fits has those =
+    no_words keys (stamped stamp (record { system = Gal; number = number }) signal half)
+    (λ key there partners.
+    let is = partner_place stamp number signal half other (kind_of half) key refl has partners in
+    In-from_contains [] key ((those.0 key).1 (there, stamp_at_place other number signal (key.0 / 2 ^ 24) fits is.0)))
 
 -- ---- words, as the code finds them one after another
 
@@ -302,40 +318,3 @@ words-fewer keys slot half =
       length-map (keys_in_slot keys slot kind) (λ key. word_by kind half key.1),
       filter-fewer (in_range slot kind) keys,
     )
-
--- one that does not pass is left out
-filter-less : (p : ℕ × ℕ → Bool) (keys : List (ℕ × ℕ)) (key : ℕ × ℕ) → In keys key → p key ≡ false → length (filter p keys) < length keys
-filter-less p [] key there fails = absurd there
-filter-less p (x ∷ xs) key there fails =
-    let P : List (ℕ × ℕ) → Type 0 = λ found. length found < suc (length xs) in
-    let fewer = filter-fewer p xs in
-    ⊎_elim
-    (λ (here : x ≡ key). subst P (sym (cond-false (p x) (x ∷ filter p xs) (filter p xs) (ap p here ∙ fails))) (omega (arith, fewer)))
-    (λ (later : In xs key).
-    let less = filter-less p xs key later fails in
-    cond_both (p x) (x ∷ filter p xs) (filter p xs) P (λ passes. omega (arith, less)) (λ out. omega (arith, less)))
-    there
-
-not_other : (kind : HalfKind) → kind ≡ other_kind kind → ⊥
-not_other Even same = not_both Even refl same
-not_other Odd same = not_both Odd (same) refl
-
--- a half that is among the keys is none of its own partners
-pub words-less : (keys : List (ℕ × ℕ)) (slot half : ℕ) (key : ℕ × ℕ) → Contains keys key → key.1 ≡ half
-    → length (words_in_slot keys slot half) < length keys
-unfolding keys_in_slot
-words-less keys slot half key there own =
-    let kind = kind_of half in
-    let fails : in_range slot kind key ≡ false =
-    ⊎_elim
-    (λ (passes : in_range slot kind key ≡ true). absurd (not_other kind (sym (ap kind_of own) ∙ (range_to slot kind key passes).1)))
-    (λ (out : in_range slot kind key ≡ false). out)
-    (cases_Bool (in_range slot kind key)) in
-    omega (
-      arith,
-      length-map (keys_in_slot keys slot kind) (λ key. word_by kind half key.1),
-      filter-less (in_range slot kind) keys key (In-from_contains keys key there) fails,
-    )
-
-pub some-key : (keys : List (ℕ × ℕ)) (key : ℕ × ℕ) → Contains keys key → 0 < length keys
-some-key keys key there = let less = filter-less (λ k. false) keys key (In-from_contains keys key there) refl in omega (arith, less)

@@ -1,6 +1,6 @@
 -- How halves are kept in order, which private functions compute: a half by the number of its stamp, satellite
 -- and signal, the remainder that its partners have too, and its bits.
-use Rattle.std.specs.Prelude.{◌≡◌, ℕ, ◌+◌, ◌-◌, ◌*◌, ◌/◌, ◌%◌, ◌^◌, ◌<◌, ◌≤◌, ◌⊎◌, List, Option, SomeIff, nat_eq, map, if◌then◌else◌, bit_xor, Contains}
+use Rattle.std.specs.Prelude.{◌≡◌, ℕ, ◌+◌, ◌-◌, ◌*◌, ◌/◌, ◌%◌, ◌^◌, ◌<◌, ◌≤◌, ◌⊎◌, ◌↔◌, ◌++◌, List, [], ◌∷◌, length, nat_lt, Option, Some, slice_get, SomeIff, nat_eq, map, if◌then◌else◌, bit_xor, Contains}
 use Rattle.std.specs.Ordering.{nat_cmp, ordering_then}
 use Rattle.std.specs.List.{filter}
 use Rattle.std.specs.declared.cmp.Ordering.{Ordering}
@@ -9,6 +9,8 @@ use Rattle.std.specs.BTreeMap.Range.{range_contains}
 use Rattle.nav_eph.specs.declared.sat.System.TheVariants.{Gal}
 use Rattle.inav_page.specs.declared.half.HalfKind.{HalfKind}
 use Rattle.inav_page.specs.declared.half.HalfKind.TheVariants.{Even, Odd}
+use Rattle.inav_page.specs.declared.seconds.Second.{Second}
+use Rattle.inav_page.specs.declared.seconds.Seconds.{Seconds}
 use Rattle.inav_page.specs.declared.signal.Signal.{Signal}
 use Rattle.inav_page.specs.declared.signal.Signal.TheVariants.{E1b, E5b}
 use Rattle.inav_page.specs.Pages.{digits_at, kind_of, page_crc}
@@ -61,23 +63,57 @@ pub record IsKey (key : ℕ × ℕ) : Type 0 where
 abbrev pub AreKeys : List (ℕ × ℕ) → Type 0
 AreKeys keys = (key : ℕ × ℕ) → Contains keys key → IsKey key
 
--- the halves under the keys are recent
-abbrev pub AreRecent : ℕ → ℕ → List (ℕ × ℕ) → Type 0
-AreRecent window greatest keys = (key : ℕ × ℕ) → Contains keys key → IsRecent window greatest (half_of key)
+-- the keys in a second of that stamp, none in one of another
+abbrev pub keys_of : ℕ → Second → List (ℕ × ℕ)
+keys_of stamp second = if nat_eq second.stamp stamp then second.keys.keys else []
 
--- the stamps of the halves under the keys are at most the greatest that was taken
-abbrev pub AreUpTo : ℕ → List (ℕ × ℕ) → Type 0
-AreUpTo greatest keys = (key : ℕ × ℕ) → Contains keys key → (half_of key).stamp ≤ greatest
+-- the keys in a second that is not too old
+abbrev pub recent_keys : ℕ → ℕ → Second → List (ℕ × ℕ)
+recent_keys window greatest second = if nat_lt (second.stamp + window + 1) greatest then [] else second.keys.keys
 
--- or that of a half which was put in since
-abbrev pub AreUpToOrAt : ℕ → ℕ → List (ℕ × ℕ) → Type 0
-AreUpToOrAt greatest stamp keys =
-    (key : ℕ × ℕ) → Contains keys key → ((half_of key).stamp ≤ greatest) ⊎ ((half_of key).stamp ≡ stamp)
+-- the keys in those of the seconds that are not too old
+abbrev pub keys_among : ℕ → ℕ → List Second → List (ℕ × ℕ)
+keys_among window greatest [] = []
+keys_among window greatest (second ∷ seconds) = recent_keys window greatest second ++ keys_among window greatest seconds
 
--- the stamp of the partners of a half of that kind: none above the greatest that was taken, and none before the first second
-abbrev pub HasPartnerStamp : HalfKind → ℕ → ℕ → Option ℕ → Type 0
-HasPartnerStamp Even stamp greatest other = SomeIff other (stamp < greatest) (stamp + 1)
-HasPartnerStamp Odd stamp greatest other = SomeIff other ((1 ≤ stamp) × (stamp ≤ greatest + 1)) (stamp - 1)
+abbrev pub keys_in : Seconds → List (ℕ × ℕ)
+keys_in seconds = keys_among seconds.window seconds.greatest seconds.places.items
+
+-- the key may stand in a second at a place: it has its stamp, which is at most the greatest, and the place is that of the stamp
+pub record IsKeyAt (window greatest place stamp : ℕ) (key : ℕ × ℕ) : Type 0 where
+  pub is_key : IsKey key
+  pub stamp_is : (half_of key).stamp ≡ stamp
+  pub place_is : place ≡ stamp % (window + 2)
+  pub early : stamp ≤ greatest
+
+-- each key in the seconds may stand there
+abbrev pub ArePlaced : ℕ → ℕ → List Second → Type 0
+ArePlaced window greatest seconds = (place : ℕ) (second : Second) → slice_get seconds place ≡ Some second
+    → (key : ℕ × ℕ) → Contains second.keys.keys key → IsKeyAt window greatest place second.stamp key
+
+pub record AreSeconds (seconds : Seconds) : Type 0 where
+  pub small : seconds.window ≤ 14400
+  pub placed : ArePlaced seconds.window seconds.greatest seconds.places.items
+
+-- some keys are those of a second among all
+abbrev pub IsSecondOf : List (ℕ × ℕ) → ℕ → List (ℕ × ℕ) → Type 0
+IsSecondOf all stamp keys = ((key : ℕ × ℕ) → Contains keys key ↔ (Contains all key × ((half_of key).stamp ≡ stamp))) × (length keys ≤ length all)
+
+-- the keys in some seconds are as before, and where each could stand, each may stand
+abbrev pub KeepsKeys : List Second → List Second → Type 0
+KeepsKeys old new = (window greatest : ℕ) → (keys_among window greatest new ≡ keys_among window greatest old)
+    × (ArePlaced window greatest old → ArePlaced window greatest new)
+
+-- of the keys before and one more, those that are recent are left, at most one more than before
+abbrev pub PutsKey : Seconds → ℕ × ℕ → Seconds → Type 0
+PutsKey old key new = ((other : ℕ × ℕ) → Contains (keys_in new) other
+    ↔ ((Contains (keys_in old) other ⊎ (key ≡ other)) × IsRecent old.window new.greatest (half_of other)))
+    × (length (keys_in new) ≤ length (keys_in old) + 1)
+
+-- the stamp of the partners of a half of that kind: none before the first second and none after the last
+abbrev pub HasPartnerStamp : HalfKind → ℕ → Option ℕ → Type 0
+HasPartnerStamp Even stamp other = SomeIff other (stamp + 1 < 2 ^ 32) (stamp + 1)
+HasPartnerStamp Odd stamp other = SomeIff other (1 ≤ stamp) (stamp - 1)
 
 -- the first key of the other kind in a slot, and the one behind the last
 abbrev pub first_partner : ℕ → HalfKind → ℕ × ℕ

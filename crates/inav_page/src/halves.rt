@@ -8,11 +8,11 @@ ghost use Rattle.inav_page.specs.Keeping.{stamped, IsKeptWith};
 
 use crate::half::Half;
 use crate::joined::Joined;
-use crate::keys::{Key, join_with_kept, keep, raise};
+use crate::keys::{join_with_kept, keep};
+use crate::seconds::Seconds;
 use crate::signal::Signal;
 use nav_eph::Sat;
 use std::alloc::{AllocError, Global};
-use std::collections::BTreeSet;
 use std::marker::Model;
 
 /// The halves of a log, kept as long as a partner may come.
@@ -23,26 +23,23 @@ use std::marker::Model;
 #[derive(Drop)]
 pub struct Halves {
     alloc: Global,
-    window: u32,
-    greatest: u32,
-    kept: BTreeSet<Key>,
+    kept: Seconds,
 }
 
 impl Model for Halves {
-    ghost use Rattle.std.specs.Prelude.{◌≡◌, ℕ, ◌≤◌, map};
+    ghost use Rattle.std.specs.Prelude.{◌≡◌, ℕ, map};
     ghost use Rattle.inav_page.specs.Keeping.{Keeping};
-    ghost use Rattle.inav_page.specs.Mirrors.{half_of, AreKeys, AreRecent, AreUpTo};
+    ghost use Rattle.inav_page.specs.Mirrors.{half_of, keys_in, AreSeconds};
 
     ghost Value = { Keeping };
 
     ghost view = { λ h. record {
-      window = h.window;
-      greatest = h.greatest;
-      kept = map half_of h.kept.keys;
+      window = h.kept.window;
+      greatest = h.kept.greatest;
+      kept = map half_of (keys_in h.kept);
     } };
 
-    ghost invariant = { λ h. (h.window ≤ 14400) × AreKeys h.kept.keys
-        × AreRecent h.window h.greatest h.kept.keys × AreUpTo h.greatest h.kept.keys };
+    ghost invariant = { λ h. AreSeconds h.kept };
 }
 
 impl Halves {
@@ -57,9 +54,7 @@ impl Halves {
     {
         Halves {
             alloc,
-            window,
-            greatest: 0,
-            kept: BTreeSet::new(alloc),
+            kept: Seconds::new(alloc, window),
         }
     }
 
@@ -68,11 +63,12 @@ impl Halves {
     /// is kept already. Then it is kept as well, and what is older than the greatest stamp by more
     /// than the window and a second is forgotten; a half that is itself too old is not kept.
     ///
-    /// The cost is that of a CRC, of its insertion among the halves that are kept, of a search there
-    /// for its partners, of the words, and, where the greatest stamp rises, of what is forgotten:
-    /// each half is forgotten once. The search is left out where the partners' stamp is above the
-    /// greatest, as that of an even half is where halves come in the order of their stamps. On an
-    /// error nothing has changed.
+    /// The cost is that of a CRC, of two searches among the halves of its own second that are kept,
+    /// one whether it is there and one to put it in, of a search for its partners among those of
+    /// theirs, and of the words. A second is found with no search. What is forgotten is freed when
+    /// another second comes to its place, so that each half is freed once, and a stamp that is far
+    /// above the others costs no more. The first half of all makes the places, two more than the
+    /// window has seconds. On an error nothing has changed.
     pub fn take(
         &mut self,
         stamp: u32,
@@ -97,13 +93,10 @@ impl Halves {
         ensures window { self.new.window ≡ self.old.window }
         ensures err { OnErr result (self.new ≡ self.old) }
     {
-        let (alloc, greatest) = (self.alloc, self.greatest);
         let number = sat.number();
-        if stamp < greatest.saturating_sub(self.window + 1) {
-            return join_with_kept(alloc, &self.kept, greatest, stamp, number, signal, half);
+        if self.kept.is_too_old(stamp) {
+            return join_with_kept(self.alloc, &self.kept, stamp, number, signal, half);
         }
-        let joined = keep(alloc, &mut self.kept, greatest, stamp, number, signal, half)?;
-        self.greatest = raise(&mut self.kept, self.window, greatest, stamp);
-        Ok(joined)
+        keep(self.alloc, &mut self.kept, stamp, number, signal, half)
     }
 }

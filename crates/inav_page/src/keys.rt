@@ -1,21 +1,22 @@
 //! Halves in the order in which they are kept: by stamp, satellite, signal, the remainder that
 //! their partners have too, part, and bits. So the partners of a half stand one behind the other.
 
-ghost use Rattle.std.specs.Prelude.{◌≡◌, ℕ, ◌+◌, ◌*◌, ◌/◌, ◌^◌, ◌<◌, ◌≤◌, ◌⊎◌, ◌↔◌, SomeIff, IfOk};
-ghost use Rattle.std.specs.Prelude.{OnOk, OnErr, List, [], length, map, max, Contains};
+ghost use Rattle.std.specs.Prelude.{◌≡◌, ℕ, ◌+◌, ◌*◌, ◌/◌, ◌^◌, ◌<◌, ◌≤◌, ◌↔◌, SomeIff, IfOk, OnOk};
+ghost use Rattle.std.specs.Prelude.{OnErr, List, [], length, map, max, Contains, IsTrue};
 ghost use Rattle.std.specs.List.Sorted.{IsStrictlySortedBy};
 ghost use Rattle.nav_eph.specs.declared.sat.System.TheVariants.{Gal};
 ghost use Rattle.inav_page.specs.Pages.{kind_of};
 ghost use Rattle.inav_page.specs.Heard.{AreWordsWith, stamp_by, word_by};
-ghost use Rattle.inav_page.specs.Keeping.{stamped, IsRecent};
+ghost use Rattle.inav_page.specs.Keeping.{stamped};
 ghost use Rattle.inav_page.specs.Mirrors.{end_of_partners, first_partner, half_of, key_cmp};
-ghost use Rattle.inav_page.specs.Mirrors.{place_of, remainder_of, slot_of, words_in_slot};
-ghost use Rattle.inav_page.specs.Mirrors.{AreKeys, AreRecent, AreUpTo, AreUpToOrAt};
-ghost use Rattle.inav_page.specs.Mirrors.{HasPartnerStamp, IsKey};
+ghost use Rattle.inav_page.specs.Mirrors.{keys_in, place_of, remainder_of, slot_of};
+ghost use Rattle.inav_page.specs.Mirrors.{words_in_slot, AreSeconds, HasPartnerStamp, IsKey};
+ghost use Rattle.inav_page.specs.Mirrors.{PutsKey};
 
 use crate::half::{Half, HalfKind, ODD};
 use crate::joined::Joined;
 use crate::page::{remainder, word};
+use crate::seconds::Seconds;
 use crate::signal::{Signal, number_of};
 use nav_bits::Bits;
 use std::alloc::{AllocError, Global};
@@ -37,32 +38,19 @@ fn slot(stamp: u32, number: u8, signal: Signal, remainder: u64) -> u64
     place * 0x100_0000 + remainder
 }
 
-// The first slot of a stamp.
-pub(crate) fn first_slot(stamp: u32) -> u64
-    ensures { result ≡ stamp * 128 * 2 ^ 24 }
-{
-    u64::from(stamp) * 128 * 0x100_0000
-}
-
-// The stamp of the partners of a half, where any can be kept: it is not above the greatest stamp.
-fn partner_stamp(kind: HalfKind, stamp: u32, greatest: u32) -> Option<u32>
-    ensures { HasPartnerStamp kind stamp greatest result }
+// The stamp of the partners of a half.
+fn partner_stamp(kind: HalfKind, stamp: u32) -> Option<u32>
+    ensures { HasPartnerStamp kind stamp result }
 {
     match kind {
         HalfKind::Even => {
-            if stamp < greatest {
+            if stamp < u32::MAX {
                 Some(stamp + 1)
             } else {
                 None
             }
         }
-        HalfKind::Odd => {
-            if 0 < stamp && stamp - 1 <= greatest {
-                Some(stamp - 1)
-            } else {
-                None
-            }
-        }
+        HalfKind::Odd => { if 0 < stamp { Some(stamp - 1) } else { None } }
     }
 }
 
@@ -109,12 +97,10 @@ fn words_with(
     Ok(words)
 }
 
-// The words that a half with this remainder makes with those that are kept, and their stamp. Where
-// its partners' stamp is above the greatest, none of them is kept, and nothing is sought.
+// The words that a half with this remainder makes with those that are kept, and their stamp.
 fn joined_with(
     alloc: Global,
-    kept: &BTreeSet<Key>,
-    greatest: u32,
+    kept: &Seconds,
     stamp: u32,
     number: u8,
     signal: Signal,
@@ -122,23 +108,23 @@ fn joined_with(
     half: &Half,
 ) -> Result<Joined, AllocError>
     requires number { number < 64 }
-    requires keys { AreKeys kept.now.keys }
-    requires early { AreUpToOrAt greatest stamp kept.now.keys }
+    requires seconds { AreSeconds kept.now }
     requires remainder { remainder ≡ remainder_of half.now }
     requires fits { remainder < 2 ^ 24 }
-    ensures words { IfOk result (λ joined. AreWordsWith (Contains (map half_of kept.now.keys))
+    ensures words { IfOk result (λ joined. AreWordsWith (Contains (map half_of (keys_in kept.now)))
         (stamped stamp (record { system = Gal; number = number }) signal half.now) joined.words) }
     ensures stamp { IfOk result (λ joined. (joined.words ≡ [] → ⊥) →
         joined.stamp ≡ stamp_by (kind_of half.now) stamp) }
-    ensures count { IfOk result (λ joined. length joined.words ≤ length kept.now.keys) }
-    ensures others { IfOk result (λ joined. (key : ℕ × ℕ) → Contains kept.now.keys key →
-        key.1 ≡ half.now → length joined.words < length kept.now.keys) }
+    ensures count { IfOk result (λ joined. length joined.words ≤ length (keys_in kept.now)) }
 {
     let kind = half.kind();
-    let Some(other) = partner_stamp(kind, stamp, greatest) else {
+    let Some(other) = partner_stamp(kind, stamp) else {
         return Ok(Joined::none(alloc));
     };
-    let words = words_with(alloc, kept, slot(other, number, signal, remainder), half)?;
+    let Some(second) = kept.find(other) else {
+        return Ok(Joined::none(alloc));
+    };
+    let words = words_with(alloc, second, slot(other, number, signal, remainder), half)?;
     let heard = match kind {
         HalfKind::Even => other,
         HalfKind::Odd => stamp,
@@ -165,108 +151,72 @@ fn key_of(stamp: u32, number: u8, signal: Signal, half: &Half) -> (Key, u64)
 // The words that a half makes with those that are kept, and their stamp.
 pub(crate) fn join_with_kept(
     alloc: Global,
-    kept: &BTreeSet<Key>,
-    greatest: u32,
+    kept: &Seconds,
     stamp: u32,
     number: u8,
     signal: Signal,
     half: &Half,
 ) -> Result<Joined, AllocError>
     requires number { number < 64 }
-    requires keys { AreKeys kept.now.keys }
-    requires early { AreUpTo greatest kept.now.keys }
-    ensures words { IfOk result (λ joined. AreWordsWith (Contains (map half_of kept.now.keys))
+    requires seconds { AreSeconds kept.now }
+    ensures words { IfOk result (λ joined. AreWordsWith (Contains (map half_of (keys_in kept.now)))
         (stamped stamp (record { system = Gal; number = number }) signal half.now) joined.words) }
     ensures stamp { IfOk result (λ joined. (joined.words ≡ [] → ⊥) →
         joined.stamp ≡ stamp_by (kind_of half.now) stamp) }
-    ensures count { IfOk result (λ joined. length joined.words ≤ length kept.now.keys) }
+    ensures count { IfOk result (λ joined. length joined.words ≤ length (keys_in kept.now)) }
 {
-    joined_with(
-        alloc,
-        kept,
-        greatest,
-        stamp,
-        number,
-        signal,
-        remainder(half),
-        half,
-    )
+    joined_with(alloc, kept, stamp, number, signal, remainder(half), half)
 }
 
-// Keeps a half, and gives the words that it makes with those that were kept; none where it was kept
-// already, and then nothing is sought. It goes in before its partners are sought, among which it
-// never is.
+// Whether this key is kept, which has that stamp.
+fn is_kept(kept: &Seconds, stamp: u32, key: &Key) -> bool
+    requires seconds { AreSeconds kept.now }
+    requires stamp { (half_of key.now).stamp ≡ stamp }
+    ensures { IsTrue result ↔ Contains (keys_in kept.now) key.now }
+{
+    match kept.find(stamp) {
+        Some(second) => second.contains(key),
+        None => false,
+    }
+}
+
+// Keeps a half that is not too old, and gives the words that it makes with those that were kept;
+// none where it was kept already, and then nothing is sought.
 pub(crate) fn keep(
     alloc: Global,
-    kept: &mut BTreeSet<Key>,
-    greatest: u32,
+    kept: &mut Seconds,
     stamp: u32,
     number: u8,
     signal: Signal,
     half: &Half,
 ) -> Result<Joined, AllocError>
     requires number { number < 64 }
-    requires keys { AreKeys kept.old.keys }
-    requires early { AreUpTo greatest kept.old.keys }
-    ensures words { IfOk result (λ joined. (Contains (map half_of kept.old.keys)
+    requires seconds { AreSeconds kept.old }
+    requires recent { kept.old.greatest ≤ stamp + kept.old.window + 1 }
+    ensures words { IfOk result (λ joined. (Contains (map half_of (keys_in kept.old))
         (stamped stamp (record { system = Gal; number = number }) signal half.now) → ⊥) →
-        AreWordsWith (Contains (map half_of kept.old.keys))
+        AreWordsWith (Contains (map half_of (keys_in kept.old)))
         (stamped stamp (record { system = Gal; number = number }) signal half.now) joined.words) }
-    ensures again { IfOk result (λ joined. Contains (map half_of kept.old.keys)
+    ensures again { IfOk result (λ joined. Contains (map half_of (keys_in kept.old))
         (stamped stamp (record { system = Gal; number = number }) signal half.now) →
         joined.words ≡ []) }
     ensures stamp { IfOk result (λ joined. (joined.words ≡ [] → ⊥) →
         joined.stamp ≡ stamp_by (kind_of half.now) stamp) }
-    ensures count { IfOk result (λ joined. length joined.words ≤ length kept.old.keys) }
-    ensures kept { OnOk result ((key : ℕ × ℕ) × IsKey key ×
+    ensures count { IfOk result (λ joined. length joined.words ≤ length (keys_in kept.old)) }
+    ensures kept { OnOk result ((key : ℕ × ℕ) ×
         (half_of key ≡ stamped stamp (record { system = Gal; number = number }) signal half.now) ×
-        ((other : ℕ × ℕ) → Contains kept.new.keys other ↔
-        (Contains kept.old.keys other ⊎ (key ≡ other)))) }
-    ensures room { OnOk result (length kept.new.keys ≤ length kept.old.keys + 1) }
-    ensures err { OnErr result (kept.new ≡ kept.old) }
+        PutsKey kept.old key kept.new) }
+    ensures greatest { OnOk result (kept.new.greatest ≡ max kept.old.greatest stamp) }
+    ensures window { kept.new.window ≡ kept.old.window }
+    ensures seconds { AreSeconds kept.new }
+    ensures err { OnErr result (kept.new.greatest ≡ kept.old.greatest) }
+    ensures err_keys { OnErr result (keys_in kept.new ≡ keys_in kept.old) }
 {
     let (key, remainder) = key_of(stamp, number, signal, half);
-    if !kept.insert(key)? {
+    if is_kept(kept, stamp, &key) {
         return Ok(Joined::none(alloc));
     }
-    match joined_with(
-        alloc, kept, greatest, stamp, number, signal, remainder, half,
-    ) {
-        Ok(joined) => Ok(joined),
-        Err(error) => {
-            kept.remove(&key);
-            Err(error)
-        }
-    }
-}
-
-// Forgets what stands before a slot.
-fn forget(kept: &mut BTreeSet<Key>, from: u64)
-    ensures kept { (key : ℕ × ℕ) →
-        Contains kept.new.keys key ↔ (Contains kept.old.keys key × (from ≤ key.0)) }
-    ensures fewer { length kept.new.keys ≤ length kept.old.keys }
-{
-    while let Some(first) = kept.first() {
-        if first.0 >= from {
-            return;
-        }
-        kept.pop_first();
-    }
-}
-
-// The greatest stamp once this one was taken. Only where it rises is anything forgotten: what is
-// older than it by more than the window and a second.
-pub(crate) fn raise(kept: &mut BTreeSet<Key>, window: u32, greatest: u32, stamp: u32) -> u32
-    requires window { window ≤ 14400 }
-    requires recent { AreRecent window greatest kept.old.keys }
-    ensures greatest { result ≡ max greatest stamp }
-    ensures kept { (key : ℕ × ℕ) → Contains kept.new.keys key ↔
-        (Contains kept.old.keys key × IsRecent window result (half_of key)) }
-    ensures fewer { length kept.new.keys ≤ length kept.old.keys }
-{
-    if stamp <= greatest {
-        return greatest;
-    }
-    forget(kept, first_slot(stamp.saturating_sub(window + 1)));
-    stamp
+    let joined = joined_with(alloc, kept, stamp, number, signal, remainder, half)?;
+    kept.put(alloc, stamp, key)?;
+    Ok(joined)
 }

@@ -27,6 +27,7 @@ mod joined;
 mod keys;
 mod laws;
 mod page;
+mod seconds;
 mod signal;
 #[cfg(test)]
 mod tests;
