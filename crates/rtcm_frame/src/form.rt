@@ -58,6 +58,7 @@ pub fn next_start(bytes: &[u8], from: usize) -> usize
     requires { from ≤ length bytes.now }
     ensures onward { from ≤ result }
     ensures inside { result ≤ length bytes.now }
+    ensures start { result < length bytes.now → slice_index bytes.now result ≡ 0xD3 }
     ensures passed { (more : Bool) →
         from_first more (drop result bytes.now) ≡ from_first more (drop from bytes.now) }
 {
