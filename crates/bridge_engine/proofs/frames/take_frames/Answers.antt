@@ -1,9 +1,9 @@
-use Rattle.std.proofs.Common.{ℕ, Bool, List, not, subst, ◌∙◌, arith}
-use Rattle.std.proofs.lemmas.Result.{err_from_is_err_and}
+use Rattle.std.proofs.Common.{ℕ, Bool, List, not, refl, subst, ◌∙◌, arith}
+use Rattle.std.proofs.lemmas.Result.{err_from_is_err_and, on_err_weaker}
 use Rattle.rtcm_frame.specs.State.{TakesFrame}
 use Rattle.bridge_engine.specs.FrameLines.{line_of}
 use Rattle.bridge_engine.specs.FrameRuns.{Gathers}
-use Rattle.bridge_engine.proofs.Holding.{holds_frame, holds_breaks}
+use Rattle.bridge_engine.proofs.Holding.{holds_nothing, holds_frame, holds_breaks}
 use Rattle.bridge_engine.proofs.frames.take_frames.Goals as goal
 
 pub returns-in_err-gather-clause-breaks : goal.returns-in_err-gather-clause-breaks
@@ -21,3 +21,15 @@ loop-frame-preserved g c =
       faults = c.in_ok-gather.ensures.cause.stays ∙ c.loop-frame.invariant.faults;
       room = omega (arith, takes.shorter, c.loop-frame.invariant.room);
     }
+
+pub loop-frame-init : goal.loop-frame-init
+loop-frame-init g c = record {
+  holds = rw c.new-lines.ensures (holds_nothing line_of _ _ _ _);
+  finished = refl;
+  faults = refl;
+  room = omega arith;
+}
+
+pub returns-clause-breaks : goal.returns-clause-breaks
+returns-clause-breaks g c =
+    on_err_weaker c.write_gathered.result (holds_breaks line_of _ _ _ _ _ _ _ _ _ c.loop-frame.invariant.holds) c.write_gathered.ensures.part
