@@ -5,9 +5,9 @@
 #
 #   bench/halves.sh [SECONDS]      7,200 where none is said
 #
-# On one core of a machine that others share (load 18), the least of six, processor time: 432,000 halves in 0.15 s, 2.9
-# million a second, and the 100,000 of one satellite in 0.03 s, 3.3 million a second; the making of the halves (a word split
-# in its two parts for each) is counted in.
+# With nothing else running, 14,400 seconds, so that halves are forgotten: 864,000 halves in 0.173 s, 5.0 million a second,
+# and the 100,000 of one satellite in 0.050 s, 2.0 million a second; the making of the halves (a word split in its two parts
+# for each) is counted in.
 #
 # A program over the crate is made in a folder of its own, proved and built there, and timed as a whole.
 set -eu
