@@ -14,7 +14,7 @@
 //! assert!(rt; read_first(b"NAVCAP 1").is_some());
 //! let mut text = LineText::new();
 //! write_rtcm(5, &[0xd3, 0, 0, 0x47, 0xea, 0x4b], &mut text);
-//! assert_eq!(rt; text.as_slice(), b"5 R d3000047ea4b\n".as_slice());
+//! assert!(rt; text.as_slice() == b"5 R d3000047ea4b\n".as_slice());
 //! assert!(rt; read_line(b"5 L E05 00") == LineItem::Malformed);
 //! ```
 #![tactic(auto)]

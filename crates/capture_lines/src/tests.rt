@@ -72,7 +72,7 @@ fn reads_a_plain_first_line(rt: HostRuntime) {
         window: 7200,
         week: None,
     };
-    assert_eq!(rt; read_first(b"NAVCAP 1"), Some(plain));
+    assert!(rt; read_first(b"NAVCAP 1") == Some(plain));
     let others: [&[u8]; 8] = [
         b"",
         b"NAVCAP",
@@ -84,7 +84,7 @@ fn reads_a_plain_first_line(rt: HostRuntime) {
         b"# x",
     ];
     for line in others.iter() {
-        assert_eq!(rt; read_first(line), None);
+        assert!(rt; read_first(line) == None);
     }
 }
 
@@ -129,7 +129,7 @@ fn reads_first_lines_with_week_and_window(rt: HostRuntime) {
             window: row.window,
             week: RefWeek::new(row.week),
         };
-        assert_eq!(rt; read_first(row.line), Some(head));
+        assert!(rt; read_first(row.line) == Some(head));
     }
 }
 
@@ -158,7 +158,7 @@ fn refuses_odd_first_lines(rt: HostRuntime) {
         b"navcap 2 2295 60",
     ];
     for line in rows.iter() {
-        assert_eq!(rt; read_first(line), None);
+        assert!(rt; read_first(line) == None);
     }
 }
 
@@ -260,13 +260,13 @@ fn writes_items(rt: HostRuntime) -> Result<(), Fail> {
     let mut text = LineText::new();
     let gps = satellite(&rt, System::Gps, 5);
     write_lnav(4_294_967_295, gps, &Bits::from_bytes(SUBFRAME), &mut text);
-    assert_eq!(rt; text.as_slice(), SUBFRAME_LINE);
+    assert!(rt; text.as_slice() == SUBFRAME_LINE);
     let mut text = LineText::new();
     let gal = satellite(&rt, System::Gal, 36);
     write_half_line(7, gal, Signal::E5b, &Bits::from_bytes(HALF), &mut text);
-    assert_eq!(rt; text.as_slice(), HALF_LINE);
+    assert!(rt; text.as_slice() == HALF_LINE);
     let mut text = LineText::new();
     write_rtcm(0, &FRAME, &mut text);
-    assert_eq!(rt; text.as_slice(), FRAME_LINE);
+    assert!(rt; text.as_slice() == FRAME_LINE);
     Ok(())
 }

@@ -1,7 +1,7 @@
 use thiserror::Error;
 
 /// A date of the proleptic Gregorian calendar, with a time of day.
-#[derive(Clone, Copy, PartialEq, Eq, PartialOrd, Ord, Hash, Debug)]
+#[derive(Clone, Copy, PartialEq, Eq, PartialOrd, Ord, Hash)]
 pub struct Civil {
     /// The year, which may be 0.
     pub year: u16,

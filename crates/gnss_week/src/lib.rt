@@ -17,9 +17,9 @@
 //!
 //! let reference = RefWeek::new(2295).ok_or("a reference week")?;
 //! let week = gps_week(reference, U::from_digits(247));
-//! assert_eq!(rt; week.value(), 2295);
+//! assert!(rt; week.value() == 2295);
 //! let midnight = Civil { year: 2023, month: 12, day: 31, hour: 0, minute: 0, second: 0 };
-//! assert_eq!(rt; moment_of(&midnight)?.week(), 2295);
+//! assert!(rt; moment_of(&midnight)?.week() == 2295);
 //! ```
 #![tactic(auto)]
 

@@ -4,7 +4,7 @@ ghost use Rattle.gnss_week.specs.Weeks.{IsReference, IsWeek};
 use std::marker::Model;
 
 /// The week near which a reader listens, 1024 to 8191: it settles which week a cut number means.
-#[derive(Clone, Copy, PartialEq, Eq, PartialOrd, Ord, Hash, Debug)]
+#[derive(Clone, Copy, PartialEq, Eq, PartialOrd, Ord, Hash)]
 pub struct RefWeek {
     number: u32,
 }
@@ -44,7 +44,7 @@ impl RefWeek {
 }
 
 /// A week counted from 1980-01-06, 1 to 16382: one that has a week before it and one after it.
-#[derive(Clone, Copy, PartialEq, Eq, PartialOrd, Ord, Hash, Debug)]
+#[derive(Clone, Copy, PartialEq, Eq, PartialOrd, Ord, Hash)]
 pub struct Week {
     number: u32,
 }

@@ -33,10 +33,10 @@ fn moment(date: Civil) -> Result<u64, WeekFault> {
 
 #[test]
 fn numbers(rt: HostRuntime) -> Result<(), Fail> {
-    assert_eq!(rt; Week::new(2295).ok_or("a week")?.value(), 2295);
+    assert!(rt; Week::new(2295).ok_or("a week")?.value() == 2295);
     let last = Moment::new(9_909_043_199).ok_or("a moment")?;
-    assert_eq!(rt; last.week(), 16383);
-    assert_eq!(rt; last.second().value(), 604_799);
+    assert!(rt; last.week() == 16383);
+    assert!(rt; last.second().value() == 604_799);
     assert!(rt; last > Moment::new(0).ok_or("a moment")?);
     Ok(())
 }
@@ -54,7 +54,7 @@ fn gps_weeks(rt: HostRuntime) {
         (8191, 549, 7717),
         (8191, 348, 8540),
     ] {
-        assert_eq!(rt; gps(reference, number), Some(week));
+        assert!(rt; gps(reference, number) == Some(week));
     }
 }
 
@@ -71,7 +71,7 @@ fn galileo_weeks(rt: HostRuntime) {
         (5928, 3546, 4570),
         (8191, 4002, 9122),
     ] {
-        assert_eq!(rt; galileo(reference, number), Some(week));
+        assert!(rt; galileo(reference, number) == Some(week));
     }
 }
 
@@ -87,7 +87,7 @@ fn nearest_moments(rt: HostRuntime) {
         (3_024_013_360, 0, 3_024_000_000),
         (4_533_125_507, 604_799, 4_532_975_999),
     ] {
-        assert_eq!(rt; nearest(near, second), Some(m));
+        assert!(rt; nearest(near, second) == Some(m));
     }
 }
 
@@ -103,8 +103,8 @@ fn dates(rt: HostRuntime) -> Result<(), Fail> {
         (7_705_851_570, at(2224, 3, 15, 2, 19, 30)),
         (9_909_043_199, at(2294, 1, 6, 23, 59, 59)),
     ] {
-        assert_eq!(rt; civil(Moment::new(seconds).ok_or("a moment")?), date);
-        assert_eq!(rt; moment(date), Ok(seconds));
+        assert!(rt; civil(Moment::new(seconds).ok_or("a moment")?) == date);
+        assert!(rt; moment(date) == Ok(seconds));
     }
     Ok(())
 }
@@ -120,7 +120,7 @@ fn dates_without_a_moment(rt: HostRuntime) {
         (at(1980, 1, 5, 23, 59, 59), WeekFault::BeforeEpoch),
         (at(2294, 1, 7, 0, 0, 0), WeekFault::TooFar),
     ] {
-        assert_eq!(rt; moment(date), Err(fault));
+        assert!(rt; moment(date) == Err(fault));
     }
 }
 

@@ -12,7 +12,7 @@ use std::marker::Model;
 pub(crate) const ODD: u128 = 1 << 119;
 
 /// Which part of a page it is, by its first bit, the even/odd bit.
-#[derive(Clone, Copy, PartialEq, Eq, PartialOrd, Ord, Hash, Debug)]
+#[derive(Clone, Copy, PartialEq, Eq, PartialOrd, Ord, Hash)]
 pub enum HalfKind {
     /// The even part, bit 0: it comes first.
     Even,
@@ -22,7 +22,7 @@ pub enum HalfKind {
 
 /// What is kept of a part of a nominal page: the first 114 bits of an even one, the first 106 of an
 /// odd one (82 and the CRC).
-#[derive(Clone, Copy, PartialEq, Eq, Debug)]
+#[derive(Clone, Copy, PartialEq, Eq)]
 pub struct Half {
     // The 120 bits as a number, those that are not kept 0.
     number: u128,

@@ -37,9 +37,9 @@ fn periods_of(alloc: Global, week: u32, parts: &[Part]) -> Result<Vec<Closed>, F
 // The ends and verdicts of the periods of some parts.
 fn lists(rt: &impl Abort, alloc: Global, parts: &[Part], want: &[(u32, char)]) -> Result<(), Fail> {
     let periods = periods_of(alloc, WEEK, parts)?;
-    assert_eq!(rt; periods.len(), want.len());
+    assert!(rt; periods.len() == want.len());
     for (period, want) in periods.iter().zip(want.iter()) {
-        assert_eq!(rt; (period.end, letter(&period.verdict)), *want);
+        assert!(rt; (period.end, letter(&period.verdict)) == *want);
     }
     Ok(())
 }
@@ -164,7 +164,7 @@ fn health_of(item: &NavItem) -> Option<u64> {
 fn chosen_health(rt: &impl Abort, alloc: Global, parts: &[Part], want: u64) -> Result<(), Fail> {
     let item = first_item(alloc, WEEK, parts)?;
     let _content: Option<IonContent> = None;
-    assert_eq!(rt; health_of(&item), Some(want));
+    assert!(rt; health_of(&item) == Some(want));
     Ok(())
 }
 
@@ -188,7 +188,7 @@ fn chosen(
     let [one, other] = clocks;
     let item = first_item(alloc, week, &[other, b(6)?, c(12)?, one])?;
     let _content: Option<IonContent> = None;
-    assert_eq!(rt; times_of(&item), Some(want));
+    assert!(rt; times_of(&item) == Some(want));
     Ok(())
 }
 
@@ -244,7 +244,7 @@ fn sent_by(
     lists(rt, alloc, parts, &[(end, 'w')])?;
     let item = first_item(alloc, WEEK, parts)?;
     let _content: Option<IonContent> = None;
-    assert_eq!(rt; sending_of(&item), Some(want));
+    assert!(rt; sending_of(&item) == Some(want));
     Ok(())
 }
 
@@ -295,7 +295,7 @@ fn next_closed_period(rt: HostRuntime) -> Result<(), Fail> {
     assembly.take(&third)?;
     assert!(rt; assembly.next_closed(7_212)?.is_none());
     let closed = assembly.next_closed(7_213)?.ok_or("a period")?;
-    assert_eq!(rt; (closed.end, letter(&closed.verdict)), (12, 'w'));
+    assert!(rt; (closed.end, letter(&closed.verdict)) == (12, 'w'));
     assert!(rt; assembly.next_closed(7_213)?.is_none());
     assert!(rt; assembly.next_closed(u64::MAX)?.is_none());
     Ok(())

@@ -12,7 +12,7 @@
 //!
 //! let last2: U<2> = U::from_digits(0);
 //! let word = make_word(U::from_digits(0x8B_0000), last2);
-//! assert_eq!(rt; word.value(), 0x22C0_0012);
+//! assert!(rt; word.value() == 0x22C0_0012);
 //! assert!(rt; check_word(word, last2) == Some(U::from_digits(0x8B_0000)));
 //! ```
 #![tactic(auto)]

@@ -224,11 +224,11 @@ fn clocks_and_orbits(rt: HostRuntime) -> Result<(), Fail> {
     let first = orbit_fit().ok_or("in range")?;
     let same = orbit_fit().ok_or("in range")?;
     let text = b"8b00004adc3629cffc8748d25168f0f91c311aac512d4f74313c4398000500000057fffdff00";
-    assert_eq!(rt; orbit_agrees(text, first, same, 1, 93_723), Some(true));
+    assert!(rt; orbit_agrees(text, first, same, 1, 93_723) == Some(true));
     let first = orbit_last_step().ok_or("in range")?;
     let same = orbit_last_step().ok_or("in range")?;
     let text = b"8b00004b137e2c8ffc33f74cbd1dc11a3945b200006b5c91f84bbfffc33d0ae7c6824e9c0380";
-    assert_eq!(rt; orbit_agrees(text, first, same, 0, 100_799), Some(true));
+    assert!(rt; orbit_agrees(text, first, same, 0, 100_799) == Some(true));
     Ok(())
 }
 

@@ -21,7 +21,7 @@
 //! let root: S<16> = S::from_digits(0xFFFE);
 //! root.pack(&mut bits, 3);
 //! let again: S<16> = BitForm::<4>::unpack(&bits, 3);
-//! assert_eq!(rt; again.value(), -2);
+//! assert!(rt; again.value() == -2);
 //! ```
 #![tactic(auto)]
 

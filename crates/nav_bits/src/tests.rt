@@ -6,30 +6,30 @@ use std::test::Fail;
 #[test]
 fn numbers_at_places(rt: HostRuntime) {
     let mut bits = Bits::<2>::from_bytes([0b1010_0101, 0xF0]);
-    assert_eq!(rt; bits.get(4, 8), 0x5F);
-    assert_eq!(rt; bits.get(0, 16), 0xA5F0);
-    assert_eq!(rt; bits.get_signed(0, 4), -6);
+    assert!(rt; bits.get(4, 8) == 0x5F);
+    assert!(rt; bits.get(0, 16) == 0xA5F0);
+    assert!(rt; bits.get_signed(0, 4) == -6);
     bits.put(4, 8, 0xC3);
-    assert_eq!(rt; bits.get(0, 16), 0xAC30);
+    assert!(rt; bits.get(0, 16) == 0xAC30);
     assert!(rt; bits == Bits::from_bytes([0xAC, 0x30]));
     let none = Bits::<1>::zero();
-    assert_eq!(rt; none.bytes()[0], 0);
+    assert!(rt; none.bytes()[0] == 0);
 }
 
 #[test]
 fn numbers_of_digits(rt: HostRuntime) -> Result<(), Fail> {
-    assert_eq!(rt; U::<10>::new(1023).ok_or("fits")?.value(), 1023);
+    assert!(rt; U::<10>::new(1023).ok_or("fits")?.value() == 1023);
     assert!(rt; U::<10>::new(1024).is_none());
     assert!(rt; U::<64>::new(u64::MAX).is_some());
-    assert_eq!(rt; S::<4>::new(-8).ok_or("fits")?.digits(), 8);
+    assert!(rt; S::<4>::new(-8).ok_or("fits")?.digits() == 8);
     assert!(rt; S::<4>::new(-9).is_none());
     assert!(rt; S::<4>::new(8).is_none());
-    assert_eq!(rt; S::<4>::from_digits(9).value(), -7);
+    assert!(rt; S::<4>::from_digits(9).value() == -7);
     let whole: S<32> = S::join(U::<8>::from_digits(0xFF), U::<24>::from_digits(0xFF_FFFE));
-    assert_eq!(rt; whole.value(), -2);
+    assert!(rt; whole.value() == -2);
     let (high, low) = whole.split::<8, 24>();
     let parts: U<32> = U::join(high, low);
-    assert_eq!(rt; parts.value(), 0xFFFF_FFFE);
+    assert!(rt; parts.value() == 0xFFFF_FFFE);
     Ok(())
 }
 
@@ -46,8 +46,8 @@ fn again<F: BitForm<8> + Copy>(form: F, at: usize) -> F
 
 #[test]
 fn packed_is_unpacked(rt: HostRuntime) {
-    assert_eq!(rt; again(U::<14>::from_digits(9000), 3).value(), 9000);
-    assert_eq!(rt; again(S::<14>::from_digits(9000), 50).value(), 9000 - 16384);
+    assert!(rt; again(U::<14>::from_digits(9000), 3).value() == 9000);
+    assert!(rt; again(S::<14>::from_digits(9000), 50).value() == 9000 - 16384);
 }
 
 #[test]

@@ -15,7 +15,7 @@ use std::cmp::Ordering;
 /// 00:00:00 of GPS time.
 ///
 /// Ranges are ordered by system (GPS first), number of the satellite, beginning and end.
-#[derive(Clone, Copy, Debug)]
+#[derive(Clone, Copy)]
 pub struct CoverRange {
     /// The satellite.
     pub sat: Sat,

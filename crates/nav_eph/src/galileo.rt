@@ -8,7 +8,7 @@ use crate::tag::SentTag;
 use nav_bits::{S, U};
 
 /// The first part of the orbit of a Galileo satellite, of I/NAV word 1 (Galileo OS SIS ICD, 5.1.1).
-#[derive(Clone, Copy, PartialEq, Eq, Debug)]
+#[derive(Clone, Copy, PartialEq, Eq)]
 pub struct GalWord1 {
     /// Issue of data.
     pub iodnav: U<10>,
@@ -24,7 +24,7 @@ pub struct GalWord1 {
 
 /// The second part of the orbit of a Galileo satellite, of I/NAV word 2 (Galileo OS SIS ICD,
 /// 5.1.1).
-#[derive(Clone, Copy, PartialEq, Eq, Debug)]
+#[derive(Clone, Copy, PartialEq, Eq)]
 pub struct GalWord2 {
     /// Issue of data.
     pub iodnav: U<10>,
@@ -40,7 +40,7 @@ pub struct GalWord2 {
 
 /// The third part of the orbit of a Galileo satellite, with the accuracy, of I/NAV word 3 (Galileo
 /// OS SIS ICD, 5.1.1 and 5.1.12).
-#[derive(Clone, Copy, PartialEq, Eq, Debug)]
+#[derive(Clone, Copy, PartialEq, Eq)]
 pub struct GalWord3 {
     /// Issue of data.
     pub iodnav: U<10>,
@@ -62,7 +62,7 @@ pub struct GalWord3 {
 
 /// The last part of the orbit of a Galileo satellite, with its clock, of I/NAV word 4 (Galileo OS
 /// SIS ICD, 5.1.1 and 5.1.3).
-#[derive(Clone, Copy, PartialEq, Eq, Debug)]
+#[derive(Clone, Copy, PartialEq, Eq)]
 pub struct GalWord4 {
     /// Issue of data.
     pub iodnav: U<10>,
@@ -82,7 +82,7 @@ pub struct GalWord4 {
 
 /// Group delays and health of a Galileo satellite, of I/NAV word 5 (Galileo OS SIS ICD, 5.1.5 and
 /// 5.1.9).
-#[derive(Clone, Copy, PartialEq, Eq, Debug)]
+#[derive(Clone, Copy, PartialEq, Eq)]
 pub struct GalHealth {
     /// Group delay between E1 and E5a, in 2^-32 s.
     pub bgd_a: S<10>,

@@ -4,7 +4,7 @@ use crate::steps::Step16;
 use nav_bits::{S, U};
 
 /// The clock of a GPS satellite, of subframe 1 (IS-GPS-200, table 20-I).
-#[derive(Clone, Copy, PartialEq, Eq, Debug)]
+#[derive(Clone, Copy, PartialEq, Eq)]
 pub struct GpsClock {
     /// Issue of data, clock.
     pub iodc: U<10>,
@@ -21,7 +21,7 @@ pub struct GpsClock {
 }
 
 /// What subframe 1 says beside the clock (IS-GPS-200, 20.3.3.3.1).
-#[derive(Clone, Copy, PartialEq, Eq, Debug)]
+#[derive(Clone, Copy, PartialEq, Eq)]
 pub struct GpsSide {
     /// The codes on L2.
     pub l2_code: U<2>,
@@ -34,7 +34,7 @@ pub struct GpsSide {
 }
 
 /// The first half of the orbit of a GPS satellite, of subframe 2 (IS-GPS-200, table 20-III).
-#[derive(Clone, Copy, PartialEq, Eq, Debug)]
+#[derive(Clone, Copy, PartialEq, Eq)]
 pub struct GpsOrbitA {
     /// Issue of data, ephemeris.
     pub iode: U<8>,
@@ -57,7 +57,7 @@ pub struct GpsOrbitA {
 }
 
 /// The second half of the orbit of a GPS satellite, of subframe 3 (IS-GPS-200, table 20-III).
-#[derive(Clone, Copy, PartialEq, Eq, Debug)]
+#[derive(Clone, Copy, PartialEq, Eq)]
 pub struct GpsOrbitB {
     /// Issue of data, ephemeris.
     pub iode: U<8>,

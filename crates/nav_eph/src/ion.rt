@@ -7,7 +7,7 @@ use crate::sat::System;
 use nav_bits::{S, U};
 
 /// The ionosphere of GPS, of subframe 4, page 18 (IS-GPS-200, table 20-X).
-#[derive(Clone, Copy, PartialEq, Eq, Debug)]
+#[derive(Clone, Copy, PartialEq, Eq)]
 pub struct GpsIon {
     /// In 2^-30 s.
     pub alpha0: S<8>,
@@ -28,7 +28,7 @@ pub struct GpsIon {
 }
 
 /// The ionosphere of Galileo, of I/NAV word 5 (Galileo OS SIS ICD, 5.1.6).
-#[derive(Clone, Copy, PartialEq, Eq, Debug)]
+#[derive(Clone, Copy, PartialEq, Eq)]
 pub struct GalIon {
     /// Effective ionisation level, in 2^-2 solar flux units.
     pub ai0: U<11>,
@@ -41,7 +41,7 @@ pub struct GalIon {
 }
 
 /// What a satellite says of the ionosphere.
-#[derive(Clone, Copy, PartialEq, Eq, Debug)]
+#[derive(Clone, Copy, PartialEq, Eq)]
 pub enum IonContent {
     /// Of GPS.
     Gps(GpsIon),

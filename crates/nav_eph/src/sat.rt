@@ -3,7 +3,7 @@ ghost use Rattle.std.specs.Prelude.{◌≡◌, ℕ, ◌↔◌, IsSome, IfSome, I
 use std::marker::Model;
 
 /// A satellite navigation system.
-#[derive(Clone, Copy, PartialEq, Eq, PartialOrd, Ord, Hash, Debug)]
+#[derive(Clone, Copy, PartialEq, Eq, PartialOrd, Ord, Hash)]
 pub enum System {
     /// GPS, of the United States.
     Gps,
@@ -13,7 +13,7 @@ pub enum System {
 
 /// A satellite: its system, and its number there. GPS comes before Galileo, and then the number
 /// decides.
-#[derive(Clone, Copy, PartialEq, Eq, PartialOrd, Ord, Hash, Debug)]
+#[derive(Clone, Copy, PartialEq, Eq, PartialOrd, Ord, Hash)]
 pub struct Sat {
     system: System,
     number: u8,

@@ -5,7 +5,7 @@ use std::marker::Model;
 
 /// A time of the week in steps of 16 s, 0 to 37,799, in 16 bits: toc and toe of GPS (IS-GPS-200,
 /// 20.3.3.3.1.8 and 20.3.3.4.1).
-#[derive(Clone, Copy, PartialEq, Eq, PartialOrd, Ord, Hash, Debug)]
+#[derive(Clone, Copy, PartialEq, Eq, PartialOrd, Ord, Hash)]
 pub struct Step16 {
     steps: u64,
 }
@@ -44,7 +44,7 @@ impl Step16 {
 
 /// A time of the week in steps of 60 s, 0 to 10,079, in 14 bits: toc and toe of Galileo (Galileo OS
 /// SIS ICD, 5.1).
-#[derive(Clone, Copy, PartialEq, Eq, PartialOrd, Ord, Hash, Debug)]
+#[derive(Clone, Copy, PartialEq, Eq, PartialOrd, Ord, Hash)]
 pub struct Step60 {
     steps: u64,
 }
@@ -83,7 +83,7 @@ impl Step60 {
 
 /// The accuracy index of Galileo, in 8 bits: 0 to 125, or 255 where no accuracy is given (Galileo
 /// OS SIS ICD, 5.1.12).
-#[derive(Clone, Copy, PartialEq, Eq, PartialOrd, Ord, Hash, Debug)]
+#[derive(Clone, Copy, PartialEq, Eq, PartialOrd, Ord, Hash)]
 pub struct Sisa {
     index: u64,
 }

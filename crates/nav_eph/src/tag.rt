@@ -7,7 +7,7 @@ use gnss_week::Second;
 use nav_bits::U;
 
 /// A time that says which week an ephemeris belongs to, its week cut to twelve digits.
-#[derive(Clone, Copy, PartialEq, Eq, Debug)]
+#[derive(Clone, Copy, PartialEq, Eq)]
 pub enum SentTag {
     /// The moment at which the data were sent.
     Sent {

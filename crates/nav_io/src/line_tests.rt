@@ -80,14 +80,14 @@ fn goes_on_after_a_failed_read(rt: HostRuntime) -> Result<(), Fail> {
     let cuts = [1, 1].to_vec(rt.alloc())?;
     let mut source = MemSource::new(bytes, cuts, [1, 4].to_vec(rt.alloc())?);
     let mut lines = Lines::new();
-    assert_eq!(rt; lines.next(&mut source), Err(LineFault::ReadFault));
-    assert_eq!(rt; lines.next(&mut source), Ok(LineKind::Text));
-    assert_eq!(rt; lines.text(), b"ab".as_slice());
-    assert_eq!(rt; lines.next(&mut source), Ok(LineKind::Text));
-    assert_eq!(rt; lines.text(), b"cd".as_slice());
-    assert_eq!(rt; lines.number(), 2);
-    assert_eq!(rt; lines.next(&mut source), Err(LineFault::ReadFault));
-    assert_eq!(rt; lines.text(), b"".as_slice());
-    assert_eq!(rt; lines.next(&mut source), Ok(LineKind::End));
+    assert!(rt; lines.next(&mut source) == Err(LineFault::ReadFault));
+    assert!(rt; lines.next(&mut source) == Ok(LineKind::Text));
+    assert!(rt; lines.text() == b"ab".as_slice());
+    assert!(rt; lines.next(&mut source) == Ok(LineKind::Text));
+    assert!(rt; lines.text() == b"cd".as_slice());
+    assert!(rt; lines.number() == 2);
+    assert!(rt; lines.next(&mut source) == Err(LineFault::ReadFault));
+    assert!(rt; lines.text() == b"".as_slice());
+    assert!(rt; lines.next(&mut source) == Ok(LineKind::End));
     Ok(())
 }

@@ -25,7 +25,7 @@ const KEPT: usize = 2202;
 const HELD: usize = 6298;
 
 /// What `Lines::next` answers.
-#[derive(Clone, Copy, Debug, PartialEq, Eq)]
+#[derive(Clone, Copy, PartialEq, Eq)]
 pub enum LineKind {
     /// A line of at most 2,200 bytes.
     Text,

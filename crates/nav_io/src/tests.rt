@@ -68,18 +68,18 @@ fn reads_memory_in_pieces(rt: HostRuntime) -> Result<(), Fail> {
         (Ok(1), b'd'),
     ];
     assert!(rt; got == want);
-    assert_eq!(rt; source.left().len(), 0);
+    assert!(rt; source.left().len() == 0);
     Ok(())
 }
 
 #[test]
 fn writes_memory_in_its_room(rt: HostRuntime) -> Result<(), Fail> {
     let mut sink = MemSink::new(rt.alloc(), 5, [1].to_vec(rt.alloc())?)?;
-    assert_eq!(rt; sink.write(b"ab"), Ok(()));
-    assert_eq!(rt; sink.write(b"cd"), Err(Failed));
-    assert_eq!(rt; sink.write(b"efgh"), Err(Failed));
-    assert_eq!(rt; sink.write(b"ijk"), Ok(()));
-    assert_eq!(rt; sink.bytes(), b"abijk".as_slice());
+    assert!(rt; sink.write(b"ab") == Ok(()));
+    assert!(rt; sink.write(b"cd") == Err(Failed));
+    assert!(rt; sink.write(b"efgh") == Err(Failed));
+    assert!(rt; sink.write(b"ijk") == Ok(()));
+    assert!(rt; sink.bytes() == b"abijk".as_slice());
     Ok(())
 }
 
@@ -98,10 +98,10 @@ fn reads_and_writes_at_the_edge(rt: HostRuntime) -> Result<(), Fail> {
 
     let mut out = Vec::new(rt.alloc());
     let mut sink = WriteSink::new(&mut out);
-    assert_eq!(rt; sink.write(b"ab"), Ok(()));
-    assert_eq!(rt; sink.write(b"cd"), Ok(()));
+    assert!(rt; sink.write(b"ab") == Ok(()));
+    assert!(rt; sink.write(b"cd") == Ok(()));
     let _ = sink;
-    assert_eq!(rt; out.as_slice(), b"abcd".as_slice());
+    assert!(rt; out.as_slice() == b"abcd".as_slice());
     Ok(())
 }
 
@@ -118,9 +118,9 @@ fn fails_in_mid_stream(rt: HostRuntime) {
     assert!(rt; reads(&mut source) == want);
 
     let mut sink = WriteSink::new(Faltering { calls: 0 });
-    assert_eq!(rt; sink.write(b"ab"), Ok(()));
-    assert_eq!(rt; sink.write(b"cd"), Err(Failed));
-    assert_eq!(rt; sink.write(b"ef"), Ok(()));
-    assert_eq!(rt; sink.write(b"g"), Err(Failed));
-    assert_eq!(rt; sink.write(b"h"), Ok(()));
+    assert!(rt; sink.write(b"ab") == Ok(()));
+    assert!(rt; sink.write(b"cd") == Err(Failed));
+    assert!(rt; sink.write(b"ef") == Ok(()));
+    assert!(rt; sink.write(b"g") == Err(Failed));
+    assert!(rt; sink.write(b"h") == Ok(()));
 }

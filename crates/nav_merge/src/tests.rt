@@ -126,12 +126,12 @@ fn three_files(rt: HostRuntime) -> Result<(), Fail> {
         for file in order {
             add_file(&mut merge, files.get(*file).ok_or("a file")?)?;
         }
-        assert_eq!(rt; merge.len(), 4);
-        assert_eq!(rt; merge.take_first(), Some(negative));
-        assert_eq!(rt; merge.take_first(), Some(first));
-        assert_eq!(rt; merge.take_first(), Some(ion));
-        assert_eq!(rt; merge.take_first(), Some(next));
-        assert_eq!(rt; merge.take_first(), None);
+        assert!(rt; merge.len() == 4);
+        assert!(rt; merge.take_first() == Some(negative));
+        assert!(rt; merge.take_first() == Some(first));
+        assert!(rt; merge.take_first() == Some(ion));
+        assert!(rt; merge.take_first() == Some(next));
+        assert!(rt; merge.take_first() == None);
     }
     merging();
     Ok(())

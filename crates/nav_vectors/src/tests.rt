@@ -81,7 +81,7 @@ fn count_lines(text: &[u8]) -> usize {
 #[test]
 fn one_satellite(rt: HostRuntime) -> Result<(), Fail> {
     let text = capture(rt.alloc(), 7, 1, 2295)?;
-    assert_eq!(rt; count_lines(text.as_slice()), 7866);
+    assert!(rt; count_lines(text.as_slice()) == 7866);
     for (number, line) in LINES {
         let found = text
             .as_slice()
@@ -95,6 +95,6 @@ fn one_satellite(rt: HostRuntime) -> Result<(), Fail> {
 #[test]
 fn two_satellites(rt: HostRuntime) -> Result<(), Fail> {
     let text = capture(rt.alloc(), 3, 2, 1024)?;
-    assert_eq!(rt; count_lines(text.as_slice()), 15731);
+    assert!(rt; count_lines(text.as_slice()) == 15731);
     Ok(())
 }

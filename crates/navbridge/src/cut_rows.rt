@@ -23,9 +23,9 @@ fn judges_a_file_cut_behind_each_line(rt: HostRuntime) -> Result<(), Fail> {
             _ => (0, "5 EPH G05 0 2295 0\n", file_rows::ONE_ITEM),
         };
         let run = convert_all(rt.alloc(), file_rows::TO_LIST, front.as_bytes())?;
-        assert_eq!(rt; run.status, status, "{number}");
-        assert_eq!(rt; run.output.bytes(), list.as_bytes(), "{number}");
-        assert_eq!(rt; run.report.bytes(), report.as_bytes(), "{number}");
+        assert!(rt; run.status == status, "{number}");
+        assert!(rt; run.output.bytes() == list.as_bytes(), "{number}");
+        assert!(rt; run.report.bytes() == report.as_bytes(), "{number}");
         front.push_str(line)?;
         front.push_str("\n")?;
     }
@@ -37,7 +37,7 @@ fn finds_no_frame_that_is_cut(rt: HostRuntime) -> Result<(), Fail> {
     let mut front = Vec::new(rt.alloc());
     for byte in GPS_FRAME {
         let run = convert_all(rt.alloc(), FRAMES, front.as_slice())?;
-        assert_eq!(rt; run.status, 0);
+        assert!(rt; run.status == 0);
         assert!(rt; run.output.bytes().is_empty(), "{front:?}");
         front.push(*byte)?;
     }
@@ -53,7 +53,7 @@ fn finds_no_frame_with_a_wrong_bit(rt: HostRuntime) -> Result<(), Fail> {
                 *byte ^= mask;
             }
             let run = convert_all(rt.alloc(), FRAMES, frame.as_slice())?;
-            assert_eq!(rt; run.status, 0);
+            assert!(rt; run.status == 0);
             assert!(rt; run.output.bytes().is_empty(), "{place} {mask}");
         }
     }
@@ -75,8 +75,8 @@ fn passes_a_comment_of_the_greatest_length(rt: HostRuntime) -> Result<(), Fail> 
     );
     let report = concat_text(rt.alloc(), "line 3 malformed\n", counts)?;
     let run = convert_all(rt.alloc(), TO_COUNT, input.as_slice())?;
-    assert_eq!(rt; run.status, 0);
-    assert_eq!(rt; run.output.bytes(), counts.as_bytes());
-    assert_eq!(rt; run.report.bytes(), report.as_bytes());
+    assert!(rt; run.status == 0);
+    assert!(rt; run.output.bytes() == counts.as_bytes());
+    assert!(rt; run.report.bytes() == report.as_bytes());
     Ok(())
 }

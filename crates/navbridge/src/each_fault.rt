@@ -39,8 +39,8 @@ fn writes_the_header_where_a_read_fails(rt: HostRuntime) -> Result<(), Fail> {
         let run = convert_in_pieces(rt.alloc(), failing)?;
         // Nine bytes are the first line, and no period is closed before the end.
         let want = if read < 2 { "" } else { HEADER };
-        assert_eq!(rt; run.status, 3);
-        assert_eq!(rt; run.output.bytes(), want.as_bytes(), "{read}");
+        assert!(rt; run.status == 3);
+        assert!(rt; run.output.bytes() == want.as_bytes(), "{read}");
         assert!(rt; run.report.bytes().is_empty());
     }
     Ok(())
@@ -59,7 +59,7 @@ fn writes_a_front_where_a_write_fails(rt: HostRuntime) -> Result<(), Fail> {
         failing.writes.push(write)?;
         let run = convert_in_pieces(rt.alloc(), failing)?;
         assert_eq!(rt; run.status, if write < 3 { 4 } else { 0 });
-        assert_eq!(rt; run.output.bytes() == file.as_bytes(), write == 3);
+        assert!(rt; run.output.bytes() == file.as_bytes() == write == 3);
         assert!(rt; file.as_bytes().starts_with(run.output.bytes()), "{write}");
         assert_eq!(rt; run.report.bytes().is_empty(), write < 3);
     }
@@ -68,7 +68,7 @@ fn writes_a_front_where_a_write_fails(rt: HostRuntime) -> Result<(), Fail> {
         failing.reports.push(write)?;
         let run = convert_in_pieces(rt.alloc(), failing)?;
         assert_eq!(rt; run.status, if write < 1 { 7 } else { 0 });
-        assert_eq!(rt; run.output.bytes(), file.as_bytes());
+        assert!(rt; run.output.bytes() == file.as_bytes());
         assert!(rt;
             counts.as_bytes().starts_with(run.report.bytes()),
             "{write}"

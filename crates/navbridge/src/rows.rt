@@ -101,7 +101,7 @@ fn lists_periods_of_gps(rt: HostRuntime) -> Result<(), Fail> {
     for case in cases {
         let input = concat_text(rt.alloc(), "NAVCAP 1\n", case.lines)?;
         let run = convert(rt.alloc(), TO_LIST, input.as_str())?;
-        assert_eq!(rt; run.status, 0);
+        assert!(rt; run.status == 0);
         assert_eq!(rt; run.output.bytes(), case.list.as_bytes(), "{}", case.lines);
         assert!(rt; run.report.bytes().starts_with(case.refusals.as_bytes()));
         assert!(rt; run.report.bytes()[case.refusals.len()..].starts_with(b"lines "));
@@ -133,7 +133,7 @@ fn lists_an_issue_heard_again(rt: HostRuntime) -> Result<(), Fail> {
         let input = concat_text(rt.alloc(), "NAVCAP 1\n", heard)?;
         let input = concat_text(rt.alloc(), input.as_str(), case.lines)?;
         let run = convert(rt.alloc(), TO_LIST, input.as_str())?;
-        assert_eq!(rt; run.status, 0);
+        assert!(rt; run.status == 0);
         assert_eq!(rt; run.output.bytes(), case.list.as_bytes(), "{}", case.lines);
     }
     Ok(())
@@ -183,7 +183,7 @@ fn lists_periods_of_galileo(rt: HostRuntime) -> Result<(), Fail> {
         let input = concat_text(rt.alloc(), "NAVCAP 1\n", WORDS)?;
         let input = concat_text(rt.alloc(), input.as_str(), case.lines)?;
         let run = convert(rt.alloc(), TO_LIST, input.as_str())?;
-        assert_eq!(rt; run.status, 0);
+        assert!(rt; run.status == 0);
         assert_eq!(rt; run.output.bytes(), case.list.as_bytes(), "{}", case.lines);
         assert!(rt; run.report.bytes().starts_with(case.refusals.as_bytes()));
         assert!(rt; run.report.bytes()[case.refusals.len()..].starts_with(b"lines "));
@@ -210,10 +210,7 @@ fn lists_ionospheres(rt: HostRuntime) -> Result<(), Fail> {
     for (lines, record) in cases {
         let input = concat_text(rt.alloc(), "NAVCAP 1\n", lines)?;
         let run = convert(rt.alloc(), TO_LIST, input.as_str())?;
-        assert_eq!(rt;
-            run.output.bytes(),
-            b"18 ION G 0b0000002c000000 whole\n".as_slice()
-        );
+        assert!(rt; run.output.bytes() == b"18 ION G 0b0000002c000000 whole\n".as_slice());
         let run = convert(rt.alloc(), TO_RINEX, input.as_str())?;
         let written = concat_text(rt.alloc(), HEADER, record)?;
         assert!(rt;
@@ -306,7 +303,7 @@ fn takes_week_and_window_of_the_first_line(rt: HostRuntime) -> Result<(), Fail> 
     for case in cases {
         let input = concat_text(rt.alloc(), case.input, "")?;
         let run = convert(rt.alloc(), case.words, input.as_str())?;
-        assert_eq!(rt; run.status, case.status);
+        assert!(rt; run.status == case.status);
         assert_eq!(rt; run.output.bytes(), case.list.as_bytes(), "{}", case.input);
         assert!(rt; case.status == 0 || run.report.bytes().is_empty());
     }

@@ -280,8 +280,8 @@ fn a_file_of_another_program(rt: HostRuntime) -> Result<(), Fail> {
     let mut four = MemSink::new(rt.alloc(), 2_000, [].to_vec(rt.alloc())?)?;
     let mut three = MemSink::new(rt.alloc(), 2_000, [].to_vec(rt.alloc())?)?;
     assert!(rt; reads_to(FILE, &wants, &mut four, &mut three, rt.alloc())?);
-    assert_eq!(rt; four.bytes(), FOUR);
-    assert_eq!(rt; three.bytes(), THREE);
+    assert!(rt; four.bytes() == FOUR);
+    assert!(rt; three.bytes() == THREE);
     Ok(())
 }
 
@@ -328,13 +328,13 @@ fn records_of_each_kind(rt: HostRuntime) -> Result<(), Fail> {
             Ok(read) => {
                 assert!(rt; is_wanted(&read, want));
                 if let ItemRead::Item { item, .. } = read {
-                    assert_eq!(rt; write_item3(&item, &mut sink), Ok(()));
+                    assert!(rt; write_item3(&item, &mut sink) == Ok(()));
                 }
             }
             Err(_) => return Err("a record")?,
         }
-        assert_eq!(rt; sink.bytes(), *text);
-        assert_eq!(rt; records.next_item3(&mut source), Ok(ItemRead::End));
+        assert!(rt; sink.bytes() == *text);
+        assert!(rt; records.next_item3(&mut source) == Ok(ItemRead::End));
     }
     Ok(())
 }
@@ -347,8 +347,8 @@ fn headers(rt: HostRuntime) -> Result<(), Fail> {
         leap: 18,
     };
     let mut sink = MemSink::new(rt.alloc(), 1_000, [].to_vec(rt.alloc())?)?;
-    assert_eq!(rt; write_header3(&words, &mut sink), Ok(()));
-    assert_eq!(rt; sink.bytes(), HEADER);
+    assert!(rt; write_header3(&words, &mut sink) == Ok(()));
+    assert!(rt; sink.bytes() == HEADER);
     let rows: [(&[u8], Result<(), HeaderFault>); 7] = [
         (
             b"     3.05           N: GNSS NAV DATA    M: MIXED            RINEX VERSION / TYPE
@@ -391,8 +391,8 @@ fn headers(rt: HostRuntime) -> Result<(), Fail> {
     for (bytes, want) in rows.iter() {
         let mut source = source_of(rt.alloc(), bytes)?;
         let mut records = Records3::new();
-        assert_eq!(rt; records.read_header3(&mut source), *want);
-        assert_eq!(rt; records.read_header3(&mut source), *want);
+        assert!(rt; records.read_header3(&mut source) == *want);
+        assert!(rt; records.read_header3(&mut source) == *want);
     }
     Ok(())
 }

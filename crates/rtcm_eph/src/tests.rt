@@ -213,9 +213,9 @@ fn message_1019_both_ways(rt: HostRuntime) -> Result<(), Fail> {
     ];
     for (payload, numbers) in rows {
         let eph = gps_of(payload)?;
-        assert_eq!(rt; gps_numbers(&eph), numbers);
+        assert!(rt; gps_numbers(&eph) == numbers);
         assert!(rt; eph.sent == SentSecond::Unknown);
-        assert_eq!(rt; write_1019(&eph).bytes().as_slice(), payload);
+        assert!(rt; write_1019(&eph).bytes().as_slice() == payload);
     }
     Ok(())
 }
@@ -309,9 +309,9 @@ fn message_1046_both_ways(rt: HostRuntime) -> Result<(), Fail> {
     ];
     for (payload, numbers) in rows {
         let eph = gal_of(payload)?;
-        assert_eq!(rt; gal_numbers(&eph), numbers);
+        assert!(rt; gal_numbers(&eph) == numbers);
         assert!(rt; eph.sent == SentSecond::Unknown);
-        assert_eq!(rt; write_1046(&eph).bytes().as_slice(), payload);
+        assert!(rt; write_1046(&eph).bytes().as_slice() == payload);
     }
     Ok(())
 }
@@ -389,13 +389,13 @@ fn faults(rt: HostRuntime) -> Result<(), Fail> {
 #[test]
 fn parts(rt: HostRuntime) -> Result<(), Fail> {
     let eph = gps_of(GPS)?;
-    assert_eq!(rt; eph.toe_week.value(), 2295);
-    assert_eq!(rt; eph.sat.number(), 5);
-    assert_eq!(rt; write_1046(&gal_of(GAL)?).bytes().as_slice(), GAL);
+    assert!(rt; eph.toe_week.value() == 2295);
+    assert!(rt; eph.sat.number() == 5);
+    assert!(rt; write_1046(&gal_of(GAL)?).bytes().as_slice() == GAL);
     match read_message(GAL, 7) {
         Ok(MessageParts::Gal { health, .. }) => {
-            assert_eq!(rt; health.stamp, 7);
-            assert_eq!(rt; health.sat.number(), 11);
+            assert!(rt; health.stamp == 7);
+            assert!(rt; health.sat.number() == 11);
         }
         _ => return Err("the parts of Galileo".into()),
     }
@@ -427,13 +427,13 @@ fn frames_both_ways(rt: HostRuntime) -> Result<(), Fail> {
         let frame = frame_of(bytes).ok_or("frame")?;
         let mut again = ArrayVec::new();
         write_frame(frame.payload(), &mut again);
-        assert_eq!(rt; again.as_slice(), bytes);
+        assert!(rt; again.as_slice() == bytes);
         let sat = match read_item(frame.payload(), near) {
             Ok(NavItem::Gps(e)) => e.sat,
             Ok(NavItem::Gal(e)) => e.sat,
             _ => return Err("item".into()),
         };
-        assert_eq!(rt; sat.number(), number);
+        assert!(rt; sat.number() == number);
     }
     Ok(())
 }

@@ -60,11 +60,7 @@ fn finds_the_frames_of_a_stream(rt: HostRuntime) -> Result<(), Fail> {
         (STATION, STATION),
     ];
     for (bytes, frames) in rows {
-        assert_eq!(rt;
-            frames_of(&rt, rt.alloc(), bytes)?.as_slice(),
-            frames,
-            "in {bytes:?}"
-        );
+        assert!(rt; frames_of(&rt, rt.alloc(), bytes)?.as_slice() == frames, "in {bytes:?}");
     }
     Ok(())
 }
@@ -77,7 +73,7 @@ fn finds_a_frame_behind_many_false_starts(rt: HostRuntime) -> Result<(), Fail> {
     bytes.extend_from_slice(b"\x48\x1d\x21")?;
     bytes.extend_from_slice(EMPTY)?;
     let frames = frames_of(&rt, rt.alloc(), bytes.as_slice())?;
-    assert_eq!(rt; frames.as_slice(), &bytes.as_slice()[300..]);
+    assert!(rt; frames.as_slice() == &bytes.as_slice()[300..]);
     Ok(())
 }
 
@@ -85,12 +81,12 @@ fn finds_a_frame_behind_many_false_starts(rt: HostRuntime) -> Result<(), Fail> {
 fn writes_and_reads_one_frame(rt: HostRuntime) -> Result<(), Fail> {
     let mut bytes = ArrayVec::new();
     write_frame(&STATION[3..22], &mut bytes);
-    assert_eq!(rt; bytes.as_slice(), STATION);
+    assert!(rt; bytes.as_slice() == STATION);
     let frame = frame_of(bytes.as_slice()).ok_or("a whole frame")?;
-    assert_eq!(rt; frame.payload(), &STATION[3..22]);
-    assert_eq!(rt; frame.bytes(), STATION);
+    assert!(rt; frame.payload() == &STATION[3..22]);
+    assert!(rt; frame.bytes() == STATION);
     let empty = frame_of(EMPTY).ok_or("a whole frame")?;
-    assert_eq!(rt; empty.payload(), b"".as_slice());
+    assert!(rt; empty.payload() == b"".as_slice());
     assert!(rt;
         frame_of(b"\xd3\x00\x00\x47\xea\x4b\x00").is_none(),
         "a byte behind the frame"

@@ -9,8 +9,8 @@
 //! ```rust
 //! let mut text = Text::new();
 //! append_count(&mut text, b"frames", 3);
-//! assert_eq!(rt; text.as_slice(), b"frames 3\n".as_slice());
-//! assert_eq!(rt; report_text(b"frame", 1, b"short").as_slice(), b"frame 1 short\n".as_slice());
+//! assert!(rt; text.as_slice() == b"frames 3\n".as_slice());
+//! assert!(rt; report_text(b"frame", 1, b"short").as_slice() == b"frame 1 short\n".as_slice());
 //! ```
 #![tactic(auto)]
 

@@ -21,7 +21,7 @@ fn lists_an_ephemeris(rt: HostRuntime) -> Result<(), Fail> {
     let r = RefWeek::new(2295).ok_or("a reference week")?;
     let item = read_item(&message(), r).ok().ok_or("an ephemeris")?;
     let line = item_line(5, &item);
-    assert_eq!(rt; line.as_slice(), b"5 EPH G05 0 2295 0\n".as_slice());
+    assert!(rt; line.as_slice() == b"5 EPH G05 0 2295 0\n".as_slice());
     Ok(())
 }
 
@@ -32,16 +32,16 @@ fn sends_an_ephemeris(rt: HostRuntime) -> Result<(), Fail> {
     let mut sink = MemSink::new(rt.alloc(), 100, Vec::new(rt.alloc()))?;
     assert!(rt; write_message(&item, &mut sink).is_ok());
     assert!(rt; sink.bytes().starts_with(b"\xd3\x00\x3d\x3f\xb1\x4f\x70"));
-    assert_eq!(rt; sink.bytes().len(), 67);
+    assert!(rt; sink.bytes().len() == 67);
     Ok(())
 }
 
 #[test]
 fn writes_lines_of_reports(rt: HostRuntime) -> Result<(), Fail> {
     let line = report_text(b"frame", 1, b"short");
-    assert_eq!(rt; line.as_slice(), b"frame 1 short\n".as_slice());
+    assert!(rt; line.as_slice() == b"frame 1 short\n".as_slice());
     let mut text = Text::new();
     append_count(&mut text, b"frames", 3);
-    assert_eq!(rt; text.as_slice(), b"frames 3\n".as_slice());
+    assert!(rt; text.as_slice() == b"frames 3\n".as_slice());
     Ok(())
 }

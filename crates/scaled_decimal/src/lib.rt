@@ -9,8 +9,8 @@
 //!
 //! ```rust
 //! let mean_anomaly = Scale { pi: true, factor: 1, two: -31, ten: 0 };
-//! assert_eq!(rt; print(1, &mean_anomaly), *b" 1.462918079267D-09");
-//! assert_eq!(rt; read(b"1.462918079267E-9", &mean_anomaly, -2_147_483_648, 2_147_483_647)?, 1);
+//! assert!(rt; print(1, &mean_anomaly) == *b" 1.462918079267D-09");
+//! assert!(rt; read(b"1.462918079267E-9", &mean_anomaly, -2_147_483_648, 2_147_483_647)? == 1);
 //! ```
 #![tactic(auto)]
 

@@ -116,8 +116,8 @@ fn prints_and_reads_back(rt: HostRuntime) {
     for (number, (pi, factor, two, ten), text) in &TEXTS {
         let scale = Scale::new(*pi, *factor, *two, *ten).expect(&rt, "a scale");
         assert!(rt; number.unsigned_abs() <= 4_294_967_295);
-        assert_eq!(rt; print(*number, &scale), **text);
-        assert_eq!(rt; read(text.as_slice(), &scale, ANY.0, ANY.1), Ok(*number));
+        assert!(rt; print(*number, &scale) == **text);
+        assert!(rt; read(text.as_slice(), &scale, ANY.0, ANY.1) == Ok(*number));
     }
 }
 
@@ -126,7 +126,7 @@ fn reads(rt: HostRuntime) {
     for (text, (pi, factor, two, ten), (low, high), wanted) in &READINGS {
         let scale = Scale::new(*pi, *factor, *two, *ten).expect(&rt, "a scale");
         assert!(rt; text.len() <= 19 && -4_294_967_295 <= *low && *high <= 4_294_967_295);
-        assert_eq!(rt; read(text, &scale, *low, *high), *wanted);
+        assert!(rt; read(text, &scale, *low, *high) == *wanted);
     }
 }
 
@@ -140,17 +140,14 @@ fn refuses_scales(rt: HostRuntime) {
         (1, 0, -3),
         (1, 0, 1),
     ] {
-        assert_eq!(rt; Scale::new(false, factor, two, ten), None);
+        assert!(rt; Scale::new(false, factor, two, ten) == None);
     }
     for (factor, two, ten) in [(1, -59, -2), (60, 16, 0)] {
-        assert_eq!(rt;
-            Scale::new(true, factor, two, ten),
-            Some(Scale {
+        assert!(rt; Scale::new(true, factor, two, ten) == Some(Scale {
                 pi: true,
                 factor,
                 two,
                 ten
-            })
-        );
+            }));
     }
 }

@@ -9,7 +9,7 @@ use nav_eph::{GalHealth, Sat, SentTag};
 use period_items::{Key, system_number};
 
 /// The numbers by which keys are ordered: class, system, satellite, and issue or content.
-#[derive(Clone, Copy, PartialEq, Eq, PartialOrd, Ord, Debug)]
+#[derive(Clone, Copy, PartialEq, Eq, PartialOrd, Ord)]
 pub struct Rank {
     pub class: u8,
     pub system: u8,
@@ -18,7 +18,7 @@ pub struct Rank {
 }
 
 /// The place of a slot in the order of periods.
-#[derive(Clone, Copy, PartialEq, Eq, PartialOrd, Ord, Debug)]
+#[derive(Clone, Copy, PartialEq, Eq, PartialOrd, Ord)]
 pub struct ByEnd {
     pub end: u64,
     pub class: u8,
@@ -28,7 +28,7 @@ pub struct ByEnd {
 }
 
 /// The place of a slot among those of its key.
-#[derive(Clone, Copy, PartialEq, Eq, PartialOrd, Ord, Debug)]
+#[derive(Clone, Copy, PartialEq, Eq, PartialOrd, Ord)]
 pub struct ByKey {
     pub class: u8,
     pub system: u8,
@@ -38,7 +38,7 @@ pub struct ByKey {
 }
 
 /// The place of a health among those of its satellite.
-#[derive(Clone, Copy, PartialEq, Eq, PartialOrd, Ord, Debug)]
+#[derive(Clone, Copy, PartialEq, Eq, PartialOrd, Ord)]
 pub struct BySat {
     pub system: u8,
     pub number: u8,
@@ -47,7 +47,7 @@ pub struct BySat {
 }
 
 /// The place of a health among all, the oldest first.
-#[derive(Clone, Copy, PartialEq, Eq, PartialOrd, Ord, Debug)]
+#[derive(Clone, Copy, PartialEq, Eq, PartialOrd, Ord)]
 pub struct ByStamp {
     pub stamp: u64,
     pub system: u8,

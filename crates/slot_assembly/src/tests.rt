@@ -101,7 +101,7 @@ fn agree(rt: &impl Abort, alloc: Global, first: u64) -> Result<usize, Fail> {
     let mut given = Vec::new(alloc);
     run(&mut plain, &parts, &mut wanted)?;
     run(&mut slots, &parts, &mut given)?;
-    assert_eq!(rt; given.len(), wanted.len());
+    assert!(rt; given.len() == wanted.len());
     for (one, other) in given.iter().zip(wanted.iter()) {
         assert!(rt; one == other);
     }
@@ -131,7 +131,7 @@ fn next_closed_period(rt: HostRuntime) -> Result<(), Fail> {
     assembly.take(&third)?;
     assert!(rt; assembly.next_closed(7_212)?.is_none());
     let closed = assembly.next_closed(7_213)?.ok_or("a period")?;
-    assert_eq!(rt; closed.end, 12);
+    assert!(rt; closed.end == 12);
     assert!(rt; matches!(&closed.verdict, Verdict::Whole(_)));
     assert!(rt; assembly.next_closed(7_213)?.is_none());
     Ok(())
