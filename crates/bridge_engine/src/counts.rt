@@ -9,7 +9,7 @@ use period_items::Verdict;
 use run_texts::{Text, append_count};
 
 /// What a run over a capture counts.
-#[derive(Clone, Copy, PartialEq, Eq)]
+#[derive(Clone, Copy)]
 pub struct CaptureCounts {
     /// The lines, the first one included.
     pub lines: u64,
@@ -34,7 +34,7 @@ pub struct CaptureCounts {
 }
 
 // What the lines of a capture come to, but for the parts that they bring.
-#[derive(Clone, Copy, PartialEq, Eq)]
+#[derive(Clone, Copy)]
 pub(crate) struct Tally {
     pub(crate) malformed: u64,
     pub(crate) late: u64,
@@ -57,7 +57,7 @@ impl Tally {
 }
 
 // What is said of the periods.
-#[derive(Clone, Copy, PartialEq, Eq)]
+#[derive(Clone, Copy)]
 pub(crate) struct Said {
     pub(crate) whole: u64,
     pub(crate) partial: u64,

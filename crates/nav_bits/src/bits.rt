@@ -7,7 +7,7 @@ use crate::signed::sign_extended;
 use std::marker::Model;
 
 /// `N` bytes as a run of bits, bit 0 being the most significant bit of the first byte.
-#[derive(Clone, Copy, PartialEq, Eq)]
+#[derive(Clone, Copy)]
 pub struct Bits<const N: usize> {
     pub(crate) bytes: [u8; N],
 }

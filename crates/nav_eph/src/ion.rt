@@ -41,7 +41,7 @@ pub struct GalIon {
 }
 
 /// What a satellite says of the ionosphere.
-#[derive(Clone, Copy, PartialEq, Eq)]
+#[derive(Clone, Copy)]
 pub enum IonContent {
     /// Of GPS.
     Gps(GpsIon),

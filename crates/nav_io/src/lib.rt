@@ -53,7 +53,7 @@ pub use crate::memory::{MemSink, MemSource};
 pub use crate::pieces::{MOST_TAKEN, read_piece};
 
 /// A read or a write failed. The object's count of faults says so.
-#[derive(Clone, Copy, PartialEq, Eq)]
+#[derive(Clone, Copy)]
 pub struct Failed;
 
 /// Where bytes are read.

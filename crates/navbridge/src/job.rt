@@ -16,7 +16,7 @@ use seed_runs::SeedTo;
 use std::alloc::{AllocError, Global};
 
 /// Which conversion the words ask for.
-#[derive(Clone, Copy, PartialEq, Eq)]
+#[derive(Clone, Copy)]
 pub enum Job {
     /// `--from stream --to frames`: a line for each RTCM 3 frame of a stream.
     StreamToFrames,
@@ -42,7 +42,7 @@ pub enum Job {
 }
 
 /// A conversion of a capture.
-#[derive(Clone, Copy, PartialEq, Eq)]
+#[derive(Clone, Copy)]
 pub struct CaptureJob {
     /// The week near which it is read, where the words name one.
     pub week: Option<RefWeek>,
@@ -51,7 +51,7 @@ pub struct CaptureJob {
 }
 
 /// A conversion of the ephemerides of a stream.
-#[derive(Clone, Copy, PartialEq, Eq)]
+#[derive(Clone, Copy)]
 pub struct StreamJob {
     /// The week near which it is read.
     pub week: RefWeek,
@@ -60,7 +60,7 @@ pub struct StreamJob {
 }
 
 /// The making of a capture.
-#[derive(Clone, Copy, PartialEq, Eq)]
+#[derive(Clone, Copy)]
 pub struct SeedJob {
     /// The seed of its numbers.
     pub seed: u32,

@@ -11,7 +11,7 @@ use gnss_week::RefWeek;
 use job_words::Found;
 
 /// What the options say beside the forms: of each its value, where it is there.
-#[derive(Clone, Copy, PartialEq, Eq)]
+#[derive(Clone, Copy)]
 pub struct Values {
     /// The week near which times are read.
     pub week: Option<RefWeek>,

@@ -2,7 +2,7 @@ use crate::key::{Key, Place};
 use nav_eph::NavItem;
 
 /// What a period comes to by itself.
-#[derive(Clone, Copy, PartialEq, Eq)]
+#[derive(Clone, Copy)]
 pub enum Finding {
     /// Two members of one kind differ in content.
     Differs,
@@ -15,7 +15,7 @@ pub enum Finding {
 }
 
 /// What is said of a period.
-#[derive(Clone, Copy, PartialEq, Eq)]
+#[derive(Clone, Copy)]
 pub enum Verdict {
     /// All of its parts were heard and agree, and they bring something new; this is its item.
     Whole(NavItem),
@@ -31,7 +31,7 @@ pub enum Verdict {
 }
 
 /// A period to which no further part can belong.
-#[derive(Clone, Copy, PartialEq, Eq)]
+#[derive(Clone, Copy)]
 pub struct Closed {
     /// The stamp of its last part.
     pub end: u32,

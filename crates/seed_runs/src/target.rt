@@ -1,7 +1,7 @@
 use bridge_engine::CaptureCounts;
 
 /// What a generated capture is converted to.
-#[derive(Clone, Copy, PartialEq, Eq)]
+#[derive(Clone, Copy)]
 pub enum SeedTo {
     /// The capture itself.
     Capture,
@@ -10,7 +10,7 @@ pub enum SeedTo {
 }
 
 /// What a run over a generated capture counts.
-#[derive(Clone, Copy, PartialEq, Eq)]
+#[derive(Clone, Copy)]
 pub enum SeedCounts {
     /// The capture was written.
     Written {
