@@ -28,10 +28,6 @@ mod kept;
 mod laws;
 mod plain;
 mod run;
-#[cfg(test)]
-mod samples;
-#[cfg(test)]
-mod tests;
 
 pub use crate::assembly::Assembly;
 pub use crate::laws::old_is_far;

@@ -17,8 +17,6 @@ mod cover;
 mod laws;
 mod range;
 mod sweep;
-#[cfg(test)]
-mod tests;
 
 pub use crate::cover::Cover;
 pub use crate::laws::covering;

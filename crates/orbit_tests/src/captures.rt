@@ -1,8 +1,8 @@
 //! Lines of generated captures, computed by an independent program.
 
-use super::*;
 use gnss_week::RefWeek;
-use std::alloc::{AllocError, Global};
+use nav_vectors::make_capture;
+use std::alloc::Global;
 use std::test::Fail;
 
 // Lines of the capture of one satellite of each system in week 2295 from the seed 7, with their
