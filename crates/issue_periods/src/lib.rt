@@ -30,7 +30,7 @@ mod plain;
 mod run;
 
 pub use crate::assembly::Assembly;
-pub use crate::laws::old_is_far;
+pub use crate::laws::{old_is_far, one_next};
 pub use crate::plain::PlainAssembly;
 pub use crate::run::add_periods;
 pub use period_items::{

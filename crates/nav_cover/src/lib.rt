@@ -19,5 +19,5 @@ mod range;
 mod sweep;
 
 pub use crate::cover::Cover;
-pub use crate::laws::covering;
+pub use crate::laws::{covering, one_cover};
 pub use crate::range::CoverRange;

@@ -1,6 +1,6 @@
 use crate::samples::{ephemeris, ionosphere};
 use nav_bits::{S, U};
-use nav_cover::{Cover, covering};
+use nav_cover::{Cover, covering, one_cover};
 use nav_eph::SentSecond;
 use std::test::Fail;
 
@@ -83,5 +83,6 @@ fn ranges_of_items(rt: HostRuntime) -> Result<(), Fail> {
         assert!(rt; gives(&mut cover, row.ranges));
     }
     covering();
+    one_cover();
     Ok(())
 }

@@ -3,7 +3,7 @@ use crate::runs::{WEEK, WINDOW, gives_a_period_once, letter};
 use gnss_week::RefWeek;
 use issue_periods::{
     Closed, PlainAssembly, Verdict, add_periods, closed_stays, items_fit_together, old_is_far,
-    one_more_part, order_is_nothing, periods_are,
+    one_more_part, one_next, order_is_nothing, periods_are,
 };
 use nav_eph::{NavItem, Part, SentSecond};
 use std::alloc::Global;
@@ -479,6 +479,7 @@ fn laws() {
     items_fit_together();
     old_is_far();
     one_more_part();
+    one_next();
     order_is_nothing();
     periods_are();
 }
