@@ -3,16 +3,15 @@
 
 ghost use Rattle.std.specs.Prelude.{◌≡◌};
 
-use crate::{
+use arrayvec::ArrayVec;
+use capture_lines::{
     CaptureHead, LineItem, LineText, read_first, read_line, write_half_line, write_lnav, write_rtcm,
 };
-use arrayvec::ArrayVec;
 use gnss_week::RefWeek;
 use inav_page::Signal;
 use nav_bits::Bits;
 use nav_eph::{Sat, System};
 use std::process::Abort;
-use std::test::Fail;
 
 const SUBFRAME: [u8; 38] = [
     0x8b, 0x00, 0x00, 0x48, 0x00, 0x02, 0x10, 0x43, 0xdc, 0x00, 0x05, 0x80, 0x00, 0x00, 0x29, 0xff,
@@ -241,32 +240,33 @@ fn reads_frames_of_1029_bytes(rt: HostRuntime) {
     line[1] = b' ';
     line[2] = b'R';
     line[3] = b' ';
-    assert!(rt; read_line(&line[..2062]) != LineItem::Malformed);
-    assert!(rt; read_line(&line) == LineItem::Malformed);
+    let longest = read_line(&line[..2062]) != LineItem::Malformed;
+    assert!(rt; longest && read_line(&line) == LineItem::Malformed);
+}
+
+// Whether a line of 2,200 such bytes is passed, and one of 2,201 is malformed.
+fn passes_2200(code: u8) -> bool {
+    let line = [code; 2201];
+    let passed = read_line(&line[..2200]) == LineItem::Pass;
+    passed && read_line(&line) == LineItem::Malformed
 }
 
 #[test]
 fn passes_comments_of_2200_bytes(rt: HostRuntime) {
-    let comment = [b'#'; 2201];
-    assert!(rt; read_line(&comment[..2200]) == LineItem::Pass);
-    assert!(rt; read_line(&comment) == LineItem::Malformed);
-    let blanks = [b' '; 2201];
-    assert!(rt; read_line(&blanks[..2200]) == LineItem::Pass);
-    assert!(rt; read_line(&blanks) == LineItem::Malformed);
+    assert!(rt; passes_2200(b'#') && passes_2200(b' '));
 }
 
 #[test]
-fn writes_items(rt: HostRuntime) -> Result<(), Fail> {
+fn writes_items(rt: HostRuntime) {
     let mut text = LineText::new();
     let gps = satellite(&rt, System::Gps, 5);
     write_lnav(4_294_967_295, gps, &Bits::from_bytes(SUBFRAME), &mut text);
-    assert!(rt; text.as_slice() == SUBFRAME_LINE);
+    let subframe = text.as_slice() == SUBFRAME_LINE;
     let mut text = LineText::new();
     let gal = satellite(&rt, System::Gal, 36);
     write_half_line(7, gal, Signal::E5b, &Bits::from_bytes(HALF), &mut text);
-    assert!(rt; text.as_slice() == HALF_LINE);
+    let half = text.as_slice() == HALF_LINE;
     let mut text = LineText::new();
     write_rtcm(0, &FRAME, &mut text);
-    assert!(rt; text.as_slice() == FRAME_LINE);
-    Ok(())
+    assert!(rt; subframe && half && text.as_slice() == FRAME_LINE);
 }

@@ -1,6 +1,7 @@
 //! The lines of small inputs, whole and byte by byte, and after a read that failed.
 
-use crate::{LineFault, LineKind, Lines, MemSource};
+use crate::samples::source_of;
+use nav_io::{LineFault, LineKind, Lines, MemSource};
 use std::alloc::{AllocError, Global};
 use std::test::Fail;
 
@@ -23,13 +24,20 @@ fn gives(source: &mut MemSource, want: &[Want<'_>]) -> bool {
     first && second && lines.text().is_empty() && lines.number() as usize == want.len()
 }
 
+// Whether the bytes in these pieces give these lines.
+fn gives_cut(
+    alloc: Global,
+    bytes: &[u8],
+    cuts: &[u32],
+    want: &[Want<'_>],
+) -> Result<bool, AllocError> {
+    let mut source = source_of(alloc, bytes, cuts, &[])?;
+    Ok(gives(&mut source, want))
+}
+
 // The bytes whole, and in pieces of one byte.
 fn gives_both(alloc: Global, bytes: &[u8], want: &[Want<'_>]) -> Result<bool, AllocError> {
-    let none = Vec::new(alloc);
-    let mut whole = MemSource::new(bytes.to_vec(alloc)?, none, Vec::new(alloc));
-    let ones = vec![in alloc; 1u32; 2300]?;
-    let mut cut = MemSource::new(bytes.to_vec(alloc)?, ones, Vec::new(alloc));
-    Ok(gives(&mut whole, want) && gives(&mut cut, want))
+    Ok(gives_cut(alloc, bytes, &[], want)? && gives_cut(alloc, bytes, &[1; 2300], want)?)
 }
 
 #[test]
@@ -54,40 +62,38 @@ fn gives_lines(rt: HostRuntime) -> Result<(), Fail> {
 
 #[test]
 fn cuts_long_lines(rt: HostRuntime) -> Result<(), Fail> {
-    let full = [b'x'; 2200];
-    let mut longest = [b'x'; 2202];
-    longest[2200] = b'\n';
-    longest[2201] = b'y';
-    let y: &[u8] = b"y";
-    let want = [(LineKind::Text, full.as_slice()), (LineKind::Text, y)];
-    assert!(rt; gives_both(rt.alloc(), &longest, &want)?);
-    longest[2200] = b'\r';
-    longest[2201] = b'\n';
-    let want = [(LineKind::Text, full.as_slice())];
-    assert!(rt; gives_both(rt.alloc(), &longest, &want)?);
-    longest[2200] = b'x';
-    let want = [(LineKind::Long, full.as_slice())];
-    assert!(rt; gives_both(rt.alloc(), &longest, &want)?);
-    longest[2201] = b'\r';
-    assert!(rt; gives_both(rt.alloc(), &longest, &want)?);
-    assert!(rt; gives_both(rt.alloc(), &longest[..2201], &want)?);
+    let full: &[u8] = &[b'x'; 2200];
+    // what stands behind 2,200 bytes
+    let rows: [(&[u8], &[Want<'_>]); 5] = [
+        (b"\ny", &[(LineKind::Text, full), (LineKind::Text, b"y")]),
+        (b"\r\n", &[(LineKind::Text, full)]),
+        (b"x\n", &[(LineKind::Long, full)]),
+        (b"x\r", &[(LineKind::Long, full)]),
+        (b"x", &[(LineKind::Long, full)]),
+    ];
+    for (end, want) in rows.iter() {
+        let mut bytes = full.to_vec(rt.alloc())?;
+        bytes.extend_from_slice(end)?;
+        assert!(rt; gives_both(rt.alloc(), bytes.as_slice(), want)?);
+    }
     Ok(())
 }
 
 #[test]
 fn goes_on_after_a_failed_read(rt: HostRuntime) -> Result<(), Fail> {
-    let bytes = b"ab\ncd\n".to_vec(rt.alloc())?;
-    let cuts = [1, 1].to_vec(rt.alloc())?;
-    let mut source = MemSource::new(bytes, cuts, [1, 4].to_vec(rt.alloc())?);
+    let mut source = source_of(rt.alloc(), b"ab\ncd\n", &[1, 1], &[1, 4])?;
     let mut lines = Lines::new();
-    assert!(rt; lines.next(&mut source) == Err(LineFault::ReadFault));
-    assert!(rt; lines.next(&mut source) == Ok(LineKind::Text));
-    assert!(rt; lines.text() == b"ab".as_slice());
-    assert!(rt; lines.next(&mut source) == Ok(LineKind::Text));
-    assert!(rt; lines.text() == b"cd".as_slice());
-    assert!(rt; lines.number() == 2);
-    assert!(rt; lines.next(&mut source) == Err(LineFault::ReadFault));
-    assert!(rt; lines.text() == b"".as_slice());
-    assert!(rt; lines.next(&mut source) == Ok(LineKind::End));
+    // the answers, with the text and the number of lines
+    let rows: [(Result<LineKind, LineFault>, &[u8], u32); 5] = [
+        (Err(LineFault::ReadFault), b"", 0),
+        (Ok(LineKind::Text), b"ab", 1),
+        (Ok(LineKind::Text), b"cd", 2),
+        (Err(LineFault::ReadFault), b"", 2),
+        (Ok(LineKind::End), b"", 2),
+    ];
+    for (answer, text, number) in rows.iter() {
+        let next = lines.next(&mut source);
+        assert!(rt; next == *answer && lines.text() == *text && lines.number() == *number);
+    }
     Ok(())
 }

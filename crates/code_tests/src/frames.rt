@@ -1,7 +1,9 @@
+//! Streams and their frames: worked rows, an example of the standard, and the time of a long one.
+
 ghost use Rattle.std.specs.Prelude.{◌≡◌, []};
 
-use super::*;
 use arrayvec::ArrayVec;
+use rtcm_frame::{Deframer, frame_of, write_frame};
 use std::alloc::{AllocError, Global};
 use std::process::Abort;
 use std::test::Fail;
@@ -60,7 +62,10 @@ fn finds_the_frames_of_a_stream(rt: HostRuntime) -> Result<(), Fail> {
         (STATION, STATION),
     ];
     for (bytes, frames) in rows {
-        assert!(rt; frames_of(&rt, rt.alloc(), bytes)?.as_slice() == frames, "in {bytes:?}");
+        assert!(rt;
+            frames_of(&rt, rt.alloc(), bytes)?.as_slice() == frames,
+            "in {bytes:?}"
+        );
     }
     Ok(())
 }
@@ -81,16 +86,14 @@ fn finds_a_frame_behind_many_false_starts(rt: HostRuntime) -> Result<(), Fail> {
 fn writes_and_reads_one_frame(rt: HostRuntime) -> Result<(), Fail> {
     let mut bytes = ArrayVec::new();
     write_frame(&STATION[3..22], &mut bytes);
-    assert!(rt; bytes.as_slice() == STATION);
-    let frame = frame_of(bytes.as_slice()).ok_or("a whole frame")?;
-    assert!(rt; frame.payload() == &STATION[3..22]);
-    assert!(rt; frame.bytes() == STATION);
+    let written = bytes.as_slice() == STATION;
+    let frame = frame_of(STATION).ok_or("a whole frame")?;
+    let read = frame.payload() == &STATION[3..22] && frame.bytes() == STATION;
     let empty = frame_of(EMPTY).ok_or("a whole frame")?;
-    assert!(rt; empty.payload() == b"".as_slice());
-    assert!(rt;
-        frame_of(b"\xd3\x00\x00\x47\xea\x4b\x00").is_none(),
-        "a byte behind the frame"
-    );
+    let nothing = empty.payload() == b"".as_slice();
+    // a byte behind the frame
+    let longer = frame_of(b"\xd3\x00\x00\x47\xea\x4b\x00").is_some();
+    assert!(rt; written && read && nothing && !longer);
     Ok(())
 }
 

@@ -1,6 +1,7 @@
 //! What no clause says: that calls succeed, that a fault in mid-stream is answered as one.
 
-use crate::{Failed, MemSink, MemSource, ReadSource, Sink, Source, WriteSink};
+use crate::samples::source_of;
+use nav_io::{Failed, MemSink, ReadSource, Sink, Source, WriteSink};
 use std::io;
 use std::io::{ErrorKind, Read, Write};
 use std::test::Fail;
@@ -54,12 +55,18 @@ fn reads<S: Source>(source: &mut S) -> [(Result<usize, Failed>, u8); 5] {
     answers
 }
 
+// The answers of writes of these pieces, one behind the other.
+fn writes<S: Sink>(sink: &mut S, pieces: [&[u8]; 5]) -> [Result<(), Failed>; 5] {
+    let mut answers = [Ok(()); 5];
+    for (answer, piece) in answers.iter_mut().zip(pieces) {
+        *answer = sink.write(piece);
+    }
+    answers
+}
+
 #[test]
 fn reads_memory_in_pieces(rt: HostRuntime) -> Result<(), Fail> {
-    let bytes = b"abcd".to_vec(rt.alloc())?;
-    let cuts = [1, 0, 1].to_vec(rt.alloc())?;
-    let mut source = MemSource::new(bytes, cuts, [2].to_vec(rt.alloc())?);
-    let got = reads(&mut source);
+    let mut source = source_of(rt.alloc(), b"abcd", &[1, 0, 1], &[2])?;
     let want = [
         (Ok(1), b'a'),
         (Ok(1), b'b'),
@@ -67,26 +74,23 @@ fn reads_memory_in_pieces(rt: HostRuntime) -> Result<(), Fail> {
         (Ok(1), b'c'),
         (Ok(1), b'd'),
     ];
-    assert!(rt; got == want);
-    assert!(rt; source.left().len() == 0);
+    assert!(rt; reads(&mut source) == want && source.left().len() == 0);
     Ok(())
 }
 
 #[test]
 fn writes_memory_in_its_room(rt: HostRuntime) -> Result<(), Fail> {
-    let mut sink = MemSink::new(rt.alloc(), 5, [1].to_vec(rt.alloc())?)?;
-    assert!(rt; sink.write(b"ab") == Ok(()));
-    assert!(rt; sink.write(b"cd") == Err(Failed));
-    assert!(rt; sink.write(b"efgh") == Err(Failed));
-    assert!(rt; sink.write(b"ijk") == Ok(()));
-    assert!(rt; sink.bytes() == b"abijk".as_slice());
+    let fails = [1].to_vec(rt.alloc())?;
+    let mut sink = MemSink::new(rt.alloc(), 5, fails)?;
+    let answers = writes(&mut sink, [b"ab", b"cd", b"efgh", b"ijk", b""]);
+    let want = [Ok(()), Err(Failed), Err(Failed), Ok(()), Ok(())];
+    assert!(rt; answers == want && sink.bytes() == b"abijk".as_slice());
     Ok(())
 }
 
 #[test]
-fn reads_and_writes_at_the_edge(rt: HostRuntime) -> Result<(), Fail> {
-    let bytes = b"abcde";
-    let mut source = ReadSource::new(bytes.as_slice());
+fn reads_and_writes_at_the_edge(rt: HostRuntime) {
+    let mut source = ReadSource::new(b"abcde".as_slice());
     let want = [
         (Ok(4), b'a'),
         (Ok(1), b'e'),
@@ -94,15 +98,12 @@ fn reads_and_writes_at_the_edge(rt: HostRuntime) -> Result<(), Fail> {
         (Ok(0), b'e'),
         (Ok(0), b'e'),
     ];
-    assert!(rt; reads(&mut source) == want);
-
+    let read = reads(&mut source) == want;
     let mut out = Vec::new(rt.alloc());
     let mut sink = WriteSink::new(&mut out);
-    assert!(rt; sink.write(b"ab") == Ok(()));
-    assert!(rt; sink.write(b"cd") == Ok(()));
+    let written = sink.write(b"ab") == Ok(()) && sink.write(b"cd") == Ok(());
     let _ = sink;
-    assert!(rt; out.as_slice() == b"abcd".as_slice());
-    Ok(())
+    assert!(rt; read && written && out.as_slice() == b"abcd".as_slice());
 }
 
 #[test]
@@ -115,12 +116,8 @@ fn fails_in_mid_stream(rt: HostRuntime) {
         (Ok(1), 4),
         (Ok(1), 5),
     ];
-    assert!(rt; reads(&mut source) == want);
-
+    let read = reads(&mut source) == want;
     let mut sink = WriteSink::new(Faltering { calls: 0 });
-    assert!(rt; sink.write(b"ab") == Ok(()));
-    assert!(rt; sink.write(b"cd") == Err(Failed));
-    assert!(rt; sink.write(b"ef") == Ok(()));
-    assert!(rt; sink.write(b"g") == Err(Failed));
-    assert!(rt; sink.write(b"h") == Ok(()));
+    let answers = writes(&mut sink, [b"ab", b"cd", b"ef", b"g", b"h"]);
+    assert!(rt; read && answers == [Ok(()), Err(Failed), Ok(()), Err(Failed), Ok(())]);
 }

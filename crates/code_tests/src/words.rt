@@ -1,33 +1,17 @@
-ghost use Rattle.std.specs.Prelude.{◌<◌};
+//! Words of an independent program and worked words both ways, and worked faults.
 
-use super::*;
+use crate::samples::bits_of;
 use gnss_week::Second;
+use inav_word::{
+    WordFault, WordParts, read_word, write_word1, write_word2, write_word3, write_word4,
+    write_word5,
+};
 use nav_bits::{Bits, U};
 use nav_eph::{
     Body, GalHealth, GalIon, GalWord1, GalWord2, GalWord3, GalWord4, Part, Sat, SentTag, System,
 };
 use std::alloc::{AllocError, Global};
 use std::test::Fail;
-
-// The value of a hexadecimal digit.
-fn digit(code: u8) -> u8
-    ensures { result < 16 }
-{
-    match code {
-        b'0'..=b'9' => code - b'0',
-        b'a'..=b'f' => code - b'a' + 10,
-        _ => 0,
-    }
-}
-
-// The bits of 32 hexadecimal digits.
-fn bits_of(text: &[u8; 32]) -> Bits<16> {
-    let mut bytes = [0; 16];
-    for i in 0..16usize {
-        bytes[i] = digit(text[2 * i]) * 16 + digit(text[2 * i + 1]);
-    }
-    Bits::from_bytes(bytes)
-}
 
 // What is read of a word that a satellite of Galileo sent.
 fn read(bits: &Bits<16>, number: u8) -> Option<Result<WordParts, WordFault>> {
@@ -334,25 +318,29 @@ const WORDS: [(&[u8; 32], u8, &str); 30] = [
     ),
 ];
 
+// Whether the word of these digits has those numbers, and is written of them.
+fn is_word(digits: &[u8; 32], number: u8, text: &str, alloc: Global) -> Result<bool, Fail> {
+    let bits = bits_of(digits);
+    let parts = match read(&bits, number) {
+        Some(Ok(parts)) => parts,
+        _ => return Err("a word that is read".into()),
+    };
+    let five = digits[0] == b'1' && digits[1] >= b'4';
+    let parted = parts.first.stamp == 9 && parts.second.is_some() == five;
+    let (numbers, written) = again(&parts, alloc)?;
+    Ok(parted && numbers.as_str() == text && written == bits)
+}
+
 #[test]
 fn words_both_ways(rt: HostRuntime) -> Result<(), Fail> {
     for (digits, number, text) in &WORDS {
-        let bits = bits_of(digits);
-        let parts = match read(&bits, *number).ok_or("a satellite")? {
-            Ok(parts) => parts,
-            Err(_) => return Err("a word that is read".into()),
-        };
-        let five = digits[0] == b'1' && digits[1] >= b'4';
-        assert!(rt; parts.first.stamp == 9 && parts.second.is_some() == five);
-        let (numbers, written) = again(&parts, rt.alloc())?;
-        assert!(rt; numbers.as_str() == *text);
-        assert!(rt; written == bits);
+        assert!(rt; is_word(digits, *number, text, rt.alloc())?, "{text}");
     }
     Ok(())
 }
 
 #[test]
-fn faults(rt: HostRuntime) -> Result<(), Fail> {
+fn faults(rt: HostRuntime) {
     let rows: [(&[u8; 32], u8, WordFault); 12] = [
         (
             b"00000000000000000000000000000000",
@@ -392,8 +380,6 @@ fn faults(rt: HostRuntime) -> Result<(), Fail> {
         ),
     ];
     for (digits, number, fault) in &rows {
-        let read = read(&bits_of(digits), *number).ok_or("a satellite")?;
-        assert!(rt; read == Err(*fault));
+        assert!(rt; read(&bits_of(*digits), *number) == Some(Err(*fault)));
     }
-    Ok(())
 }

@@ -1,35 +1,33 @@
+//! Values by hand of numbers at places, of numbers of digits and of a table.
+
 ghost use Rattle.std.specs.Prelude.{◌≡◌, ◌+◌, ◌≤◌};
 
-use super::*;
+use nav_bits::{BitForm, Bits, S, U, put_numbers};
 use std::test::Fail;
 
 #[test]
 fn numbers_at_places(rt: HostRuntime) {
     let mut bits = Bits::<2>::from_bytes([0b1010_0101, 0xF0]);
-    assert!(rt; bits.get(4, 8) == 0x5F);
-    assert!(rt; bits.get(0, 16) == 0xA5F0);
-    assert!(rt; bits.get_signed(0, 4) == -6);
+    let read = bits.get(4, 8) == 0x5F && bits.get(0, 16) == 0xA5F0 && bits.get_signed(0, 4) == -6;
     bits.put(4, 8, 0xC3);
-    assert!(rt; bits.get(0, 16) == 0xAC30);
-    assert!(rt; bits == Bits::from_bytes([0xAC, 0x30]));
+    let put = bits.get(0, 16) == 0xAC30 && bits == Bits::from_bytes([0xAC, 0x30]);
     let none = Bits::<1>::zero();
-    assert!(rt; none.bytes()[0] == 0);
+    assert!(rt; read && put && none.bytes()[0] == 0);
 }
 
 #[test]
 fn numbers_of_digits(rt: HostRuntime) -> Result<(), Fail> {
-    assert!(rt; U::<10>::new(1023).ok_or("fits")?.value() == 1023);
-    assert!(rt; U::<10>::new(1024).is_none());
-    assert!(rt; U::<64>::new(u64::MAX).is_some());
-    assert!(rt; S::<4>::new(-8).ok_or("fits")?.digits() == 8);
-    assert!(rt; S::<4>::new(-9).is_none());
-    assert!(rt; S::<4>::new(8).is_none());
-    assert!(rt; S::<4>::from_digits(9).value() == -7);
+    let greatest = U::<10>::new(1023).ok_or("fits")?;
+    let least = S::<4>::new(-8).ok_or("fits")?;
+    let fit = greatest.value() == 1023 && U::<64>::new(u64::MAX).is_some() && least.digits() == 8;
+    let none = U::<10>::new(1024).is_none()
+        && S::<4>::new(-9).is_none()
+        && S::<4>::new(8).is_none();
     let whole: S<32> = S::join(U::<8>::from_digits(0xFF), U::<24>::from_digits(0xFF_FFFE));
-    assert!(rt; whole.value() == -2);
+    let signed = S::<4>::from_digits(9).value() == -7 && whole.value() == -2;
     let (high, low) = whole.split::<8, 24>();
     let parts: U<32> = U::join(high, low);
-    assert!(rt; parts.value() == 0xFFFF_FFFE);
+    assert!(rt; fit && none && signed && parts.value() == 0xFFFF_FFFE);
     Ok(())
 }
 
@@ -46,8 +44,8 @@ fn again<F: BitForm<8> + Copy>(form: F, at: usize) -> F
 
 #[test]
 fn packed_is_unpacked(rt: HostRuntime) {
-    assert!(rt; again(U::<14>::from_digits(9000), 3).value() == 9000);
-    assert!(rt; again(S::<14>::from_digits(9000), 50).value() == 9000 - 16384);
+    let unsigned = again(U::<14>::from_digits(9000), 3).value() == 9000;
+    assert!(rt; unsigned && again(S::<14>::from_digits(9000), 50).value() == 9000 - 16384);
 }
 
 #[test]
