@@ -1,10 +1,10 @@
 //! Runs over memory.
 
-use super::*;
 use bridge_engine::CaptureCounts;
 use gnss_week::RefWeek;
 use nav_io::MemSink;
 use run_texts::BridgeFault;
+use seed_runs::{SeedCounts, SeedTo, run_seed};
 use std::test::Fail;
 
 // The counts of the capture of two satellites of each system from the seed 7 in week 2295, computed
@@ -37,9 +37,8 @@ fn writes_the_capture(rt: HostRuntime) -> Result<(), Fail> {
         &mut report,
     );
     let bytes = output.bytes().len() as u64;
-    assert!(rt; counts == Ok(SeedCounts::Written { bytes }));
-    assert!(rt; output.bytes().starts_with(b"NAVCAP 1\n6 P E01 5 "));
-    assert!(rt; report.bytes().is_empty());
+    let begins = output.bytes().starts_with(b"NAVCAP 1\n6 P E01 5 ");
+    assert!(rt; counts == Ok(SeedCounts::Written { bytes }) && begins && report.bytes().is_empty());
     Ok(())
 }
 
@@ -59,9 +58,11 @@ fn counts_the_capture(rt: HostRuntime) -> Result<(), Fail> {
         &mut output,
         &mut report,
     );
-    assert!(rt; counts == Ok(SeedCounts::Counted(COUNTS)));
-    assert!(rt; output.bytes() == text.as_slice());
-    assert!(rt; report.bytes() == text.as_slice());
+    assert!(rt;
+        counts == Ok(SeedCounts::Counted(COUNTS))
+            && output.bytes() == text.as_slice()
+            && report.bytes() == text.as_slice()
+    );
     Ok(())
 }
 

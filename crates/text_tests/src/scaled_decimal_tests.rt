@@ -1,6 +1,6 @@
 //! Worked rows and outside vectors, computed in exact arithmetic by another program.
 
-use super::*;
+use scaled_decimal::{DecimalFault, Scale, print, read};
 
 const PI: bool = true;
 
@@ -111,22 +111,46 @@ static READINGS: [Reading; 37] = [
     (b"", ONE, BYTE, Err(DecimalFault::Blank)),
 ];
 
+// Whether the number is printed as the text at the scale, and read back.
+fn is_printed_as(number: i64, numbers: (bool, u32, i32, i32), text: &[u8; 19]) -> bool {
+    let (pi, factor, two, ten) = numbers;
+    let Some(scale) = Scale::new(pi, factor, two, ten) else {
+        return false;
+    };
+    number.unsigned_abs() <= 4_294_967_295
+        && print(number, &scale) == *text
+        && read(text.as_slice(), &scale, ANY.0, ANY.1) == Ok(number)
+}
+
 #[test]
 fn prints_and_reads_back(rt: HostRuntime) {
-    for (number, (pi, factor, two, ten), text) in &TEXTS {
-        let scale = Scale::new(*pi, *factor, *two, *ten).expect(&rt, "a scale");
-        assert!(rt; number.unsigned_abs() <= 4_294_967_295);
-        assert!(rt; print(*number, &scale) == **text);
-        assert!(rt; read(text.as_slice(), &scale, ANY.0, ANY.1) == Ok(*number));
+    for (number, numbers, text) in &TEXTS {
+        assert!(rt; is_printed_as(*number, *numbers, text));
     }
+}
+
+// Whether the text is read so at the scale, in a range that may be asked for.
+fn is_read_as(
+    text: &[u8],
+    numbers: (bool, u32, i32, i32),
+    range: (i64, i64),
+    wanted: &Result<i64, DecimalFault>,
+) -> bool {
+    let (pi, factor, two, ten) = numbers;
+    let (low, high) = range;
+    let Some(scale) = Scale::new(pi, factor, two, ten) else {
+        return false;
+    };
+    text.len() <= 19
+        && -4_294_967_295 <= low
+        && high <= 4_294_967_295
+        && read(text, &scale, low, high) == *wanted
 }
 
 #[test]
 fn reads(rt: HostRuntime) {
-    for (text, (pi, factor, two, ten), (low, high), wanted) in &READINGS {
-        let scale = Scale::new(*pi, *factor, *two, *ten).expect(&rt, "a scale");
-        assert!(rt; text.len() <= 19 && -4_294_967_295 <= *low && *high <= 4_294_967_295);
-        assert!(rt; read(text, &scale, *low, *high) == *wanted);
+    for (text, numbers, range, wanted) in &READINGS {
+        assert!(rt; is_read_as(text, *numbers, *range, wanted));
     }
 }
 
@@ -143,11 +167,14 @@ fn refuses_scales(rt: HostRuntime) {
         assert!(rt; Scale::new(false, factor, two, ten) == None);
     }
     for (factor, two, ten) in [(1, -59, -2), (60, 16, 0)] {
-        assert!(rt; Scale::new(true, factor, two, ten) == Some(Scale {
-                pi: true,
-                factor,
-                two,
-                ten
-            }));
+        assert!(rt;
+            Scale::new(true, factor, two, ten)
+                == Some(Scale {
+                    pi: true,
+                    factor,
+                    two,
+                    ten
+                })
+        );
     }
 }

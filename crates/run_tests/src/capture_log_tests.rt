@@ -1,6 +1,9 @@
 //! What readers answer, as events.
 
-use super::*;
+use capture_log::{
+    Event, Refusal, lines_bring_what_is_heard, message_event, order_of_lines_is_nothing,
+    subframe_event, taken_parts_are_heard, what_is_closed_stays, word_event,
+};
 use inav_word::WordFault;
 use lnav_subframe::LnavFault;
 use nav_bits::{S, U};
@@ -33,17 +36,16 @@ fn a_part_is_heard(rt: HostRuntime) -> Result<(), Fail> {
 #[test]
 fn what_is_refused_and_what_is_not_used(rt: HostRuntime) -> Result<(), Fail> {
     let parity = Refusal::Parity { word: 7 };
-    assert!(rt; subframe_event(Err(LnavFault::Parity { word: 7 })) == Event::Refused(parity));
-    assert!(rt;
-        subframe_event(Err(LnavFault::Unused {
+    let subframes = subframe_event(Err(LnavFault::Parity { word: 7 })) == Event::Refused(parity)
+        && subframe_event(Err(LnavFault::Unused {
             number: 4,
-            page: 55
-        })) == Event::Unused
-    );
-    assert!(rt; word_event(WordFault::WrongSat) == Event::Refused(Refusal::Satellite));
-    assert!(rt; word_event(WordFault::OtherWord { number: 6 }) == Event::Unused);
-    assert!(rt; message_event(MessageFault::Short) == Event::Refused(Refusal::Short));
-    assert!(rt; message_event(MessageFault::OtherMessage { number: 1005 }) == Event::Unused);
+            page: 55,
+        })) == Event::Unused;
+    let words = word_event(WordFault::WrongSat) == Event::Refused(Refusal::Satellite)
+        && word_event(WordFault::OtherWord { number: 6 }) == Event::Unused;
+    let messages = message_event(MessageFault::Short) == Event::Refused(Refusal::Short)
+        && message_event(MessageFault::OtherMessage { number: 1005 }) == Event::Unused;
+    assert!(rt; subframes && words && messages);
     Ok(())
 }
 

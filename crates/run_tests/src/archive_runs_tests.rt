@@ -1,6 +1,6 @@
 //! Small files through each run.
 
-use crate::{MergeCounts, run_cover, run_merge};
+use archive_runs::{MergeCounts, run_cover, run_merge};
 use item_runs::RinexCounts;
 use nav_io::{MemSink, MemSource};
 use rinex_write::HeaderWords;
@@ -129,6 +129,24 @@ struct Row<'a> {
     report: &'a [u8],
 }
 
+// Whether two files are merged and reported so.
+fn is_merged(alloc: Global, row: &Row) -> Result<bool, AllocError> {
+    let mut output = sink_of(alloc)?;
+    let mut report = sink_of(alloc)?;
+    let mut input = source_of(alloc, row.first, row.second)?;
+    let counts = run_merge(alloc, &WORDS, &mut input, &mut output, &mut report);
+    Ok(counts.is_ok() && output.bytes() == row.output && report.bytes() == row.report)
+}
+
+// Whether two files cover these ranges, and are reported so.
+fn is_covered(alloc: Global, row: &Row) -> Result<bool, AllocError> {
+    let mut output = sink_of(alloc)?;
+    let mut report = sink_of(alloc)?;
+    let mut input = source_of(alloc, row.first, row.second)?;
+    let counts = run_cover(alloc, &mut input, &mut output, &mut report);
+    Ok(counts.is_ok() && output.bytes() == row.output && report.bytes() == row.report)
+}
+
 // A file twice, and two that differ in the time of sending, both ways round: the one that was sent first is kept.
 // Two systems, in the order of rank, whatever comes first.
 #[test]
@@ -171,24 +189,28 @@ fn merges_two_files(rt: HostRuntime) -> Result<(), Fail> {
         },
     ];
     for row in &rows {
-        let mut input = source_of(rt.alloc(), row.first, row.second)?;
-        let mut output = sink_of(rt.alloc())?;
-        let mut report = sink_of(rt.alloc())?;
-        let counts = run_merge(rt.alloc(), &WORDS, &mut input, &mut output, &mut report);
-        assert!(rt; counts.is_ok());
-        assert!(rt; output.bytes() == row.output);
-        assert!(rt; report.bytes() == row.report);
+        assert!(rt; is_merged(rt.alloc(), row)?);
     }
     Ok(())
+}
+
+// What a run that merges two inputs ends with.
+fn merge_counts(
+    alloc: Global,
+    first: &[u8],
+    second: &[u8],
+) -> Result<Result<MergeCounts, BridgeFault>, AllocError> {
+    let mut output = sink_of(alloc)?;
+    let mut report = sink_of(alloc)?;
+    let mut input = source_of(alloc, first, second)?;
+    Ok(run_merge(alloc, &WORDS, &mut input, &mut output, &mut report))
 }
 
 #[test]
 fn counts_what_is_kept(rt: HostRuntime) -> Result<(), Fail> {
     let file = file_of(rt.alloc(), &START)?;
-    let mut input = source_of(rt.alloc(), &file, &file)?;
-    let mut output = sink_of(rt.alloc())?;
-    let mut report = sink_of(rt.alloc())?;
-    let counts = run_merge(rt.alloc(), &WORDS, &mut input, &mut output, &mut report);
+    let counts = merge_counts(rt.alloc(), &file, &file)?;
+    let none = merge_counts(rt.alloc(), b"no header", b"")?;
     let want = MergeCounts {
         records: 2,
         refused: 0,
@@ -196,10 +218,7 @@ fn counts_what_is_kept(rt: HostRuntime) -> Result<(), Fail> {
         items: 2,
         kept: 1,
     };
-    assert!(rt; counts == Ok(want));
-    let mut none = source_of(rt.alloc(), b"no header", b"")?;
-    let counts = run_merge(rt.alloc(), &WORDS, &mut none, &mut output, &mut report);
-    assert!(rt; counts == Err(BridgeFault::NotThisForm));
+    assert!(rt; counts == Ok(want) && none == Err(BridgeFault::NotThisForm));
     Ok(())
 }
 
@@ -246,33 +265,34 @@ fn covers_ranges(rt: HostRuntime) -> Result<(), Fail> {
         },
     ];
     for row in &rows {
-        let mut input = source_of(rt.alloc(), row.first, row.second)?;
-        let mut output = sink_of(rt.alloc())?;
-        let mut report = sink_of(rt.alloc())?;
-        let counts = run_cover(rt.alloc(), &mut input, &mut output, &mut report);
-        assert!(rt; counts.is_ok());
-        assert!(rt; output.bytes() == row.output);
-        assert!(rt; report.bytes() == row.report);
+        assert!(rt; is_covered(rt.alloc(), row)?);
     }
     Ok(())
+}
+
+// What a run that looks for ranges in two inputs ends with.
+fn cover_counts(
+    alloc: Global,
+    first: &[u8],
+    second: &[u8],
+) -> Result<Result<RinexCounts, BridgeFault>, AllocError> {
+    let mut output = sink_of(alloc)?;
+    let mut report = sink_of(alloc)?;
+    let mut input = source_of(alloc, first, second)?;
+    Ok(run_cover(alloc, &mut input, &mut output, &mut report))
 }
 
 #[test]
 fn counts_what_covers(rt: HostRuntime) -> Result<(), Fail> {
     let file = file_of(rt.alloc(), &START)?;
-    let mut input = source_of(rt.alloc(), &file, &file)?;
-    let mut output = sink_of(rt.alloc())?;
-    let mut report = sink_of(rt.alloc())?;
-    let counts = run_cover(rt.alloc(), &mut input, &mut output, &mut report);
+    let counts = cover_counts(rt.alloc(), &file, &file)?;
+    let none = cover_counts(rt.alloc(), b"no header", b"")?;
     let want = RinexCounts {
         records: 2,
         refused: 0,
         passed: 0,
         items: 2,
     };
-    assert!(rt; counts == Ok(want));
-    let mut none = source_of(rt.alloc(), b"no header", b"")?;
-    let counts = run_cover(rt.alloc(), &mut none, &mut output, &mut report);
-    assert!(rt; counts == Err(BridgeFault::NotThisForm));
+    assert!(rt; counts == Ok(want) && none == Err(BridgeFault::NotThisForm));
     Ok(())
 }

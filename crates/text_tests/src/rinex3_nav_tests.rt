@@ -1,10 +1,12 @@
 //! Files of an independent program, records of other kinds and of odd spellings, versions, and what
 //! is written.
 
-use crate::{Records3, write_header3, write_item3};
+ghost use Rattle.std.specs.Prelude.{◌<◌};
+
 use nav_io::{MemSink, MemSource};
 use rinex_read::{HeaderFault, ItemRead, Reason};
 use rinex_write::{HeaderWords, write_item};
+use rinex3_nav::{Records3, write_header3, write_item3};
 use std::alloc::{AllocError, Global};
 use std::test::Fail;
 
@@ -279,9 +281,8 @@ fn a_file_of_another_program(rt: HostRuntime) -> Result<(), Fail> {
     ];
     let mut four = MemSink::new(rt.alloc(), 2_000, [].to_vec(rt.alloc())?)?;
     let mut three = MemSink::new(rt.alloc(), 2_000, [].to_vec(rt.alloc())?)?;
-    assert!(rt; reads_to(FILE, &wants, &mut four, &mut three, rt.alloc())?);
-    assert!(rt; four.bytes() == FOUR);
-    assert!(rt; three.bytes() == THREE);
+    let reads = reads_to(FILE, &wants, &mut four, &mut three, rt.alloc())?;
+    assert!(rt; reads && four.bytes() == FOUR && three.bytes() == THREE);
     Ok(())
 }
 
@@ -302,41 +303,112 @@ fn a_file_with_refused_records(rt: HostRuntime) -> Result<(), Fail> {
     Ok(())
 }
 
+// Whether one record behind a header, and no further one, is read as is wanted, and its item written as the text.
+fn is_rewritten_as(
+    alloc: Global,
+    record: &[u8],
+    want: &Want,
+    text: &[u8],
+) -> Result<bool, AllocError> {
+    let mut bytes = HEADER.to_vec(alloc)?;
+    bytes.extend_from_slice(record)?;
+    let mut sink = MemSink::new(alloc, 1_000, Vec::new(alloc))?;
+    let mut source = MemSource::new(bytes, Vec::new(alloc), Vec::new(alloc));
+    let mut records = Records3::new();
+    match records.read_header3(&mut source) {
+        Ok(()) => {}
+        Err(_) => return Ok(false),
+    }
+    let read = match records.next_item3(&mut source) {
+        Ok(read) => read,
+        Err(_) => return Ok(false),
+    };
+    let written = match &read {
+        ItemRead::Item { item, .. } => write_item3(item, &mut sink) == Ok(()),
+        _ => true,
+    };
+    let next = records.next_item3(&mut source);
+    Ok(is_wanted(&read, want) && written && sink.bytes() == text && next == Ok(ItemRead::End))
+}
+
+static RECORDS: [(&[u8], Want, &[u8]); 7] = [
+    (GPS, Want::Item(5), GPS),
+    (ODD_GPS, Want::Item(5), GPS),
+    (GALILEO, Want::Item(5), GALILEO),
+    (FNAV, Want::PassedOver(5), b""),
+    (GLONASS, Want::PassedOver(5), b""),
+    (SIX_LINES, Want::Refused(5, Reason::Short), b""),
+    (FIVE_LINES, Want::PassedOver(5), b""),
+];
+
 // Single records behind a header: what they stand for, and what is written of them.
 #[test]
 fn records_of_each_kind(rt: HostRuntime) -> Result<(), Fail> {
-    let rows: [(&[u8], Want, &[u8]); 7] = [
-        (GPS, Want::Item(5), GPS),
-        (ODD_GPS, Want::Item(5), GPS),
-        (GALILEO, Want::Item(5), GALILEO),
-        (FNAV, Want::PassedOver(5), b""),
-        (GLONASS, Want::PassedOver(5), b""),
-        (SIX_LINES, Want::Refused(5, Reason::Short), b""),
-        (FIVE_LINES, Want::PassedOver(5), b""),
-    ];
-    for (record, want, text) in rows.iter() {
-        let mut bytes = HEADER.to_vec(rt.alloc())?;
-        bytes.extend_from_slice(record)?;
-        let mut source = source_of(rt.alloc(), &bytes)?;
-        let mut records = Records3::new();
-        match records.read_header3(&mut source) {
-            Ok(()) => {}
-            Err(_) => return Err("a header")?,
-        }
-        let mut sink = MemSink::new(rt.alloc(), 1_000, [].to_vec(rt.alloc())?)?;
-        match records.next_item3(&mut source) {
-            Ok(read) => {
-                assert!(rt; is_wanted(&read, want));
-                if let ItemRead::Item { item, .. } = read {
-                    assert!(rt; write_item3(&item, &mut sink) == Ok(()));
-                }
-            }
-            Err(_) => return Err("a record")?,
-        }
-        assert!(rt; sink.bytes() == *text);
-        assert!(rt; records.next_item3(&mut source) == Ok(ItemRead::End));
+    for (record, want, text) in &RECORDS {
+        assert!(rt; is_rewritten_as(rt.alloc(), record, want, text)?);
     }
     Ok(())
+}
+
+static HEADERS: [(&[u8], Result<(), HeaderFault>); 7] = [
+    (
+        b"     3.05           N: GNSS NAV DATA    M: MIXED            RINEX VERSION / TYPE
+                                                            END OF HEADER
+",
+        Ok(()),
+    ),
+    (
+        b"3.02                N: GNSS NAV DATA    M: MIXED            RINEX VERSION / TYPE
+                                                            END OF HEADER
+",
+        Ok(()),
+    ),
+    (
+        b"  3.04              N: GNSS NAV DATA    M: MIXED            RINEX VERSION / TYPE
+                                                            END OF HEADER
+",
+        Ok(()),
+    ),
+    (
+        b"     3.01           N: GNSS NAV DATA    M: MIXED            RINEX VERSION / TYPE
+                                                            END OF HEADER
+",
+        Err(HeaderFault::Version),
+    ),
+    (
+        b"     3.06           N: GNSS NAV DATA    M: MIXED            RINEX VERSION / TYPE
+                                                            END OF HEADER
+",
+        Err(HeaderFault::Version),
+    ),
+    (
+        b"     4.01           N: GNSS NAV DATA    M: MIXED            RINEX VERSION / TYPE
+                                                            END OF HEADER
+",
+        Err(HeaderFault::Version),
+    ),
+    (b"NAVCAP 1\n", Err(HeaderFault::NotRinexNav)),
+];
+
+// Whether a reader answers so when it is asked for the header of the bytes, and when it is asked again.
+fn answers_twice(
+    alloc: Global,
+    bytes: &[u8],
+    want: &Result<(), HeaderFault>,
+) -> Result<bool, AllocError> {
+    let mut source = source_of(alloc, bytes)?;
+    let mut records = Records3::new();
+    let first = records.read_header3(&mut source);
+    let second = records.read_header3(&mut source);
+    Ok(first == *want && second == *want)
+}
+
+// Whether the header of these words is written as the bytes.
+fn is_written_as(alloc: Global, words: &HeaderWords, bytes: &[u8]) -> Result<bool, AllocError>
+    requires { words.now.leap < 100 }
+{
+    let mut sink = MemSink::new(alloc, 1_000, Vec::new(alloc))?;
+    Ok(write_header3(words, &mut sink) == Ok(()) && sink.bytes() == bytes)
 }
 
 // The header that is written, and the versions that are read.
@@ -346,53 +418,9 @@ fn headers(rt: HostRuntime) -> Result<(), Fail> {
         date: *b"20240101 000000 UTC",
         leap: 18,
     };
-    let mut sink = MemSink::new(rt.alloc(), 1_000, [].to_vec(rt.alloc())?)?;
-    assert!(rt; write_header3(&words, &mut sink) == Ok(()));
-    assert!(rt; sink.bytes() == HEADER);
-    let rows: [(&[u8], Result<(), HeaderFault>); 7] = [
-        (
-            b"     3.05           N: GNSS NAV DATA    M: MIXED            RINEX VERSION / TYPE
-                                                            END OF HEADER
-",
-            Ok(()),
-        ),
-        (
-            b"3.02                N: GNSS NAV DATA    M: MIXED            RINEX VERSION / TYPE
-                                                            END OF HEADER
-",
-            Ok(()),
-        ),
-        (
-            b"  3.04              N: GNSS NAV DATA    M: MIXED            RINEX VERSION / TYPE
-                                                            END OF HEADER
-",
-            Ok(()),
-        ),
-        (
-            b"     3.01           N: GNSS NAV DATA    M: MIXED            RINEX VERSION / TYPE
-                                                            END OF HEADER
-",
-            Err(HeaderFault::Version),
-        ),
-        (
-            b"     3.06           N: GNSS NAV DATA    M: MIXED            RINEX VERSION / TYPE
-                                                            END OF HEADER
-",
-            Err(HeaderFault::Version),
-        ),
-        (
-            b"     4.01           N: GNSS NAV DATA    M: MIXED            RINEX VERSION / TYPE
-                                                            END OF HEADER
-",
-            Err(HeaderFault::Version),
-        ),
-        (b"NAVCAP 1\n", Err(HeaderFault::NotRinexNav)),
-    ];
-    for (bytes, want) in rows.iter() {
-        let mut source = source_of(rt.alloc(), bytes)?;
-        let mut records = Records3::new();
-        assert!(rt; records.read_header3(&mut source) == *want);
-        assert!(rt; records.read_header3(&mut source) == *want);
+    assert!(rt; is_written_as(rt.alloc(), &words, HEADER)?);
+    for (bytes, want) in &HEADERS {
+        assert!(rt; answers_twice(rt.alloc(), bytes, want)?);
     }
     Ok(())
 }

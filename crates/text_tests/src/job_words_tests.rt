@@ -1,6 +1,6 @@
 //! Words of the command line and what they spell.
 
-use crate::*;
+use job_words::{Found, options_of, words_give_values_in_one_way, words_spell_options_in_one_way};
 use std::alloc::{AllocError, Global};
 use std::test::Fail;
 
@@ -22,6 +22,12 @@ fn words_of(alloc: Global, text: &str) -> Result<Vec<String>, AllocError> {
         words.push(String::from_str(alloc, word)?)?;
     }
     Ok(words)
+}
+
+// Whether the words spell these options.
+fn spell(alloc: Global, text: &str, want: Option<Found>) -> Result<bool, Fail> {
+    let words = words_of(alloc, text)?;
+    Ok(options_of(alloc, &words)? == want)
 }
 
 #[test]
@@ -116,8 +122,7 @@ fn words_spell_options(rt: HostRuntime) -> Result<(), Fail> {
         ("from|stream", None),
     ];
     for (text, want) in cases {
-        let words = words_of(rt.alloc(), text)?;
-        assert!(rt; options_of(rt.alloc(), &words)? == want, "{text}");
+        assert!(rt; spell(rt.alloc(), text, want)?, "{text}");
     }
     let others = [
         "",
@@ -130,8 +135,7 @@ fn words_spell_options(rt: HostRuntime) -> Result<(), Fail> {
         "--from|a|b",
     ];
     for text in others {
-        let words = words_of(rt.alloc(), text)?;
-        assert!(rt; options_of(rt.alloc(), &words)? == None, "{text}");
+        assert!(rt; spell(rt.alloc(), text, None)?, "{text}");
     }
     let none = Vec::new(rt.alloc());
     assert!(rt; options_of(rt.alloc(), &none)? == Some(NOTHING));

@@ -1,10 +1,10 @@
 //! Files of an independent program, what it sends of them, and what it reports.
 
-use crate::{send_rinex, send_rinex3};
 use gnss_week::RefWeek;
 use item_runs::RinexCounts;
 use nav_io::{MemSink, MemSource};
 use run_texts::BridgeFault;
+use send_runs::{send_rinex, send_rinex3};
 use std::alloc::{AllocError, Global};
 use std::test::Fail;
 
@@ -51,87 +51,117 @@ fn sink_of(alloc: Global) -> Result<MemSink, AllocError> {
     MemSink::new(alloc, 2000, Vec::new(alloc))
 }
 
+// A file of either form, the week near which it is read, and what is made of it.
+#[derive(Clone, Copy)]
+struct Case {
+    week: u32,
+    older: bool,
+    file: &'static [u8],
+    counts: Result<RinexCounts, BridgeFault>,
+    sent: &'static [u8],
+    report: &'static [u8],
+}
+
+// Whether the file of a case is sent, counted and reported as is wanted.
+fn is_sent(alloc: Global, case: &Case) -> Result<bool, Fail> {
+    let r = RefWeek::new(case.week).ok_or("a week")?;
+    let mut output = sink_of(alloc)?;
+    let mut report = sink_of(alloc)?;
+    let mut input = source_of(alloc, case.file)?;
+    let counts = if case.older {
+        send_rinex3(r, &mut input, &mut output, &mut report)
+    } else {
+        send_rinex(r, &mut input, &mut output, &mut report)
+    };
+    Ok(counts == case.counts && output.bytes() == case.sent && report.bytes() == case.report)
+}
+
 #[test]
 fn sends_a_file_of_gps(rt: HostRuntime) -> Result<(), Fail> {
-    let r = RefWeek::new(8191).ok_or("a week")?;
-    let mut input = source_of(rt.alloc(), RINEX)?;
-    let mut output = sink_of(rt.alloc())?;
-    let mut report = sink_of(rt.alloc())?;
-    let want = RinexCounts {
-        records: 9,
-        refused: 1,
-        passed: 4,
-        items: 4,
+    let case = Case {
+        week: 8191,
+        older: false,
+        file: RINEX,
+        counts: Ok(RinexCounts {
+            records: 9,
+            refused: 1,
+            passed: 4,
+            items: 4,
+        }),
+        sent: RINEX_SENT,
+        report: RINEX_REPORT,
     };
-    assert!(rt; send_rinex(r, &mut input, &mut output, &mut report) == Ok(want));
-    assert!(rt; output.bytes() == RINEX_SENT);
-    assert!(rt; report.bytes() == RINEX_REPORT);
+    assert!(rt; is_sent(rt.alloc(), &case)?);
     Ok(())
 }
 
 #[test]
 fn sends_a_file_of_galileo(rt: HostRuntime) -> Result<(), Fail> {
-    let r = RefWeek::new(1024).ok_or("a week")?;
-    let mut input = source_of(rt.alloc(), PAGES)?;
-    let mut output = sink_of(rt.alloc())?;
-    let mut report = sink_of(rt.alloc())?;
-    let want = RinexCounts {
-        records: 5,
-        refused: 1,
-        passed: 1,
-        items: 3,
+    let case = Case {
+        week: 1024,
+        older: false,
+        file: PAGES,
+        counts: Ok(RinexCounts {
+            records: 5,
+            refused: 1,
+            passed: 1,
+            items: 3,
+        }),
+        sent: PAGES_SENT,
+        report: PAGES_REPORT,
     };
-    assert!(rt; send_rinex(r, &mut input, &mut output, &mut report) == Ok(want));
-    assert!(rt; output.bytes() == PAGES_SENT);
-    assert!(rt; report.bytes() == PAGES_REPORT);
+    assert!(rt; is_sent(rt.alloc(), &case)?);
     Ok(())
 }
 
 #[test]
 fn sends_a_file_of_the_older_form(rt: HostRuntime) -> Result<(), Fail> {
-    let r = RefWeek::new(2295).ok_or("a week")?;
-    let mut input = source_of(rt.alloc(), RINEX_3)?;
-    let mut output = sink_of(rt.alloc())?;
-    let mut report = sink_of(rt.alloc())?;
-    let want = RinexCounts {
-        records: 6,
-        refused: 3,
-        passed: 1,
-        items: 2,
+    let case = Case {
+        week: 2295,
+        older: true,
+        file: RINEX_3,
+        counts: Ok(RinexCounts {
+            records: 6,
+            refused: 3,
+            passed: 1,
+            items: 2,
+        }),
+        sent: RINEX_3_SENT,
+        report: RINEX_3_REPORT,
     };
-    assert!(rt; send_rinex3(r, &mut input, &mut output, &mut report) == Ok(want));
-    assert!(rt; output.bytes() == RINEX_3_SENT);
-    assert!(rt; report.bytes() == RINEX_3_REPORT);
+    assert!(rt; is_sent(rt.alloc(), &case)?);
     Ok(())
 }
 
 #[test]
 fn sends_nothing_of_weeks_far_away(rt: HostRuntime) -> Result<(), Fail> {
-    let r = RefWeek::new(1024).ok_or("a week")?;
-    let mut input = source_of(rt.alloc(), NOTHING)?;
-    let mut output = sink_of(rt.alloc())?;
-    let mut report = sink_of(rt.alloc())?;
-    let want = RinexCounts {
-        records: 5,
-        refused: 2,
-        passed: 3,
-        items: 0,
+    let case = Case {
+        week: 1024,
+        older: true,
+        file: NOTHING,
+        counts: Ok(RinexCounts {
+            records: 5,
+            refused: 2,
+            passed: 3,
+            items: 0,
+        }),
+        sent: NOTHING_SENT,
+        report: NOTHING_REPORT,
     };
-    assert!(rt; send_rinex3(r, &mut input, &mut output, &mut report) == Ok(want));
-    assert!(rt; output.bytes() == NOTHING_SENT);
-    assert!(rt; report.bytes() == NOTHING_REPORT);
+    assert!(rt; is_sent(rt.alloc(), &case)?);
     Ok(())
 }
 
 #[test]
 fn refuses_a_file_of_another_form(rt: HostRuntime) -> Result<(), Fail> {
-    let r = RefWeek::new(2295).ok_or("a week")?;
-    let mut input = source_of(rt.alloc(), RINEX_3)?;
-    let mut output = sink_of(rt.alloc())?;
-    let mut report = sink_of(rt.alloc())?;
-    let counts = send_rinex(r, &mut input, &mut output, &mut report);
-    assert!(rt; counts == Err(BridgeFault::NotThisForm));
-    assert!(rt; output.bytes().is_empty());
-    assert!(rt; report.bytes().is_empty());
+    let case = Case {
+        week: 2295,
+        older: false,
+        file: RINEX_3,
+        counts: Err(BridgeFault::NotThisForm),
+        sent: b"",
+        report: b"",
+    };
+    assert!(rt; is_sent(rt.alloc(), &case)?);
     Ok(())
 }
