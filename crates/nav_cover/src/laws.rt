@@ -1,5 +1,6 @@
-ghost use Rattle.std.specs.Prelude.{◌≡◌, ◌↔◌, List};
+ghost use Rattle.std.specs.Prelude.{◌≡◌, ℕ, ◌↔◌, List};
 ghost use Rattle.std.specs.List.{Contains};
+ghost use Rattle.nav_eph.specs.Satellite.{Satellite};
 ghost use Rattle.nav_eph.specs.declared.items.NavItem.{NavItem};
 ghost use Rattle.nav_cover.specs.Covering.{AreCovering, AreCovers, covers_of};
 ghost use Rattle.nav_cover.specs.declared.range.CoverRange.{CoverRange};
@@ -13,4 +14,11 @@ pub fn covering()
         AreCovers (AreCovering (Contains items)) xs → xs ≡ covers_of items }
     ensures set { (some other : List NavItem) →
         ((i : NavItem) → Contains some i ↔ Contains other i) → covers_of some ≡ covers_of other }
+{}
+
+/// Seconds that are covered have one list of ranges: an answer of `Cover::add` is determined by what
+/// its contract says of it.
+pub fn one_cover()
+    ensures { (covered : Satellite → ℕ → Type 0) (xs ys : List CoverRange) →
+        AreCovers covered xs → AreCovers covered ys → xs ≡ ys }
 {}

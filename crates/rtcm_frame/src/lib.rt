@@ -28,8 +28,6 @@ mod form;
 mod frame;
 mod laws;
 mod states;
-#[cfg(test)]
-mod tests;
 mod window;
 mod writing;
 
