@@ -1,7 +1,7 @@
 //! What a merge counts.
 
 /// What a run that merges navigation files counts.
-#[derive(Clone, Copy)]
+#[derive(Clone, Copy, PartialEq, Eq)]
 pub struct MergeCounts {
     /// The records.
     pub records: u64,

@@ -9,7 +9,7 @@ use period_items::Verdict;
 use run_texts::{Text, append_count};
 
 /// What a run over a capture counts.
-#[derive(Clone, Copy)]
+#[derive(Clone, Copy, PartialEq, Eq)]
 pub struct CaptureCounts {
     /// The lines, the first one included.
     pub lines: u64,

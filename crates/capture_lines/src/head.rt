@@ -10,7 +10,7 @@ use crate::numbers::{digit_count, number_of};
 use gnss_week::RefWeek;
 
 /// What the first line of a capture says.
-#[derive(Clone, Copy)]
+#[derive(Clone, Copy, PartialEq, Eq)]
 pub struct CaptureHead {
     /// How many seconds a line may come behind a later one, and how long parts of one issue belong
     /// together.

@@ -9,7 +9,7 @@ use nav_eph::Sat;
 pub(crate) const LONGEST_FRAME: usize = 1029;
 
 /// What a line of a capture stands for.
-#[derive(Drop)]
+#[derive(PartialEq, Eq, Drop)]
 pub enum LineItem {
     /// A line that is passed: one of at most 2,200 bytes that begins with `#`, is empty, or has
     /// blanks alone.

@@ -1,7 +1,7 @@
 use nav_eph::Part;
 
 /// Why something that was heard is not used.
-#[derive(Clone, Copy)]
+#[derive(Clone, Copy, PartialEq, Eq)]
 pub enum Refusal {
     /// The bytes are not one whole frame of right checksum.
     Frame,
@@ -25,7 +25,7 @@ pub enum Refusal {
 }
 
 /// What a line brings, once or more often, or not at all.
-#[derive(Clone, Copy)]
+#[derive(Clone, Copy, PartialEq, Eq)]
 pub enum Event {
     /// A part of an ephemeris or of the ionosphere was heard.
     Heard(Part),

@@ -18,7 +18,7 @@ pub struct Civil {
 }
 
 /// Why a date names no moment.
-#[derive(Clone, Copy, Debug, Error)]
+#[derive(Clone, Copy, PartialEq, Eq, Debug, Error)]
 pub enum WeekFault {
     /// The calendar has no such day, or the clock no such time of day.
     #[error("no such date or time of day")]

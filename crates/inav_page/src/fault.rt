@@ -1,7 +1,7 @@
 use thiserror::Error;
 
 /// Why a part of a page is refused.
-#[derive(Clone, Copy, Debug, Error)]
+#[derive(Clone, Copy, PartialEq, Eq, Debug, Error)]
 pub enum HalfFault {
     /// The page type, its second bit, is 1: an alert page, which brings no word.
     #[error("alert page")]

@@ -22,7 +22,7 @@ pub enum HalfKind {
 
 /// What is kept of a part of a nominal page: the first 114 bits of an even one, the first 106 of an
 /// odd one (82 and the CRC).
-#[derive(Clone, Copy)]
+#[derive(Clone, Copy, PartialEq, Eq)]
 pub struct Half {
     // The 120 bits as a number, those that are not kept 0.
     number: u128,

@@ -1,7 +1,7 @@
 use thiserror::Error;
 
 /// Why a word is refused: the first of these that holds, in this order.
-#[derive(Clone, Copy, Debug, Error)]
+#[derive(Clone, Copy, PartialEq, Eq, Debug, Error)]
 pub enum WordFault {
     /// Its type is not 1 to 5.
     #[error("word {number} not used")]

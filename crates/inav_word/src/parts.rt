@@ -1,7 +1,7 @@
 use nav_eph::Part;
 
 /// The parts that one word brings, as they were heard.
-#[derive(Clone, Copy)]
+#[derive(Clone, Copy, PartialEq, Eq)]
 pub struct WordParts {
     /// The part of words 1 to 4; the delays and the health of word 5.
     pub first: Part,

@@ -7,7 +7,7 @@ ghost use Rattle.item_runs.specs.Streams.{counts_of_readings, stream_counts_text
 use run_texts::{Text, append_count};
 
 /// What a run over a stream counts.
-#[derive(Clone, Copy)]
+#[derive(Clone, Copy, PartialEq, Eq)]
 pub struct StreamCounts {
     /// The frames.
     pub frames: u64,
@@ -34,7 +34,7 @@ impl StreamCounts {
 }
 
 /// What a run over a navigation file counts.
-#[derive(Clone, Copy)]
+#[derive(Clone, Copy, PartialEq, Eq)]
 pub struct RinexCounts {
     /// The records.
     pub records: u64,

@@ -14,7 +14,7 @@ use clap::error::ErrorKind;
 use std::alloc::{AllocError, Global};
 
 /// The values of the options, by their names.
-#[derive(Clone, Copy)]
+#[derive(Clone, Copy, PartialEq, Eq)]
 pub struct Found<'a> {
     /// What is read.
     pub from: Option<&'a str>,

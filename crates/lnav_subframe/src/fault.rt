@@ -1,7 +1,7 @@
 use thiserror::Error;
 
 /// Why a subframe is refused: the first of these that holds, in this order.
-#[derive(Clone, Copy, Debug, Error)]
+#[derive(Clone, Copy, PartialEq, Eq, Debug, Error)]
 pub enum LnavFault {
     /// It begins neither with 10001011 nor with its complement.
     #[error("no preamble")]

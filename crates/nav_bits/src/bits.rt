@@ -7,7 +7,7 @@ use crate::signed::sign_extended;
 use std::marker::Model;
 
 /// `N` bytes as a run of bits, bit 0 being the most significant bit of the first byte.
-#[derive(Clone, Copy)]
+#[derive(Clone, Copy, PartialEq, Eq)]
 pub struct Bits<const N: usize> {
     pub(crate) bytes: [u8; N],
 }

@@ -41,7 +41,7 @@ pub struct GalIon {
 }
 
 /// What a satellite says of the ionosphere.
-#[derive(Clone, Copy)]
+#[derive(Clone, Copy, PartialEq, Eq)]
 pub enum IonContent {
     /// Of GPS.
     Gps(GpsIon),

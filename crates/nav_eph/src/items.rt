@@ -21,7 +21,7 @@ pub enum SentSecond {
 }
 
 /// An ephemeris of GPS.
-#[derive(Clone, Copy)]
+#[derive(Clone, Copy, PartialEq, Eq)]
 pub struct GpsEph {
     /// The satellite, of GPS.
     pub sat: Sat,
@@ -42,7 +42,7 @@ pub struct GpsEph {
 }
 
 /// An ephemeris of Galileo.
-#[derive(Clone, Copy)]
+#[derive(Clone, Copy, PartialEq, Eq)]
 pub struct GalEph {
     /// The satellite, of Galileo.
     pub sat: Sat,
@@ -63,7 +63,7 @@ pub struct GalEph {
 }
 
 /// What a satellite says of the ionosphere, and when.
-#[derive(Clone, Copy)]
+#[derive(Clone, Copy, PartialEq, Eq)]
 pub struct IonEph {
     /// The satellite, of the content's system.
     pub sat: Sat,
@@ -74,7 +74,7 @@ pub struct IonEph {
 }
 
 /// One item of a list of broadcast navigation data.
-#[derive(Clone, Copy)]
+#[derive(Clone, Copy, PartialEq, Eq)]
 pub enum NavItem {
     /// An ephemeris of GPS.
     Gps(GpsEph),

@@ -11,7 +11,7 @@ use gnss_week::Second;
 use nav_bits::U;
 
 /// What one subframe, word or message brings of an ephemeris or of the ionosphere.
-#[derive(Clone, Copy)]
+#[derive(Clone, Copy, PartialEq, Eq)]
 pub enum Body {
     /// The clock of GPS, what stands beside it, and when it was sent.
     GpsClock(GpsClock, GpsSide, SentTag),
@@ -56,7 +56,7 @@ impl Body {
 }
 
 /// A part of an ephemeris or of the ionosphere, as it was heard.
-#[derive(Clone, Copy)]
+#[derive(Clone, Copy, PartialEq, Eq)]
 pub struct Part {
     /// The second at which it was heard, as the logger counts.
     pub stamp: u32,

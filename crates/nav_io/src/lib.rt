@@ -49,7 +49,7 @@ pub use crate::memory::{MemSink, MemSource};
 pub use crate::pieces::{MOST_TAKEN, read_piece};
 
 /// A read or a write failed. The object's count of faults says so.
-#[derive(Clone, Copy)]
+#[derive(Clone, Copy, PartialEq, Eq)]
 pub struct Failed;
 
 /// Where bytes are read.

@@ -25,7 +25,7 @@ const KEPT: usize = 2202;
 const HELD: usize = 6298;
 
 /// What `Lines::next` answers.
-#[derive(Clone, Copy)]
+#[derive(Clone, Copy, PartialEq, Eq)]
 pub enum LineKind {
     /// A line of at most 2,200 bytes.
     Text,
@@ -36,7 +36,7 @@ pub enum LineKind {
 }
 
 /// Why `Lines::next` gives no line.
-#[derive(Clone, Copy, Debug)]
+#[derive(Clone, Copy, PartialEq, Eq, Debug)]
 pub enum LineFault {
     /// A read failed. Nothing that was taken is lost, and a further call goes on.
     ReadFault = 1,

@@ -9,7 +9,7 @@ use nav_eph::NavItem;
 use thiserror::Error;
 
 /// Why an ephemeris may not be sent: the first of these that holds, in this order.
-#[derive(Clone, Copy, Debug, Error)]
+#[derive(Clone, Copy, PartialEq, Eq, Debug, Error)]
 pub enum SendFault {
     /// The clock and the orbit of GPS are of different issues: the low eight bits of iodc are not
     /// iode (IS-GPS-200, 20.3.4.4).

@@ -15,7 +15,7 @@ pub enum Finding {
 }
 
 /// What is said of a period.
-#[derive(Clone, Copy)]
+#[derive(Clone, Copy, PartialEq, Eq)]
 pub enum Verdict {
     /// All of its parts were heard and agree, and they bring something new; this is its item.
     Whole(NavItem),
@@ -31,7 +31,7 @@ pub enum Verdict {
 }
 
 /// A period to which no further part can belong.
-#[derive(Clone, Copy)]
+#[derive(Clone, Copy, PartialEq, Eq)]
 pub struct Closed {
     /// The stamp of its last part.
     pub end: u32,

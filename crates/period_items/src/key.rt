@@ -3,7 +3,7 @@ use nav_bits::U;
 use nav_eph::{GalIon, GpsIon, Sat};
 
 /// What parts are parts of: an issue of a satellite's ephemeris, or a content of the ionosphere.
-#[derive(Clone, Copy)]
+#[derive(Clone, Copy, PartialEq, Eq)]
 pub enum Key {
     /// A GPS satellite, and the issue of its orbit: the iode of both halves, and the low eight bits
     /// of iodc (IS-GPS-200, 20.3.4.4).

@@ -3,7 +3,7 @@ use nav_eph::NavItem;
 use nav_io::LineFault;
 
 /// What the lines of a record stand for.
-#[derive(Clone, Copy)]
+#[derive(Clone, Copy, PartialEq, Eq)]
 pub enum Judged {
     /// An item.
     Item(NavItem),
@@ -14,7 +14,7 @@ pub enum Judged {
 }
 
 /// What is read of a file behind its header.
-#[derive(Clone, Copy)]
+#[derive(Clone, Copy, PartialEq, Eq)]
 pub enum ItemRead {
     /// A record that stands for an item.
     Item {
@@ -40,7 +40,7 @@ pub enum ItemRead {
 }
 
 /// Why a header is not read.
-#[derive(Clone, Copy, Debug)]
+#[derive(Clone, Copy, PartialEq, Eq, Debug)]
 pub enum HeaderFault {
     /// The first line is not that of a RINEX navigation file, or no line ends the header.
     NotRinexNav,

@@ -2,7 +2,7 @@ use thiserror::Error;
 
 /// Why a record is refused: the first of these that holds, in the order in which a record is
 /// judged.
-#[derive(Clone, Copy, Debug, Error)]
+#[derive(Clone, Copy, PartialEq, Eq, Debug, Error)]
 pub enum Reason {
     /// The title names no satellite of the system, or the second line another one.
     #[error("satellite")]

@@ -1,7 +1,7 @@
 use thiserror::Error;
 
 /// Why a payload is refused: the first of these that holds, in this order.
-#[derive(Clone, Copy, Debug, Error)]
+#[derive(Clone, Copy, PartialEq, Eq, Debug, Error)]
 pub enum MessageFault {
     /// It has fewer than two bytes, and so no message number.
     #[error("no message number")]

@@ -17,7 +17,7 @@ use nav_bits::{Layout, U};
 use nav_eph::{Body, GalEph, GpsEph, NavItem, Part, Sat, SentSecond, SentTag};
 
 /// The parts of an ephemeris that one message brings, as they were heard.
-#[derive(Clone, Copy)]
+#[derive(Clone, Copy, PartialEq, Eq)]
 pub enum MessageParts {
     /// Of message 1019.
     Gps {

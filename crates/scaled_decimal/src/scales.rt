@@ -5,7 +5,7 @@ ghost use Rattle.std.specs.Prelude.{◌≡◌, ◌≤◌, SomeIff};
 /// The scale of a field: factor x 2^two x 10^ten, times pi where `pi` is set.
 ///
 /// Pi is 31415926535898 / 10^13 (IS-GPS-200, 20.3.3.4.3; Galileo OS SIS ICD, 5.1.1).
-#[derive(Clone, Copy)]
+#[derive(Clone, Copy, PartialEq, Eq)]
 pub struct Scale {
     /// Whether the field is in semicircles, and its text in radians.
     pub pi: bool,

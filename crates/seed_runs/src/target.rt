@@ -10,7 +10,7 @@ pub enum SeedTo {
 }
 
 /// What a run over a generated capture counts.
-#[derive(Clone, Copy)]
+#[derive(Clone, Copy, PartialEq, Eq)]
 pub enum SeedCounts {
     /// The capture was written.
     Written {
