@@ -14,13 +14,13 @@ const LINES: usize = 13;
 
 // The bytes in front of the line of this number, counted from 0.
 fn lines_before(text: &[u8], number: usize) -> &[u8] {
-    let mut lines = 0;
+    let mut left = number;
     for (place, byte) in text.iter().enumerate() {
-        if lines == number {
+        if left == 0 {
             return &text[..place];
         }
         if *byte == b'\n' {
-            lines += 1;
+            left -= 1;
         }
     }
     text

@@ -15,7 +15,7 @@ struct Listed {
 
 impl Listed {
     // Whether a run over these lines and the capture's lists and reports so.
-    fn is_listed(&self, alloc: Global, front: &str) -> Result<bool, AllocError> {
+    fn is_listed(&self, alloc: Global, front: &'static str) -> Result<bool, AllocError> {
         let input = [FIRST, front, self.lines];
         let report = [self.refusals, "lines ", ANYTHING];
         ends(alloc, TO_LIST, &input, 0, &[self.list], &report)
