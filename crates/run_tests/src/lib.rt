@@ -7,6 +7,8 @@
 #[cfg(test)]
 mod archive_runs_tests;
 #[cfg(test)]
+mod bridge_engine_tests;
+#[cfg(test)]
 mod capture_log_tests;
 #[cfg(test)]
 mod item_runs_tests;
