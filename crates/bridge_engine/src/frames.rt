@@ -23,7 +23,7 @@ const PIECE: usize = 16_384;
 type Gathered = ArrayVec<u8, 1024>;
 
 /// What a run over the frames of a stream counts.
-#[derive(Clone, Copy)]
+#[derive(Clone, Copy, PartialEq, Eq)]
 pub struct FrameCounts {
     /// The frames of the input.
     pub frames: u64,
