@@ -108,7 +108,7 @@ impl Covered {
 
 #[test]
 fn says_the_times_covered(rt: HostRuntime) -> Result<(), Fail> {
-    for case in COVERED {
+    for case in &COVERED {
         assert!(rt;
             case.is_covered(rt.alloc(), &["records ", ANYTHING])?,
             "{}",

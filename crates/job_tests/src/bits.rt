@@ -116,7 +116,7 @@ const BITS: [(&str, &[u8]); 34] = [
 
 // The bits of that name.
 fn bits_of(name: &str) -> &'static [u8] {
-    for (known, bits) in BITS {
+    for &(known, bits) in &BITS {
         if known == name {
             return bits;
         }

@@ -3,6 +3,7 @@
 
 use crate::over_memory::{FRONT, Failing, around, ends_failing};
 use crate::samples::{FIRST, GALILEO, HEADER, TO_RINEX, WORD_5, WORDS};
+use std::alloc::{AllocError, Global};
 use std::test::Fail;
 
 // The capture of five words.
@@ -29,41 +30,101 @@ fn writes_the_header_where_a_read_fails(rt: HostRuntime) -> Result<(), Fail> {
     Ok(())
 }
 
-#[test]
-fn writes_a_front_where_a_write_fails(rt: HostRuntime) -> Result<(), Fail> {
-    let (first, second) = around(GALILEO, "> ION");
-    let counts = concat!(
-        "lines 11\nmalformed 0\nlate 0\nrefused 0\nunused 0\n",
-        "whole 2\npartial 0\ncontradicted 0\nnohealth 0\nagain 0\n",
-    );
-    let file = [HEADER, first, "> ION", second];
-    // The header and two records are written, and the counts reported.
-    let cases: [(&[u32], &[u32], u8, [&str; 4], [&str; 2]); 6] = [
-        (&[0], &[], 4, ["", "", "", ""], ["", ""]),
-        (&[1], &[], 4, [HEADER, "", "", ""], ["", ""]),
-        (&[2], &[], 4, [HEADER, first, "", ""], ["", ""]),
-        (&[3], &[], 0, file, [counts, ""]),
-        (&[], &[0], 7, file, [FRONT, counts]),
-        (&[], &[1], 0, file, [FRONT, counts]),
-    ];
-    for (writes, reports, status, output, report) in cases {
+// The write that fails, of the output or of the report, the status, how many parts of the file are
+// written, and what is reported.
+#[derive(Clone, Copy)]
+struct Fault {
+    writes: &'static [u32],
+    reports: &'static [u32],
+    status: u8,
+    parts: usize,
+    report: [&'static str; 2],
+}
+
+const COUNTS: &str = concat!(
+    "lines 11\nmalformed 0\nlate 0\nrefused 0\nunused 0\n",
+    "whole 2\npartial 0\ncontradicted 0\nnohealth 0\nagain 0\n",
+);
+
+// The header and two records are written, and the counts reported.
+const FAULTS: [Fault; 6] = [
+    Fault {
+        writes: &[0],
+        reports: &[],
+        status: 4,
+        parts: 0,
+        report: ["", ""],
+    },
+    Fault {
+        writes: &[1],
+        reports: &[],
+        status: 4,
+        parts: 1,
+        report: ["", ""],
+    },
+    Fault {
+        writes: &[2],
+        reports: &[],
+        status: 4,
+        parts: 2,
+        report: ["", ""],
+    },
+    Fault {
+        writes: &[3],
+        reports: &[],
+        status: 0,
+        parts: 4,
+        report: [COUNTS, ""],
+    },
+    Fault {
+        writes: &[],
+        reports: &[0],
+        status: 7,
+        parts: 4,
+        report: [FRONT, COUNTS],
+    },
+    Fault {
+        writes: &[],
+        reports: &[1],
+        status: 0,
+        parts: 4,
+        report: [FRONT, COUNTS],
+    },
+];
+
+impl Fault {
+    // Whether the run ends so.
+    fn is_answered(&self, alloc: Global) -> Result<bool, AllocError> {
+        let (first, second) = around(GALILEO, "> ION");
+        let file = [HEADER, first, "> ION", second];
         let failing = Failing {
             cuts: PIECES,
             reads: &[],
-            writes,
-            reports,
+            writes: self.writes,
+            reports: self.reports,
         };
-        let input = CAPTURE;
-        let holds = ends_failing(
-            rt.alloc(),
+        let (input, written, report) = (&CAPTURE, &file[..self.parts.min(4)], &self.report);
+        ends_failing(
+            alloc,
             TO_RINEX,
-            &input,
+            input,
             &failing,
-            status,
-            &output,
-            &report,
-        )?;
-        assert!(rt; holds, "{writes:?} {reports:?}");
+            self.status,
+            written,
+            report,
+        )
+    }
+}
+
+#[test]
+fn writes_a_front_where_a_write_fails(rt: HostRuntime) -> Result<(), Fail> {
+    for case in &FAULTS {
+        assert!(rt;
+            case.is_answered(rt.alloc())?,
+            "{:?} {:?}",
+            case.writes,
+            case.reports
+        );
     }
     Ok(())
 }

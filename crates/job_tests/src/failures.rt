@@ -3,6 +3,7 @@
 use crate::bits::expand;
 use crate::over_memory::{ANYTHING, Failing, NOTHING_FAILS, ends_failing, run_over};
 use crate::samples::{FIRST, GPS, HEADER, TO_LIST, TO_RINEX};
+use std::alloc::{AllocError, Global};
 use std::test::Fail;
 
 // The lines behind an ephemeris of GPS, of which the last ones close a period or not.
@@ -44,7 +45,7 @@ const BROKEN: [Broken; 3] = [
 
 #[test]
 fn writes_what_is_closed_while_it_reads(rt: HostRuntime) -> Result<(), Fail> {
-    for case in BROKEN {
+    for case in &BROKEN {
         let failing = Failing {
             cuts: case.cuts,
             reads: &[case.read],
@@ -136,27 +137,32 @@ const ANSWERED: [Answered; 4] = [
     },
 ];
 
-#[test]
-fn answers_what_fails(rt: HostRuntime) -> Result<(), Fail> {
-    for case in ANSWERED {
-        let Answered {
-            line,
-            failing,
-            status,
-            output,
-            report,
-        } = case;
-        let input = [FIRST, GPS, line];
-        let holds = ends_failing(
-            rt.alloc(),
+impl Answered {
+    // Whether the run answers, writes and reports so.
+    fn is_answered(&self, alloc: Global) -> Result<bool, AllocError> {
+        let (input, report) = ([FIRST, GPS, self.line], [self.report]);
+        let (failing, output) = (&self.failing, &self.output);
+        ends_failing(
+            alloc,
             TO_RINEX,
             &input,
-            &failing,
-            status,
-            &output,
-            &[report],
-        )?;
-        assert!(rt; holds, "{status} {report}");
+            failing,
+            self.status,
+            output,
+            &report,
+        )
+    }
+}
+
+#[test]
+fn answers_what_fails(rt: HostRuntime) -> Result<(), Fail> {
+    for case in &ANSWERED {
+        assert!(rt;
+            case.is_answered(rt.alloc())?,
+            "{} {}",
+            case.status,
+            case.report
+        );
     }
     Ok(())
 }

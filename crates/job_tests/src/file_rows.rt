@@ -151,7 +151,7 @@ impl Reading {
 
 #[test]
 fn reads_fields_in_any_spelling(rt: HostRuntime) -> Result<(), Fail> {
-    for case in READINGS {
+    for case in &READINGS {
         assert!(rt; case.is_printed(rt.alloc())?, "{}", case.new);
     }
     Ok(())
@@ -181,7 +181,7 @@ const REFUSED: [(&str, &str, &str); 10] = [
 
 #[test]
 fn refuses_records(rt: HostRuntime) -> Result<(), Fail> {
-    for (old, new, reason) in REFUSED {
+    for &(old, new, reason) in &REFUSED {
         let (front, rest) = around(RECORD, old);
         let input = [HEADER, front, new, rest];
         let report = ["line 5 ", reason, ANYTHING];
@@ -259,16 +259,18 @@ fn converted(alloc: Global, words: &str, input: &str) -> Result<Outcome, AllocEr
     run_over(alloc, words, bytes.as_slice(), &NOTHING_FAILS)
 }
 
+// What stands in the header, what stands in its place, and the status.
+const HEADERS: [(&str, &str, u8); 5] = [
+    ("     4.01", "     4.00", 0),
+    ("     4.01", "     3.05", 5),
+    ("N: GNSS", "O: GNSS", 5),
+    ("END OF HEADER", "END OF HEADERS", 0),
+    ("END OF HEADER", "", 5),
+];
+
 #[test]
 fn judges_the_header(rt: HostRuntime) -> Result<(), Fail> {
-    let cases = [
-        ("     4.01", "     4.00", 0),
-        ("     4.01", "     3.05", 5),
-        ("N: GNSS", "O: GNSS", 5),
-        ("END OF HEADER", "END OF HEADERS", 0),
-        ("END OF HEADER", "", 5),
-    ];
-    for (old, new, status) in cases {
+    for &(old, new, status) in &HEADERS {
         let (front, rest) = around(HEADER, old);
         let input = [front, new, rest, RECORD];
         let said = if status == 0 { ANYTHING } else { "" };
@@ -308,7 +310,7 @@ const FAULTS: [(Failing<'static>, u8, [&str; 2], &str); 3] = [
 #[test]
 fn answers_faults_of_a_file(rt: HostRuntime) -> Result<(), Fail> {
     let file = [HEADER, RECORD];
-    for (failing, status, output, report) in FAULTS {
+    for &(failing, status, output, report) in &FAULTS {
         let holds = ends_failing(
             rt.alloc(),
             FILE_TO_RINEX,

@@ -81,7 +81,7 @@ impl Taken {
 
 #[test]
 fn takes_the_health_nearest_the_end(rt: HostRuntime) -> Result<(), Fail> {
-    for case in TAKEN {
+    for case in &TAKEN {
         assert!(rt; case.is_taken(rt.alloc())?, "{}", case.front);
     }
     Ok(())

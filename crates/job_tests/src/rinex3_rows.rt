@@ -57,17 +57,19 @@ fn converts_a_capture_to_the_older_form(rt: HostRuntime) -> Result<(), Fail> {
     Ok(())
 }
 
+// Versions, and the status of a run over a file of each.
+const VERSIONS: [(&str, u8); 5] = [
+    ("4.01", 5),
+    ("3.01", 5),
+    ("3.02", 0),
+    ("3.04", 0),
+    ("3.05", 0),
+];
+
 #[test]
 fn takes_versions_of_its_form_alone(rt: HostRuntime) -> Result<(), Fail> {
     let (front, rest) = around(HEADER, "4.01");
-    let cases = [
-        ("4.01", 5),
-        ("3.01", 5),
-        ("3.02", 0),
-        ("3.04", 0),
-        ("3.05", 0),
-    ];
-    for (version, status) in cases {
+    for &(version, status) in &VERSIONS {
         let input = [front, version, rest, RECORD];
         let holds = ends(
             rt.alloc(),

@@ -93,7 +93,7 @@ const OF_GPS: [Listed; 13] = [
 
 #[test]
 fn lists_periods_of_gps(rt: HostRuntime) -> Result<(), Fail> {
-    for case in OF_GPS {
+    for case in &OF_GPS {
         let holds = case.is_listed(rt.alloc(), "")?;
         assert!(rt; holds, "{}", case.lines);
     }
@@ -121,7 +121,7 @@ const AGAIN: [Listed; 3] = [
 
 #[test]
 fn lists_an_issue_heard_again(rt: HostRuntime) -> Result<(), Fail> {
-    for case in AGAIN {
+    for case in &AGAIN {
         let holds = case.is_listed(rt.alloc(), GPS)?;
         assert!(rt; holds, "{}", case.lines);
     }
@@ -164,7 +164,7 @@ const OF_GALILEO: [Listed; 6] = [
 
 #[test]
 fn lists_periods_of_galileo(rt: HostRuntime) -> Result<(), Fail> {
-    for case in OF_GALILEO {
+    for case in &OF_GALILEO {
         let holds = case.is_listed(rt.alloc(), WORDS)?;
         assert!(rt; holds, "{}", case.lines);
     }
@@ -190,7 +190,7 @@ const IONOSPHERES: [(&str, &str); 3] = [
 #[test]
 fn lists_ionospheres(rt: HostRuntime) -> Result<(), Fail> {
     let list = "18 ION G 0b0000002c000000 whole\n";
-    for (lines, record) in IONOSPHERES {
+    for &(lines, record) in &IONOSPHERES {
         for (words, want) in [
             (TO_LIST, ["", list, ""]),
             (TO_RINEX, [HEADER, record, ANYTHING]),
@@ -282,13 +282,13 @@ const HEADED: [Headed; 11] = [
 
 #[test]
 fn takes_week_and_window_of_the_first_line(rt: HostRuntime) -> Result<(), Fail> {
-    for case in HEADED {
+    for case in &HEADED {
         let Headed {
             words,
             input,
             status,
             list,
-        } = case;
+        } = *case;
         let report = if status == 0 { ANYTHING } else { "" };
         let holds = ends(rt.alloc(), words, &[input], status, &[list], &[report])?;
         assert!(rt; holds, "{input}");

@@ -76,7 +76,7 @@ const WITHHELD: [Withheld; 3] = [
 
 #[test]
 fn says_why_an_ephemeris_is_not_sent(rt: HostRuntime) -> Result<(), Fail> {
-    for case in WITHHELD {
+    for case in &WITHHELD {
         let (front, rest) = around(RECORD, case.old);
         let input = [HEADER, front, case.new, rest];
         let holds = ends(rt.alloc(), case.words, &input, 0, &[FIRST], &[case.report])?;
@@ -127,7 +127,7 @@ fn comes_back_in_any_order(rt: HostRuntime) -> Result<(), Fail> {
     let is_sent = ends(rt.alloc(), SEND, &[HEADER, GALILEO], 0, &sent, &[TWO_ITEMS])?;
     let is_listed = ends(rt.alloc(), TO_LIST, &sent, 0, &list, &[ANYTHING])?;
     let mut is_back = true;
-    for order in ORDERS {
+    for order in &ORDERS {
         is_back &= comes_back(rt.alloc(), order)?;
     }
     assert!(rt; is_sent && is_listed && is_back);

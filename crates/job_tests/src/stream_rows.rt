@@ -62,7 +62,7 @@ const REPORTED: [Reported; 4] = [
 
 #[test]
 fn converts_a_stream_once_for_each_ephemeris(rt: HostRuntime) -> Result<(), Fail> {
-    for case in REPORTED {
+    for case in &REPORTED {
         let [first, orbit] = case.record;
         for (words, want) in [
             (TO_RINEX, [HEADER, first, orbit]),
@@ -130,14 +130,14 @@ const FAULTS: [Fault; 3] = [
 
 #[test]
 fn answers_faults_of_a_stream(rt: HostRuntime) -> Result<(), Fail> {
-    for case in FAULTS {
+    for case in &FAULTS {
         let Fault {
             failing,
             words,
             status,
             output,
             report,
-        } = case;
+        } = *case;
         let input = ["{GPS_FRAME}{SHORT_FRAME}"];
         let report = [report];
         let holds = ends_failing(

@@ -17,17 +17,19 @@ const IN_BYTES: Failing<'static> = Failing {
     reports: &[],
 };
 
+// Bytes, and the lines of their frames.
+const FRAMED: [(&str, &str); 4] = [
+    ("{EMPTY_FRAME}", "- 0\n"),
+    ("{START}{EMPTY_FRAME}", "- 0\n"),
+    ("{CUT_FRAME}", ""),
+    ("", ""),
+];
+
 #[test]
 fn writes_a_line_for_each_frame(rt: HostRuntime) -> Result<(), Fail> {
-    let cases = [
-        ("{EMPTY_FRAME}", "- 0\n"),
-        ("{START}{EMPTY_FRAME}", "- 0\n"),
-        ("{CUT_FRAME}", ""),
-        ("", ""),
-    ];
-    for (input, want) in cases {
-        for failing in [NOTHING_FAILS, IN_BYTES] {
-            let holds = ends_failing(rt.alloc(), FRAMES, &[input], &failing, 0, &[want], &[])?;
+    for &(input, want) in &FRAMED {
+        for failing in [&NOTHING_FAILS, &IN_BYTES] {
+            let holds = ends_failing(rt.alloc(), FRAMES, &[input], failing, 0, &[want], &[])?;
             assert!(rt; holds, "{input}");
         }
     }
@@ -72,7 +74,7 @@ const FAULTS: [(Failing<'static>, u8, &str); 3] = [
 #[test]
 fn answers_faults_in_mid_stream(rt: HostRuntime) -> Result<(), Fail> {
     let two = "{EMPTY_FRAME}{EMPTY_FRAME}";
-    for (failing, status, want) in FAULTS {
+    for &(failing, status, want) in &FAULTS {
         let holds = ends_failing(rt.alloc(), FRAMES, &[two], &failing, status, &[want], &[])?;
         assert!(rt; holds, "{status}");
     }
@@ -144,7 +146,7 @@ const JUDGED: [(&str, u8); 56] = [
 
 #[test]
 fn judges_the_words(rt: HostRuntime) -> Result<(), Fail> {
-    for (words, status) in JUDGED {
+    for &(words, status) in &JUDGED {
         let holds = ends(rt.alloc(), words, &[], status, &[ANYTHING], &[ANYTHING])?;
         assert!(rt; holds, "{words}");
     }

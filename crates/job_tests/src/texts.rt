@@ -22,7 +22,7 @@ const WRITTEN: [([&str; 3], &str); 4] = [
 
 #[test]
 fn writes_records(rt: HostRuntime) -> Result<(), Fail> {
-    for (input, records) in WRITTEN {
+    for &(input, records) in &WRITTEN {
         let want = [HEADER, records];
         let holds = ends(rt.alloc(), TO_RINEX, &input, 0, &want, &[ANYTHING])?;
         assert!(rt; holds, "{records}");
