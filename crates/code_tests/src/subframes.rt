@@ -34,85 +34,152 @@ fn agrees(text: &[u8; 76], out: &SubframeOut, count: u64, body: Body) -> bool
     write_subframe(out, U::from_digits(count)) == bits && read(&bits) == heard(body)
 }
 
-fn clock_zero() -> Option<(GpsClock, GpsSide)> {
+// A clock, what stands beside it, its week number, the count that it is written with, and its
+// digits, which are read as sent at that second.
+struct ClockRow {
+    iodc: u64,
+    toc: u64,
+    af2: i64,
+    af1: i64,
+    af0: i64,
+    tgd: i64,
+    l2_code: u64,
+    ura: u64,
+    health: u64,
+    l2p: u64,
+    wn: u64,
+    count: u64,
+    second: u32,
+    digits: &'static [u8; 76],
+}
+
+const CLOCKS: [ClockRow; 3] = [
+    ClockRow {
+        iodc: 0,
+        toc: 0,
+        af2: 0,
+        af1: 0,
+        af0: 0,
+        tgd: 0,
+        l2_code: 0,
+        ura: 0,
+        health: 0,
+        l2p: 0,
+        wn: 247,
+        count: 1,
+        second: 0,
+        digits: b"8b00004800021043dc000580000029ffffff580000029ffffff580000029ffffff58000008c0",
+    },
+    ClockRow {
+        iodc: 619,
+        toc: 37_799,
+        af2: -7,
+        af1: -11_572,
+        af0: -723_446,
+        tgd: 122,
+        l2_code: 3,
+        ura: 15,
+        health: 4,
+        l2p: 0,
+        wn: 317,
+        count: 100_799,
+        second: 604_788,
+        digits: b"8b00004b137e1704f7f12280000029ffffff580000029ffff8589ae4e9f2f9d2cce34f60a680",
+    },
+    ClockRow {
+        iodc: 745,
+        toc: 0,
+        af2: -1,
+        af1: 30_915,
+        af0: -400_528,
+        tgd: -118,
+        l2_code: 1,
+        ura: 15,
+        health: 34,
+        l2p: 1,
+        wn: 1_023,
+        count: 91_440,
+        second: 548_634,
+        digits: b"8b00004aca60164ffdf8ab5ffffffc00000000000000000008a545bfffd100873c5461c8f680",
+    },
+];
+
+fn clock_of(row: &ClockRow) -> Option<(GpsClock, GpsSide)> {
     let clock = GpsClock {
-        iodc: U::new(0)?,
-        toc: Step16::new(0)?,
-        af2: S::new(0)?,
-        af1: S::new(0)?,
-        af0: S::new(0)?,
-        tgd: S::new(0)?,
+        iodc: U::new(row.iodc)?,
+        toc: Step16::new(row.toc)?,
+        af2: S::new(row.af2)?,
+        af1: S::new(row.af1)?,
+        af0: S::new(row.af0)?,
+        tgd: S::new(row.tgd)?,
     };
     let side = GpsSide {
-        l2_code: U::new(0)?,
-        ura: U::new(0)?,
-        health: U::new(0)?,
-        l2p: U::new(0)?,
+        l2_code: U::new(row.l2_code)?,
+        ura: U::new(row.ura)?,
+        health: U::new(row.health)?,
+        l2p: U::new(row.l2p)?,
     };
     Some((clock, side))
 }
 
-fn clock_negative() -> Option<(GpsClock, GpsSide)> {
-    let clock = GpsClock {
-        iodc: U::new(619)?,
-        toc: Step16::new(37799)?,
-        af2: S::new(-7)?,
-        af1: S::new(-11572)?,
-        af0: S::new(-723446)?,
-        tgd: S::new(122)?,
-    };
-    let side = GpsSide {
-        l2_code: U::new(3)?,
-        ura: U::new(15)?,
-        health: U::new(4)?,
-        l2p: U::new(0)?,
-    };
-    Some((clock, side))
+// The first half of an orbit, the count that it is written with, and its digits.
+struct OrbitRow {
+    iode: u64,
+    crs: i64,
+    delta_n: i64,
+    m0: i64,
+    cuc: i64,
+    e: u64,
+    cus: i64,
+    root_a: u64,
+    toe: u64,
+    fit: u64,
+    count: u64,
+    digits: &'static [u8; 76],
 }
 
-fn clock_flagged() -> Option<(GpsClock, GpsSide)> {
-    let clock = GpsClock {
-        iodc: U::new(745)?,
-        toc: Step16::new(0)?,
-        af2: S::new(-1)?,
-        af1: S::new(30915)?,
-        af0: S::new(-400528)?,
-        tgd: S::new(-118)?,
-    };
-    let side = GpsSide {
-        l2_code: U::new(1)?,
-        ura: U::new(15)?,
-        health: U::new(34)?,
-        l2p: U::new(1)?,
-    };
-    Some((clock, side))
-}
+const ORBITS: [OrbitRow; 2] = [
+    OrbitRow {
+        iode: 255,
+        crs: -14_220,
+        delta_n: -18_758,
+        m0: 1_559_829_553,
+        cuc: -21_740,
+        e: 1_274_495_763,
+        cus: -3_681,
+        root_a: 4_294_967_295,
+        toe: 0,
+        fit: 1,
+        count: 93_723,
+        digits: b"8b00004adc3629cffc8748d25168f0f91c311aac512d4f74313c4398000500000057fffdff00",
+    },
+    OrbitRow {
+        iode: 255,
+        crs: -15_553,
+        delta_n: -13_045,
+        m0: -1_998_207_302,
+        cuc: -32_768,
+        e: 439_804_027,
+        cus: -1,
+        root_a: 217_389_113,
+        toe: 37_799,
+        fit: 0,
+        count: 100_799,
+        digits: b"8b00004b137e2c8ffc33f74cbd1dc11a3945b200006b5c91f84bbfffc33d0ae7c6824e9c0380",
+    },
+];
 
-fn orbit_fit() -> Option<GpsOrbitA> {
+fn orbit_of(row: &OrbitRow) -> Option<GpsOrbitA> {
     Some(GpsOrbitA {
-        iode: U::new(255)?,
-        crs: S::new(-14220)?,
-        delta_n: S::new(-18758)?,
-        m0: S::new(1559829553)?,
-        cuc: S::new(-21740)?,
-        e: U::new(1274495763)?,
-        cus: S::new(-3681)?,
-        root_a: U::new(4294967295)?,
-        toe: Step16::new(0)?,
-    })
-}
-
-fn orbit_last_step() -> Option<GpsOrbitA> {
-    Some(GpsOrbitA {
-        iode: U::new(255)?,
-        crs: S::new(-15553)?,
-        delta_n: S::new(-13045)?,
-        m0: S::new(-1998207302)?,
-        cuc: S::new(-32768)?,
-        e: U::new(439804027)?,
-        cus: S::new(-1)?,
-        root_a: U::new(217389113)?,
-        toe: Step16::new(37799)?,
+        iode: U::new(row.iode)?,
+        crs: S::new(row.crs)?,
+        delta_n: S::new(row.delta_n)?,
+        m0: S::new(row.m0)?,
+        cuc: S::new(row.cuc)?,
+        e: U::new(row.e)?,
+        cus: S::new(row.cus)?,
+        root_a: U::new(row.root_a)?,
+        toe: Step16::new(row.toe)?,
     })
 }
 
@@ -143,57 +210,43 @@ fn ionosphere() -> Option<GpsIon> {
     })
 }
 
-// The body of a clock of that week number that was sent at that second.
-fn clock_body(clock: GpsClock, side: GpsSide, wn: u64, second: u32) -> Option<Body> {
-    let tag = SentTag::Sent {
-        wn: U::new(wn)?,
-        second: Second::new(second)?,
-    };
-    Some(Body::GpsClock(clock, side, tag))
-}
-
-// The clock of that week number is written with those digits at that count, and they are read as
-// the same, sent at that second.
-fn clock_agrees(
-    text: &[u8; 76],
-    parts: Option<(GpsClock, GpsSide)>,
-    wn: u64,
-    count: u64,
-    second: u32,
-) -> Option<bool>
-    requires { count < 100800 }
-{
-    let (clock, side) = parts?;
-    let body = clock_body(clock, side, wn, second)?;
-    let wn = U::new(wn)?;
+// The clock is written with its digits, and they are read as the same.
+fn clock_agrees(row: &ClockRow) -> Option<bool> {
+    if row.count >= 100_800 {
+        return None;
+    }
+    let (clock, side) = clock_of(row)?;
+    let wn = U::new(row.wn)?;
     let out = SubframeOut::Clock { clock, side, wn };
-    Some(agrees(text, &out, count, body))
+    let (clock, side) = clock_of(row)?;
+    let wn = U::new(row.wn)?;
+    let second = Second::new(row.second)?;
+    let body = Body::GpsClock(clock, side, SentTag::Sent { wn, second });
+    Some(agrees(row.digits, &out, row.count, body))
 }
 
-// The first half of an orbit is written with those digits at that count, and they are read as the
-// same.
-fn orbit_agrees(text: &[u8; 76], orbit: Option<GpsOrbitA>, fit: u64, count: u64) -> Option<bool>
-    requires { count < 100800 }
-{
-    let orbit = orbit?;
-    let fit = U::new(fit)?;
+// The first half of an orbit is written with its digits, and they are read as the same.
+fn orbit_agrees(row: &OrbitRow) -> Option<bool> {
+    if row.count >= 100_800 {
+        return None;
+    }
+    let body = Body::GpsA(orbit_of(row)?, U::new(row.fit)?);
+    let orbit = orbit_of(row)?;
+    let fit = U::new(row.fit)?;
     let out = SubframeOut::OrbitA { orbit, fit };
-    Some(agrees(text, &out, count, Body::GpsA(orbit, fit)))
+    Some(agrees(row.digits, &out, row.count, body))
 }
 
 #[test]
 fn clocks_and_orbits(rt: HostRuntime) {
-    let text = b"8b00004800021043dc000580000029ffffff580000029ffffff580000029ffffff58000008c0";
-    let zero = clock_agrees(text, clock_zero(), 247, 1, 0);
-    let text = b"8b00004b137e1704f7f12280000029ffffff580000029ffff8589ae4e9f2f9d2cce34f60a680";
-    let negative = clock_agrees(text, clock_negative(), 317, 100_799, 604_788);
-    let text = b"8b00004aca60164ffdf8ab5ffffffc00000000000000000008a545bfffd100873c5461c8f680";
-    let flagged = clock_agrees(text, clock_flagged(), 1_023, 91_440, 548_634);
-    let text = b"8b00004adc3629cffc8748d25168f0f91c311aac512d4f74313c4398000500000057fffdff00";
-    let fit = orbit_agrees(text, orbit_fit(), 1, 93_723);
-    let text = b"8b00004b137e2c8ffc33f74cbd1dc11a3945b200006b5c91f84bbfffc33d0ae7c6824e9c0380";
-    let last_step = orbit_agrees(text, orbit_last_step(), 0, 100_799);
-    assert!(rt; [zero, negative, flagged, fit, last_step] == [Some(true); 5]);
+    let mut all = true;
+    for row in &CLOCKS {
+        all = all && clock_agrees(row) == Some(true);
+    }
+    for row in &ORBITS {
+        all = all && orbit_agrees(row) == Some(true);
+    }
+    assert!(rt; all);
 }
 
 // The second half of an orbit and the ionosphere are written with their digits, and read from them.
@@ -261,8 +314,13 @@ fn faults(rt: HostRuntime) {
 
 // A clock that is written with the count 0 was sent in the last 6 s of the week.
 fn last_second_is_read() -> Option<bool> {
-    let (clock, side) = clock_zero()?;
+    let (clock, side) = clock_of(&CLOCKS[0])?;
     let wn = U::new(247)?;
-    let bits = write_subframe(&SubframeOut::Clock { clock, side, wn }, U::from_digits(0));
-    Some(read(&bits) == heard(clock_body(clock, side, 247, 604_794)?))
+    let out = SubframeOut::Clock { clock, side, wn };
+    let bits = write_subframe(&out, U::from_digits(0));
+    let (clock, side) = clock_of(&CLOCKS[0])?;
+    let wn = U::new(247)?;
+    let second = Second::new(604_794)?;
+    let body = Body::GpsClock(clock, side, SentTag::Sent { wn, second });
+    Some(read(&bits) == heard(body))
 }
