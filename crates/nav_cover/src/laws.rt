@@ -1,8 +1,7 @@
-ghost use Rattle.std.specs.Prelude.{◌≡◌, ℕ, ◌↔◌, List};
+ghost use Rattle.std.specs.Prelude.{◌≡◌, ◌↔◌, ◌⊎◌, List};
 ghost use Rattle.std.specs.List.{Contains};
-ghost use Rattle.nav_eph.specs.Satellite.{Satellite};
 ghost use Rattle.nav_eph.specs.declared.items.NavItem.{NavItem};
-ghost use Rattle.nav_cover.specs.Covering.{AreCovering, AreCovers, covers_of};
+ghost use Rattle.nav_cover.specs.Covering.{AreCovering, AreCovers, CoversSecond, IsIn, covers_of};
 ghost use Rattle.nav_cover.specs.declared.range.CoverRange.{CoverRange};
 
 /// `covers_of` is the one list of the ranges that some items cover, and it depends on the set of the
@@ -16,9 +15,10 @@ pub fn covering()
         ((i : NavItem) → Contains some i ↔ Contains other i) → covers_of some ≡ covers_of other }
 {}
 
-/// Seconds that are covered have one list of ranges: an answer of `Cover::add` is determined by what
-/// its contract says of it.
+/// Some ranges, with what one item more covers, make one list of ranges: what the contract of
+/// `Cover::add` says of an answer determines it.
 pub fn one_cover()
-    ensures { (covered : Satellite → ℕ → Type 0) (xs ys : List CoverRange) →
-        AreCovers covered xs → AreCovers covered ys → xs ≡ ys }
+    ensures { (old xs ys : List CoverRange) (item : NavItem) →
+        AreCovers (λ sat m. IsIn old sat m ⊎ CoversSecond item sat m) xs →
+        AreCovers (λ sat m. IsIn old sat m ⊎ CoversSecond item sat m) ys → xs ≡ ys }
 {}

@@ -1,11 +1,12 @@
 use crate::samples::{ephemeris, ionosphere};
 use nav_bits::{S, U};
 use nav_cover::{Cover, covering, one_cover};
-use nav_eph::SentSecond;
+use nav_eph::{GalEph, GpsEph, IonContent, IonEph, SentSecond};
 use std::test::Fail;
 
 // Adds what an ephemeris covers, of a toe and with a fit interval flag.
 fn add_ephemeris(cover: &mut Cover, toe: u64, fit: u64) -> Result<(), Fail> {
+    let _inside: Option<(GpsEph, GalEph, IonEph, IonContent)> = None;
     let fit = U::new(fit).ok_or("a flag")?;
     let item = ephemeris(toe, S::from_digits(0), fit, SentSecond::Unknown)?;
     cover.add(&item)?;
@@ -22,6 +23,7 @@ struct Row {
 
 // Adds the items of a row, and the ionosphere beside them.
 fn add_items(cover: &mut Cover, row: &Row) -> Result<(), Fail> {
+    let _inside: Option<(GpsEph, GalEph, IonEph, IonContent)> = None;
     cover.add(&ionosphere()?)?;
     for toe in &row.toes {
         add_ephemeris(cover, *toe, row.fit)?;

@@ -133,6 +133,7 @@ pub(crate) fn part(stamp: u32, kind: Kind) -> Result<Part, Fail> {
 
 // What is heard at these stamps.
 pub(crate) fn parts_of(alloc: Global, heard: &[(u32, Kind)]) -> Result<Vec<Part>, Fail> {
+    let (_body, _tag): (Option<Body>, Option<SentTag>) = (None, None);
     let mut parts = Vec::new(alloc);
     for (stamp, kind) in heard {
         parts.push(part(*stamp, *kind)?)?;

@@ -5,7 +5,7 @@ use issue_periods::{
     Closed, PlainAssembly, Verdict, add_periods, closed_stays, items_fit_together, old_is_far,
     one_more_part, one_next, order_is_nothing, periods_are,
 };
-use nav_eph::{NavItem, Part, SentSecond};
+use nav_eph::{GalEph, GpsEph, IonContent, IonEph, NavItem, Part, SentSecond};
 use std::alloc::Global;
 use std::test::Fail;
 
@@ -189,6 +189,7 @@ fn health_of(item: &NavItem) -> Option<u64> {
 
 #[test]
 fn health_near_the_end(rt: HostRuntime) -> Result<(), Fail> {
+    let _inside: Option<(GpsEph, GalEph, IonEph, IonContent)> = None;
     for row in &HEALTH {
         assert!(rt; makes(rt.alloc(), row)?);
     }
@@ -256,6 +257,7 @@ fn times_of(item: &NavItem) -> Option<(u64, u32, SentSecond)> {
 
 #[test]
 fn choices_of_gps(rt: HostRuntime) -> Result<(), Fail> {
+    let _inside: Option<(GpsEph, GalEph, IonEph, IonContent)> = None;
     for row in &CHOSEN_CLOCKS {
         let [one, other] = row.clocks;
         let item = first_item(rt.alloc(), row.week, &[one, (6, B), (12, C), other])?;

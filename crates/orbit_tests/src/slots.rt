@@ -1,4 +1,4 @@
-use crate::parts::{A, B, C, Kind, part};
+use crate::parts::{A, B, C, Kind, parts_of};
 use crate::runs::{WEEK, WINDOW, gives_a_period_once, run};
 use gnss_week::RefWeek;
 use issue_periods::{Closed, PlainAssembly};
@@ -32,16 +32,16 @@ fn some_kind(number: u64, stamp: u32) -> Kind {
 
 // A small list of parts, some of them more than a window apart.
 fn some_parts(alloc: Global, first: u64) -> Result<Vec<Part>, Fail> {
-    let mut parts = Vec::new(alloc);
+    let mut heard = [(0, A); 24];
     let mut seed = first;
     let mut stamp: u32 = 0;
-    for _ in 0..24 {
+    for place in &mut heard {
         seed = step(seed);
         stamp = stamp.wrapping_add((seed % 3_000) as u32);
         seed = step(seed);
-        parts.push(part(stamp, some_kind(seed, stamp))?)?;
+        *place = (stamp, some_kind(seed, stamp));
     }
-    Ok(parts)
+    parts_of(alloc, &heard)
 }
 
 // The periods that the assembly of parts gives.
