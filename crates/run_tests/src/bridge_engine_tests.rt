@@ -10,7 +10,7 @@ use inav_page::{Halves, read_half};
 use inav_word::{WordParts, read_word};
 use issue_periods::{PlainAssembly, add_periods};
 use lnav_subframe::read_subframe;
-use nav_eph::Part;
+use nav_eph::{Part, System};
 use nav_io::{MemSink, MemSource};
 use nav_vectors::make_capture;
 use period_items::{Closed, Key, Verdict};
@@ -47,8 +47,10 @@ fn add_parts(
 ) -> Result<(), AllocError> {
     match item {
         LineItem::Lnav { stamp, sat, bits } => {
-            if let Ok(part) = read_subframe(bits, *sat, *stamp) {
-                parts.push(part)?;
+            if sat.system() == System::Gps {
+                if let Ok(part) = read_subframe(bits, *sat, *stamp) {
+                    parts.push(part)?;
+                }
             }
         }
         LineItem::Half {
