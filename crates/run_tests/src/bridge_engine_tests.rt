@@ -10,7 +10,10 @@ use inav_page::{Halves, read_half};
 use inav_word::read_word;
 use issue_periods::{PlainAssembly, add_periods};
 use lnav_subframe::read_subframe;
-use nav_eph::{Part, System};
+use nav_eph::{
+    Body, GalEph, GalHealth, GalIon, GalWord1, GalWord2, GalWord3, GalWord4, GpsClock, GpsEph,
+    GpsIon, GpsOrbitA, GpsOrbitB, GpsSide, IonContent, IonEph, NavItem, Part, SentTag, System,
+};
 use nav_io::{MemSink, MemSource};
 use nav_vectors::make_capture;
 use period_items::{Closed, Key, Verdict};
@@ -23,6 +26,19 @@ const FRONT: usize = 40_000;
 
 // More bytes than a capture has.
 const WHOLE: usize = 4_000_000;
+
+// What a part holds, which the check wants to be told of.
+type Contents = (
+    Body,
+    SentTag,
+    GpsClock,
+    GpsSide,
+    GpsOrbitA,
+    GpsOrbitB,
+    GpsIon,
+);
+
+type MoreContents = (GalWord1, GalWord2, GalWord3, GalWord4, GalHealth, GalIon);
 
 // The first line of a generated capture, which tells a window of two hours, and the same with one minute.
 const TWO_HOURS: &[u8] = b"NAVCAP 1\n";
@@ -45,6 +61,8 @@ fn add_parts(
     halves: &mut Halves,
     parts: &mut Vec<Part>,
 ) -> Result<(), AllocError> {
+    let _contents: Option<Contents> = None;
+    let _more: Option<MoreContents> = None;
     match item {
         LineItem::Lnav { stamp, sat, bits } => {
             if sat.system() == System::Gps {
@@ -84,6 +102,8 @@ fn parts_of(alloc: Global, lines: &[u8], window: u32) -> Result<Vec<Part>, Alloc
     requires least { 60 ≤ window }
     requires most { window ≤ 14400 }
 {
+    let _contents: Option<Contents> = None;
+    let _more: Option<MoreContents> = None;
     let mut halves = Halves::new(alloc, window);
     let mut parts = Vec::new(alloc);
     for line in lines.split(|c| *c == b'\n') {
@@ -134,6 +154,9 @@ fn plain_list(
     requires least { 60 ≤ window }
     requires most { window ≤ 14400 }
 {
+    let _contents: Option<Contents> = None;
+    let _more: Option<MoreContents> = None;
+    let _items: Option<(NavItem, GpsEph, GalEph, IonEph, IonContent)> = None;
     let parts = parts_of(alloc, lines, window)?;
     let mut assembly = PlainAssembly::new(alloc, week, window);
     let mut periods = Vec::new(alloc);
