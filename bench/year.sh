@@ -127,14 +127,14 @@ for folder in "${folders[@]:0:few}"; do
 done
 mkdir "$work/ours"
 awk 'FNR == 1 && /^     4\.01/ { print FILENAME }' "$plain"/* | while read -r file; do ln "$file" "$work/ours/"; done
-cat > "$work/sorted" << 'END'
+cat > "$work/sorted" << 'SCRIPT'
 #!/usr/bin/env bash
 # each record of GPS and Galileo on a line, the lines once; with a third word without the time of sending
 set -eu
 awk 'FNR == 1 { head = 1 } head { if (/END OF HEADER/) head = 0; next } /^>/ { if (n) print text; n = 1; text = $0; next } { text = text "\t" $0 }
   END { if (n) print text }' "$1"/ours/*.rnx | grep -E '^> EPH (G.. LNAV|E.. INAV)' |
   if [ $# = 3 ]; then sed -E 's/(.*\t {4}).{19}/\1/'; else cat; fi | sort -u | tr '\t' '\n' > "$2"
-END
+SCRIPT
 chmod +x "$work/sorted"
 echo "the first $few days: $(find "$plain" -type f | wc -l) files, of which $(find "$work/ours" -type f | wc -l) by one program, of version 4.01; unpacked before"
 size=$(bytes_of "$work"/ours/*)

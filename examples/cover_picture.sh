@@ -115,7 +115,7 @@ set format x "$form"
 set xrange [$lo.0+e:$hi.0+e]
 set yrange [$rows+1:0]
 set xtics $first.0+e, $step
-set grid xtics lc rgb "#909090"
+set grid xtics front lt 1 lw 1 lc rgb "#909090"
 set ytics () nomirror
 load "names"
 set rmargin 10
