@@ -24,6 +24,7 @@ import zlib
 HELP = """\
 merge_archive.sh [options] NAME..       files and folders
 merge_archive.sh [options] - < LIST     names on standard input, one a line
+merge_archive.sh --table ROWS..         the table of several FILE.files together
 
 Merges RINEX navigation files of versions 3 and 4 into one RINEX 4 file that has each ephemeris and ionosphere set once. Files are taken
 by their content, whatever their names are, and may be packed by gzip or compress (.gz, .Z). A file that can't be used is named with the
@@ -498,7 +499,8 @@ def table(rows, first):
     block(2, refused)
     line(1, "passed over", sum(passed.values()))
     block(2, passed)
-    line(0, "kept", first["kept"])
+    if first.get("kept") is not None:
+        line(0, "kept", first["kept"])
     if first.get("ranges") is not None:
         line(0, "ranges", first["ranges"])
     return "\n".join(lines)
@@ -734,6 +736,7 @@ def options(words):
     parser.add_argument("--again", action="store_true")
     parser.add_argument("--program", default=os.environ.get("PROGRAM"))
     parser.add_argument("-q", dest="quiet", action="store_true")
+    parser.add_argument("--table", action="store_true")
     parser.add_argument("--help", action="store_true")
     args = parser.parse_args(words)
     if args.help:
@@ -741,6 +744,8 @@ def options(words):
         sys.exit(0)
     if not args.names:
         parser.error("no names: give files, folders, or - for a list on standard input")
+    if args.table:
+        return args
     if not args.out and not args.cover:
         parser.error("-o FILE or --cover FILE is wanted")
     if args.jobs < 1 or args.batch < 1:
@@ -759,10 +764,26 @@ def options(words):
     return args
 
 
+def tell(args, rows, first):
+    """Names what was not read, prints the table, and gives the status."""
+    for row in rows:
+        if row["outcome"] != "read":
+            print(": ".join([shown(row["name"]), row["outcome"], *filter(None, ["; ".join(row["notes"])])]), file=sys.stderr)
+    if not args.quiet:
+        print(table(rows, first))
+    return 0 if all(row["outcome"] == "read" for row in rows) else 1
+
+
 def main(words):
     args = options(words)
     for stream in (sys.stdout, sys.stderr):
         stream.reconfigure(errors="backslashreplace")
+    if args.table:
+        said = {name: read_rows(name) for name in args.names}
+        for name in (name for name, rows in said.items() if rows is None):
+            print(f"{shown(name)}: no rows of merge_archive.sh", file=sys.stderr)
+        return tell(args, [row for rows in said.values() if rows for row in rows[1]], {}) if all(said.values()) else 2
+
     def stop(_number, _frame):
         raise KeyboardInterrupt
     signal.signal(signal.SIGTERM, stop)
@@ -778,12 +799,7 @@ def main(words):
         return 3
     finally:
         tool.end()
-    for row in rows:
-        if row["outcome"] != "read":
-            print(": ".join([shown(row["name"]), row["outcome"], *filter(None, ["; ".join(row["notes"])])]), file=sys.stderr)
-    if not args.quiet:
-        print(table(rows, first))
-    return 0 if all(row["outcome"] == "read" for row in rows) else 1
+    return tell(args, rows, first)
 
 
 if __name__ == "__main__":
