@@ -171,21 +171,27 @@ def version_of(data):
 
 
 TRIED = {b"EPH G LNAV", b"EPH E INAV", b"ION G LNAV", b"ION E IFNV"}
-NEW_RECORD = re.compile(rb"^[^ \r\n]|^\r[^\n]", re.M)
+# what begins a record: in version 4 a line with ">" (its columns 2 to 14), in version 3 one whose first column is not blank
+TITLE = re.compile(rb"\n>([^\n]{0,13})")
+START = re.compile(rb"\n(?=[^ \r\n]|\r[^\n])")
+SIXTH = re.compile(rb"(?:[^\n]*\n){5}([^\n]+)")  # the sixth line of a record, where it has one that is not empty
+GALILEO = ord("E")
 SOURCE = re.compile(rb"[+-]?(?:\d+\.?\d*|\.\d+)(?:[DdEe][+-]?\d{1,3})?")
 
 
-def passed_in_4(body):
-    """Records of a version 4 body, and those that navbridge passes over, by what they are."""
-    titles = collections.Counter(part[1:4] + b" " + part[5:6] + b" " + part[9:13] for part in body[1:].split(b"\n>")) if body else {}
+def records_of_4(data, begin, end):
+    """The records of a version 4 file from a place on, and those that navbridge passes over, by what they are."""
+    titles = collections.Counter()
+    for text, times in collections.Counter(TITLE.findall(data, begin - 1, end)).items():
+        titles[text[1:4] + b" " + text[5:6] + b" " + text[9:13]] += times
     passed = collections.Counter()
     for title, times in titles.items():
         if title not in TRIED:
-            system, message = title[4:5].decode("latin-1"), title[6:].split(b"\n")[0].decode("latin-1").strip()
+            system, message = title[4:5].decode("latin-1"), title[6:].decode("latin-1").strip().replace("FNAV", "F/NAV")
             kind = title[:3].decode("latin-1")
-            what = f"{system} {message.replace('FNAV', 'F/NAV') if kind == 'EPH' else kind}" if system in "GE" else system
-            passed[what if what.strip() and what.isprintable() and system.isalpha() else "other lines"] += times
-    return sum(titles.values()), passed, body.count(b"\n", 0, body.rfind(b"\n>") + 1)
+            what = f"{system} {message if kind == 'EPH' else kind}" if system in "GE" else system
+            passed[what if system.isalpha() and what.isprintable() and not set(what) & set(",=") else "other lines"] += times
+    return sum(titles.values()), passed
 
 
 def source_of(text, known={}):
@@ -200,27 +206,37 @@ def source_of(text, known={}):
     return known[text]
 
 
-def passed_in_3(body):
-    """The same of a version 3 body, whose records begin at each line with a first column that is not blank."""
-    lines = body.split(b"\n")
-    starts = [at for at, line in enumerate(lines) if line[:1] not in (b" ", b"") and line != b"\r"]
+def records_of_3(data, begin, end):
+    """The same of a version 3 file."""
+    starts = [found.end() for found in START.finditer(data, begin - 1, end)]
+    systems = [data[at] for at in starts]
     passed = collections.Counter()
-    for at, following in zip(starts, [*starts[1:], len(lines)]):
-        system = lines[at][:1]
-        if system == b"G":
-            continue
-        if system == b"E":
-            what = source_of(column(lines[at + 5].rstrip(b"\r"), 24, 42)) if at + 5 < following else "E no source"
-            if what == "I/NAV":
-                continue
-        else:
-            what = system.decode("latin-1") if system.isalpha() else "other lines"
-        passed[what] += 1
-    return len(starts), passed, starts[-1] if starts else 0
+    for system, times in collections.Counter(systems).items():
+        if system not in b"GE":
+            letter = chr(system)
+            passed[letter if letter.isascii() and letter.isalpha() else "other lines"] += times
+    for at, following, system in zip(starts, [*starts[1:], end], systems):
+        if system == GALILEO:
+            sixth = SIXTH.match(data, at, following)
+            passed[source_of(sixth[1].rstrip(b"\r")[23:42].ljust(19)) if sixth else "E no source"] += 1
+    del passed["I/NAV"]
+    return len(starts), passed
+
+
+def last_record(data, form, begin, end):
+    """Where the last record begins."""
+    if form == 4:
+        return data.rfind(b"\n>", begin - 1, end) + 1
+    at = end
+    while at > begin:
+        at = data.rfind(b"\n", begin - 1, at)
+        if START.match(data, at, end):
+            return at + 1
+    return begin
 
 
 def looked_at(path, row):
-    """Reads a file, fills its row in, and gives its version and the body that navbridge is to have."""
+    """Reads a file, fills its row in, and gives its version and the lines that navbridge is to have: those of its records."""
     try:
         with open(path, "rb") as file:
             data = file.read()
@@ -230,24 +246,20 @@ def looked_at(path, row):
     if note:
         row["notes"].append(note)
     form, start = version_of(data)
-    if form == 4:
-        found = start if data[start:start + 1] == b">" else data.find(b"\n>", start - 1) + 1 or len(data)
-    else:
-        first = NEW_RECORD.search(data, start)
-        found = first.start() if first else len(data)
-    body = data[found:]
-    if body and not body.endswith(b"\n"):
+    first = (TITLE if form == 4 else START).search(data, start - 1)
+    begin, end = first.start() + 1 if first else len(data), len(data)
+    if begin < end and data[-1:] != b"\n":
         # a number in a line without an end may be cut and still be a number, so its record is left out
-        last = body.rfind(b"\n>") + 1 if form == 4 else max((at.start() for at in NEW_RECORD.finditer(body)), default=0)
-        body = body[:last]
+        end = last_record(data, form, begin, end)
         row.update(outcome="ends short", left_out=1)
         row["notes"].append("last record left out: its last line has no end")
-    records, passed, last = (passed_in_4 if form == 4 else passed_in_3)(body)
-    above = data.count(b"\n", 0, found)
-    row.update(version=form, bytes=len(data), records=records, passed=dict(passed), above=above, last=above + 1 + last)
+    records, passed = (records_of_4 if form == 4 else records_of_3)(data, begin, end)
+    above, lines = data.count(b"\n", 0, begin), data.count(b"\n", begin, end)
+    last = above + 1 + data.count(b"\n", begin, last_record(data, form, begin, end)) if records else 0
+    row.update(version=form, bytes=len(data), records=records, passed=dict(passed), above=above, last=last)
     if not records and not row.get("left_out"):
         row["notes"].append("no records")
-    return form, body
+    return form, memoryview(data)[begin:end], lines
 
 
 # --- runs of navbridge
@@ -268,14 +280,14 @@ class Call:
             pass
         self.lines = 0
 
-    def give(self, data):
-        """Hands bytes over; why a program has gone is told by its status."""
+    def give(self, data, lines=0):
+        """Hands bytes over, so many lines; why a program has gone is told by its status."""
         try:
             self.run.stdin.write(data)
             self.run.stdin.flush()
         except BrokenPipeError:
             pass
-        self.lines += data.count(b"\n")
+        self.lines += lines
 
     def end(self):
         """The status, the lines refused with their reasons, and the counts."""
@@ -327,30 +339,30 @@ def one_run(tool, files, merged, dated):
     rows, fours, threes, held = [], [], [], []
     with open(merged, "wb") as output:
         call = Call(tool.program, ["--from", "rinex", "--to", "merged", *dated], output, merged + ".report")
-        call.give(HEADERS[4])
+        call.give(HEADERS[4], 2)
         for file in files:
             row = new_row(*file)
             rows.append(row)
             try:
-                form, body = looked_at(file[0], row)
+                form, body, lines = looked_at(file[0], row)
             except Unusable as why:
                 row["outcome"], row["notes"] = why.args[0], [why.args[1]] if why.args[1] else []
                 continue
             if form == 4:
                 row["base"] = call.lines
                 fours.append(row)
-                call.give(body)
+                call.give(body, lines)
             else:
                 threes.append(row)
-                held.append(body)
+                held.append((body, lines))
         others = (0, 0)
         if threes:
             call.give(b">\n")  # a record of its own, which is passed over: so one that is cut does not go on in the header that follows
             older = Call(tool.program, ["--from", "rinex3", "--to", "rinex", *dated], call.run.stdin.fileno(), merged + ".report3")
-            older.give(HEADERS[3])
-            for row, body in zip(threes, held):
+            older.give(HEADERS[3], 2)
+            for row, (body, lines) in zip(threes, held):
                 row["base"] = older.lines
-                older.give(body)
+                older.give(body, lines)
             try:
                 others = (settle(older, threes, (0, 0))["items"] + 1, 1)
             except Disagreed as why:
@@ -425,7 +437,8 @@ def make_cover(tool, merged, cover):
 
 def new_row(name, size, when):
     """A row of a file, before anything is known of it."""
-    return {"name": name, "size": size, "when": when, "outcome": "read", "version": "", "bytes": 0, "records": 0, "passed": {}, "refused": {}, "notes": []}
+    return {"name": name, "size": size, "when": when, "outcome": "read", "version": "", "bytes": 0, "records": 0, "passed": {}, "refused": {},
+            "notes": []}
 
 
 COLUMNS = ("outcome", "version", "bytes", "records", "refused", "passed over", "size", "time", "name", "notes")
@@ -769,6 +782,8 @@ def tell(args, rows, first):
     for row in rows:
         if row["outcome"] != "read":
             print(": ".join([shown(row["name"]), row["outcome"], *filter(None, ["; ".join(row["notes"])])]), file=sys.stderr)
+    if not rows:
+        print("merge_archive.sh: no files", file=sys.stderr)
     if not args.quiet:
         print(table(rows, first))
     return 0 if all(row["outcome"] == "read" for row in rows) else 1
