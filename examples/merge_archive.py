@@ -56,7 +56,7 @@ HEADERS = {
     4: b"     4.01           N: GNSS NAV DATA    M: MIXED            RINEX VERSION / TYPE\n" + b" " * 60 + b"END OF HEADER\n",
     3: b"     3.05           N: GNSS NAV DATA    M: MIXED            RINEX VERSION / TYPE\n" + b" " * 60 + b"END OF HEADER\n",
 }
-BATCH_BYTES = 32 << 20  # of packed files in a batch
+BATCH_BYTES = 16 << 20  # of packed files in a batch
 UNPACKED = 1 << 30  # one file may have so many bytes unpacked
 ONE_RUN = 3 << 30  # and one run of navbridge is given at most these (it takes 4 GiB)
 PART_DATE = ["--date", "20000101 000000 UTC", "--leap", "0"]  # the header of a part says nothing
@@ -521,6 +521,13 @@ def table(rows, first):
 
 # --- the run
 
+def put(path, name):
+    """Gives a file its name, when its bytes are on the disk: so a name stands for the whole, also after a power cut."""
+    with open(path, "rb") as file:
+        os.fsync(file.fileno())
+    os.replace(path, name)
+
+
 def inputs(args, own):
     """The files, as name, size and time, and rows of those that are none."""
     names = list(args.names)
@@ -605,12 +612,14 @@ class Tool:
                     shutil.rmtree(old, ignore_errors=True)
             except OSError:
                 pass
-        os.makedirs(self.work)
-        self.lock = open(os.path.join(self.work, "lock"), "wb")  # held while this run or a worker of it lives
+        fresh = self.work[:-len("part")] + "new"  # the lock is held before the folder has the name that others look for
+        os.makedirs(fresh)
+        self.lock = open(os.path.join(fresh, "lock"), "wb")  # held while this run or a worker of it lives
         try:
             fcntl.flock(self.lock, fcntl.LOCK_EX | fcntl.LOCK_NB)
         except OSError:
             pass
+        os.rename(fresh, self.work)
 
     def end(self):
         """Ends the workers and removes the folder of this run."""
@@ -634,10 +643,10 @@ class Tool:
         """Merges a batch into a part: its rows first, the part last, which is the marker."""
         merged = os.path.join(self.work, f"batch{number}")
         rows, kept = run_batch(self, files, merged, PART_DATE)
-        write_rows(merged + ".files", rows, {"kept": kept})
+        write_rows(merged + ".files", rows, {"kept": kept, "bytes": os.path.getsize(merged)})
         os.makedirs(self.parts, exist_ok=True)
-        os.replace(merged + ".files", self.part_of(files) + ".files")
-        os.replace(merged, self.part_of(files) + ".rnx")
+        put(merged + ".files", self.part_of(files) + ".files")
+        put(merged, self.part_of(files) + ".rnx")
 
     def work_off(self, batches):
         """Does the batches, as many at once as there are jobs."""
@@ -674,7 +683,7 @@ class Tool:
         for path in sorted(glob.glob(os.path.join(glob.escape(self.parts), "*.files"))):
             part = path[:-len("files")] + "rnx"
             said = read_rows(path)
-            if not said or not os.path.exists(part):
+            if not said or not os.path.exists(part) or os.path.getsize(part) != said[0].get("bytes"):
                 continue
             of_part = {row["name"]: row for row in said[1] if row["outcome"] != "unreadable"}
             if of_part and all(name not in rows and files.get(name) == (name, row["size"], row["when"]) for name, row in of_part.items()):
@@ -713,7 +722,10 @@ class Tool:
             self.work_off(batches)
             rows = list(done.values())
             for batch in batches:
-                rows += read_rows(self.part_of(batch) + ".files")[1]
+                said = read_rows(self.part_of(batch) + ".files")
+                if not said:
+                    raise Failed(f"{self.part_of(batch)}.files: was taken away; was another run told --clean?")
+                rows += said[1]
                 paths.append(self.part_of(batch) + ".rnx")
             kept = merge_files(self, paths, merged, dated)
         rows = sorted([*rows, *others], key=lambda row: row["name"])
@@ -727,7 +739,7 @@ class Tool:
             first[key] = [about.st_size, about.st_mtime_ns] if about else None
         write_rows(merged + ".files", rows, first)
         for name, path in [(self.base + ".files", merged + ".files"), *made]:
-            os.replace(path, name)
+            put(path, name)
         if self.args.clean:
             shutil.rmtree(self.parts, ignore_errors=True)
         return first, rows
@@ -784,8 +796,11 @@ def tell(args, rows, first):
             print(": ".join([shown(row["name"]), row["outcome"], *filter(None, ["; ".join(row["notes"])])]), file=sys.stderr)
     if not rows:
         print("merge_archive.sh: no files", file=sys.stderr)
-    if not args.quiet:
-        print(table(rows, first))
+    try:
+        if not args.quiet:
+            print(table(rows, first), flush=True)
+    except BrokenPipeError:  # its reader has gone, which is no fault of the merge
+        os.dup2(os.open(os.devnull, os.O_WRONLY), 1)
     return 0 if all(row["outcome"] == "read" for row in rows) else 1
 
 
