@@ -5,7 +5,8 @@ usage() {
   cat << 'END'
 cluster.sh start DIR     makes DIR and starts a Slurm in it: munged, slurmctld, four slurmd; prints the SLURM_CONF to use
 cluster.sh stop DIR      ends them (by the ids that they wrote)
-cluster.sh kill DIR N    ends node N (1 to 4) and all that runs on it, as a power cut would
+cluster.sh kill DIR N    waits, a minute at most, for a step to be at work on node N (1 to 4), and ends the node and all that runs on it,
+                         as a power cut would
 cluster.sh back DIR N    starts node N again
 
 For tries alone: it runs as root, on ports 17000 to 17004, and whoever gives it jobs is root; end it when done. Debian: slurm-wlm, munge.
@@ -69,12 +70,8 @@ PartitionName=all Nodes=n[1-4] Default=YES MaxTime=INFINITE State=UP
 END
 }
 
-# a process and all that it started, the parent first
-family() {
-  local child
-  echo "$1"
-  for child in $(ps -o pid= --ppid "$1"); do family "$child"; done
-}
+# the processes of steps at work on a node, which have its name in their environment
+on_node() { grep -lzxs "SLURMD_NODENAME=n$1" /proc/[0-9]*/environ | cut -d/ -f3; }
 
 case $verb in
   start)
@@ -98,17 +95,19 @@ case $verb in
     done
     ;;
   kill)
-    # the daemon goes first, so that it tells nobody; then the steps on the node, with all that they started
+    # the daemon goes first, so that it tells nobody; then the steps on the node, and what runs them
     slurmd=$(cat "$dir/state/n$3.pid")
-    jobs=$(squeue -h -w "n$3" -t R -o %A)
-    kill -9 "$slurmd"
-    for job in $jobs; do
-      for step in $(ps -eo pid=,args= | awk -v job="[$job." '$2 == "slurmstepd:" && index($3, job) == 1 { print $1 }'); do
-        for id in $(family "$step"); do kill -9 "$id" 2> /dev/null || true; done
-      done
+    work=
+    for _ in $(seq 1200); do
+      work=$(on_node "$3" | xargs -r ps -o comm= -p | grep -x -m 1 'navbridge\|python3' || true)
+      [ -z "$work" ] || break
+      sleep 0.05
     done
-    echo "node n$3 is gone, and with it jobs: ${jobs:-none}" | tr '\n' ' '
-    echo
+    kill -9 "$slurmd"
+    steps=$(on_node "$3")
+    runners=$(for id in $steps; do ps -o pid=,args= -p "$(ps -o ppid= -p "$id" || echo 0)" || true; done | awk '$2 == "slurmstepd:" { print $1 }' | sort -u)
+    for id in $runners $steps; do kill -9 "$id" 2> /dev/null || true; done
+    echo "node n$3 is gone, and with it ${work:-nothing} at work in $(wc -w <<< "$steps") processes"
     ;;
   back) slurmd -N "n$3" -f "$SLURM_CONF" ;;
   *) usage >&2; exit 2 ;;

@@ -9,6 +9,7 @@ a step runs on it, and compares the year with what merge_archive.sh makes of all
 fails. It ends the Slurm and leaves DIR. It is no part of the gate: as root, on ports 17000 to 17004, some five minutes for a year.
 
   --days N, --stations N   of the archive (365, 40)
+  --from FOLDER            an archive that bench/year.py made, in its place (it is linked, and stays as it is)
   --program FILE           navbridge (crates/navbridge/out/navbridge of this repository)
   --help                   this text
 
@@ -16,12 +17,13 @@ Status: 0 all as it should be; 1 something differs; 2 the words.
 END
 )
 here=$(dirname -- "$(readlink -f -- "${BASH_SOURCE[0]}")")
-days=365 stations=40 program=${PROGRAM:-$here/../../crates/navbridge/out/navbridge} dir=
+days=365 stations=40 program=${PROGRAM:-$here/../../crates/navbridge/out/navbridge} dir='' from=''
 while [ $# -gt 0 ]; do
   case $1 in
     --help) echo "$usage"; exit 0 ;;
     --days) days=$2; shift ;;
     --stations) stations=$2; shift ;;
+    --from) from=$2; shift ;;
     --program) program=$2; shift ;;
     -*) echo "try.sh: $1: no such option; --help says more" >&2; exit 2 ;;
     *) dir=$1 ;;
@@ -42,7 +44,7 @@ check() {
 tree() { "$here/submit.sh" --wait "${words[@]}" "$@" "$dir/archive" "$dir/tree" 2>&1 | sed 's/^/        /'; }
 
 began=$SECONDS
-"$here/../../bench/year.py" "$dir/archive" --days "$days" --stations "$stations" | sed 's/^/        /'
+if [ -n "$from" ]; then cp -al "$(readlink -f -- "$from")" "$dir/archive"; else "$here/../../bench/year.py" "$dir/archive" --days "$days" --stations "$stations" | sed 's/^/        /'; fi
 "$here/../merge_archive.sh" -o "$dir/once.rnx" "${words[@]}" --cover "$dir/once.cover" -q "$dir/archive"
 say "all files at once by merge_archive.sh"
 "$here/cluster.sh" start "$dir/slurm" > /dev/null
@@ -52,12 +54,11 @@ say "a Slurm of four nodes: $(sinfo -h -o '%D %t')"
 
 (tree --cover) &
 waiting=$!
-until [ -n "$(ls "$dir/tree/year" "$dir/tree/day" 2> /dev/null)" ] && [ -n "$(squeue -h -w n2 -t R -o %A)" ]; do sleep 0.05; done
-sleep 2
-until [ -n "$(squeue -h -w n2 -t R -o %A)" ]; do sleep 0.02; done
+until [ -e "$dir/tree/day" ]; do sleep 0.2; done
+sleep 3
 say "$("$here/cluster.sh" kill "$dir/slurm" 2)"
 wait "$waiting"
-say "the tree is done; $(grep -c 'JobState=NODE_FAIL\|JobState=COMPLETED' "$dir/slurm/log/jobs.txt") ends of jobs, $(grep -c NODE_FAIL "$dir/slurm/log/jobs.txt" || true) by a node that failed"
+say "the tree is done; by the log of jobs $(grep -c JobState=COMPLETED "$dir/slurm/log/jobs.txt") steps ended well, $(grep -c JobState=NODE_FAIL "$dir/slurm/log/jobs.txt" || true) lost its node"
 check "$dir/once.rnx" "$dir/tree/year/2023.rnx" "the year"
 check "$dir/once.cover" "$dir/tree/year/2023.cover" "its times covered"
 "$here/cluster.sh" back "$dir/slurm" 2
