@@ -105,7 +105,8 @@ case $verb in
     done
     kill -9 "$slurmd"
     steps=$(on_node "$3")
-    runners=$(for id in $steps; do ps -o pid=,args= -p "$(ps -o ppid= -p "$id" || echo 0)" || true; done | awk '$2 == "slurmstepd:" { print $1 }' | sort -u)
+    parents=$(for id in $steps; do ps -o ppid= -p "$id" || true; done | sort -u)
+    runners=$(for id in $parents; do ps -o pid=,args= -p "$id" || true; done | awk '$2 == "slurmstepd:" { print $1 }')
     for id in $runners $steps; do kill -9 "$id" 2> /dev/null || true; done
     echo "node n$3 is gone, and with it ${work:-nothing} at work in $(wc -w <<< "$steps") processes"
     ;;
