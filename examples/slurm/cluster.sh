@@ -70,9 +70,6 @@ PartitionName=all Nodes=n[1-4] Default=YES MaxTime=INFINITE State=UP
 END
 }
 
-# the processes of steps at work on a node, which have its name in their environment
-on_node() { grep -lzxs "SLURMD_NODENAME=n$1" /proc/[0-9]*/environ | cut -d/ -f3; }
-
 case $verb in
   start)
     write_conf
@@ -95,20 +92,33 @@ case $verb in
     done
     ;;
   kill)
-    # the daemon goes first, so that it tells nobody; then the steps on the node, and what runs them
-    slurmd=$(cat "$dir/state/n$3.pid")
-    work=
-    for _ in $(seq 1200); do
-      work=$(on_node "$3" | xargs -r ps -o comm= -p | grep -x -m 1 'navbridge\|python3' || true)
-      [ -z "$work" ] || break
-      sleep 0.05
-    done
-    kill -9 "$slurmd"
-    steps=$(on_node "$3")
-    parents=$(for id in $steps; do ps -o ppid= -p "$id" || true; done | sort -u)
-    runners=$(for id in $parents; do ps -o pid=,args= -p "$id" || true; done | awk '$2 == "slurmstepd:" { print $1 }')
-    for id in $runners $steps; do kill -9 "$id" 2> /dev/null || true; done
-    echo "node n$3 is gone, and with it ${work:-nothing} at work in $(wc -w <<< "$steps") processes"
+    # waits until navbridge or its script is at work on the node, and ends the daemon, what runs the steps, and the steps, at once
+    python3 - "$(cat "$dir/state/n$3.pid")" "n$3" << 'END'
+import os, sys, time
+
+daemon, node = int(sys.argv[1]), sys.argv[2].encode()
+
+def read(id, what):
+    try:
+        with open(f"/proc/{id}/{what}", "rb") as file:
+            return file.read()
+    except OSError:
+        return b""
+
+until, work, steps = time.monotonic() + 60, [], []
+while not work and time.monotonic() < until:
+    time.sleep(0.02)
+    steps = [int(id) for id in os.listdir("/proc") if id.isdigit() and b"SLURMD_NODENAME=" + node in read(id, "environ").split(b"\0")]
+    work = [name for name in (read(id, "comm").decode().strip() for id in steps) if name in ("navbridge", "python3")]
+parents = {int(read(id, "stat").rpartition(b")")[2].split()[1]) for id in steps if read(id, "stat")}
+runners = [id for id in parents if read(id, "cmdline").startswith(b"slurmstepd:")]
+for id in [daemon, *runners, *steps]:
+    try:
+        os.kill(id, 9)
+    except ProcessLookupError:
+        pass
+print(f"node {node.decode()} is gone, with {len(runners)} step and {len(steps)} processes of it, at work: {', '.join(sorted(set(work))) or 'nothing'}")
+END
     ;;
   back) slurmd -N "n$3" -f "$SLURM_CONF" ;;
   *) usage >&2; exit 2 ;;
