@@ -56,7 +56,7 @@ HEADERS = {
     4: b"     4.01           N: GNSS NAV DATA    M: MIXED            RINEX VERSION / TYPE\n" + b" " * 60 + b"END OF HEADER\n",
     3: b"     3.05           N: GNSS NAV DATA    M: MIXED            RINEX VERSION / TYPE\n" + b" " * 60 + b"END OF HEADER\n",
 }
-BATCH_BYTES = 16 << 20  # of packed files in a batch
+BATCH_BYTES = 128 << 20  # in a batch, unpacked, as far as names tell: those of version 3 are held in memory
 UNPACKED = 1 << 30  # one file may have so many bytes unpacked
 ONE_RUN = 3 << 30  # and one run of navbridge is given at most these (it takes 4 GiB)
 PART_DATE = ["--date", "20000101 000000 UTC", "--leap", "0"]  # the header of a part says nothing
@@ -578,11 +578,12 @@ def batches_of(files, limit, jobs):
     limit = min(limit, max(8, -(-len(files) // jobs)))
     batches, size = [], 0
     for file in files:
-        if not batches or len(batches[-1]) == limit or size + file[1] > BATCH_BYTES:
+        unpacked_size = file[1] * (4 if file[0].endswith((".gz", ".Z")) else 1)
+        if not batches or len(batches[-1]) == limit or size + unpacked_size > BATCH_BYTES:
             batches.append([])
             size = 0
         batches[-1].append(file)
-        size += file[1]
+        size += unpacked_size
     return batches
 
 

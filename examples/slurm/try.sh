@@ -67,9 +67,9 @@ tree --cover
 say "submitted again: nothing to do"
 late=$dir/archive/2023/002/LATE00XXX_R_20230020000_01D_MN.rnx
 cp "$here/../merged.rnx" "$late"
-before=$(find "$dir/tree" -name '*.rnx' -printf '%p %T@\n' | sort)
+before=$(find "$dir/tree" -path '*.parts' -prune -o -name '*.rnx' -printf '%p %T@\n' | sort)
 tree --cover
-after=$(find "$dir/tree" -name '*.rnx' -printf '%p %T@\n' | sort)
+after=$(find "$dir/tree" -path '*.parts' -prune -o -name '*.rnx' -printf '%p %T@\n' | sort)
 say "a late file of a day; made anew: $(comm -13 <(echo "$before") <(echo "$after") | sed "s|^$dir/tree/||; s|\.rnx .*||" | tr '\n' ' ')"
 "$here/../merge_archive.sh" -o "$dir/once.rnx" "${words[@]}" -q "$dir/archive"
 check "$dir/once.rnx" "$dir/tree/year/2023.rnx" "the year with it"
