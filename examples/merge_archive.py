@@ -255,7 +255,7 @@ def looked_at(path, row):
         row["notes"].append("last record left out: its last line has no end")
     records, passed = (records_of_4 if form == 4 else records_of_3)(data, begin, end)
     above, lines = data.count(b"\n", 0, begin), data.count(b"\n", begin, end)
-    last = above + 1 + data.count(b"\n", begin, last_record(data, form, begin, end)) if records else 0
+    last = above + 1 + lines - data.count(b"\n", last_record(data, form, begin, end), end) if records else 0
     row.update(version=form, bytes=len(data), records=records, passed=dict(passed), above=above, last=last)
     if not records and not row.get("left_out"):
         row["notes"].append("no records")
