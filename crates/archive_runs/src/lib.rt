@@ -25,8 +25,6 @@ mod follow;
 mod merge;
 mod run;
 mod runs;
-#[cfg(test)]
-mod tests;
 
 pub use crate::counts::MergeCounts;
 pub use crate::runs::{run_cover, run_merge};

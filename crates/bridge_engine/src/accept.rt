@@ -8,7 +8,7 @@ use capture_lines::read_first;
 use gnss_week::RefWeek;
 
 // A first line that is accepted: the window in seconds, and the week.
-#[derive(Clone, Copy, PartialEq, Eq)]
+#[derive(Clone, Copy)]
 pub(crate) struct Accepted {
     pub(crate) window: u32,
     pub(crate) week: RefWeek,

@@ -34,7 +34,7 @@ pub struct CaptureCounts {
 }
 
 // What the lines of a capture come to, but for the parts that they bring.
-#[derive(Clone, Copy, PartialEq, Eq)]
+#[derive(Clone, Copy)]
 pub(crate) struct Tally {
     pub(crate) malformed: u64,
     pub(crate) late: u64,
@@ -57,7 +57,7 @@ impl Tally {
 }
 
 // What is said of the periods.
-#[derive(Clone, Copy, PartialEq, Eq)]
+#[derive(Clone, Copy)]
 pub(crate) struct Said {
     pub(crate) whole: u64,
     pub(crate) partial: u64,

@@ -33,8 +33,6 @@ mod report;
 mod settle;
 mod take;
 mod target;
-#[cfg(test)]
-mod tests;
 
 pub use crate::capture::run_capture;
 pub use crate::counts::CaptureCounts;

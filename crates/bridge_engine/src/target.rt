@@ -1,7 +1,7 @@
 use rinex_write::HeaderWords;
 
 /// What a capture is converted to.
-#[derive(Clone, Copy, PartialEq, Eq)]
+#[derive(Clone, Copy)]
 pub enum CaptureTo {
     /// A navigation file (RINEX 4.01), whose header says these words.
     Rinex(HeaderWords),

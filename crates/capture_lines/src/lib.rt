@@ -25,8 +25,6 @@ mod item;
 mod laws;
 mod line;
 mod numbers;
-#[cfg(test)]
-mod tests;
 mod write;
 
 pub use crate::head::{CaptureHead, read_first};

@@ -23,8 +23,6 @@
 mod event;
 mod laws;
 mod reading;
-#[cfg(test)]
-mod tests;
 
 pub use crate::event::{Event, Refusal};
 pub use crate::laws::{

@@ -18,8 +18,6 @@ mod powers;
 mod register;
 mod shifts;
 mod tables;
-#[cfg(test)]
-mod tests;
 
 pub use crate::laws::{
     bits_have_their_crc, bits_of_bytes_have_their_crc, crc_of_a_sum, crc_of_joined_bytes,

@@ -28,8 +28,6 @@ mod dates;
 mod laws;
 mod moment;
 mod numbers;
-#[cfg(test)]
-mod tests;
 mod weeks;
 
 pub use crate::calendar::{Civil, WeekFault};

@@ -29,8 +29,6 @@ mod laws;
 mod page;
 mod seconds;
 mod signal;
-#[cfg(test)]
-mod tests;
 
 pub use crate::fault::HalfFault;
 pub use crate::half::{Half, HalfKind, read_half, write_half};

@@ -22,8 +22,6 @@ mod laws;
 mod parts;
 mod ranges;
 mod read;
-#[cfg(test)]
-mod tests;
 mod word;
 mod word1;
 mod word2;

@@ -9,7 +9,7 @@ use crate::word5::Word5;
 use nav_bits::{BitForm, Bits, U};
 
 /// A word by its type, with its fields as they stand (Galileo OS SIS ICD, 4.3.5).
-#[derive(Clone, Copy, PartialEq, Eq)]
+#[derive(Clone, Copy)]
 pub enum Word {
     /// Type 1.
     One(Word1),

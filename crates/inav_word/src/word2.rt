@@ -2,7 +2,7 @@ use nav_bits::{Layout, S, U, put_numbers};
 
 /// The fields of I/NAV word 2, the second part of the orbit, in their order behind the type
 /// (Galileo OS SIS ICD, 4.3.5).
-#[derive(Clone, Copy, PartialEq, Eq)]
+#[derive(Clone, Copy)]
 pub struct Word2 {
     /// Issue of data.
     pub iodnav: U<10>,

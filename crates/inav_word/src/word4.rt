@@ -2,7 +2,7 @@ use nav_bits::{Layout, S, U, put_numbers};
 
 /// The fields of I/NAV word 4, the satellite, the last part of the orbit and the clock, in their
 /// order behind the type (Galileo OS SIS ICD, 4.3.5).
-#[derive(Clone, Copy, PartialEq, Eq)]
+#[derive(Clone, Copy)]
 pub struct Word4 {
     /// Issue of data.
     pub iodnav: U<10>,

@@ -2,7 +2,7 @@ use nav_bits::{Layout, S, U, put_numbers};
 
 /// The fields of I/NAV word 5, the ionosphere, the delays, the health and the time of sending, in
 /// their order behind the type (Galileo OS SIS ICD, 4.3.5).
-#[derive(Clone, Copy, PartialEq, Eq)]
+#[derive(Clone, Copy)]
 pub struct Word5 {
     /// Effective ionisation level, in 2^-2 solar flux units.
     pub ai0: U<11>,

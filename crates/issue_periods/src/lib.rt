@@ -28,13 +28,9 @@ mod kept;
 mod laws;
 mod plain;
 mod run;
-#[cfg(test)]
-mod samples;
-#[cfg(test)]
-mod tests;
 
 pub use crate::assembly::Assembly;
-pub use crate::laws::old_is_far;
+pub use crate::laws::{old_is_far, one_next};
 pub use crate::plain::PlainAssembly;
 pub use crate::run::add_periods;
 pub use period_items::{

@@ -35,8 +35,6 @@ mod sent;
 mod stream;
 mod streams;
 mod target;
-#[cfg(test)]
-mod tests;
 
 pub use crate::counts::{RinexCounts, StreamCounts, file_counts_text};
 pub use crate::file::pass_header;

@@ -7,7 +7,7 @@ ghost use Rattle.item_runs.specs.Mirrors.{MaySet};
 const PLACES: usize = 256;
 
 // Payloads of `N` bytes: in each place the last one that was kept there.
-#[derive(Drop)]
+#[derive(PartialEq, Eq, Drop)]
 pub(crate) struct Seen<const N: usize> {
     pub(crate) places: [Option<[u8; N]>; PLACES],
 }

@@ -3,7 +3,7 @@
 use rinex_write::HeaderWords;
 
 /// What a stream is converted to.
-#[derive(Clone, Copy, PartialEq, Eq)]
+#[derive(Clone, Copy)]
 pub enum StreamTo {
     /// A navigation file of RINEX 4.01, whose header says these words.
     Rinex(HeaderWords),
@@ -14,7 +14,7 @@ pub enum StreamTo {
 }
 
 /// What a navigation file is converted to.
-#[derive(Clone, Copy, PartialEq, Eq)]
+#[derive(Clone, Copy)]
 pub enum RinexTo {
     /// A navigation file of RINEX 4.01, whose header says these words.
     Rinex(HeaderWords),

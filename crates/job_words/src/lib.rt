@@ -14,8 +14,6 @@
 mod command;
 mod laws;
 mod options;
-#[cfg(test)]
-mod tests;
 
 pub use crate::laws::{words_give_values_in_one_way, words_spell_options_in_one_way};
 pub use crate::options::{Found, options_of};

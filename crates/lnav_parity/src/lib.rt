@@ -19,8 +19,6 @@
 
 mod laws;
 mod parity;
-#[cfg(test)]
-mod tests;
 mod word;
 
 pub use crate::laws::{

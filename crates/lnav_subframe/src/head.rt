@@ -2,7 +2,7 @@ use nav_bits::{Layout, U, put_numbers};
 
 /// What each subframe says of itself (IS-GPS-200, 20.3.3.1 and 20.3.3.2), in its 300 bits: its
 /// count, its number and its page. Written, it is a page of subframe 4 or 5 of which all else is 0.
-#[derive(Clone, Copy, PartialEq, Eq)]
+#[derive(Clone, Copy)]
 pub struct Head {
     /// How many times 6 s of the week have passed when the next subframe starts.
     pub count: U<17>,

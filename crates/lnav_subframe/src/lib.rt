@@ -32,8 +32,6 @@ mod orbit;
 mod out;
 mod page18;
 mod read;
-#[cfg(test)]
-mod tests;
 mod words;
 mod write;
 

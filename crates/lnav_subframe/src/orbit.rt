@@ -1,7 +1,7 @@
 use nav_bits::{Layout, S, U, put_numbers};
 
 /// The fields of subframe 2 in its 300 bits (IS-GPS-200, figure 20-1, sheet 2).
-#[derive(Clone, Copy, PartialEq, Eq)]
+#[derive(Clone, Copy)]
 pub struct Subframe2 {
     /// How many times 6 s of the week have passed when the next subframe starts.
     pub count: U<17>,
@@ -110,7 +110,7 @@ impl Layout for Subframe2 {
 }
 
 /// The fields of subframe 3 in its 300 bits (IS-GPS-200, figure 20-1, sheet 3).
-#[derive(Clone, Copy, PartialEq, Eq)]
+#[derive(Clone, Copy)]
 pub struct Subframe3 {
     /// How many times 6 s of the week have passed when the next subframe starts.
     pub count: U<17>,

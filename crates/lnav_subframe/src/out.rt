@@ -2,7 +2,7 @@ use nav_bits::U;
 use nav_eph::{GpsClock, GpsIon, GpsOrbitA, GpsOrbitB, GpsSide};
 
 /// What a subframe is written from.
-#[derive(Clone, Copy, PartialEq, Eq)]
+#[derive(Clone, Copy)]
 pub enum SubframeOut {
     /// Subframe 1.
     Clock {

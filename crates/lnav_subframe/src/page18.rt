@@ -1,7 +1,7 @@
 use nav_bits::{Layout, S, U, put_numbers};
 
 /// The fields of page 18 of subframe 4 in its 300 bits (IS-GPS-200, figure 20-1, sheet 8).
-#[derive(Clone, Copy, PartialEq, Eq)]
+#[derive(Clone, Copy)]
 pub struct Page18 {
     /// How many times 6 s of the week have passed when the next subframe starts.
     pub count: U<17>,

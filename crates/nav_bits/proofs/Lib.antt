@@ -6,4 +6,5 @@ pub mod PutFields
 pub mod TwosComplement
 pub mod WholeNumbers
 pub mod PackedFields
+mod OnePut
 pub mod Surface

@@ -1,6 +1,6 @@
 ghost use Rattle.std.specs.Prelude.{◌≡◌, ℕ, ◌+◌, ◌*◌, ◌^◌, ◌%◌, ◌<◌, ◌≤◌, List, slice_index, ℤ};
 ghost use Rattle.std.specs.Int.{bytes_high_first};
-ghost use Rattle.nav_bits.specs.Bits.{number_at};
+ghost use Rattle.nav_bits.specs.Bits.{number_at, Puts};
 ghost use Rattle.nav_bits.specs.Fields.{Field, StandFrom, table_width};
 ghost use Rattle.nav_bits.specs.Packed.{AllFit, AreBytes, ZerosFrom, packed};
 ghost use Rattle.nav_bits.specs.Signed.{IsSigned, signed_of, unsigned_of};
@@ -55,4 +55,16 @@ pub fn packed_are_the_only()
     ensures { (n : ℕ) (fields : List Field) (bytes : List ℕ) → AllFit fields →
         table_width fields ≡ 8 * n → AreBytes n bytes → StandFrom bytes 0 0 fields →
         ZerosFrom bytes 0 0 fields → bytes ≡ packed n fields }
+{}
+
+/// Where a number is put into bytes, what comes of them is determined.
+pub fn one_put()
+    ensures { (n at width value : ℕ) (old a b : List ℕ) → at + width ≤ 8 * n → AreBytes n a →
+        AreBytes n b → Puts old a at width value → Puts old b at width value → a ≡ b }
+{}
+
+/// A number has one pair of high and low digits.
+pub fn one_split()
+    ensures { (l high low high' low' : ℕ) → low < 2 ^ l → low' < 2 ^ l →
+        high * 2 ^ l + low ≡ high' * 2 ^ l + low' → (high ≡ high') × (low ≡ low') }
 {}

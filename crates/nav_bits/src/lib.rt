@@ -31,15 +31,13 @@ mod laws;
 mod layout;
 mod places;
 mod signed;
-#[cfg(test)]
-mod tests;
 mod unsigned;
 
 pub use crate::bits::Bits;
 pub use crate::fields::put_numbers;
 pub use crate::laws::{
-    append, byte, byte_lists, digits_of_signed_numbers, one_number_for_digits, packed_are_the_only,
-    packed_stand, signed_numbers_fit,
+    append, byte, byte_lists, digits_of_signed_numbers, one_number_for_digits, one_put, one_split,
+    packed_are_the_only, packed_stand, signed_numbers_fit,
 };
 pub use crate::layout::{BitForm, Layout};
 pub use crate::signed::S;

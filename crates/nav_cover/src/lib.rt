@@ -17,9 +17,7 @@ mod cover;
 mod laws;
 mod range;
 mod sweep;
-#[cfg(test)]
-mod tests;
 
 pub use crate::cover::Cover;
-pub use crate::laws::covering;
+pub use crate::laws::{covering, one_cover};
 pub use crate::range::CoverRange;

@@ -34,8 +34,6 @@ mod same;
 mod sat;
 mod steps;
 mod tag;
-#[cfg(test)]
-mod tests;
 
 pub use crate::galileo::{GalHealth, GalWord1, GalWord2, GalWord3, GalWord4};
 pub use crate::gps::{GpsClock, GpsOrbitA, GpsOrbitB, GpsSide};

@@ -34,13 +34,9 @@ ghost use Rattle.nav_io.specs.Front.{AppendsFront};
 
 mod edge;
 mod laws;
-#[cfg(test)]
-mod line_tests;
 mod lines;
 mod memory;
 mod pieces;
-#[cfg(test)]
-mod tests;
 
 pub use crate::edge::{ReadSource, WriteSink};
 pub use crate::laws::{

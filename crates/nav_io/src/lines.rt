@@ -36,7 +36,7 @@ pub enum LineKind {
 }
 
 /// Why `Lines::next` gives no line.
-#[derive(Clone, Copy, Debug, PartialEq, Eq)]
+#[derive(Clone, Copy, PartialEq, Eq, Debug)]
 pub enum LineFault {
     /// A read failed. Nothing that was taken is lost, and a further call goes on.
     ReadFault = 1,

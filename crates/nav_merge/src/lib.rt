@@ -17,8 +17,6 @@ mod laws;
 mod merge;
 mod numbers;
 mod ranked;
-#[cfg(test)]
-mod tests;
 
 pub use crate::laws::merging;
 pub use crate::merge::Merge;

@@ -23,8 +23,6 @@ mod lines;
 mod pages;
 mod senders;
 mod sending;
-#[cfg(test)]
-mod tests;
 mod values;
 
 pub use crate::capture::make_capture;

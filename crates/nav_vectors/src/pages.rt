@@ -18,7 +18,7 @@ use nav_eph::{GalIon, Sat, System};
 use std::alloc::{AllocError, Global};
 
 /// The two halves of a page.
-#[derive(Clone, Copy, PartialEq, Eq)]
+#[derive(Clone, Copy)]
 pub struct Page {
     /// The even one.
     pub even: Bits<15>,

@@ -8,7 +8,7 @@ use inav_page::Signal;
 use std::alloc::{AllocError, Global};
 
 /// What one line of the capture says: that something was sent at a stamp, in seconds.
-#[derive(Clone, Copy, PartialEq, Eq)]
+#[derive(Clone, Copy)]
 pub enum Sending {
     /// A subframe of the satellite of GPS with that number.
     Subframe {

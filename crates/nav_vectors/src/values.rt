@@ -12,7 +12,7 @@ use nav_eph::{
 };
 
 /// The ephemeris of a satellite of GPS.
-#[derive(Clone, Copy, PartialEq, Eq)]
+#[derive(Clone, Copy)]
 pub struct GpsValues {
     /// The clock, of subframe 1.
     pub clock: GpsClock,
@@ -27,7 +27,7 @@ pub struct GpsValues {
 }
 
 /// The ephemeris of a satellite of Galileo.
-#[derive(Clone, Copy, PartialEq, Eq)]
+#[derive(Clone, Copy)]
 pub struct GalValues {
     /// Of word 1.
     pub w1: GalWord1,

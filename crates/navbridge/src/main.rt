@@ -3,52 +3,14 @@
 //! The program reads standard input and writes standard output. Its words name a job, as
 //! `navbridge --from stream --to frames`, which writes a line for each RTCM 3 frame of a stream
 //! (RTCM 10403.3, section 4): its message number and the length of its payload. The status says how
-//! it ended; [`statuses::bridge`] lists them.
+//! it ended; [`nav_jobs::bridge`] lists them.
 #![tactic(auto)]
 
 use nav_io::{ReadSource, WriteSink};
+use nav_jobs::bridge;
 use std::env;
 use std::io::ErrorKind;
 use std::process::ExitCode;
-
-#[cfg(test)]
-mod archive_rows;
-#[cfg(test)]
-mod bits;
-#[cfg(test)]
-mod capture_tests;
-#[cfg(test)]
-mod cut_rows;
-#[cfg(test)]
-mod each_fault;
-#[cfg(test)]
-mod failures;
-#[cfg(test)]
-mod file_rows;
-#[cfg(test)]
-mod health_rows;
-mod job;
-mod laws;
-#[cfg(test)]
-mod over_memory;
-#[cfg(test)]
-mod rinex3_rows;
-#[cfg(test)]
-mod rows;
-mod run;
-#[cfg(test)]
-mod seed_rows;
-#[cfg(test)]
-mod sent_rows;
-mod statuses;
-#[cfg(test)]
-mod stream_rows;
-mod table;
-#[cfg(test)]
-mod tests;
-#[cfg(test)]
-mod texts;
-mod values;
 
 // No memory for the list of words.
 const NO_MEMORY: u8 = 6;
@@ -71,6 +33,6 @@ fn main(rt: HostRuntime) -> ExitCode {
     let mut input = ReadSource::new(rt.stdin());
     let mut output = WriteSink::new(rt.stdout());
     let mut report = WriteSink::new(rt.stderr());
-    let status = statuses::bridge(rt.alloc(), &words, &mut input, &mut output, &mut report);
+    let status = bridge(rt.alloc(), &words, &mut input, &mut output, &mut report);
     ExitCode::from(status)
 }

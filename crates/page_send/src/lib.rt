@@ -29,8 +29,6 @@ mod fault;
 mod laws;
 mod lines;
 mod slot;
-#[cfg(test)]
-mod tests;
 
 pub use crate::fault::{SendFault, can_send};
 pub use crate::laws::{sent_text_goes_on, what_may_be_sent};

@@ -2,7 +2,7 @@ use crate::key::{Key, Place};
 use nav_eph::NavItem;
 
 /// What a period comes to by itself.
-#[derive(Clone, Copy, PartialEq, Eq)]
+#[derive(Clone, Copy)]
 pub enum Finding {
     /// Two members of one kind differ in content.
     Differs,

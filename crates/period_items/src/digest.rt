@@ -16,7 +16,7 @@ pub enum Seen<T> {
 }
 
 /// What members of a key of GPS ephemerides come to.
-#[derive(Clone, Copy, PartialEq, Eq)]
+#[derive(Clone, Copy)]
 pub struct GpsDigest {
     /// The clocks.
     pub clock: Seen<GpsClock>,
@@ -35,7 +35,7 @@ pub struct GpsDigest {
 }
 
 /// What members of a key of Galileo ephemerides come to.
-#[derive(Clone, Copy, PartialEq, Eq)]
+#[derive(Clone, Copy)]
 pub struct GalDigest {
     /// The words 1.
     pub w1: Seen<GalWord1>,
@@ -48,7 +48,7 @@ pub struct GalDigest {
 }
 
 /// What members of a key come to, one at least.
-#[derive(Clone, Copy, PartialEq, Eq)]
+#[derive(Clone, Copy)]
 pub enum Digest {
     /// Of a key of GPS ephemerides.
     Gps(GpsDigest),

@@ -17,7 +17,7 @@ pub enum Key {
 }
 
 /// A period's end and its key: there is at most one period of a key with an end.
-#[derive(Clone, Copy, PartialEq, Eq)]
+#[derive(Clone, Copy)]
 pub struct Place {
     /// The stamp of the last part of the period.
     pub end: u32,
@@ -26,7 +26,7 @@ pub struct Place {
 }
 
 /// Who sent an ionosphere, and when.
-#[derive(Clone, Copy, PartialEq, Eq)]
+#[derive(Clone, Copy)]
 pub struct Sending {
     /// The second at which it was heard, as the logger counts.
     pub stamp: u32,

@@ -34,8 +34,6 @@ mod key;
 mod laws;
 mod order;
 mod search;
-#[cfg(test)]
-mod tests;
 mod value;
 
 pub use crate::closed::{Closed, Finding, Verdict};

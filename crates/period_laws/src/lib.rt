@@ -13,7 +13,5 @@
 #![tactic(auto)]
 
 mod laws;
-#[cfg(test)]
-mod tests;
 
 pub use crate::laws::{each_stamp_has_one_end, later_stamps_change_no_closed_end, one_more_stamp};

@@ -23,8 +23,6 @@
 mod form;
 mod laws;
 mod records;
-#[cfg(test)]
-mod tests;
 mod write;
 
 pub use crate::form::Rinex3;

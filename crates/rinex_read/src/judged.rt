@@ -51,7 +51,7 @@ pub enum HeaderFault {
 }
 
 /// How far a header was read.
-#[derive(Clone, Copy, PartialEq, Eq)]
+#[derive(Clone, Copy)]
 pub enum HeaderState {
     /// No line of it was read.
     New,

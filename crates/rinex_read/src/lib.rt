@@ -37,10 +37,6 @@ mod reader;
 mod reason;
 mod record;
 mod said;
-#[cfg(test)]
-mod test_items;
-#[cfg(test)]
-mod tests;
 mod title;
 
 pub use crate::form::{FileForm, Rinex4};

@@ -5,7 +5,7 @@ use scaled_decimal::Scale;
 /// A field is a whole number: the raw number of a parameter as it is sent, the index of an
 /// accuracy, the fit interval flag, or the second of sending, which is 999,900,000 where it is not
 /// known.
-#[derive(Clone, Copy, PartialEq, Eq)]
+#[derive(Clone, Copy)]
 pub enum Rule {
     /// The number is the field, from `low` to `high`.
     Plain {
@@ -37,7 +37,7 @@ pub enum Rule {
 }
 
 /// A column of a record: 19 characters with the number of a field.
-#[derive(Clone, Copy, PartialEq, Eq)]
+#[derive(Clone, Copy)]
 pub struct Column {
     /// What the number counts.
     pub scale: Scale,

@@ -10,7 +10,7 @@ use crate::record::{Record, append};
 use nav_io::{Failed, Sink};
 
 /// What a header says of its file, beside what each header says.
-#[derive(Clone, Copy, PartialEq, Eq)]
+#[derive(Clone, Copy)]
 pub struct HeaderWords {
     /// When the file was made, in 19 characters as `20240101 000000 UTC`.
     pub date: [u8; 19],

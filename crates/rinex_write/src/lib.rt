@@ -29,10 +29,6 @@ mod laws;
 mod layouts;
 mod numbers;
 mod record;
-#[cfg(test)]
-mod test_items;
-#[cfg(test)]
-mod tests;
 
 pub use crate::columns::{Column, Rule};
 pub use crate::header::{HeaderWords, write_header, write_header_of};

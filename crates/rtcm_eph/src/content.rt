@@ -4,7 +4,7 @@ use nav_eph::{
 };
 
 /// What message 1019 brings: an ephemeris of GPS, its week in ten digits.
-#[derive(Clone, Copy, PartialEq, Eq)]
+#[derive(Clone, Copy)]
 pub struct GpsContent {
     /// The satellite.
     pub sat: Sat,
@@ -23,7 +23,7 @@ pub struct GpsContent {
 }
 
 /// What message 1046 brings: an ephemeris of Galileo, its week in twelve digits.
-#[derive(Clone, Copy, PartialEq, Eq)]
+#[derive(Clone, Copy)]
 pub struct GalContent {
     /// The satellite.
     pub sat: Sat,
@@ -42,7 +42,7 @@ pub struct GalContent {
 }
 
 /// What an ephemeris message brings.
-#[derive(Clone, Copy, PartialEq, Eq)]
+#[derive(Clone, Copy)]
 pub enum Content {
     /// Message 1019.
     Gps(GpsContent),

@@ -28,8 +28,6 @@ mod message1019;
 mod message1046;
 mod read;
 mod satellite;
-#[cfg(test)]
-mod tests;
 mod write;
 
 pub use crate::content::{Content, GalContent, GpsContent};

@@ -2,7 +2,7 @@ use nav_bits::{Layout, S, U, put_numbers};
 
 /// The fields of message 1019, the ephemeris of a GPS satellite, in their order behind the message
 /// number (RTCM 10403.3, 3.5, message type 1019).
-#[derive(Clone, Copy, PartialEq, Eq)]
+#[derive(Clone, Copy)]
 pub struct Message1019 {
     /// The number of the satellite.
     pub satellite: U<6>,

@@ -2,7 +2,7 @@ use nav_bits::{Layout, S, U, put_numbers};
 
 /// The fields of message 1046, the I/NAV ephemeris of a Galileo satellite, in their order behind
 /// the message number (RTCM 10403.3, 3.5, message type 1046).
-#[derive(Clone, Copy, PartialEq, Eq)]
+#[derive(Clone, Copy)]
 pub struct Message1046 {
     /// The number of the satellite.
     pub satellite: U<6>,

@@ -4,7 +4,7 @@ ghost use Rattle.std.specs.Prelude.{◌≡◌, ℕ, ◌+◌, ◌≤◌, length, 
 ghost use Rattle.std.specs.Prelude.{Bool, List, [], take, drop};
 ghost use Rattle.rtcm_frame.specs.Frames.{frame_size, frames, decided, undecided, after_first};
 ghost use Rattle.rtcm_frame.specs.Standard.{AreBytes, BeginsFrame};
-ghost use Rattle.rtcm_frame.specs.State.{IsWaiting, payload_of};
+ghost use Rattle.rtcm_frame.specs.State.{IsWaiting, payload_of, TakesFrame, TakesNone};
 ghost use Rattle.rtcm_frame.specs.Writing.{frame_bytes};
 ghost use Rattle.rtcm_frame.specs.Places.{AreChosen, is_chosen, frames_from, IsUnfinished};
 ghost use Rattle.rtcm_frame.specs.Places.{IsOpenPlace};
@@ -70,4 +70,15 @@ pub fn written_frames_are_whole()
 pub fn frames_behind_a_written_frame()
     ensures { (payload more : List ℕ) → length payload ≤ 1023
         → frames (frame_bytes payload ++ more) ≡ frame_bytes payload ∷ frames more }
+{}
+
+/// A deframer has one answer: one frame or none, and one rest.
+pub fn one_frame_is_next()
+    ensures frame { (more : Bool) (old frame new frame' new' : List ℕ)
+        → TakesFrame more old frame new → TakesFrame more old frame' new'
+        → (frame ≡ frame') × (new ≡ new') }
+    ensures none { (more : Bool) (old new new' : List ℕ)
+        → TakesNone more old new → TakesNone more old new' → new ≡ new' }
+    ensures either { (more : Bool) (old frame new new' : List ℕ)
+        → TakesFrame more old frame new → TakesNone more old new' → ⊥ }
 {}

@@ -28,8 +28,6 @@ mod form;
 mod frame;
 mod laws;
 mod states;
-#[cfg(test)]
-mod tests;
 mod window;
 mod writing;
 
@@ -38,6 +36,7 @@ pub use frame::{Frame, frame_of};
 pub use laws::{
     decided_frames_stand_before_the_open_place, decided_frames_stay, frames_after_the_first,
     frames_are_at_the_chosen_places, frames_are_those_of_the_standard,
-    frames_behind_a_written_frame, nothing_is_decided_while_bytes_wait, written_frames_are_whole,
+    frames_behind_a_written_frame, nothing_is_decided_while_bytes_wait, one_frame_is_next,
+    written_frames_are_whole,
 };
 pub use writing::write_frame;

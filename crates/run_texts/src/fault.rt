@@ -1,7 +1,7 @@
 use thiserror::Error;
 
 /// Why a run ended before it was done.
-#[derive(Clone, Copy, Debug, PartialEq, Eq, Error)]
+#[derive(Clone, Copy, PartialEq, Eq, Debug, Error)]
 pub enum BridgeFault {
     /// The input failed: its count of faults rose in the run, or stands at its last value.
     #[error("ReadFault")]

@@ -18,8 +18,6 @@ mod fault;
 mod listed;
 mod report;
 mod sent;
-#[cfg(test)]
-mod tests;
 mod text;
 
 pub use crate::fault::BridgeFault;

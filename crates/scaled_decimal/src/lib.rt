@@ -21,8 +21,6 @@ mod powers;
 mod printing;
 mod reading;
 mod scales;
-#[cfg(test)]
-mod tests;
 
 pub use crate::grammar::{Span, is_decimal, leading_digits, trimmed};
 pub use crate::laws::{

@@ -14,7 +14,7 @@ use crate::scales::Scale;
 use thiserror::Error;
 
 /// Why a text gives no number, in the order in which it is judged.
-#[derive(Clone, Copy, Debug, PartialEq, Eq, Error)]
+#[derive(Clone, Copy, PartialEq, Eq, Debug, Error)]
 pub enum DecimalFault {
     /// Blanks alone, or nothing.
     #[error("blank")]

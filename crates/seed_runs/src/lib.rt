@@ -24,8 +24,6 @@ mod count;
 mod laws;
 mod seed;
 mod target;
-#[cfg(test)]
-mod tests;
 
 pub use crate::laws::generated_captures_are_accepted;
 pub use crate::seed::run_seed;

@@ -1,7 +1,7 @@
 use bridge_engine::CaptureCounts;
 
 /// What a generated capture is converted to.
-#[derive(Clone, Copy, PartialEq, Eq)]
+#[derive(Clone, Copy)]
 pub enum SeedTo {
     /// The capture itself.
     Capture,

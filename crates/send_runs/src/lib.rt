@@ -29,8 +29,6 @@ mod file;
 mod files;
 mod laws;
 mod records;
-#[cfg(test)]
-mod tests;
 mod told;
 
 pub use crate::files::{send_rinex, send_rinex3};

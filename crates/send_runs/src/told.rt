@@ -13,7 +13,7 @@ use page_send::{SendFault, can_send};
 use rinex_read::{ItemRead, Reason};
 
 /// What becomes of a record of a navigation file of which the ephemerides are sent.
-#[derive(Clone, Copy, PartialEq, Eq)]
+#[derive(Clone, Copy)]
 pub enum Told {
     /// An ephemeris that is sent.
     Sent {

@@ -23,11 +23,7 @@ mod assembly;
 mod healths;
 mod known;
 mod order;
-#[cfg(test)]
-mod samples;
 mod slot;
 mod slots;
-#[cfg(test)]
-mod tests;
 
 pub use crate::assembly::SlotAssembly;

@@ -16,7 +16,7 @@ use std::alloc::{AllocError, Global};
 
 /// An open period: its key, the stamps of its first and its last member, and what its members come
 /// to.
-#[derive(Clone, Copy, PartialEq, Eq)]
+#[derive(Clone, Copy)]
 pub struct Slot {
     /// What its parts are parts of.
     pub key: Key,
@@ -29,7 +29,7 @@ pub struct Slot {
 }
 
 /// A slot of an ionosphere, as it is kept.
-#[derive(Clone, Copy, PartialEq, Eq)]
+#[derive(Clone, Copy)]
 pub struct IonSlot {
     /// What its parts are parts of.
     pub key: Key,

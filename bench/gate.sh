@@ -1,0 +1,53 @@
+#!/usr/bin/env bash
+# What the gate costs from nothing, crate by crate.
+set -euo pipefail
+
+usage() {
+    cat <<'END'
+usage: bench/gate.sh                       prints the table of the last run
+       bench/gate.sh run [PROCESSORS]      runs the whole gate from nothing over what is committed, in a clone, and prints
+                                           the table; PROCESSORS as taskset has them, such as 0,1
+
+For each crate the processor seconds of its proof, of its tests, of the checks that its wrong bodies begin and end with
+(seed), of its wrong bodies, and of what is compiled of a program; how many checks of wrong bodies there were, and the
+longest single check by the clock. The last line has the whole: minutes by the clock and of processor time.
+END
+}
+
+top=$(git -C "$(dirname "$0")" rev-parse --show-toplevel)
+record=${XDG_CACHE_HOME:-$HOME/.cache}/navbridge/gate.json
+
+case ${1:-} in
+'')
+    if [ ! -e "$record" ]; then
+        echo "gate.sh: no run is recorded on this machine: bench/gate.sh run" >&2
+        exit 1
+    fi
+    ;;
+run)
+    room=$(mktemp -d)
+    trap 'rm -rf "$room"' EXIT
+    git clone -q "$top" "$room/clone"
+    cd "$room/clone"
+    lanes=${2:-}
+    count=$(nproc)
+    with=()
+    if [ -n "$lanes" ]; then
+        with=(taskset -c "$lanes")
+        count=$("${with[@]}" nproc)
+    fi
+    status=0
+    RT_JOBS=$count "${with[@]}" python3 "$top/bench/gate_times.py" run "$record" -- rt ci --anew || status=$?
+    python3 "$top/bench/gate_times.py" show "$record"
+    exit "$status"
+    ;;
+-h | --help)
+    usage
+    exit 0
+    ;;
+*)
+    usage >&2
+    exit 2
+    ;;
+esac
+python3 "$top/bench/gate_times.py" show "$record"

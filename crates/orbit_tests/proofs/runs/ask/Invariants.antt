@@ -1,0 +1,9 @@
+use Rattle.std.proofs.Common.{◌≤◌}
+use Rattle.issue_periods.specs.Standing.{Stood}
+use Rattle.orbit_tests.proofs.runs.ask.Given as goal
+
+abbrev pub invariant-asking : goal.invariant-asking
+invariant-asking g l = Stood (g.T.Assembly.stands_for l.assembly) (λ at. at.mark ≤ l.mark)
+
+abbrev pub decreases-asking : goal.decreases-asking
+decreases-asking g l = g.T.Assembly.left l.assembly

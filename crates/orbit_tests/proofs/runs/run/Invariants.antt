@@ -1,0 +1,9 @@
+use Rattle.std.proofs.Common.{◌≤◌}
+use Rattle.issue_periods.specs.Standing.{Stood}
+use Rattle.orbit_tests.proofs.runs.run.Given as goal
+
+abbrev pub invariant-parts : goal.invariant-parts
+invariant-parts g l = Stood (g.T.Assembly.stands_for l.assembly) (λ at. at.mark ≤ l.mark)
+
+abbrev pub invariant-marks : goal.invariant-marks
+invariant-marks g l = Stood (g.T.Assembly.stands_for l.assembly) (λ at. at.mark ≤ l.mark)

@@ -1,0 +1,171 @@
+use crate::samples;
+use crate::samples::{clock, gps, orbit_a, orbit_b, word1, word2, word3, word4};
+use gnss_week::{Moment, Second, Week};
+use nav_bits::{S, U};
+use nav_eph::{
+    Body, GalEph, GalHealth, GalIon, GalWord2, GpsEph, GpsIon, GpsSide, IonContent, IonEph,
+    NavItem, Part, Sat, SentSecond, SentTag, Sisa, Step16, Step60, System, gal_sending_number,
+    gps_sending_number,
+};
+use std::test::Fail;
+
+fn side() -> GpsSide {
+    GpsSide {
+        l2_code: U::from_digits(1),
+        ura: U::from_digits(2),
+        health: U::from_digits(63),
+        l2p: U::from_digits(1),
+    }
+}
+
+fn health() -> GalHealth {
+    GalHealth {
+        bgd_a: S::from_digits(0x3FF),
+        bgd_b: S::from_digits(1),
+        hs_e5b: U::from_digits(2),
+        hs_e1b: U::from_digits(3),
+        dvs_e5b: U::from_digits(1),
+        dvs_e1b: U::from_digits(0),
+    }
+}
+
+fn gps_ionosphere() -> GpsIon {
+    GpsIon {
+        alpha0: S::from_digits(0xFF),
+        alpha1: S::from_digits(0x7F),
+        alpha2: S::from_digits(0),
+        alpha3: S::from_digits(0),
+        beta0: S::from_digits(0),
+        beta1: S::from_digits(0),
+        beta2: S::from_digits(0),
+        beta3: S::from_digits(0x80),
+    }
+}
+
+fn galileo_ionosphere() -> GalIon {
+    GalIon {
+        ai0: U::from_digits(0x7FF),
+        ai1: S::from_digits(0x7FF),
+        ai2: S::from_digits(0),
+        regions: U::from_digits(16),
+    }
+}
+
+#[test]
+fn small_values(rt: HostRuntime) -> Result<(), Fail> {
+    let step16 = Step16::new(37_799).ok_or("steps")?;
+    let step60 = Step60::new(10_079).ok_or("steps")?;
+    let sisa = Sisa::new(255).ok_or("an index")?;
+    let last = Sat::new(System::Gps, 32).ok_or("a satellite")?;
+    let first = Sat::new(System::Gal, 1).ok_or("a satellite")?;
+    let values = (step16.value(), step60.value(), sisa.value());
+    let name = (last.system(), last.number());
+    let order = last < first && last.is_before(&first);
+    assert!(rt; values == (37_799, 10_079, 255) && name == (System::Gps, 32) && order);
+    Ok(())
+}
+
+#[test]
+fn numbers(rt: HostRuntime) -> Result<(), Fail> {
+    let wn = U::from_digits(247);
+    let second = Second::new(604_799).ok_or("a second")?;
+    let sent = SentTag::Sent { wn, second };
+    let toe = SentTag::Toe { wn, second };
+    let numbers = [
+        side().number(),
+        sent.number(),
+        toe.number(),
+        health().number_with(&sent) >> 33,
+        IonContent::Gps(gps_ionosphere()).number(),
+        IonContent::Gal(galileo_ionosphere()).number(),
+        gps_sending_number(second),
+        gal_sending_number(U::from_digits(0xFFF), second),
+    ];
+    let wanted = [
+        0b01_0010_111111_1,
+        0x0_0F7_93A7F,
+        0x1_0F7_93A7F,
+        0b1111111111_0000000001_10_11_1_0,
+        0xFF7F_0000_0000_0080,
+        0b11111111111_11111111111_00000000000000_10000,
+        604_799,
+        0xFFF_93A7F,
+    ];
+    assert!(rt; numbers == wanted);
+    Ok(())
+}
+
+// A clock of issue 7 and a health of Galileo, sent in the second 0 of a week number.
+fn clock_body(wn: U<12>) -> Option<Body> {
+    let second = Second::new(0)?;
+    let clock = clock(U::from_digits(7), Step16::new(0)?);
+    Some(Body::GpsClock(clock, side(), SentTag::Sent { wn, second }))
+}
+
+fn health_body(wn: U<12>) -> Option<Body> {
+    let second = Second::new(0)?;
+    Some(Body::GalHealth(health(), SentTag::Sent { wn, second }))
+}
+
+#[test]
+fn parts(rt: HostRuntime) -> Result<(), Fail> {
+    let sat = gps(5)?;
+    let (last, next) = (U::from_digits(1_023), U::from_digits(1_024));
+    let part = Part::new(60, sat, clock_body(last).ok_or("a clock")?);
+    let long = Part::new(60, sat, clock_body(next).ok_or("a clock")?);
+    let other = Part::new(60, sat, health_body(next).ok_or("a health")?);
+    assert!(rt; part.ok_or("a part")?.stamp == 60 && long.is_none() && other.is_none());
+    Ok(())
+}
+
+// The ephemeris of issue 7 of G05.
+fn ephemeris(sent: SentSecond) -> Result<Option<GpsEph>, Fail> {
+    let zero = Step16::new(0).ok_or("steps")?;
+    let clock = clock(U::from_digits(7), zero);
+    let a = orbit_a(U::from_digits(7), S::from_digits(0), zero);
+    let b = orbit_b(U::from_digits(7));
+    let week = Week::new(2_295).ok_or("a week")?;
+    let fit = U::from_digits(0);
+    Ok(GpsEph::new(gps(5)?, clock, side(), a, fit, b, week, sent))
+}
+
+// The ionosphere that G05 says at a moment.
+fn ionosphere(seconds: u64) -> Result<Option<IonEph>, Fail> {
+    let moment = Moment::new(seconds).ok_or("a moment")?;
+    Ok(IonEph::new(gps(5)?, moment, IonContent::Gps(gps_ionosphere())))
+}
+
+#[test]
+fn items(rt: HostRuntime) -> Result<(), Fail> {
+    let late = NavItem::Gps(ephemeris(SentSecond::At(907_199))?.ok_or("an ephemeris")?);
+    let early = NavItem::Gps(ephemeris(SentSecond::At(-302_400))?.ok_or("an ephemeris")?);
+    let eph = ephemeris(SentSecond::Unknown)?.ok_or("an ephemeris")?;
+    let b = orbit_b(U::from_digits(8));
+    late.ranges();
+    let whole = late.is_whole() && !NavItem::Gps(GpsEph { b, ..eph }).is_whole();
+    let alike = late.is_alike(&early) && !late.is_same(&early);
+    let too_late = ephemeris(SentSecond::At(907_200))?;
+    assert!(rt; whole && alike && too_late.is_none());
+    let ion = ionosphere(604_800)?.ok_or("an ionosphere")?;
+    assert!(rt; ion.sat == gps(5)? && ionosphere(604_799)?.is_none());
+    Ok(())
+}
+
+// The ephemeris of issue 63 of E05 with another second word.
+fn galileo_ephemeris(w2: GalWord2) -> Result<Option<GalEph>, Fail> {
+    let issue = U::from_digits(63);
+    let zero = Step60::new(0).ok_or("steps")?;
+    let sisa = Sisa::new(107).ok_or("an index")?;
+    let (w1, w3, w4) = (word1(issue, zero), word3(issue, sisa), word4(issue, zero));
+    let week = Week::new(2_295).ok_or("a week")?;
+    let sent = SentSecond::Unknown;
+    Ok(GalEph::new(samples::galileo(5)?, w1, w2, w3, w4, health(), week, sent))
+}
+
+#[test]
+fn galileo(rt: HostRuntime) -> Result<(), Fail> {
+    let eph = galileo_ephemeris(word2(U::from_digits(63)))?.ok_or("an ephemeris")?;
+    let other = galileo_ephemeris(word2(U::from_digits(64)))?;
+    assert!(rt; eph.w3.sisa.value() == 107 && other.is_none());
+    Ok(())
+}

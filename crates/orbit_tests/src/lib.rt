@@ -1,0 +1,29 @@
+//! Tests of weeks, ephemerides and the periods in which they are heard.
+//!
+//! A module for each library below: `gnss_week`, `nav_eph`, `nav_merge`, `nav_cover`, `period_laws`
+//! and `period_items`, `issue_periods`, `slot_assembly`, `nav_vectors`. The expected values come from
+//! outside: from the interface documents, or from programs written apart from these libraries.
+#![tactic(auto)]
+
+#[cfg(test)]
+mod captures;
+#[cfg(test)]
+mod covers;
+#[cfg(test)]
+mod ephemerides;
+#[cfg(test)]
+mod merges;
+#[cfg(test)]
+mod parts;
+#[cfg(test)]
+mod period_sets;
+#[cfg(test)]
+mod periods;
+#[cfg(test)]
+mod runs;
+#[cfg(test)]
+mod samples;
+#[cfg(test)]
+mod slots;
+#[cfg(test)]
+mod weeks;

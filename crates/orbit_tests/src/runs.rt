@@ -1,0 +1,83 @@
+//! Runs of an assembly, each period with the mark at which it was given.
+
+ghost use Rattle.std.specs.Prelude.{◌≤◌, OnOk};
+ghost use Rattle.issue_periods.specs.Standing.{Stood};
+
+use crate::parts::{A, B, C, parts_of};
+use issue_periods::{Assembly, Closed, Verdict};
+use nav_eph::Part;
+use std::alloc::{AllocError, Global};
+use std::test::Fail;
+
+// A window of two hours, and the week of 2023-12-31.
+pub(crate) const WINDOW: u32 = 7_200;
+
+pub(crate) const WEEK: u32 = 2_295;
+
+// A letter for a verdict.
+pub(crate) fn letter(verdict: &Verdict) -> char {
+    match verdict {
+        Verdict::Whole(_) => 'w',
+        Verdict::Partial => 'p',
+        Verdict::Contradicted => 'c',
+        Verdict::NoHealth => 'n',
+        Verdict::Again => 'a',
+    }
+}
+
+// Adds what is closed at a mark.
+fn ask<T: Assembly>(
+    assembly: &mut T,
+    mark: u64,
+    periods: &mut Vec<(u64, Closed)>,
+) -> Result<(), AllocError>
+    requires { Stood (T.stands_for assembly.old) (λ at. at.mark ≤ mark) }
+    ensures { OnOk result (Stood (T.stands_for assembly.new) (λ at. at.mark ≤ mark)) }
+{
+    'asking: while let Some(closed) = assembly.next_closed(mark)? {
+        periods.push((mark, closed))?;
+    }
+    Ok(())
+}
+
+// The periods of parts that are taken in order, each asked for as soon as it is closed, and at each
+// of these marks in the end; a part that comes too late is left out.
+pub(crate) fn run<T: Assembly>(
+    assembly: &mut T,
+    parts: &[Part],
+    marks: &[u64],
+    periods: &mut Vec<(u64, Closed)>,
+) -> Result<(), AllocError>
+    requires { Stood (T.stands_for assembly.old) (λ at. at.mark ≤ 0) }
+{
+    let mut mark: u64 = 0;
+    'parts: for part in parts {
+        if mark <= part.stamp as u64 {
+            mark = part.stamp as u64;
+            ask(assembly, mark, periods)?;
+            assembly.take(part)?;
+        }
+    }
+    'marks: for next in marks {
+        mark = mark.max(*next);
+        ask(assembly, mark, periods)?;
+    }
+    Ok(())
+}
+
+// It gives the period of three parts at the first mark that lies far enough behind it, and not again.
+pub(crate) fn gives_a_period_once<T: Assembly>(
+    alloc: Global,
+    assembly: &mut T,
+) -> Result<bool, Fail>
+    requires { Stood (T.stands_for assembly.old) (λ at. at.mark ≤ 0) }
+{
+    let parts = parts_of(alloc, &[(0, A), (6, B), (12, C)])?;
+    let mut given = Vec::new(alloc);
+    let marks = [7_212, 7_213, 7_213, u64::MAX];
+    run(assembly, parts.as_slice(), &marks, &mut given)?;
+    Ok(match given.as_slice() {
+        [(mark, closed)] => (*mark, closed.end, letter(&closed.verdict)) == (7_213, 12, 'w'),
+        _ => false,
+    })
+}

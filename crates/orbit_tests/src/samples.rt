@@ -1,0 +1,147 @@
+//! Values that several tests use. A number is 0 where nothing else is said.
+
+use gnss_week::{Moment, Week};
+use nav_bits::{S, U};
+use nav_eph::{
+    GalWord1, GalWord2, GalWord3, GalWord4, GpsClock, GpsEph, GpsIon, GpsOrbitA, GpsOrbitB,
+    GpsSide, IonContent, IonEph, NavItem, Sat, SentSecond, Sisa, Step16, Step60, System,
+};
+use std::test::Fail;
+
+pub(crate) fn gps(number: u8) -> Result<Sat, Fail> {
+    Ok(Sat::new(System::Gps, number).ok_or("a satellite")?)
+}
+
+pub(crate) fn galileo(number: u8) -> Result<Sat, Fail> {
+    Ok(Sat::new(System::Gal, number).ok_or("a satellite")?)
+}
+
+pub(crate) fn clock(issue: U<10>, toc: Step16) -> GpsClock {
+    GpsClock {
+        iodc: issue,
+        toc,
+        af2: S::from_digits(0),
+        af1: S::from_digits(0),
+        af0: S::from_digits(0),
+        tgd: S::from_digits(0),
+    }
+}
+
+pub(crate) fn side(ura: U<4>, health: U<6>) -> GpsSide {
+    GpsSide {
+        l2_code: U::from_digits(0),
+        ura,
+        health,
+        l2p: U::from_digits(0),
+    }
+}
+
+pub(crate) fn orbit_a(issue: U<8>, m0: S<32>, toe: Step16) -> GpsOrbitA {
+    GpsOrbitA {
+        iode: issue,
+        crs: S::from_digits(0),
+        delta_n: S::from_digits(0),
+        m0,
+        cuc: S::from_digits(0),
+        e: U::from_digits(0),
+        cus: S::from_digits(0),
+        root_a: U::from_digits(0),
+        toe,
+    }
+}
+
+pub(crate) fn orbit_b(issue: U<8>) -> GpsOrbitB {
+    GpsOrbitB {
+        iode: issue,
+        cic: S::from_digits(0),
+        omega0: S::from_digits(0),
+        cis: S::from_digits(0),
+        i0: S::from_digits(0),
+        crc: S::from_digits(0),
+        omega: S::from_digits(0),
+        omega_dot: S::from_digits(0),
+        idot: S::from_digits(0),
+    }
+}
+
+pub(crate) fn word1(issue: U<10>, toe: Step60) -> GalWord1 {
+    GalWord1 {
+        iodnav: issue,
+        toe,
+        m0: S::from_digits(0),
+        e: U::from_digits(0),
+        root_a: U::from_digits(0),
+    }
+}
+
+pub(crate) fn word2(issue: U<10>) -> GalWord2 {
+    GalWord2 {
+        iodnav: issue,
+        omega0: S::from_digits(0),
+        i0: S::from_digits(0),
+        omega: S::from_digits(0),
+        idot: S::from_digits(0),
+    }
+}
+
+pub(crate) fn word3(issue: U<10>, sisa: Sisa) -> GalWord3 {
+    GalWord3 {
+        iodnav: issue,
+        omega_dot: S::from_digits(0),
+        delta_n: S::from_digits(0),
+        cuc: S::from_digits(0),
+        cus: S::from_digits(0),
+        crc: S::from_digits(0),
+        crs: S::from_digits(0),
+        sisa,
+    }
+}
+
+pub(crate) fn word4(issue: U<10>, toc: Step60) -> GalWord4 {
+    GalWord4 {
+        iodnav: issue,
+        cic: S::from_digits(0),
+        cis: S::from_digits(0),
+        toc,
+        af0: S::from_digits(0),
+        af1: S::from_digits(0),
+        af2: S::from_digits(0),
+    }
+}
+
+pub(crate) fn gps_ionosphere() -> GpsIon {
+    GpsIon {
+        alpha0: S::from_digits(11),
+        alpha1: S::from_digits(0),
+        alpha2: S::from_digits(0),
+        alpha3: S::from_digits(0),
+        beta0: S::from_digits(44),
+        beta1: S::from_digits(0),
+        beta2: S::from_digits(0),
+        beta3: S::from_digits(0),
+    }
+}
+
+// The ephemeris of G05 of a toe in steps of week 2295.
+pub(crate) fn ephemeris(toe: u64, m0: S<32>, fit: U<1>, sent: SentSecond) -> Result<NavItem, Fail> {
+    let toe = Step16::new(toe).ok_or("a time")?;
+    Ok(NavItem::Gps(GpsEph {
+        sat: gps(5)?,
+        clock: clock(U::from_digits(0), toe),
+        side: side(U::from_digits(0), U::from_digits(0)),
+        a: orbit_a(U::from_digits(0), m0, toe),
+        fit,
+        b: orbit_b(U::from_digits(0)),
+        toe_week: Week::new(2_295).ok_or("a week")?,
+        sent,
+    }))
+}
+
+// The ionosphere that G07 says at the start of week 2295.
+pub(crate) fn ionosphere() -> Result<NavItem, Fail> {
+    Ok(NavItem::Ion(IonEph {
+        sat: gps(7)?,
+        moment: Moment::new(1_388_016_000).ok_or("a moment")?,
+        content: IonContent::Gps(gps_ionosphere()),
+    }))
+}

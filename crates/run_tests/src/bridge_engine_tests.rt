@@ -1,0 +1,192 @@
+//! Whole captures: what a run over them lists, and what the assembly that keeps all parts makes of the parts that their
+//! lines bring.
+
+ghost use Rattle.std.specs.Prelude.{◌≤◌};
+
+use bridge_engine::{CaptureTo, run_capture};
+use capture_lines::{LineItem, read_line};
+use gnss_week::RefWeek;
+use inav_page::{Halves, read_half};
+use inav_word::{WordParts, read_word};
+use issue_periods::{PlainAssembly, add_periods};
+use lnav_subframe::read_subframe;
+use nav_eph::Part;
+use nav_io::{MemSink, MemSource};
+use nav_vectors::make_capture;
+use period_items::{Closed, Key, Verdict};
+use run_texts::{Text, append, append_decimal, append_hex, append_issue};
+use std::alloc::{AllocError, Global};
+use std::test::Fail;
+
+// The bytes of a capture that are taken with a short window: some 200 seconds.
+const FRONT: usize = 40_000;
+
+// More bytes than a capture has.
+const WHOLE: usize = 4_000_000;
+
+// The first line of a generated capture, which tells a window of two hours, and the same with one minute.
+const TWO_HOURS: &[u8] = b"NAVCAP 1\n";
+
+const ONE_MINUTE: &[u8] = b"NAVCAP 2 2295 60\n";
+
+// The lines behind the first of a generated capture, up to so many bytes of it.
+fn lines_of(alloc: Global, seed: u32, week: RefWeek, most: usize) -> Result<Vec<u8>, AllocError> {
+    let mut text = make_capture(alloc, seed, 2, week)?;
+    text.truncate(most);
+    match text.strip_prefix(TWO_HOURS) {
+        Some(lines) => lines.to_vec(alloc),
+        None => Ok(Vec::new(alloc)),
+    }
+}
+
+// Adds the parts that a line brings.
+fn add_parts(
+    item: &LineItem,
+    halves: &mut Halves,
+    parts: &mut Vec<Part>,
+) -> Result<(), AllocError> {
+    match item {
+        LineItem::Lnav { stamp, sat, bits } => {
+            if let Ok(part) = read_subframe(bits, *sat, *stamp) {
+                parts.push(part)?;
+            }
+        }
+        LineItem::Half {
+            stamp,
+            sat,
+            signal,
+            bits,
+        } => {
+            if let Ok(half) = read_half(bits) {
+                let joined = halves.take(*stamp, *sat, *signal, &half)?;
+                for i in 0..joined.len() {
+                    if let Ok(WordParts { first, second }) = read_word(
+                        joined.word(i),
+                        *sat,
+                        joined.stamp(),
+                    ) {
+                        parts.push(first)?;
+                        if let Some(second) = second {
+                            parts.push(second)?;
+                        }
+                    }
+                }
+            }
+        }
+        _ => {}
+    }
+    Ok(())
+}
+
+// The parts that the lines bring.
+fn parts_of(alloc: Global, lines: &[u8], window: u32) -> Result<Vec<Part>, AllocError>
+    requires least { 60 ≤ window }
+    requires most { window ≤ 14400 }
+{
+    let mut halves = Halves::new(alloc, window);
+    let mut parts = Vec::new(alloc);
+    for line in lines.split(|c| *c == b'\n') {
+        add_parts(&read_line(line), &mut halves, &mut parts)?;
+    }
+    Ok(parts)
+}
+
+// What is said of a period, in a word.
+fn word_of(verdict: &Verdict) -> &'static [u8] {
+    match verdict {
+        Verdict::Whole(_) => b"whole",
+        Verdict::Partial => b"partial",
+        Verdict::Contradicted => b"contradicted",
+        Verdict::NoHealth => b"nohealth",
+        Verdict::Again => b"again",
+    }
+}
+
+// The line of a period in a list.
+fn line_of(closed: &Closed) -> Text {
+    let mut text = Text::new();
+    append_decimal(&mut text, u64::from(closed.end));
+    append(&mut text, b" ");
+    match &closed.key {
+        Key::Gps(sat, issue) => append_issue(&mut text, *sat, issue.value()),
+        Key::Gal(sat, issue) => append_issue(&mut text, *sat, issue.value()),
+        Key::GpsIon(content) => {
+            append(&mut text, b"ION G ");
+            append_hex(&mut text, 16, content.number());
+        }
+        Key::GalIon(content) => {
+            append(&mut text, b"ION E ");
+            append_hex(&mut text, 11, content.number());
+        }
+    }
+    append(&mut text, b" ");
+    text
+}
+
+// The list of the periods of all parts of the lines, by the assembly that keeps them all.
+fn plain_list(
+    alloc: Global,
+    lines: &[u8],
+    week: RefWeek,
+    window: u32,
+) -> Result<Vec<u8>, AllocError>
+    requires least { 60 ≤ window }
+    requires most { window ≤ 14400 }
+{
+    let parts = parts_of(alloc, lines, window)?;
+    let mut assembly = PlainAssembly::new(alloc, week, window);
+    let mut periods = Vec::new(alloc);
+    add_periods(&mut assembly, &parts, &mut periods)?;
+    let mut list = Vec::new(alloc);
+    for closed in &periods {
+        list.extend_from_slice(line_of(closed).as_slice())?;
+        list.extend_from_slice(word_of(&closed.verdict))?;
+        list.extend_from_slice(b"\n")?;
+    }
+    Ok(list)
+}
+
+// Whether a run over the lines behind this first one lists the same, and some.
+fn lists(
+    alloc: Global,
+    first: &[u8],
+    lines: &[u8],
+    week: RefWeek,
+    list: &[u8],
+) -> Result<bool, AllocError> {
+    let mut output = MemSink::new(alloc, 1_000_000, Vec::new(alloc))?;
+    let mut report = MemSink::new(alloc, 1_000_000, Vec::new(alloc))?;
+    let text = [first, lines].concat(alloc)?;
+    let mut input = MemSource::new(text, Vec::new(alloc), Vec::new(alloc));
+    let to = CaptureTo::ToList;
+    let counts = run_capture(alloc, Some(week), &to, &mut input, &mut output, &mut report);
+    Ok(counts.is_ok() && list.len() > 100 && output.bytes() == list)
+}
+
+// Whether both assemblies list the same periods of a generated capture, and some.
+fn list_the_same(
+    alloc: Global,
+    seed: u32,
+    first: &[u8],
+    window: u32,
+    most: usize,
+) -> Result<bool, Fail>
+    requires least { 60 ≤ window }
+    requires most { window ≤ 14400 }
+{
+    let week = RefWeek::new(2295).ok_or("a week")?;
+    let lines = lines_of(alloc, seed, week, most)?;
+    let list = plain_list(alloc, &lines, week, window)?;
+    Ok(lists(alloc, first, &lines, week, &list)?)
+}
+
+#[test]
+fn both_assemblies_list_the_same(rt: HostRuntime) -> Result<(), Fail> {
+    let seeds: [u32; 5] = [1, 2, 3, 4, 5];
+    for seed in seeds {
+        let front = list_the_same(rt.alloc(), seed, ONE_MINUTE, 60, FRONT)?;
+        let whole = list_the_same(rt.alloc(), seed, TWO_HOURS, 7_200, WHOLE)?;
+        assert!(rt; front && whole);
+    }
+    Ok(())
+}

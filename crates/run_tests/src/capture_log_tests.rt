@@ -1,0 +1,60 @@
+//! What readers answer, as events.
+
+use capture_log::{
+    Event, Refusal, lines_bring_what_is_heard, message_event, order_of_lines_is_nothing,
+    subframe_event, taken_parts_are_heard, what_is_closed_stays, word_event,
+};
+use inav_word::WordFault;
+use lnav_subframe::LnavFault;
+use nav_bits::{S, U};
+use nav_eph::{Body, GpsOrbitB, Part, Sat, System};
+use rtcm_eph::MessageFault;
+use std::test::Fail;
+
+#[test]
+fn a_part_is_heard(rt: HostRuntime) -> Result<(), Fail> {
+    let orbit = GpsOrbitB {
+        iode: U::from_digits(85),
+        cic: S::from_digits(0),
+        omega0: S::from_digits(0),
+        cis: S::from_digits(0),
+        i0: S::from_digits(0),
+        crc: S::from_digits(0),
+        omega: S::from_digits(0),
+        omega_dot: S::from_digits(0),
+        idot: S::from_digits(0),
+    };
+    let part = Part {
+        stamp: 6,
+        sat: Sat::new(System::Gps, 5).ok_or("a satellite")?,
+        body: Body::GpsB(orbit),
+    };
+    assert!(rt; subframe_event(Ok(part)) == Event::Heard(part));
+    Ok(())
+}
+
+#[test]
+fn what_is_refused_and_what_is_not_used(rt: HostRuntime) -> Result<(), Fail> {
+    let parity = Refusal::Parity { word: 7 };
+    let subframes = subframe_event(Err(LnavFault::Parity { word: 7 })) == Event::Refused(parity)
+        && subframe_event(Err(LnavFault::Unused {
+            number: 4,
+            page: 55,
+        })) == Event::Unused;
+    let words = word_event(WordFault::WrongSat) == Event::Refused(Refusal::Satellite)
+        && word_event(WordFault::OtherWord { number: 6 }) == Event::Unused;
+    let messages = message_event(MessageFault::Short) == Event::Refused(Refusal::Short)
+        && message_event(MessageFault::OtherMessage { number: 1005 }) == Event::Unused;
+    assert!(rt; subframes && words && messages);
+    Ok(())
+}
+
+#[test]
+fn laws_cost_nothing(rt: HostRuntime) -> Result<(), Fail> {
+    taken_parts_are_heard();
+    lines_bring_what_is_heard();
+    order_of_lines_is_nothing();
+    what_is_closed_stays();
+    assert!(rt; Event::Late != Event::Malformed);
+    Ok(())
+}

@@ -1,0 +1,157 @@
+//! Small inputs through each run.
+
+ghost use Rattle.item_runs.specs.Targets.{HasFileLeap, HasStreamLeap};
+
+use gnss_week::RefWeek;
+use item_runs::{RinexCounts, RinexTo, StreamCounts, StreamTo, run_rinex, run_rinex3, run_stream};
+use nav_io::{MemSink, MemSource};
+use rinex_write::HeaderWords;
+use run_texts::BridgeFault;
+use std::alloc::{AllocError, Global};
+use std::test::Fail;
+
+// Message 1019 of an ephemeris of G05 in week 2295 whose other fields are 0, as a frame.
+const FRAME: &[u8] =
+    b"\xd3\x00\x3d\x3f\xb1\x4f\x70\0\0\0\0\0\0\0\0\0\0\0\0\0\0\0\0\0\0\0\0\0\0\0\0\0\0\0\0\0\0\0\0\0\0\0\0\0\0\0\0\0\0\0\0\0\0\0\0\0\0\0\0\0\0\0\0\0\xd1\xac\x12";
+
+// A frame with no payload.
+const EMPTY_FRAME: &[u8] = b"\xd3\x00\x00\x47\xea\x4b";
+
+// What the header of a file says.
+const WORDS: HeaderWords = HeaderWords {
+    date: *b"20240101 000000 UTC",
+    leap: 18,
+};
+
+// A source over these bytes, in pieces of one byte.
+fn source_of(alloc: Global, bytes: &[u8]) -> Result<MemSource, AllocError> {
+    let cuts = vec![in alloc; 1u32; 4000]?;
+    Ok(MemSource::new(bytes.to_vec(alloc)?, cuts, Vec::new(alloc)))
+}
+
+// An empty sink.
+fn sink_of(alloc: Global) -> Result<MemSink, AllocError> {
+    MemSink::new(alloc, 4000, Vec::new(alloc))
+}
+
+// Runs over a stream, and what it ended with.
+fn stream_run(
+    alloc: Global,
+    to: &StreamTo,
+    bytes: &[u8],
+    output: &mut MemSink,
+    report: &mut MemSink,
+) -> Result<Result<StreamCounts, BridgeFault>, Fail>
+    requires { HasStreamLeap to.now }
+{
+    let r = RefWeek::new(2295).ok_or("a reference week")?;
+    let mut input = source_of(alloc, bytes)?;
+    Ok(run_stream(alloc, r, to, &mut input, output, report))
+}
+
+// Runs over a file of either form, and what it ended with.
+fn file_run(
+    alloc: Global,
+    to: &RinexTo,
+    older: bool,
+    bytes: &[u8],
+    output: &mut MemSink,
+    report: &mut MemSink,
+) -> Result<Result<RinexCounts, BridgeFault>, AllocError>
+    requires { HasFileLeap to.now }
+{
+    let mut input = source_of(alloc, bytes)?;
+    if older {
+        Ok(run_rinex3(to, &mut input, output, report))
+    } else {
+        Ok(run_rinex(to, &mut input, output, report))
+    }
+}
+
+// Whether a file of RINEX 4 becomes this, and reports this.
+fn file_becomes(
+    alloc: Global,
+    to: &RinexTo,
+    bytes: &[u8],
+    text: &[u8],
+    reported: &[u8],
+) -> Result<bool, AllocError>
+    requires { HasFileLeap to.now }
+{
+    let mut output = sink_of(alloc)?;
+    let mut report = sink_of(alloc)?;
+    let counts = file_run(alloc, to, false, bytes, &mut output, &mut report)?;
+    let want = RinexCounts {
+        records: 1,
+        refused: 0,
+        passed: 0,
+        items: 1,
+    };
+    Ok(counts == Ok(want) && output.bytes() == text && report.bytes() == reported)
+}
+
+// Whether a file of RINEX 3 becomes itself again, and is no file of RINEX 4.
+fn stays(alloc: Global, bytes: &[u8]) -> Result<bool, AllocError> {
+    let mut again = sink_of(alloc)?;
+    let mut none = sink_of(alloc)?;
+    let mut report = sink_of(alloc)?;
+    let to = RinexTo::Rinex3(WORDS);
+    let counts = file_run(alloc, &to, true, bytes, &mut again, &mut report)?;
+    let other = file_run(alloc, &to, false, bytes, &mut none, &mut report)?;
+    Ok(
+        counts.is_ok()
+            && again.bytes() == bytes
+            && other == Err(BridgeFault::NotThisForm)
+            && none.bytes().is_empty(),
+    )
+}
+
+#[test]
+fn gives_an_ephemeris_of_a_stream_once(rt: HostRuntime) -> Result<(), Fail> {
+    let bytes = [FRAME, EMPTY_FRAME, FRAME].concat(rt.alloc())?;
+    let mut output = sink_of(rt.alloc())?;
+    let mut report = sink_of(rt.alloc())?;
+    let counts = stream_run(
+        rt.alloc(),
+        &StreamTo::Rtcm,
+        &bytes,
+        &mut output,
+        &mut report,
+    )?;
+    let want = StreamCounts {
+        frames: 3,
+        refused: 0,
+        unused: 1,
+        items: 1,
+    };
+    assert!(rt;
+        counts == Ok(want)
+            && output.bytes() == FRAME
+            && report.bytes() == b"frames 3\nrefused 0\nunused 1\nitems 1\n".as_slice()
+    );
+    Ok(())
+}
+
+#[test]
+fn converts_a_stream_to_files_and_back(rt: HostRuntime) -> Result<(), Fail> {
+    let mut file = sink_of(rt.alloc())?;
+    let mut report = sink_of(rt.alloc())?;
+    let to = StreamTo::Rinex(WORDS);
+    let counts = stream_run(rt.alloc(), &to, FRAME, &mut file, &mut report)?;
+    let one: &[u8] = b"records 1\nrefused 0\npassed 0\nitems 1\n";
+    let line: &[u8] = b"5 EPH G05 0 2295 0\n";
+    let list = file_becomes(rt.alloc(), &RinexTo::ToList, file.bytes(), line, one)?;
+    let frames = file_becomes(rt.alloc(), &RinexTo::Rtcm, file.bytes(), FRAME, one)?;
+    assert!(rt; counts.is_ok() && list && frames);
+    Ok(())
+}
+
+#[test]
+fn converts_a_file_of_the_older_form(rt: HostRuntime) -> Result<(), Fail> {
+    let mut file = sink_of(rt.alloc())?;
+    let mut report = sink_of(rt.alloc())?;
+    let to = StreamTo::Rinex3(WORDS);
+    let counts = stream_run(rt.alloc(), &to, FRAME, &mut file, &mut report)?;
+    assert!(rt; counts.is_ok() && stays(rt.alloc(), file.bytes())?);
+    Ok(())
+}

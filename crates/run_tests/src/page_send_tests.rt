@@ -1,0 +1,254 @@
+//! One ephemeris of each system as an independent encoder writes it, and the reasons not to send.
+
+ghost use Rattle.std.specs.Prelude.{◌↔◌, IsTrue};
+ghost use Rattle.page_send.specs.Sendable.{IsEphemeris};
+
+use gnss_week::{RefWeek, Week};
+use nav_bits::{S, U};
+use nav_eph::{
+    GalEph, GalHealth, GalWord1, GalWord2, GalWord3, GalWord4, GpsClock, GpsEph, GpsOrbitA,
+    GpsOrbitB, GpsSide, NavItem, Sat, SentSecond, Sisa, Step16, Step60, System,
+};
+use nav_io::MemSink;
+use page_send::{SendFault, can_send, send_item};
+use std::alloc::Global;
+use std::test::Fail;
+
+const GPS_LINES: &[u8] =
+    b"0 L G05 8b00004800021043dc000580000029ffffff580000029ffffff580000029ffffff58000008c0\n6 L G05 8b00004800042940000000000000000000000000000000000000000000000000000000000000\n12 L G05 8b000048000631c0000000000000000000000000000000000000000000000000000000000000\n";
+
+const GALILEO_LINES: &[u8] =
+    b"21600 P E11 B 010140000000000000000000000000\n21601 P E11 B 8000000000000000000038a9288000\n21602 P E11 B 020140000000000000000000000000\n21603 P E11 B 8000000000000000000008b5104000\n21604 P E11 B 030140000000000000000000000000\n21605 P E11 B 801ac0000000000000001aca444000\n21606 P E11 B 04014b000000000000000000000000\n21607 P E11 B 80000000000000000000371c7fc000\n21608 P E11 B 05000000000000000009ee00000000\n21609 P E11 B 80000000000000000000244dbcc000\n";
+
+// The item is an ephemeris.
+fn is_ephemeris(item: &NavItem) -> bool
+    ensures { IsTrue result ↔ IsEphemeris item.now }
+{
+    match item {
+        NavItem::Gps(_) => true,
+        NavItem::Gal(_) => true,
+        NavItem::Ion(_) => false,
+    }
+}
+
+// An ephemeris of G05 whose numbers are all 0 but for its iodc and its week.
+fn gps(iodc: u64, week: u32) -> Option<NavItem> {
+    let clock = GpsClock {
+        iodc: U::new(iodc)?,
+        toc: Step16::new(0)?,
+        af2: S::from_digits(0),
+        af1: S::from_digits(0),
+        af0: S::from_digits(0),
+        tgd: S::from_digits(0),
+    };
+    let side = GpsSide {
+        l2_code: U::from_digits(0),
+        ura: U::from_digits(0),
+        health: U::from_digits(0),
+        l2p: U::from_digits(0),
+    };
+    let a = GpsOrbitA {
+        iode: U::from_digits(0),
+        crs: S::from_digits(0),
+        delta_n: S::from_digits(0),
+        m0: S::from_digits(0),
+        cuc: S::from_digits(0),
+        e: U::from_digits(0),
+        cus: S::from_digits(0),
+        root_a: U::from_digits(0),
+        toe: Step16::new(0)?,
+    };
+    let b = GpsOrbitB {
+        iode: U::from_digits(0),
+        cic: S::from_digits(0),
+        omega0: S::from_digits(0),
+        cis: S::from_digits(0),
+        i0: S::from_digits(0),
+        crc: S::from_digits(0),
+        omega: S::from_digits(0),
+        omega_dot: S::from_digits(0),
+        idot: S::from_digits(0),
+    };
+    let sat = Sat::new(System::Gps, 5)?;
+    let sent = SentSecond::At(0);
+    let eph = GpsEph::new(
+        sat,
+        clock,
+        side,
+        a,
+        U::from_digits(0),
+        b,
+        Week::new(week)?,
+        sent,
+    )?;
+    Some(NavItem::Gps(eph))
+}
+
+// An ephemeris of E11 of issue 5, whose other numbers are 0 but for the accuracy.
+fn galileo(week: u32) -> Option<NavItem> {
+    let iodnav = U::from_digits(5);
+    let w1 = GalWord1 {
+        iodnav,
+        toe: Step60::new(0)?,
+        m0: S::from_digits(0),
+        e: U::from_digits(0),
+        root_a: U::from_digits(0),
+    };
+    let w2 = GalWord2 {
+        iodnav,
+        omega0: S::from_digits(0),
+        i0: S::from_digits(0),
+        omega: S::from_digits(0),
+        idot: S::from_digits(0),
+    };
+    let w3 = GalWord3 {
+        iodnav,
+        omega_dot: S::from_digits(0),
+        delta_n: S::from_digits(0),
+        cuc: S::from_digits(0),
+        cus: S::from_digits(0),
+        crc: S::from_digits(0),
+        crs: S::from_digits(0),
+        sisa: Sisa::new(107)?,
+    };
+    let w4 = GalWord4 {
+        iodnav,
+        cic: S::from_digits(0),
+        cis: S::from_digits(0),
+        toc: Step60::new(0)?,
+        af0: S::from_digits(0),
+        af1: S::from_digits(0),
+        af2: S::from_digits(0),
+    };
+    let health = GalHealth {
+        bgd_a: S::from_digits(0),
+        bgd_b: S::from_digits(0),
+        hs_e5b: U::from_digits(0),
+        hs_e1b: U::from_digits(0),
+        dvs_e5b: U::from_digits(0),
+        dvs_e1b: U::from_digits(0),
+    };
+    let sat = Sat::new(System::Gal, 11)?;
+    let sent = SentSecond::At(8);
+    let eph = GalEph::new(sat, w1, w2, w3, w4, health, Week::new(week)?, sent)?;
+    Some(NavItem::Gal(eph))
+}
+
+// Whether an item is sent in a slot as these lines.
+fn is_sent_as(item: &NavItem, slot: u32, lines: &[u8], alloc: Global) -> Result<bool, Fail> {
+    let r = RefWeek::new(2295).ok_or("a week")?;
+    let mut out = MemSink::new(alloc, 600, Vec::new(alloc))?;
+    if !is_ephemeris(item) {
+        return Ok(false);
+    }
+    if !item.is_whole() {
+        return Ok(false);
+    }
+    if can_send(item, r, slot).is_err() {
+        return Ok(false);
+    }
+    if send_item(item, r, slot, &mut out).is_err() {
+        return Ok(false);
+    }
+    Ok(out.bytes() == lines)
+}
+
+#[test]
+fn sends_subframes(rt: HostRuntime) -> Result<(), Fail> {
+    let item = gps(0, 2295).ok_or("an ephemeris")?;
+    assert!(rt; is_sent_as(&item, 0, GPS_LINES, rt.alloc())?);
+    Ok(())
+}
+
+#[test]
+fn sends_pages(rt: HostRuntime) -> Result<(), Fail> {
+    let item = galileo(2295).ok_or("an ephemeris")?;
+    assert!(rt; is_sent_as(&item, 1, GALILEO_LINES, rt.alloc())?);
+    Ok(())
+}
+
+// What a test asks of an ephemeris of GPS.
+#[derive(Clone, Copy)]
+struct Case {
+    iodc: u64,
+    week: u32,
+    near: u32,
+    slot: u32,
+    want: Result<(), SendFault>,
+}
+
+static CASES: [Case; 8] = [
+    Case {
+        iodc: 256,
+        week: 2295,
+        near: 2295,
+        slot: 198_841,
+        want: Ok(()),
+    },
+    Case {
+        iodc: 1,
+        week: 2295,
+        near: 3000,
+        slot: 198_842,
+        want: Err(SendFault::Issue),
+    },
+    Case {
+        iodc: 0,
+        week: 2295,
+        near: 3000,
+        slot: 198_842,
+        want: Err(SendFault::Week),
+    },
+    Case {
+        iodc: 0,
+        week: 2295,
+        near: 2295,
+        slot: 198_842,
+        want: Err(SendFault::Room),
+    },
+    Case {
+        iodc: 0,
+        week: 1783,
+        near: 2295,
+        slot: 0,
+        want: Ok(()),
+    },
+    Case {
+        iodc: 0,
+        week: 1782,
+        near: 2295,
+        slot: 0,
+        want: Err(SendFault::Week),
+    },
+    Case {
+        iodc: 0,
+        week: 2806,
+        near: 2295,
+        slot: 0,
+        want: Ok(()),
+    },
+    Case {
+        iodc: 0,
+        week: 2807,
+        near: 2295,
+        slot: 0,
+        want: Err(SendFault::Week),
+    },
+];
+
+// Whether the answer in a case is the one that is wanted.
+fn is_answered(case: &Case) -> Option<bool> {
+    let r = RefWeek::new(case.near)?;
+    let item = gps(case.iodc, case.week)?;
+    if !is_ephemeris(&item) {
+        return None;
+    }
+    Some(can_send(&item, r, case.slot) == case.want)
+}
+
+#[test]
+fn says_why_not(rt: HostRuntime) {
+    for case in &CASES {
+        assert!(rt; is_answered(case) == Some(true));
+    }
+}

@@ -1,0 +1,84 @@
+//! Runs over memory.
+
+use bridge_engine::CaptureCounts;
+use gnss_week::RefWeek;
+use nav_io::MemSink;
+use run_texts::BridgeFault;
+use seed_runs::{SeedCounts, SeedTo, run_seed};
+use std::test::Fail;
+
+// The counts of the capture of two satellites of each system from the seed 7 in week 2295, computed
+// by an independent program.
+const COUNTS: CaptureCounts = CaptureCounts {
+    lines: 15_731,
+    malformed: 0,
+    late: 0,
+    refused: 0,
+    unused: 5_274,
+    whole: 6,
+    partial: 0,
+    contradicted: 0,
+    nohealth: 0,
+    again: 0,
+};
+
+#[test]
+fn writes_the_capture(rt: HostRuntime) -> Result<(), Fail> {
+    let week = RefWeek::new(2295).ok_or("a week")?;
+    let mut output = MemSink::new(rt.alloc(), 400_000, Vec::new(rt.alloc()))?;
+    let mut report = MemSink::new(rt.alloc(), 0, Vec::new(rt.alloc()))?;
+    let counts = run_seed(
+        rt.alloc(),
+        7,
+        1,
+        week,
+        SeedTo::Capture,
+        &mut output,
+        &mut report,
+    );
+    let bytes = output.bytes().len() as u64;
+    let begins = output.bytes().starts_with(b"NAVCAP 1\n6 P E01 5 ");
+    assert!(rt; counts == Ok(SeedCounts::Written { bytes }) && begins && report.bytes().is_empty());
+    Ok(())
+}
+
+#[test]
+fn counts_the_capture(rt: HostRuntime) -> Result<(), Fail> {
+    let week = RefWeek::new(2295).ok_or("a week")?;
+    let text = b"lines 15731\nmalformed 0\nlate 0\nrefused 0\nunused 5274\nwhole 6\npartial 0\n\
+        contradicted 0\nnohealth 0\nagain 0\n";
+    let mut output = MemSink::new(rt.alloc(), 200, Vec::new(rt.alloc()))?;
+    let mut report = MemSink::new(rt.alloc(), 200, Vec::new(rt.alloc()))?;
+    let counts = run_seed(
+        rt.alloc(),
+        7,
+        2,
+        week,
+        SeedTo::Count,
+        &mut output,
+        &mut report,
+    );
+    assert!(rt;
+        counts == Ok(SeedCounts::Counted(COUNTS))
+            && output.bytes() == text.as_slice()
+            && report.bytes() == text.as_slice()
+    );
+    Ok(())
+}
+
+#[test]
+fn answers_faults(rt: HostRuntime) -> Result<(), Fail> {
+    let week = RefWeek::new(2295).ok_or("a week")?;
+    let cases = [
+        (SeedTo::Capture, 0, 0, BridgeFault::WriteFault),
+        (SeedTo::Count, 0, 200, BridgeFault::WriteFault),
+        (SeedTo::Count, 200, 0, BridgeFault::ReportFault),
+    ];
+    for (to, room, report_room, want) in cases {
+        let mut output = MemSink::new(rt.alloc(), room, Vec::new(rt.alloc()))?;
+        let mut report = MemSink::new(rt.alloc(), report_room, Vec::new(rt.alloc()))?;
+        let counts = run_seed(rt.alloc(), 7, 1, week, to, &mut output, &mut report);
+        assert!(rt; counts == Err(want));
+    }
+    Ok(())
+}

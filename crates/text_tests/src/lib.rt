@@ -1,0 +1,20 @@
+//! Tests of the crates that read and write texts: numbers of 19 columns, navigation files of RINEX 4 and RINEX 3, the
+//! lines of lists and reports, and the words of the command line.
+//!
+//! They see what those crates hand out to everyone. Items that several tests need stand in `samples`.
+#![tactic(auto)]
+
+#[cfg(test)]
+mod job_words_tests;
+#[cfg(test)]
+mod rinex3_nav_tests;
+#[cfg(test)]
+mod rinex_read_tests;
+#[cfg(test)]
+mod rinex_write_tests;
+#[cfg(test)]
+mod run_texts_tests;
+#[cfg(test)]
+mod samples;
+#[cfg(test)]
+mod scaled_decimal_tests;
