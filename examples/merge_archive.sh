@@ -2,4 +2,4 @@
 # Merges an archive of RINEX navigation files as they are; merge_archive.sh --help says how, and merge_archive.py does it.
 set -eu
 command -v python3 > /dev/null || { echo "merge_archive.sh: python3 is not there (3.9 or later is wanted, its own library alone)" >&2; exit 2; }
-exec python3 "$(dirname -- "$(readlink -f -- "${BASH_SOURCE[0]}")")/merge_archive.py" "$@"
+exec python3 -I "$(dirname -- "$(readlink -f -- "${BASH_SOURCE[0]}")")/merge_archive.py" "$@"
