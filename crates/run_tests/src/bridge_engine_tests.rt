@@ -7,10 +7,10 @@ use bridge_engine::{CaptureTo, run_capture};
 use capture_lines::{LineItem, read_line};
 use gnss_week::RefWeek;
 use inav_page::{Halves, read_half};
-use inav_word::{WordParts, read_word};
+use inav_word::read_word;
 use issue_periods::{PlainAssembly, add_periods};
 use lnav_subframe::read_subframe;
-use nav_eph::Part;
+use nav_eph::{Part, System};
 use nav_io::{MemSink, MemSource};
 use nav_vectors::make_capture;
 use period_items::{Closed, Key, Verdict};
@@ -47,8 +47,10 @@ fn add_parts(
 ) -> Result<(), AllocError> {
     match item {
         LineItem::Lnav { stamp, sat, bits } => {
-            if let Ok(part) = read_subframe(bits, *sat, *stamp) {
-                parts.push(part)?;
+            if sat.system() == System::Gps {
+                if let Ok(part) = read_subframe(bits, *sat, *stamp) {
+                    parts.push(part)?;
+                }
             }
         }
         LineItem::Half {
@@ -57,17 +59,16 @@ fn add_parts(
             signal,
             bits,
         } => {
-            if let Ok(half) = read_half(bits) {
-                let joined = halves.take(*stamp, *sat, *signal, &half)?;
-                for i in 0..joined.len() {
-                    if let Ok(WordParts { first, second }) = read_word(
-                        joined.word(i),
-                        *sat,
-                        joined.stamp(),
-                    ) {
-                        parts.push(first)?;
-                        if let Some(second) = second {
-                            parts.push(second)?;
+            if sat.system() == System::Gal {
+                if let Ok(half) = read_half(bits) {
+                    let joined = halves.take(*stamp, *sat, *signal, &half)?;
+                    for i in 0..joined.len() {
+                        let word = joined.word(i);
+                        if let Ok(heard) = read_word(word, *sat, joined.stamp()) {
+                            parts.push(heard.first)?;
+                            if let Some(second) = heard.second {
+                                parts.push(second)?;
+                            }
                         }
                     }
                 }

@@ -7,7 +7,7 @@ use gnss_week::{RefWeek, Week};
 use nav_bits::{S, U};
 use nav_eph::{
     GalEph, GalHealth, GalWord1, GalWord2, GalWord3, GalWord4, GpsClock, GpsEph, GpsOrbitA,
-    GpsOrbitB, GpsSide, NavItem, Sat, SentSecond, Sisa, Step16, Step60, System,
+    GpsOrbitB, GpsSide, IonContent, IonEph, NavItem, Sat, SentSecond, Sisa, Step16, Step60, System,
 };
 use nav_io::MemSink;
 use page_send::{SendFault, can_send, send_item};
@@ -238,6 +238,7 @@ static CASES: [Case; 8] = [
 
 // Whether the answer in a case is the one that is wanted.
 fn is_answered(case: &Case) -> Option<bool> {
+    let _inside: Option<(GpsEph, GalEph, IonEph, IonContent)> = None;
     let r = RefWeek::new(case.near)?;
     let item = gps(case.iodc, case.week)?;
     if !is_ephemeris(&item) {
