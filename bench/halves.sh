@@ -113,7 +113,7 @@ for name in halves crowded; do
 done
 # Runs a program three times over: its name, and how many halves it takes.
 timed() {
-  for round in 1 2 3; do
+  for _ in 1 2 3; do
     begin=$(date +%s%N)
     "$folder/crates/$1/out/$1"
     end=$(date +%s%N)

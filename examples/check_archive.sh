@@ -1,0 +1,148 @@
+#!/usr/bin/env bash
+# Tries the scripts for archives on examples/archive: merge_archive.sh, the tree by GNU parallel, the picture.
+set -u
+if [ "${1:-}" = --help ]; then
+  cat << 'END'
+examples/check_archive.sh [--program FILE]
+
+examples/archive has files of both versions, packed and plain, and five that are cut, empty, older or none. Each line that it prints is a
+case: `as it should` or `DIFFERS`. GNU parallel and gnuplot are tried where they are installed. FILE as with check.sh.
+
+Status: 0 all as it should be; 1 something differs; 2 the program is not there.
+END
+  exit 0
+fi
+program=${PROGRAM:-}
+if [ "${1:-}" = --program ]; then program=${2:-}; fi
+if [ -n "$program" ]; then program=$(readlink -f -- "$program"); fi
+cd "$(dirname "$0")" || exit 1
+program=${program:-$(readlink -f ../crates/navbridge/out/navbridge)}
+if [ ! -f "$program" ] || [ ! -x "$program" ]; then
+  echo "check_archive.sh: ${program:-crates/navbridge/out/navbridge}: no program there; build it first (rt ci at the top, or rt run in crates/navbridge), or name it by --program" >&2
+  exit 2
+fi
+command -v python3 > /dev/null || { echo "archives: not tried, since python3 is not there"; exit 0; }
+unset PROGRAM
+export LC_ALL=C.UTF-8
+here=$PWD
+out=$(mktemp -d)
+trap 'rm -rf "$out"' EXIT
+words=(--date "20240101 000000 UTC" --leap 18)
+cases=0
+wrong=0
+
+# a case: its name, and a command that must succeed
+holds() {
+  local name=$1
+  shift
+  cases=$((cases + 1))
+  if "$@" > /dev/null 2>&1; then echo "as it should: $name"; else wrong=$((wrong + 1)); echo "DIFFERS: $name"; fi
+}
+# a run of merge_archive.sh that must end with a status
+ends() {
+  local name=$1 status=$2 got=0
+  shift 2
+  ./merge_archive.sh --program "$program" "${words[@]}" "$@" > "$out/table" 2> "$out/named" || got=$?
+  holds "$name: status $status" [ "$got" = "$status" ]
+}
+# a navbridge that writes down that it was called
+cat > "$out/counted" << END
+#!/usr/bin/env bash
+echo "\$4" >> "$out/calls"
+exec "$program" "\$@"
+END
+chmod +x "$out/counted"
+# how often navbridge was called to give this, by the run of merge_archive.sh with the words behind
+calls() {
+  local to=$1
+  shift
+  : > "$out/calls"
+  ./merge_archive.sh --program "$out/counted" "${words[@]}" "$@" > "$out/table" 2> "$out/named"
+  grep -cx "$to" "$out/calls"
+}
+
+# the same by hand: each file that is no fault converted alone, and one run over all
+for file in archive/2024/*/*; do
+  gzip -dcf < "$file" > "$out/file" 2> /dev/null || continue
+  case $file in */S00300XXX_R_20240020000*) tac "$out/file" | sed "1,/^[^ ]/d" | tac > "$out/whole" && mv "$out/whole" "$out/file" ;; esac
+  for form in rinex rinex3; do "$program" --from "$form" --to rinex "${words[@]}" < "$out/file" 2> /dev/null; done
+done | "$program" --from rinex --to merged "${words[@]}" > "$out/by_hand.rnx" 2> /dev/null
+
+ends "a mixed archive" 1 -o "$out/all.rnx" --cover "$out/all.cover" archive
+holds "its table" cmp "$out/table" expected/archive.table
+holds "the files that were not read, by name" cmp "$out/named" expected/archive.named
+holds "its rows" cmp <(sed 1d "$out/all.rnx.files" | cut -f1-6,9-) expected/archive.rows
+holds "its bytes, as by hand" cmp "$out/all.rnx" "$out/by_hand.rnx"
+holds "the times covered" cmp "$out/all.cover" archive.cover
+ends "the same again" 1 -o "$out/all.rnx" --cover "$out/all.cover" archive
+holds "it says the same" cmp "$out/table" expected/archive.table
+holds "and calls nothing" [ "$(calls merged -o "$out/all.rnx" --cover "$out/all.cover" archive)" = 0 ]
+ends "the times covered alone" 1 --cover "$out/alone.cover" archive
+holds "they are the same" cmp "$out/alone.cover" archive.cover
+
+good=$(cut -f1,7 expected/archive.rows | sed -n 's/^read\t//p')
+echo "$good" > "$out/good"
+ends "a list of files that are all read" 0 -o "$out/good.rnx" - < "$out/good"
+holds "their bytes, as of all" cmp "$out/good.rnx" "$out/by_hand.rnx"
+(cat "$out/good"; echo "no such file.rnx") > "$out/list"
+ends "a name that is not there" 1 -o "$out/list.rnx" - < "$out/list"
+holds "it is named" grep -qx 'no such file.rnx: missing' "$out/named"
+holds "the rest is read" cmp "$out/list.rnx" "$out/by_hand.rnx"
+mkdir "$out/odd"
+while read -r file; do cp "$file" "$out/odd/a name
+with $(basename "$file").dat"; done < "$out/good"
+ends "odd names, and none that says what it is" 0 -o "$out/odd.rnx" "$out/odd"
+holds "their bytes" cmp "$out/odd.rnx" "$out/by_hand.rnx"
+mkdir "$out/none"
+ends "an empty day" 0 -o "$out/none.rnx" "$out/none"
+holds "it is a header alone" [ "$(grep -c '' "$out/none.rnx") $(grep -c '^>' "$out/none.rnx")" = "4 0" ]
+
+ends "in batches of two" 1 -o "$out/parts.rnx" --batch 2 archive
+holds "their bytes" cmp "$out/parts.rnx" "$out/by_hand.rnx"
+rm "$out/parts.rnx" "$out/parts.rnx.files"
+holds "broken off before the end: the parts are taken" [ "$(calls merged -o "$out/parts.rnx" --batch 2 archive)" = 1 ]
+rm "$out/parts.rnx" "$out/parts.rnx.files"
+for part in "$out"/parts.rnx.parts/*.rnx; do rm "$part"; break; done
+holds "broken off before: one batch is done again" [ "$(calls merged -o "$out/parts.rnx" --batch 2 archive)" = 2 ]
+holds "the same bytes" cmp "$out/parts.rnx" "$out/by_hand.rnx"
+cp -r archive "$out/archive"
+./merge_archive.sh --program "$program" "${words[@]}" -o "$out/late.rnx" --batch 2 "$out/archive" > "$out/table" 2>&1
+cp merged.rnx "$out/archive/2024/002/late.rnx"
+holds "a late file: it alone, and what was merged" [ "$(calls merged -o "$out/late.rnx" --batch 2 "$out/archive")" = 2 ]
+holds "the bytes of all" cmp "$out/late.rnx" <(cat "$out/by_hand.rnx" merged.rnx | "$program" --from rinex --to merged "${words[@]}" 2> /dev/null)
+for _ in 1 2 3; do ./merge_archive.sh --program "$program" "${words[@]}" -o "$out/two.rnx" --batch 2 -q archive 2> /dev/null & done
+wait
+holds "three at work at once" cmp "$out/two.rnx" "$out/by_hand.rnx"
+holds "they leave no part of a file" [ -z "$(find "$out" -name '*.part')" ]
+
+ends "no names" 2 -o "$out/x.rnx"
+ends "no result" 2 archive
+ends "a date without UTC" 2 -o "$out/x.rnx" --date "20240101 000000" archive
+ends "no program" 2 -o "$out/x.rnx" --program "$out/nothing" archive
+holds "which is said" grep -q 'build it first' "$out/named"
+ends "a program that is none" 3 -o "$out/x.rnx" --program /bin/false archive
+holds "which leaves no result" [ ! -e "$out/x.rnx" ]
+
+if parallel --version 2> /dev/null | grep -q '^GNU parallel'; then
+  echo "2/:" > "$out/hosts"
+  slurm/parallel.sh --program "$program" "${words[@]}" --cover --hosts "$out/hosts" archive "$out/tree" > /dev/null 2>&1
+  holds "the tree of days, months and years by GNU parallel" cmp "$out/tree/year/2024.rnx" "$out/by_hand.rnx"
+  holds "its times covered" cmp "$out/tree/year/2024.cover" archive.cover
+  slurm/parallel.sh --program "$program" "${words[@]}" --strict --hosts "$out/hosts" archive "$out/strict" > "$out/said" 2>&1
+  holds "where each file must be read: the year is not made" [ ! -e "$out/strict/year/2024.rnx" ]
+  holds "which is said" grep -q 'year 2024: not made, since month 202401 failed' "$out/said"
+else
+  echo "the tree: not tried, since GNU parallel is not there"
+fi
+if command -v gnuplot > /dev/null; then
+  ./cover_picture.sh archive.cover "$out/a.png" "$out/a.svg" > "$out/said" 2>&1
+  ./cover_picture.sh archive.cover "$out/b.png" "$out/b.svg" > /dev/null 2>&1
+  holds "the picture: its gaps" [ "$(cat "$out/said")" = "6 satellites, 25 gaps of 309600 seconds in all, from 2023-12-31 22:00:00 to 2024-01-04 00:00:00 GPS time" ]
+  holds "twice the same png" cmp "$out/a.png" "$out/b.png"
+  holds "twice the same svg" cmp "$out/a.svg" "$out/b.svg"
+else
+  echo "the picture: not tried, since gnuplot is not there"
+fi
+cd "$here" || exit 1
+echo "archives: $cases cases, $wrong differ"
+[ "$wrong" = 0 ]

@@ -1,0 +1,66 @@
+#!/usr/bin/env bash
+# Merges an archive by days, months and years, as jobs of Slurm.
+set -eu
+usage=$(cat << 'END'
+submit.sh [options] ARCHIVE TREE
+
+ARCHIVE has a folder for each day, as 2023/032, with RINEX navigation files as merge_archive.sh takes them. TREE gets day/2023032.rnx,
+month/202302.rnx, year/2023.rnx, with rows of what was read beside each (.files), logs and state. Both, and navbridge, are seen by all nodes.
+
+One job array a month has its days, a job behind each array merges the month, a job behind these the year. A step that fails cancels what
+stands on it. Submitted again, steps whose inputs have not changed end at once, and the others are made.
+
+  --date TEXT, --leap N   of the headers (now, 18); the same words give the same bytes
+  --cover                 also the times covered, as day/2023032.cover and so on
+  --strict                a day of which a file was not read is a failed step (else it is made of the rest, and its log says so)
+  --program FILE          navbridge (crates/navbridge/out/navbridge of this repository)
+  --wait                  waits for the jobs, then names the steps that were not made
+  --help                  this text
+
+Status: 0 submitted (with --wait: all made); 1 some step was not made; 2 the words, or no program, or no Slurm.
+END
+)
+here=$(dirname -- "$(readlink -f -- "${BASH_SOURCE[0]}")")
+step=$here/step.sh
+# shellcheck source=/dev/null
+. "$here/plan.sh"
+read_words "$usage" "$@"
+command -v sbatch > /dev/null || { echo "submit.sh: sbatch is not there" >&2; exit 2; }
+plan
+
+declare -A steps
+ids=
+while read -r year; do
+  behind=
+  while read -r month; do
+    export MONTH=$month
+    days=$(wc -l < "$TREE/state/$month.days")
+    array=$(sbatch --parsable --job-name="day $month" --array="1-$days" -o "$TREE/log/day-$month-%a.log" "$step" day)
+    steps[$array]="day $month"
+    job=$(sbatch --parsable --job-name="month $month" --dependency="afterok:$array" --kill-on-invalid-dep=yes \
+      -o "$TREE/log/month-$month.log" "$step" month "$month")
+    steps[$job]="month $month"
+    behind=$behind:$job ids=$ids,$array,$job
+  done < "$TREE/state/$year.months"
+  job=$(sbatch --parsable --job-name="year $year" --dependency="afterok$behind" --kill-on-invalid-dep=yes \
+    -o "$TREE/log/year-$year.log" "$step" year "$year")
+  steps[$job]="year $year" ids=$ids,$job
+done < "$TREE/state/years"
+echo "submitted: $(wc -l < "$TREE/state/days") days, $(wc -l < "$TREE/state/months") months, $(wc -l < "$TREE/state/years") years; jobs ${ids#,}"
+[ "$WAIT" = 1 ] || exit 0
+
+while :; do
+  states=$(squeue -h -r -t all -j "${ids#,}" -o '%F %K %T')
+  case $states in *PENDING* | *RUNNING* | *COMPLETING* | *CONFIGURING* | *REQUEUE* | *SUSPENDED*) sleep 3 ;; *) break ;; esac
+done
+bad=0
+while read -r job task state; do
+  [ "$state" != COMPLETED ] || continue
+  bad=1
+  one=${steps[$job]:-job $job}
+  if [ "${one%% *}" = day ]; then one="day $(sed -n "${task}p" "$TREE/state/${one#day }.days")"; fi
+  why=$(cat "$TREE/state/${one/ /.}.failed" 2> /dev/null || true)
+  echo "not made: $one: $state${why:+: ${why#*: }}"
+done <<< "$(sort -k1,1n -k2,2n <<< "$states")"
+[ "$bad" = 1 ] || echo "all made"
+exit "$bad"
