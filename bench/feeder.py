@@ -316,7 +316,7 @@ class Faults:
         return True
 
     def block(self, pieces):
-        """The pieces with faults among them."""
+        """The pieces with faults among them. Of a capture each chunk ends its line, so that they may stand in any order."""
         out = []
         for piece in pieces:
             self.last.append(piece)
@@ -324,10 +324,13 @@ class Faults:
             body = piece.index(b" ") + 1 if self.is_capture else 0
             if self.due("cut"):
                 place = self.random.randrange(1, len(piece))
-                out.append(piece[:place])
-                # a stamp that is cut ends its line, else the next line may follow on it
-                out += [b"\n"] * (place < body or self.is_capture and self.random.random() < 0.5)
-                out += self.last[-self.random.randrange(1, 51) :]
+                again = self.last[-self.random.randrange(1, 51) :]
+                if self.is_capture and (place < body or self.random.random() < 0.5):
+                    out.append(piece[:place] + b"\n")
+                else:
+                    # the next one follows on what was cut
+                    again[0] = piece[:place] + again[0]
+                out += again
             elif self.due("turned"):
                 place = self.random.randrange(body, len(piece) - self.is_capture)
                 out.append(piece[:place] + bytes([piece[place] ^ 1 << self.random.randrange(8)]) + piece[place + 1 :])

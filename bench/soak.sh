@@ -23,24 +23,25 @@ while [ $# -gt 0 ]; do
       sed -n '2,/^set /{/^set /d;s/^# \{0,1\}//;p}' "$0"
       exit 0
       ;;
-    --seconds) seconds=$2 ;;
-    --rate) rate=$2 ;;
-    --seed) seed=$2 ;;
-    --program) program=$2 ;;
+    --seconds | --rate | --seed | --program)
+      [ $# -ge 2 ] || { echo "soak: $1 wants a value; --help" >&2; exit 2; }
+      printf -v "${1#--}" %s "$2"
+      shift 2
+      ;;
     --keep)
       keep=1
       shift
-      continue
       ;;
     *)
       echo "soak: $1 is no option; --help" >&2
       exit 2
       ;;
   esac
-  shift 2 || { echo "soak: a value is missing; --help" >&2; exit 2; }
 done
 [ -x "$program" ] || { echo "soak: no program at $program (rt ci builds it; --program names another)" >&2; exit 2; }
-case $seconds$rate$seed in *[!0-9]*) echo "soak: a number is wanted; --help" >&2 && exit 2 ;; esac
+for number in "$seconds" "$rate" "$seed"; do
+  [[ $number =~ ^[1-9][0-9]{0,5}$ ]] || { echo "soak: $number is no number from 1 to 999999; --help" >&2; exit 2; }
+done
 
 here=bench/build/soak
 rm -rf "$here"

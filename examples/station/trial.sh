@@ -67,12 +67,19 @@ at() { # the second of the trial
 tell() { printf '%3d s: %s\n' $((EPOCHSECONDS - begin)) "$*"; }
 wrong=0
 check() { # what, command
-  local what=$1
+  local what=$1 said
   shift
-  if "$@" > /dev/null 2>&1; then echo "  $what: yes"; else
+  if said=$("$@" 2>&1); then echo "  $what: yes"; else
     echo "  $what: NO"
+    printf '%s\n' "$said" | sed 's/^/    /'
     wrong=1
   fi
+}
+nothing_of() { # group: status 0 where no process of it is left; else it says which
+  local left
+  left=$(of_group "$1")
+  printf '%s' "$left"
+  [ -z "$left" ]
 }
 
 # it is no turn of a minute when the trial begins
@@ -97,7 +104,7 @@ station() {
 }
 ended() { # the status of the station
   status=0
-  wait "$station" || status=$?
+  wait "$station" 2> /dev/null || status=$?
 }
 examples/station/navbridge-station record "${words[@]}" --folder "$folder/record" 2> "$folder/record.log" &
 record=$!
@@ -106,6 +113,7 @@ station
 tell "a caster, a station, a recorder"
 
 at 20
+tell "records in live/ so far: $(cat "$folder"/run/live/*.rnx | grep -c '^> EPH')"
 victim=$(of_group "$station" | awk -v program="$program" '$3 == program { print $1; exit }')
 kill -KILL "$victim"
 tell "the program killed (KILL)"
@@ -156,5 +164,5 @@ for kind in run record; do
 done
 check "status 1 of the station whose program was killed" test "$first" = 1
 check "status 3 of the station whose source fell silent" test "$silent" = 3
-check "no process of the station is left" test -z "$(of_group "$station")"
+check "no process of the station is left" nothing_of "$station"
 [ "$wrong" = 0 ]
