@@ -56,7 +56,7 @@ clean() {
   for id in "${leaders[@]}"; do kill -KILL -- "-$id" 2> /dev/null; done
   [ -z "$goes" ] || rm -rf -- "$folder"
 }
-of_group() { ps -eo pid=,pgid=,args= | awk -v group="$1" '$2 == group'; }
+of_group() { ps -eo pid=,pgid=,stat=,args= | awk -v group="$1" '$2 == group && $3 !~ /^Z/'; } # what has ended is not looked at
 trap clean EXIT
 trap 'exit 130' INT TERM
 set -m
@@ -114,7 +114,7 @@ tell "a caster, a station, a recorder"
 
 at 20
 tell "records in live/ so far: $(cat "$folder"/run/live/*.rnx | grep -c '^> EPH')"
-victim=$(of_group "$station" | awk -v program="$program" '$3 == program { print $1; exit }')
+victim=$(of_group "$station" | awk -v program="$program" '$4 == program { print $1; exit }')
 kill -KILL "$victim"
 tell "the program killed (KILL)"
 at 70
