@@ -81,6 +81,8 @@ done
 for unit in examples/station/*.service examples/station/*.timer; do put 644 "usr/lib/systemd/system/${unit##*/}" "$unit"; done
 put 644 "$doc/README.md" README.md
 for it in docs/*.md; do put 644 "$doc/$it" "$it"; done
+put 644 "$doc/bench/README.md" bench/README.md
+put 755 "$doc/bench/feeder.py" bench/feeder.py # what examples/station/trial.sh hears
 ln -s docs/OPERATING.md "$root/$doc/OPERATING.md"
 git ls-files examples | while read -r it; do
   # what is installed already
@@ -129,7 +131,7 @@ Maintainer: $maintainer
 Installed-Size: $size
 Depends: libc6
 Recommends: rtklib
-Suggests: bash-completion
+Suggests: bash-completion, python3
 Section: science
 Priority: optional
 Description: proved converter of broadcast satellite orbits

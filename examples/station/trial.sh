@@ -3,7 +3,7 @@
 #
 #   examples/station/trial.sh [--program PATH] [--folder DIR] [--port N]
 #
-#   --program PATH  the built program (NAVBRIDGE_PROGRAM, or crates/navbridge/out/navbridge)
+#   --program PATH  the built program (NAVBRIDGE_PROGRAM, or crates/navbridge/out/navbridge, or that of the package)
 #   --folder DIR    is made, and stays; a temporary one, that goes, where it is not said
 #   --port N        of the caster, 20110 where it is not said; str2str listens on all addresses of the machine
 #
@@ -14,7 +14,11 @@
 # It takes five minutes. Status 0 where all is as it should be.
 set -uo pipefail
 cd "$(dirname "$(readlink -f "$0")")/../.." || exit 1
-program=${NAVBRIDGE_PROGRAM:-crates/navbridge/out/navbridge} folder='' port=20110
+# beside this script, or where the package has put them
+script=examples/station/navbridge-station built=crates/navbridge/out/navbridge
+[ -x "$script" ] || script=navbridge-station
+[ -x "$built" ] || built=navbridge
+program=${NAVBRIDGE_PROGRAM:-$built} folder='' port=20110
 while [ $# -gt 0 ]; do
   case $1 in
     -h | --help)
@@ -32,7 +36,7 @@ while [ $# -gt 0 ]; do
       ;;
   esac
 done
-for it in "$program" str2str python3; do
+for it in "$program" "$script" str2str python3; do
   command -v "$it" > /dev/null || { echo "trial: $it is not there" >&2; exit 2; }
 done
 program=$(readlink -f "$(command -v "$program")")
@@ -98,7 +102,7 @@ leaders+=("$!")
 sleep 1
 words=(--source "tcpcli://127.0.0.1:$port" --span 60 --lap 5 --silent 15 --program "$program")
 station() {
-  examples/station/navbridge-station run "${words[@]}" --folder "$folder/run" 2>> "$folder/run.log" &
+  "$script" run "${words[@]}" --folder "$folder/run" 2>> "$folder/run.log" &
   station=$!
   leaders+=("$station")
 }
@@ -106,7 +110,7 @@ ended() { # the status of the station
   status=0
   wait "$station" 2> /dev/null || status=$?
 }
-examples/station/navbridge-station record "${words[@]}" --folder "$folder/record" 2> "$folder/record.log" &
+"$script" record "${words[@]}" --folder "$folder/record" 2> "$folder/record.log" &
 record=$!
 leaders+=("$record")
 station
@@ -140,7 +144,7 @@ tell "the recorder stopped (TERM): status $?"
 kill -TERM "$caster"
 
 for kind in run record; do
-  examples/station/navbridge-station files "${words[@]}" --folder "$folder/$kind" --all 2> "$folder/$kind.files.log"
+  "$script" files "${words[@]}" --folder "$folder/$kind" --all 2> "$folder/$kind.files.log"
   tell "the files of $kind that were left: status $?"
 done
 
