@@ -87,7 +87,7 @@ offered() { # what is wanted, words: the last one is completed
   shift
   local got
   # shellcheck disable=SC2016
-  got=$(bash -c '. /usr/share/bash-completion/completions/navbridge; COMP_WORDS=("$@"); COMP_CWORD=$(($# - 1)); _navbridge; echo "${COMPREPLY[*]}"' complete "$@")
+  got=$(bash -c '. "/usr/share/bash-completion/completions/$1"; COMP_WORDS=("$@"); COMP_CWORD=$(($# - 1)); "_${1//-/_}"; echo "${COMPREPLY[*]}"' complete "$@")
   [ "$got" = "$want" ] || echo "of ${*:2}: $got"
 }
 silent "completion of nothing" offered "--from --to" navbridge ""
@@ -100,6 +100,9 @@ one_word() {
   offered none navbridge --from rinex --to cover --date "" | grep -q " '[0-9]\{8\} [0-9]\{6\} UTC'\$"
 }
 silent "completion of a date is one word" one_word
+
+silent "completion of the station's jobs" offered "files record run --help" navbridge-station ""
+silent "completion of the station's options" offered "--leap --letter" navbridge-station run --source x --le
 
 silent "removed" remove_it
 installed=
