@@ -10,8 +10,10 @@
 #   --keep          leaves inputs, outputs and samples in bench/build/soak; some 1.4 GB for an hour at a hundred times the rate
 #
 # Two runs side by side, stream to rinex and capture to rinex, fed by bench/feeder.py through a pipe, with connections that are
-# lost, garbage and cut frames in between. Each ten seconds the memory of both is read from /proc. It ends some minutes behind
-# the hour; status 0 where every output and every report is that of the run over the whole, and no ephemeris is missing.
+# lost, garbage and cut frames in between. Each ten seconds the memory of both is read from /proc: their own (RssAnon) and all
+# that is resident, of which the kernel may drop pages of the program's file at any time. It ends some minutes behind the hour;
+# status 0 where every output and every report is that of the run over the whole, and no ephemeris is missing (of a capture
+# the last ones are whole where the data ends with two hours, as with 3600 s or 1800 s at a hundred times the rate).
 set -euo pipefail
 cd "$(dirname "$0")/.."
 
@@ -79,19 +81,19 @@ for job in "${jobs[@]}"; do
   children+=("$!")
 done
 
-# a row for each job and moment: seconds, job, kB resident, kB at the peak, hundredths of a second of the processor
+# a row for each job and moment: seconds, job, kB of its own, kB at the peak of all, hundredths of a second of the processor
 begin=$SECONDS
 sample() {
-  local job kind value rest resident peak fields
+  local job kind value rest own peak fields
   for job in "${jobs[@]}"; do
-    resident='' peak=''
+    own='' peak=''
     while read -r kind value rest; do
-      case $kind in VmRSS:) resident=$value ;; VmHWM:) peak=$value ;; esac
+      case $kind in RssAnon:) own=$value ;; VmHWM:) peak=$value ;; esac
     done < "/proc/${id[$job]}/status" || true
     # a program that has ended and is not waited for has no memory
-    [ -n "$resident" ] || continue
+    [ -n "$own" ] || continue
     read -r -a fields < "/proc/${id[$job]}/stat" || continue
-    echo "$((SECONDS - begin)) $job $resident $peak $((fields[13] + fields[14]))" >> "$here/samples"
+    echo "$((SECONDS - begin)) $job $own $peak $((fields[13] + fields[14]))" >> "$here/samples"
   done 2> /dev/null
 }
 goes() {
@@ -127,14 +129,15 @@ for job in "${jobs[@]}"; do
   echo "$job: $(cat "$here/$job.told")"
   echo "  $(stat -c %s "$here/$job.out") bytes out, $written ephemerides; ${said:-output and report are those of the run over the whole}"
   tail -n 20 "$here/$job.report" | grep -v '^line\|^frame ' | paste -sd ',' | sed 's/,/, /g; s/^/  /'
-  # from the first tenth on: the line of least squares through the resident memory
+  # from the first tenth on: the line of least squares through its own memory
   awk -v job="$job" -v seconds="$seconds" '
     $2 != job { next }
-    { last = $3; peak = $4; ticks = $5; if ($1 >= seconds / 10) { n++; x += $1; y += $3; xx += $1 * $1; xy += $1 * $3; if (n == 1) first = $3; if ($3 > most) most = $3; if (n == 1 || $3 < least) least = $3 } }
+    { last = $3; ticks = $5; if ($4 > peak) peak = $4; if ($1 >= seconds / 10) { n++; x += $1; y += $3; xx += $1 * $1; xy += $1 * $3; if (n == 1) first = $3; if ($3 > most) most = $3; if (n == 1 || $3 < least) least = $3 } }
     END {
       if (n < 2) { print "  too few samples"; exit }
       slope = (n * xy - x * y) / (n * xx - x * x) * 3600
-      printf "  resident: %d kB at a tenth, %d kB at the end, %d to %d between, %d at the peak; slope %.1f kB an hour, %d samples; %.2f s of the processor\n", first, last, least, most, peak, slope, n, ticks / 100
+      printf "  its own memory: %d kB at a tenth, %d kB at the end, %d to %d between, slope %.0f kB an hour of %d samples;\n", first, last, least, most, slope, n
+      printf "  %d kB resident at the peak; %.2f s of the processor\n", peak, ticks / 100
     }' "$here/samples"
 done
 [ "$wrong" = 0 ]
