@@ -16,6 +16,7 @@
 set -euo pipefail
 umask 022
 export LC_ALL=C TZ=UTC
+start=$PWD
 cd "$(dirname "$(readlink -f "$0")")/.."
 programs=() maintainer='' version='' epoch=${SOURCE_DATE_EPOCH:-} out=packaging/build
 while [ $# -gt 0 ]; do
@@ -31,7 +32,9 @@ while [ $# -gt 0 ]; do
       ;;
   esac
   case $1 in
-    --program) programs+=("$2") ;;
+    # from where it was called
+    --program) programs+=("$(cd "$start" && readlink -f -- "$2")") ;;
+    --out) out=$(cd "$start" && readlink -m -- "$2") ;;
     *) printf -v "${1#--}" %s "$2" ;;
   esac
   shift 2
