@@ -164,7 +164,8 @@ for kind in run record; do
   echo "$kind: $(ls "$folder/$kind/files" | wc -l) files; records in each: $(grep -c '^> EPH' "$folder/$kind/files"/*.rnx | sed 's/.*://' | paste -s -d ' ')"
   check "all of them merged are the run over all that was sent, merged: $(grep -c '^> EPH' "$folder/whole.rnx") records" \
     cmp "$folder/$kind.rnx" "$folder/whole.rnx"
-  check "nothing but files stands in files/" test -z "$(find "$folder/$kind/files" -mindepth 1 ! -name '*_MN.rnx')"
+  # a run that is killed while it makes a file leaves a folder whose name begins with a point
+  check "nothing but files stands in files/" test -z "$(find "$folder/$kind/files" -mindepth 1 ! -path '*/files/.*' ! -name '*_MN.rnx')"
 done
 check "status 1 of the station whose program was killed" test "$first" = 1
 check "status 3 of the station whose source fell silent" test "$silent" = 3
