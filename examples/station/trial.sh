@@ -1,0 +1,173 @@
+#!/usr/bin/env bash
+# The station tried on this machine: a caster that is simulated, days of a minute, and what goes wrong at a station.
+#
+#   examples/station/trial.sh [--program PATH] [--folder DIR] [--port N]
+#
+#   --program PATH  the built program (NAVBRIDGE_PROGRAM, or crates/navbridge/out/navbridge, or that of the package)
+#   --folder DIR    is made, and stays; a temporary one, that goes, where it is not said
+#   --port N        of the caster, 20110 where it is not said; str2str listens on all addresses of the machine
+#
+# bench/feeder.py sends four minutes of 32 GPS and 32 Galileo satellites at thirty times the usual rate, with connections that
+# are lost, garbage and turned bits, through str2str as a caster. `navbridge-station run` and `navbridge-station record` hear
+# it. The program is killed; the station is stopped and started again; all its processes are killed and it is started again;
+# at last the caster falls silent. Then the files of both are compared with one run over all that was sent.
+# It takes five minutes. Status 0 where all is as it should be.
+set -uo pipefail
+cd "$(dirname "$(readlink -f "$0")")/../.." || exit 1
+# beside this script, or where the package has put them
+script=examples/station/navbridge-station built=crates/navbridge/out/navbridge
+[ -x "$script" ] || script=navbridge-station
+[ -x "$built" ] || built=navbridge
+program=${NAVBRIDGE_PROGRAM:-$built} folder='' port=20110
+while [ $# -gt 0 ]; do
+  case $1 in
+    -h | --help)
+      sed -n '2,/^set /{/^set /d;s/^# \{0,1\}//;p}' "$0"
+      exit 0
+      ;;
+    --program | --folder | --port)
+      [ $# -ge 2 ] || { echo "trial: $1 wants a value" >&2; exit 2; }
+      printf -v "${1#--}" %s "$2"
+      shift 2
+      ;;
+    *)
+      echo "trial: $1 is no option; --help" >&2
+      exit 2
+      ;;
+  esac
+done
+for it in "$program" "$script" str2str python3; do
+  command -v "$it" > /dev/null || { echo "trial: $it is not there" >&2; exit 2; }
+done
+program=$(readlink -f "$(command -v "$program")")
+if (: < "/dev/tcp/127.0.0.1/$port") 2> /dev/null; then
+  echo "trial: something listens on port $port already" >&2
+  exit 2
+fi
+goes=
+if [ -n "$folder" ]; then
+  mkdir -p "$folder"
+else
+  folder=$(mktemp -d)
+  goes=1
+fi
+folder=$(readlink -f "$folder")
+
+# ids of what is started, each the leader of a group of its own
+leaders=()
+clean() {
+  local id
+  for id in "${leaders[@]}"; do kill -KILL -- "-$id" 2> /dev/null; done
+  [ -z "$goes" ] || rm -rf -- "$folder"
+}
+of_group() { ps -eo pid=,pgid=,stat=,args= | awk -v group="$1" '$2 == group && $3 !~ /^Z/'; } # what has ended is not looked at
+trap clean EXIT
+trap 'exit 130' INT TERM
+set -m
+begin=$EPOCHSECONDS
+at() { # the second of the trial
+  while [ $((EPOCHSECONDS - begin)) -lt "$1" ]; do sleep 0.2; done
+}
+tell() { printf '%3d s: %s\n' $((EPOCHSECONDS - begin)) "$*"; }
+wrong=0
+check() { # what, command
+  local what=$1 said
+  shift
+  if said=$("$@" 2>&1); then echo "  $what: yes"; else
+    echo "  $what: NO"
+    printf '%s\n' "$said" | sed 's/^/    /'
+    wrong=1
+  fi
+}
+nothing_of() { # group: status 0 where no process of it is left; else it says which
+  local left
+  left=$(of_group "$1")
+  printf '%s' "$left"
+  [ -z "$left" ]
+}
+
+# it is no turn of a minute when the trial begins
+[ $(((EPOCHSECONDS + 18) % 60)) -lt 40 ] || sleep $((62 - (EPOCHSECONDS + 18) % 60))
+begin=$EPOCHSECONDS
+week=$(((begin - 315964800) / 604800))
+mkfifo "$folder/feed"
+str2str -out "tcpsvr://:$port" < "$folder/feed" 2> "$folder/caster.log" &
+caster=$!
+leaders+=("$caster")
+{
+  sleep 3
+  exec python3 bench/feeder.py stream --rate 30 --seconds 240 --week "$week" --begin 345600 2> "$folder/sent"
+} > >(exec tee "$folder/whole.rtcm3" > "$folder/feed") &
+leaders+=("$!")
+sleep 1
+words=(--source "tcpcli://127.0.0.1:$port" --span 60 --lap 5 --silent 15 --program "$program")
+station() {
+  "$script" run "${words[@]}" --folder "$folder/run" 2>> "$folder/run.log" &
+  station=$!
+  leaders+=("$station")
+}
+ended() { # the status of the station
+  status=0
+  wait "$station" 2> /dev/null || status=$?
+}
+"$script" record "${words[@]}" --folder "$folder/record" 2> "$folder/record.log" &
+record=$!
+leaders+=("$record")
+station
+tell "a caster, a station, a recorder"
+
+at 20
+tell "records in live/ so far: $(cat "$folder"/run/live/*.rnx | grep -c '^> EPH')"
+victim=$(of_group "$station" | awk -v program="$program" '$4 == program { print $1; exit }')
+kill -KILL "$victim"
+tell "the program killed (KILL)"
+at 70
+kill -TERM "$station"
+ended
+tell "the station stopped (TERM to its script): status $status; started again"
+first=$status
+station
+at 130
+kill -KILL -- "-$station"
+ended
+tell "all of the station killed (KILL to the group): status $status; started again two seconds later"
+sleep 2
+station
+at 243
+tell "the caster has nothing more"
+ended
+tell "the station ended by itself: status $status"
+silent=$status
+kill -TERM "$record"
+wait "$record"
+tell "the recorder stopped (TERM): status $?"
+kill -TERM "$caster"
+
+for kind in run record; do
+  "$script" files "${words[@]}" --folder "$folder/$kind" --all 2> "$folder/$kind.files.log"
+  tell "the files of $kind that were left: status $?"
+done
+
+echo
+echo "sent: $(cat "$folder/sent")"
+echo "what the station said:"
+sed 's/^/  /' "$folder/run.log"
+echo "what files said of the recorder's parts:"
+sed 's/^/  /' "$folder/record.files.log"
+merged() { "$program" --from rinex --to merged --date "20240101 000000 UTC" --leap 18 2> /dev/null; }
+"$program" --from stream --to rinex --week "$week" --date "20240101 000000 UTC" --leap 18 < "$folder/whole.rtcm3" 2> /dev/null \
+  | merged > "$folder/whole.rnx"
+echo
+for kind in run record; do
+  cat "$folder/$kind/files"/*.rnx | merged > "$folder/$kind.rnx"
+  # shellcheck disable=SC2012
+  echo "$kind: $(ls "$folder/$kind/files" | wc -l) files; records in each: $(grep -c '^> EPH' "$folder/$kind/files"/*.rnx | sed 's/.*://' | paste -s -d ' ')"
+  check "all of them merged are the run over all that was sent, merged: $(grep -c '^> EPH' "$folder/whole.rnx") records" \
+    cmp "$folder/$kind.rnx" "$folder/whole.rnx"
+  # a run that is killed while it makes a file leaves a folder whose name begins with a point
+  check "nothing but files stands in files/" test -z "$(find "$folder/$kind/files" -mindepth 1 ! -path '*/files/.*' ! -name '*_MN.rnx')"
+done
+check "status 1 of the station whose program was killed" test "$first" = 1
+check "status 3 of the station whose source fell silent" test "$silent" = 3
+check "no process of the station is left" nothing_of "$station"
+[ "$wrong" = 0 ]

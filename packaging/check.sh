@@ -1,0 +1,111 @@
+#!/usr/bin/env bash
+# Tries the Debian package: made twice, the same bytes; lintian; installed, used, verified and removed.
+#
+#   packaging/check.sh [--program PATH]      the built program (crates/navbridge/out/navbridge)
+#
+# It installs the package on this machine and removes it, so it wants root and a machine without the package. Debian packages
+# that it uses: lintian, man-db, systemd (for systemd-analyze), util-linux (taskset).
+set -uo pipefail
+cd "$(dirname "$(readlink -f "$0")")/.." || exit 1
+given=()
+while [ $# -gt 0 ]; do
+  case $1 in
+    -h | --help)
+      sed -n '2,/^set /{/^set /d;s/^# \{0,1\}//;p}' "$0"
+      exit 0
+      ;;
+    --program)
+      [ $# -ge 2 ] || { echo "check: --program wants a value" >&2; exit 2; }
+      given+=(--program "$(readlink -f "$2")")
+      shift 2
+      ;;
+    *)
+      echo "check: $1 is no option; --help" >&2
+      exit 2
+      ;;
+  esac
+done
+[ "$(id -u)" = 0 ] || { echo "check: only root may install a package" >&2; exit 2; }
+if dpkg -s navbridge > /dev/null 2>&1; then
+  echo "check: a package navbridge is there already" >&2
+  exit 2
+fi
+for it in dpkg lintian man systemd-analyze taskset; do
+  command -v "$it" > /dev/null || { echo "check: $it is not there" >&2; exit 2; }
+done
+work=$(mktemp -d)
+installed=
+clean() {
+  [ -z "$installed" ] || dpkg -P navbridge > /dev/null 2>&1
+  rm -rf -- "$work"
+}
+trap clean EXIT
+wrong=0
+# A check: what, and the command that wants status 0 and says nothing
+silent() {
+  local what=$1 said status=0
+  shift
+  said=$("$@" 2>&1) || status=$?
+  if [ "$status" = 0 ] && [ -z "$said" ]; then
+    echo "$what: yes"
+  else
+    echo "$what: NO (status $status)"
+    [ -z "$said" ] || printf '%s\n' "$said" | sed 's/^/  /'
+    wrong=1
+  fi
+}
+
+packaging/debian.sh "${given[@]}" --out "$work/one" || exit 1
+sleep 1
+(umask 077 && TZ=Asia/Tokyo LC_ALL=C.UTF-8 taskset -c 0 packaging/debian.sh "${given[@]}" --out "$work/two" > /dev/null) || exit 1
+package=$(echo "$work"/one/*.deb)
+silent "the same bytes with umask 077, in Tokyo, on one processor, a second later" cmp "$package" "$work/two/${package##*/}"
+silent "lintian has no error and no warning" lintian --allow-root "$package"
+dpkg-deb -c "$package" | awk '{ print "  " $1, $2, $6 }' | grep -v '/$' | grep -v 'doc/navbridge/\(examples\|docs\)/'
+
+find /usr /etc /var/lib -xdev -path /var/lib/dpkg -prune -o -print 2> /dev/null | sort > "$work/before"
+installed=1
+install_it() { dpkg -i "$package" > "$work/dpkg" 2>&1 || cat "$work/dpkg"; }
+remove_it() { dpkg -P navbridge > "$work/dpkg" 2>&1 || cat "$work/dpkg"; }
+has_page() { man -w "$1" > /dev/null; }
+silent "installed" install_it
+silent "dpkg -V" dpkg -V navbridge
+for name in $(dpkg -L navbridge | sed -n 's|^/usr/bin/||p'); do
+  silent "$name has a man page" has_page "$name"
+done
+mapfile -t units < <(dpkg -L navbridge | grep '\.\(service\|timer\)$')
+silent "systemd-analyze verify has nothing to say of ${#units[@]} units" systemd-analyze verify "${units[@]}"
+
+run() {
+  PROGRAM=/usr/bin/navbridge /usr/share/doc/navbridge/examples/check.sh > "$work/runs" 2>&1 || cat "$work/runs"
+}
+silent "the installed program gives each example's output, report and status" run
+has_help() { navbridge-station --help | grep -q -- --source; }
+silent "the installed station has its help" has_help
+offered() { # what is wanted, words: the last one is completed
+  local want=$1
+  shift
+  local got
+  # shellcheck disable=SC2016
+  got=$(bash -c '. "/usr/share/bash-completion/completions/$1"; COMP_WORDS=("$@"); COMP_CWORD=$(($# - 1)); "_${1//-/_}"; echo "${COMPREPLY[*]}"' complete "$@")
+  [ "$got" = "$want" ] || echo "of ${*:2}: $got"
+}
+silent "completion of nothing" offered "--from --to" navbridge ""
+silent "completion of forms" offered "capture rinex rinex3 seed stream" navbridge --from ""
+silent "completion of what a stream may become" offered "frames rinex rinex3 rtcm" navbridge --from stream --to ""
+silent "completion of a job's options" offered "--date --leap --week" navbridge --from=stream --to = rinex --
+silent "completion of options that are left" offered "--date --leap" navbridge --from stream --to rinex --week 2446 --
+silent "completion of a week" offered $((($(date +%s) - 315964800) / 604800)) navbridge --from stream --to rtcm --week ""
+one_word() {
+  offered none navbridge --from rinex --to cover --date "" | grep -q " '[0-9]\{8\} [0-9]\{6\} UTC'\$"
+}
+silent "completion of a date is one word" one_word
+
+silent "completion of the station's jobs" offered "files record run --help" navbridge-station ""
+silent "completion of the station's options" offered "--leap --letter" navbridge-station run --source x --le
+
+silent "removed" remove_it
+installed=
+find /usr /etc /var/lib -xdev -path /var/lib/dpkg -prune -o -print 2> /dev/null | sort > "$work/after"
+silent "nothing is left" comm -13 "$work/before" "$work/after"
+[ "$wrong" = 0 ]

@@ -1,0 +1,154 @@
+#!/usr/bin/env bash
+# A Debian package of the proved programs, with man pages, completion, units of systemd and examples.
+#
+#   packaging/debian.sh [--program PATH].. [--version VERSION] [--epoch SECONDS] [--maintainer NAME] [--out FOLDER]
+#
+#   --program PATH     a built program, named as in the package; given again: more of them. Where it is not said, those of
+#                      navbridge, navconvert and navlog that `rt ci` left in crates/NAME/out/NAME; navbridge must be there
+#   --version VERSION  0.YYYYMMDD of the last commit, where it is not said
+#   --epoch SECONDS    the time of all files (SOURCE_DATE_EPOCH, or that of the last commit)
+#   --maintainer NAME  with its address, as the package names it (the author of the last commit)
+#   --out FOLDER       where the package is put (packaging/build)
+#
+# The same programs and the same commit give the same bytes, whatever the umask, the time zone and the number of processors
+# are. The programs are stripped of their names (`strip --strip-unneeded`), which no running program reads.
+# It prints the package's name and its checksum. packaging/check.sh tries what it makes.
+set -euo pipefail
+umask 022
+export LC_ALL=C TZ=UTC
+start=$PWD
+cd "$(dirname "$(readlink -f "$0")")/.."
+programs=() maintainer='' version='' epoch=${SOURCE_DATE_EPOCH:-} out=packaging/build
+while [ $# -gt 0 ]; do
+  case $1 in
+    -h | --help)
+      sed -n '2,/^set /{/^set /d;s/^# \{0,1\}//;p}' "$0"
+      exit 0
+      ;;
+    --program | --maintainer | --version | --epoch | --out) [ $# -ge 2 ] || { echo "debian: $1 wants a value" >&2; exit 2; } ;;
+    *)
+      echo "debian: $1 is no option; --help" >&2
+      exit 2
+      ;;
+  esac
+  case $1 in
+    # from where it was called
+    --program) programs+=("$(cd "$start" && readlink -f -- "$2")") ;;
+    --out) out=$(cd "$start" && readlink -m -- "$2") ;;
+    *) printf -v "${1#--}" %s "$2" ;;
+  esac
+  shift 2
+done
+if [ ${#programs[@]} = 0 ]; then
+  for name in navbridge navconvert navlog; do
+    [ ! -x "crates/$name/out/$name" ] || programs+=("crates/$name/out/$name")
+  done
+fi
+found=
+for program in "${programs[@]}"; do
+  [ -x "$program" ] || { echo "debian: $program is no program" >&2; exit 2; }
+  [ "${program##*/}" != navbridge ] || found=1
+done
+[ -n "$found" ] || { echo "debian: no crates/navbridge/out/navbridge: 'rt ci' leaves it there, or --program names it" >&2; exit 2; }
+for it in dpkg-deb strip gzip md5sum git; do
+  command -v "$it" > /dev/null || { echo "debian: $it is not there" >&2; exit 2; }
+done
+: "${epoch:=$(git log -1 --format=%ct)}"
+: "${maintainer:=$(git log -1 --format='%an <%ae>')}"
+: "${version:=0.$(date -d "@$epoch" +%Y%m%d)}"
+export SOURCE_DATE_EPOCH=$epoch
+
+root=$(mktemp -d)
+trap 'rm -rf "$root"' EXIT
+chmod 755 "$root"
+# a file of the package: mode, where it goes, where it stands
+put() { install -D -m "$1" "$3" "$root/$2"; }
+page() { # a man page
+  mkdir -p "$root/usr/share/man/man1"
+  gzip -n9 < "$1" > "$root/usr/share/man/man1/${1##*/}.gz"
+}
+doc=usr/share/doc/navbridge
+
+for program in "${programs[@]}"; do
+  name=${program##*/}
+  put 755 "usr/bin/$name" "$program"
+  strip --strip-unneeded "$root/usr/bin/$name"
+  [ ! -e "docs/$name.1" ] || page "docs/$name.1"
+done
+put 755 usr/bin/navbridge-station examples/station/navbridge-station
+page examples/station/navbridge-station.1
+for completion in packaging/*.bash; do
+  name=${completion##*/}
+  put 644 "usr/share/bash-completion/completions/${name%.bash}" "$completion"
+done
+for unit in examples/station/*.service examples/station/*.timer; do put 644 "usr/lib/systemd/system/${unit##*/}" "$unit"; done
+put 644 "$doc/README.md" README.md
+for it in docs/*.md; do put 644 "$doc/$it" "$it"; done
+put 644 "$doc/bench/README.md" bench/README.md
+put 755 "$doc/bench/feeder.py" bench/feeder.py # what examples/station/trial.sh hears
+ln -s docs/OPERATING.md "$root/$doc/OPERATING.md"
+git ls-files examples | while read -r it; do
+  # what is installed already
+  case $it in examples/station/navbridge-station* | examples/station/*.service | examples/station/*.timer) continue ;; esac
+  mode=644
+  [ ! -x "$it" ] || mode=755
+  put "$mode" "$doc/$it" "$it"
+done
+{
+  cat << 'END'
+Format: https://www.debian.org/doc/packaging-manuals/copyright-format/1.0/
+Upstream-Name: navbridge
+
+Files: *
+END
+  echo "Copyright: $(sed -n 's/^Copyright (c) //p' LICENSE-MIT)"
+  cat << 'END'
+License: Expat or Apache-2.0
+
+License: Expat
+END
+  sed -n '/^Permission/,$s/^/ /p' LICENSE-MIT | sed 's/^ *$/ ./'
+  cat << 'END'
+
+License: Apache-2.0
+ On Debian systems the text of the Apache License, version 2.0, stands in
+ /usr/share/common-licenses/Apache-2.0.
+END
+} > "$root/$doc/copyright"
+{
+  echo "navbridge ($version) unstable; urgency=medium"
+  echo
+  echo "  * Built from the sources at $(git rev-parse --short=12 HEAD)."
+  echo
+  echo " -- $maintainer  $(date -R -d "@$epoch")"
+} | gzip -n9 > "$root/$doc/changelog.gz"
+
+mkdir -p "$root/DEBIAN"
+architecture=$(dpkg --print-architecture)
+size=$(find "$root" -path "$root/DEBIAN" -prune -o -type f -printf '%s\n' | awk '{ kb += int(($1 + 1023) / 1024) } END { print kb }')
+cat > "$root/DEBIAN/control" << END
+Package: navbridge
+Version: $version
+Architecture: $architecture
+Maintainer: $maintainer
+Installed-Size: $size
+Depends: libc6
+Recommends: rtklib
+Suggests: bash-completion, python3
+Section: science
+Priority: optional
+Description: proved converter of broadcast satellite orbits
+ navbridge converts ephemerides and ionosphere sets of GPS and Galileo between
+ the bits that satellites send, RTCM 3 messages and RINEX navigation files, by
+ whole numbers alone. It is written in Rattle, which is Rust with contracts,
+ and what it promises is proved.
+ .
+ navbridge-station keeps what a caster or a receiver sends, and makes RINEX
+ files by hour and by day of it; units of systemd are with it.
+END
+(cd "$root" && find usr -type f -print0 | sort -z | xargs -0 md5sum) > "$root/DEBIAN/md5sums"
+find "$root" -exec touch -h -d "@$epoch" {} +
+mkdir -p "$out"
+package=$out/navbridge_${version}_$architecture.deb
+dpkg-deb --build --root-owner-group -Zxz "$root" "$package" > /dev/null
+sha256sum "$package"
