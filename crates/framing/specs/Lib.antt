@@ -1,0 +1,5 @@
+pub mod Messages
+pub mod Headings
+pub mod Places
+pub mod State
+pub mod Mirrors
