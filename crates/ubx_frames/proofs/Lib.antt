@@ -1,0 +1,2 @@
+mod SumSteps
+mod Sizes

@@ -1,0 +1,4 @@
+pub mod Form
+pub mod Sums
+pub mod SumLaws
+pub mod FormLaws
