@@ -14,7 +14,7 @@ use arrayvec::ArrayVec;
 use std::marker::Model;
 
 // How many bytes are held at most.
-const WINDOW: usize = 131_072;
+const WINDOW: usize = 98_304;
 
 /// Takes the bytes of a stream in pieces and gives the messages in them, in order.
 ///
@@ -22,7 +22,7 @@ const WINDOW: usize = 131_072;
 /// `finished`; and the `message` that was taken last.
 #[derive(Drop)]
 pub struct Deframer<J: Judge> {
-    bytes: ArrayVec<u8, 131_072>,
+    bytes: ArrayVec<u8, 98_304>,
     judge: J,
     // where the message begins that was taken last
     found: usize,
@@ -157,7 +157,7 @@ impl<J: Judge> Deframer<J> {
 // Below how many bytes nothing is decided, where those from this place on wait.
 fn wanted_from<J: Judge>(bytes: &[u8], place: usize) -> usize
     requires inside { place ≤ length bytes.now }
-    requires few { length bytes.now ≤ 131072 }
+    requires few { length bytes.now ≤ 98304 }
     requires waiting { IsWaiting (format_of J.heading) (drop place bytes.now) }
     ensures { Promises (format_of J.heading) (drop place bytes.now) (result - place) }
 {
@@ -165,8 +165,8 @@ fn wanted_from<J: Judge>(bytes: &[u8], place: usize) -> usize
 }
 
 // Appends bytes, for which there is room.
-fn append(bytes: &mut ArrayVec<u8, 131_072>, piece: &[u8])
-    requires { array_vec_len bytes.old + length piece.now ≤ 131072 }
+fn append(bytes: &mut ArrayVec<u8, 98_304>, piece: &[u8])
+    requires { array_vec_len bytes.old + length piece.now ≤ 98304 }
     ensures { bytes.new.items ≡ bytes.old.items ++ piece.now }
 {
     if bytes.try_extend_from_slice(piece).is_err() {
@@ -176,18 +176,18 @@ fn append(bytes: &mut ArrayVec<u8, 131_072>, piece: &[u8])
 
 // Moves the bytes that were not passed to the front, where there are none or no more have room.
 fn make_room<J: Judge>(
-    bytes: &mut ArrayVec<u8, 131_072>,
+    bytes: &mut ArrayVec<u8, 98_304>,
     judge: &mut J,
     start: &mut usize,
     wanted: &mut usize,
 )
     requires inside { start.old ≤ length bytes.old.items }
-    requires short { length (drop start.old bytes.old.items) < 131072 }
+    requires short { length (drop start.old bytes.old.items) < 98304 }
     requires beside { J.IsBeside judge.old bytes.old.items }
     ensures inside { start.new ≤ length bytes.new.items }
     ensures rest { drop start.new bytes.new.items ≡ drop start.old bytes.old.items }
     ensures wanted { wanted.new - start.new ≡ wanted.old - start.old }
-    ensures room { length bytes.new.items < 131072 }
+    ensures room { length bytes.new.items < 98304 }
     ensures beside { J.IsBeside judge.new bytes.new.items }
 {
     if *start == bytes.len() || bytes.len() == WINDOW {
@@ -198,7 +198,7 @@ fn make_room<J: Judge>(
 }
 
 // Removes so many bytes in front.
-fn cut_front<J: Judge>(bytes: &mut ArrayVec<u8, 131_072>, judge: &mut J, count: usize)
+fn cut_front<J: Judge>(bytes: &mut ArrayVec<u8, 98_304>, judge: &mut J, count: usize)
     requires { count ≤ length bytes.old.items }
     ensures bytes { bytes.new.items ≡ drop count bytes.old.items }
     ensures beside { J.IsBeside judge.old bytes.old.items

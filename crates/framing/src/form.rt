@@ -45,7 +45,7 @@ pub fn next_start<J: Judge>(bytes: &[u8], from: usize) -> usize
 pub fn wanted_of<J: Judge>(rest: &[u8]) -> usize
     requires { IsWaiting (format_of J.heading) rest.now }
     ensures promise { Promises (format_of J.heading) rest.now result }
-    ensures most { result ≤ 131072 }
+    ensures most { result ≤ 98304 }
 {
     if rest.is_empty() {
         return 1;
@@ -62,7 +62,7 @@ pub fn waits<J: Judge>(rest: &[u8]) -> bool
 
 // The size of the message that begins at this place, or 0 where none does.
 pub fn size_at<J: Judge>(judge: &mut J, bytes: &[u8], place: usize) -> usize
-    requires few { length bytes.now ≤ 131072 }
+    requires few { length bytes.now ≤ 98304 }
     requires place { place ≤ length bytes.now }
     requires beside { J.IsBeside judge.old bytes.now }
     ensures value { result ≡ size_by J.heading (drop place bytes.now) }

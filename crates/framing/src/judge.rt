@@ -32,7 +32,7 @@ pub trait Judge: Drop {
 
     /// Whether the message at this place of the bytes has the right checksum.
     fn is_right(&mut self, bytes: &[u8], place: usize, size: usize) -> bool
-        requires few { length bytes.now ≤ 131072 }
+        requires few { length bytes.now ≤ 98304 }
         requires inside { place + size ≤ length bytes.now }
         requires begins { heading.begins (drop place bytes.now) ≡ true }
         requires size { size ≡ heading.wanted (drop place bytes.now) }
@@ -46,7 +46,7 @@ pub trait Judge: Drop {
 
     ghost is_heading: { IsHeading heading };
 
-    ghost is_short: { heading.longest ≤ 131072 };
+    ghost is_short: { heading.longest ≤ 98304 };
 
     ghost stays: { (judge : Self) (xs ys : List ℕ) → IsBeside judge xs → IsBeside judge (xs ++ ys) };
 }

@@ -10,7 +10,7 @@ use crate::judge::Judge;
 // The first place from this one on where a message begins or, where more bytes may come, that is
 // open, and the size of the message, or 0 where none begins.
 pub fn find<J: Judge>(judge: &mut J, bytes: &[u8], start: usize, more: bool) -> (usize, usize)
-    requires few { length bytes.now ≤ 131072 }
+    requires few { length bytes.now ≤ 98304 }
     requires start { start ≤ length bytes.now }
     requires beside { J.IsBeside judge.old bytes.now }
     ensures inside { result.0 + result.1 ≤ length bytes.now }

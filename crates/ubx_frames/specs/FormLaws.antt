@@ -24,5 +24,5 @@ ubx_is_sync = record {
 pub ubx_is_heading : IsHeading ubx
 ubx_is_heading = sync_is_heading ubx_sync ubx_is_sync
 
-pub ubx_is_short : ubx.longest ≤ 131072
+pub ubx_is_short : ubx.longest ≤ 98304
 ubx_is_short = omega arith

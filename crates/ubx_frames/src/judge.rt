@@ -20,9 +20,9 @@ pub type UbxDeframer = Deframer<UbxJudge>;
 #[derive(Drop)]
 pub struct UbxJudge {
     // the sum before each byte, up to some byte
-    sums: ArrayVec<u8, 131_073>,
+    sums: ArrayVec<u8, 98_305>,
     // the sum of those sums
-    runs: ArrayVec<u8, 131_073>,
+    runs: ArrayVec<u8, 98_305>,
 }
 
 impl Judge for UbxJudge {

@@ -9,7 +9,7 @@ use arrayvec::ArrayVec;
 
 // The sum of the bytes, and the sum of its running values.
 pub fn sums_of(bytes: &[u8]) -> (u64, u64)
-    requires { length bytes.now ≤ 131072 }
+    requires { length bytes.now ≤ 98304 }
     ensures sum { result.0 ≡ total bytes.now }
     ensures running { result.1 ≡ running 0 bytes.now }
 {
@@ -26,7 +26,7 @@ pub fn sums_of(bytes: &[u8]) -> (u64, u64)
 #[tactic(auto, unfolding(crate::specs::Form::has_right_sums))]
 pub fn has_right_sums(message: &[u8]) -> bool
     requires shortest { 8 ≤ length message.now }
-    requires longest { length message.now ≤ 131072 }
+    requires longest { length message.now ≤ 98304 }
     ensures { result ≡ are_right message.now }
 {
     let end = message.len() - 2;
@@ -37,13 +37,13 @@ pub fn has_right_sums(message: &[u8]) -> bool
 // Computes the sums up to the ones before this place.
 pub fn extend(
     bytes: &[u8],
-    sums: &mut ArrayVec<u8, 131_073>,
-    runs: &mut ArrayVec<u8, 131_073>,
+    sums: &mut ArrayVec<u8, 98_305>,
+    runs: &mut ArrayVec<u8, 98_305>,
     end: usize,
 )
     requires sums { AreSums bytes.now sums.old.items runs.old.items }
     requires inside { end ≤ length bytes.now }
-    requires room { length bytes.now ≤ 131072 }
+    requires room { length bytes.now ≤ 98304 }
     ensures sums { AreSums bytes.now sums.new.items runs.new.items }
     ensures reaches { end < array_vec_len sums.new }
 {
@@ -89,7 +89,7 @@ fn both_fit(total: u64, rest: u64, run: u64, run_rest: u64) -> bool
 }
 
 // Removes the sums of so many bytes in front.
-pub fn cut_sums(sums: &mut ArrayVec<u8, 131_073>, runs: &mut ArrayVec<u8, 131_073>, count: usize)
+pub fn cut_sums(sums: &mut ArrayVec<u8, 98_305>, runs: &mut ArrayVec<u8, 98_305>, count: usize)
     ensures { (bytes : List ℕ) → AreSums bytes sums.old.items runs.old.items
         → AreSums (drop count bytes) sums.new.items runs.new.items }
 {
@@ -102,7 +102,7 @@ pub fn cut_sums(sums: &mut ArrayVec<u8, 131_073>, runs: &mut ArrayVec<u8, 131_07
 }
 
 // Removes so many sums in front.
-fn cut_front(sums: &mut ArrayVec<u8, 131_073>, count: usize)
+fn cut_front(sums: &mut ArrayVec<u8, 98_305>, count: usize)
     requires { count ≤ array_vec_len sums.old }
     ensures { sums.new.items ≡ drop count sums.old.items }
 {
@@ -110,7 +110,7 @@ fn cut_front(sums: &mut ArrayVec<u8, 131_073>, count: usize)
 }
 
 // Leaves one sum alone, that of no bytes.
-pub fn begin_sums(sums: &mut ArrayVec<u8, 131_073>, runs: &mut ArrayVec<u8, 131_073>)
+pub fn begin_sums(sums: &mut ArrayVec<u8, 98_305>, runs: &mut ArrayVec<u8, 98_305>)
     ensures { (bytes : List ℕ) → AreSums bytes sums.new.items runs.new.items }
 {
     sums.clear();

@@ -1,0 +1,21 @@
+-- The capture of a log.
+use Rattle.std.specs.Prelude.{ℕ, List, [], ◌∷◌, ◌++◌, length}
+use Rattle.framing.specs.Messages.{messages}
+use Rattle.framing.specs.Headings.{Heading, format_of}
+use Rattle.receiver_messages.specs.declared.said.Said.{Said}
+use Rattle.receiver_log.specs.declared.state.LogState.{LogState}
+use Rattle.receiver_log.specs.Log.{begun, given}
+
+-- the lines that messages give, going on from a state, for what each message says
+abbrev pub lines_from : (List ℕ → Said) → LogState → List (List ℕ) → List ℕ
+lines_from said s [] = []
+lines_from said s (m ∷ ms) = (given s (length m) (said m)).text ++ lines_from said (given s (length m) (said m)).state ms
+
+-- the state after messages
+abbrev pub state_after : (List ℕ → Said) → LogState → List (List ℕ) → LogState
+state_after said s [] = s
+state_after said s (m ∷ ms) = state_after said (given s (length m) (said m)).state ms
+
+-- the capture of the bytes of a log
+abbrev pub capture_of : Heading → (List ℕ → Said) → List ℕ → List ℕ
+capture_of heading said bytes = lines_from said begun (messages (format_of heading) bytes)

@@ -1,0 +1,36 @@
+//! The lines of the report.
+
+use crate::state::Counts;
+use receiver_messages::Reason;
+use run_texts::{Text, append_count, report_text};
+
+// The line of a message that is refused.
+pub fn refusal(number: u64, reason: Reason) -> Text {
+    report_text(b"message", number, word_of(reason))
+}
+
+// The word of a reason.
+fn word_of(reason: Reason) -> &'static [u8] {
+    match reason {
+        Reason::Length => b"length",
+        Reason::Satellite => b"satellite",
+        Reason::Untimed => b"untimed",
+        Reason::Late => b"late",
+        Reason::Far => b"far",
+    }
+}
+
+// The lines of counts, of a log of so many bytes.
+pub fn counts_text(counts: &Counts, taken: u64) -> Text {
+    let mut text = Text::new();
+    append_count(&mut text, b"messages", counts.messages);
+    append_count(&mut text, b"skipped", taken.saturating_sub(counts.within));
+    append_count(&mut text, b"times", counts.times);
+    append_count(&mut text, b"subframes", counts.subframes);
+    append_count(&mut text, b"pages", counts.pages);
+    append_count(&mut text, b"refused", counts.refused);
+    append_count(&mut text, b"other", counts.other);
+    append_count(&mut text, b"turned", counts.turned);
+    append_count(&mut text, b"parity", counts.parity);
+    text
+}

@@ -1,0 +1,6 @@
+pub mod Numbers
+pub mod Times
+pub mod Words
+pub mod Halves
+pub mod Ubx
+pub mod Sbf

@@ -1,0 +1,6 @@
+mod SumLaws
+mod RegisterLaws
+mod TableLemmas
+mod EntryLemmas
+mod LookupLemmas
+mod CrcSteps
