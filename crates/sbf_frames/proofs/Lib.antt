@@ -4,3 +4,4 @@ mod TableLemmas
 mod EntryLemmas
 mod LookupLemmas
 mod CrcSteps
+mod Sizes

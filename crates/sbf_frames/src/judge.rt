@@ -69,13 +69,7 @@ impl Judge for SbfJudge {
             return true;
         }
         extend(bytes, &mut self.states, place + size);
-        has_right_crc_by(
-            self.states.as_slice(),
-            &mut self.powers,
-            bytes,
-            place,
-            size,
-        )
+        has_right_crc_by(self.states.as_slice(), &mut self.powers, bytes, place, size)
     }
 
     fn cut_front(&mut self, count: usize) {

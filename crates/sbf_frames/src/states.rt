@@ -140,7 +140,7 @@ fn grow(powers: &mut ArrayVec<u16, 16_384>, count: usize)
 {
     let reached = powers.len() - 1;
     let mut power = u32::from(powers.as_slice()[reached]);
-    for _ in reached..count {
+    for _next in reached..count {
         power = with_four_zeros(power);
         powers.push(power as u16);
     }
