@@ -1,5 +1,5 @@
 -- The capture that the messages of a log give, message by message.
-use Rattle.std.specs.Prelude.{ℕ, ◌+◌, ◌-◌, ◌*◌, ◌/◌, ◌^◌, nat_lt, nat_le, min, Bool, true, false, if◌then◌else◌, List, [], ◌∷◌, ◌++◌, length, codes, decimal, Option, Some, None}
+use Rattle.std.specs.Prelude.{◌≡◌, ℕ, ◌+◌, ◌-◌, ◌*◌, ◌/◌, ◌^◌, nat_lt, nat_le, min, Bool, true, false, if◌then◌else◌, List, [], ◌∷◌, ◌++◌, length, codes, decimal, Option, Some, None}
 use Rattle.nav_eph.specs.Satellite.{Satellite}
 use Rattle.inav_page.specs.declared.signal.Signal.{Signal}
 use Rattle.capture_lines.specs.Texts.{lnav_text, half_text}
@@ -136,3 +136,9 @@ begun = record {
     parity = 0;
   };
 }
+
+-- what was done to a state and to lines, and was answered, is what is given
+pub record Gives (state : LogState) (old new : List ℕ) (answer : Option Reason) (g : Given) : Type 0 where
+  pub state_is : state ≡ g.state
+  pub lines : new ≡ old ++ g.text
+  pub refused_is : answer ≡ g.refused

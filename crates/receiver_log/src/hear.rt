@@ -2,13 +2,17 @@
 
 ghost use Rattle.std.specs.Prelude.{◌≡◌, ◌+◌, ◌-◌, ◌*◌, ◌^◌, ◌<◌, ◌≤◌, ◌++◌};
 ghost use Rattle.arrayvec.specs.ArrayVec.{array_vec_len};
-ghost use Rattle.receiver_log.specs.Log.{given};
+ghost use Rattle.std.specs.Prelude.{ℕ, Some, IfNone};
+ghost use Rattle.nav_eph.specs.declared.sat.System.TheVariants.{Gps, Gal};
+ghost use Rattle.receiver_messages.specs.declared.said.Content.TheVariants.{Subframe, Page};
+ghost use Rattle.receiver_log.specs.Log.{Gives, given, given_at, head_text, refused_by};
+ghost use Rattle.receiver_log.specs.Log.{reason_in as reason_of, week_of as head_week};
 
 use crate::lines::{Lines, append_half, append_head, append_subframe};
 use crate::state::LogState;
 use gnss_week::Moment;
 use inav_page::Signal;
-use nav_bits::Bits;
+use nav_bits::{Bits, U};
 use nav_eph::Sat;
 use receiver_messages::{Content, Reason, Said, read_words, subframe_bits};
 
@@ -22,11 +26,8 @@ const FAR: u64 = 512;
 /// it is refused.
 pub fn hear(state: &mut LogState, bytes: usize, said: &Said, lines: &mut Lines) -> Option<Reason>
     requires { array_vec_len lines.old + 8192 ≤ 16384 }
-    ensures state { state.new ≡ (given state.old bytes said.now).state }
-    ensures lines { lines.new.items
-        ≡ lines.old.items ++ (given state.old bytes said.now).text }
-    ensures refused { result ≡ (given state.old bytes said.now).refused }
-    ensures short { array_vec_len lines.new ≤ array_vec_len lines.old + 8192 }
+    ensures { Gives state.new lines.old.items lines.new.items result
+        (given state.old bytes said.now) }
 {
     state.counts.messages = state.counts.messages.saturating_add(1);
     state.counts.within = state.counts.within.saturating_add(bytes as u64);
@@ -58,6 +59,8 @@ fn hear_at(
     lines: &mut Lines,
 ) -> Option<Reason>
     requires { array_vec_len lines.old + 8192 ≤ 16384 }
+    ensures { Gives state.new lines.old.items lines.new.items result
+        (given_at state.old time content.now) }
 {
     match content {
         Content::Refused(reason) => refuse(state, *reason),
@@ -79,6 +82,8 @@ fn hear_at(
 
 // Counts a message that is refused.
 fn refuse(state: &mut LogState, reason: Reason) -> Option<Reason>
+    ensures state { state.new ≡ (refused_by state.old reason).state }
+    ensures reason { result ≡ Some reason }
 {
     state.counts.refused = state.counts.refused.saturating_add(1);
     Some(reason)
@@ -86,6 +91,9 @@ fn refuse(state: &mut LogState, reason: Reason) -> Option<Reason>
 
 // The week of the first line, for lines from this second on.
 fn week_of(week: Option<u32>, first: u64) -> u64
+    requires { first < 2 ^ 40 }
+    ensures value { result ≡ head_week week first }
+    ensures fits { result < 2 ^ 32 }
 {
     match week {
         Some(week) => u64::from(week),
@@ -95,6 +103,10 @@ fn week_of(week: Option<u32>, first: u64) -> u64
 
 // Why lines from the first to the last of these seconds are refused in a capture of this week.
 fn reason_in(week: u64, first: u64, last: u64) -> Option<Reason>
+    requires { week < 2 ^ 32 }
+    ensures value { result ≡ reason_of week first last }
+    ensures admitted { IfNone result
+        ((604800 * week ≤ first) × (last < 604800 * (week + 512))) }
 {
     if first < WEEK * week {
         return Some(Reason::Late);
@@ -105,8 +117,15 @@ fn reason_in(week: u64, first: u64, last: u64) -> Option<Reason>
     None
 }
 
-// Writes the first line, where it was not written.
+// Writes the first line, where it was not written, before lines from this second on.
 fn begin(state: &mut LogState, week: u64, lines: &mut Lines)
+    ghost first: { ℕ }
+    requires week { week ≡ head_week state.old.week first }
+    requires fits { week < 2 ^ 32 }
+    requires room { array_vec_len lines.old + 640 ≤ 16384 }
+    ensures state { state.new ≡ record state.old { week = Some week } }
+    ensures lines { lines.new.items ≡ lines.old.items ++ head_text state.old.week first }
+    ensures short { array_vec_len lines.new ≤ array_vec_len lines.old + 640 }
 {
     if state.week.is_none() {
         append_head(lines, week as u32);
@@ -119,10 +138,13 @@ fn hear_subframe(
     state: &mut LogState,
     time: Moment,
     sat: Sat,
-    words: &[u32; 10],
+    words: &[U<30>; 10],
     lines: &mut Lines,
 ) -> Option<Reason>
-    requires { array_vec_len lines.old + 8192 ≤ 16384 }
+    requires room { array_vec_len lines.old + 8192 ≤ 16384 }
+    requires system { sat.system ≡ Gps }
+    ensures { Gives state.new lines.old.items lines.new.items result
+        (given_at state.old (Some time) (Subframe sat words.now)) }
 {
     let time = time.value();
     let week = week_of(state.week, time);
@@ -157,7 +179,10 @@ fn hear_page(
     odd: &Bits<15>,
     lines: &mut Lines,
 ) -> Option<Reason>
-    requires { array_vec_len lines.old + 8192 ≤ 16384 }
+    requires room { array_vec_len lines.old + 8192 ≤ 16384 }
+    requires system { sat.system ≡ Gal }
+    ensures { Gives state.new lines.old.items lines.new.items result
+        (given_at state.old (Some time) (Page sat signal even.now odd.now)) }
 {
     let time = time.value();
     let first = time.saturating_sub(1);

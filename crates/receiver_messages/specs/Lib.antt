@@ -4,3 +4,4 @@ pub mod Words
 pub mod Halves
 pub mod Ubx
 pub mod Sbf
+pub mod Systems

@@ -53,22 +53,25 @@ time_of_date payload =
 abbrev pub exponent_of : ℕ → ℕ
 exponent_of double = double / 2 ^ 52 % 2048
 
-abbrev pub digits_of : ℕ → ℕ
+unfoldable pub digits_of : ℕ → ℕ
 digits_of double = if exponent_of double == 0 then double % 2 ^ 52 else 2 ^ 52 + double % 2 ^ 52
 
 -- how many places its digits stand behind the point
-abbrev pub places_of : ℕ → ℕ
+unfoldable pub places_of : ℕ → ℕ
 places_of double = if exponent_of double == 0 then 1074 else 1075 - exponent_of double
 
 -- whether it is a number from 0 to below 604,800; one whose exponent is above 1075 is no less than 2^53
-abbrev pub is_in_week : ℕ → Bool
+unfoldable pub is_in_week : ℕ → Bool
 is_in_week double =
     (nat_lt double (2 ^ 63) || digits_of double == 0)
     && (nat_le (exponent_of double) 1075 && nat_lt (digits_of double / 2 ^ places_of double) 604800)
 
--- the nearest whole number
-abbrev pub nearest_to : ℕ → ℕ
-nearest_to double = (2 * digits_of double + 2 ^ places_of double) / (2 * 2 ^ places_of double)
+-- the nearest whole number, of two the higher
+unfoldable pub nearest_to : ℕ → ℕ
+nearest_to double =
+    if nat_lt (2 * (digits_of double % 2 ^ places_of double)) (2 ^ places_of double)
+    then digits_of double / 2 ^ places_of double
+    else digits_of double / 2 ^ places_of double + 1
 
 -- the time of so many seconds of a week, which are a double
 unfoldable pub time_of_seconds : ℕ → ℕ → Option ℕ

@@ -1,6 +1,6 @@
 -- The words of a subframe as a receiver logs them. A receiver gives the data bits of a word, and perhaps its parity bits too,
 -- as source bits: turned over where the word before ends in 1 (IS-GPS-200, 20.3.5.2).
-use Rattle.std.specs.Prelude.{ℕ, ◌+◌, ◌*◌, ◌%◌, ◌^◌, ◌==◌, ◌&&◌, if◌then◌else◌, Bool, true, not, List, [], ◌∷◌, bit_xor}
+use Rattle.std.specs.Prelude.{ℕ, ◌+◌, ◌*◌, ◌%◌, ◌^◌, ◌==◌, ◌&&◌, if◌then◌else◌, Bool, true, not, List, [], ◌∷◌, slice_index, bit_xor}
 use Rattle.lnav_parity.specs.Functions.{is_good}
 use Rattle.nav_bits.specs.Fields.{Field, unsigned, reserved}
 use Rattle.nav_bits.specs.Packed.{packed}
@@ -58,11 +58,14 @@ words_at xs at =
     word_at xs at ∷ word_at xs (at + 4) ∷ word_at xs (at + 8) ∷ word_at xs (at + 12) ∷ word_at xs (at + 16)
     ∷ word_at xs (at + 20) ∷ word_at xs (at + 24) ∷ word_at xs (at + 28) ∷ word_at xs (at + 32) ∷ word_at xs (at + 36) ∷ []
 
--- the words one behind the other, and four bits that are 0
+-- ten words one behind the other, and four bits that are 0
 abbrev pub word_fields : List ℕ → List Field
-word_fields [] = reserved 4 ∷ []
-word_fields (word ∷ words) = unsigned 30 word ∷ word_fields words
+word_fields words =
+    unsigned 30 (slice_index words 0) ∷ unsigned 30 (slice_index words 1) ∷ unsigned 30 (slice_index words 2)
+    ∷ unsigned 30 (slice_index words 3) ∷ unsigned 30 (slice_index words 4) ∷ unsigned 30 (slice_index words 5)
+    ∷ unsigned 30 (slice_index words 6) ∷ unsigned 30 (slice_index words 7) ∷ unsigned 30 (slice_index words 8)
+    ∷ unsigned 30 (slice_index words 9) ∷ reserved 4 ∷ []
 
 -- the 38 bytes of ten words
-abbrev pub subframe_bytes : List ℕ → List ℕ
+unfoldable pub subframe_bytes : List ℕ → List ℕ
 subframe_bytes words = packed 38 (word_fields words)

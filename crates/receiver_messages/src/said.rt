@@ -2,7 +2,7 @@
 
 use gnss_week::Moment;
 use inav_page::Signal;
-use nav_bits::Bits;
+use nav_bits::{Bits, U};
 use nav_eph::Sat;
 
 /// Why a message with a subframe or a page gives no line of a capture.
@@ -30,7 +30,7 @@ pub enum Content {
         /// The satellite.
         sat: Sat,
         /// The ten words of 30 bits, as they stand in the message.
-        words: [u32; 10],
+        words: [U<30>; 10],
     },
     /// A page of Galileo, in its two halves of 120 bits.
     Page {

@@ -4,6 +4,7 @@ ghost use Rattle.std.specs.Prelude.{◌≡◌, ◌+◌, ◌<◌, ◌≤◌, leng
 ghost use Rattle.receiver_messages.specs.Sbf.{block_said as block_of, page_said as page_of};
 ghost use Rattle.receiver_messages.specs.Sbf.{pages_said as pages_of, sbf_said as said_of};
 ghost use Rattle.receiver_messages.specs.Sbf.{subframe_said as subframe_of, time_at};
+ghost use Rattle.receiver_messages.specs.Systems.{SaysOfSystem};
 
 use crate::halves::{even_of_sbf, odd_of_sbf};
 use crate::numbers::{four, two};
@@ -21,7 +22,8 @@ use nav_eph::System;
 /// reason why it gives none.
 #[tactic(auto, unfolding(crate::specs::Sbf::sbf_said))]
 pub fn sbf_said(block: &[u8]) -> Said
-    ensures { result ≡ said_of block.now }
+    ensures value { result ≡ said_of block.now }
+    ensures system { SaysOfSystem result }
 {
     if block.len() < 8 {
         return Said::Other;
@@ -32,7 +34,8 @@ pub fn sbf_said(block: &[u8]) -> Said
 // What a block of a number says.
 #[tactic(auto, unfolding(crate::specs::Sbf::block_said))]
 fn block_said(number: u32, block: &[u8]) -> Said
-    ensures { result ≡ block_of number block.now }
+    ensures value { result ≡ block_of number block.now }
+    ensures system { SaysOfSystem result }
 {
     match number {
         4017 => subframe_said(block),
@@ -52,7 +55,8 @@ fn time_of(block: &[u8]) -> Option<Moment>
 // What GPSRawCA says.
 #[tactic(auto, unfolding(crate::specs::Sbf::subframe_said))]
 fn subframe_said(block: &[u8]) -> Said
-    ensures { result ≡ subframe_of block.now }
+    ensures value { result ≡ subframe_of block.now }
+    ensures system { SaysOfSystem result }
 {
     if block.len() < 60 {
         return Said::Dated(None, Content::Refused(Reason::Length));
@@ -73,7 +77,8 @@ fn subframe_said(block: &[u8]) -> Said
 // What GALRawINAV says.
 #[tactic(auto, unfolding(crate::specs::Sbf::pages_said))]
 fn pages_said(block: &[u8]) -> Said
-    ensures { result ≡ pages_of block.now }
+    ensures value { result ≡ pages_of block.now }
+    ensures system { SaysOfSystem result }
 {
     if block.len() < 52 {
         return Said::Dated(None, Content::Refused(Reason::Length));
@@ -88,7 +93,8 @@ fn pages_said(block: &[u8]) -> Said
 // A page of a signal.
 fn page_said(signal: Signal, block: &[u8]) -> Said
     requires { 52 ≤ length block.now }
-    ensures { result ≡ page_of signal block.now }
+    ensures value { result ≡ page_of signal block.now }
+    ensures system { SaysOfSystem result }
 {
     let time = time_of(block);
     match satellite(System::Gal, block[14].saturating_sub(70)) {

@@ -1,12 +1,11 @@
 //! The times that messages give.
 
-ghost use Rattle.std.specs.Prelude.{◌≡◌, ◌+◌, ◌-◌, ◌*◌, ◌/◌, ◌^◌, ◌<◌, ◌≤◌};
-ghost use Rattle.receiver_messages.specs.Times.{digits_of as double_digits, is_in_week};
+ghost use Rattle.std.specs.Prelude.{◌≡◌, ◌+◌, ◌-◌, ◌*◌, ◌/◌, ◌%◌, ◌^◌, ◌<◌, ◌≤◌, nat_lt, IsTrue};
+ghost use Rattle.receiver_messages.specs.Times.{digits_of as double_digits, exponent_of, is_in_week};
 ghost use Rattle.receiver_messages.specs.Times.{is_week as in_weeks, nearest_to, places_of};
 ghost use Rattle.receiver_messages.specs.Times.{time_in as moment_in, time_near as moment_near};
 ghost use Rattle.receiver_messages.specs.Times.{time_of_date as date_time};
 ghost use Rattle.gnss_week.specs.Functions.{moment_to};
-ghost use Rattle.std.specs.Prelude.{if◌then◌else◌, Some, None};
 ghost use Rattle.receiver_messages.specs.Times.{time_of_raw as raw_time};
 ghost use Rattle.receiver_messages.specs.Times.{time_of_seconds as seconds_time};
 ghost use Rattle.receiver_messages.specs.Times.{time_of_week as week_time, week_near as near_week};
@@ -106,32 +105,89 @@ fn time_of_seconds(week: u64, double: u64) -> Option<Moment>
     if !is_week(week) {
         return None;
     }
-    let Some(second) = nearest_second(double) else {
+    if !is_below_week(double) {
         return None;
-    };
-    Some(Moment::from_seconds(WEEK * week + second))
+    }
+    Some(Moment::from_seconds(WEEK * week + nearest(double)))
 }
 
-// The whole number nearest to a double, where it is one from 0 to below 604,800.
-fn nearest_second(double: u64) -> Option<u64>
-    ensures { result ≡ (if is_in_week double then Some (nearest_to double) else None) }
+// The digits of the exponent.
+fn exponent(double: u64) -> u64
+    ensures { result ≡ exponent_of double }
 {
-    let exponent = double >> 52 & 2047;
-    let fraction = double & 0xF_FFFF_FFFF_FFFF;
-    let (digits, places) = if exponent == 0 {
-        (fraction, 1074)
+    (double >> 52) % 2048
+}
+
+// The digits of the number itself.
+#[tactic(auto, unfolding(crate::specs::Times::digits_of))]
+fn digits(double: u64) -> u64
+    ensures value { result ≡ double_digits double }
+    ensures fits { result < 2 ^ 53 }
+{
+    let fraction = double % (1 << 52);
+    if exponent(double) == 0 {
+        fraction
     } else {
-        (fraction + (1 << 52), 1075u64.saturating_sub(exponent))
-    };
-    let is_negative = double >> 63 == 1 && digits != 0;
-    if is_negative || exponent > 1075 {
-        return None;
+        (1 << 52) + fraction
     }
+}
+
+// How many of them stand behind the point.
+#[tactic(auto, unfolding(crate::specs::Times::places_of))]
+fn places(double: u64) -> u64
+    ensures { result ≡ places_of double }
+{
+    if exponent(double) == 0 {
+        1074
+    } else {
+        1075u64.saturating_sub(exponent(double))
+    }
+}
+
+// Whether it is a number from 0 to below 604,800.
+#[tactic(auto, unfolding(crate::specs::Times::is_in_week))]
+fn is_below_week(double: u64) -> bool
+    ensures { result ≡ is_in_week double }
+{
+    let digits = digits(double);
+    if double >= 1 << 63 && digits != 0 {
+        return false;
+    }
+    exponent(double) <= 1075 && whole(digits, places(double)) < WEEK
+}
+
+// The digits before the point.
+fn whole(digits: u64, places: u64) -> u64
+    requires { digits < 2 ^ 53 }
+    ensures { result ≡ digits / 2 ^ places }
+{
+    if places > 60 { 0 } else { digits >> places }
+}
+
+// Whether the digits behind the point are less than a half.
+fn is_low(digits: u64, places: u64) -> bool
+    requires { digits < 2 ^ 53 }
+    ensures { result ≡ nat_lt (2 * (digits % 2 ^ places)) (2 ^ places) }
+{
     if places > 60 {
-        return Some(0);
+        return true;
     }
-    if digits >> places >= WEEK {
-        return None;
+    2 * (digits % (1 << places)) < 1 << places
+}
+
+// The nearest whole number.
+#[tactic(auto, unfolding(crate::specs::Times::is_in_week, crate::specs::Times::nearest_to))]
+fn nearest(double: u64) -> u64
+    requires { IsTrue (is_in_week double) }
+    ensures value { result ≡ nearest_to double }
+    ensures most { result ≤ 604800 }
+{
+    let digits = digits(double);
+    let places = places(double);
+    let whole = whole(digits, places);
+    if is_low(digits, places) {
+        whole
+    } else {
+        whole + 1
     }
-    Some((2 * digits + (1 << places)) >> (places + 1))
 }

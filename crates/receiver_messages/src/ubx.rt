@@ -1,9 +1,10 @@
 //! What messages of UBX say.
 
-ghost use Rattle.std.specs.Prelude.{◌≡◌, ◌+◌, ◌≤◌, length};
+ghost use Rattle.std.specs.Prelude.{◌≡◌, ◌+◌, ◌≤◌, length, IfSome};
 ghost use Rattle.receiver_messages.specs.Ubx.{galileo_words as galileo_of, gps_words as gps_of};
 ghost use Rattle.receiver_messages.specs.Ubx.{payload_said as payload_of_kind, ubx_said as said_of};
 ghost use Rattle.receiver_messages.specs.Ubx.{satellite_of, words_said as words_of};
+ghost use Rattle.receiver_messages.specs.Systems.{IsOfSystem, SaysOfSystem};
 
 use crate::halves::{even_of_ubx, odd_of_ubx};
 use crate::said::{Content, Reason, Said};
@@ -18,7 +19,8 @@ use nav_eph::{Sat, System};
 /// subframe of GPS L1 C/A or a page of Galileo E1-B or E5b, or a reason why it gives none.
 #[tactic(auto, unfolding(crate::specs::Ubx::ubx_said))]
 pub fn ubx_said(message: &[u8]) -> Said
-    ensures { result ≡ said_of message.now }
+    ensures value { result ≡ said_of message.now }
+    ensures system { SaysOfSystem result }
 {
     if message.len() < 8 {
         return Said::Other;
@@ -29,7 +31,8 @@ pub fn ubx_said(message: &[u8]) -> Said
 // What a payload of a class and a number says.
 #[tactic(auto, unfolding(crate::specs::Ubx::payload_said))]
 fn payload_said(class: u8, number: u8, payload: &[u8]) -> Said
-    ensures { result ≡ payload_of_kind class number payload.now }
+    ensures value { result ≡ payload_of_kind class number payload.now }
+    ensures system { SaysOfSystem result }
 {
     match (class, number) {
         (1, 0x20) => Said::Time(time_of_week(payload)),
@@ -43,7 +46,8 @@ fn payload_said(class: u8, number: u8, payload: &[u8]) -> Said
 // What RXM-SFRBX says.
 #[tactic(auto, unfolding(crate::specs::Ubx::words_said))]
 fn words_said(payload: &[u8]) -> Said
-    ensures { result ≡ words_of payload.now }
+    ensures value { result ≡ words_of payload.now }
+    ensures system { SaysOfSystem result }
 {
     if payload.len() < 8 {
         return Said::Heard(Content::Refused(Reason::Length));
@@ -60,7 +64,8 @@ fn words_said(payload: &[u8]) -> Said
 #[tactic(auto, unfolding(crate::specs::Ubx::gps_words, crate::specs::Ubx::satellite_of))]
 fn gps_words(payload: &[u8]) -> Content
     requires { 8 ≤ length payload.now }
-    ensures { result ≡ gps_of payload.now }
+    ensures value { result ≡ gps_of payload.now }
+    ensures system { IsOfSystem result }
 {
     if payload[4] != 10 || payload.len() != 48 {
         return Content::Refused(Reason::Length);
@@ -78,7 +83,8 @@ fn gps_words(payload: &[u8]) -> Content
 #[tactic(auto, unfolding(crate::specs::Ubx::galileo_words))]
 fn galileo_words(signal: Signal, payload: &[u8]) -> Content
     requires { 8 ≤ length payload.now }
-    ensures { result ≡ galileo_of signal payload.now }
+    ensures value { result ≡ galileo_of signal payload.now }
+    ensures system { IsOfSystem result }
 {
     let count = payload[4] as usize;
     if count < 8 || payload.len() != 8 + 4 * count {
@@ -98,7 +104,8 @@ fn galileo_words(signal: Signal, payload: &[u8]) -> Content
 // The satellite of a system with this number.
 #[tactic(auto, unfolding(crate::specs::Ubx::satellite_of))]
 pub fn satellite(system: System, number: u8) -> Option<Sat>
-    ensures { result ≡ satellite_of system number }
+    ensures value { result ≡ satellite_of system number }
+    ensures system { IfSome result (λ sat. sat.system ≡ system) }
 {
     Sat::new(system, number)
 }

@@ -1,24 +1,26 @@
 //! The words of a subframe, in whichever of three forms a receiver logged them.
 
-ghost use Rattle.std.specs.Prelude.{◌≡◌, ℕ, ◌+◌, ◌^◌, ◌<◌, ◌≤◌, IsTrue, length, slice_index};
+ghost use Rattle.std.specs.Prelude.{◌≡◌, ◌+◌, ◌%◌, ◌^◌, ◌<◌, ◌≤◌, ◌==◌, if◌then◌else◌, length};
+ghost use Rattle.std.specs.Prelude.{bit_xor};
+ghost use Rattle.lnav_parity.specs.Functions.{is_good};
 ghost use Rattle.receiver_messages.specs.Words.{are_good as all_good, has_good_reading, is_turned};
 ghost use Rattle.receiver_messages.specs.Words.{read_words as read_of, reading as reading_by};
-ghost use Rattle.receiver_messages.specs.Words.{subframe_bytes, words_at};
+ghost use Rattle.receiver_messages.specs.Words.{subframe_bytes, word_at, words_at};
 
 use crate::numbers::four;
 use lnav_parity::check_word;
-use nav_bits::{Bits, U, put_numbers};
+use nav_bits::{Bits, U, packed_are_the_only, put_numbers};
 
 // The 24 data bits of a word, and all 30.
-const DATA: u32 = 0x3FFF_FFC0;
+const DATA: u64 = 0x3FFF_FFC0;
 
-const WHOLE: u32 = 0x3FFF_FFFF;
+const WHOLE: u64 = 0x3FFF_FFFF;
 
 /// The words of a subframe, read.
 #[derive(Clone, Copy, PartialEq, Eq)]
 pub struct ReadWords {
     /// The ten words as they were sent, or as they stand in the message where no reading is good.
-    pub words: [u32; 10],
+    pub words: [U<30>; 10],
     /// Whether all ten have right parity.
     pub is_good: bool,
     /// Whether they are read otherwise than they stand.
@@ -27,7 +29,8 @@ pub struct ReadWords {
 
 /// The words of a subframe as they were sent: the one reading of three by which all ten have right
 /// parity (IS-GPS-200, 20.3.5.2), or the words as they stand where there is none.
-pub fn read_words(words: &[u32; 10]) -> ReadWords
+#[tactic(auto, unfolding(crate::specs::Words::read_words, crate::specs::Words::has_good_reading, crate::specs::Words::is_turned))]
+pub fn read_words(words: &[U<30>; 10]) -> ReadWords
     ensures words { result.words ≡ read_of words.now }
     ensures good { result.is_good ≡ has_good_reading words.now }
     ensures turned { result.is_turned ≡ is_turned words.now }
@@ -39,15 +42,21 @@ pub fn read_words(words: &[u32; 10]) -> ReadWords
             is_turned: false,
         };
     }
-    for mask in [DATA, WHOLE] {
-        let turned = reading(words, mask);
-        if are_good(&turned) {
-            return ReadWords {
-                words: turned,
-                is_good: true,
-                is_turned: true,
-            };
-        }
+    let data = reading(words, DATA);
+    if are_good(&data) {
+        return ReadWords {
+            words: data,
+            is_good: true,
+            is_turned: true,
+        };
+    }
+    let whole = reading(words, WHOLE);
+    if are_good(&whole) {
+        return ReadWords {
+            words: whole,
+            is_good: true,
+            is_turned: true,
+        };
     }
     ReadWords {
         words: *words,
@@ -58,42 +67,60 @@ pub fn read_words(words: &[u32; 10]) -> ReadWords
 
 // The first word as it stands, and each further one turned over by the mask where the one before
 // it, as it is read, ends in 1.
-fn reading(words: &[u32; 10], mask: u32) -> [u32; 10]
+fn reading(words: &[U<30>; 10], mask: u64) -> [U<30>; 10]
+    requires { mask < 2 ^ 30 }
     ensures { result ≡ reading_by mask words.now }
 {
     let mut read = *words;
-    for i in 1..10 {
-        if read[i - 1] % 2 == 1 {
-            read[i] ^= mask;
-        }
+    let mut last = 0;
+    for i in 0..10 {
+        last = turned(words[i].value(), last, mask);
+        read[i] = U::from_digits(last);
     }
     read
 }
 
+// A word, turned over where the one before it ends in 1.
+fn turned(word: u64, last: u64, mask: u64) -> u64
+    requires word { word < 2 ^ 30 }
+    requires mask { mask < 2 ^ 30 }
+    ensures value { result ≡ (if last % 2 == 1 then bit_xor word mask else word) }
+    ensures fits { result < 2 ^ 30 }
+{
+    if last % 2 == 1 { word ^ mask } else { word }
+}
+
 // Whether all words have right parity.
-fn are_good(words: &[u32; 10]) -> bool
+fn are_good(words: &[U<30>; 10]) -> bool
     ensures { result ≡ all_good words.now }
 {
     let mut last = 0;
     for word in words {
-        let word = u64::from(*word);
-        if check_word(U::from_digits(word), U::from_digits(last)).is_none() {
+        if !has_parity(*word, last) {
             return false;
         }
-        last = word % 4;
+        last = word.value();
     }
     true
 }
 
-// The word at a place: the lower 30 of 32 bits.
-fn word(bytes: &[u8], at: usize) -> u32
-    requires { at + 4 ≤ length bytes.now }
+// Whether a word has right parity behind one that ends so.
+fn has_parity(word: U<30>, last: u64) -> bool
+    ensures { result ≡ is_good word (last % 4) }
 {
-    four(bytes, at) % (1 << 30)
+    check_word(word, U::from_digits(last % 4)).is_some()
+}
+
+// The word at a place: the lower 30 of 32 bits.
+fn word(bytes: &[u8], at: usize) -> U<30>
+    requires { at + 4 ≤ length bytes.now }
+    ensures { result ≡ word_at bytes.now at }
+{
+    U::from_digits(u64::from(four(bytes, at) % (1 << 30)))
 }
 
 /// The ten words of a subframe from a place on.
-pub fn words_from(bytes: &[u8], at: usize) -> [u32; 10]
+pub fn words_from(bytes: &[u8], at: usize) -> [U<30>; 10]
     requires { at + 40 ≤ length bytes.now }
     ensures { result ≡ words_at bytes.now at }
 {
@@ -112,14 +139,30 @@ pub fn words_from(bytes: &[u8], at: usize) -> [u32; 10]
 }
 
 /// The 300 bits of ten words, and four that are 0.
-pub fn subframe_bits(words: &[u32; 10]) -> Bits<38>
+#[tactic(auto, unfolding(crate::specs::Words::subframe_bytes))]
+pub fn subframe_bits(words: &[U<30>; 10]) -> Bits<38>
     ensures { result ≡ subframe_bytes words.now }
 {
     let mut bytes = [0u8; 38];
-    let mut fields = [(30u32, 0u64); 10];
-    for i in 0..10 {
-        fields[i].1 = u64::from(words[i]);
-    }
-    put_numbers(&mut bytes, 0, &fields);
-    Bits::from_bytes(bytes)
+    put_numbers(
+        &mut bytes,
+        0,
+        &[
+            (30, words[0].value()),
+            (30, words[1].value()),
+            (30, words[2].value()),
+            (30, words[3].value()),
+            (30, words[4].value()),
+            (30, words[5].value()),
+            (30, words[6].value()),
+            (30, words[7].value()),
+            (30, words[8].value()),
+            (30, words[9].value()),
+            (4, 0),
+        ],
+    );
+    packed_are_the_only();
+    let bits = Bits::from_bytes(bytes);
+    bits.are_bytes();
+    bits
 }
