@@ -17,7 +17,7 @@
 //! ```
 #![tactic(auto)]
 
-mod hear;
+mod hearing;
 mod lines;
 mod receiver;
 mod report;
@@ -25,7 +25,7 @@ mod run;
 mod source;
 mod state;
 
-pub use crate::hear::hear;
+pub use crate::hearing::hear;
 pub use crate::lines::Lines;
 pub use crate::receiver::Receiver;
 pub use crate::run::run_log;

@@ -4,6 +4,7 @@ ghost use Rattle.std.specs.Prelude.{◌≡◌, List, ℕ};
 ghost use Rattle.receiver_messages.specs.declared.said.Said.{Said as WhatIsSaid};
 ghost use Rattle.receiver_messages.specs.Sbf.{sbf_said as sbf_says};
 ghost use Rattle.receiver_messages.specs.Ubx.{ubx_said as ubx_says};
+ghost use Rattle.receiver_messages.specs.Systems.{SaysOfSystem};
 
 use framing::Judge;
 use receiver_messages::{Said, sbf_said, ubx_said};
@@ -17,7 +18,8 @@ pub trait Receiver: Judge {
 
     /// What a whole message says.
     fn tell(message: &[u8]) -> Said
-        ensures { result ≡ said message.now };
+        ensures value { result ≡ said message.now }
+        ensures system { SaysOfSystem result };
 }
 
 impl Receiver for UbxJudge {

@@ -5,3 +5,4 @@ pub mod Halves
 pub mod Ubx
 pub mod Sbf
 pub mod Systems
+pub mod Readings

@@ -24,6 +24,7 @@ mod times;
 mod ubx;
 mod words;
 
+pub use crate::laws::{one_reading_is_good, sent_words_are_read};
 pub use crate::said::{Content, Reason, Said};
 pub use crate::sbf::sbf_said;
 pub use crate::ubx::ubx_said;

@@ -5,6 +5,7 @@ ghost use Rattle.arrayvec.specs.ArrayVec.{array_vec_len};
 ghost use Rattle.std.specs.Prelude.{ℕ, Some, IfNone};
 ghost use Rattle.nav_eph.specs.declared.sat.System.TheVariants.{Gps, Gal};
 ghost use Rattle.receiver_messages.specs.declared.said.Content.TheVariants.{Subframe, Page};
+ghost use Rattle.receiver_messages.specs.Systems.{IsOfSystem, SaysOfSystem};
 ghost use Rattle.receiver_log.specs.Log.{Gives, given, given_at, head_text, refused_by};
 ghost use Rattle.receiver_log.specs.Log.{reason_in as reason_of, week_of as head_week};
 
@@ -25,7 +26,8 @@ const FAR: u64 = 512;
 /// Hears a message of so many bytes that says so much: appends its lines, and gives the reason where
 /// it is refused.
 pub fn hear(state: &mut LogState, bytes: usize, said: &Said, lines: &mut Lines) -> Option<Reason>
-    requires { array_vec_len lines.old + 8192 ≤ 16384 }
+    requires room { array_vec_len lines.old + 8192 ≤ 16384 }
+    requires system { SaysOfSystem said.now }
     ensures { Gives state.new lines.old.items lines.new.items result
         (given state.old bytes said.now) }
 {
@@ -58,7 +60,8 @@ fn hear_at(
     content: &Content,
     lines: &mut Lines,
 ) -> Option<Reason>
-    requires { array_vec_len lines.old + 8192 ≤ 16384 }
+    requires room { array_vec_len lines.old + 8192 ≤ 16384 }
+    requires system { IsOfSystem content.now }
     ensures { Gives state.new lines.old.items lines.new.items result
         (given_at state.old time content.now) }
 {
