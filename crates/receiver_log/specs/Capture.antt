@@ -27,3 +27,8 @@ left_of heading said s waiting held piece (Some following) =
 -- the capture of the bytes of a log
 abbrev pub capture_of : Heading → (List ℕ → Said) → List ℕ → List ℕ
 capture_of heading said bytes = lines_from said begun (messages (format_of heading) bytes)
+
+-- the capture of what is left of a source
+abbrev pub capture_left : Heading → (List ℕ → Said) → Option (List ℕ) → Option (List ℕ)
+capture_left heading said None = None
+capture_left heading said (Some bytes) = Some (capture_of heading said bytes)

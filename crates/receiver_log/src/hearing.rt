@@ -120,14 +120,14 @@ fn reason_in(week: u64, first: u64, last: u64) -> Option<Reason>
     None
 }
 
-// Writes the first line, where it was not written, before lines from this second on.
+// Writes the first line, which has this week, where it was not written.
 fn begin(state: &mut LogState, week: u64, lines: &mut Lines)
-    ghost first: { ℕ }
-    requires week { week ≡ head_week state.old.week first }
     requires fits { week < 2 ^ 32 }
     requires room { array_vec_len lines.old + 640 ≤ 16384 }
-    ensures state { state.new ≡ record state.old { week = Some week } }
-    ensures lines { lines.new.items ≡ lines.old.items ++ head_text state.old.week first }
+    ensures state { (first : ℕ) → week ≡ head_week state.old.week first
+        → state.new ≡ record state.old { week = Some week } }
+    ensures lines { (first : ℕ) → week ≡ head_week state.old.week first
+        → lines.new.items ≡ lines.old.items ++ head_text state.old.week first }
     ensures short { array_vec_len lines.new ≤ array_vec_len lines.old + 640 }
 {
     if state.week.is_none() {

@@ -1,13 +1,16 @@
 //! The capture of a log as a source of bytes.
 
-ghost use Rattle.std.specs.Prelude.{◌≡◌, ◌+◌, ◌<◌, ◌≤◌, ◌++◌, ℕ, List, [], length, drop, take};
+ghost use Rattle.std.specs.Prelude.{◌≡◌, ◌+◌, ◌^◌, ◌<◌, ◌≤◌, ◌++◌, ℕ, List, [], length, drop, take};
 ghost use Rattle.std.specs.Prelude.{true, false, IsTrue, IfOk, IfErr, OnOk, OnErr};
 ghost use Rattle.std.specs.Prelude.{MatchResult, MatchOption};
 ghost use Rattle.framing.specs.Headings.{format_of};
 ghost use Rattle.framing.specs.Messages.{messages};
-ghost use Rattle.framing.specs.State.{IsWaiting};
+ghost use Rattle.framing.specs.State.{IsWaiting, MayFeed};
+ghost use Rattle.std.specs.Io.KnownBytes.{Consumes, IsAtEnd, Keeps};
 ghost use Rattle.nav_io.specs.Causes.{HasCause, Rose};
-ghost use Rattle.receiver_log.specs.Capture.{left_of, lines_from};
+ghost use Rattle.receiver_log.specs.Log.{Gives, given};
+ghost use Rattle.receiver_log.specs.Capture.{capture_left, left_of, lines_from};
+ghost use Rattle.receiver_log.specs.declared.state.LogState.{LogState as LogStateNow};
 
 use crate::hearing::hear;
 use crate::lines::Lines;
@@ -17,6 +20,7 @@ use crate::state::LogState;
 use arrayvec::ArrayVec;
 use framing::Deframer;
 use nav_io::{Failed, Sink, Source};
+use receiver_messages::Reason;
 
 // How many bytes are read at most at a time.
 const PIECE: usize = 16_384;
@@ -50,7 +54,10 @@ pub struct LogSource<S: Source, U: Sink, J: Receiver> {
 
 impl<S: Source, U: Sink, J: Receiver> LogSource<S, U, J> {
     /// The capture of the log that this source gives, from its beginning.
-    pub fn new(source: S, report: U) -> Self {
+    pub fn new(source: S, report: U) -> Self
+        ensures left { ⟦<LogSource<S, U, J> as Source>⟧.left result
+            ≡ capture_left J.heading J.said (S.left source) }
+    {
         LogSource {
             source,
             report,
@@ -71,6 +78,53 @@ impl<S: Source, U: Sink, J: Receiver> LogSource<S, U, J> {
         self.report_failed
     }
 
+    // One step, where no line waits: hears the messages that are decided, or else feeds bytes;
+    // whether anything may follow.
+    #[tactic(auto, using(crate::proofs::Steps::keeps))]
+    fn step(&mut self) -> Result<bool, Failed>
+        requires given { drop self.old.given self.old.lines.items ≡ [] }
+        ensures left { Keeps
+            (left_of J.heading J.said self.old.state [] self.old.deframer
+            (drop self.old.fed self.old.piece.items) (S.left self.old.source))
+            (left_of J.heading J.said self.new.state (drop self.new.given self.new.lines.items)
+            self.new.deframer (drop self.new.fed self.new.piece.items) (S.left self.new.source)) }
+        ensures end { IfOk result (λ more. more ≡ false → IsAtEnd
+            (left_of J.heading J.said self.new.state (drop self.new.given self.new.lines.items)
+            self.new.deframer (drop self.new.fed self.new.piece.items) (S.left self.new.source))) }
+        ensures cause { HasCause
+            (S.faults self.old.source + (U.faults self.old.report + self.old.faults))
+            (S.faults self.new.source + (U.faults self.new.report + self.new.faults)) result }
+    {
+        self.lines.clear();
+        self.given = 0;
+        if hear_messages(
+            &mut self.deframer,
+            &mut self.state,
+            &mut self.lines,
+            &mut self.report,
+        )
+        .is_err()
+        {
+            self.report_failed = true;
+            return Err(Failed);
+        }
+        if !self.lines.is_empty() {
+            return Ok(true);
+        }
+        if !self.deframer.may_feed() {
+            return Ok(false);
+        }
+        self.report_failed = false;
+        refill(
+            &mut self.source,
+            &mut self.deframer,
+            &mut self.piece,
+            &mut self.fed,
+            &mut self.taken,
+        )?;
+        Ok(true)
+    }
+
     /// Reports the counts.
     pub fn report_counts(&mut self) -> Result<(), Failed> {
         let text = counts_text(&self.state.counts, self.taken);
@@ -87,44 +141,16 @@ impl<S: Source, U: Sink, J: Receiver> Source for LogSource<S, U, J> {
     ghost never_fails = { λ _. false };
 
     /// Gives lines that wait, or those of the messages that are decided next.
+    #[tactic(auto, using(crate::proofs::Steps::keeps))]
     fn read(&mut self, into: &mut [u8]) -> Result<usize, Failed> {
-        for _ in 0..u64::MAX {
+        'steps: for _ in 0..u64::MAX {
             let count = give(&self.lines, self.given, into);
             if count > 0 || into.is_empty() {
                 self.given += count;
                 return Ok(count);
             }
-            self.lines.clear();
-            self.given = 0;
-            if hear_messages(
-                &mut self.deframer,
-                &mut self.state,
-                &mut self.lines,
-                &mut self.report,
-            )
-            .is_err()
-            {
-                self.report_failed = true;
-                return Err(Failed);
-            }
-            if !self.lines.is_empty() {
-                continue;
-            }
-            if !self.deframer.may_feed() {
+            if !self.step()? {
                 return Ok(0);
-            }
-            if self.fed >= self.piece.len() {
-                self.fed = 0;
-                match read_piece(&mut self.source, &mut self.piece) {
-                    Ok(0) => self.deframer.finish(),
-                    Ok(count) => self.taken = self.taken.saturating_add(count as u64),
-                    Err(Failed) => {
-                        self.report_failed = false;
-                        return Err(Failed);
-                    }
-                }
-            } else {
-                self.fed += self.deframer.feed_some(&self.piece.as_slice()[self.fed..]);
             }
         }
         self.faults = self.faults.saturating_add(1);
@@ -137,7 +163,7 @@ fn give(lines: &Lines, from: usize, into: &mut [u8]) -> usize
     ensures count { result ≤ length into.new }
     ensures some { result ≡ 0 → 0 < length into.new → drop from lines.now.items ≡ [] }
     ensures bytes { take result into.new ≡ take result (drop from lines.now.items) }
-    ensures inside { from + result ≤ length lines.now.items + from }
+    ensures fits { from + result < 2 ^ 64 }
 {
     if from >= lines.len() {
         return 0;
@@ -155,14 +181,22 @@ fn hear_messages<U: Sink, J: Receiver>(
     lines: &mut Lines,
     report: &mut U,
 ) -> Result<(), Failed>
+    ensures stream { (following : List ℕ) → (deframer.old.finished ≡ true → following ≡ [])
+        → lines.old.items ++ lines_from J.said state.old
+        (messages (format_of J.heading) (deframer.old.rest ++ following))
+        ≡ lines.new.items ++ lines_from J.said state.new
+        (messages (format_of J.heading) (deframer.new.rest ++ following)) }
+    ensures finished { deframer.new.finished ≡ deframer.old.finished }
+    ensures none { OnOk result (length lines.new.items ≤ 8192
+        → IsWaiting (format_of J.heading) deframer.new.rest
+        × (deframer.new.finished ≡ true → deframer.new.rest ≡ [])) }
+    ensures cause { HasCause (U.faults report.old) (U.faults report.new) result }
 {
     while lines.len() <= ROOM {
         if !deframer.next_message() {
             return Ok(());
         }
-        let message = deframer.message();
-        let said = J::tell(message);
-        if let Some(reason) = hear(state, message.len(), &said, lines) {
+        if let Some(reason) = hear_message(deframer, state, lines) {
             let line = refusal(state.counts.messages, reason);
             report.write(line.as_slice())?;
         }
@@ -170,14 +204,73 @@ fn hear_messages<U: Sink, J: Receiver>(
     Ok(())
 }
 
+// Hears the message that was taken last.
+fn hear_message<J: Receiver>(
+    deframer: &Deframer<J>,
+    state: &mut LogState,
+    lines: &mut Lines,
+) -> Option<Reason>
+    requires { length lines.old.items ≤ 8192 }
+    ensures { Gives state.new lines.old.items lines.new.items result
+        (given state.old (length deframer.now.message) (J.said deframer.now.message)) }
+{
+    let message = deframer.message();
+    let said = J::tell(message);
+    hear(state, message.len(), &said, lines)
+}
+
+// Feeds what was read, or reads, or says that nothing follows.
+fn refill<S: Source, J: Receiver>(
+    source: &mut S,
+    deframer: &mut Deframer<J>,
+    piece: &mut ArrayVec<u8, 16_384>,
+    fed: &mut usize,
+    taken: &mut u64,
+) -> Result<(), Failed>
+    requires { MayFeed (format_of J.heading) deframer.old }
+    ensures left { (state : LogStateNow) → Keeps
+        (left_of J.heading J.said state [] deframer.old (drop fed.old piece.old.items)
+        (S.left source.old))
+        (left_of J.heading J.said state [] deframer.new (drop fed.new piece.new.items)
+        (S.left source.new)) }
+    ensures cause { HasCause (S.faults source.old) (S.faults source.new) result }
+{
+    if *fed < piece.len() {
+        *fed += deframer.feed_some(&piece.as_slice()[*fed..]);
+        return Ok(());
+    }
+    let count = read_piece(source, piece)?;
+    *fed = 0;
+    *taken = taken.saturating_add(count as u64);
+    if count == 0 {
+        deframer.finish();
+    }
+    Ok(())
+}
+
 // Reads a piece in place of another.
 fn read_piece<S: Source>(source: &mut S, piece: &mut ArrayVec<u8, 16_384>) -> Result<usize, Failed>
+    ensures count { IfOk result (λ count. count ≡ length piece.new.items) }
+    ensures bytes { MatchResult result
+        (λ count. Consumes (S.left source.old) (S.left source.new) piece.new.items
+        × (count ≡ 0 → IsAtEnd (S.left source.new)))
+        (λ _. Keeps (S.left source.old) (S.left source.new)) }
+    ensures kept { OnErr result (piece.new ≡ piece.old) }
+    ensures cause { HasCause (S.faults source.old) (S.faults source.new) result }
 {
     let mut bytes = [0u8; PIECE];
     let count = source.read(&mut bytes)?;
     piece.clear();
-    if piece.try_extend_from_slice(&bytes[..count]).is_err() {
+    put(piece, &bytes[..count]);
+    Ok(count)
+}
+
+// Puts bytes into an empty piece.
+fn put(piece: &mut ArrayVec<u8, 16_384>, bytes: &[u8])
+    requires { length piece.old.items + length bytes.now ≤ 16384 }
+    ensures { piece.new.items ≡ piece.old.items ++ bytes.now }
+{
+    if piece.try_extend_from_slice(bytes).is_err() {
         unreachable!();
     }
-    Ok(count)
 }
