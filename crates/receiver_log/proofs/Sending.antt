@@ -65,4 +65,3 @@ pub sent_all : (h : Heading) (said : List ℕ → Said) (o left next old new : O
 sent_all h said None left next old new sent takes end = tt
 sent_all h said (Some b) left next old new sent takes end = take_all (capture_of h said b) left next old new sent takes end
 
-pub ruleset sending = (sent_none, sent_more, sent_all)

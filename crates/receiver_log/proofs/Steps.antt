@@ -96,4 +96,3 @@ given_consumes h said (Some xs) s lines from count held piece (Some ys) bytes ke
     sym keep ∙ ap (λ zs. zs ++ rest) (sym parts) ∙ append_assoc (take count (drop from lines)) (drop (from + count) lines) rest
     ∙ ap (λ zs. zs ++ (drop (from + count) lines ++ rest)) (sym is)
 
-pub ruleset keeps = (keeps_same, keeps_more, keeps_consumes)

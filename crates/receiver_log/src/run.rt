@@ -17,7 +17,6 @@ use nav_io::{Sink, Source};
 /// | 3 | the input failed |
 /// | 4 | the output failed |
 /// | 7 | the report failed |
-#[tactic(auto, using(crate::proofs::Sending::sending))]
 pub fn run_log<J: Receiver, S: Source + Drop, T: Sink, U: Sink + Drop>(
     input: S,
     output: &mut T,

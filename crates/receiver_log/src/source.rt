@@ -80,7 +80,6 @@ impl<S: Source, U: Sink, J: Receiver> LogSource<S, U, J> {
 
     // One step, where no line waits: hears the messages that are decided, or else feeds bytes;
     // whether anything may follow.
-    #[tactic(auto, using(crate::proofs::Steps::keeps))]
     fn step(&mut self) -> Result<bool, Failed>
         requires given { drop self.old.given self.old.lines.items ≡ [] }
         ensures left { Keeps
@@ -141,7 +140,6 @@ impl<S: Source, U: Sink, J: Receiver> Source for LogSource<S, U, J> {
     ghost never_fails = { λ _. false };
 
     /// Gives lines that wait, or those of the messages that are decided next.
-    #[tactic(auto, using(crate::proofs::Steps::keeps))]
     fn read(&mut self, into: &mut [u8]) -> Result<usize, Failed> {
         'steps: for _ in 0..u64::MAX {
             let count = give(&self.lines, self.given, into);
