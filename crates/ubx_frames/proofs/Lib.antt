@@ -1,2 +1,3 @@
 mod SumSteps
 mod Sizes
+mod FieldLaws

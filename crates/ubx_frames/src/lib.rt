@@ -19,4 +19,4 @@ mod laws;
 mod sums;
 
 pub use crate::judge::{UbxDeframer, UbxJudge};
-pub use crate::laws::ubx_is_a_format;
+pub use crate::laws::{ubx_is_a_format, ubx_messages_are_those_of_the_field};
