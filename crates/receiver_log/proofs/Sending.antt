@@ -64,4 +64,3 @@ pub sent_all : (h : Heading) (said : List ℕ → Said) (o left next old new : O
     → IfSome o (λ b. Sent (capture_of h said b) left old new) → Consumes left next [] → IsAtEnd next → IfSome o (λ b. Appends old new (capture_of h said b))
 sent_all h said None left next old new sent takes end = tt
 sent_all h said (Some b) left next old new sent takes end = take_all (capture_of h said b) left next old new sent takes end
-

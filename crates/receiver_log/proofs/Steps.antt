@@ -95,4 +95,3 @@ given_consumes h said (Some xs) s lines from count held piece (Some ys) bytes ke
     ap (λ zs. take count (drop from lines) ++ zs) (sym (drop-drop count from lines)) ∙ take-append-drop count (drop from lines) in
     sym keep ∙ ap (λ zs. zs ++ rest) (sym parts) ∙ append_assoc (take count (drop from lines)) (drop (from + count) lines) rest
     ∙ ap (λ zs. zs ++ (drop (from + count) lines ++ rest)) (sym is)
-
