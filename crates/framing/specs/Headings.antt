@@ -1,0 +1,44 @@
+-- Formats whose messages tell their size in their first bytes.
+use Rattle.std.specs.Prelude.{◌≡◌, ℕ, ◌+◌, ◌<◌, ◌≤◌, ◌&&◌, nat_lt, nat_le, Bool, true, false, if◌then◌else◌, List, [], ◌∷◌, ◌++◌, length, take}
+use Rattle.framing.specs.Messages.{Format}
+
+-- how the messages of a format begin, and which are right
+pub record Heading : Type 0 where
+  -- the first byte of each message
+  pub first : ℕ
+  -- the bytes begin as a message does, as far as they go
+  pub begins : List ℕ → Bool
+  -- how many bytes it takes to know more; where they are as many, the size of the whole message
+  pub wanted : List ℕ → ℕ
+  -- the size of the longest message
+  pub longest : ℕ
+  -- a whole message has the right checksum
+  pub is_right : List ℕ → Bool
+
+-- what the headings of any format have in common
+pub record IsHeading (h : Heading) : Type 0 where
+  -- a message begins with its first byte
+  pub starts : (x : ℕ) (xs : List ℕ) → (x ≡ h.first → ⊥) → h.begins (x ∷ xs) ≡ false
+  pub some : (xs : List ℕ) → 0 < h.wanted xs
+  pub most : (xs : List ℕ) → h.wanted xs ≤ h.longest
+  -- bytes that begin otherwise begin otherwise whatever follows
+  pub refused : (xs ys : List ℕ) → h.begins xs ≡ false → h.begins (xs ++ ys) ≡ false
+  -- bytes of a whole message begin one whatever follows
+  pub whole : (xs ys : List ℕ) → h.begins xs ≡ true → h.wanted xs ≤ length xs
+      → (h.begins (xs ++ ys) ≡ true) × (h.wanted (xs ++ ys) ≡ h.wanted xs)
+  -- with fewer bytes than are wanted nothing more is known
+  pub waits : (xs ys : List ℕ) → h.begins xs ≡ true → length xs + length ys < h.wanted xs
+      → (h.begins (xs ++ ys) ≡ true) × (h.wanted (xs ++ ys) ≡ h.wanted xs)
+
+-- the size of the whole message of right checksum that begins the bytes, or 0 where none does
+abbrev pub size_by : Heading → List ℕ → ℕ
+size_by h xs = if h.begins xs && nat_le (h.wanted xs) (length xs) && h.is_right (take (h.wanted xs) xs) then h.wanted xs else 0
+
+-- whether the bytes begin as a message does, and end before it does
+abbrev pub opens_by : Heading → List ℕ → Bool
+opens_by h [] = false
+opens_by h (x ∷ xs) = h.begins (x ∷ xs) && nat_lt (length (x ∷ xs)) (h.wanted (x ∷ xs))
+
+-- the format of a heading
+abbrev pub format_of : Heading → Format
+format_of h = record { size = size_by h; is_open = opens_by h }

@@ -1,0 +1,85 @@
+//! `navlog` reads a GNSS receiver's log and writes it as a capture, as `navlog --from ubx < log.ubx`
+//! does for u-blox's UBX and `navlog --from sbf` for Septentrio's SBF.
+//!
+//! The report is on standard error: a line for each message that is refused, and nine of counts. The
+//! status is 0 where all was read and written, 2 where the words are none of these, 3, 4 and 7 where
+//! the input, the output or the report failed, and 6 for want of memory.
+#![tactic(auto)]
+
+use nav_io::{ReadSource, WriteSink};
+use receiver_log::run_log;
+use sbf_frames::SbfJudge;
+use std::env;
+use std::io::ErrorKind;
+use std::process::ExitCode;
+use ubx_frames::UbxJudge;
+
+// The words name no form.
+const NO_FORM: u8 = 2;
+
+// No memory for the list of words.
+const NO_MEMORY: u8 = 6;
+
+// The forms of logs.
+#[derive(Clone, Copy, PartialEq, Eq)]
+enum Form {
+    Ubx,
+    Sbf,
+}
+
+// The form of a name.
+fn form_named(name: &str) -> Option<Form> {
+    if name == "ubx" {
+        Some(Form::Ubx)
+    } else if name == "sbf" {
+        Some(Form::Sbf)
+    } else {
+        None
+    }
+}
+
+// The form that the words name.
+fn form_of(words: &[String]) -> Option<Form> {
+    match words {
+        [word] => {
+            if word.as_str() == "--from=ubx" {
+                Some(Form::Ubx)
+            } else if word.as_str() == "--from=sbf" {
+                Some(Form::Sbf)
+            } else {
+                None
+            }
+        }
+        [from, name] => {
+            if from.as_str() == "--from" {
+                form_named(name.as_str())
+            } else {
+                None
+            }
+        }
+        _ => None,
+    }
+}
+
+fn main(rt: HostRuntime) -> ExitCode {
+    let args = match env::args(&rt) {
+        Ok(args) => args,
+        Err(error) if error.kind() == ErrorKind::OutOfMemory => return ExitCode::from(NO_MEMORY),
+        Err(_) => return ExitCode::from(NO_FORM),
+    };
+    let mut words = Vec::new(rt.alloc());
+    for word in args.skip(1) {
+        if words.push(word).is_err() {
+            return ExitCode::from(NO_MEMORY);
+        }
+    }
+    let input = ReadSource::new(rt.stdin());
+    let mut output = WriteSink::new(rt.stdout());
+    let report = WriteSink::new(rt.stderr());
+    let status = match form_of(&words) {
+        Some(Form::Ubx) => run_log::<UbxJudge, _, _, _>(input, &mut output, report),
+        Some(Form::Sbf) => run_log::<SbfJudge, _, _, _>(input, &mut output, report),
+        None => NO_FORM,
+    };
+    ExitCode::from(status)
+}

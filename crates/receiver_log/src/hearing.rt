@@ -1,0 +1,201 @@
+//! What one message gives.
+
+ghost use Rattle.std.specs.Prelude.{◌≡◌, ◌+◌, ◌-◌, ◌*◌, ◌^◌, ◌<◌, ◌≤◌, ◌++◌};
+ghost use Rattle.arrayvec.specs.ArrayVec.{array_vec_len};
+ghost use Rattle.std.specs.Prelude.{ℕ, Some, IfNone};
+ghost use Rattle.nav_eph.specs.declared.sat.System.TheVariants.{Gps, Gal};
+ghost use Rattle.receiver_messages.specs.declared.said.Content.TheVariants.{Subframe, Page};
+ghost use Rattle.receiver_messages.specs.Systems.{IsOfSystem, SaysOfSystem};
+ghost use Rattle.receiver_log.specs.Log.{Gives, given, given_at, head_text, refused_by};
+ghost use Rattle.receiver_log.specs.Log.{reason_in as reason_of, week_of as head_week};
+
+use crate::lines::{Lines, append_half, append_head, append_subframe};
+use crate::state::LogState;
+use gnss_week::Moment;
+use inav_page::Signal;
+use nav_bits::{Bits, U};
+use nav_eph::Sat;
+use receiver_messages::{Content, Reason, Said, read_words, subframe_bits};
+
+// The seconds of a week.
+const WEEK: u64 = 604_800;
+
+// How many weeks the numbers of weeks in messages tell apart, at half.
+const FAR: u64 = 512;
+
+/// Hears a message of so many bytes that says so much: appends its lines, and gives the reason where
+/// it is refused.
+pub fn hear(state: &mut LogState, bytes: usize, said: &Said, lines: &mut Lines) -> Option<Reason>
+    requires room { array_vec_len lines.old + 8192 ≤ 16384 }
+    requires system { SaysOfSystem said.now }
+    ensures { Gives state.new lines.old.items lines.new.items result
+        (given state.old bytes said.now) }
+{
+    state.counts.messages = state.counts.messages.saturating_add(1);
+    state.counts.within = state.counts.within.saturating_add(bytes as u64);
+    match said {
+        Said::Other => {
+            state.counts.other = state.counts.other.saturating_add(1);
+            None
+        }
+        Said::Time(Some(time)) => {
+            state.time = Some(*time);
+            state.counts.times = state.counts.times.saturating_add(1);
+            None
+        }
+        Said::Time(None) => {
+            state.time = None;
+            state.counts.other = state.counts.other.saturating_add(1);
+            None
+        }
+        Said::Heard(content) => hear_at(state, state.time, content, lines),
+        Said::Dated(time, content) => hear_at(state, *time, content, lines),
+    }
+}
+
+// Hears a subframe or a page at a time.
+fn hear_at(
+    state: &mut LogState,
+    time: Option<Moment>,
+    content: &Content,
+    lines: &mut Lines,
+) -> Option<Reason>
+    requires room { array_vec_len lines.old + 8192 ≤ 16384 }
+    requires system { IsOfSystem content.now }
+    ensures { Gives state.new lines.old.items lines.new.items result
+        (given_at state.old time content.now) }
+{
+    match content {
+        Content::Refused(reason) => refuse(state, *reason),
+        Content::Subframe { sat, words } => match time {
+            Some(time) => hear_subframe(state, time, *sat, words, lines),
+            None => refuse(state, Reason::Untimed),
+        },
+        Content::Page {
+            sat,
+            signal,
+            even,
+            odd,
+        } => match time {
+            Some(time) => hear_page(state, time, *sat, *signal, even, odd, lines),
+            None => refuse(state, Reason::Untimed),
+        },
+    }
+}
+
+// Counts a message that is refused.
+fn refuse(state: &mut LogState, reason: Reason) -> Option<Reason>
+    ensures state { state.new ≡ (refused_by state.old reason).state }
+    ensures reason { result ≡ Some reason }
+{
+    state.counts.refused = state.counts.refused.saturating_add(1);
+    Some(reason)
+}
+
+// The week of the first line, for lines from this second on.
+fn week_of(week: Option<u32>, first: u64) -> u64
+    requires { first < 2 ^ 40 }
+    ensures value { result ≡ head_week week first }
+    ensures fits { result < 2 ^ 32 }
+{
+    match week {
+        Some(week) => u64::from(week),
+        None => first.saturating_sub(7200) / WEEK,
+    }
+}
+
+// Why lines from the first to the last of these seconds are refused in a capture of this week.
+fn reason_in(week: u64, first: u64, last: u64) -> Option<Reason>
+    requires { week < 2 ^ 32 }
+    ensures value { result ≡ reason_of week first last }
+    ensures admitted { IfNone result
+        ((604800 * week ≤ first) × (last < 604800 * (week + 512))) }
+{
+    if first < WEEK * week {
+        return Some(Reason::Late);
+    }
+    if last >= WEEK * (week + FAR) {
+        return Some(Reason::Far);
+    }
+    None
+}
+
+// Writes the first line, which has this week, where it was not written.
+fn begin(state: &mut LogState, week: u64, lines: &mut Lines)
+    requires fits { week < 2 ^ 32 }
+    requires room { array_vec_len lines.old + 640 ≤ 16384 }
+    ensures state { (first : ℕ) → week ≡ head_week state.old.week first
+        → state.new ≡ record state.old { week = Some week } }
+    ensures lines { (first : ℕ) → week ≡ head_week state.old.week first
+        → lines.new.items ≡ lines.old.items ++ head_text state.old.week first }
+    ensures short { array_vec_len lines.new ≤ array_vec_len lines.old + 640 }
+{
+    if state.week.is_none() {
+        append_head(lines, week as u32);
+        state.week = Some(week as u32);
+    }
+}
+
+// Hears a subframe.
+fn hear_subframe(
+    state: &mut LogState,
+    time: Moment,
+    sat: Sat,
+    words: &[U<30>; 10],
+    lines: &mut Lines,
+) -> Option<Reason>
+    requires room { array_vec_len lines.old + 8192 ≤ 16384 }
+    requires system { sat.system ≡ Gps }
+    ensures { Gives state.new lines.old.items lines.new.items result
+        (given_at state.old (Some time) (Subframe sat words.now)) }
+{
+    let time = time.value();
+    let week = week_of(state.week, time);
+    if let Some(reason) = reason_in(week, time, time) {
+        return refuse(state, reason);
+    }
+    begin(state, week, lines);
+    let read = read_words(words);
+    append_subframe(
+        lines,
+        (time - WEEK * week) as u32,
+        sat,
+        &subframe_bits(&read.words),
+    );
+    state.counts.subframes = state.counts.subframes.saturating_add(1);
+    if read.is_turned {
+        state.counts.turned = state.counts.turned.saturating_add(1);
+    }
+    if !read.is_good {
+        state.counts.parity = state.counts.parity.saturating_add(1);
+    }
+    None
+}
+
+// Hears a page, of which the even half was sent a second earlier.
+fn hear_page(
+    state: &mut LogState,
+    time: Moment,
+    sat: Sat,
+    signal: Signal,
+    even: &Bits<15>,
+    odd: &Bits<15>,
+    lines: &mut Lines,
+) -> Option<Reason>
+    requires room { array_vec_len lines.old + 8192 ≤ 16384 }
+    requires system { sat.system ≡ Gal }
+    ensures { Gives state.new lines.old.items lines.new.items result
+        (given_at state.old (Some time) (Page sat signal even.now odd.now)) }
+{
+    let time = time.value();
+    let first = time.saturating_sub(1);
+    let week = week_of(state.week, first);
+    if let Some(reason) = reason_in(week, first, time) {
+        return refuse(state, reason);
+    }
+    begin(state, week, lines);
+    append_half(lines, (first - WEEK * week) as u32, sat, signal, even);
+    append_half(lines, (time - WEEK * week) as u32, sat, signal, odd);
+    state.counts.pages = state.counts.pages.saturating_add(1);
+    None
+}

@@ -1,0 +1,47 @@
+//! The lines of the report.
+
+ghost use Rattle.std.specs.Prelude.{◌≡◌, ◌≤◌, length, codes};
+ghost use Rattle.run_texts.specs.Reports.{report_line};
+ghost use Rattle.receiver_log.specs.Report.{counts_report, reason_word};
+
+use crate::state::Counts;
+use receiver_messages::Reason;
+use run_texts::{Text, append_count, report_text};
+
+// The line of a message that is refused.
+pub fn refusal(number: u64, reason: Reason) -> Text
+    ensures { result.items ≡ report_line (codes "message") number (reason_word reason) }
+{
+    report_text(b"message", number, word_of(reason))
+}
+
+// The word of a reason.
+fn word_of(reason: Reason) -> &'static [u8]
+    ensures word { result.now ≡ reason_word reason }
+    ensures short { length result.now ≤ 32 }
+{
+    match reason {
+        Reason::Length => b"length",
+        Reason::Satellite => b"satellite",
+        Reason::Untimed => b"untimed",
+        Reason::Late => b"late",
+        Reason::Far => b"far",
+    }
+}
+
+// The lines of counts, of a log of so many bytes.
+pub fn counts_text(counts: &Counts, taken: u64) -> Text
+    ensures { result.items ≡ counts_report counts.now taken }
+{
+    let mut text = Text::new();
+    append_count(&mut text, b"messages", counts.messages);
+    append_count(&mut text, b"skipped", taken.saturating_sub(counts.within));
+    append_count(&mut text, b"times", counts.times);
+    append_count(&mut text, b"subframes", counts.subframes);
+    append_count(&mut text, b"pages", counts.pages);
+    append_count(&mut text, b"refused", counts.refused);
+    append_count(&mut text, b"other", counts.other);
+    append_count(&mut text, b"turned", counts.turned);
+    append_count(&mut text, b"parity", counts.parity);
+    text
+}

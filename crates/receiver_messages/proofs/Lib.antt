@@ -1,0 +1,3 @@
+mod Packing
+mod Turns
+mod Readings

@@ -1,0 +1,31 @@
+//! What messages of GNSS receivers say that a capture needs: times, subframes of GPS LNAV and pages
+//! of Galileo I/NAV, of u-blox's UBX and Septentrio's SBF.
+//!
+//! - [`ubx_said`] and [`sbf_said`], what a whole message says ([`Said`]): a time, a subframe or a
+//!   page ([`Content`]), or nothing of these;
+//! - [`read_words`], the ten words of a subframe as they were sent, in whichever of three forms the
+//!   receiver logged them (IS-GPS-200, 20.3.5.2), and [`subframe_bits`], their bits.
+//!
+//! ```rust
+//! match ubx_said(message) {
+//!     Said::Time(time) => set_time(time),
+//!     Said::Heard(Content::Subframe { sat, words }) => use_bits(sat, &subframe_bits(&words)),
+//!     _ => {}
+//! }
+//! ```
+#![tactic(auto)]
+
+mod halves;
+mod laws;
+mod numbers;
+mod said;
+mod sbf;
+mod times;
+mod ubx;
+mod words;
+
+pub use crate::laws::{one_reading_is_good, sent_words_are_read};
+pub use crate::said::{Content, Reason, Said};
+pub use crate::sbf::sbf_said;
+pub use crate::ubx::ubx_said;
+pub use crate::words::{ReadWords, read_words, subframe_bits};

@@ -1,0 +1,7 @@
+mod SumLaws
+mod RegisterLaws
+mod TableLemmas
+mod EntryLemmas
+mod LookupLemmas
+mod CrcSteps
+mod Sizes

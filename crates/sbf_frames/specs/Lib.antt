@@ -1,0 +1,5 @@
+pub mod Register
+pub mod Form
+pub mod FormLaws
+pub mod States
+pub mod StateLaws

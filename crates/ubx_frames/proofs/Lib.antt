@@ -1,0 +1,3 @@
+mod SumSteps
+mod Sizes
+mod FieldLaws

@@ -1,0 +1,5 @@
+pub mod Form
+pub mod Sums
+pub mod SumLaws
+pub mod FormLaws
+pub mod Field
