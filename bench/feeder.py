@@ -1,11 +1,12 @@
 #!/usr/bin/env python3
 """Feeds what a caster or a receiver's logger would send, at a multiple of the usual rate.
 
-  bench/feeder.py stream|capture [--rate N] [--seconds N] [--seed N] [--satellites N] [--window N] [--week N] [--begin N]
+  bench/feeder.py stream|capture|ubx [--rate N] [--seconds N] [--seed N] [--satellites N] [--window N] [--week N] [--begin N]
                   [--clean] [--free]
 
 stream: RTCM 3 frames, messages 1019 and 1046 of each satellite once in 30 seconds and one 1005 each second.
 capture: a line for each subframe (one in six seconds) and for each half page of E1-B and E5b (one in a second) of each satellite.
+ubx: the same as u-blox's receivers log it: NAV-TIMEGPS each second, RXM-SFRBX for each subframe and each page of E1-B and E5b.
 
 Ephemerides go on as satellites change them: GPS each two hours, Galileo each ten minutes, all parameters drawn anew, toe and
 the week with them. It begins at second --begin (345600) of --week (2295), and an hour of it goes through the turn of the week.
@@ -247,6 +248,7 @@ class Capture:
         self.names = [(f"P E{it + 1:02} B ", f"P E{it + 1:02} 5 ") for it in range(satellites)]
         self.dummy = halves(0)
         self.odd = [self.dummy[1]] * satellites
+        self.even = {}
         zeros = 192 - 8
         self.pages = {4: rest((1 << 6 | 57) << zeros), 5: rest((1 << 6 | 1) << zeros)}
         draw = random.Random(f"{seed} ionospheres").getrandbits
@@ -291,6 +293,45 @@ class Capture:
                 half = self.odd[place]
             lines += [f"{second} {first}{half}\n".encode(), f"{second} {other}{half}\n".encode()]
         return lines
+
+
+def ubx(kind, number, payload):
+    """A message of UBX with its two sums."""
+    body = bytes([kind, number]) + len(payload).to_bytes(2, "little") + payload
+    a = b = 0
+    for byte in body:
+        a = a + byte & 0xFF
+        b = b + a & 0xFF
+    return b"\xb5\x62" + body + bytes([a, b])
+
+
+class Log(Capture):
+    """The same subframes and pages as messages of UBX. A page is logged with its odd half, both halves in it."""
+
+    def sfrbx(self, system, satellite, signal, words):
+        head = bytes([system, satellite, signal, 0, len(words), 0, 2, 0])
+        return ubx(0x02, 0x13, head + b"".join(it.to_bytes(4, "little") for it in words))
+
+    def subframe(self, line, satellite):
+        """Its ten words, with the inversion by D30* taken back in the 24 data bits, as receivers log them."""
+        bits = int(line.split()[3], 16) >> 4
+        sent = [bits >> 30 * (9 - place) & (1 << 30) - 1 for place in range(10)]
+        words = [it ^ (0x3FFFFFC0 if place and sent[place - 1] & 1 else 0) for place, it in enumerate(sent)]
+        return self.sfrbx(0, satellite, 0, words)
+
+    def second(self, second):
+        time = (second % WEEK * 1000).to_bytes(4, "little") + bytes(4) + (first_week + second // WEEK).to_bytes(2, "little")
+        messages = [ubx(0x01, 0x20, time + bytes([18, 7]) + bytes(4))]
+        if second % 6 == 0:
+            messages += [self.subframe(self.gps_line(it + 1, second), it + 1) for it in range(len(self.names))]
+        for place in range(len(self.names)):
+            if second % 2 == 0:
+                self.even[place], self.odd[place] = self.page(place + 1, second)
+            elif place in self.even:
+                bits = int(self.even[place], 16) << 136 | int(self.odd[place], 16) << 8
+                words = [bits >> 32 * (7 - it) & 0xFFFFFFFF for it in range(8)]
+                messages += [self.sfrbx(2, place + 1, signal, words) for signal in (1, 5)]
+        return messages
 
 
 class Faults:
@@ -370,10 +411,11 @@ def main(words):
         print(__doc__.strip())
         return 0 if words else 2
     form, given = words[0], numbers(words[1:])
-    if form not in ("stream", "capture"):
-        sys.exit(f"feeder: {form} is neither stream nor capture")
+    makers = {"stream": Stream, "capture": Capture, "ubx": Log}
+    if form not in makers:
+        sys.exit(f"feeder: {form} is none of stream, capture and ubx")
     rate, begin, is_capture, first_week = given["rate"], given["begin"], form == "capture", given["week"]
-    feed = (Capture if is_capture else Stream)(given["seed"], given["satellites"])
+    feed = makers[form](given["seed"], given["satellites"])
     faults = None if given["clean"] else Faults(given["seed"], is_capture)
     write = sys.stdout.buffer.write
     if is_capture:
@@ -402,7 +444,7 @@ def main(words):
     except BrokenPipeError:
         print("feeder: the reader has gone", file=sys.stderr)
         return 1
-    told = [f"bytes {size}", f"{'lines' if is_capture else 'frames'} {pieces}", f"ephemerides {feed.distinct}"]
+    told = [f"bytes {size}", f"{dict(capture='lines', ubx='messages').get(form, 'frames')} {pieces}", f"ephemerides {feed.distinct}"]
     told += [f"{kind} {count}" for kind, count in (faults.counts if faults else {}).items()]
     told += [f"behind {behind:.2f}", f"took {time.monotonic() - start:.1f}"]
     print(", ".join(told), file=sys.stderr)

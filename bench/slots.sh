@@ -12,19 +12,19 @@ parts=${1:-200000}
 folder=$(mktemp -d)
 trap 'rm -rf "$folder"' EXIT
 (cd "$folder" && git init -q . && mkdir crates)
-crates="nav_bits gnss_week nav_eph period_laws period_items issue_periods slot_assembly"
+crates="nav_bits gnss_week nav_eph periods periods slot_assembly slot_assembly"
 for name in $crates; do
   grep "^$name:" crates.txt >> "$folder/crates.txt"
   cp -r "crates/$name" "$folder/crates/"
 done
-echo 'slots: nav_bits gnss_week nav_eph period_items issue_periods slot_assembly' >> "$folder/crates.txt"
+echo 'slots: nav_bits gnss_week nav_eph periods slot_assembly slot_assembly' >> "$folder/crates.txt"
 mkdir -p "$folder/crates/slots/src" "$folder/crates/slots/proofs"
 touch "$folder/crates/slots/proofs/Lib.antt"
 cat > "$folder/crates/slots/src/main.rt" <<'PROGRAM'
 #![tactic(auto)]
 
 use gnss_week::{RefWeek, Second};
-use issue_periods::{Closed, add_periods};
+use slot_assembly::{Closed, add_periods};
 use nav_bits::{S, U};
 use nav_eph::{Body, GpsIon, GpsOrbitB, NavItem, Part, Sat, SentTag, System};
 use slot_assembly::SlotAssembly;

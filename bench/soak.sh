@@ -40,7 +40,7 @@ while [ $# -gt 0 ]; do
       ;;
   esac
 done
-[ -x "$program" ] || { echo "soak: no program at $program (rt ci builds it; --program names another)" >&2; exit 2; }
+[ -x "$program" ] || { echo "soak: build first: no program at $program (rt ci and rt run leave it there; --program names another)" >&2; exit 2; }
 for number in "$seconds" "$rate" "$seed"; do
   [[ $number =~ ^[1-9][0-9]{0,5}$ ]] || { echo "soak: $number is no number from 1 to 999999; --help" >&2; exit 2; }
 done

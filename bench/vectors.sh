@@ -11,7 +11,7 @@ satellites=${1:-32}
 folder=$(mktemp -d)
 trap 'rm -rf "$folder"' EXIT
 (cd "$folder" && git init -q . && mkdir crates)
-crates='nav_bits crc24q lnav_parity gnss_week nav_eph lnav_subframe inav_word inav_page capture_lines nav_vectors'
+crates='nav_bits crc24q lnav_subframe gnss_week nav_eph lnav_subframe inav_word inav_page capture_lines nav_vectors'
 grep -E "^($(echo "$crates" | tr ' ' '|')):" crates.txt > "$folder/crates.txt"
 echo 'vectors: gnss_week nav_vectors' >> "$folder/crates.txt"
 for name in $crates; do

@@ -1,24 +1,42 @@
 #!/usr/bin/env bash
-# Runs every job on its example and compares output, report and status; then the scripts for archives (check_archive.sh).
+# Runs every job on its example and compares output, report and status, and navlog on its log; then the scripts for archives
+# (check_archive.sh), and in a repository whether what the documents name is there (names.sh).
+#
+#   examples/check.sh [--program FILE] [--navlog FILE]
+#
+#   --program FILE  navbridge (PROGRAM, or crates/navbridge/out/navbridge, which `rt ci` and `rt run` leave)
+#   --navlog FILE   navlog (NAVLOG, or crates/navlog/out/navlog); where it is not built, its log is not tried, and that is said
+#
+# Each line of examples/runs.txt is a run: its status, its input, the file of its output, the file of its report (- for none),
+# its words.
+#
+# Status: 0 all as it should be; 1 something differs; 2 the words are wrong, or navbridge is not there: build first.
 set -u
-if [ "${1:-}" = --help ]; then
-  cat << 'END'
-examples/check.sh [--program FILE]
-
-Each line of examples/runs.txt is a run: its status, its input, the file of its output, the file of its report (- for none), its words.
-FILE is the program, or PROGRAM in the environment says it; else it is crates/navbridge/out/navbridge, which `rt ci` and `rt run` leave.
-
-Status: 0 all as it should be; 1 something differs; 2 the program is not there.
-END
-  exit 0
-fi
-program=${PROGRAM:-}
-if [ "${1:-}" = --program ]; then program=${2:-}; fi
-if [ -n "$program" ]; then program=$(readlink -f -- "$program"); fi
-cd "$(dirname "$0")" || exit 1
-program=${program:-$(readlink -f ../crates/navbridge/out/navbridge)}
+program=${PROGRAM:-} navlog=${NAVLOG:-}
+while [ $# -gt 0 ]; do
+  case $1 in
+    -h | --help)
+      sed -n '2,/^set /{/^set /d;s/^# \{0,1\}//;p}' "$0"
+      exit 0
+      ;;
+    --program | --navlog)
+      [ $# -ge 2 ] || { echo "check: $1 wants a value" >&2; exit 2; }
+      printf -v "${1#--}" %s "$2"
+      shift 2
+      ;;
+    *)
+      echo "check: $1 is no option; --help" >&2
+      exit 2
+      ;;
+  esac
+done
+[ -z "$program" ] || program=$(readlink -f -- "$program")
+[ -z "$navlog" ] || navlog=$(readlink -f -- "$navlog")
+cd "$(dirname "$(readlink -f "$0")")" || exit 1
+program=${program:-$(readlink -m ../crates/navbridge/out/navbridge)}
+navlog=${navlog:-$(readlink -m ../crates/navlog/out/navlog)}
 if [ ! -f "$program" ] || [ ! -x "$program" ]; then
-  echo "check.sh: ${program:-crates/navbridge/out/navbridge}: no program there; build it first (rt ci at the top, or rt run in crates/navbridge), or name it by --program" >&2
+  echo "check: build first: no program $program; 'rt ci' at the top, or 'rt run' in crates/navbridge, leaves it there, or --program names one" >&2
   exit 2
 fi
 out=$(mktemp -d)
@@ -40,6 +58,19 @@ while IFS='|' read -r status input output report words; do
     echo "differs ($said): navbridge $words < $input"
   fi
 done < runs.txt
+if [ -f "$navlog" ] && [ -x "$navlog" ]; then
+  "$navlog" --from ubx < log.ubx > "$out/navcap" 2> "$out/report"
+  got=$?
+  "$program" --from capture --to list < "$out/navcap" > "$out/output" 2> /dev/null
+  runs=$((runs + 1))
+  if [ "$got" != 0 ] || ! cmp -s "$out/output" log.list || ! cmp -s "$out/report" log.report; then
+    wrong=$((wrong + 1))
+    echo "differs (status $got): navlog --from ubx < log.ubx | navbridge --from capture --to list"
+  fi
+else
+  echo "navlog: not tried, since it is not built ($navlog)"
+fi
 echo "$runs runs, $wrong differ"
 ./check_archive.sh --program "$program" || wrong=$((wrong + 1))
+[ ! -e ../crates.txt ] || ./names.sh || wrong=$((wrong + 1))
 [ "$wrong" = 0 ]

@@ -18,7 +18,7 @@ if [ -n "$program" ]; then program=$(readlink -f -- "$program"); fi
 cd "$(dirname "$0")" || exit 1
 program=${program:-$(readlink -f ../crates/navbridge/out/navbridge)}
 if [ ! -f "$program" ] || [ ! -x "$program" ]; then
-  echo "check_archive.sh: ${program:-crates/navbridge/out/navbridge}: no program there; build it first (rt ci at the top, or rt run in crates/navbridge), or name it by --program" >&2
+  echo "check_archive.sh: build first: no program ${program:-crates/navbridge/out/navbridge}; 'rt ci' at the top, or 'rt run' in crates/navbridge, leaves it there, or --program names one" >&2
   exit 2
 fi
 command -v python3 > /dev/null || { echo "archives: not tried, since python3 is not there"; exit 0; }
@@ -119,7 +119,7 @@ ends "no names" 2 -o "$out/x.rnx"
 ends "no result" 2 archive
 ends "a date without UTC" 2 -o "$out/x.rnx" --date "20240101 000000" archive
 ends "no program" 2 -o "$out/x.rnx" --program "$out/nothing" archive
-holds "which is said" grep -q 'build it first' "$out/named"
+holds "which is said" grep -q 'build first' "$out/named"
 ends "a program that is none" 3 -o "$out/x.rnx" --program /bin/false archive
 holds "which leaves no result" [ ! -e "$out/x.rnx" ]
 

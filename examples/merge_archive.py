@@ -42,7 +42,7 @@ reason, and the rest goes on.
   --again          begins anew: nothing of earlier runs is used
   --program FILE   navbridge (crates/navbridge/out/navbridge of this repository, else navbridge on the PATH; PROGRAM in the environment)
   -q               only what went wrong, and no table
-  --help           this text
+  --help           this text; --version, alone, the version
 
 A run that was broken off goes on where it stopped when it is started again with the same -o. Two that work on the same FILE do no harm:
 what they write has the same bytes, and each name is given by one renaming. Where nothing has changed since, nothing is done.
@@ -786,7 +786,7 @@ def options(words):
     built = os.path.join(os.path.dirname(os.path.dirname(os.path.realpath(__file__))), "crates", "navbridge", "out", "navbridge")
     args.program = args.program or (built if os.path.exists(built) else shutil.which("navbridge"))
     if not args.program or not os.access(args.program, os.X_OK) or os.path.isdir(args.program):
-        parser.error(f"{args.program or 'navbridge'}: no program there; build it first (rt ci, or rt run in crates/navbridge), or name it by --program")
+        parser.error(f"build first: no program {args.program or 'navbridge'}; rt ci, or rt run in crates/navbridge, leaves it, or --program names one")
     return args
 
 

@@ -1,10 +1,11 @@
 #!/usr/bin/env bash
 # Tries the Debian package: made twice, the same bytes; lintian; installed, used, verified and removed.
 #
-#   packaging/check.sh [--program PATH]      the built program (crates/navbridge/out/navbridge)
+#   packaging/check.sh [--program PATH]..    the built programs, navbridge and navlog (crates/NAME/out/NAME)
 #
 # It installs the package on this machine and removes it, so it wants root and a machine without the package. Debian packages
-# that it uses: lintian, man-db, systemd (for systemd-analyze), util-linux (taskset).
+# that it uses: lintian, man-db, mandoc, systemd (for systemd-analyze), util-linux (taskset). Status 0 where all is as it
+# should be, 1 where something is not, 2 where it cannot be tried.
 set -uo pipefail
 cd "$(dirname "$(readlink -f "$0")")/.." || exit 1
 given=()
@@ -16,7 +17,7 @@ while [ $# -gt 0 ]; do
       ;;
     --program)
       [ $# -ge 2 ] || { echo "check: --program wants a value" >&2; exit 2; }
-      given+=(--program "$(readlink -f "$2")")
+      given+=(--program "$(readlink -m "$2")")
       shift 2
       ;;
     *)
@@ -30,7 +31,7 @@ if dpkg -s navbridge > /dev/null 2>&1; then
   echo "check: a package navbridge is there already" >&2
   exit 2
 fi
-for it in dpkg lintian man systemd-analyze taskset; do
+for it in dpkg lintian man mandoc systemd-analyze taskset; do
   command -v "$it" > /dev/null || { echo "check: $it is not there" >&2; exit 2; }
 done
 work=$(mktemp -d)
@@ -67,21 +68,41 @@ find /usr /etc /var/lib -xdev -path /var/lib/dpkg -prune -o -print 2> /dev/null 
 installed=1
 install_it() { dpkg -i "$package" > "$work/dpkg" 2>&1 || cat "$work/dpkg"; }
 remove_it() { dpkg -P navbridge > "$work/dpkg" 2>&1 || cat "$work/dpkg"; }
-has_page() { man -w "$1" > /dev/null; }
+has_page() { man -w "$1" > /dev/null && zcat "/usr/share/man/man1/$1.1.gz" | mandoc -Tlint; }
 silent "installed" install_it
 silent "dpkg -V" dpkg -V navbridge
 for name in $(dpkg -L navbridge | sed -n 's|^/usr/bin/||p'); do
-  silent "$name has a man page" has_page "$name"
+  silent "$name has a man page, of which mandoc has nothing to say" has_page "$name"
 done
 mapfile -t units < <(dpkg -L navbridge | grep '\.\(service\|timer\)$')
 silent "systemd-analyze verify has nothing to say of ${#units[@]} units" systemd-analyze verify "${units[@]}"
+lines() { # of a unit: what it must have
+  local line
+  for line in User=navbridge DynamicUser=yes NoNewPrivileges=yes ProtectHome=yes ProtectSystem=strict PrivateTmp=yes; do
+    grep -qx "$line" "$1" || echo "no $line"
+  done
+}
+for unit in "${units[@]}"; do
+  case $unit in *.service) ;; *) continue ;; esac
+  name=${unit##*/}
+  silent "$name has User=, DynamicUser=, NoNewPrivileges=, ProtectHome=, ProtectSystem=, PrivateTmp=" lines "$unit"
+  said=$(systemd-analyze security --offline=true --no-pager "${name/@./@STAT00CCC.}" 2>&1 | sed -n 's/.*exposure level for [^:]*: \([0-9.]*\) .*/\1/p')
+  silent "systemd-analyze security gives $name ${said:-nothing} of 10, at most 2.5" awk -v it="${said:-10}" 'BEGIN { exit it > 2.5 }'
+done
 
 run() {
-  PROGRAM=/usr/bin/navbridge /usr/share/doc/navbridge/examples/check.sh > "$work/runs" 2>&1 || cat "$work/runs"
+  PROGRAM=/usr/bin/navbridge NAVLOG=/usr/bin/navlog /usr/share/doc/navbridge/examples/check.sh > "$work/runs" 2>&1 || cat "$work/runs"
 }
 silent "the installed program gives each example's output, report and status" run
+is_logged() {
+  local log=/usr/share/doc/navbridge/examples/log.ubx
+  navlog --from ubx < "$log" 2> /dev/null | navbridge --from capture --to list 2> /dev/null | cmp - "${log%.ubx}.list"
+}
+silent "the installed navlog makes the capture of the log of the examples" is_logged
 has_help() { navbridge-station --help | grep -q -- --source; }
 silent "the installed station has its help" has_help
+has_version() { [ "$(navbridge-station --version)" = "navbridge-station $(dpkg-query -W -f '${Version}' navbridge)" ]; }
+silent "its version is that of the package" has_version
 offered() { # what is wanted, words: the last one is completed
   local want=$1
   shift
@@ -101,7 +122,11 @@ one_word() {
 }
 silent "completion of a date is one word" one_word
 
-silent "completion of the station's jobs" offered "files record run --help" navbridge-station ""
+silent "completion of navlog's option" offered "--from" navlog ""
+silent "completion of navlog's forms" offered "sbf ubx" navlog --from ""
+silent "completion of navlog's forms behind =" offered "sbf ubx" navlog --from =
+silent "completion of a form that is begun" offered "ubx" navlog --from = u
+silent "completion of the station's jobs" offered "files record run --help --version" navbridge-station ""
 silent "completion of the station's options" offered "--leap --letter" navbridge-station run --source x --le
 
 silent "removed" remove_it

@@ -3,9 +3,10 @@
 #
 #   packaging/debian.sh [--program PATH].. [--version VERSION] [--epoch SECONDS] [--maintainer NAME] [--out FOLDER]
 #
-#   --program PATH     a built program, named as in the package; given again: more of them. Where it is not said, those of
-#                      navbridge, navconvert and navlog that `rt ci` left in crates/NAME/out/NAME; navbridge must be there
-#   --version VERSION  0.YYYYMMDD of the last commit, where it is not said
+#   --program PATH     a built program: navbridge, navlog or navconvert; given again: another. Where one is not said, the one
+#                      that `rt ci` or `rt run` left in crates/NAME/out/NAME. The package has the first two, and the third
+#                      where it is built
+#   --version VERSION  the first that CHANGELOG.md has, where it is not said
 #   --epoch SECONDS    the time of all files (SOURCE_DATE_EPOCH, or that of the last commit)
 #   --maintainer NAME  with its address, as the package names it (the author of the last commit)
 #   --out FOLDER       where the package is put (packaging/build)
@@ -18,7 +19,8 @@ umask 022
 export LC_ALL=C TZ=UTC
 start=$PWD
 cd "$(dirname "$(readlink -f "$0")")/.."
-programs=() maintainer='' version='' epoch=${SOURCE_DATE_EPOCH:-} out=packaging/build
+declare -A programs=([navbridge]='' [navlog]='' [navconvert]='')
+maintainer='' version='' epoch=${SOURCE_DATE_EPOCH:-} out=packaging/build
 while [ $# -gt 0 ]; do
   case $1 in
     -h | --help)
@@ -33,29 +35,33 @@ while [ $# -gt 0 ]; do
   esac
   case $1 in
     # from where it was called
-    --program) programs+=("$(cd "$start" && readlink -f -- "$2")") ;;
+    --program)
+      name=${2##*/}
+      [ -n "${programs[$name]+x}" ] || { echo "debian: $name is no program of the package: navbridge, navlog, navconvert" >&2; exit 2; }
+      programs[$name]=$(cd "$start" && readlink -m -- "$2")
+      ;;
     --out) out=$(cd "$start" && readlink -m -- "$2") ;;
     *) printf -v "${1#--}" %s "$2" ;;
   esac
   shift 2
 done
-if [ ${#programs[@]} = 0 ]; then
-  for name in navbridge navconvert navlog; do
-    [ ! -x "crates/$name/out/$name" ] || programs+=("crates/$name/out/$name")
-  done
-fi
-found=
-for program in "${programs[@]}"; do
-  [ -x "$program" ] || { echo "debian: $program is no program" >&2; exit 2; }
-  [ "${program##*/}" != navbridge ] || found=1
+[ -n "${programs[navconvert]}" ] || [ -x crates/navconvert/out/navconvert ] || unset 'programs[navconvert]'
+names=()
+for name in navbridge navlog navconvert; do
+  [ -n "${programs[$name]+x}" ] || continue
+  names+=("$name")
+  : "${programs[$name]:=crates/$name/out/$name}"
+  if [ ! -f "${programs[$name]}" ] || [ ! -x "${programs[$name]}" ]; then
+    echo "debian: no program ${programs[$name]}; build first: 'rt ci' at the top, or 'rt run' in crates/$name, leaves it there" >&2
+    exit 2
+  fi
 done
-[ -n "$found" ] || { echo "debian: no crates/navbridge/out/navbridge: 'rt ci' leaves it there, or --program names it" >&2; exit 2; }
 for it in dpkg-deb strip gzip md5sum git; do
   command -v "$it" > /dev/null || { echo "debian: $it is not there" >&2; exit 2; }
 done
 : "${epoch:=$(git log -1 --format=%ct)}"
 : "${maintainer:=$(git log -1 --format='%an <%ae>')}"
-: "${version:=0.$(date -d "@$epoch" +%Y%m%d)}"
+: "${version:=$(sed -n 's/^## \([0-9][^ ]*\).*/\1/p;T;q' CHANGELOG.md)}"
 export SOURCE_DATE_EPOCH=$epoch
 
 root=$(mktemp -d)
@@ -69,20 +75,26 @@ page() { # a man page
 }
 doc=usr/share/doc/navbridge
 
-for program in "${programs[@]}"; do
-  name=${program##*/}
-  put 755 "usr/bin/$name" "$program"
+for name in "${names[@]}"; do
+  put 755 "usr/bin/$name" "${programs[$name]}"
   strip --strip-unneeded "$root/usr/bin/$name"
   [ ! -e "docs/$name.1" ] || page "docs/$name.1"
 done
 put 755 usr/bin/navbridge-station examples/station/navbridge-station
 page examples/station/navbridge-station.1
+mkdir -p "$root/usr/share/navbridge"
+echo "$version" > "$root/usr/share/navbridge/version"
 for completion in packaging/*.bash; do
   name=${completion##*/}
   put 644 "usr/share/bash-completion/completions/${name%.bash}" "$completion"
 done
 for unit in examples/station/*.service examples/station/*.timer; do put 644 "usr/lib/systemd/system/${unit##*/}" "$unit"; done
-put 644 "$doc/README.md" README.md
+mkdir -p "$root/usr/share/lintian/overrides"
+cat > "$root/usr/share/lintian/overrides/navbridge" << 'END'
+# an example of a file that was cut, on which merge_archive.sh is tried
+navbridge: broken-gz [usr/share/doc/navbridge/examples/archive/*]
+END
+for it in README.md CHANGELOG.md; do put 644 "$doc/$it" "$it"; done
 for it in docs/*.md; do put 644 "$doc/$it" "$it"; done
 put 644 "$doc/bench/README.md" bench/README.md
 put 755 "$doc/bench/feeder.py" bench/feeder.py # what examples/station/trial.sh hears
@@ -118,7 +130,7 @@ END
 {
   echo "navbridge ($version) unstable; urgency=medium"
   echo
-  echo "  * Built from the sources at $(git rev-parse --short=12 HEAD)."
+  echo "  * Built from the sources at $(git rev-parse --short=12 HEAD); CHANGELOG.md says what is new."
   echo
   echo " -- $maintainer  $(date -R -d "@$epoch")"
 } | gzip -n9 > "$root/$doc/changelog.gz"
@@ -140,8 +152,9 @@ Priority: optional
 Description: proved converter of broadcast satellite orbits
  navbridge converts ephemerides and ionosphere sets of GPS and Galileo between
  the bits that satellites send, RTCM 3 messages and RINEX navigation files, by
- whole numbers alone. It is written in Rattle, which is Rust with contracts,
- and what it promises is proved.
+ whole numbers alone. navlog makes the input of logs of u-blox and Septentrio
+ receivers. Both are written in Rattle, which is Rust with contracts, and what
+ they promise is proved.
  .
  navbridge-station keeps what a caster or a receiver sends, and makes RINEX
  files by hour and by day of it; units of systemd are with it.

@@ -14,7 +14,7 @@ _navbridge_station() {
     --program | --navlog | --str2str) mapfile -t COMPREPLY < <(compgen -fc -- "$current") && return ;;
     *)
       if [ "$COMP_CWORD" = 1 ]; then
-        words=(files record run --help)
+        words=(files record run --help --version)
       else
         words=(--source --station --folder --form --span --lap --silent --leap --letter --program --navlog --str2str)
         [ "${COMP_WORDS[1]}" != files ] || words=(--all "${words[@]:1}")

@@ -1,31 +1,38 @@
 #!/usr/bin/env bash
 # The station tried on this machine: a caster that is simulated, days of a minute, and what goes wrong at a station.
 #
-#   examples/station/trial.sh [--program PATH] [--folder DIR] [--port N]
+#   examples/station/trial.sh [--form rtcm3|ubx] [--program PATH] [--navlog PATH] [--folder DIR] [--port N]
 #
+#   --form FORM     of what the caster sends: RTCM frames, or the log of a u-blox receiver, which goes through navlog (rtcm3)
 #   --program PATH  the built program (NAVBRIDGE_PROGRAM, or crates/navbridge/out/navbridge, or that of the package)
+#   --navlog PATH   so too (NAVBRIDGE_NAVLOG, or crates/navlog/out/navlog, or that of the package)
 #   --folder DIR    is made, and stays; a temporary one, that goes, where it is not said
 #   --port N        of the caster, 20110 where it is not said; str2str listens on all addresses of the machine
 #
-# bench/feeder.py sends four minutes of 32 GPS and 32 Galileo satellites at thirty times the usual rate, with connections that
-# are lost, garbage and turned bits, through str2str as a caster. `navbridge-station run` and `navbridge-station record` hear
-# it. The program is killed; the station is stopped and started again; all its processes are killed and it is started again;
-# at last the caster falls silent. Then the files of both are compared with one run over all that was sent.
-# It takes five minutes. Status 0 where all is as it should be.
+# bench/feeder.py sends four minutes of 32 GPS and 32 Galileo satellites (of a log 4 and 4) at thirty times the usual rate, with
+# connections that are lost, garbage and turned bits, through str2str as a caster. `navbridge-station run` and
+# `navbridge-station record` hear it. The program (of a log navlog) is killed; the station is stopped and started again; all its
+# processes are killed and it is started again; at last the caster falls silent. Then the files of both are compared with one
+# run over all that was sent. An ephemeris of a log has a transmission time, which is that of what was heard of it in a part, so
+# of a log all else is compared. It takes five minutes. Status 0 where all is as it should be; 2 where the words are wrong or
+# something is not there.
 set -uo pipefail
 cd "$(dirname "$(readlink -f "$0")")/../.." || exit 1
 # beside this script, or where the package has put them
-script=examples/station/navbridge-station built=crates/navbridge/out/navbridge
+script=examples/station/navbridge-station
 [ -x "$script" ] || script=navbridge-station
-[ -x "$built" ] || built=navbridge
-program=${NAVBRIDGE_PROGRAM:-$built} folder='' port=20110
+built() {
+  local at=crates/$1/out/$1
+  if [ -x "$at" ]; then echo "$at"; else echo "$1"; fi
+}
+form=rtcm3 program=${NAVBRIDGE_PROGRAM:-$(built navbridge)} navlog=${NAVBRIDGE_NAVLOG:-$(built navlog)} folder='' port=20110
 while [ $# -gt 0 ]; do
   case $1 in
     -h | --help)
       sed -n '2,/^set /{/^set /d;s/^# \{0,1\}//;p}' "$0"
       exit 0
       ;;
-    --program | --folder | --port)
+    --form | --program | --navlog | --folder | --port)
       [ $# -ge 2 ] || { echo "trial: $1 wants a value" >&2; exit 2; }
       printf -v "${1#--}" %s "$2"
       shift 2
@@ -36,10 +43,22 @@ while [ $# -gt 0 ]; do
       ;;
   esac
 done
-for it in "$program" "$script" str2str python3; do
+case $form in
+  rtcm3) feed=(stream) needed=("$program") ;;
+  ubx) feed=(ubx --satellites 4) needed=("$program" "$navlog") ;;
+  *)
+    echo "trial: $form is neither rtcm3 nor ubx" >&2
+    exit 2
+    ;;
+esac
+for it in "${needed[@]}"; do
+  command -v "$it" > /dev/null || { echo "trial: ${it##*/} is not there: build first ('rt ci' at the top, or 'rt run' in its crate), or name it" >&2; exit 2; }
+done
+for it in "$script" str2str python3; do
   command -v "$it" > /dev/null || { echo "trial: $it is not there" >&2; exit 2; }
 done
 program=$(readlink -f "$(command -v "$program")")
+[ "$form" = rtcm3 ] || navlog=$(readlink -f "$(command -v "$navlog")")
 if (: < "/dev/tcp/127.0.0.1/$port") 2> /dev/null; then
   echo "trial: something listens on port $port already" >&2
   exit 2
@@ -96,11 +115,11 @@ caster=$!
 leaders+=("$caster")
 {
   sleep 3
-  exec python3 bench/feeder.py stream --rate 30 --seconds 240 --week "$week" --begin 345600 2> "$folder/sent"
-} > >(exec tee "$folder/whole.rtcm3" > "$folder/feed") &
+  exec python3 bench/feeder.py "${feed[@]}" --rate 30 --seconds 240 --week "$week" --begin 345600 2> "$folder/sent"
+} > >(exec tee "$folder/whole.$form" > "$folder/feed") &
 leaders+=("$!")
 sleep 1
-words=(--source "tcpcli://127.0.0.1:$port" --span 60 --lap 5 --silent 15 --program "$program")
+words=(--source "tcpcli://127.0.0.1:$port" --span 60 --lap 5 --silent 15 --form "$form" --program "$program" --navlog "$navlog")
 station() {
   "$script" run "${words[@]}" --folder "$folder/run" 2>> "$folder/run.log" &
   station=$!
@@ -118,9 +137,11 @@ tell "a caster, a station, a recorder"
 
 at 20
 tell "records in live/ so far: $(cat "$folder"/run/live/*.rnx | grep -c '^> EPH')"
-victim=$(of_group "$station" | awk -v program="$program" '$4 == program { print $1; exit }')
+killed=$program
+[ "$form" = rtcm3 ] || killed=$navlog
+victim=$(of_group "$station" | awk -v program="$killed" '$4 == program { print $1; exit }')
 kill -KILL "$victim"
-tell "the program killed (KILL)"
+tell "${killed##*/} killed (KILL)"
 at 70
 kill -TERM "$station"
 ended
@@ -138,9 +159,9 @@ tell "the caster has nothing more"
 ended
 tell "the station ended by itself: status $status"
 silent=$status
-kill -TERM "$record"
-wait "$record"
-tell "the recorder stopped (TERM): status $?"
+recorded=0
+wait "$record" || recorded=$?
+tell "the recorder ended by itself: status $recorded"
 kill -TERM "$caster"
 
 for kind in run record; do
@@ -152,22 +173,41 @@ echo
 echo "sent: $(cat "$folder/sent")"
 echo "what the station said:"
 sed 's/^/  /' "$folder/run.log"
+echo "what the recorder said:"
+sed 's/^/  /' "$folder/record.log"
 echo "what files said of the recorder's parts:"
 sed 's/^/  /' "$folder/record.files.log"
 merged() { "$program" --from rinex --to merged --date "20240101 000000 UTC" --leap 18 2> /dev/null; }
-"$program" --from stream --to rinex --week "$week" --date "20240101 000000 UTC" --leap 18 < "$folder/whole.rtcm3" 2> /dev/null \
-  | merged > "$folder/whole.rnx"
+converted() { # all that was sent
+  if [ "$form" = rtcm3 ]; then
+    "$program" --from stream --to rinex --week "$week" --date "20240101 000000 UTC" --leap 18 2> /dev/null
+  else
+    "$navlog" --from "$form" 2> /dev/null | "$program" --from capture --to rinex --date "20240101 000000 UTC" --leap 18 2> /dev/null
+  fi
+}
+# what is compared: of a log the ephemerides without the transmission time, which is the first number of their last line
+compared() {
+  if [ "$form" = rtcm3 ]; then
+    cat
+  else
+    awk '/^> / { n = 0; is = /^> EPH/ } is { n++; print n == 9 ? substr($0, 24) : $0 }'
+  fi
+}
+what="records"
+[ "$form" = rtcm3 ] || what="ephemerides, but for the transmission time"
+converted < "$folder/whole.$form" | merged | compared > "$folder/whole.rnx"
 echo
 for kind in run record; do
-  cat "$folder/$kind/files"/*.rnx | merged > "$folder/$kind.rnx"
+  cat "$folder/$kind/files"/*.rnx | merged | compared > "$folder/$kind.rnx"
   # shellcheck disable=SC2012
   echo "$kind: $(ls "$folder/$kind/files" | wc -l) files; records in each: $(grep -c '^> EPH' "$folder/$kind/files"/*.rnx | sed 's/.*://' | paste -s -d ' ')"
-  check "all of them merged are the run over all that was sent, merged: $(grep -c '^> EPH' "$folder/whole.rnx") records" \
+  check "all of them merged are the run over all that was sent, merged: $(grep -c '^> EPH' "$folder/whole.rnx") $what" \
     cmp "$folder/$kind.rnx" "$folder/whole.rnx"
   # a run that is killed while it makes a file leaves a folder whose name begins with a point
   check "nothing but files stands in files/" test -z "$(find "$folder/$kind/files" -mindepth 1 ! -path '*/files/.*' ! -name '*_MN.rnx')"
 done
 check "status 1 of the station whose program was killed" test "$first" = 1
 check "status 3 of the station whose source fell silent" test "$silent" = 3
+check "status 3 of the recorder whose source fell silent" test "$recorded" = 3
 check "no process of the station is left" nothing_of "$station"
 [ "$wrong" = 0 ]

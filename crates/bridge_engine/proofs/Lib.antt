@@ -1,21 +1,16 @@
-mod Breaking
-mod Breakings
-mod CaptureClauses
-mod CaptureEnds
-mod CaptureFronts
-mod Feeding
-mod Following
-mod FrameEvents
-mod Fronts
-mod Goings
-mod Holding
-mod ItemEvents
-mod Keeping
-mod LineCounts
-mod Logs
-mod Noting
-mod Numbers
-mod SoFar
-mod Weighing
-mod WordsHeard
-mod Writing
+pub mod Spellings
+pub mod Rules
+pub mod Turns
+pub mod Lexed
+pub mod Readings
+pub mod Listings
+pub mod Outcomes
+pub mod Surface
+mod Beside
+mod Dates
+mod DigitTexts
+mod Ends
+mod Headlines
+mod OneJob
+mod RowJobs
+mod TableRows

@@ -1,9 +1,6 @@
-pub mod FrameLines
-pub mod FrameRuns
-pub mod Reports
-pub mod ItemTexts
-pub mod Captures
-pub mod Runs
-pub mod Notes
-pub mod Settled
-pub mod Follows
+pub mod Options
+pub mod WordsFound
+pub mod Commands
+pub mod Job
+pub mod Meanings
+pub mod Found

@@ -1,41 +1,48 @@
-//! The runs: an input is read to its end and converted while it is read.
+//! The conversions of `navbridge` as jobs: the words of a command line name one, and it is done from
+//! an input to an output and a report.
 //!
-//! - [`run_capture`], over a capture of subframes, page halves and frames: to RINEX 4 and RINEX 3, to RTCM, to a list, to counts;
-//! - [`run_frames`], over the frames of a stream of RTCM (10403.3).
+//! [`bridge`] judges the words, does the job that they give, and answers a status, which says how it
+//! ended. [`job_of`] judges the words alone: a [`Job`] is a row of the table of jobs with the values
+//! of its options, which [`options_of`] reads of the words as `--name value` or `--name=value`, each
+//! name at most once and in any order. What a job makes of the bytes that it took is a function of them:
+//! `specs/Meanings.antt` says it, a line for each job, and `specs/Job.antt` the table.
 //!
-//! What a run writes and reports is a function of the bytes that it took: `specs/Captures.antt` says it for captures,
-//! `specs/FrameRuns.antt` for frames. A fault leaves a front of it ([`BridgeFault`]).
+//! The runs that jobs stand on are public here too: what other programs call.
 //!
 //! ```rust
-//! use bridge_engine::{BridgeFault, CaptureTo, run_capture};
+//! use bridge_engine::bridge;
 //! use nav_io::{MemSink, MemSource};
 //!
-//! let mut input = MemSource::new(b"NAVCAP 3".to_vec(rt.alloc())?, Vec::new(rt.alloc()), Vec::new(rt.alloc()));
+//! let mut words = Vec::new(rt.alloc());
+//! words.push(String::from_str(rt.alloc(), "--from=rinex")?)?;
+//! words.push(String::from_str(rt.alloc(), "--to=list")?)?;
+//! let mut input = MemSource::new(b"no header".to_vec(rt.alloc())?, Vec::new(rt.alloc()), Vec::new(rt.alloc()));
 //! let mut output = MemSink::new(rt.alloc(), 64, Vec::new(rt.alloc()))?;
 //! let mut report = MemSink::new(rt.alloc(), 64, Vec::new(rt.alloc()))?;
-//! let counts = run_capture(rt.alloc(), None, &CaptureTo::ToList, &mut input, &mut output, &mut report);
-//! assert!(rt; counts == Err(BridgeFault::NotThisForm));
+//! let status = bridge(rt.alloc(), &words, &mut input, &mut output, &mut report);
+//! assert!(rt; status == 5);
 //! ```
 #![tactic(auto)]
 
-mod accept;
-mod bring;
-mod capture;
-mod counts;
-mod follow;
-mod frames;
-mod item;
-mod line;
-mod listed;
-mod next;
-mod outlet;
-mod report;
-mod settle;
-mod take;
-mod target;
+mod command;
+mod job;
+mod laws;
+mod options;
+mod run;
+mod statuses;
+mod table;
+mod values;
+mod word_laws;
 
-pub use crate::capture::run_capture;
-pub use crate::counts::CaptureCounts;
-pub use crate::frames::{FrameCounts, run_frames};
-pub use crate::target::CaptureTo;
-pub use run_texts::BridgeFault;
+pub use crate::job::{CaptureJob, Job, SeedJob, StreamJob, job_of};
+pub use crate::laws::words_give_one_job;
+pub use crate::options::{Found, options_of};
+pub use crate::statuses::bridge;
+pub use crate::word_laws::{words_give_values_in_one_way, words_spell_options_in_one_way};
+pub use captures::{CaptureCounts, CaptureTo, SeedCounts, SeedTo, run_capture, run_seed};
+pub use nav_files::{
+    MergeCounts, RinexCounts, RinexTo, run_cover, run_merge, run_rinex, run_rinex3, send_rinex,
+    send_rinex3,
+};
+pub use one_run::BridgeFault;
+pub use streams::{FrameCounts, StreamCounts, StreamTo, run_frames, run_stream};

@@ -13,8 +13,8 @@ use Rattle.hex.proofs.HexLemmas.{decode_of-ok, decode_sized-ok, decode_sized-twi
 use Rattle.nav_eph.specs.Satellite.{Satellite, IsSat, most}
 use Rattle.nav_eph.specs.declared.sat.System.{System}
 use Rattle.nav_eph.specs.declared.sat.System.TheVariants.{Gps, Gal}
-use Rattle.inav_page.specs.declared.signal.Signal.{Signal}
-use Rattle.inav_page.specs.declared.signal.Signal.TheVariants.{E1b, E5b}
+use Rattle.nav_eph.specs.declared.signal.Signal.{Signal}
+use Rattle.nav_eph.specs.declared.signal.Signal.TheVariants.{E1b, E5b}
 use Rattle.capture_lines.specs.Texts.{two_digits, signal_letter}
 use Rattle.capture_lines.specs.Reading.{satellite_in, signal_in, lnav_with, half_with, frame_with, lnav_in, half_in, frame_in, form_in}
 use Rattle.capture_lines.proofs.NumberTexts.{digit_range}

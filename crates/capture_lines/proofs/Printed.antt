@@ -9,8 +9,8 @@ use Rattle.std.specs.List.{AllPass, list_all}
 use Rattle.std.specs.Str.Parse.{AllDigits}
 use Rattle.hex.specs.Hex.{decode_of, is_hex_digit}
 use Rattle.hex.proofs.HexLemmas.{decode_of-ok}
-use Rattle.inav_page.specs.declared.signal.Signal.{Signal}
-use Rattle.inav_page.specs.declared.signal.Signal.TheVariants.{E1b, E5b}
+use Rattle.nav_eph.specs.declared.signal.Signal.{Signal}
+use Rattle.nav_eph.specs.declared.signal.Signal.TheVariants.{E1b, E5b}
 use Rattle.capture_lines.specs.Texts.{two_digits, signal_letter}
 use Rattle.capture_lines.specs.Spellings.{IsPrinted, IsSpelling, IsNumberText}
 use Rattle.capture_lines.specs.declared.item.LineItem.{LineItem}

@@ -6,7 +6,7 @@ use Rattle.hex.proofs.HexLemmas.{decode_of-encode_lower}
 use Rattle.nav_eph.specs.Satellite.{Satellite, IsSat}
 use Rattle.nav_eph.specs.declared.sat.System.{System}
 use Rattle.nav_eph.specs.declared.sat.System.TheVariants.{Gps, Gal}
-use Rattle.inav_page.specs.declared.signal.Signal.{Signal}
+use Rattle.nav_eph.specs.declared.signal.Signal.{Signal}
 use Rattle.capture_lines.specs.Texts.{lnav_line, half_line, frame_line, lnav_text, half_text, frame_text}
 use Rattle.capture_lines.specs.Spellings.{IsEnded, IsLnavLine, IsHalfLine, IsFrameLine}
 use Rattle.capture_lines.proofs.NumberTexts.{decimal_is_text}

@@ -2,8 +2,8 @@
 use Rattle.std.specs.Prelude.{ℕ, ◌+◌, ◌/◌, ◌%◌, List, [], ◌∷◌, ◌++◌, codes, decimal}
 use Rattle.hex.specs.Hex.{encode_lower}
 use Rattle.nav_eph.specs.Satellite.{Satellite}
-use Rattle.inav_page.specs.declared.signal.Signal.{Signal}
-use Rattle.inav_page.specs.declared.signal.Signal.TheVariants.{E1b, E5b}
+use Rattle.nav_eph.specs.declared.signal.Signal.{Signal}
+use Rattle.nav_eph.specs.declared.signal.Signal.TheVariants.{E1b, E5b}
 
 -- a number below 100 in two digits
 abbrev pub two_digits : ℕ → List ℕ

@@ -1,9 +1,8 @@
 //! What a line stands for.
 
 use arrayvec::ArrayVec;
-use inav_page::Signal;
 use nav_bits::Bits;
-use nav_eph::Sat;
+use nav_eph::{Sat, Signal};
 
 /// The most bytes of an RTCM frame (RTCM 10403.3, the transport layer).
 pub(crate) const LONGEST_FRAME: usize = 1029;

@@ -4,7 +4,7 @@ ghost use Rattle.std.specs.Prelude.{◌≡◌, ◌+◌, ◌^◌, ◌<◌, ◌≤
 ghost use Rattle.hex.specs.Hex.{IsBytes};
 ghost use Rattle.nav_eph.specs.Satellite.{IsSat, Satellite};
 ghost use Rattle.nav_eph.specs.declared.sat.System.TheVariants.{Gal, Gps};
-ghost use Rattle.inav_page.specs.declared.signal.Signal.{Signal};
+ghost use Rattle.nav_eph.specs.declared.signal.Signal.{Signal};
 ghost use Rattle.capture_lines.specs.Heads.{IsHead, head_of};
 ghost use Rattle.capture_lines.specs.Late.{IsLate, greatest_stamp, stamp_of};
 ghost use Rattle.capture_lines.specs.Reading.{item_of};

@@ -11,9 +11,8 @@ use crate::digits::decode;
 use crate::item::{LONGEST_FRAME, LineItem};
 use crate::numbers::{digit_count, number_of};
 use arrayvec::ArrayVec;
-use inav_page::Signal;
 use nav_bits::Bits;
-use nav_eph::{Sat, System};
+use nav_eph::{Sat, Signal, System};
 
 // The fewest and the most hexadecimal digits of a frame.
 const FEWEST_DIGITS: usize = 12;

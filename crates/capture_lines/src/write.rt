@@ -11,9 +11,8 @@ ghost use Rattle.capture_lines.specs.Spellings.{IsFrameLine, IsHalfLine, IsEnded
 use crate::numbers::push_decimal;
 use arrayvec::ArrayVec;
 use hex::encode_to_slice;
-use inav_page::Signal;
 use nav_bits::Bits;
-use nav_eph::Sat;
+use nav_eph::{Sat, Signal};
 
 /// Room for a line and its end.
 pub type LineText = ArrayVec<u8, 2201>;

@@ -3,7 +3,7 @@ use Rattle.std.proofs.Common.{◌≡◌, ℕ, ◌⊎◌, max, inl, inr, false, L
 use Rattle.std.proofs.Common.{unwrap_or, refl, sym, ap, subst, ◌∙◌, ⊎_elim, append_assoc, arith}
 use Rattle.nav_eph.specs.Satellite.{Satellite}
 use Rattle.nav_eph.specs.declared.part.Part.{Part}
-use Rattle.inav_page.specs.declared.signal.Signal.{Signal}
+use Rattle.nav_eph.specs.declared.signal.Signal.{Signal}
 use Rattle.inav_page.specs.Heard.{StampedHalf}
 use Rattle.inav_page.proofs.Surface.{still_heard}
 use Rattle.capture_lines.specs.Late.{stamp_of, IsLate, IsAccepted, greatest_stamp}

@@ -1,9 +1,9 @@
 -- Which items are heard decides what is heard, and not how they come.
 use Rattle.std.proofs.Common.{◌≡◌, ℕ, ◌↔◌, List, Contains, Some}
 use Rattle.nav_eph.specs.declared.part.Part.{Part}
-use Rattle.period_items.specs.PeriodLists.{ArePeriods, AreClosed}
-use Rattle.period_items.specs.PeriodsOf.{periods_of, closed_of}
-use Rattle.period_items.proofs.Surface.{ArePeriods-same, closed_at-are}
+use Rattle.periods.specs.PeriodLists.{ArePeriods, AreClosed}
+use Rattle.periods.specs.PeriodsOf.{periods_of, closed_of}
+use Rattle.periods.proofs.Surface.{ArePeriods-same, closed_at-are}
 use Rattle.capture_lines.specs.Late.{stamp_of, IsAccepted}
 use Rattle.capture_lines.specs.declared.item.LineItem.{LineItem}
 use Rattle.capture_log.specs.Events.{nothing_known}

@@ -4,7 +4,7 @@ use Rattle.std.proofs.Common.{◌++◌, Contains, Some, refl, sym, ap, subst, �
 use Rattle.std.proofs.lemmas.Bool.{cond_both, both_ways}
 use Rattle.nav_eph.specs.Satellite.{Satellite}
 use Rattle.nav_eph.specs.declared.part.Part.{Part}
-use Rattle.inav_page.specs.declared.signal.Signal.{Signal}
+use Rattle.nav_eph.specs.declared.signal.Signal.{Signal}
 use Rattle.inav_page.specs.Heard.{StampedHalf, IsHeard, IsHeardWith, has_half, words_of}
 use Rattle.inav_page.specs.Pages.{word_of}
 use Rattle.inav_page.proofs.Surface.{still_heard, heard_with_one_more}

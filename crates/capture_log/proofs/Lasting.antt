@@ -8,8 +8,8 @@ use Rattle.std.proofs.lemmas.List.Elements.{All-map}
 use Rattle.nav_io.specs.Lines.{Line}
 use Rattle.nav_eph.specs.Values.{IsPartValue}
 use Rattle.nav_eph.specs.declared.part.Part.{Part}
-use Rattle.period_items.specs.PeriodLists.{IsPrefix}
-use Rattle.period_items.specs.PeriodsOf.{periods_of, closed_of}
+use Rattle.periods.specs.PeriodLists.{IsPrefix}
+use Rattle.periods.specs.PeriodsOf.{periods_of, closed_of}
 use Rattle.capture_lines.specs.Late.{stamp_of}
 use Rattle.capture_lines.specs.Reading.{item_of}
 use Rattle.capture_lines.specs.declared.item.LineItem.{LineItem}

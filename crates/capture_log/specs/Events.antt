@@ -9,7 +9,7 @@ use Rattle.nav_eph.specs.Satellite.{Satellite}
 use Rattle.nav_eph.specs.declared.part.Part.{Part}
 use Rattle.lnav_subframe.specs.declared.fault.LnavFault.{LnavFault}
 use Rattle.lnav_subframe.specs.declared.fault.LnavFault.TheVariants as subframes
-use Rattle.inav_page.specs.declared.signal.Signal.{Signal}
+use Rattle.nav_eph.specs.declared.signal.Signal.{Signal}
 use Rattle.inav_page.specs.Pages.{kept_of, kind_of}
 use Rattle.inav_page.specs.Heard.{StampedHalf, stamp_by, words_of, has_half}
 use Rattle.inav_page.specs.Keeping.{stamped}

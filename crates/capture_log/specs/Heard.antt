@@ -4,7 +4,7 @@
 use Rattle.std.specs.Prelude.{◌≡◌, ◌⊎◌, ◌↔◌, ℕ, false, List, Contains, Some}
 use Rattle.nav_eph.specs.Satellite.{Satellite}
 use Rattle.nav_eph.specs.declared.part.Part.{Part}
-use Rattle.inav_page.specs.declared.signal.Signal.{Signal}
+use Rattle.nav_eph.specs.declared.signal.Signal.{Signal}
 use Rattle.inav_page.specs.Pages.{word_of}
 use Rattle.inav_page.specs.Heard.{StampedHalf, IsHeard}
 use Rattle.inav_word.specs.Reading.{reading_of}

@@ -5,8 +5,8 @@ ghost use Rattle.std.specs.Prelude.{Contains};
 ghost use Rattle.nav_eph.specs.declared.part.Part.{Part};
 ghost use Rattle.nav_eph.specs.Conditions.{IsPart};
 ghost use Rattle.nav_eph.specs.Values.{IsPartValue};
-ghost use Rattle.period_items.specs.PeriodLists.{AreClosed, ArePeriods, IsPrefix, items_in};
-ghost use Rattle.period_items.specs.PeriodsOf.{closed_of, periods_of};
+ghost use Rattle.periods.specs.PeriodLists.{AreClosed, ArePeriods, IsPrefix, items_in};
+ghost use Rattle.periods.specs.PeriodsOf.{closed_of, periods_of};
 ghost use Rattle.nav_io.specs.Lines.{Line};
 ghost use Rattle.capture_lines.specs.Late.{stamp_of};
 ghost use Rattle.capture_lines.specs.declared.item.LineItem.{LineItem};
@@ -65,7 +65,7 @@ pub fn periods_are_those_heard()
         → ArePeriods r window (IsPartHeard window items)
         (periods_of r window (parts_in (log_from window nothing_known number items))) }
 {
-    period_items::periods_are();
+    periods::periods_are();
     taken_parts_are_heard();
 }
 
@@ -103,7 +103,7 @@ pub fn order_of_items_is_nothing()
         → items_in (periods_of r window (parts_in (log_from window nothing_known m some)))
         ≡ items_in (periods_of r window (parts_in (log_from window nothing_known n other))) }
 {
-    period_items::order_is_nothing();
+    periods::order_is_nothing();
     taken_parts_are_heard();
 }
 
@@ -164,7 +164,7 @@ pub fn what_is_closed_stays()
         → IsPrefix (closed_of r window (mark_after window lines) (parts_of window lines))
         (periods_of r window (parts_of window (lines ++ more))) }
 {
-    period_items::closed_stays();
+    periods::closed_stays();
     parts_of_lines_are_values();
     further_lines_are_later();
 }

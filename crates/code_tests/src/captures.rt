@@ -8,9 +8,8 @@ use capture_lines::{
     CaptureHead, LineItem, LineText, read_first, read_line, write_half_line, write_lnav, write_rtcm,
 };
 use gnss_week::RefWeek;
-use inav_page::Signal;
 use nav_bits::Bits;
-use nav_eph::{Sat, System};
+use nav_eph::{Sat, Signal, System};
 use std::process::Abort;
 
 const SUBFRAME: [u8; 38] = [

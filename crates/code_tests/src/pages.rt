@@ -3,9 +3,9 @@
 ghost use Rattle.std.specs.Prelude.{◌≤◌};
 
 use crate::samples::bits_of;
-use inav_page::{Half, HalfFault, HalfKind, Halves, Signal, join, read_half, split, write_half};
+use inav_page::{Half, HalfFault, HalfKind, Halves, join, read_half, split, write_half};
 use nav_bits::Bits;
-use nav_eph::{Sat, System};
+use nav_eph::{Sat, Signal, System};
 use std::alloc::Global;
 use std::test::Fail;
 

@@ -1,6 +1,6 @@
 //! Words whose values come from the table by hand.
 
-use lnav_parity::{check_word, make_solved, make_word};
+use lnav_subframe::{check_word, make_solved, make_word};
 use nav_bits::U;
 
 #[test]

@@ -7,3 +7,4 @@ mod FirstPlace
 mod Takes
 mod Promising
 mod HeadingLaws
+pub mod Going

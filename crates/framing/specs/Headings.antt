@@ -1,5 +1,6 @@
 -- Formats whose messages tell their size in their first bytes.
-use Rattle.std.specs.Prelude.{◌≡◌, ℕ, ◌+◌, ◌<◌, ◌≤◌, ◌&&◌, nat_lt, nat_le, Bool, true, false, if◌then◌else◌, List, [], ◌∷◌, ◌++◌, length, take}
+use Rattle.std.specs.Prelude.{◌≡◌, ℕ, ◌+◌, ◌<◌, ◌≤◌, ◌&&◌, nat_lt, nat_le, Bool, true, false}
+use Rattle.std.specs.Prelude.{if◌then◌else◌, List, [], ◌∷◌, ◌++◌, length, take}
 use Rattle.framing.specs.Messages.{Format}
 
 -- how the messages of a format begin, and which are right
@@ -32,7 +33,8 @@ pub record IsHeading (h : Heading) : Type 0 where
 
 -- the size of the whole message of right checksum that begins the bytes, or 0 where none does
 abbrev pub size_by : Heading → List ℕ → ℕ
-size_by h xs = if h.begins xs && nat_le (h.wanted xs) (length xs) && h.is_right (take (h.wanted xs) xs) then h.wanted xs else 0
+size_by h xs = if h.begins xs && nat_le (h.wanted xs) (length xs)
+    && h.is_right (take (h.wanted xs) xs) then h.wanted xs else 0
 
 -- whether the bytes begin as a message does, and end before it does
 abbrev pub opens_by : Heading → List ℕ → Bool

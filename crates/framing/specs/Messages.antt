@@ -1,5 +1,6 @@
 -- The messages of a list of bytes, for any format of messages.
-use Rattle.std.specs.Prelude.{◌≡◌, ℕ, zero, suc, ◌-◌, ◌≤◌, ◌&&◌, nat_lt, Bool, true, false, if◌then◌else◌, List, [], ◌∷◌, ◌++◌, length, take, drop}
+use Rattle.std.specs.Prelude.{◌≡◌, ℕ, zero, suc, ◌-◌, ◌≤◌, ◌&&◌, nat_lt, Bool, true, false}
+use Rattle.std.specs.Prelude.{if◌then◌else◌, List, [], ◌∷◌, ◌++◌, length, take, drop}
 
 -- a format of messages
 pub record Format : Type 0 where
@@ -17,9 +18,11 @@ pub record IsFormat (format : Format) : Type 0 where
   -- no whole message begins where it is open
   pub size_of_open : (xs : List ℕ) → format.is_open xs ≡ true → format.size xs ≡ 0
   -- more bytes behind don't change the message that begins where it isn't open
-  pub size_append : (x : ℕ) (xs ys : List ℕ) → format.is_open (x ∷ xs) ≡ false → format.size (x ∷ (xs ++ ys)) ≡ format.size (x ∷ xs)
+  pub size_append : (x : ℕ) (xs ys : List ℕ) → format.is_open (x ∷ xs) ≡ false
+      → format.size (x ∷ (xs ++ ys)) ≡ format.size (x ∷ xs)
 
--- The messages past the first k bytes: where a whole message begins, that message, going on behind it, else going on one
+-- The messages past the first k bytes: where a whole message begins, that message, going on behind
+-- it, else going on one
 -- byte later. Where more bytes may come, only those before the first place that is open.
 abbrev pub messages_past : Format → Bool → List ℕ → ℕ → List (List ℕ)
 messages_past format more [] k = []
@@ -27,7 +30,8 @@ messages_past format more (x ∷ xs) (suc k) = messages_past format more xs k
 messages_past format more (x ∷ xs) zero =
     if more && format.is_open (x ∷ xs) then []
     else if nat_lt 0 (format.size (x ∷ xs))
-    then take (format.size (x ∷ xs)) (x ∷ xs) ∷ messages_past format more xs (format.size (x ∷ xs) - 1)
+    then take (format.size (x ∷ xs)) (x ∷ xs)
+    ∷ messages_past format more xs (format.size (x ∷ xs) - 1)
     else messages_past format more xs 0
 
 -- the messages of the bytes
@@ -55,4 +59,5 @@ undecided format bytes = open_past format bytes 0
 abbrev pub after_first : Format → List ℕ → List ℕ
 after_first format [] = []
 after_first format (x ∷ xs) =
-    if nat_lt 0 (format.size (x ∷ xs)) then drop (format.size (x ∷ xs)) (x ∷ xs) else after_first format xs
+    if nat_lt 0 (format.size (x ∷ xs)) then drop (format.size (x ∷ xs))
+    (x ∷ xs) else after_first format xs

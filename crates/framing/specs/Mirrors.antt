@@ -1,9 +1,11 @@
 -- What the deframer's inner functions compute; only their contracts cite it.
-use Rattle.std.specs.Prelude.{ℕ, ◌+◌, ◌<◌, ◌&&◌, ◌++◌, nat_lt, Bool, if◌then◌else◌, List, [], ◌∷◌, length}
+use Rattle.std.specs.Prelude.{ℕ, ◌+◌, ◌<◌, ◌&&◌, ◌++◌, nat_lt, Bool, if◌then◌else◌, List, [], ◌∷◌}
+use Rattle.std.specs.Prelude.{length}
 use Rattle.framing.specs.Messages.{Format}
 use Rattle.framing.specs.State.{IsWaiting}
 
--- the bytes from the first place on where a message begins or, where more bytes may come, that is open
+-- the bytes from the first place on where a message begins or, where more bytes may come, that is
+-- open
 abbrev pub from_first : Format → Bool → List ℕ → List ℕ
 from_first format more [] = []
 from_first format more (x ∷ xs) =
@@ -13,4 +15,5 @@ from_first format more (x ∷ xs) =
 
 -- with fewer bytes than so many, whichever follow these, nothing is decided
 abbrev pub Promises : Format → List ℕ → ℕ → Type 0
-Promises format rest count = (following : List ℕ) → length rest + length following < count → IsWaiting format (rest ++ following)
+Promises format rest count = (following : List ℕ) → length rest + length following < count
+    → IsWaiting format (rest ++ following)

@@ -1,19 +1,25 @@
 -- The messages of a list of bytes by the set of the places at which they begin.
-use Rattle.std.specs.Prelude.{◌≡◌, ℕ, zero, suc, ◌+◌, ◌<◌, ◌≤◌, ◌&&◌, ◌↔◌, nat_lt, nat_le, Bool, true, IsTrue, if◌then◌else◌, List, [], ◌∷◌, take, drop}
+use Rattle.std.specs.Prelude.{◌≡◌, ℕ, zero, suc, ◌+◌, ◌<◌, ◌≤◌, ◌&&◌, ◌↔◌, nat_lt, nat_le, Bool}
+use Rattle.std.specs.Prelude.{true, IsTrue, if◌then◌else◌, List, [], ◌∷◌, take, drop}
 use Rattle.framing.specs.Messages.{Format}
 
 -- the size of the message that begins at a place, or 0 where none does
 abbrev pub size_at : Format → List ℕ → ℕ → ℕ
 size_at format bytes p = format.size (drop p bytes)
 
--- A place is chosen exactly where a message begins and the place is inside no chosen message that begins before it.
+-- A place is chosen exactly where a message begins and the place is inside no chosen message that
+-- begins before it.
 pub record AreChosen (format : Format) (bytes : List ℕ) (chosen : ℕ → Bool) : Type 0 where
-  pub exactly : (p : ℕ) → IsTrue (chosen p) ↔ ((0 < size_at format bytes p) × ((q : ℕ) → IsTrue (chosen q) → q < p → q + size_at format bytes q ≤ p))
+  pub exactly : (p : ℕ) → IsTrue (chosen p)
+      ↔ ((0 < size_at format bytes p)
+      × ((q : ℕ) → IsTrue (chosen q) → q < p → q + size_at format bytes q ≤ p))
 
--- how far the chosen messages that begin before place p reach, for the sizes of the messages at the places
+-- how far the chosen messages that begin before place p reach, for the sizes of the messages at the
+-- places
 abbrev pub reach : (ℕ → ℕ) → ℕ → ℕ
 reach size zero = 0
-reach size (suc p) = if nat_le (reach size p) p && nat_lt 0 (size p) then p + size p else reach size p
+reach size (suc p) = if nat_le (reach size p) p
+    && nat_lt 0 (size p) then p + size p else reach size p
 
 -- whether the place is chosen: a message begins there, and those before it end by there
 abbrev pub chosen_by : (ℕ → ℕ) → ℕ → Bool
@@ -30,8 +36,10 @@ messages_from format chosen p (x ∷ xs) =
     if chosen p then take (format.size (x ∷ xs)) (x ∷ xs) ∷ messages_from format chosen (p + 1) xs
     else messages_from format chosen (p + 1) xs
 
--- A place where a message begins that doesn't end in the bytes, inside no chosen message that begins before it.
-pub record IsUnfinished (format : Format) (bytes : List ℕ) (chosen : ℕ → Bool) (p : ℕ) : Type 0 where
+-- A place where a message begins that doesn't end in the bytes, inside no chosen message that
+-- begins before it.
+pub record IsUnfinished (format : Format) (bytes : List ℕ) (chosen : ℕ → Bool)
+    (p : ℕ) : Type 0 where
   pub opens : format.is_open (drop p bytes) ≡ true
   pub outside : (q : ℕ) → IsTrue (chosen q) → q < p → q + size_at format bytes q ≤ p
 

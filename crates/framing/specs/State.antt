@@ -1,5 +1,6 @@
 -- What a contract sees of a deframer.
-use Rattle.std.specs.Prelude.{◌≡◌, ℕ, ◌<◌, ◌≤◌, ◌⊎◌, ◌++◌, Bool, true, false, if◌then◌else◌, List, [], ◌∷◌, length}
+use Rattle.std.specs.Prelude.{◌≡◌, ℕ, ◌<◌, ◌≤◌, ◌⊎◌, ◌++◌, Bool, true, false, if◌then◌else◌, List}
+use Rattle.std.specs.Prelude.{[], ◌∷◌, length}
 use Rattle.framing.specs.Messages.{Format, messages_past, messages, undecided, after_first}
 
 -- a deframer
@@ -19,15 +20,18 @@ IsWaiting format rest = (rest ≡ []) ⊎ (format.is_open rest ≡ true)
 abbrev pub MayFeed : Format → DeframerState → Type 0
 MayFeed format state = (state.finished ≡ false) × IsWaiting format state.rest
 
--- A message is decided: whatever bytes follow, none after the last, the messages are this one and then those of the new rest.
-pub record TakesMessage (format : Format) (more : Bool) (old : List ℕ) (message : List ℕ) (new : List ℕ) : Type 0 where
+-- A message is decided: whatever bytes follow, none after the last, the messages are this one and
+-- then those of the new rest.
+pub record TakesMessage (format : Format) (more : Bool) (old : List ℕ) (message : List ℕ)
+    (new : List ℕ) : Type 0 where
   pub stream : (following : List ℕ) → (more ≡ false → following ≡ [])
       → messages format (old ++ following) ≡ message ∷ messages format (new ++ following)
   pub first : messages_past format more old 0 ≡ message ∷ messages_past format more new 0
   pub rest : new ≡ after_first format old
   pub shorter : length new < length old
 
--- No message is decided, or after the last byte there is none. What is kept begins at the open place.
+-- No message is decided, or after the last byte there is none. What is kept begins at the open
+-- place.
 pub record TakesNone (format : Format) (more : Bool) (old new : List ℕ) : Type 0 where
   pub none : messages_past format more old 0 ≡ []
   pub rest : new ≡ (if more then undecided format old else [])

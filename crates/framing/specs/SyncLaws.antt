@@ -1,6 +1,9 @@
 -- Two fixed bytes and a header of fixed size make a heading.
-use Rattle.std.proofs.Common.{◌≡◌, ℕ, ◌+◌, ◌<◌, ◌≤◌, ◌==◌, ◌&&◌, ◌||◌, ◌⊎◌, nat_lt, nat_eq, Bool, true, false, List, [], ◌∷◌, ◌++◌, length, get_or, refl, sym, ap, ◌∙◌, inl, inr, arith, append-nil, length-append}
-use Rattle.std.proofs.lemmas.Bool.{lt-ltb, le-ltb, cases_lt, ne_eqb, and_left, and_parts, false≢true, both_ways}
+use Rattle.std.proofs.Common.{◌≡◌, ℕ, ◌+◌, ◌<◌, ◌≤◌, ◌&&◌, nat_lt, nat_eq, Bool}
+use Rattle.std.proofs.Common.{true, false, List, [], ◌∷◌, ◌++◌, length, get_or, refl, sym, ap, ◌∙◌}
+use Rattle.std.proofs.Common.{inl, inr, arith, append-nil, length-append}
+use Rattle.std.proofs.lemmas.Bool.{lt-ltb, le-ltb, cases_lt, ne_eqb}
+use Rattle.std.proofs.lemmas.Bool.{both_ways}
 use Rattle.std.proofs.lemmas.List.{get_or_append_left}
 use Rattle.framing.specs.Headings.{IsHeading}
 use Rattle.framing.specs.Syncs.{Sync, IsSync, begins_by, wanted_by, heading_by}
@@ -16,7 +19,8 @@ wanted_one s xs some h =
     let f : nat_lt (length xs) 2 ≡ true = lt-ltb _ _ h in
     rw (e, f) refl
 
-pub wanted_few : (s : Sync) (xs : List ℕ) → 2 ≤ length xs → length xs < s.header → wanted_by s xs ≡ s.header
+pub wanted_few : (s : Sync) (xs : List ℕ) → 2 ≤ length xs → length xs < s.header
+    → wanted_by s xs ≡ s.header
 unfolding wanted_by
 wanted_few s xs some h =
     let e : nat_lt (length xs) 1 ≡ false = le-ltb _ _ (omega arith) in
@@ -24,7 +28,8 @@ wanted_few s xs some h =
     let g : nat_lt (length xs) s.header ≡ true = lt-ltb _ _ h in
     rw (e, f, g) refl
 
-pub wanted_many : (s : Sync) (xs : List ℕ) → 2 ≤ length xs → s.header ≤ length xs → wanted_by s xs ≡ s.size xs
+pub wanted_many : (s : Sync) (xs : List ℕ) → 2 ≤ length xs → s.header ≤ length xs
+    → wanted_by s xs ≡ s.size xs
 unfolding wanted_by
 wanted_many s xs some h =
     let e : nat_lt (length xs) 1 ≡ false = le-ltb _ _ (omega arith) in
@@ -36,7 +41,8 @@ pub begins_none : (s : Sync) (xs : List ℕ) → length xs < 1 → begins_by s x
 unfolding begins_by
 begins_none s xs h = let e : nat_lt (length xs) 1 ≡ true = lt-ltb _ _ h in rw e refl
 
-pub begins_one : (s : Sync) (xs : List ℕ) → 1 ≤ length xs → length xs < 2 → begins_by s xs ≡ (nat_eq (get_or xs 0 0) s.first && true)
+pub begins_one : (s : Sync) (xs : List ℕ) → 1 ≤ length xs → length xs < 2
+    → begins_by s xs ≡ (nat_eq (get_or xs 0 0) s.first && true)
 unfolding begins_by
 begins_one s xs some h =
     let e : nat_lt (length xs) 1 ≡ false = le-ltb _ _ some in
@@ -53,7 +59,8 @@ begins_few s xs some h =
     rw (e, f, g) refl
 
 pub begins_many : (s : Sync) (xs : List ℕ) → 2 ≤ length xs → s.header ≤ length xs
-    → begins_by s xs ≡ (nat_eq (get_or xs 0 0) s.first && (nat_eq (get_or xs 1 0) s.second && s.fits xs))
+    → begins_by s xs ≡ (nat_eq (get_or xs 0 0) s.first
+    && (nat_eq (get_or xs 1 0) s.second && s.fits xs))
 unfolding begins_by
 begins_many s xs some h =
     let e : nat_lt (length xs) 1 ≡ false = le-ltb _ _ (omega arith) in
@@ -62,12 +69,15 @@ begins_many s xs some h =
     rw (e, f, g) refl
 
 -- bytes whose first one is another begin no message
-pub begins_other : (s : Sync) (xs : List ℕ) → 1 ≤ length xs → nat_eq (get_or xs 0 0) s.first ≡ false → begins_by s xs ≡ false
+pub begins_other : (s : Sync) (xs : List ℕ) → 1 ≤ length xs → nat_eq (get_or xs 0 0) s.first ≡ false
+    → begins_by s xs ≡ false
 unfolding begins_by
-begins_other s xs some other = let e : nat_lt (length xs) 1 ≡ false = le-ltb _ _ some in rw (e, other) refl
+begins_other s xs some other = let e : nat_lt (length xs) 1 ≡ false = le-ltb _ _ some in
+    rw (e, other) refl
 
 -- and so where the second one is another
-pub begins_other_second : (s : Sync) (xs : List ℕ) → 2 ≤ length xs → nat_eq (get_or xs 1 0) s.second ≡ false → begins_by s xs ≡ false
+pub begins_other_second : (s : Sync) (xs : List ℕ) → 2 ≤ length xs
+    → nat_eq (get_or xs 1 0) s.second ≡ false → begins_by s xs ≡ false
 unfolding begins_by
 begins_other_second s xs some other =
     let e : nat_lt (length xs) 1 ≡ false = le-ltb _ _ (omega arith) in
@@ -85,36 +95,52 @@ no_more xs (y ∷ ys) h = absurd (omega arith)
 same_first : (xs ys : List ℕ) (i : ℕ) → i < length xs → get_or (xs ++ ys) i 0 ≡ get_or xs i 0
 same_first xs ys i h = get_or_append_left xs ys 0 i h
 
-refused_few : (s : Sync) (xs ys : List ℕ) → IsSync s → 2 ≤ length xs → length xs < s.header → begins_by s xs ≡ false
-    → (first second : Bool) → nat_eq (get_or xs 0 0) s.first ≡ first → nat_eq (get_or xs 1 0) s.second ≡ second → begins_by s (xs ++ ys) ≡ false
+refused_few : (s : Sync) (xs ys : List ℕ) → IsSync s → 2 ≤ length xs → length xs < s.header
+    → begins_by s xs ≡ false
+    → (first second : Bool) → nat_eq (get_or xs 0 0) s.first ≡ first
+    → nat_eq (get_or xs 1 0) s.second ≡ second → begins_by s (xs ++ ys) ≡ false
 refused_few s xs ys sync some few e false second f g =
-    begins_other s (xs ++ ys) (omega (arith, length-append xs ys)) (ap (λ n. nat_eq n s.first) (same_first xs ys 0 (omega arith)) ∙ f)
+    begins_other s (xs ++ ys) (omega (arith, length-append xs ys))
+    (ap (λ n. nat_eq n s.first) (same_first xs ys 0 (omega arith)) ∙ f)
 refused_few s xs ys sync some few e true false f g =
-    begins_other_second s (xs ++ ys) (omega (arith, length-append xs ys)) (ap (λ n. nat_eq n s.second) (same_first xs ys 1 (omega arith)) ∙ g)
+    begins_other_second s (xs ++ ys) (omega (arith, length-append xs ys))
+    (ap (λ n. nat_eq n s.second) (same_first xs ys 1 (omega arith)) ∙ g)
 refused_few s xs ys sync some few e true true f g =
     let both : begins_by s xs ≡ true = begins_few s xs some few ∙ (rw (f, g) refl) in
     absurd (both_ways _ e both)
 
-same_begins_few : (s : Sync) (xs ys : List ℕ) → 2 ≤ length xs → length xs + length ys < s.header → begins_by s (xs ++ ys) ≡ begins_by s xs
+same_begins_few : (s : Sync) (xs ys : List ℕ) → 2 ≤ length xs → length xs + length ys < s.header
+    → begins_by s (xs ++ ys) ≡ begins_by s xs
 same_begins_few s xs ys some few =
-    begins_few s (xs ++ ys) (omega (arith, length-append xs ys)) (omega (arith, length-append xs ys))
+    begins_few s (xs ++ ys) (omega (arith, length-append xs ys))
+    (omega (arith, length-append xs ys))
     ∙ (rw (same_first xs ys 0 (omega arith), same_first xs ys 1 (omega arith)) refl)
     ∙ sym (begins_few s xs some (omega arith))
 
-same_begins_many : (s : Sync) (xs ys : List ℕ) → IsSync s → 2 ≤ length xs → s.header ≤ length xs → begins_by s (xs ++ ys) ≡ begins_by s xs
+same_begins_many : (s : Sync) (xs ys : List ℕ) → IsSync s → 2 ≤ length xs → s.header ≤ length xs
+    → begins_by s (xs ++ ys) ≡ begins_by s xs
 same_begins_many s xs ys sync some many =
-    begins_many s (xs ++ ys) (omega (arith, length-append xs ys)) (omega (arith, length-append xs ys))
-    ∙ (rw (same_first xs ys 0 (omega arith), same_first xs ys 1 (omega arith), sync.fits_front xs ys many) refl)
+    begins_many s (xs ++ ys) (omega (arith, length-append xs ys))
+    (omega (arith, length-append xs ys))
+    ∙ (rw (
+      same_first xs ys 0 (omega arith),
+      same_first xs ys 1
+          (omega arith),
+      sync.fits_front xs ys many,
+    ) refl)
     ∙ sym (begins_many s xs some many)
 
-same_wanted_many : (s : Sync) (xs ys : List ℕ) → IsSync s → 2 ≤ length xs → s.header ≤ length xs → wanted_by s (xs ++ ys) ≡ wanted_by s xs
+same_wanted_many : (s : Sync) (xs ys : List ℕ) → IsSync s → 2 ≤ length xs → s.header ≤ length xs
+    → wanted_by s (xs ++ ys) ≡ wanted_by s xs
 same_wanted_many s xs ys sync some many =
-    wanted_many s (xs ++ ys) (omega (arith, length-append xs ys)) (omega (arith, length-append xs ys))
+    wanted_many s (xs ++ ys) (omega (arith, length-append xs ys))
+    (omega (arith, length-append xs ys))
     ∙ sync.size_front xs ys many
     ∙ sym (wanted_many s xs some many)
 
 -- bytes of a whole message have all of its header
-pub whole_has_header : (s : Sync) (xs : List ℕ) → IsSync s → wanted_by s xs ≤ length xs → s.header ≤ length xs
+pub whole_has_header : (s : Sync) (xs : List ℕ) → IsSync s → wanted_by s xs ≤ length xs
+    → s.header ≤ length xs
 whole_has_header s xs sync h =
     elim (cases_lt (length xs) 1) [
       | inl none ↦ absurd (omega (arith, wanted_none s xs none))
@@ -127,12 +153,15 @@ whole_has_header s xs sync h =
       ]
     ]
 
-refused : (s : Sync) → IsSync s → (xs ys : List ℕ) → begins_by s xs ≡ false → begins_by s (xs ++ ys) ≡ false
+refused : (s : Sync) → IsSync s → (xs ys : List ℕ) → begins_by s xs ≡ false
+    → begins_by s (xs ++ ys) ≡ false
 refused s sync xs ys e =
     elim (cases_lt (length xs) 1) [
       | inl none ↦ absurd (both_ways _ e (begins_none s xs none))
       | inr some ↦ elim (cases_lt (length xs) 2) [
-        | inl one ↦ begins_other s (xs ++ ys) (omega (arith, length-append xs ys)) (ap (λ n. nat_eq n s.first) (same_first xs ys 0 (omega arith)) ∙ other (nat_eq (get_or xs 0 0) s.first) (sym (begins_one s xs some one) ∙ e))
+        | inl one ↦ begins_other s (xs ++ ys) (omega (arith, length-append xs ys))
+            (ap (λ n. nat_eq n s.first) (same_first xs ys 0 (omega arith))
+            ∙ other (nat_eq (get_or xs 0 0) s.first) (sym (begins_one s xs some one) ∙ e))
         | inr two ↦ elim (cases_lt (length xs) s.header) [
           | inl few ↦ refused_few s xs ys sync two few e _ _ refl refl
           | inr many ↦ same_begins_many s xs ys sync two many ∙ e
@@ -144,7 +173,8 @@ refused s sync xs ys e =
     other true h = h
     other false h = refl
 
-waits : (s : Sync) → IsSync s → (xs ys : List ℕ) → begins_by s xs ≡ true → length xs + length ys < wanted_by s xs
+waits : (s : Sync) → IsSync s → (xs ys : List ℕ) → begins_by s xs ≡ true
+    → length xs + length ys < wanted_by s xs
     → (begins_by s (xs ++ ys) ≡ true) × (wanted_by s (xs ++ ys) ≡ wanted_by s xs)
 waits s sync xs ys e short =
     elim (cases_lt (length xs) 1) [
@@ -153,30 +183,53 @@ waits s sync xs ys e short =
         | inl one ↦ nothing (omega (arith, wanted_one s xs some one))
         | inr two ↦ elim (cases_lt (length xs) s.header) [
           | inl few ↦ within two few
-          | inr many ↦ (same_begins_many s xs ys sync two many ∙ e, same_wanted_many s xs ys sync two many)
+          | inr many ↦ (
+            same_begins_many s xs ys sync two many
+                ∙ e,
+            same_wanted_many s xs ys sync two many,
+          )
         ]
       ]
     ]
   where
-    nothing : length ys < 1 → (begins_by s (xs ++ ys) ≡ true) × (wanted_by s (xs ++ ys) ≡ wanted_by s xs)
+    nothing : length ys < 1 → (begins_by s (xs ++ ys) ≡ true)
+        × (wanted_by s (xs ++ ys) ≡ wanted_by s xs)
     nothing h = (ap (begins_by s) (no_more xs ys h) ∙ e, ap (wanted_by s) (no_more xs ys h))
 
-    within : 2 ≤ length xs → length xs < s.header → (begins_by s (xs ++ ys) ≡ true) × (wanted_by s (xs ++ ys) ≡ wanted_by s xs)
+    within : 2 ≤ length xs → length xs < s.header
+        → (begins_by s (xs ++ ys) ≡ true) × (wanted_by s (xs ++ ys) ≡ wanted_by s xs)
     within two few =
         let less : length xs + length ys < s.header = omega (arith, wanted_few s xs two few) in (
           same_begins_few s xs ys two less ∙ e,
-          wanted_few s (xs ++ ys) (omega (arith, length-append xs ys)) (omega (arith, length-append xs ys)) ∙ sym (wanted_few s xs two few),
+          wanted_few s (xs ++ ys) (omega (arith, length-append xs ys))
+              (omega (arith, length-append xs ys)) ∙ sym (wanted_few s xs two few),
         )
 
 bounds : (s : Sync) → IsSync s → (xs : List ℕ) → (0 < wanted_by s xs) × (wanted_by s xs ≤ s.longest)
 bounds s sync xs =
     elim (cases_lt (length xs) 1) [
-      | inl none ↦ (omega (arith, wanted_none s xs none), omega (arith, wanted_none s xs none, sync.two, sync.within))
+      | inl none ↦ (
+        omega (arith, wanted_none s xs none),
+        omega
+            (arith, wanted_none s xs none, sync.two, sync.within),
+      )
       | inr some ↦ elim (cases_lt (length xs) 2) [
-        | inl one ↦ (omega (arith, wanted_one s xs some one), omega (arith, wanted_one s xs some one, sync.two, sync.within))
+        | inl one ↦ (
+          omega (arith, wanted_one s xs some one),
+          omega
+              (arith, wanted_one s xs some one, sync.two, sync.within),
+        )
         | inr two ↦ elim (cases_lt (length xs) s.header) [
-          | inl few ↦ (omega (arith, wanted_few s xs two few, sync.two), omega (arith, wanted_few s xs two few, sync.within))
-          | inr many ↦ (omega (arith, wanted_many s xs two many, sync.some xs), omega (arith, wanted_many s xs two many, sync.most xs))
+          | inl few ↦ (
+            omega (arith, wanted_few s xs two few, sync.two),
+            omega
+                (arith, wanted_few s xs two few, sync.within),
+          )
+          | inr many ↦ (
+            omega (arith, wanted_many s xs two many, sync.some xs),
+            omega
+                (arith, wanted_many s xs two many, sync.most xs),
+          )
         ]
       ]
     ]

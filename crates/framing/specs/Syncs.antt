@@ -1,5 +1,6 @@
 -- Formats whose messages begin with two fixed bytes and tell their size in a header of fixed size.
-use Rattle.std.specs.Prelude.{◌≡◌, ℕ, ◌<◌, ◌≤◌, ◌==◌, ◌&&◌, ◌||◌, nat_lt, Bool, if◌then◌else◌, List, ◌++◌, length, slice_index}
+use Rattle.std.specs.Prelude.{◌≡◌, ℕ, ◌<◌, ◌≤◌, ◌==◌, ◌&&◌, ◌||◌, nat_lt, Bool, if◌then◌else◌, List}
+use Rattle.std.specs.Prelude.{◌++◌, length, slice_index}
 use Rattle.framing.specs.Headings.{Heading}
 
 -- such a format
@@ -32,7 +33,8 @@ unfoldable pub begins_by : Sync → List ℕ → Bool
 begins_by s xs =
     nat_lt (length xs) 1
     || (slice_index xs 0 == s.first
-    && (nat_lt (length xs) 2 || (slice_index xs 1 == s.second && (nat_lt (length xs) s.header || s.fits xs))))
+    && (nat_lt (length xs) 2 || (slice_index xs 1 == s.second
+    && (nat_lt (length xs) s.header || s.fits xs))))
 
 -- how many bytes it takes to know more
 unfoldable pub wanted_by : Sync → List ℕ → ℕ

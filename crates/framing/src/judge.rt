@@ -42,11 +42,13 @@ pub trait Judge: Drop {
 
     /// Forgets so many bytes in front.
     fn cut_front(&mut self, count: usize)
-        ensures { (bytes : List ℕ) → IsBeside self.old bytes → IsBeside self.new (drop count bytes) };
+        ensures { (bytes : List ℕ) → IsBeside self.old bytes
+            → IsBeside self.new (drop count bytes) };
 
     ghost is_heading: { IsHeading heading };
 
     ghost is_short: { heading.longest ≤ 98304 };
 
-    ghost stays: { (judge : Self) (xs ys : List ℕ) → IsBeside judge xs → IsBeside judge (xs ++ ys) };
+    ghost stays: { (judge : Self) (xs ys : List ℕ) → IsBeside judge xs
+        → IsBeside judge (xs ++ ys) };
 }

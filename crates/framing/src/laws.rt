@@ -20,6 +20,14 @@ pub fn decided_messages_stay()
         → messages f (bytes ++ more) ≡ decided f bytes ++ messages f (undecided f bytes ++ more) }
 {}
 
+/// With more bytes behind, the decided messages stay decided, and the others are those that are
+/// decided of what was undecided with these bytes.
+pub fn decided_messages_stay_decided()
+    ensures { (h : Heading) → IsHeading h → (bytes more : List ℕ)
+        → decided (format_of h) (bytes ++ more) ≡ decided (format_of h) bytes
+        ++ decided (format_of h) (undecided (format_of h) bytes ++ more) }
+{}
+
 /// There is exactly one set of chosen places, and the messages are those at its places, ascending.
 pub fn messages_are_at_the_chosen_places()
     ensures exist { (f : Format) (bytes : List ℕ) → AreChosen f bytes (is_chosen f bytes) }

@@ -7,8 +7,8 @@ use Rattle.nav_eph.specs.declared.sat.System.{System}
 use Rattle.nav_eph.specs.declared.sat.System.TheVariants.{Gps, Gal}
 use Rattle.inav_page.specs.declared.half.HalfKind.{HalfKind}
 use Rattle.inav_page.specs.declared.half.HalfKind.TheVariants.{Even, Odd}
-use Rattle.inav_page.specs.declared.signal.Signal.{Signal}
-use Rattle.inav_page.specs.declared.signal.Signal.TheVariants.{E1b, E5b}
+use Rattle.nav_eph.specs.declared.signal.Signal.{Signal}
+use Rattle.nav_eph.specs.declared.signal.Signal.TheVariants.{E1b, E5b}
 use Rattle.inav_page.specs.Pages.{kind_of, has_right_crc}
 use Rattle.inav_page.specs.Heard.{StampedHalf, MakeWord, ArePartners, AreWordsWith, IsAbove, IsAscending, same_system, same_signal, same_sender, same_half, has_half, is_even, makes_word, are_partners, put_half, partners_of, words_of}
 use Rattle.inav_page.proofs.Membership.{In, contains_from_In, In-from_contains}

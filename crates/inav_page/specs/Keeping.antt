@@ -1,7 +1,7 @@
 -- What a collection of halves keeps.
 use Rattle.std.specs.Prelude.{◌≡◌, ℕ, ◌+◌, ◌≤◌, ◌⊎◌, List, Contains}
 use Rattle.nav_eph.specs.Satellite.{Satellite}
-use Rattle.inav_page.specs.declared.signal.Signal.{Signal}
+use Rattle.nav_eph.specs.declared.signal.Signal.{Signal}
 use Rattle.inav_page.specs.Heard.{StampedHalf}
 
 -- what contracts see of it: its window in seconds, the greatest stamp that it took (0 before the first), and what it keeps

@@ -11,8 +11,8 @@ use Rattle.inav_page.specs.declared.half.HalfKind.{HalfKind}
 use Rattle.inav_page.specs.declared.half.HalfKind.TheVariants.{Even, Odd}
 use Rattle.inav_page.specs.declared.seconds.Second.{Second}
 use Rattle.inav_page.specs.declared.seconds.Seconds.{Seconds}
-use Rattle.inav_page.specs.declared.signal.Signal.{Signal}
-use Rattle.inav_page.specs.declared.signal.Signal.TheVariants.{E1b, E5b}
+use Rattle.nav_eph.specs.declared.signal.Signal.{Signal}
+use Rattle.nav_eph.specs.declared.signal.Signal.TheVariants.{E1b, E5b}
 use Rattle.inav_page.specs.Pages.{digits_at, kind_of, page_crc}
 use Rattle.inav_page.specs.Heard.{StampedHalf, word_by}
 use Rattle.inav_page.specs.Keeping.{IsRecent}

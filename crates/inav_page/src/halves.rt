@@ -10,8 +10,7 @@ use crate::half::Half;
 use crate::joined::Joined;
 use crate::keys::{join_with_kept, keep};
 use crate::seconds::Seconds;
-use crate::signal::Signal;
-use nav_eph::Sat;
+use nav_eph::{Sat, Signal};
 use std::alloc::{AllocError, Global};
 use std::marker::Model;
 

@@ -40,4 +40,3 @@ pub use crate::laws::{
     words_heard_with_one_more,
 };
 pub use crate::page::{join, split};
-pub use crate::signal::Signal;

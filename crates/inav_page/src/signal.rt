@@ -1,14 +1,7 @@
 ghost use Rattle.std.specs.Prelude.{◌≡◌};
 ghost use Rattle.inav_page.specs.Mirrors.{signal_number};
 
-/// The signal on which a page was received (Galileo OS SIS ICD, 4.3.1).
-#[derive(Clone, Copy, PartialEq, Eq, PartialOrd, Ord, Hash)]
-pub enum Signal {
-    /// E1-B.
-    E1b,
-    /// E5b-I.
-    E5b,
-}
+use nav_eph::Signal;
 
 // Its place in the order of signals.
 pub(crate) fn number_of(signal: Signal) -> u64

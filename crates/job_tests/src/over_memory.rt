@@ -1,8 +1,8 @@
 //! Runs of the top call over memory, and whether they end as they must.
 
 use crate::bits::expand;
+use bridge_engine::bridge;
 use nav_io::{MemSink, MemSource};
-use nav_jobs::bridge;
 use std::alloc::{AllocError, Global};
 
 // How many bytes of output and of report there is room for.

@@ -1,9 +1,10 @@
 //! Whole jobs over memory: what they write, and their statuses.
 
 use crate::over_memory::{ANYTHING, Failing, NOTHING_FAILS, ends, ends_failing};
-use bridge_engine::{BridgeFault, FrameCounts, run_frames};
 use nav_io::{MemSink, MemSource};
+use one_run::BridgeFault;
 use std::test::Fail;
+use streams::{FrameCounts, run_frames};
 
 const FRAMES: &str = "--from=stream;--to=frames";
 

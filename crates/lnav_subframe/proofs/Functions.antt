@@ -8,9 +8,9 @@ use Rattle.nav_bits.proofs.Surface.{fields_stand}
 use Rattle.nav_eph.specs.Satellite.{Satellite}
 use Rattle.nav_eph.specs.declared.part.Part.{Part}
 use Rattle.nav_eph.specs.declared.part.Body.{Body}
-use Rattle.lnav_parity.specs.Functions.{is_good, source_of}
-use Rattle.lnav_parity.specs.Parity.{IsGood, IsSource}
-use Rattle.lnav_parity.proofs.Surface.{good-decides, source-is}
+use Rattle.lnav_subframe.specs.ParityFunctions.{is_good, source_of}
+use Rattle.lnav_subframe.specs.Parity.{IsGood, IsSource}
+use Rattle.lnav_subframe.proofs.ParitySurface.{good-decides, source-is}
 use Rattle.lnav_subframe.specs.declared.fault.LnavFault.{LnavFault}
 use Rattle.lnav_subframe.specs.declared.fault.LnavFault.TheVariants.{Preamble}
 use Rattle.lnav_subframe.specs.Reading.{IsFirstFault, StandsFor, by_words, content, heard, subframe_of}

@@ -1,3 +1,10 @@
+pub mod Sums
+pub mod Digits
+pub mod Equations
+pub mod ParityWords
+pub mod Choice
+pub mod ParityFunctions
+pub mod ParitySurface
 pub mod Places
 pub mod Faults
 pub mod Agree

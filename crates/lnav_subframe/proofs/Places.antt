@@ -2,7 +2,7 @@
 use Rattle.std.proofs.Common.{◌≡◌, ℕ, zero, suc, ◌+◌, ◌*◌, ◌/◌, ◌%◌, ◌<◌, ◌≤◌, List, refl, ap, arith, below_more}
 use Rattle.nav_bits.specs.Bits.{number_at, Puts, SameOutside}
 use Rattle.nav_bits.specs.Laws.{number_at-before}
-use Rattle.lnav_parity.specs.Parity.{IsGood, IsSource, IsSolved}
+use Rattle.lnav_subframe.specs.Parity.{IsGood, IsSource, IsSolved}
 use Rattle.lnav_subframe.specs.Words.{AreGood, AreSource, IsWord, last_before, word_of}
 
 pub last_more : (bits : List ℕ) (k : ℕ) → last_before bits (k + 1) ≡ word_of bits k % 4

@@ -6,7 +6,7 @@ use Rattle.nav_bits.specs.Packed.{pack, packed}
 use Rattle.nav_bits.specs.Signed.{unsigned_of}
 use Rattle.nav_eph.specs.Bodies.{IsGpsIon, IsGpsSide}
 use Rattle.nav_eph.specs.Ranges.{IsGpsClock, IsGpsOrbitA, IsGpsOrbitB}
-use Rattle.lnav_parity.specs.Functions.{made_of, solved_of}
+use Rattle.lnav_subframe.specs.ParityFunctions.{made_of, solved_of}
 use Rattle.lnav_subframe.specs.declared.out.SubframeOut.{SubframeOut}
 use Rattle.lnav_subframe.specs.declared.out.SubframeOut.TheVariants.{Clock, OrbitA, OrbitB, Ion, Other}
 

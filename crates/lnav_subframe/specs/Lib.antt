@@ -1,3 +1,6 @@
+pub mod Parity
+pub mod ParityMirrors
+pub mod ParityFunctions
 pub mod Words
 pub mod Subframes
 pub mod Reading

@@ -5,8 +5,8 @@ use Rattle.std.specs.Prelude.{Bool, ◌||◌, nat_eq, if◌then◌else◌, Optio
 use Rattle.nav_bits.specs.Bits.{number_at}
 use Rattle.nav_bits.specs.Fields.{Field, unsigned, reserved}
 use Rattle.nav_bits.specs.Packed.{packed}
-use Rattle.lnav_parity.specs.Functions.{is_good, source_of}
-use Rattle.lnav_parity.specs.Parity.{IsGood, IsSource, IsSolved}
+use Rattle.lnav_subframe.specs.ParityFunctions.{is_good, source_of}
+use Rattle.lnav_subframe.specs.Parity.{IsGood, IsSource, IsSolved}
 
 -- the word of 30 bits at an index
 abbrev pub word_of : List ℕ → ℕ → ℕ

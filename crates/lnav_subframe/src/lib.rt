@@ -10,6 +10,10 @@
 //! The clock (subframe 1), the orbit (subframes 2 and 3) and the ionosphere (page 18 of subframe 4)
 //! are used; other subframes are recognized and refused by name.
 //!
+//! The parity of a word (20.3.5.2, table 20-XIV): [`check_word`] gives its source bits exactly where
+//! its six parity equations hold, [`make_word`] makes the word of some source bits, and
+//! [`make_solved`] one that ends in two bits that are 0, as words 2 and 10 of a subframe do.
+//!
 //! ```rust
 //! use lnav_subframe::{LnavFault, SubframeOut, read_subframe, write_subframe};
 //! use nav_bits::U;
@@ -31,7 +35,10 @@ mod laws;
 mod orbit;
 mod out;
 mod page18;
+mod parity;
 mod read;
+mod word;
+mod word_laws;
 mod words;
 mod write;
 
@@ -46,4 +53,9 @@ pub use crate::orbit::{Subframe2, Subframe3};
 pub use crate::out::SubframeOut;
 pub use crate::page18::Page18;
 pub use crate::read::read_subframe;
+pub use crate::word::{check_word, make_solved, make_word};
+pub use crate::word_laws::{
+    good_is_decided, made_function, one_choice, one_source, one_word, solved_function,
+    source_function,
+};
 pub use crate::write::write_subframe;

@@ -2,7 +2,7 @@ ghost use Rattle.std.specs.Prelude.{◌≡◌, ◌^◌, ◌<◌, IfErr, IfOk};
 ghost use Rattle.lnav_subframe.specs.Words.{AreGood, AreSource, IsFirstBad, IsWord, complement};
 ghost use Rattle.lnav_subframe.specs.Writing.{AreWords};
 
-use lnav_parity::{check_word, make_solved, make_word};
+use crate::{check_word, make_solved, make_word};
 use nav_bits::{Bits, U};
 
 // All bits turned.

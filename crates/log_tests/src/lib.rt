@@ -2,6 +2,10 @@
 #![tactic(auto)]
 
 #[cfg(test)]
+mod logs;
+#[cfg(test)]
+mod runs;
+#[cfg(test)]
 mod said;
 #[cfg(test)]
-mod whole;
+mod small;

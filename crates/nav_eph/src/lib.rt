@@ -7,7 +7,7 @@
 //! - [`Body`], what one subframe, word or message brings, and [`Part`], a body with its satellite
 //!   and the time at which it was heard;
 //! - [`GpsEph`], [`GalEph`] and [`IonEph`], whole values, and [`NavItem`], one of these;
-//! - [`Sat`], [`SentTag`] and the small numbers [`Step16`], [`Step60`] and [`Sisa`].
+//! - [`Sat`], [`Signal`], [`SentTag`] and the small numbers [`Step16`], [`Step60`] and [`Sisa`].
 //!
 //! A constructor answers `None` exactly where what it is given does not fit together. Where one of
 //! several values is to be chosen, they are compared by their numbers, which `number` gives.
@@ -32,6 +32,7 @@ mod part;
 mod ranges;
 mod same;
 mod sat;
+mod signal;
 mod steps;
 mod tag;
 
@@ -45,5 +46,6 @@ pub use crate::laws::{
 };
 pub use crate::part::{Body, Part};
 pub use crate::sat::{Sat, System};
+pub use crate::signal::Signal;
 pub use crate::steps::{Sisa, Step16, Step60};
 pub use crate::tag::{SentTag, gal_sending_number, gps_sending_number};

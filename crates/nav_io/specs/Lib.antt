@@ -6,3 +6,4 @@ pub mod LinesState
 pub mod Memory
 pub mod Mirrors
 pub mod Pieces
+pub mod Writes

@@ -2,7 +2,7 @@
 use Rattle.std.proofs.Common.{◌≡◌, ℕ, zero, suc, ◌+◌, ◌-◌, ◌*◌, ◌/◌, ◌%◌, Bool, true, false, nat_eq, if◌then◌else◌, List, [], ◌∷◌, length, take, drop, reverse, min, refl, ap, ◌∙◌, eqb-true, arith}
 use Rattle.std.proofs.lemmas.Bool.{eqb-false}
 use Rattle.std.proofs.lemmas.List.{length-append, length-reverse, length-take, length-drop}
-use Rattle.inav_page.specs.declared.signal.Signal.TheVariants.{E1b, E5b}
+use Rattle.nav_eph.specs.declared.signal.Signal.TheVariants.{E1b, E5b}
 use Rattle.nav_vectors.specs.declared.sending.Sending.{Sending}
 use Rattle.nav_vectors.specs.declared.sending.Sending.TheVariants.{Subframe, Half}
 use Rattle.nav_vectors.specs.Lines.{subframes_at, halves_at, sent_at, sent_before}

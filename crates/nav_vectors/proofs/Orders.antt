@@ -4,7 +4,7 @@ use Rattle.std.proofs.lemmas.List.{drop_more, reverse-append, length-reverse, le
 use Rattle.std.proofs.lemmas.List.Elements.{All-append, All-nil, All-push, All-take, All-drop}
 use Rattle.nav_vectors.specs.declared.sending.Sending.{Sending}
 use Rattle.nav_vectors.specs.declared.sending.Sending.TheVariants.{Subframe, Half}
-use Rattle.inav_page.specs.declared.signal.Signal.TheVariants.{E1b, E5b}
+use Rattle.nav_eph.specs.declared.signal.Signal.TheVariants.{E1b, E5b}
 use Rattle.nav_vectors.specs.Lines.{subframes_at, halves_at, sent_at, sent_before}
 use Rattle.nav_vectors.specs.Capture.{turned_blocks, turned, lines_of}
 use Rattle.nav_vectors.specs.Mirrors.{IsOf}

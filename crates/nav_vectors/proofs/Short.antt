@@ -7,7 +7,7 @@ use Rattle.hex.specs.Hex.{encode_lower, lower_digits}
 use Rattle.hex.proofs.HexLemmas.{length-encode_with}
 use Rattle.nav_bits.proofs.Surface.{bytes_of-length}
 use Rattle.nav_eph.specs.Satellite.{Satellite}
-use Rattle.inav_page.specs.declared.signal.Signal.{Signal}
+use Rattle.nav_eph.specs.declared.signal.Signal.{Signal}
 use Rattle.capture_lines.specs.Texts.{two_digits, signal_letter, half_text, lnav_text}
 use Rattle.nav_vectors.specs.declared.sending.Sending.{Sending}
 use Rattle.nav_vectors.specs.declared.sending.Sending.TheVariants.{Subframe, Half}

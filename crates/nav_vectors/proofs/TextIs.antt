@@ -12,7 +12,7 @@ use Rattle.inav_word.proofs.Surface.{stand1, zeros1, bytes1, only_word1, stand2,
 use Rattle.inav_word.proofs.Surface.{stand4, zeros4, bytes4, only_word4, stand5, zeros5, bytes5, only_word5}
 use Rattle.inav_page.proofs.Surface.{only_parts, parts_split}
 use Rattle.inav_page.specs.Pages.{bytes_of_half, even_of, odd_of}
-use Rattle.inav_page.specs.declared.signal.Signal.{Signal}
+use Rattle.nav_eph.specs.declared.signal.Signal.{Signal}
 use Rattle.capture_lines.specs.Texts.{half_text, lnav_text}
 use Rattle.nav_vectors.specs.declared.values.GalValues.{GalValues}
 use Rattle.nav_vectors.specs.declared.sending.Sending.{Sending}

@@ -13,8 +13,8 @@ use Rattle.lnav_subframe.specs.Writing.{IsWritten}
 use Rattle.inav_word.specs.Words.{fields_word1, fields_word2, fields_word3, fields_word4, fields_word5}
 use Rattle.inav_word.specs.Writing.{written_word1, written_word2, written_word3, written_word4, written_word5}
 use Rattle.inav_page.specs.Pages.{bytes_of_half, IsSplit}
-use Rattle.inav_page.specs.declared.signal.Signal.{Signal}
-use Rattle.inav_page.specs.declared.signal.Signal.TheVariants.{E1b, E5b}
+use Rattle.nav_eph.specs.declared.signal.Signal.{Signal}
+use Rattle.nav_eph.specs.declared.signal.Signal.TheVariants.{E1b, E5b}
 use Rattle.capture_lines.specs.Texts.{half_text, lnav_text}
 use Rattle.nav_vectors.specs.declared.values.GpsValues.{GpsValues}
 use Rattle.nav_vectors.specs.declared.values.GalValues.{GalValues}

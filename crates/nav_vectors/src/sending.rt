@@ -4,7 +4,7 @@ ghost use Rattle.std.specs.Prelude.{◌≡◌, ◌+◌, ◌<◌, ◌++◌, IfOk,
 ghost use Rattle.nav_vectors.specs.Lines.{halves_at, sent_at, sent_before, subframes_at};
 ghost use Rattle.nav_vectors.specs.Capture.{lines_of, turned};
 
-use inav_page::Signal;
+use nav_eph::Signal;
 use std::alloc::{AllocError, Global};
 
 /// What one line of the capture says: that something was sent at a stamp, in seconds.

@@ -3,11 +3,11 @@
 //! The program reads standard input and writes standard output. Its words name a job, as
 //! `navbridge --from stream --to frames`, which writes a line for each RTCM 3 frame of a stream
 //! (RTCM 10403.3, section 4): its message number and the length of its payload. The status says how
-//! it ended; [`nav_jobs::bridge`] lists them.
+//! it ended; [`bridge_engine::bridge`] lists them.
 #![tactic(auto)]
 
+use bridge_engine::bridge;
 use nav_io::{ReadSource, WriteSink};
-use nav_jobs::bridge;
 use std::env;
 use std::io::ErrorKind;
 use std::process::ExitCode;

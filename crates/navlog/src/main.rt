@@ -1,9 +1,10 @@
-//! `navlog` reads a GNSS receiver's log and writes it as a capture, as `navlog --from ubx < log.ubx`
-//! does for u-blox's UBX and `navlog --from sbf` for Septentrio's SBF.
+//! `navlog` reads a GNSS receiver's log and writes it as a capture: `navlog --from ubx < log.ubx`
+//! does so for u-blox's UBX, and `navlog --from sbf` for Septentrio's SBF.
 //!
-//! The report is on standard error: a line for each message that is refused, and nine of counts. The
-//! status is 0 where all was read and written, 2 where the words are none of these, 3, 4 and 7 where
-//! the input, the output or the report failed, and 6 for want of memory.
+//! The report is on standard error: a line for each message that is refused, and nine of counts.
+//! The status is 0 where all was read and written, 2 where the words are none of these, 3, 4 and 7
+//! where the input, the output or the report failed, 6 for want of memory, and 8 where there are
+//! too many bytes, 2^64 - 16,384 or more.
 #![tactic(auto)]
 
 use nav_io::{ReadSource, WriteSink};
@@ -73,12 +74,12 @@ fn main(rt: HostRuntime) -> ExitCode {
             return ExitCode::from(NO_MEMORY);
         }
     }
-    let input = ReadSource::new(rt.stdin());
+    let mut input = ReadSource::new(rt.stdin());
     let mut output = WriteSink::new(rt.stdout());
-    let report = WriteSink::new(rt.stderr());
+    let mut report = WriteSink::new(rt.stderr());
     let status = match form_of(&words) {
-        Some(Form::Ubx) => run_log::<UbxJudge, _, _, _>(input, &mut output, report),
-        Some(Form::Sbf) => run_log::<SbfJudge, _, _, _>(input, &mut output, report),
+        Some(Form::Ubx) => run_log::<UbxJudge, _, _, _>(&mut input, &mut output, &mut report),
+        Some(Form::Sbf) => run_log::<SbfJudge, _, _, _>(&mut input, &mut output, &mut report),
         None => NO_FORM,
     };
     ExitCode::from(status)

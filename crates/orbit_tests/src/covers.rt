@@ -1,7 +1,7 @@
 use crate::samples::{ephemeris, ionosphere};
 use nav_bits::{S, U};
-use nav_cover::{Cover, covering, one_cover};
 use nav_eph::{GalEph, GpsEph, IonContent, IonEph, SentSecond};
+use nav_lists::{Cover, covering, one_cover};
 use std::test::Fail;
 
 // Adds what an ephemeris covers, of a toe and with a fit interval flag.

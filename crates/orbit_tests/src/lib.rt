@@ -1,7 +1,7 @@
 //! Tests of weeks, ephemerides and the periods in which they are heard.
 //!
-//! A module for each library below: `gnss_week`, `nav_eph`, `nav_merge`, `nav_cover`, `period_laws`
-//! and `period_items`, `issue_periods`, `slot_assembly`, `nav_vectors`. The expected values come from
+//! A module for each library below: `gnss_week`, `nav_eph`, `nav_lists`, `periods`,
+//! `slot_assembly`, `slot_assembly`, `nav_vectors`. The expected values come from
 //! outside: from the interface documents, or from programs written apart from these libraries.
 #![tactic(auto)]
 
@@ -16,9 +16,9 @@ mod merges;
 #[cfg(test)]
 mod parts;
 #[cfg(test)]
-mod period_sets;
+mod period_rows;
 #[cfg(test)]
-mod periods;
+mod period_sets;
 #[cfg(test)]
 mod runs;
 #[cfg(test)]

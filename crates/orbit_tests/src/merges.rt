@@ -1,7 +1,7 @@
 use crate::samples::{ephemeris, ionosphere};
 use nav_bits::{S, U};
 use nav_eph::{NavItem, SentSecond};
-use nav_merge::{Merge, merging};
+use nav_lists::{Merge, merging};
 use std::test::Fail;
 
 // An ephemeris of a toe, with a mean anomaly.

@@ -1,8 +1,8 @@
-use period_items::{
-    closed_stays, digests_are, items_fit_together, items_follow, keys_are_told, one_more_part,
+use periods::{
+    closed_stays, digests_are, each_stamp_has_one_end, items_fit_together, items_follow,
+    keys_are_told, later_stamps_change_no_closed_end, one_more_part, one_more_stamp,
     only_ephemerides_are_said_again, order_is_nothing, parts_far_apart, periods_are,
 };
-use period_laws::{each_stamp_has_one_end, later_stamps_change_no_closed_end, one_more_stamp};
 
 #[test]
 fn laws_are_called() {

@@ -1,11 +1,12 @@
 //! Runs of an assembly, each period with the mark at which it was given.
 
 ghost use Rattle.std.specs.Prelude.{◌≤◌, OnOk};
-ghost use Rattle.issue_periods.specs.Standing.{Stood};
+ghost use Rattle.slot_assembly.specs.Standing.{Stood};
 
 use crate::parts::{A, B, C, parts_of};
-use issue_periods::{Assembly, Closed, Verdict};
 use nav_eph::Part;
+use periods::{Closed, Verdict};
+use slot_assembly::Assembly;
 use std::alloc::{AllocError, Global};
 use std::test::Fail;
 

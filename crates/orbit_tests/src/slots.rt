@@ -1,8 +1,9 @@
 use crate::parts::{A, B, C, Kind, parts_of};
 use crate::runs::{WEEK, WINDOW, gives_a_period_once, run};
 use gnss_week::RefWeek;
-use issue_periods::{Closed, PlainAssembly};
 use nav_eph::Part;
+use nav_laws::PlainAssembly;
+use periods::Closed;
 use slot_assembly::SlotAssembly;
 use std::alloc::Global;
 use std::test::Fail;

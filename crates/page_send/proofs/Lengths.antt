@@ -5,7 +5,7 @@ use Rattle.std.specs.Prelude.{codes, decimal}
 use Rattle.hex.specs.Hex.{encode_lower, lower_digits}
 use Rattle.hex.proofs.HexLemmas.{length-encode_with}
 use Rattle.nav_eph.specs.Satellite.{Satellite}
-use Rattle.inav_page.specs.declared.signal.Signal.{Signal}
+use Rattle.nav_eph.specs.declared.signal.Signal.{Signal}
 use Rattle.capture_lines.specs.Texts.{two_digits, signal_letter, half_text, lnav_text}
 
 stamp_short : (stamp : ℕ) → stamp < 2 ^ 32 → length (decimal stamp) ≤ 10

@@ -6,9 +6,9 @@ use Rattle.nav_eph.specs.declared.items.SentSecond.TheVariants.{At}
 use Rattle.nav_eph.specs.declared.items.GalEph.{GalEph}
 use Rattle.nav_eph.specs.declared.items.NavItem.{NavItem}
 use Rattle.nav_eph.specs.declared.items.NavItem.TheVariants.{Gps as GpsItem, Gal as GalItem, Ion as IonItem}
-use Rattle.period_items.specs.declared.key.Key.{Key}
-use Rattle.period_items.specs.declared.key.Key.TheVariants.{Gps, Gal}
-use Rattle.period_items.specs.KeyTests.{same_key}
+use Rattle.periods.specs.declared.key.Key.{Key}
+use Rattle.periods.specs.declared.key.Key.TheVariants.{Gps, Gal}
+use Rattle.periods.specs.KeyTests.{same_key}
 use Rattle.page_send.specs.Slots.{galileo_second, gps_sending, no_ionosphere}
 use Rattle.page_send.specs.Sendable.{sendable}
 

@@ -12,7 +12,7 @@ use Rattle.lnav_subframe.specs.declared.out.SubframeOut.TheVariants.{Clock, Orbi
 use Rattle.lnav_subframe.specs.Bytes.{subframe_bytes}
 use Rattle.inav_word.specs.Writing.{word1_bytes, word2_bytes, word3_bytes, word4_bytes, word5_bytes}
 use Rattle.inav_page.specs.Pages.{bytes_of_half, even_of, odd_of}
-use Rattle.inav_page.specs.declared.signal.Signal.TheVariants.{E1b}
+use Rattle.nav_eph.specs.declared.signal.Signal.TheVariants.{E1b}
 use Rattle.capture_lines.specs.Texts.{half_text, lnav_text}
 use Rattle.capture_lines.specs.declared.item.LineItem.{LineItem}
 use Rattle.capture_lines.specs.declared.item.LineItem.TheVariants.{Pass, Lnav, Half, Frame, Malformed}

@@ -9,10 +9,10 @@ ghost use Rattle.page_send.specs.Slots.{text_of_items};
 
 use arrayvec::ArrayVec;
 use capture_lines::{LineText, write_half_line, write_lnav};
-use inav_page::{Half, Signal, split, write_half};
+use inav_page::{Half, split, write_half};
 use lnav_subframe::{SubframeOut, write_subframe};
 use nav_bits::{Bits, U};
-use nav_eph::Sat;
+use nav_eph::{Sat, Signal};
 
 /// Room for the lines of a slot: three of at most 94 bytes, or ten of at most 50.
 pub(crate) type SlotText = ArrayVec<u8, 500>;

@@ -1,10 +1,8 @@
 //! An ephemeris in its slot.
 
-ghost use Rattle.std.specs.Prelude.{◌≡◌, ◌+◌, ◌/◌, ◌^◌, ◌<◌, ◌≤◌, ◌++◌, [], None, MatchResult};
-ghost use Rattle.std.specs.Io.KnownBytes.{Appends};
+ghost use Rattle.std.specs.Prelude.{◌≡◌, ◌+◌, ◌/◌, ◌^◌, ◌<◌, ◌≤◌, ◌++◌, [], None};
 ghost use Rattle.arrayvec.specs.ArrayVec.{array_vec_len};
-ghost use Rattle.nav_io.specs.Causes.{HasCause};
-ghost use Rattle.nav_io.specs.Front.{AppendsFront};
+ghost use Rattle.nav_io.specs.Writes.{Writes};
 ghost use Rattle.nav_eph.specs.Ranges.{IsItem};
 ghost use Rattle.nav_eph.specs.declared.sat.System.TheVariants.{Gal, Gps};
 ghost use Rattle.page_send.specs.Sendable.{IsEphemeris, send_fault};
@@ -143,10 +141,8 @@ pub fn send_item<T: Sink>(item: &NavItem, r: RefWeek, slot: u32, out: &mut T) ->
     requires ephemeris { IsEphemeris item.now }
     requires whole { IsItem item.now }
     requires may { send_fault r item.now slot ≡ None }
-    ensures bytes { MatchResult result
-        (λ _. Appends (T.written out.old) (T.written out.new) (slot_text slot item.now))
-        (λ _. AppendsFront (T.written out.old) (T.written out.new) (slot_text slot item.now)) }
-    ensures cause { HasCause (T.faults out.old) (T.faults out.new) result }
+    ensures { Writes (T.written out.old) (T.written out.new) (T.faults out.old) (T.faults out.new)
+        result (slot_text slot item.now) }
 {
     let text = slot_lines(SLOT_SECONDS * slot, item);
     out.write(text.as_slice())

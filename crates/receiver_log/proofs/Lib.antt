@@ -1,2 +1,2 @@
-mod Steps
-mod Sending
+mod LogSteps
+mod LogEnds

@@ -1,3 +1,5 @@
 pub mod Log
 pub mod Capture
 pub mod Report
+pub mod LogRuns
+pub mod Steps

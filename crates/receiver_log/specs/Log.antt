@@ -1,7 +1,9 @@
 -- The capture that the messages of a log give, message by message.
-use Rattle.std.specs.Prelude.{◌≡◌, ℕ, ◌+◌, ◌-◌, ◌*◌, ◌/◌, ◌^◌, nat_lt, nat_le, min, Bool, true, false, if◌then◌else◌, List, [], ◌∷◌, ◌++◌, length, codes, decimal, Option, Some, None}
+use Rattle.std.specs.Prelude.{◌≡◌, ℕ, ◌+◌, ◌-◌, ◌*◌, ◌/◌, ◌^◌, nat_lt, nat_le, min, Bool}
+use Rattle.std.specs.Prelude.{if◌then◌else◌, List, [], ◌++◌, codes, decimal}
+use Rattle.std.specs.Prelude.{Option, Some, None}
 use Rattle.nav_eph.specs.Satellite.{Satellite}
-use Rattle.inav_page.specs.declared.signal.Signal.{Signal}
+use Rattle.nav_eph.specs.declared.signal.Signal.{Signal}
 use Rattle.capture_lines.specs.Texts.{lnav_text, half_text}
 use Rattle.receiver_messages.specs.Words.{read_words, has_good_reading, is_turned, subframe_bytes}
 use Rattle.receiver_messages.specs.declared.said.Content.{Content}
@@ -68,7 +70,8 @@ abbrev pub subframe_in : LogState → ℕ → Satellite → List ℕ → Option 
 subframe_in s time sat words (Some reason) = refused_by s reason
 subframe_in s time sat words None = record {
   state = record s { week = Some (week_of s.week time); counts = subframe_counted s.counts words };
-  text = head_text s.week time ++ lnav_text (time - 604800 * week_of s.week time) sat (subframe_bytes (read_words words));
+  text = head_text s.week time ++ lnav_text (time - 604800 * week_of s.week time) sat
+      (subframe_bytes (read_words words));
   refused = None;
 }
 
@@ -76,9 +79,14 @@ subframe_in s time sat words None = record {
 abbrev pub page_in : LogState → ℕ → Satellite → Signal → List ℕ → List ℕ → Option Reason → Given
 page_in s time sat signal even odd (Some reason) = refused_by s reason
 page_in s time sat signal even odd None = record {
-  state = record s { week = Some (week_of s.week (time - 1)); counts = record s.counts { pages = one_more s.counts.pages } };
+  state = record s {
+    week = Some (week_of s.week (time - 1));
+    counts =
+        record s.counts { pages = one_more s.counts.pages };
+  };
   text =
-      (head_text s.week (time - 1) ++ half_text (time - 1 - 604800 * week_of s.week (time - 1)) sat signal even)
+      (head_text s.week (time - 1) ++ half_text
+      (time - 1 - 604800 * week_of s.week (time - 1)) sat signal even)
       ++ half_text (time - 604800 * week_of s.week (time - 1)) sat signal odd;
   refused = None;
 }
@@ -87,7 +95,8 @@ page_in s time sat signal even odd None = record {
 abbrev pub given_at : LogState → Option ℕ → Content → Given
 given_at s time (Refused reason) = refused_by s reason
 given_at s None (Subframe sat words) = refused_by s Untimed
-given_at s (Some time) (Subframe sat words) = subframe_in s time sat words (reason_in (week_of s.week time) time time)
+given_at s (Some time) (Subframe sat words) = subframe_in
+    s time sat words (reason_in (week_of s.week time) time time)
 given_at s None (Page sat signal even odd) = refused_by s Untimed
 given_at s (Some time) (Page sat signal even odd) =
     page_in s time sat signal even odd (reason_in (week_of s.week (time - 1)) (time - 1) time)
@@ -104,7 +113,11 @@ passed_over s time = record {
 abbrev pub given_by : LogState → Said → Given
 given_by s Other = passed_over s s.time
 given_by s (Time (Some time)) = record {
-  state = record s { time = Some time; counts = record s.counts { times = one_more s.counts.times } };
+  state = record s {
+    time = Some time;
+    counts =
+        record s.counts { times = one_more s.counts.times };
+  };
   text = [];
   refused = None;
 }
@@ -114,7 +127,14 @@ given_by s (Dated time content) = given_at s time content
 
 -- the same, and the message is counted, and so many bytes of it
 abbrev pub counted : LogState → ℕ → LogState
-counted s bytes = record s { counts = record s.counts { messages = one_more s.counts.messages; within = min (s.counts.within + bytes) (2 ^ 64 - 1) } }
+counted s bytes = record s {
+  counts =
+      record s.counts {
+        messages = one_more s.counts.messages;
+        within = min
+            (s.counts.within + bytes) (2 ^ 64 - 1);
+      };
+}
 
 abbrev pub given : LogState → ℕ → Said → Given
 given s bytes said = given_by (counted s bytes) said
@@ -138,7 +158,8 @@ begun = record {
 }
 
 -- what was done to a state and to lines, and was answered, is what is given
-pub record Gives (state : LogState) (old new : List ℕ) (answer : Option Reason) (g : Given) : Type 0 where
+pub record Gives (state : LogState) (old new : List ℕ) (answer : Option Reason)
+    (g : Given) : Type 0 where
   pub state_is : state ≡ g.state
   pub lines : new ≡ old ++ g.text
   pub refused_is : answer ≡ g.refused

@@ -1,8 +1,9 @@
 -- The report of a log.
 use Rattle.std.specs.Prelude.{ℕ, ◌-◌, List, ◌++◌, codes}
-use Rattle.run_texts.specs.Reports.{count_line}
+use Rattle.one_run.specs.Reports.{count_line}
 use Rattle.receiver_messages.specs.declared.said.Reason.{Reason}
-use Rattle.receiver_messages.specs.declared.said.Reason.TheVariants.{Length, Satellite, Untimed, Late, Far}
+use Rattle.receiver_messages.specs.declared.said.Reason.TheVariants.{Length, Satellite, Untimed}
+use Rattle.receiver_messages.specs.declared.said.Reason.TheVariants.{Late, Far}
 use Rattle.receiver_log.specs.declared.state.Counts.{Counts}
 
 -- the word of a reason
@@ -16,7 +17,8 @@ reason_word Far = codes "far"
 -- the nine lines of counts, of a log of so many bytes
 abbrev pub counts_report : Counts → ℕ → List ℕ
 counts_report c bytes =
-    (((((((count_line (codes "messages") c.messages ++ count_line (codes "skipped") (bytes - c.within))
+    (((((((count_line (codes "messages") c.messages
+    ++ count_line (codes "skipped") (bytes - c.within))
     ++ count_line (codes "times") c.times) ++ count_line (codes "subframes") c.subframes)
     ++ count_line (codes "pages") c.pages) ++ count_line (codes "refused") c.refused)
     ++ count_line (codes "other") c.other) ++ count_line (codes "turned") c.turned)

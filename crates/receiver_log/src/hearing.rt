@@ -12,9 +12,8 @@ ghost use Rattle.receiver_log.specs.Log.{reason_in as reason_of, week_of as head
 use crate::lines::{Lines, append_half, append_head, append_subframe};
 use crate::state::LogState;
 use gnss_week::Moment;
-use inav_page::Signal;
 use nav_bits::{Bits, U};
-use nav_eph::Sat;
+use nav_eph::{Sat, Signal};
 use receiver_messages::{Content, Reason, Said, read_words, subframe_bits};
 
 // The seconds of a week.
@@ -23,7 +22,8 @@ const WEEK: u64 = 604_800;
 // How many weeks the numbers of weeks in messages tell apart, at half.
 const FAR: u64 = 512;
 
-/// Hears a message of so many bytes that says so much: appends its lines, and gives the reason where
+/// Hears a message of so many bytes that says so much: appends its lines, and gives the reason
+/// where
 /// it is refused.
 pub fn hear(state: &mut LogState, bytes: usize, said: &Said, lines: &mut Lines) -> Option<Reason>
     requires room { array_vec_len lines.old + 8192 ≤ 16384 }

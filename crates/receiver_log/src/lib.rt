@@ -6,14 +6,13 @@
 //!
 //! - [`Receiver`], a format of messages and what each says: `UbxJudge` and `SbfJudge` are two;
 //! - [`hear`], what one message gives;
-//! - [`LogSource`], the capture of a log as a source of bytes;
 //! - [`run_log`], which writes it, and reports what was refused and the counts.
 //!
 //! ```rust
-//! let input = ReadSource::new(rt.stdin());
+//! let mut input = ReadSource::new(rt.stdin());
 //! let mut output = WriteSink::new(rt.stdout());
-//! let report = WriteSink::new(rt.stderr());
-//! let status = run_log::<UbxJudge, _, _, _>(input, &mut output, report);
+//! let mut report = WriteSink::new(rt.stderr());
+//! let status = run_log::<UbxJudge, _, _, _>(&mut input, &mut output, &mut report);
 //! ```
 #![tactic(auto)]
 
@@ -22,12 +21,11 @@ mod lines;
 mod receiver;
 mod report;
 mod run;
-mod source;
 mod state;
+mod taking;
 
 pub use crate::hearing::hear;
 pub use crate::lines::Lines;
 pub use crate::receiver::Receiver;
 pub use crate::run::run_log;
-pub use crate::source::LogSource;
 pub use crate::state::{Counts, LogState};

@@ -8,10 +8,9 @@ ghost use Rattle.receiver_log.specs.Log.{head_line};
 
 use arrayvec::ArrayVec;
 use capture_lines::{LineText, write_half_line, write_lnav};
-use inav_page::Signal;
 use nav_bits::Bits;
-use nav_eph::Sat;
-use run_texts::{Text, append, append_decimal};
+use nav_eph::{Sat, Signal};
+use one_run::{Text, append, append_decimal};
 
 /// Room for lines.
 pub type Lines = ArrayVec<u8, 16_384>;

@@ -1,12 +1,12 @@
 //! The lines of the report.
 
 ghost use Rattle.std.specs.Prelude.{◌≡◌, ◌≤◌, length, codes};
-ghost use Rattle.run_texts.specs.Reports.{report_line};
+ghost use Rattle.one_run.specs.Reports.{report_line};
 ghost use Rattle.receiver_log.specs.Report.{counts_report, reason_word};
 
 use crate::state::Counts;
+use one_run::{Text, append_count, report_text};
 use receiver_messages::Reason;
-use run_texts::{Text, append_count, report_text};
 
 // The line of a message that is refused.
 pub fn refusal(number: u64, reason: Reason) -> Text

@@ -1,66 +1,139 @@
 //! A whole run.
 
-ghost use Rattle.std.specs.Prelude.{◌≡◌, ◌⊎◌, IfSome};
-ghost use Rattle.std.specs.Io.KnownBytes.{Appends};
-ghost use Rattle.nav_io.specs.Causes.{Rose};
-ghost use Rattle.receiver_log.specs.Capture.{capture_of};
+ghost use Rattle.std.specs.Prelude.{◌≡◌, ◌≤◌, length, take, IsTrue, IsOk, IfOk, IfErr, OnOk, OnErr};
+ghost use Rattle.std.specs.Prelude.{MatchResult};
+ghost use Rattle.std.specs.Io.KnownBytes.{Appends, Consumes, IsAtEnd, Keeps};
+ghost use Rattle.nav_io.specs.Causes.{HasCause};
+ghost use Rattle.nav_io.specs.Front.{AppendsFront};
+ghost use Rattle.one_run.specs.Causes.{HasItsCause, faults_of};
+ghost use Rattle.one_run.specs.Ends.{status_of as status_of_end};
+ghost use Rattle.one_run.specs.Runs.{world};
+ghost use Rattle.receiver_log.specs.LogRuns.{LogEnded, LogEndedBy};
+ghost use Rattle.receiver_log.specs.Report.{counts_report};
 
 use crate::receiver::Receiver;
-use crate::source::LogSource;
-use nav_io::{Sink, Source};
+use crate::report::counts_text;
+use crate::state::{Counts, LogState};
+use crate::taking::{take_messages, take_piece};
+use framing::Deframer;
+use nav_io::{Failed, Sink, Source};
+use one_run::BridgeFault;
+
+// How many bytes are read at most at a time.
+const PIECE: usize = 16_384;
+
+// How many bytes are too many: 2^64 - 16,384.
+const TOO_MANY: u64 = 18_446_744_073_709_535_232;
 
 /// Writes the capture of a log, and reports what was refused and the counts; answers the status.
 ///
 /// | Status | Comes |
 /// |---|---|
-/// | 0 | the log was read to its end, and all was written |
-/// | 3 | the input failed |
-/// | 4 | the output failed |
-/// | 7 | the report failed |
-pub fn run_log<J: Receiver, S: Source + Drop, T: Sink, U: Sink + Drop>(
-    input: S,
+/// | 0 | the log was read to its end, and its capture and report were written |
+/// | 3 | a read failed; what the bytes before it decide was written and reported |
+/// | 4 | a write failed |
+/// | 7 | a write of the report failed |
+/// | 8 | there were 18,446,744,073,709,535,232 bytes or more |
+///
+/// On 3, 4, 7 and 8 a front of the capture and of the report of the bytes that were read was
+/// written.
+pub fn run_log<J: Receiver, S: Source, T: Sink, U: Sink>(
+    input: &mut S,
     output: &mut T,
-    report: U,
+    report: &mut U,
 ) -> u8
-    // A run that answers 0 has written exactly the capture of the log, in whatever pieces it was
-    // read.
-    ensures text { result ≡ 0 → IfSome (S.left input) (λ bytes.
-        Appends (T.written output.old) (T.written output.new)
-        (capture_of J.heading J.said bytes)) }
-    ensures statuses { (result ≡ 0) ⊎ ((result ≡ 3) ⊎ ((result ≡ 4) ⊎ (result ≡ 7))) }
-    ensures write { result ≡ 4 → Rose (T.faults output.old) (T.faults output.new) }
-    ensures no_fault { result ≡ 0 → (T.faults output.new ≡ T.faults output.old) }
+    ensures { LogEndedBy J.heading J.said
+        (world input.old (S.left input.old) (S.never_fails input.old) (S.faults input.old)
+        output.old (T.written output.old) (T.faults output.old)
+        report.old (U.written report.old) (U.faults report.old))
+        (world input.new (S.left input.new) (S.never_fails input.new) (S.faults input.new)
+        output.new (T.written output.new) (T.faults output.new)
+        report.new (U.written report.new) (U.faults report.new))
+        result }
 {
-    let mut log: LogSource<S, U, J> = LogSource::new(input, report);
-    let mut piece = [0u8; 16_384];
-    'steps: for _ in 0..u64::MAX {
-        let count = match log.read(&mut piece) {
-            Ok(count) => count,
-            Err(_) => return fault_of(&log),
-        };
-        if count == 0 {
-            return end(&mut log);
-        }
-        if output.write(&piece[..count]).is_err() {
-            return 4;
+    let end = follow_log::<J, S, T, U>(input, output, report);
+    status_of(&end)
+}
+
+// The status of a run that ended so.
+fn status_of(end: &Result<(), BridgeFault>) -> u8
+    ensures { result ≡ status_of_end end.now }
+{
+    match end {
+        Ok(()) => 0,
+        Err(BridgeFault::ReadFault) => 3,
+        Err(BridgeFault::WriteFault) => 4,
+        Err(BridgeFault::NotThisForm) => 5,
+        Err(BridgeFault::NoMemory) => 6,
+        Err(BridgeFault::ReportFault) => 7,
+        Err(BridgeFault::TooLong) => 8,
+    }
+}
+
+// Reads a log to its end, and writes its capture and its report while it reads.
+fn follow_log<J: Receiver, S: Source, T: Sink, U: Sink>(
+    input: &mut S,
+    output: &mut T,
+    report: &mut U,
+) -> Result<(), BridgeFault>
+    ensures { LogEnded J.heading J.said
+        (world input.old (S.left input.old) (S.never_fails input.old) (S.faults input.old)
+        output.old (T.written output.old) (T.faults output.old)
+        report.old (U.written report.old) (U.faults report.old))
+        (world input.new (S.left input.new) (S.never_fails input.new) (S.faults input.new)
+        output.new (T.written output.new) (T.faults output.new)
+        report.new (U.written report.new) (U.faults report.new))
+        result }
+{
+    let mut deframer: Deframer<J> = Deframer::new();
+    let mut state = LogState::new();
+    let mut piece = [0u8; PIECE];
+    let mut taken: u64 = 0;
+    while taken < TOO_MANY {
+        match read_some(input, &mut piece) {
+            Err(Failed) => return Err(BridgeFault::ReadFault),
+            Ok(0) => {
+                deframer.finish();
+                take_messages(&mut deframer, &mut state, output, report)?;
+                return report_counts(&state.counts, taken, report);
+            }
+            Ok(count) => {
+                taken += count as u64;
+                take_piece(&mut deframer, &mut state, &piece[..count], output, report)?;
+            }
         }
     }
-    3
+    Err(BridgeFault::TooLong)
 }
 
-// The status after a fault.
-fn fault_of<J: Receiver, S: Source, U: Sink>(log: &LogSource<S, U, J>) -> u8
-    ensures { (result ≡ 3) ⊎ (result ≡ 7) }
+// Reads some bytes, or finds the end.
+fn read_some<S: Source>(source: &mut S, piece: &mut [u8]) -> Result<usize, Failed>
+    requires { length piece.old ≡ 16384 }
+    ensures few { IfOk result (λ count. count ≤ 16384) }
+    ensures count { IfOk result (λ count. length (take count piece.new) ≡ count) }
+    ensures bytes { MatchResult result
+        (λ count. Consumes (S.left source.old) (S.left source.new) (take count piece.new)
+        × (count ≡ 0 → IsAtEnd (S.left source.new)))
+        (λ _. Keeps (S.left source.old) (S.left source.new)) }
+    ensures cause { HasCause (S.faults source.old) (S.faults source.new) result }
+    ensures never { IsTrue (S.never_fails source.old)
+        → IsOk result × IsTrue (S.never_fails source.new) }
 {
-    if log.report_failed() { 7 } else { 3 }
+    source.read(piece)
 }
 
-// The status after the end.
-fn end<J: Receiver, S: Source, U: Sink>(log: &mut LogSource<S, U, J>) -> u8
-    ensures { (result ≡ 0) ⊎ (result ≡ 7) }
+// Reports the counts of a log of so many bytes.
+fn report_counts<U: Sink>(counts: &Counts, taken: u64, report: &mut U) -> Result<(), BridgeFault>
+    ensures told { OnOk result (Appends (U.written report.old) (U.written report.new)
+        (counts_report counts.now taken)) }
+    ensures part { OnErr result (AppendsFront (U.written report.old) (U.written report.new)
+        (counts_report counts.now taken)) }
+    ensures cause { HasItsCause (faults_of 0 0 (U.faults report.old))
+        (faults_of 0 0 (U.faults report.new)) result }
+    ensures kind { IfErr result (λ fault. fault ≡ BridgeFault.ReportFault) }
 {
-    match log.report_counts() {
-        Ok(()) => 0,
-        Err(_) => 7,
+    match report.write(counts_text(counts, taken).as_slice()) {
+        Ok(()) => Ok(()),
+        Err(Failed) => Err(BridgeFault::ReportFault),
     }
 }

@@ -7,13 +7,20 @@ use Rattle.nav_bits.specs.Bits.{number_at}
 abbrev pub page_bits : List ℕ → ℕ → List ℕ
 page_bits xs at =
     slice_index xs (at + 3) ∷ slice_index xs (at + 2) ∷ slice_index xs (at + 1) ∷ slice_index xs at
-    ∷ slice_index xs (at + 7) ∷ slice_index xs (at + 6) ∷ slice_index xs (at + 5) ∷ slice_index xs (at + 4)
-    ∷ slice_index xs (at + 11) ∷ slice_index xs (at + 10) ∷ slice_index xs (at + 9) ∷ slice_index xs (at + 8)
-    ∷ slice_index xs (at + 15) ∷ slice_index xs (at + 14) ∷ slice_index xs (at + 13) ∷ slice_index xs (at + 12)
-    ∷ slice_index xs (at + 19) ∷ slice_index xs (at + 18) ∷ slice_index xs (at + 17) ∷ slice_index xs (at + 16)
-    ∷ slice_index xs (at + 23) ∷ slice_index xs (at + 22) ∷ slice_index xs (at + 21) ∷ slice_index xs (at + 20)
-    ∷ slice_index xs (at + 27) ∷ slice_index xs (at + 26) ∷ slice_index xs (at + 25) ∷ slice_index xs (at + 24)
-    ∷ slice_index xs (at + 31) ∷ slice_index xs (at + 30) ∷ slice_index xs (at + 29) ∷ slice_index xs (at + 28) ∷ []
+    ∷ slice_index xs (at + 7) ∷ slice_index xs (at + 6) ∷ slice_index xs (at + 5)
+    ∷ slice_index xs (at + 4)
+    ∷ slice_index xs (at + 11) ∷ slice_index xs (at + 10) ∷ slice_index xs (at + 9)
+    ∷ slice_index xs (at + 8)
+    ∷ slice_index xs (at + 15) ∷ slice_index xs (at + 14) ∷ slice_index xs (at + 13)
+    ∷ slice_index xs (at + 12)
+    ∷ slice_index xs (at + 19) ∷ slice_index xs (at + 18) ∷ slice_index xs (at + 17)
+    ∷ slice_index xs (at + 16)
+    ∷ slice_index xs (at + 23) ∷ slice_index xs (at + 22) ∷ slice_index xs (at + 21)
+    ∷ slice_index xs (at + 20)
+    ∷ slice_index xs (at + 27) ∷ slice_index xs (at + 26) ∷ slice_index xs (at + 25)
+    ∷ slice_index xs (at + 24)
+    ∷ slice_index xs (at + 31) ∷ slice_index xs (at + 30) ∷ slice_index xs (at + 29)
+    ∷ slice_index xs (at + 28) ∷ []
 
 -- UBX: the even half is bits 0 to 119, the odd one bits 128 to 247
 unfoldable pub ubx_even : List ℕ → ℕ → List ℕ

@@ -1,14 +1,14 @@
 -- What a block of SBF says.
-use Rattle.std.specs.Prelude.{ℕ, ◌+◌, ◌-◌, ◌%◌, ◌==◌, ◌&&◌, nat_lt, nat_le, if◌then◌else◌, List, length, slice_index, Option, Some, None}
+use Rattle.std.specs.Prelude.{ℕ, ◌-◌, ◌%◌, ◌==◌, nat_lt, if◌then◌else◌, List}
+use Rattle.std.specs.Prelude.{length, slice_index, Option, None}
 use Rattle.nav_eph.specs.declared.sat.System.TheVariants.{Gps, Gal}
-use Rattle.inav_page.specs.declared.signal.Signal.{Signal}
-use Rattle.inav_page.specs.declared.signal.Signal.TheVariants.{E1b, E5b}
+use Rattle.nav_eph.specs.declared.signal.Signal.{Signal}
+use Rattle.nav_eph.specs.declared.signal.Signal.TheVariants.{E1b, E5b}
 use Rattle.receiver_messages.specs.Numbers.{two_at, four_at}
 use Rattle.receiver_messages.specs.Times.{time_in}
 use Rattle.receiver_messages.specs.Words.{words_at}
 use Rattle.receiver_messages.specs.Halves.{sbf_even, sbf_odd}
 use Rattle.receiver_messages.specs.Ubx.{satellite_of, subframe_with, page_with}
-use Rattle.receiver_messages.specs.declared.said.Content.{Content}
 use Rattle.receiver_messages.specs.declared.said.Content.TheVariants.{Refused}
 use Rattle.receiver_messages.specs.declared.said.Reason.TheVariants.{Length}
 use Rattle.receiver_messages.specs.declared.said.Said.{Said}
@@ -22,12 +22,14 @@ time_at block = time_in (two_at block 12) (four_at block 8)
 unfoldable pub subframe_said : List ℕ → Said
 subframe_said block =
     if nat_lt (length block) 60 then Dated None (Refused Length)
-    else Dated (time_at block) (subframe_with (satellite_of Gps (slice_index block 14)) (words_at block 20))
+    else Dated (time_at block) (subframe_with (satellite_of Gps (slice_index block 14))
+    (words_at block 20))
 
 -- a page of a signal: the satellite, numbered from 71, at 14, eight words from 20 on
 abbrev pub page_said : Signal → List ℕ → Said
 page_said signal block =
-    Dated (time_at block) (page_with (satellite_of Gal (slice_index block 14 - 70)) signal (sbf_even block 20) (sbf_odd block 20))
+    Dated (time_at block) (page_with (satellite_of Gal (slice_index block 14 - 70)) signal
+    (sbf_even block 20) (sbf_odd block 20))
 
 -- GALRawINAV (4023): the signal at 17, 17 of 32 E1-B and 21 E5b
 unfoldable pub pages_said : List ℕ → Said
@@ -40,7 +42,8 @@ pages_said block =
 -- what a block of a number says
 unfoldable pub block_said : ℕ → List ℕ → Said
 block_said number block =
-    if number == 4017 then subframe_said block else if number == 4023 then pages_said block else Other
+    if number == 4017 then subframe_said block else if number == 4023 then pages_said block else
+    Other
 
 -- what a whole block says: its number is the lower 13 bits behind the CRC
 unfoldable pub sbf_said : List ℕ → Said

@@ -1,5 +1,8 @@
--- The times that messages give. Every time is a whole second, the nearest one to the exact moment (halves upwards).
-use Rattle.std.specs.Prelude.{ℕ, ◌+◌, ◌-◌, ◌*◌, ◌/◌, ◌%◌, ◌^◌, ◌==◌, ◌&&◌, ◌||◌, nat_lt, nat_le, if◌then◌else◌, Bool, List, length, slice_index, Option, Some, None, Result, Ok, Err}
+-- The times that messages give. Every time is a whole second, the nearest one to the exact moment
+-- (halves upwards).
+use Rattle.std.specs.Prelude.{ℕ, ◌+◌, ◌-◌, ◌*◌, ◌/◌, ◌%◌, ◌^◌, ◌==◌, ◌&&◌, ◌||◌, nat_lt, nat_le}
+use Rattle.std.specs.Prelude.{if◌then◌else◌, Bool, List, length, slice_index, Option, Some, None}
+use Rattle.std.specs.Prelude.{Result, Ok, Err}
 use Rattle.gnss_week.specs.Functions.{moment_to}
 use Rattle.gnss_week.specs.declared.calendar.Civil.{Civil}
 use Rattle.gnss_week.specs.declared.calendar.WeekFault.{WeekFault}
@@ -32,23 +35,30 @@ minute_at payload = record {
   second = 0;
 }
 
--- the only week in which so many milliseconds of it are later than half a week before a second, and at most half a week after it
+-- the only week in which so many milliseconds of it are later than half a week before a second, and
+-- at most half a week after it
 abbrev pub week_near : ℕ → ℕ → ℕ
 week_near second milliseconds = (1000 * second + 302400000 - milliseconds) / 604800000
 
--- the time of so many milliseconds of the week near a second of a minute, where the calendar has the minute
+-- the time of so many milliseconds of the week near a second of a minute, where the calendar has
+-- the minute
 abbrev pub time_near : Result ℕ WeekFault → ℕ → ℕ → Option ℕ
-time_near (Ok minute) second milliseconds = time_in (week_near (minute + second) milliseconds) milliseconds
+time_near (Ok minute) second milliseconds = time_in
+    (week_near (minute + second) milliseconds) milliseconds
 time_near (Err fault) second milliseconds = None
 
--- NAV-PVT: the milliseconds of the week at 0, the date and the time of day from 4 on, at 11 whether both are valid. A minute
+-- NAV-PVT: the milliseconds of the week at 0, the date and the time of day from 4 on, at 11 whether
+-- both are valid. A minute
 -- may have a second 60.
 unfoldable pub time_of_date : List ℕ → Option ℕ
 time_of_date payload =
-    if nat_le 12 (length payload) && (slice_index payload 11 % 4 == 3 && nat_le (slice_index payload 10) 60)
-    then time_near (moment_to (minute_at payload)) (slice_index payload 10) (four_at payload 0) else None
+    if nat_le 12 (length payload) && (slice_index payload 11 % 4 == 3
+    && nat_le (slice_index payload 10) 60)
+    then time_near (moment_to (minute_at payload)) (slice_index payload 10)
+    (four_at payload 0) else None
 
--- A double of 64 bits: a sign, eleven digits of an exponent e, and 52 digits m. Where e is 1 to 2046 it is the number
+-- A double of 64 bits: a sign, eleven digits of an exponent e, and 52 digits m. Where e is 1 to
+-- 2046 it is the number
 -- (2^52 + m) * 2^(e - 1075), where it is 0 the number m * 2^(-1074), where it is 2047 none.
 abbrev pub exponent_of : ℕ → ℕ
 exponent_of double = double / 2 ^ 52 % 2048
@@ -60,7 +70,8 @@ digits_of double = if exponent_of double == 0 then double % 2 ^ 52 else 2 ^ 52 +
 unfoldable pub places_of : ℕ → ℕ
 places_of double = if exponent_of double == 0 then 1074 else 1075 - exponent_of double
 
--- whether it is a number from 0 to below 604,800; one whose exponent is above 1075 is no less than 2^53
+-- whether it is a number from 0 to below 604,800; one whose exponent is above 1075 is no less than
+-- 2^53
 unfoldable pub is_in_week : ℕ → Bool
 is_in_week double =
     (nat_lt double (2 ^ 63) || digits_of double == 0)
@@ -81,4 +92,5 @@ time_of_seconds week double =
 -- RXM-RAWX: the seconds of the week, a double, at 0, and the week at 8
 unfoldable pub time_of_raw : List ℕ → Option ℕ
 time_of_raw payload =
-    if nat_le 16 (length payload) then time_of_seconds (two_at payload 8) (eight_at payload 0) else None
+    if nat_le 16 (length payload) then time_of_seconds (two_at payload 8)
+    (eight_at payload 0) else None

@@ -1,16 +1,20 @@
--- The words of a subframe as a receiver logs them. A receiver gives the data bits of a word, and perhaps its parity bits too,
+-- The words of a subframe as a receiver logs them. A receiver gives the data bits of a word, and
+-- perhaps its parity bits too,
 -- as source bits: turned over where the word before ends in 1 (IS-GPS-200, 20.3.5.2).
-use Rattle.std.specs.Prelude.{ℕ, ◌+◌, ◌*◌, ◌%◌, ◌^◌, ◌==◌, ◌&&◌, if◌then◌else◌, Bool, true, not, List, [], ◌∷◌, slice_index, bit_xor}
-use Rattle.lnav_parity.specs.Functions.{is_good}
+use Rattle.std.specs.Prelude.{ℕ, ◌+◌, ◌%◌, ◌^◌, ◌==◌, ◌&&◌, if◌then◌else◌, Bool, true, not}
+use Rattle.std.specs.Prelude.{List, [], ◌∷◌, slice_index, bit_xor}
+use Rattle.lnav_subframe.specs.ParityFunctions.{is_good}
 use Rattle.nav_bits.specs.Fields.{Field, unsigned, reserved}
 use Rattle.nav_bits.specs.Packed.{packed}
 use Rattle.receiver_messages.specs.Numbers.{four_at}
 
--- the words behind one that ends so: each is turned over by the mask where the one before it, as it is read, ends in 1
+-- the words behind one that ends so: each is turned over by the mask where the one before it, as it
+-- is read, ends in 1
 abbrev pub reading_behind : ℕ → ℕ → List ℕ → List ℕ
 reading_behind mask last [] = []
 reading_behind mask last (word ∷ words) =
-    let read = if last % 2 == 1 then bit_xor word mask else word in read ∷ reading_behind mask read words
+    let read = if last % 2 == 1 then bit_xor word mask else word in
+    read ∷ reading_behind mask read words
 
 -- the reading by a mask: the first word as it stands
 abbrev pub reading : ℕ → List ℕ → List ℕ
@@ -32,7 +36,8 @@ data_mask = 0x3FFFFFC0
 abbrev pub whole_mask : ℕ
 whole_mask = 0x3FFFFFFF
 
--- the good reading by one of the three masks, 0 among them; where there is none, the words as they stand
+-- the good reading by one of the three masks, 0 among them; where there is none, the words as they
+-- stand
 unfoldable pub read_words : List ℕ → List ℕ
 read_words words =
     if are_good words then words
@@ -55,15 +60,20 @@ word_at xs at = four_at xs at % 2 ^ 30
 -- the ten words of a subframe from a place on
 abbrev pub words_at : List ℕ → ℕ → List ℕ
 words_at xs at =
-    word_at xs at ∷ word_at xs (at + 4) ∷ word_at xs (at + 8) ∷ word_at xs (at + 12) ∷ word_at xs (at + 16)
-    ∷ word_at xs (at + 20) ∷ word_at xs (at + 24) ∷ word_at xs (at + 28) ∷ word_at xs (at + 32) ∷ word_at xs (at + 36) ∷ []
+    word_at xs at ∷ word_at xs (at + 4) ∷ word_at xs (at + 8) ∷ word_at xs (at + 12)
+    ∷ word_at xs (at + 16)
+    ∷ word_at xs (at + 20) ∷ word_at xs (at + 24) ∷ word_at xs (at + 28) ∷ word_at xs (at + 32)
+    ∷ word_at xs (at + 36) ∷ []
 
 -- ten words one behind the other, and four bits that are 0
 abbrev pub word_fields : List ℕ → List Field
 word_fields words =
-    unsigned 30 (slice_index words 0) ∷ unsigned 30 (slice_index words 1) ∷ unsigned 30 (slice_index words 2)
-    ∷ unsigned 30 (slice_index words 3) ∷ unsigned 30 (slice_index words 4) ∷ unsigned 30 (slice_index words 5)
-    ∷ unsigned 30 (slice_index words 6) ∷ unsigned 30 (slice_index words 7) ∷ unsigned 30 (slice_index words 8)
+    unsigned 30 (slice_index words 0) ∷ unsigned 30 (slice_index words 1)
+    ∷ unsigned 30 (slice_index words 2)
+    ∷ unsigned 30 (slice_index words 3) ∷ unsigned 30 (slice_index words 4)
+    ∷ unsigned 30 (slice_index words 5)
+    ∷ unsigned 30 (slice_index words 6) ∷ unsigned 30 (slice_index words 7)
+    ∷ unsigned 30 (slice_index words 8)
     ∷ unsigned 30 (slice_index words 9) ∷ reserved 4 ∷ []
 
 -- the 38 bytes of ten words

@@ -1,9 +1,8 @@
 //! What a message may say.
 
 use gnss_week::Moment;
-use inav_page::Signal;
 use nav_bits::{Bits, U};
-use nav_eph::Sat;
+use nav_eph::{Sat, Signal};
 
 /// Why a message with a subframe or a page gives no line of a capture.
 #[derive(Clone, Copy, PartialEq, Eq)]

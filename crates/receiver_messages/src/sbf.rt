@@ -13,12 +13,12 @@ use crate::times::time_in;
 use crate::ubx::satellite;
 use crate::words::words_from;
 use gnss_week::Moment;
-use inav_page::Signal;
-use nav_eph::System;
+use nav_eph::{Signal, System};
 
 /// What a whole block of SBF says.
 ///
-/// GPSRawCA gives a subframe, GALRawINAV a page of E1-B or E5b, each with the block's own time, or a
+/// GPSRawCA gives a subframe, GALRawINAV a page of E1-B or E5b, each with the block's own time, or
+/// a
 /// reason why it gives none.
 #[tactic(auto, unfolding(crate::specs::Sbf::sbf_said))]
 pub fn sbf_said(block: &[u8]) -> Said

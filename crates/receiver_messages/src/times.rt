@@ -1,7 +1,8 @@
 //! The times that messages give.
 
 ghost use Rattle.std.specs.Prelude.{◌≡◌, ◌+◌, ◌-◌, ◌*◌, ◌/◌, ◌%◌, ◌^◌, ◌<◌, ◌≤◌, nat_lt, IsTrue};
-ghost use Rattle.receiver_messages.specs.Times.{digits_of as double_digits, exponent_of, is_in_week};
+ghost use Rattle.receiver_messages.specs.Times.{digits_of as double_digits, exponent_of};
+ghost use Rattle.receiver_messages.specs.Times.{is_in_week};
 ghost use Rattle.receiver_messages.specs.Times.{is_week as in_weeks, nearest_to, places_of};
 ghost use Rattle.receiver_messages.specs.Times.{time_in as moment_in, time_near as moment_near};
 ghost use Rattle.receiver_messages.specs.Times.{time_of_date as date_time};

@@ -10,8 +10,7 @@ use crate::halves::{even_of_ubx, odd_of_ubx};
 use crate::said::{Content, Reason, Said};
 use crate::times::{time_of_date, time_of_raw, time_of_week};
 use crate::words::words_from;
-use inav_page::Signal;
-use nav_eph::{Sat, System};
+use nav_eph::{Sat, Signal, System};
 
 /// What a whole message of UBX says, from its sync to its sums.
 ///

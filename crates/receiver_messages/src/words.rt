@@ -2,13 +2,13 @@
 
 ghost use Rattle.std.specs.Prelude.{◌≡◌, ◌+◌, ◌%◌, ◌^◌, ◌<◌, ◌≤◌, ◌==◌, if◌then◌else◌, length};
 ghost use Rattle.std.specs.Prelude.{bit_xor};
-ghost use Rattle.lnav_parity.specs.Functions.{is_good};
+ghost use Rattle.lnav_subframe.specs.ParityFunctions.{is_good};
 ghost use Rattle.receiver_messages.specs.Words.{are_good as all_good, has_good_reading, is_turned};
 ghost use Rattle.receiver_messages.specs.Words.{read_words as read_of, reading as reading_by};
 ghost use Rattle.receiver_messages.specs.Words.{subframe_bytes, word_at, words_at};
 
 use crate::numbers::four;
-use lnav_parity::check_word;
+use lnav_subframe::check_word;
 use nav_bits::{Bits, U, packed_are_the_only, put_numbers};
 
 // The 24 data bits of a word, and all 30.

@@ -6,7 +6,7 @@ use Rattle.nav_io.specs.Lines.{ends, without_cr}
 use Rattle.nav_io.proofs.Surface.{pieces-line}
 use Rattle.nav_eph.specs.declared.items.NavItem.{NavItem}
 use Rattle.nav_eph.specs.Ranges.{IsItem}
-use Rattle.rinex_write.specs.declared.header.HeaderWords.{HeaderWords}
+use Rattle.rinex_write.specs.declared.words.HeaderWords.{HeaderWords}
 use Rattle.rinex_write.specs.Texts.{IsHeader, AreLines, text_of, item_lines, header_lines, rinex_text}
 use Rattle.rinex_write.proofs.Surface.{lines_more, header_shown, length-header}
 use Rattle.rinex_read.specs.declared.judged.ItemRead.{ItemRead}

@@ -1,3 +1,6 @@
+pub mod Kept3Lemmas
+pub mod Record3Lemmas
+pub mod Header3Lemmas
 pub mod AccuracyLemmas
 pub mod AlikeLemmas
 pub mod ColumnLemmas

@@ -1,3 +1,4 @@
+pub mod Form3
 pub mod Fields
 pub mod Files
 pub mod Forms

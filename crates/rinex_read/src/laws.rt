@@ -17,7 +17,7 @@ ghost use Rattle.rinex_read.specs.declared.judged.HeaderFault.TheVariants as fau
 ghost use Rattle.std.specs.List.{flat_map};
 ghost use Rattle.nav_eph.specs.declared.items.NavItem.{NavItem};
 ghost use Rattle.nav_eph.specs.Ranges.{IsItem};
-ghost use Rattle.rinex_write.specs.declared.header.HeaderWords.{HeaderWords};
+ghost use Rattle.rinex_write.specs.declared.words.HeaderWords.{HeaderWords};
 ghost use Rattle.rinex_write.specs.Texts.{IsHeader, header_lines, item_lines, rinex_text, text_of};
 ghost use Rattle.rinex_read.specs.declared.judged.Judged.TheVariants as judgments;
 ghost use Rattle.rinex_read.specs.Judging.{judged};

@@ -1,5 +1,6 @@
-//! RINEX 4 navigation files as items: the records of ephemerides of GPS (LNAV) and Galileo (INAV)
-//! and of the ionosphere (RINEX 4.01, header section and navigation records).
+//! RINEX navigation files as items, of versions 4.01 and 3.02 to 3.05: the records of ephemerides of
+//! GPS (LNAV) and Galileo (INAV) and, in version 4, of the ionosphere (RINEX 4.01, header section and
+//! navigation records; RINEX 3.05, navigation message files).
 //!
 //! [`Records`] reads the header of a [`Source`](nav_io::Source) and then its records one by one, in
 //! buffers of fixed size: an item, a record that is refused, with the first [`Reason`], or one of
@@ -10,6 +11,10 @@
 //! gives the nearest raw integer, halves to even, as it was sent, and the record that `rinex_write`
 //! writes of an item is read as that item ([`records_are_read`], [`files_are_read`],
 //! [`joined_files_are_read`]).
+//!
+//! [`Records3`] is the same reader over the form [`Rinex3`]: a record has no title line, begins at
+//! each line whose first column is not blank, and is judged as the record of RINEX 4 with its title
+//! put before it ([`records3_are_read`], [`files3_are_read`]).
 //!
 //! ```rust
 //! let mut source = ReadSource::new(rt.stdin());
@@ -28,18 +33,22 @@ mod accuracy;
 mod date;
 mod fields;
 mod form;
+mod form3;
 mod header;
 mod items;
 mod judged;
 mod laws;
+mod laws3;
 mod line;
 mod reader;
 mod reason;
 mod record;
+mod records3;
 mod said;
 mod title;
 
 pub use crate::form::{FileForm, Rinex4};
+pub use crate::form3::Rinex3;
 pub use crate::judged::{HeaderFault, HeaderState, ItemRead, Judged};
 pub use crate::laws::{
     columns_behind_the_last_are_not_looked_at, files_are_read, header_lines_are_read,
@@ -47,7 +56,9 @@ pub use crate::laws::{
     record_lines_stand, records_are_read, steps_follow_one_another, the_end_stays,
     too_many_bytes_stay_too_many, written_files_are_read,
 };
+pub use crate::laws3::{files3_are_read, headers3_are_read, records3_are_read};
 pub use crate::line::columns;
 pub use crate::reader::{RecordReader, Records};
 pub use crate::reason::Reason;
 pub use crate::record::RecordLines;
+pub use crate::records3::Records3;

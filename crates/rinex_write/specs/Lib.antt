@@ -4,3 +4,4 @@ pub mod Fields
 pub mod Layouts
 pub mod Mirrors
 pub mod Texts
+pub mod Texts3

@@ -11,7 +11,7 @@ use Rattle.nav_eph.specs.declared.ion.IonContent.{IonContent}
 use Rattle.nav_eph.specs.declared.ion.IonContent.TheVariants.{Gps as OfGps, Gal as OfGal}
 use Rattle.nav_eph.specs.declared.items.NavItem.{NavItem}
 use Rattle.nav_eph.specs.declared.items.NavItem.TheVariants.{Gps as GpsItem, Gal as GalItem, Ion as IonItem}
-use Rattle.rinex_write.specs.declared.header.HeaderWords.{HeaderWords}
+use Rattle.rinex_write.specs.declared.words.HeaderWords.{HeaderWords}
 use Rattle.rinex_write.specs.Columns.{row_lines}
 use Rattle.rinex_write.specs.Layouts.{Kind, gps_kind, galileo_kind, gps_ionosphere_kind, galileo_ionosphere_kind}
 use Rattle.rinex_write.specs.Fields.{gps_fields, galileo_fields, gps_ionosphere_fields, galileo_ionosphere_fields, gps_epoch, galileo_epoch}

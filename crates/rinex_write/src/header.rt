@@ -1,22 +1,12 @@
 //! The header of a file.
 
-ghost use Rattle.std.specs.Prelude.{◌≡◌, ◌<◌, ◌≤◌, MatchResult};
-ghost use Rattle.std.specs.Io.KnownBytes.{Appends};
-ghost use Rattle.nav_io.specs.Causes.{HasCause};
-ghost use Rattle.nav_io.specs.Front.{AppendsFront};
+ghost use Rattle.std.specs.Prelude.{◌≡◌, ◌<◌};
+ghost use Rattle.nav_io.specs.Writes.{Writes};
 ghost use Rattle.rinex_write.specs.Texts.{header_lines, header_lines_by, leap_text, text_of};
 
 use crate::record::{Record, append};
+use crate::words::HeaderWords;
 use nav_io::{Failed, Sink};
-
-/// What a header says of its file, beside what each header says.
-#[derive(Clone, Copy)]
-pub struct HeaderWords {
-    /// When the file was made, in 19 characters as `20240101 000000 UTC`.
-    pub date: [u8; 19],
-    /// The leap seconds between UTC and GPS time, 0 to 99.
-    pub leap: u8,
-}
 
 // The leap seconds in two columns.
 fn leap_columns(leap: u8) -> [u8; 2]
@@ -29,7 +19,6 @@ fn leap_columns(leap: u8) -> [u8; 2]
 
 // The text of a header, with the version in columns 1-9.
 fn header_text(version: &[u8; 9], words: &HeaderWords) -> Record
-    requires { words.now.leap < 100 }
     ensures { result.items ≡ text_of (header_lines_by version.now words.now) }
 {
     let mut text = Record::new();
@@ -65,13 +54,8 @@ pub fn write_header_of<T: Sink>(
     words: &HeaderWords,
     out: &mut T,
 ) -> Result<(), Failed>
-    requires { words.now.leap < 100 }
-    ensures bytes { MatchResult result
-        (λ _. Appends (T.written out.old) (T.written out.new) (text_of
-        (header_lines_by version.now words.now)))
-        (λ _. AppendsFront (T.written out.old) (T.written out.new)
-        (text_of (header_lines_by version.now words.now))) }
-    ensures cause { HasCause (T.faults out.old) (T.faults out.new) result }
+    ensures { Writes (T.written out.old) (T.written out.new) (T.faults out.old) (T.faults out.new)
+        result (text_of (header_lines_by version.now words.now)) }
 {
     out.write(&header_text(version, words))
 }
@@ -83,12 +67,8 @@ pub fn write_header_of<T: Sink>(
 ///
 /// As of [`write_header_of`].
 pub fn write_header<T: Sink>(words: &HeaderWords, out: &mut T) -> Result<(), Failed>
-    requires { words.now.leap < 100 }
-    ensures bytes { MatchResult result
-        (λ _. Appends (T.written out.old) (T.written out.new) (text_of (header_lines words.now)))
-        (λ _. AppendsFront (T.written out.old) (T.written out.new) (text_of
-        (header_lines words.now))) }
-    ensures cause { HasCause (T.faults out.old) (T.faults out.new) result }
+    ensures { Writes (T.written out.old) (T.written out.new) (T.faults out.old) (T.faults out.new)
+        result (text_of (header_lines words.now)) }
 {
     write_header_of(b"     4.01", words, out)
 }

@@ -1,19 +1,16 @@
 //! The records of items.
 
-ghost use Rattle.std.specs.Prelude.{◌≡◌, ◌≤◌, ◌∷◌, ◌++◌, [], List, ℕ, map};
-ghost use Rattle.std.specs.Prelude.{length, drop, MatchResult, codes};
-ghost use Rattle.std.specs.Io.KnownBytes.{Appends};
-ghost use Rattle.nav_io.specs.Causes.{HasCause};
-ghost use Rattle.nav_io.specs.Front.{AppendsFront};
+ghost use Rattle.std.specs.Prelude.{◌≡◌, ◌≤◌, ◌∷◌, ◌++◌, map};
+ghost use Rattle.std.specs.Prelude.{[], length, drop};
+ghost use Rattle.nav_io.specs.Writes.{Writes};
 ghost use Rattle.nav_eph.specs.Ranges.{HasGalRanges, HasGpsRanges, HasIonRanges};
 ghost use Rattle.nav_eph.specs.declared.items.NavItem.TheVariants.{Gps, Gal, Ion};
 ghost use Rattle.rinex_write.specs.Columns.{joined_rows};
 ghost use Rattle.rinex_write.specs.Fields.{gps_epoch, galileo_epoch, gps_fields, galileo_fields};
 ghost use Rattle.rinex_write.specs.Fields.{gps_ionosphere_fields, galileo_ionosphere_fields};
-ghost use Rattle.rinex_write.specs.Layouts.{Kind, gps_kind, galileo_kind};
-ghost use Rattle.rinex_write.specs.Layouts.{gps_ionosphere_kind, galileo_ionosphere_kind};
+ghost use Rattle.rinex_write.specs.Layouts.{Kind};
 ghost use Rattle.rinex_write.specs.Mirrors.{AreReady, IsTable};
-ghost use Rattle.rinex_write.specs.Texts.{body_lines, ionosphere_lines, item_lines};
+ghost use Rattle.rinex_write.specs.Texts.{body_lines, item_lines};
 ghost use Rattle.rinex_write.specs.Texts.{record_lines, satellite_text, text_of, title_line};
 
 use crate::fields::{galileo_fields, galileo_ionosphere_fields, gps_fields, gps_ionosphere_fields};
@@ -200,11 +197,8 @@ fn item_record(item: &NavItem) -> Record
 /// `Failed` only where the sink's count of faults rose in this call, or stands at its last value; a
 /// front of the record was appended then.
 pub fn write_item<T: Sink>(item: &NavItem, out: &mut T) -> Result<(), Failed>
-    ensures bytes { MatchResult result
-        (λ _. Appends (T.written out.old) (T.written out.new) (text_of (item_lines item.now)))
-        (λ _. AppendsFront (T.written out.old) (T.written out.new) (text_of
-        (item_lines item.now))) }
-    ensures cause { HasCause (T.faults out.old) (T.faults out.new) result }
+    ensures { Writes (T.written out.old) (T.written out.new) (T.faults out.old) (T.faults out.new)
+        result (text_of (item_lines item.now)) }
 {
     out.write(&item_record(item))
 }
@@ -229,11 +223,8 @@ fn titled_record(item: &NavItem) -> Record
 /// `Failed` only where the sink's count of faults rose in this call, or stands at its last value; a
 /// front of these lines was appended then.
 pub fn write_body<T: Sink>(item: &NavItem, out: &mut T) -> Result<(), Failed>
-    ensures bytes { MatchResult result
-        (λ _. Appends (T.written out.old) (T.written out.new) (text_of (body_lines item.now)))
-        (λ _. AppendsFront (T.written out.old) (T.written out.new) (text_of
-        (body_lines item.now))) }
-    ensures cause { HasCause (T.faults out.old) (T.faults out.new) result }
+    ensures { Writes (T.written out.old) (T.written out.new) (T.faults out.old) (T.faults out.new)
+        result (text_of (body_lines item.now)) }
 {
     let record = titled_record(item);
     out.write(&record[TITLE_LINE..])

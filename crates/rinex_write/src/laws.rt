@@ -10,7 +10,7 @@ ghost use Rattle.nav_eph.specs.declared.items.NavItem.TheVariants.{Gps, Gal};
 ghost use Rattle.nav_eph.specs.declared.ion.GpsIon.{GpsIon};
 ghost use Rattle.nav_eph.specs.declared.ion.GalIon.{GalIon};
 ghost use Rattle.scaled_decimal.specs.NumberText.{AreShown};
-ghost use Rattle.rinex_write.specs.declared.header.HeaderWords.{HeaderWords};
+ghost use Rattle.rinex_write.specs.declared.words.HeaderWords.{HeaderWords};
 ghost use Rattle.rinex_write.specs.Texts.{AreLines, IsHeader, NoneTitled};
 ghost use Rattle.rinex_write.specs.Texts.{begins_record, body_lines, header_lines_by};
 ghost use Rattle.rinex_write.specs.Texts.{item_lines, text_of, title_of};

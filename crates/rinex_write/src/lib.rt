@@ -1,9 +1,12 @@
-//! Headers and records of RINEX 4.01 navigation files, as text.
+//! Headers and records of RINEX navigation files, versions 4.01 and 3.05, as text.
 //!
 //! [`write_header`] and [`write_item`] append the text of a header, and of the record of an
 //! ephemeris or of an ionosphere, to a [`Sink`](nav_io::Sink): whole, or a front of it where the
 //! sink failed. A text is built in a buffer of fixed size and handed over by one write; no memory
 //! is taken.
+//!
+//! [`write_header3`] and [`write_item3`] do the same for version 3.05, which has no record of an
+//! ionosphere.
 //!
 //! A record (RINEX 4.01, GPS LNAV and Galileo INAV navigation records) is a table of columns, a
 //! number a column: a [`Column`] has the scale of its number, and the [`Rule`] by which the number
@@ -29,9 +32,11 @@ mod laws;
 mod layouts;
 mod numbers;
 mod record;
+mod words;
+mod write3;
 
 pub use crate::columns::{Column, Rule};
-pub use crate::header::{HeaderWords, write_header, write_header_of};
+pub use crate::header::{write_header, write_header_of};
 pub use crate::item::{write_body, write_item};
 pub use crate::laws::{
     columns_are_good, fields_fit_their_columns, headers_are_lines, records_are_a_title_and_a_body,
@@ -40,3 +45,5 @@ pub use crate::laws::{
 pub use crate::layouts::{
     Layout, galileo_ionosphere_layout, galileo_layout, gps_ionosphere_layout, gps_layout,
 };
+pub use crate::words::HeaderWords;
+pub use crate::write3::{write_header3, write_item3};

@@ -1,10 +1,9 @@
 //! Small files through each run.
 
-use archive_runs::{MergeCounts, run_cover, run_merge};
-use item_runs::RinexCounts;
+use nav_files::{MergeCounts, RinexCounts, run_cover, run_merge};
 use nav_io::{MemSink, MemSource};
+use one_run::BridgeFault;
 use rinex_write::HeaderWords;
-use run_texts::BridgeFault;
 use std::alloc::{AllocError, Global};
 use std::test::Fail;
 

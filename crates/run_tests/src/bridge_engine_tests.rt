@@ -3,21 +3,23 @@
 
 ghost use Rattle.std.specs.Prelude.{◌≤◌};
 
-use bridge_engine::{CaptureTo, run_capture};
 use capture_lines::{LineItem, read_line};
+use captures::{CaptureTo, run_capture};
 use gnss_week::RefWeek;
 use inav_page::{Halves, read_half};
 use inav_word::read_word;
-use issue_periods::{PlainAssembly, add_periods};
 use lnav_subframe::read_subframe;
 use nav_eph::{
     Body, GalEph, GalHealth, GalIon, GalWord1, GalWord2, GalWord3, GalWord4, GpsClock, GpsEph,
     GpsIon, GpsOrbitA, GpsOrbitB, GpsSide, IonContent, IonEph, NavItem, Part, SentTag, System,
 };
 use nav_io::{MemSink, MemSource};
+use nav_laws::PlainAssembly;
 use nav_vectors::make_capture;
-use period_items::{Closed, Key, Verdict};
-use run_texts::{Text, append, append_decimal, append_hex, append_issue};
+use one_run::{Text, append, append_decimal, append_hex};
+use outlets::append_issue;
+use periods::{Closed, Key, Verdict};
+use slot_assembly::add_periods;
 use std::alloc::{AllocError, Global};
 use std::test::Fail;
 

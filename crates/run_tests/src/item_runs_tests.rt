@@ -1,14 +1,13 @@
 //! Small inputs through each run.
 
-ghost use Rattle.item_runs.specs.Targets.{HasFileLeap, HasStreamLeap};
-
 use gnss_week::RefWeek;
-use item_runs::{RinexCounts, RinexTo, StreamCounts, StreamTo, run_rinex, run_rinex3, run_stream};
+use nav_files::{RinexCounts, RinexTo, run_rinex, run_rinex3};
 use nav_io::{MemSink, MemSource};
+use one_run::BridgeFault;
 use rinex_write::HeaderWords;
-use run_texts::BridgeFault;
 use std::alloc::{AllocError, Global};
 use std::test::Fail;
+use streams::{StreamCounts, StreamTo, run_stream};
 
 // Message 1019 of an ephemeris of G05 in week 2295 whose other fields are 0, as a frame.
 const FRAME: &[u8] =
@@ -41,9 +40,7 @@ fn stream_run(
     bytes: &[u8],
     output: &mut MemSink,
     report: &mut MemSink,
-) -> Result<Result<StreamCounts, BridgeFault>, Fail>
-    requires { HasStreamLeap to.now }
-{
+) -> Result<Result<StreamCounts, BridgeFault>, Fail> {
     let r = RefWeek::new(2295).ok_or("a reference week")?;
     let mut input = source_of(alloc, bytes)?;
     Ok(run_stream(alloc, r, to, &mut input, output, report))
@@ -57,9 +54,7 @@ fn file_run(
     bytes: &[u8],
     output: &mut MemSink,
     report: &mut MemSink,
-) -> Result<Result<RinexCounts, BridgeFault>, AllocError>
-    requires { HasFileLeap to.now }
-{
+) -> Result<Result<RinexCounts, BridgeFault>, AllocError> {
     let mut input = source_of(alloc, bytes)?;
     if older {
         Ok(run_rinex3(to, &mut input, output, report))
@@ -75,9 +70,7 @@ fn file_becomes(
     bytes: &[u8],
     text: &[u8],
     reported: &[u8],
-) -> Result<bool, AllocError>
-    requires { HasFileLeap to.now }
-{
+) -> Result<bool, AllocError> {
     let mut output = sink_of(alloc)?;
     let mut report = sink_of(alloc)?;
     let counts = file_run(alloc, to, false, bytes, &mut output, &mut report)?;

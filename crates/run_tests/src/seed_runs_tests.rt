@@ -1,10 +1,9 @@
 //! Runs over memory.
 
-use bridge_engine::CaptureCounts;
+use captures::{CaptureCounts, SeedCounts, SeedTo, run_seed};
 use gnss_week::RefWeek;
 use nav_io::MemSink;
-use run_texts::BridgeFault;
-use seed_runs::{SeedCounts, SeedTo, run_seed};
+use one_run::BridgeFault;
 use std::test::Fail;
 
 // The counts of the capture of two satellites of each system from the seed 7 in week 2295, computed

@@ -1,10 +1,9 @@
 //! Files of an independent program, what it sends of them, and what it reports.
 
 use gnss_week::RefWeek;
-use item_runs::RinexCounts;
+use nav_files::{RinexCounts, send_rinex, send_rinex3};
 use nav_io::{MemSink, MemSource};
-use run_texts::BridgeFault;
-use send_runs::{send_rinex, send_rinex3};
+use one_run::BridgeFault;
 use std::alloc::{AllocError, Global};
 use std::test::Fail;
 

@@ -1,31 +1,42 @@
 -- The CRC byte by byte, the registers beside bytes, and a register moved past bytes that are 0.
-use Rattle.std.proofs.Common.{◌≡◌, ℕ, zero, suc, ◌+◌, ◌-◌, ◌*◌, ◌/◌, ◌%◌, ◌^◌, ◌<◌, ◌≤◌, ◌⊎◌, inl, inr, nat_eq, List, [], ◌∷◌, ◌++◌, length, get_or, take, drop, refl, sym, ap, subst, ◌∙◌, arith, add-zero, length-drop}
+use Rattle.std.proofs.Common.{◌≡◌, ℕ, zero, suc, ◌+◌, ◌-◌, ◌*◌, ◌/◌, ◌%◌, ◌^◌, ◌<◌, ◌≤◌, ◌⊎◌, inl}
+use Rattle.std.proofs.Common.{inr, nat_eq, List, [], ◌∷◌, ◌++◌, length, get_or, take, drop, refl}
+use Rattle.std.proofs.Common.{sym, ap, subst, ◌∙◌, arith, add-zero, length-drop}
 use Rattle.std.proofs.lemmas.Bool.{cases_lt}
-use Rattle.std.proofs.lemmas.List.{take-take, take_all, drop-take, drop-drop, length-take-le, take_more, get_or-take, get_or-drop, get_or_append_left, get_or_push, length_push}
+use Rattle.std.proofs.lemmas.List.{drop-take, drop-drop, length-take-le}
+use Rattle.std.proofs.lemmas.List.{take_more, get_or-take, get_or-drop, get_or_append_left}
+use Rattle.std.proofs.lemmas.List.{get_or_push, length_push}
 use Rattle.std.proofs.lemmas.Nat.{shr-shr, shr_le}
 use Rattle.std.specs.Int.Bits.{bit_xor, xor_zero_r}
 use lib.Bits.{xor_shifted}
 use Rattle.sbf_frames.specs.Register.{turned, shift, with_byte_of, crc_from}
 use Rattle.sbf_frames.specs.Form.{has_right_crc}
 use Rattle.sbf_frames.specs.States.{AreStates, ArePowers}
-use Rattle.sbf_frames.proofs.RegisterLaws.{turned_small, turned-lt, shift-lt, shift-xor, shift-add, shift-zero, with_byte_of-lt, crc_from-append, crc_of_part}
+use Rattle.sbf_frames.proofs.RegisterLaws.{turned_small, shift-xor, shift-add}
+use Rattle.sbf_frames.proofs.RegisterLaws.{shift-zero, with_byte_of-lt, crc_from-append}
+use Rattle.sbf_frames.proofs.RegisterLaws.{crc_of_part}
 
 -- one byte more of some bytes
-pub crc_next : (r : ℕ) (xs : List ℕ) (i : ℕ) → i < length xs → crc_from r (take (i + 1) xs) ≡ with_byte_of (crc_from r (take i xs)) (get_or xs i 0)
+pub crc_next : (r : ℕ) (xs : List ℕ) (i : ℕ) → i < length xs
+    → crc_from r (take (i + 1) xs) ≡ with_byte_of (crc_from r (take i xs)) (get_or xs i 0)
 unfolding crc_from
 crc_next r xs i h =
     ap (crc_from r) (take_more xs i 0 h) ∙ crc_from-append r (take i xs) (get_or xs i 0 ∷ [])
 
-pub state-lt : (bytes states : List ℕ) → AreStates bytes states → (i : ℕ) → i < length states → get_or states i 0 < 2 ^ 16
+pub state-lt : (bytes states : List ℕ) → AreStates bytes states → (i : ℕ) → i < length states
+    → get_or states i 0 < 2 ^ 16
 state-lt bytes states are zero h = are.first
 state-lt bytes states are (suc i) h =
     let next : i + 1 ≡ suc i = omega arith in
-    let step : get_or states (i + 1) 0 ≡ with_byte_of (get_or states i 0) (get_or bytes i 0) = are.steps i (omega arith) in
+    let step : get_or states (i + 1) 0 ≡ with_byte_of (get_or states i 0) (get_or bytes i 0) =
+    are.steps i (omega arith) in
     subst (λ n. n < 2 ^ 16) (sym step ∙ ap (λ n. get_or states n 0) next)
-    (with_byte_of-lt (get_or states i 0) (get_or bytes i 0) (state-lt bytes states are i (omega arith)))
+    (with_byte_of-lt (get_or states i 0) (get_or bytes i 0)
+    (state-lt bytes states are i (omega arith)))
 
 -- the register some bytes on is the one before them with these bytes
-pub state_after : (bytes states : List ℕ) → AreStates bytes states → (a n : ℕ) → a + n < length states
+pub state_after : (bytes states : List ℕ) → AreStates bytes states → (a n : ℕ)
+    → a + n < length states
     → get_or states (a + n) 0 ≡ crc_from (get_or states a 0) (take n (drop a bytes))
 unfolding crc_from
 state_after bytes states are a zero h = ap (λ n. get_or states n 0) (add-zero a)
@@ -35,29 +46,37 @@ state_after bytes states are a (suc n) h =
     let inside : n < length (drop a bytes) = omega (arith, length-drop a bytes, are.most) in
     ap (λ m. get_or states m 0) place
     ∙ are.steps (a + n) (omega arith)
-    ∙ ap (λ r. with_byte_of r (get_or bytes (a + n) 0)) (state_after bytes states are a n (omega arith))
+    ∙ ap (λ r. with_byte_of r (get_or bytes (a + n) 0))
+    (state_after bytes states are a n (omega arith))
     ∙ sym (ap (λ m. crc_from (get_or states a 0) (take m (drop a bytes))) (sym count)
     ∙ crc_next (get_or states a 0) (drop a bytes) n inside
-    ∙ ap (with_byte_of (crc_from (get_or states a 0) (take n (drop a bytes)))) (get_or-drop a bytes n 0))
+    ∙ ap (with_byte_of (crc_from (get_or states a 0) (take n (drop a bytes))))
+    (get_or-drop a bytes n 0))
 
-pub states_cut : (bytes states : List ℕ) → AreStates bytes states → (count : ℕ) → count < length states → AreStates (drop count bytes) (drop count states)
+pub states_cut : (bytes states : List ℕ) → AreStates bytes states → (count : ℕ)
+    → count < length states → AreStates (drop count bytes) (drop count states)
 states_cut bytes states are count h = record {
   some = omega (arith, length-drop count states);
   most = omega (arith, length-drop count states, length-drop count bytes, are.most);
-  first = subst (λ n. n < 2 ^ 16) (sym (get_or-drop count states 0 0)) (state-lt bytes states are (count + 0) (omega arith));
+  first = subst (λ n. n < 2 ^ 16) (sym (get_or-drop count states 0 0))
+      (state-lt bytes states are (count + 0) (omega arith));
   steps = λ i less.
       let place : count + (i + 1) ≡ count + i + 1 = omega arith in
-      get_or-drop count states (i + 1) 0 ∙ ap (λ n. get_or states n 0) place ∙ are.steps (count + i) (omega (arith, length-drop count states))
+      get_or-drop count states (i + 1) 0 ∙ ap (λ n. get_or states n 0) place
+      ∙ are.steps (count + i) (omega (arith, length-drop count states))
       ∙ sym (ap (λ r. with_byte_of r (get_or (drop count bytes) i 0)) (get_or-drop count states i 0)
       ∙ ap (with_byte_of (get_or states (count + i) 0)) (get_or-drop count bytes i 0));
 }
 
-pub states_more : (bytes states : List ℕ) (place next : ℕ) → AreStates bytes states → length states ≡ place + 1 → place < length bytes
-    → next ≡ with_byte_of (get_or states place 0) (get_or bytes place 0) → AreStates bytes (states ++ next ∷ [])
+pub states_more : (bytes states : List ℕ) (place next : ℕ) → AreStates bytes states
+    → length states ≡ place + 1 → place < length bytes
+    → next ≡ with_byte_of (get_or states place 0) (get_or bytes place 0)
+    → AreStates bytes (states ++ next ∷ [])
 states_more bytes states place next are count inside is = record {
   some = omega (arith, length_push states next);
   most = omega (arith, length_push states next);
-  first = subst (λ n. n < 2 ^ 16) (sym (get_or_append_left states (next ∷ []) 0 0 are.some)) are.first;
+  first = subst (λ n. n < 2 ^ 16) (sym (get_or_append_left states (next ∷ []) 0 0 are.some))
+      are.first;
   steps = λ i less. step i (omega (arith, length_push states next)) (cases_lt i place);
 }
   where
@@ -65,13 +84,16 @@ states_more bytes states place next are count inside is = record {
     before i h = get_or_append_left states (next ∷ []) 0 i h
 
     step : (i : ℕ) → i ≤ place → (i < place) ⊎ (place ≤ i)
-        → get_or (states ++ next ∷ []) (i + 1) 0 ≡ with_byte_of (get_or (states ++ next ∷ []) i 0) (get_or bytes i 0)
+        → get_or (states ++ next ∷ []) (i + 1) 0
+        ≡ with_byte_of (get_or (states ++ next ∷ []) i 0) (get_or bytes i 0)
     step i most (inl less) =
-        before (i + 1) (omega arith) ∙ are.steps i (omega arith) ∙ ap (λ r. with_byte_of r (get_or bytes i 0)) (sym (before i (omega arith)))
+        before (i + 1) (omega arith) ∙ are.steps i (omega arith)
+        ∙ ap (λ r. with_byte_of r (get_or bytes i 0)) (sym (before i (omega arith)))
     step i most (inr more) =
         let same : place ≡ i = omega arith in
         let at : length states ≡ i + 1 = omega arith in
-        get_or_push states next 0 (i + 1) at ∙ is ∙ ap (λ n. with_byte_of (get_or states n 0) (get_or bytes n 0)) same
+        get_or_push states next 0 (i + 1) at ∙ is
+        ∙ ap (λ n. with_byte_of (get_or states n 0) (get_or bytes n 0)) same
         ∙ ap (λ r. with_byte_of r (get_or bytes i 0)) (sym (before i (omega arith)))
 
 -- x times a remainder that is moved on
@@ -88,12 +110,14 @@ digit n (suc zero) h = omega arith
 digit n (suc (suc d)) h = absurd (omega arith)
 
 -- one digit more of the register that is moved on
-pub digit_step : (n state k sum power : ℕ) → state < 2 ^ 16 → power < 2 ^ 16 → k < 16 → power ≡ shift n 1 → sum ≡ shift n (state / 2 ^ (16 - k))
+pub digit_step : (n state k sum power : ℕ) → state < 2 ^ 16 → power < 2 ^ 16 → k < 16
+    → power ≡ shift n 1 → sum ≡ shift n (state / 2 ^ (16 - k))
     → bit_xor (turned sum) (state / 2 ^ (15 - k) % 2 * power) ≡ shift n (state / 2 ^ (16 - (k + 1)))
 digit_step n state k sum power fits less inside power_is sum_is =
     let places : 15 - k + 1 ≡ 16 - k = omega arith in
     let rest : 16 - (k + 1) ≡ 15 - k = omega arith in
-    let half : state / 2 ^ (15 - k) / 2 ≡ state / 2 ^ (16 - k) = shr-shr state (15 - k) 1 ∙ ap (λ m. state / 2 ^ m) places in
+    let half : state / 2 ^ (15 - k) / 2 ≡ state / 2 ^ (16 - k) =
+    shr-shr state (15 - k) 1 ∙ ap (λ m. state / 2 ^ m) places in
     let m : ℕ = state / 2 ^ (16 - k) in
     let d : ℕ = state / 2 ^ (15 - k) % 2 in
     let small : m < 2 ^ 15 = below_half state k fits inside in
@@ -106,14 +130,17 @@ digit_step n state k sum power fits less inside power_is sum_is =
     below_half : (state k : ℕ) → state < 2 ^ 16 → k < 16 → state / 2 ^ (16 - k) < 2 ^ 15
     below_half state k h l =
         let places : 1 + (15 - k) ≡ 16 - k = omega arith in
-        let half : state / 2 / 2 ^ (15 - k) ≡ state / 2 ^ (16 - k) = shr-shr state 1 (15 - k) ∙ ap (λ m. state / 2 ^ m) places in
+        let half : state / 2 / 2 ^ (15 - k) ≡ state / 2 ^ (16 - k) =
+        shr-shr state 1 (15 - k) ∙ ap (λ m. state / 2 ^ m) places in
         omega (arith, half, shr_le (state / 2) (15 - k))
 
-    next_digit : (n m d : ℕ) → m < 2 ^ 15 → d < 2 → shift n (m * 2 + d) ≡ bit_xor (turned (shift n m)) (d * shift n 1)
+    next_digit : (n m d : ℕ) → m < 2 ^ 15 → d < 2
+        → shift n (m * 2 + d) ≡ bit_xor (turned (shift n m)) (d * shift n 1)
     next_digit n m d hm hd =
         let inside : m * 2 ^ 1 < 2 ^ 16 = omega arith in
         ap (shift n) (sym (xor_shifted m 1 d hd)) ∙ shift-xor n (m * 2 ^ 1) d inside (omega arith)
-        ∙ ap (λ x. bit_xor x (shift n d)) (twice n m hm) ∙ ap (bit_xor (turned (shift n m))) (digit n d hd)
+        ∙ ap (λ x. bit_xor x (shift n d)) (twice n m hm)
+        ∙ ap (bit_xor (turned (shift n m))) (digit n d hd)
 
 -- no digit of the register
 pub no_digits : (n state : ℕ) → state < 2 ^ 16 → 0 ≡ shift n (state / 2 ^ 16)
@@ -135,49 +162,73 @@ first_power = record { some = omega arith; each = λ n h. at n h }
     at (suc n) h = absurd (omega arith)
 
 -- one power more
-pub powers_more : (powers : List ℕ) (k power : ℕ) → ArePowers powers → length powers ≡ k + 1 → power ≡ shift 32 (get_or powers k 0)
+pub powers_more : (powers : List ℕ) (k power : ℕ) → ArePowers powers → length powers ≡ k + 1
+    → power ≡ shift 32 (get_or powers k 0)
     → ArePowers (powers ++ power ∷ [])
 powers_more powers k power are count is = record {
   some = omega (arith, length_push powers power);
   each = λ n h. at n (omega (arith, length_push powers power)) (cases_lt n (k + 1));
 }
   where
-    at : (n : ℕ) → n ≤ k + 1 → (n < k + 1) ⊎ (k + 1 ≤ n) → get_or (powers ++ power ∷ []) n 0 ≡ shift (32 * n) 1
-    at n most (inl less) = get_or_append_left powers (power ∷ []) 0 n (omega arith) ∙ are.each n (omega arith)
+    at : (n : ℕ) → n ≤ k + 1 → (n < k + 1) ⊎ (k + 1 ≤ n)
+        → get_or (powers ++ power ∷ []) n 0 ≡ shift (32 * n) 1
+    at n most (inl less) = get_or_append_left powers (power ∷ []) 0 n (omega arith)
+        ∙ are.each n (omega arith)
     at n most (inr more) =
         let last : length powers ≡ n = omega arith in
         let place : 32 + 32 * k ≡ 32 * n = omega arith in
-        get_or_push powers power 0 n last ∙ is ∙ ap (shift 32) (are.each k (omega arith)) ∙ sym (shift-add 32 (32 * k) 1) ∙ ap (λ m. shift m 1) place
+        get_or_push powers power 0 n last ∙ is ∙ ap (shift 32) (are.each k (omega arith))
+        ∙ sym (shift-add 32 (32 * k) 1) ∙ ap (λ m. shift m 1) place
 
 -- the register with four bytes 0
-pub four_zeros : (r a b c d : ℕ) → r < 2 ^ 16 → a ≡ with_byte_of r 0 → b ≡ with_byte_of a 0 → c ≡ with_byte_of b 0 → d ≡ with_byte_of c 0 → d ≡ shift 32 r
+pub four_zeros : (r a b c d : ℕ) → r < 2 ^ 16 → a ≡ with_byte_of r 0 → b ≡ with_byte_of a 0
+    → c ≡ with_byte_of b 0 → d ≡ with_byte_of c 0 → d ≡ shift 32 r
 unfolding with_byte_of
 four_zeros r a b c d h a_is b_is c_is d_is =
-    d_is ∙ ap (shift 8) (xor_zero_r c) ∙ ap (shift 8) (c_is ∙ ap (shift 8) (xor_zero_r b) ∙ ap (shift 8) (b_is ∙ ap (shift 8) (xor_zero_r a) ∙ ap (shift 8) (a_is ∙ ap (shift 8) (xor_zero_r r))))
-    ∙ ap (λ x. shift 8 (shift 8 x)) (sym (shift-add 8 8 r)) ∙ ap (shift 8) (sym (shift-add 8 16 r)) ∙ sym (shift-add 8 24 r)
+    d_is ∙ ap (shift 8) (xor_zero_r c)
+    ∙ ap (shift 8) (c_is ∙ ap (shift 8) (xor_zero_r b)
+    ∙ ap (shift 8) (b_is ∙ ap (shift 8) (xor_zero_r a)
+    ∙ ap (shift 8) (a_is ∙ ap (shift 8) (xor_zero_r r))))
+    ∙ ap (λ x. shift 8 (shift 8 x)) (sym (shift-add 8 8 r)) ∙ ap (shift 8) (sym (shift-add 8 16 r))
+    ∙ sym (shift-add 8 24 r)
 
 -- the registers beside the bytes tell whether a block has its CRC
-pub right_by : (bytes states : List ℕ) → AreStates bytes states → (place size moved : ℕ) → 8 ≤ size → place + size ≤ length bytes → place + size < length states
+pub right_by : (bytes states : List ℕ) → AreStates bytes states → (place size moved : ℕ) → 8 ≤ size
+    → place + size ≤ length bytes → place + size < length states
     → moved ≡ shift (8 * (size - 4)) (get_or states (place + 4) 0)
-    → nat_eq (bit_xor (get_or states (place + size) 0) moved) (get_or bytes (place + 3) 0 * 256 + get_or bytes (place + 2) 0)
+    → nat_eq (bit_xor (get_or states (place + size) 0) moved)
+    (get_or bytes (place + 3) 0 * 256 + get_or bytes (place + 2) 0)
     ≡ has_right_crc (take size (drop place bytes))
 unfolding has_right_crc
 right_by bytes states are place size moved long inside reached moved_is =
     let xs : List ℕ = take (size - 4) (drop (place + 4) bytes) in
     let whole : 4 + (size - 4) ≡ size = omega arith in
     let body : drop 4 (take size (drop place bytes)) ≡ take (size - 4) (drop (place + 4) bytes) =
-    ap (λ n. drop 4 (take n (drop place bytes))) (sym whole) ∙ drop-take 4 (size - 4) (drop place bytes) ∙ ap (take (size - 4)) (drop-drop 4 place bytes) in
-    let count : length (take (size - 4) (drop (place + 4) bytes)) ≡ size - 4 = length-take-le (size - 4) (drop (place + 4) bytes) (omega (arith, length-drop (place + 4) bytes)) in
+    ap (λ n. drop 4 (take n (drop place bytes))) (sym whole)
+    ∙ drop-take 4 (size - 4) (drop place bytes) ∙ ap (take (size - 4)) (drop-drop 4 place bytes) in
+    let count : length (take (size - 4) (drop (place + 4) bytes)) ≡ size - 4 =
+    length-take-le (size - 4) (drop (place + 4) bytes)
+    (omega (arith, length-drop (place + 4) bytes)) in
     let end : place + 4 + (size - 4) ≡ place + size = omega arith in
-    let after : get_or states (place + size) 0 ≡ crc_from (get_or states (place + 4) 0) (take (size - 4) (drop (place + 4) bytes)) =
-    ap (λ n. get_or states n 0) (sym end) ∙ state_after bytes states are (place + 4) (size - 4) (omega arith) in
-    let sum : bit_xor (get_or states (place + size) 0) moved ≡ crc_from 0 (drop 4 (take size (drop place bytes))) =
+    let after : get_or states (place + size) 0
+    ≡ crc_from (get_or states (place + 4) 0) (take (size - 4) (drop (place + 4) bytes)) =
+    ap (λ n. get_or states n 0) (sym end)
+    ∙ state_after bytes states are (place + 4) (size - 4) (omega arith) in
+    let sum : bit_xor (get_or states (place + size) 0) moved
+    ≡ crc_from 0 (drop 4 (take size (drop place bytes))) =
     ap (λ n. bit_xor n moved) after
-    ∙ ap (bit_xor (crc_from (get_or states (place + 4) 0) (take (size - 4) (drop (place + 4) bytes)))) (moved_is ∙ ap (λ n. shift (8 * n) (get_or states (place + 4) 0)) (sym count))
-    ∙ sym (crc_of_part (get_or states (place + 4) 0) (take (size - 4) (drop (place + 4) bytes)) (state-lt bytes states are (place + 4) (omega arith)))
+    ∙ ap (bit_xor (crc_from (get_or states (place + 4) 0)
+    (take (size - 4) (drop (place + 4) bytes)))) (moved_is
+    ∙ ap (λ n. shift (8 * n) (get_or states (place + 4) 0)) (sym count))
+    ∙ sym (crc_of_part (get_or states (place + 4) 0) (take (size - 4) (drop (place + 4) bytes))
+    (state-lt bytes states are (place + 4) (omega arith)))
     ∙ ap (crc_from 0) (sym body) in
-    let third : get_or (take size (drop place bytes)) 3 0 ≡ get_or bytes (place + 3) 0 = get_or-take size (drop place bytes) 3 0 (omega arith) ∙ get_or-drop place bytes 3 0 in
-    let second : get_or (take size (drop place bytes)) 2 0 ≡ get_or bytes (place + 2) 0 = get_or-take size (drop place bytes) 2 0 (omega arith) ∙ get_or-drop place bytes 2 0 in
+    let third : get_or (take size (drop place bytes)) 3 0 ≡ get_or bytes (place + 3) 0 =
+    get_or-take size (drop place bytes) 3 0 (omega arith) ∙ get_or-drop place bytes 3 0 in
+    let second : get_or (take size (drop place bytes)) 2 0 ≡ get_or bytes (place + 2) 0 =
+    get_or-take size (drop place bytes) 2 0 (omega arith) ∙ get_or-drop place bytes 2 0 in
     ap (λ n. nat_eq n (get_or bytes (place + 3) 0 * 256 + get_or bytes (place + 2) 0)) sum
-    ∙ ap (λ n. nat_eq (crc_from 0 (drop 4 (take size (drop place bytes)))) (n * 256 + get_or bytes (place + 2) 0)) (sym third)
-    ∙ ap (λ n. nat_eq (crc_from 0 (drop 4 (take size (drop place bytes)))) (get_or (take size (drop place bytes)) 3 0 * 256 + n)) (sym second)
+    ∙ ap (λ n. nat_eq (crc_from 0 (drop 4 (take size (drop place bytes))))
+    (n * 256 + get_or bytes (place + 2) 0)) (sym third)
+    ∙ ap (λ n. nat_eq (crc_from 0 (drop 4 (take size (drop place bytes))))
+    (get_or (take size (drop place bytes)) 3 0 * 256 + n)) (sym second)

@@ -1,11 +1,13 @@
 -- The register by look-ups: its head goes through a table, and the rest moves without loss.
-use Rattle.std.proofs.Common.{◌≡◌, ℕ, ◌+◌, ◌*◌, ◌/◌, ◌%◌, ◌^◌, ◌<◌, ◌≤◌, List, [], ◌∷◌, length, refl, sym, ap, ◌∙◌, arith}
+use Rattle.std.proofs.Common.{◌≡◌, ℕ, ◌+◌, ◌*◌, ◌/◌, ◌%◌, ◌^◌, ◌<◌, ◌≤◌}
+use Rattle.std.proofs.Common.{refl, sym, ap, ◌∙◌, arith}
 use Rattle.std.proofs.lemmas.Nat.{xor_block, xor_lt, and_mask}
 use Rattle.std.specs.Int.Bits.{bit_and, bit_xor, xor_zero_r}
 use lib.Bits.{xor_shifted}
 use Rattle.sbf_frames.specs.Register.{generator}
-use Rattle.sbf_frames.specs.Register.{turned, shift, with_byte_of, crc_from}
-use Rattle.sbf_frames.proofs.RegisterLaws.{turned_small, shift-lt, shift-xor, shift-add, shift_small, crc_from-xor}
+use Rattle.sbf_frames.specs.Register.{turned, shift, with_byte_of}
+use Rattle.sbf_frames.proofs.RegisterLaws.{turned_small, shift-xor}
+use Rattle.sbf_frames.proofs.RegisterLaws.{shift_small}
 
 -- a sum of a byte at the head and a register
 head_sum : (r x : ℕ) → bit_xor r (x * 2 ^ 8) ≡ bit_xor (bit_xor (r / 2 ^ 8) x * 2 ^ 8) (r % 2 ^ 8)
@@ -25,13 +27,15 @@ head_fits h less = omega arith
 pub head_of : (r x : ℕ) → r < 2 ^ 16 → x < 2 ^ 8 → bit_xor (r / 2 ^ 8) x < 2 ^ 8
 head_of r x hr hx = xor_lt 8 (r / 2 ^ 8) x (omega arith) hx
 
-pub with_byte_split : (r x : ℕ) → r < 2 ^ 16 → x < 2 ^ 8 → with_byte_of r x ≡ bit_xor (shift 8 (bit_xor (r / 2 ^ 8) x * 2 ^ 8)) (r % 2 ^ 8 * 2 ^ 8)
+pub with_byte_split : (r x : ℕ) → r < 2 ^ 16 → x < 2 ^ 8
+    → with_byte_of r x ≡ bit_xor (shift 8 (bit_xor (r / 2 ^ 8) x * 2 ^ 8)) (r % 2 ^ 8 * 2 ^ 8)
 unfolding with_byte_of
 with_byte_split r x hr hx =
     let byte : x % 256 ≡ x = omega arith in
     let low : r % 2 ^ 8 < 2 ^ 8 = omega arith in
     ap (λ n. shift 8 (bit_xor r (n * 2 ^ 8))) byte ∙ ap (shift 8) (head_sum r x)
-    ∙ shift-xor 8 (bit_xor (r / 2 ^ 8) x * 2 ^ 8) (r % 2 ^ 8) (head_fits (bit_xor (r / 2 ^ 8) x) (head_of r x hr hx)) (omega arith)
+    ∙ shift-xor 8 (bit_xor (r / 2 ^ 8) x * 2 ^ 8) (r % 2 ^ 8)
+    (head_fits (bit_xor (r / 2 ^ 8) x) (head_of r x hr hx)) (omega arith)
     ∙ ap (bit_xor (shift 8 (bit_xor (r / 2 ^ 8) x * 2 ^ 8))) (shift_small 8 8 (r % 2 ^ 8) refl low)
 
 -- the low digits of a register by a mask, moved in 32 bits
@@ -40,9 +44,12 @@ low_moved r =
     let low : bit_and r 0xff ≡ r % 2 ^ 8 = and_mask r 8 in
     omega (arith, low)
 
-pub one_byte : (r x entry : ℕ) → r < 2 ^ 16 → x < 2 ^ 8 → entry ≡ shift 8 (bit_xor (r / 2 ^ 8) x * 2 ^ 8) → bit_xor entry (bit_and r 0xff * 2 ^ 8 % 2 ^ 32) ≡ with_byte_of r x
+pub one_byte : (r x entry : ℕ) → r < 2 ^ 16 → x < 2 ^ 8
+    → entry ≡ shift 8 (bit_xor (r / 2 ^ 8) x * 2 ^ 8)
+    → bit_xor entry (bit_and r 0xff * 2 ^ 8 % 2 ^ 32) ≡ with_byte_of r x
 one_byte r x entry hr hx is =
-    ap (λ n. bit_xor n (bit_and r 0xff * 2 ^ 8 % 2 ^ 32)) is ∙ ap (bit_xor (shift 8 (bit_xor (r / 2 ^ 8) x * 2 ^ 8))) (low_moved r)
+    ap (λ n. bit_xor n (bit_and r 0xff * 2 ^ 8 % 2 ^ 32)) is
+    ∙ ap (bit_xor (shift 8 (bit_xor (r / 2 ^ 8) x * 2 ^ 8))) (low_moved r)
     ∙ sym (with_byte_split r x hr hx)
 
 -- ---- the register moved on
@@ -53,7 +60,8 @@ one_place r less h =
     let whole : r * 2 % 2 ^ 32 ≡ r * 2 = omega arith in
     whole ∙ sym (turned_small r small)
 
-pub one_place_back : (r : ℕ) → 2 ^ 16 ≤ r * 2 % 2 ^ 32 → r < 2 ^ 16 → bit_xor (r * 2 % 2 ^ 32) generator ≡ turned r
+pub one_place_back : (r : ℕ) → 2 ^ 16 ≤ r * 2 % 2 ^ 32 → r < 2 ^ 16
+    → bit_xor (r * 2 % 2 ^ 32) generator ≡ turned r
 unfolding turned
 one_place_back r more h =
     let whole : r * 2 % 2 ^ 32 ≡ r * 2 = omega arith in

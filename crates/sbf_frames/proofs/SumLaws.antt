@@ -6,9 +6,11 @@ use Rattle.std.proofs.lemmas.Nat.{xor_comm, xor_block, pow_pos}
 pub swap_first : (a b c : ℕ) → bit_xor a (bit_xor b c) ≡ bit_xor b (bit_xor a c)
 swap_first a b c = sym (xor_assoc a b c) ∙ ap (λ x. bit_xor x c) (xor_comm a b) ∙ xor_assoc b a c
 
-pub regroup : (a b c d : ℕ) → bit_xor (bit_xor a b) (bit_xor c d) ≡ bit_xor (bit_xor a c) (bit_xor b d)
+pub regroup : (a b c d : ℕ) → bit_xor (bit_xor a b) (bit_xor c d)
+    ≡ bit_xor (bit_xor a c) (bit_xor b d)
 regroup a b c d =
-    xor_assoc a b (bit_xor c d) ∙ ap (bit_xor a) (swap_first b c d) ∙ sym (xor_assoc a c (bit_xor b d))
+    xor_assoc a b (bit_xor c d) ∙ ap (bit_xor a) (swap_first b c d)
+    ∙ sym (xor_assoc a c (bit_xor b d))
 
 pub cancel : (a b : ℕ) → bit_xor a (bit_xor a b) ≡ b
 cancel a b = sym (xor_assoc a a b) ∙ ap (λ x. bit_xor x b) (xor_self a) ∙ xor_zero_l b
@@ -22,7 +24,8 @@ xor-mul_pow k a b = sym (simp add-zero at (xor_block k a b 0 0 (pow_pos k) (pow_
 
 -- a sum of two single digits, times a polynomial
 pub digits-mul : (g s t : ℕ) → s < 2 → t < 2 → bit_xor s t * g ≡ bit_xor (s * g) (t * g)
-digits-mul g zero t hs ht = ap (λ x. x * g) (xor_zero_l t) ∙ sym (ap (λ x. bit_xor x (t * g)) zero_times ∙ xor_zero_l (t * g))
+digits-mul g zero t hs ht = ap (λ x. x * g) (xor_zero_l t)
+    ∙ sym (ap (λ x. bit_xor x (t * g)) zero_times ∙ xor_zero_l (t * g))
   where
     zero_times : 0 * g ≡ 0
     zero_times = omega arith

@@ -1,6 +1,8 @@
--- The blocks of SBF: $@, a CRC of two bytes, a number and a length of two bytes each, and the rest; the low byte of a
+-- The blocks of SBF: $@, a CRC of two bytes, a number and a length of two bytes each, and the rest;
+-- the low byte of a
 -- number comes first.
-use Rattle.std.specs.Prelude.{ℕ, ◌+◌, ◌-◌, ◌*◌, ◌%◌, ◌==◌, ◌&&◌, nat_le, Bool, if◌then◌else◌, List, length, drop, slice_index}
+use Rattle.std.specs.Prelude.{ℕ, ◌+◌, ◌*◌, ◌%◌, ◌==◌, ◌&&◌, nat_le, Bool, if◌then◌else◌, List}
+use Rattle.std.specs.Prelude.{drop, slice_index}
 use Rattle.framing.specs.Headings.{Heading}
 use Rattle.framing.specs.Syncs.{Sync, heading_by}
 use Rattle.sbf_frames.specs.Register.{crc_from}

@@ -1,5 +1,6 @@
 -- The form of SBF is a heading.
-use Rattle.std.proofs.Common.{◌≡◌, ℕ, ◌+◌, ◌*◌, ◌%◌, ◌<◌, ◌≤◌, nat_le, cond, List, ◌++◌, length, get_or, ap, ◌∙◌, arith}
+use Rattle.std.proofs.Common.{◌≡◌, ℕ, ◌+◌, ◌*◌, ◌%◌, ◌<◌, ◌≤◌, nat_le, cond, List, ◌++◌, length}
+use Rattle.std.proofs.Common.{get_or, ap, ◌∙◌, arith}
 use Rattle.std.proofs.lemmas.Bool.{cond_both, leb-true}
 use Rattle.std.proofs.lemmas.List.{get_or_append_left}
 use Rattle.framing.specs.Headings.{IsHeading}
@@ -16,8 +17,10 @@ pub sbf_is_sync : IsSync sbf_sync
 sbf_is_sync = record {
   two = omega arith;
   within = omega arith;
-  some = λ xs. cond_both (nat_le 8 (announced xs)) (announced xs) 8 (λ n. 0 < n) (λ e. omega (arith, leb-true _ _ e)) (λ _. omega arith);
-  most = λ xs. cond_both (nat_le 8 (announced xs)) (announced xs) 8 (λ n. n ≤ 65535) (λ _. omega arith) (λ _. omega arith);
+  some = λ xs. cond_both (nat_le 8 (announced xs)) (announced xs) 8 (λ n. 0 < n)
+      (λ e. omega (arith, leb-true _ _ e)) (λ _. omega arith);
+  most = λ xs. cond_both (nat_le 8 (announced xs)) (announced xs) 8 (λ n. n ≤ 65535)
+      (λ _. omega arith) (λ _. omega arith);
   size_front = λ xs ys h. ap (λ n. cond (nat_le 8 n) n 8) (announced-append xs ys h);
   fits_front = λ xs ys h. ap may_be (announced-append xs ys h);
 }

@@ -1,5 +1,7 @@
--- The CRC of 16 bits by a register that takes a message a byte at a time: x^16 + x^12 + x^5 + 1, start 0, no reflection,
--- no final change. A polynomial over the field of two elements is the number whose binary digits are its coefficients.
+-- The CRC of 16 bits by a register that takes a message a byte at a time: x^16 + x^12 + x^5 + 1,
+-- start 0, no reflection,
+-- no final change. A polynomial over the field of two elements is the number whose binary digits
+-- are its coefficients.
 use Rattle.std.specs.Prelude.{ℕ, zero, suc, ◌*◌, ◌/◌, ◌%◌, ◌^◌, List, [], ◌∷◌, bit_xor}
 
 -- x^16 + x^12 + x^5 + 1

@@ -1,5 +1,6 @@
 -- Registers beside bytes stay right where more bytes come.
-use Rattle.std.proofs.Common.{◌≡◌, ℕ, ◌+◌, ◌<◌, ◌≤◌, List, ◌++◌, length, get_or, sym, ap, ◌∙◌, arith, length-append}
+use Rattle.std.proofs.Common.{ℕ, List, ◌++◌, get_or, sym, ap, ◌∙◌}
+use Rattle.std.proofs.Common.{arith, length-append}
 use Rattle.std.proofs.lemmas.List.{get_or_append_left}
 use Rattle.sbf_frames.specs.Register.{with_byte_of}
 use Rattle.sbf_frames.specs.States.{AreStates}
@@ -10,5 +11,6 @@ states_stay xs ys states are = record {
   most = omega (arith, length-append xs ys, are.most);
   first = are.first;
   steps = λ i less.
-      are.steps i less ∙ ap (with_byte_of (get_or states i 0)) (sym (get_or_append_left xs ys 0 i (omega (arith, are.most))));
+      are.steps i less ∙ ap (with_byte_of (get_or states i 0))
+      (sym (get_or_append_left xs ys 0 i (omega (arith, are.most))));
 }

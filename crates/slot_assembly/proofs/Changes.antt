@@ -16,7 +16,7 @@ use Rattle.slot_assembly.specs.contracts.order.ByEndOrd.TheImpl.{cmp-value as en
 use Rattle.slot_assembly.specs.contracts.order.ByKeyOrd.TheImpl.{cmp-value as key_cmp}
 use Rattle.slot_assembly.specs.Order.{by_end, by_key, rank_of}
 use Rattle.slot_assembly.specs.Slots.{kept_at, slot_of, at_of, IsOpen, HasEnd, AreIndexed, IsChanged, IsFirstFrom, IsFirstOpen}
-use Rattle.period_items.proofs.Surface.{some_is}
+use Rattle.periods.proofs.Surface.{some_is}
 use Rattle.slot_assembly.proofs.RankOrder.{same_at, at_is, not_before, not_sooner}
 
 -- what is kept, where the map holds something else at a place

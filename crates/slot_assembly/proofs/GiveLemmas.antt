@@ -6,14 +6,14 @@ use Rattle.std.specs.Map.{keys_of}
 use Rattle.std.proofs.lemmas.Bool.{both_ways, cases_lt}
 use Rattle.nav_eph.specs.declared.items.NavItem.{NavItem}
 use Rattle.nav_eph.specs.declared.part.Part.{Part}
-use Rattle.period_items.specs.declared.key.Place.{Place}
-use Rattle.period_items.specs.declared.closed.Finding.{Finding}
-use Rattle.period_items.specs.DigestsOf.{digest_finding, verdict_of}
-use Rattle.period_items.specs.Periods.{IsPeriod, IsMember, IsBefore}
-use Rattle.period_items.specs.Verdicts.{IsFound, IsHealthBefore, IsHealthBehind, Repeats}
-use Rattle.period_items.proofs.Surface.{some_is, IsKeyValue, cases_place, period_key, all_values, before_irr, digest_finding-is, judged_by}
-use Rattle.issue_periods.specs.Standing.{Standing, IsAfter, IsNext, NoneDue, giving}
-use Rattle.issue_periods.proofs.Surface.{after_trans, NoneDue-give}
+use Rattle.periods.specs.declared.key.Place.{Place}
+use Rattle.periods.specs.declared.closed.Finding.{Finding}
+use Rattle.periods.specs.DigestsOf.{digest_finding, verdict_of}
+use Rattle.periods.specs.Periods.{IsPeriod, IsMember, IsBefore}
+use Rattle.periods.specs.Verdicts.{IsFound, IsHealthBefore, IsHealthBehind, Repeats}
+use Rattle.periods.proofs.Surface.{some_is, IsKeyValue, cases_place, period_key, all_values, before_irr, digest_finding-is, judged_by}
+use Rattle.slot_assembly.specs.Standing.{Standing, IsAfter, IsNext, NoneDue, giving}
+use Rattle.slot_assembly.proofs.Surface.{after_trans, NoneDue-give}
 use Rattle.slot_assembly.specs.declared.order.Rank.{Rank}
 use Rattle.slot_assembly.specs.declared.order.ByEnd.{ByEnd}
 use Rattle.slot_assembly.specs.declared.order.ByKey.{ByKey}
@@ -24,7 +24,7 @@ use Rattle.slot_assembly.specs.contracts.order.RankOrd.TheImpl.{cmp-value as ran
 use Rattle.slot_assembly.specs.Order.{by_end, rank_of}
 use Rattle.slot_assembly.specs.Slots.{kept_at, at_of, slot_place, IsOpen, AreIndexed, IsChanged, IsFirstDue}
 use Rattle.slot_assembly.specs.Healths.{IsChosen}
-use Rattle.slot_assembly.specs.Standing.{SlotsState, SlotsStandFor, AreSlots, IsRemembered, item_to_keep, known_for}
+use Rattle.slot_assembly.specs.SlotStanding.{SlotsState, SlotsStandFor, AreSlots, IsRemembered, item_to_keep, known_for}
 use Rattle.slot_assembly.proofs.Changes.{left_open}
 use Rattle.slot_assembly.proofs.RankOrder.{at_is, is_at_own}
 use Rattle.slot_assembly.proofs.HealthChanges.{Health}

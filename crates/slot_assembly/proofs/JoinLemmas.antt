@@ -2,20 +2,20 @@
 use Rattle.std.proofs.Common.{◌≡◌, ℕ, ◌+◌, ◌<◌, ◌≤◌, ◌⊎◌, inl, inr, List, Option, None, Some, IsSome, refl, sym, ap, subst, ◌∙◌, arith}
 use Rattle.std.proofs.lemmas.Bool.{cases_lt}
 use Rattle.nav_eph.specs.declared.part.Part.{Part}
-use Rattle.period_laws.proofs.Surface.{IsKnown}
-use Rattle.period_items.specs.declared.key.Key.{Key}
-use Rattle.period_items.specs.declared.key.Place.{Place}
-use Rattle.period_items.specs.Parts.{key_of}
-use Rattle.period_items.specs.Periods.{IsHeardAt, IsPeriod}
-use Rattle.period_items.specs.Touching.{IsTouched}
-use Rattle.period_items.proofs.Surface.{some_is, IsKeyValue, IsWithPart, two_at_most}
-use Rattle.issue_periods.specs.Standing.{IsAfter}
+use Rattle.periods.proofs.EndSurface.{IsKnown}
+use Rattle.periods.specs.declared.key.Key.{Key}
+use Rattle.periods.specs.declared.key.Place.{Place}
+use Rattle.periods.specs.Parts.{key_of}
+use Rattle.periods.specs.Periods.{IsHeardAt, IsPeriod}
+use Rattle.periods.specs.Touching.{IsTouched}
+use Rattle.periods.proofs.Surface.{some_is, IsKeyValue, IsWithPart, two_at_most}
+use Rattle.slot_assembly.specs.Standing.{IsAfter}
 use Rattle.slot_assembly.specs.declared.order.ByEnd.{ByEnd}
 use Rattle.slot_assembly.specs.declared.slot.Slot.{Slot}
 use Rattle.slot_assembly.specs.declared.slot.PackedSlot.{PackedSlot}
 use Rattle.slot_assembly.specs.Order.{rank_of, by_end}
 use Rattle.slot_assembly.specs.Slots.{kept_at, at_of, slot_place, IsOpen, IsFirstSlot, IsFirstTouched, IsSecondTouched, IsTaken}
-use Rattle.slot_assembly.specs.Standing.{AreSlots}
+use Rattle.slot_assembly.specs.SlotStanding.{AreSlots}
 use Rattle.slot_assembly.proofs.RankOrder.{one_rank, at_rank}
 use Rattle.slot_assembly.proofs.TakeLemmas.{touched_near, near_touched, slots_apart, starts_by}
 

@@ -10,18 +10,18 @@ use Rattle.nav_eph.specs.declared.part.Body.{Body}
 use Rattle.nav_eph.specs.declared.part.Body.TheVariants.{GalHealth as OfHealth}
 use Rattle.nav_eph.specs.declared.part.Part.{Part}
 use Rattle.nav_eph.proofs.Surface.{one_health}
-use Rattle.period_items.specs.declared.key.Key.{Key}
-use Rattle.period_items.specs.declared.key.Key.TheVariants.{Gps, Gal, GpsIon, GalIon}
-use Rattle.period_items.specs.Digests.{IsBestHealth}
-use Rattle.period_items.specs.Parts.{key_in, key_of, health_in, health_of, health_numbers, same_sat}
-use Rattle.period_items.specs.Values.{HasValue, IsBest, IsEarlier, IsLater}
-use Rattle.period_items.specs.Verdicts.{IsUpToEnd, IsBehindEnd, IsHealthBefore, IsHealthBehind}
-use Rattle.period_items.proofs.Surface.{some_is, none_some, same_sat-is, is-same_sat, health_stamp, IsHealthValue, health_value, best_health, IsWithPart}
+use Rattle.periods.specs.declared.key.Key.{Key}
+use Rattle.periods.specs.declared.key.Key.TheVariants.{Gps, Gal, GpsIon, GalIon}
+use Rattle.periods.specs.Digests.{IsBestHealth}
+use Rattle.periods.specs.Parts.{key_in, key_of, health_in, health_of, health_numbers, same_sat}
+use Rattle.periods.specs.Values.{HasValue, IsBest, IsEarlier, IsLater}
+use Rattle.periods.specs.Verdicts.{IsUpToEnd, IsBehindEnd, IsHealthBefore, IsHealthBehind}
+use Rattle.periods.proofs.Surface.{some_is, none_some, same_sat-is, is-same_sat, health_stamp, IsHealthValue, health_value, best_health, IsWithPart}
 use Rattle.slot_assembly.specs.declared.order.BySat.{BySat}
 use Rattle.slot_assembly.specs.contracts.order.BySatOrd.TheImpl.{cmp-value as sat_cmp}
 use Rattle.slot_assembly.specs.Order.{by_sat, place_of_health, is_of_sat}
 use Rattle.slot_assembly.specs.Healths.{heard_at, IsSameHealth, IsHeardChanged, IsSaid, IsForgotten, IsLastBelow, IsFirstAbove, near_up, near_behind, IsLooked, IsChosen}
-use Rattle.slot_assembly.specs.Standing.{AreKept}
+use Rattle.slot_assembly.specs.SlotStanding.{AreKept}
 use Rattle.slot_assembly.proofs.SatOrder.{heard_is, is_heard_own, sat_squeezed, stamps_le, stamps_ge, below_next, next_below, next_above, above_next, lt_le, not_lt_le, le_not_below}
 use Rattle.slot_assembly.proofs.HealthChanges.{Health, HeardList}
 

@@ -5,23 +5,23 @@ use Rattle.std.proofs.lemmas.Bool.{both_ways, cases_lt}
 use Rattle.nav_eph.specs.Values.{IsPartValue}
 use Rattle.nav_eph.specs.declared.items.NavItem.{NavItem}
 use Rattle.nav_eph.specs.declared.part.Part.{Part}
-use Rattle.period_items.specs.declared.key.Key.{Key}
-use Rattle.period_items.specs.declared.key.Key.TheVariants.{Gps, Gal, GpsIon, GalIon}
-use Rattle.period_items.specs.declared.key.Place.{Place}
-use Rattle.period_items.specs.declared.closed.Finding.{Finding}
-use Rattle.period_items.specs.declared.closed.Finding.TheVariants.{Differs, Misses, LacksHealth, Complete}
-use Rattle.period_items.specs.DigestsOf.{item_of}
-use Rattle.period_items.specs.Periods.{IsPeriod, IsBefore}
-use Rattle.period_items.specs.PeriodsOf.{end_place}
-use Rattle.period_items.specs.Verdicts.{IsOfEphemeris, IsComplete, IsFound, Repeats}
-use Rattle.period_items.proofs.Surface.{some_is, none_some, IsKeyValue, cases_place, before_irr, before_end, period_key, AreLater, IsComplete-keeps, IsComplete-was, IsFound-one, IsKnownBefore, Compares, compares_known}
-use Rattle.issue_periods.specs.Given.{GivenBelow}
-use Rattle.issue_periods.specs.Standing.{IsAfter, IsDue}
-use Rattle.issue_periods.proofs.Surface.{after_low, after_trans}
+use Rattle.periods.specs.declared.key.Key.{Key}
+use Rattle.periods.specs.declared.key.Key.TheVariants.{Gps, Gal, GpsIon, GalIon}
+use Rattle.periods.specs.declared.key.Place.{Place}
+use Rattle.periods.specs.declared.closed.Finding.{Finding}
+use Rattle.periods.specs.declared.closed.Finding.TheVariants.{Differs, Misses, LacksHealth, Complete}
+use Rattle.periods.specs.DigestsOf.{item_of}
+use Rattle.periods.specs.Periods.{IsPeriod, IsBefore}
+use Rattle.periods.specs.PeriodsOf.{end_place}
+use Rattle.periods.specs.Verdicts.{IsOfEphemeris, IsComplete, IsFound, Repeats}
+use Rattle.periods.proofs.Surface.{some_is, none_some, IsKeyValue, cases_place, before_irr, before_end, period_key, AreLater, IsComplete-keeps, IsComplete-was, IsFound-one, IsKnownBefore, Compares, compares_known}
+use Rattle.slot_assembly.specs.Given.{GivenBelow}
+use Rattle.slot_assembly.specs.Standing.{IsAfter, IsDue}
+use Rattle.slot_assembly.proofs.Surface.{after_low, after_trans}
 use Rattle.slot_assembly.specs.declared.order.Rank.{Rank}
 use Rattle.slot_assembly.specs.contracts.order.RankOrd.TheImpl.{cmp-value as rank_cmp}
 use Rattle.slot_assembly.specs.Order.{rank_of}
-use Rattle.slot_assembly.specs.Standing.{known_at, known_for, item_to_keep, AreSameItems, IsRemembered, IsGiven, IsLastGiven, IsKnownGiven, AreKnown}
+use Rattle.slot_assembly.specs.SlotStanding.{known_at, known_for, item_to_keep, AreSameItems, IsRemembered, IsGiven, IsLastGiven, IsKnownGiven, AreKnown}
 use Rattle.slot_assembly.proofs.RankOrder.{one_rank}
 
 abbrev Items : Type 0

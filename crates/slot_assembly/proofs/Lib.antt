@@ -1,3 +1,6 @@
+mod GivenLemmas
+mod SettleLemmas
+pub mod Surface
 mod RankOrder
 mod Changes
 mod SatOrder

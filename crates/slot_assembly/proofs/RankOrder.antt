@@ -8,12 +8,12 @@ use Rattle.std.specs.declared.ops.Bound.TheVariants.{Included, Unbounded}
 use Rattle.std.proofs.lemmas.Bool.{both_ways, cases_lt}
 use Rattle.std.proofs.lemmas.Bool.Decides.{nat_tests}
 use Rattle.std.specs.BTreeMap.Range.{IsLeBy}
-use Rattle.period_items.specs.declared.key.Key.{Key}
-use Rattle.period_items.specs.declared.key.Key.TheVariants.{Gps, Gal, GpsIon, GalIon}
-use Rattle.period_items.specs.declared.key.Place.{Place}
-use Rattle.period_items.proofs.Surface.{IsKeyValue, same_place, before_irr}
-use Rattle.period_items.specs.Periods.{IsBefore, key_numbers}
-use Rattle.period_items.specs.Values.{IsBelow}
+use Rattle.periods.specs.declared.key.Key.{Key}
+use Rattle.periods.specs.declared.key.Key.TheVariants.{Gps, Gal, GpsIon, GalIon}
+use Rattle.periods.specs.declared.key.Place.{Place}
+use Rattle.periods.proofs.Surface.{IsKeyValue, same_place, before_irr}
+use Rattle.periods.specs.Periods.{IsBefore, key_numbers}
+use Rattle.periods.specs.Values.{IsBelow}
 use Rattle.slot_assembly.specs.declared.slot.Slot.{Slot}
 use Rattle.slot_assembly.specs.declared.order.Rank.{Rank}
 use Rattle.slot_assembly.specs.declared.order.ByEnd.{ByEnd}

@@ -7,7 +7,7 @@ use Rattle.std.specs.BTreeMap.Range.{IsLeBy, IsLtBy}
 use Rattle.nav_eph.specs.Satellite.{Satellite}
 use Rattle.nav_eph.specs.declared.galileo.GalHealth.{GalHealth}
 use Rattle.nav_eph.specs.declared.tag.SentTag.{SentTag}
-use Rattle.period_items.specs.Values.{IsBelow}
+use Rattle.periods.specs.Values.{IsBelow}
 use Rattle.slot_assembly.specs.declared.order.BySat.{BySat}
 use Rattle.slot_assembly.specs.declared.order.ByStamp.{ByStamp}
 use Rattle.slot_assembly.specs.contracts.order.BySatOrd.TheImpl.{cmp-value as sat_cmp}

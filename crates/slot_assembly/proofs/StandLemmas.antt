@@ -6,14 +6,14 @@ use Rattle.std.proofs.lemmas.List.Elements.{All-push}
 use Rattle.nav_eph.specs.Values.{IsPartValue}
 use Rattle.nav_eph.specs.declared.items.NavItem.{NavItem}
 use Rattle.nav_eph.specs.declared.part.Part.{Part}
-use Rattle.period_laws.proofs.Surface.{Same, IsEnd-same, IsEndOf-same}
-use Rattle.period_items.specs.declared.key.Key.{Key}
-use Rattle.period_items.specs.declared.key.Place.{Place}
-use Rattle.period_items.specs.Parts.{key_of, health_in}
-use Rattle.period_items.specs.Periods.{IsHeardAt, IsMember}
-use Rattle.period_items.proofs.Surface.{none_some, key_value, period_key, all_values, IsDigest-same, known_parts, with_part, joined_part, later_part, IsWithPart}
-use Rattle.issue_periods.specs.Standing.{Standing, NoneDue, taking, reaching}
-use Rattle.issue_periods.proofs.Surface.{after_low, below_rise, NoneDue-take}
+use Rattle.periods.proofs.EndSurface.{Same, IsEnd-same, IsEndOf-same}
+use Rattle.periods.specs.declared.key.Key.{Key}
+use Rattle.periods.specs.declared.key.Place.{Place}
+use Rattle.periods.specs.Parts.{key_of, health_in}
+use Rattle.periods.specs.Periods.{IsHeardAt, IsMember}
+use Rattle.periods.proofs.Surface.{none_some, key_value, period_key, all_values, IsDigest-same, known_parts, with_part, joined_part, later_part, IsWithPart}
+use Rattle.slot_assembly.specs.Standing.{Standing, NoneDue, taking, reaching}
+use Rattle.slot_assembly.proofs.Surface.{after_low, below_rise, NoneDue-take}
 use Rattle.slot_assembly.specs.declared.order.Rank.{Rank}
 use Rattle.slot_assembly.specs.declared.order.ByEnd.{ByEnd}
 use Rattle.slot_assembly.specs.declared.order.ByKey.{ByKey}
@@ -23,7 +23,7 @@ use Rattle.slot_assembly.specs.declared.slot.PackedSlot.{PackedSlot}
 use Rattle.slot_assembly.specs.contracts.order.RankOrd.TheImpl.{cmp-value as rank_cmp}
 use Rattle.slot_assembly.specs.Slots.{at_of, slot_place, AreIndexed, IsOneSlot, IsTaken, AreSameSlots, IsFirstDue}
 use Rattle.slot_assembly.specs.Healths.{AreStamped, IsSameHealth, IsHeard, IsForgotten}
-use Rattle.slot_assembly.specs.Standing.{SlotsState, SlotsStandFor, AreSlots, AreKept, AreKnown, AreSameItems}
+use Rattle.slot_assembly.specs.SlotStanding.{SlotsState, SlotsStandFor, AreSlots, AreKept, AreKnown, AreSameItems}
 use Rattle.slot_assembly.proofs.StepLemmas.{slots_taken}
 use Rattle.slot_assembly.proofs.KeptLemmas.{kept_keyed, kept_said, kept_forgotten}
 use Rattle.slot_assembly.proofs.HealthChanges.{HeardList}

@@ -3,20 +3,20 @@ use Rattle.std.proofs.Common.{◌≡◌, ℕ, ◌≤◌, ◌⊎◌, inl, inr, Bo
 use Rattle.std.specs.BTreeMap.{is_at}
 use Rattle.std.proofs.lemmas.Bool.{both_ways}
 use Rattle.nav_eph.specs.declared.part.Part.{Part}
-use Rattle.period_laws.proofs.Surface.{Same}
-use Rattle.period_items.specs.declared.key.Key.{Key}
-use Rattle.period_items.specs.declared.key.Place.{Place}
-use Rattle.period_items.specs.Periods.{IsPeriod, IsMember}
-use Rattle.period_items.specs.Touching.{IsTouched, IsJoined, Stays}
-use Rattle.period_items.proofs.Surface.{some_is, IsKeyValue, IsDigest-same, rest_stays}
-use Rattle.issue_periods.specs.Standing.{IsAfter}
+use Rattle.periods.proofs.EndSurface.{Same}
+use Rattle.periods.specs.declared.key.Key.{Key}
+use Rattle.periods.specs.declared.key.Place.{Place}
+use Rattle.periods.specs.Periods.{IsPeriod, IsMember}
+use Rattle.periods.specs.Touching.{IsTouched, IsJoined, Stays}
+use Rattle.periods.proofs.Surface.{some_is, IsKeyValue, IsDigest-same, rest_stays}
+use Rattle.slot_assembly.specs.Standing.{IsAfter}
 use Rattle.slot_assembly.specs.declared.order.ByEnd.{ByEnd}
 use Rattle.slot_assembly.specs.declared.slot.Slot.{Slot}
 use Rattle.slot_assembly.specs.declared.slot.PackedSlot.{PackedSlot}
 use Rattle.slot_assembly.specs.contracts.order.ByEndOrd.TheImpl.{cmp-value as end_cmp}
 use Rattle.slot_assembly.specs.Order.{rank_of, by_end}
 use Rattle.slot_assembly.specs.Slots.{kept_at, at_of, slot_place, slot_with, IsOpen, IsOneSlot, IsChanged, IsGoneUnless, IsWithout, IsReplaced, IsTaken}
-use Rattle.slot_assembly.specs.Standing.{IsSlot, AreSlots}
+use Rattle.slot_assembly.specs.SlotStanding.{IsSlot, AreSlots}
 use Rattle.slot_assembly.proofs.RankOrder.{at_is, is_at_own, one_rank, at_rank}
 use Rattle.slot_assembly.proofs.Changes.{left_open}
 use Rattle.slot_assembly.proofs.TakeLemmas.{Sums, sums_same, sums_one, sums_with, sums_slot, sums_end}

@@ -2,18 +2,18 @@
 use Rattle.std.proofs.Common.{◌≡◌, ℕ, ◌+◌, ◌<◌, ◌≤◌, inl, inr, Option, Some, min, max, refl, sym, ap, subst, arith}
 use Rattle.std.proofs.lemmas.Bool.{cases_lt}
 use Rattle.nav_eph.specs.declared.part.Part.{Part}
-use Rattle.period_laws.specs.Ends.{IsEndOf}
-use Rattle.period_laws.proofs.Surface.{Same, IsKnown, own_end, bridge}
-use Rattle.period_items.specs.declared.key.Key.{Key}
-use Rattle.period_items.specs.declared.key.Place.{Place}
-use Rattle.period_items.specs.Digests.{IsDigest}
-use Rattle.period_items.specs.Parts.{key_of}
-use Rattle.period_items.specs.Periods.{IsHeardAt, IsPeriod, IsMember}
-use Rattle.period_items.specs.Touching.{IsTouched}
-use Rattle.period_items.proofs.Surface.{IsUnion, digest_of-is, digest_join-is, IsDigest-same}
+use Rattle.periods.specs.Ends.{IsEndOf}
+use Rattle.periods.proofs.EndSurface.{Same, IsKnown, own_end, bridge}
+use Rattle.periods.specs.declared.key.Key.{Key}
+use Rattle.periods.specs.declared.key.Place.{Place}
+use Rattle.periods.specs.Digests.{IsDigest}
+use Rattle.periods.specs.Parts.{key_of}
+use Rattle.periods.specs.Periods.{IsHeardAt, IsPeriod, IsMember}
+use Rattle.periods.specs.Touching.{IsTouched}
+use Rattle.periods.proofs.Surface.{IsUnion, digest_of-is, digest_join-is, IsDigest-same}
 use Rattle.slot_assembly.specs.declared.slot.Slot.{Slot}
 use Rattle.slot_assembly.specs.Slots.{slot_place, slot_with, IsOneSlot}
-use Rattle.slot_assembly.specs.Standing.{IsSlot}
+use Rattle.slot_assembly.specs.SlotStanding.{IsSlot}
 
 -- what the members of a set come to: the least and the greatest stamp, and their digest
 pub record Sums (key : Key) (members : Part → Type 0) (s : Slot) : Type 0 where

@@ -1,6 +1,8 @@
+pub mod Standing
+pub mod Given
 pub mod Order
 pub mod Slots
 pub mod Joins
 pub mod Healths
-pub mod Standing
-pub mod StandingLaws
+pub mod SlotStanding
+pub mod SlotLaws

@@ -4,8 +4,8 @@ use Rattle.nav_eph.specs.Satellite.{Satellite, place_of}
 use Rattle.nav_eph.specs.Numbers.{gps_ion_number, gal_ion_number, health_number}
 use Rattle.nav_eph.specs.declared.galileo.GalHealth.{GalHealth}
 use Rattle.nav_eph.specs.declared.tag.SentTag.{SentTag}
-use Rattle.period_items.specs.declared.key.Key.{Key}
-use Rattle.period_items.specs.declared.key.Key.TheVariants.{Gps, Gal, GpsIon, GalIon}
+use Rattle.periods.specs.declared.key.Key.{Key}
+use Rattle.periods.specs.declared.key.Key.TheVariants.{Gps, Gal, GpsIon, GalIon}
 use Rattle.slot_assembly.specs.declared.order.Rank.{Rank}
 use Rattle.slot_assembly.specs.declared.order.ByEnd.{ByEnd}
 use Rattle.slot_assembly.specs.declared.order.ByKey.{ByKey}

@@ -6,17 +6,17 @@ use Rattle.std.specs.List.Sorted.{IsStrictlySortedBy}
 use Rattle.std.specs.BTreeMap.{is_at}
 use Rattle.std.specs.Map.{keys_of, lookup}
 use Rattle.nav_eph.specs.declared.part.Part.{Part}
-use Rattle.period_items.specs.declared.key.Place.{Place}
-use Rattle.period_items.specs.Parts.{key_of}
-use Rattle.period_items.specs.Periods.{IsBefore}
-use Rattle.period_items.specs.DigestsOf.{digest_of, digest_join}
+use Rattle.periods.specs.declared.key.Place.{Place}
+use Rattle.periods.specs.Parts.{key_of}
+use Rattle.periods.specs.Periods.{IsBefore}
+use Rattle.periods.specs.DigestsOf.{digest_of, digest_join}
 use Rattle.slot_assembly.specs.declared.order.Rank.{Rank}
 use Rattle.slot_assembly.specs.declared.order.ByEnd.{ByEnd}
 use Rattle.slot_assembly.specs.declared.order.ByKey.{ByKey}
 use Rattle.slot_assembly.specs.declared.slot.Slot.{Slot}
 use Rattle.slot_assembly.specs.declared.slot.PackedSlot.{PackedSlot}
 use Rattle.slot_assembly.specs.declared.slot.PackedSlot.TheVariants.{Ephemeris, Ionosphere}
-use Rattle.period_items.specs.declared.digest.Digest.TheVariants.{Ion as IonForm}
+use Rattle.periods.specs.declared.digest.Digest.TheVariants.{Ion as IonForm}
 use Rattle.slot_assembly.specs.contracts.order.ByEndOrd.TheImpl.{cmp-value as end_cmp}
 use Rattle.slot_assembly.specs.contracts.order.ByKeyOrd.TheImpl.{cmp-value as key_cmp}
 use Rattle.slot_assembly.specs.Order.{rank_of, by_end, by_key}

@@ -1,144 +1,75 @@
--- What the assembly in slots keeps, and what it stands for.
-use Rattle.std.specs.Prelude.{◌≡◌, ℕ, ◌+◌, ◌*◌, ◌≤◌, cond, List, length, Option, None, Some, IsSome, All, Contains}
-use Rattle.std.specs.List.Sorted.{IsStrictlySortedBy}
-use Rattle.std.specs.BTreeMap.{is_at}
-use Rattle.std.specs.Map.{keys_of, lookup}
-use Rattle.nav_eph.specs.Satellite.{Satellite}
-use Rattle.nav_eph.specs.Values.{IsPartValue}
-use Rattle.nav_eph.specs.declared.galileo.GalHealth.{GalHealth}
-use Rattle.nav_eph.specs.declared.tag.SentTag.{SentTag}
-use Rattle.nav_eph.specs.declared.items.NavItem.{NavItem}
+-- What an assembly stands for, and what it gives next.
+use Rattle.std.specs.Prelude.{ℕ, ◌+◌, ◌<◌, List, [], ◌∷◌, ◌++◌, Option, None, Some}
 use Rattle.nav_eph.specs.declared.part.Part.{Part}
-use Rattle.period_items.specs.declared.key.Key.{Key}
-use Rattle.period_items.specs.declared.key.Key.TheVariants.{Gps, Gal, GpsIon, GalIon}
-use Rattle.period_items.specs.declared.key.Place.{Place}
-use Rattle.period_items.specs.declared.closed.Finding.{Finding}
-use Rattle.period_items.specs.Digests.{IsDigest}
-use Rattle.period_items.specs.DigestsOf.{item_of}
-use Rattle.period_items.specs.Parts.{health_of}
-use Rattle.period_items.specs.Periods.{IsPeriod, IsMember}
-use Rattle.period_items.specs.PeriodsOf.{end_place}
-use Rattle.period_items.specs.Values.{HasValue}
-use Rattle.period_items.specs.Verdicts.{IsOfEphemeris, IsComplete}
-use Rattle.issue_periods.specs.Given.{GivenBelow}
-use Rattle.issue_periods.specs.Standing.{Standing, IsAfter, NoneDue}
-use Rattle.slot_assembly.specs.declared.order.Rank.{Rank}
-use Rattle.slot_assembly.specs.declared.order.ByEnd.{ByEnd}
-use Rattle.slot_assembly.specs.declared.order.ByKey.{ByKey}
-use Rattle.slot_assembly.specs.declared.order.BySat.{BySat}
-use Rattle.slot_assembly.specs.declared.order.ByStamp.{ByStamp}
-use Rattle.slot_assembly.specs.declared.slot.Slot.{Slot}
-use Rattle.slot_assembly.specs.declared.slot.PackedSlot.{PackedSlot}
-use Rattle.slot_assembly.specs.contracts.order.RankOrd.TheImpl.{cmp-value as rank_cmp}
-use Rattle.slot_assembly.specs.Order.{rank_of, place_of_health}
-use Rattle.slot_assembly.specs.Slots.{IsOpen, slot_place, AreIndexed}
-use Rattle.slot_assembly.specs.Healths.{heard_at, AreStamped}
+use Rattle.periods.specs.declared.key.Place.{Place}
+use Rattle.periods.specs.declared.closed.Closed.{Closed}
+use Rattle.periods.specs.Periods.{IsPeriod, IsBefore}
+use Rattle.periods.specs.Verdicts.{IsClosed, closed_place}
 
--- the item of a finding that is compared with later ones: that of a complete ephemeris
-abbrev pub item_to_keep : Key → Finding → Option NavItem
-item_to_keep (Gps sat issue) finding = item_of finding
-item_to_keep (Gal sat issue) finding = item_of finding
-item_to_keep (GpsIon content) finding = None
-item_to_keep (GalIon content) finding = None
-
--- what contracts see of the assembly: all that it keeps
-pub record SlotsState : Type 0 where
-  -- the week near which it listens
-  pub reference : ℕ
-  -- how long after a part another one of its key may belong to the same period
-  pub window : ℕ
-  -- the slots, each at its place in the order of periods
-  pub slots : List (ByEnd × PackedSlot)
-  -- the places of the slots, by key
-  pub ends : List ByKey
-  -- the health, each at its place by satellite
-  pub heard : List (BySat × (ℕ × GalHealth × SentTag))
-  -- the places of the health, by stamp
-  pub stamps : List ByStamp
-  -- the greatest mark given
+-- the parts taken, the greatest mark given, and the last period given
+pub record Standing : Type 0 where
+  pub parts : List Part
   pub mark : ℕ
-  -- the last period given
   pub last : Option Place
-  -- the greatest mark at which there was none to give
-  pub none_at : ℕ
-  -- the item of the last complete period given, of each ephemeris
-  pub known : List (Rank × NavItem)
 
--- the slot is that of an open period: its key and its end, the stamp of its first member, and what its members come to
-pub record IsSlot (window : ℕ) (parts : Part → Type 0) (last : Option Place) (slot : Slot) : Type 0 where
-  pub period : IsPeriod window parts (slot_place slot)
-  pub after : IsAfter last (slot_place slot)
-  pub starts : (p : Part) × IsMember window parts (slot_place slot) p × (p.stamp ≡ slot.start)
-  pub start : (p : Part) → IsMember window parts (slot_place slot) p → slot.start ≤ p.stamp
-  pub digest : IsDigest slot.key (IsMember window parts (slot_place slot)) slot.digest
+-- there is something that it stands for, and that has this property
+abbrev pub Stood : (Standing → Type 0) → (Standing → Type 0) → Type 0
+Stood now property = (at : Standing) × now at × property at
 
--- exactly one slot for each period behind the last one given
-pub record AreSlots (window : ℕ) (parts : Part → Type 0) (last : Option Place) (slots : List (ByEnd × PackedSlot)) : Type 0 where
-  pub each : (s : Slot) → IsOpen slots s → IsSlot window parts last s
-  pub every : (q : Place) → IsPeriod window parts q → IsAfter last q → (s : Slot) × IsOpen slots s × (slot_place s ≡ q)
+-- all that it stands for has this property
+abbrev pub Tells : (Standing → Type 0) → (Standing → Type 0) → Type 0
+Tells now property = (at : Standing) → now at → property at
 
--- exactly the health whose stamp and two windows reach the mark
-pub record AreKept (window mark : ℕ) (parts : Part → Type 0) (heard : List (BySat × (ℕ × GalHealth × SentTag))) : Type 0 where
-  pub was_heard : (x : BySat) (h : ℕ × GalHealth × SentTag) → heard_at heard x ≡ Some h → (sat : Satellite) × HasValue (health_of sat) parts h × (x ≡ place_of_health sat h)
-  pub recent : (x : BySat) → IsSome (heard_at heard x) → mark ≤ x.stamp + 2 * window
-  pub every : (sat : Satellite) (h : ℕ × GalHealth × SentTag) → HasValue (health_of sat) parts h → mark ≤ h.0 + 2 * window → heard_at heard (place_of_health sat h) ≡ Some h
+-- a call that makes this change: if the assembly stood for some parts, mark and last period before the call, it stands for the changed
+-- ones after it
+abbrev pub Carries : (Standing → Type 0) → (Standing → Type 0) → (Standing → Standing) → Type 0
+Carries old new change = (at : Standing) → old at → new (change at)
 
--- the item that is kept for a key
-abbrev pub known_at : List (Rank × NavItem) → Rank → Option NavItem
-known_at known r = lookup (is_at (rank_cmp.it r)) known
+-- nothing yet
+abbrev pub nothing_yet : Standing
+nothing_yet = record { parts = []; mark = 0; last = None }
 
--- the item with which one of the key is compared
-abbrev pub known_for : Key → List (Rank × NavItem) → Option NavItem
-known_for (Gps sat issue) known = known_at known (rank_of (Gps sat issue))
-known_for (Gal sat issue) known = known_at known (rank_of (Gal sat issue))
-known_for (GpsIon content) known = None
-known_for (GalIon content) known = None
+-- the same
+abbrev pub unchanged : Standing → Standing
+unchanged at = at
 
-abbrev pub AreSameItems : List (Rank × NavItem) → List (Rank × NavItem) → Type 0
-AreSameItems old new = (x : Rank) → known_at new x ≡ known_at old x
+-- with one part more
+abbrev pub taking : Part → Standing → Standing
+taking part at = record { parts = at.parts ++ part ∷ []; mark = at.mark; last = at.last }
 
--- the item is kept in the place of the one before
-abbrev pub IsRemembered : List (Rank × NavItem) → Rank → Option NavItem → List (Rank × NavItem) → Type 0
-IsRemembered old r None new = AreSameItems old new
-IsRemembered old r (Some item) new = (x : Rank) → known_at new x ≡ cond (is_at (rank_cmp.it r) x) (Some item) (known_at old x)
+-- with these parts more, in this order
+abbrev pub adding : List Part → Standing → Standing
+adding parts at = record { parts = at.parts ++ parts; mark = at.mark; last = at.last }
 
--- the period was given
-abbrev pub IsGiven : Option Place → Place → Type 0
-IsGiven last place = IsAfter last place → ⊥
+-- with other parts in their place
+abbrev pub with_parts : List Part → Standing → Standing
+with_parts parts at = record { parts = parts; mark = at.mark; last = at.last }
 
--- of the key's complete periods given, the item of the last
-pub record IsLastGiven (r window : ℕ) (parts : Part → Type 0) (last : Option Place) (key : Key) (item : NavItem) : Type 0 where
-  pub ephemeris : IsOfEphemeris key
-  pub at : ℕ
-  pub complete : IsComplete r window parts key at item
-  pub given : IsGiven last (end_place key at)
-  pub greatest : (f : ℕ) (other : NavItem) → IsComplete r window parts key f other → IsGiven last (end_place key f) → f ≤ at
+-- at a mark
+abbrev pub reaching : ℕ → Standing → Standing
+reaching mark at = record { parts = at.parts; mark = mark; last = at.last }
 
--- that item or, where the key is of an ephemeris, that no complete period of it was given
-abbrev pub IsKnownGiven : ℕ → ℕ → (Part → Type 0) → Option Place → Key → Option NavItem → Type 0
-IsKnownGiven r window parts last key None = IsOfEphemeris key → (f : ℕ) (item : NavItem) → IsComplete r window parts key f item → IsGiven last (end_place key f) → ⊥
-IsKnownGiven r window parts last key (Some item) = IsLastGiven r window parts last key item
+-- at a mark, with a period given
+abbrev pub giving : ℕ → Place → Standing → Standing
+giving mark place at = record { parts = at.parts; mark = mark; last = Some place }
 
--- that item for each ephemeris, and nothing else
-pub record AreKnown (r window : ℕ) (parts : Part → Type 0) (last : Option Place) (known : List (Rank × NavItem)) : Type 0 where
-  pub each : (key : Key) → IsKnownGiven r window parts last key (known_at known (rank_of key))
-  pub only : (x : Rank) → IsSome (known_at known x) → (key : Key) × IsOfEphemeris key × (x ≡ rank_of key)
+-- behind the last period given
+abbrev pub IsAfter : Option Place → Place → Type 0
+IsAfter None place = Unit {0}
+IsAfter (Some last) place = IsBefore last place
 
--- the assembly keeps one slot for each open period, the health that two windows reach, the items with which later ones are compared,
--- the mark and the last period given, and at `none_at` no period was due
-pub record SlotsStandFor (assembly : SlotsState) (at : Standing) : Type 0 where
-  pub slots : AreSlots assembly.window (Contains at.parts) at.last assembly.slots
-  pub indexed : AreIndexed assembly.slots assembly.ends
-  pub kept : AreKept assembly.window assembly.none_at (Contains at.parts) assembly.heard
-  pub stamped : AreStamped assembly.heard assembly.stamps
-  pub known : AreKnown assembly.reference assembly.window (Contains at.parts) at.last assembly.known
-  pub known_ordered : IsStrictlySortedBy rank_cmp.it (keys_of assembly.known)
-  pub at_mark : assembly.mark ≡ at.mark
-  pub at_last : assembly.last ≡ at.last
-  pub given : GivenBelow assembly.window at.mark at.last
-  pub none_due : NoneDue assembly.window (Contains at.parts) assembly.none_at at.last
-  pub none_by : assembly.none_at ≤ at.mark
-  pub values : All IsPartValue at.parts
+-- a period that is closed at the mark, and was not given yet
+pub record IsDue (window : ℕ) (parts : Part → Type 0) (mark : ℕ) (last : Option Place) (place : Place) : Type 0 where
+  pub period : IsPeriod window parts place
+  pub low : place.end + window < mark
+  pub after : IsAfter last place
 
-abbrev pub slots_left : SlotsState → ℕ
-slots_left s = length s.slots
+-- the first of these
+pub record IsNext (r window : ℕ) (parts : Part → Type 0) (mark : ℕ) (last : Option Place) (closed : Closed) : Type 0 where
+  pub due : IsDue window parts mark last (closed_place closed)
+  pub verdict : IsClosed r window parts closed
+  pub least : (place : Place) → IsDue window parts mark last place → IsBefore place (closed_place closed) → ⊥
+
+-- there is none
+abbrev pub NoneDue : ℕ → (Part → Type 0) → ℕ → Option Place → Type 0
+NoneDue window parts mark last = (place : Place) → IsDue window parts mark last place → ⊥

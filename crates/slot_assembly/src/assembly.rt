@@ -1,149 +1,78 @@
-//! The assembly in slots.
+ghost use Rattle.std.specs.Prelude.{◌≡◌, ◌↔◌, ◌+◌, ◌<◌, ◌≤◌, ℕ, List};
+ghost use Rattle.std.specs.Prelude.{Contains, All, IfOk, IfSome, IfNone, OnOk, OnErr};
+ghost use Rattle.nav_eph.specs.Values.{IsPartValue};
+ghost use Rattle.periods.specs.Verdicts.{closed_place};
+ghost use Rattle.slot_assembly.specs.Standing.{Standing, Stood, Tells, Carries, IsNext, NoneDue};
+ghost use Rattle.slot_assembly.specs.Standing.{giving, reaching, taking, unchanged, with_parts};
+ghost use Rattle.nav_eph.specs.declared.part.Part.{Part};
 
-ghost use Rattle.std.specs.Prelude.{◌≡◌, ◌≤◌, ◌<◌, ◌+◌};
+use nav_eph::Part;
+use periods::Closed;
+use std::alloc::AllocError;
 
-use crate::healths::Healths;
-use crate::known::{item_before, remember};
-use crate::order::Rank;
-use crate::slot::one_of;
-use crate::slots::OpenSlots;
-use gnss_week::RefWeek;
-use issue_periods::Assembly;
-use nav_eph::{NavItem, Part};
-use period_items::{Closed, Place, judge, note_value};
-use std::alloc::{AllocError, Global};
-use std::collections::{BTreeMap, BTreeSet};
-use std::marker::Model;
-
-/// An assembly that keeps a slot for each open period, joined and given as parts come.
+/// What puts parts together into periods.
 ///
-/// A contract sees all that it keeps: the week `reference` near which it listens, the `window` in
-/// seconds, the `slots` of the open periods and the index `ends` of them, the health `heard` that
-/// may still count and the index `stamps` of it, the greatest `mark` given, the `last` period
-/// given, the greatest mark `none_at` at which there was none to give, and as `known` for each
-/// ephemeris the item of the last complete period given.
-#[derive(Drop)]
-pub struct SlotAssembly {
-    held: OpenSlots,
-    healths: Healths,
-    reference: RefWeek,
-    window: u32,
-    mark: u64,
-    last: Option<Place>,
-    none_at: u64,
-    known: BTreeMap<Rank, NavItem>,
-}
+/// It stands for the parts that it has taken, the greatest mark that it was given, and the last
+/// period that it has given. An implementation may keep less than these; each clause holds of
+/// everything that it may stand for.
+pub trait Assembly {
+    // The week near which it listens.
+    ghost reference: { Self → ℕ };
 
-impl Model for SlotAssembly {
-    ghost use Rattle.slot_assembly.specs.Standing.{SlotsState};
+    // How long after a part another one of its key may still belong to the same period.
+    ghost window: { Self → ℕ };
 
-    ghost Value = { SlotsState };
+    // What it stands for.
+    ghost stands_for: { Self → Standing → Type 0 };
 
-    ghost view = { λ s. record {
-      reference = s.reference;
-      window = s.window;
-      slots = s.held.slots.entries;
-      ends = s.held.ends.keys;
-      heard = s.healths.heard.entries;
-      stamps = s.healths.stamps.keys;
-      mark = s.mark;
-      last = s.last;
-      none_at = s.none_at;
-      known = s.known.entries;
-    } };
-}
+    // How many periods it may still give before it takes a part again.
+    ghost left: { Self → ℕ };
 
-impl SlotAssembly {
-    ghost use Rattle.slot_assembly.specs.Standing.{SlotsStandFor};
-    ghost use Rattle.issue_periods.specs.Standing.{nothing_yet};
+    /// Takes a part, whose stamp is at least the greatest mark given so far. A part that was taken
+    /// already changes no period. Where memory is wanting all is unchanged.
+    fn take(&mut self, part: &Part) -> Result<(), AllocError>
+        requires { Stood (stands_for self.old) (λ at. at.mark ≤ part.now.stamp) }
+        ensures reference { reference self.new ≡ reference self.old }
+        ensures window { window self.new ≡ window self.old }
+        ensures ok { OnOk result
+            (Carries (stands_for self.old) (stands_for self.new) (taking part.now)) }
+        ensures err { OnErr result
+            (Carries (stands_for self.old) (stands_for self.new) unchanged) };
 
-    /// An assembly of no parts, near the week `r`, with a window of 60 to 14,400 seconds.
-    pub fn new(alloc: Global, r: RefWeek, window: u32) -> SlotAssembly
-        requires least { 60 ≤ window }
-        requires most { window ≤ 14400 }
-        ensures reference { result.reference ≡ r }
-        ensures window { result.window ≡ window }
-        ensures stands { SlotsStandFor result nothing_yet }
-    {
-        SlotAssembly {
-            held: OpenSlots {
-                alloc,
-                slots: BTreeMap::new(alloc),
-                ends: BTreeSet::new(alloc),
-            },
-            healths: Healths {
-                heard: BTreeMap::new(alloc),
-                stamps: BTreeSet::new(alloc),
-            },
-            reference: r,
-            window,
-            mark: 0,
-            last: None,
-            none_at: 0,
-            known: BTreeMap::new(alloc),
-        }
-    }
-}
+    /// The first period whose end and the window after it are below the mark and that was not given
+    /// yet, with its verdict; `None` exactly where there is none. The mark is at least the greatest
+    /// given so far. Where memory is wanting all is unchanged.
+    fn next_closed(&mut self, mark: u64) -> Result<Option<Closed>, AllocError>
+        requires { Stood (stands_for self.old) (λ at. at.mark ≤ mark) }
+        ensures reference { reference self.new ≡ reference self.old }
+        ensures window { window self.new ≡ window self.old }
 
-impl Assembly for SlotAssembly {
-    ghost use Rattle.slot_assembly.specs.Standing.{SlotsStandFor, slots_left};
-    ghost use Rattle.slot_assembly.specs.StandingLaws.{parts_are_a_set, parts_are_values};
+        // What is given, and where nothing is.
+        ensures next { IfOk result (λ answer. IfSome answer (λ closed.
+            Tells (stands_for self.old) (λ at. IsNext (reference self.old) (window self.old)
+            (Contains at.parts) mark at.last closed))) }
+        ensures none { IfOk result (λ answer. IfNone answer
+            (Tells (stands_for self.old) (λ at. NoneDue (window self.old)
+            (Contains at.parts) mark at.last))) }
 
-    ghost reference = { λ s. s.reference };
+        // What it stands for then.
+        ensures given { IfOk result (λ answer. IfSome answer (λ closed.
+            Carries (stands_for self.old) (stands_for self.new)
+            (giving mark (closed_place closed)))) }
+        ensures reached { IfOk result (λ answer. IfNone answer
+            (Carries (stands_for self.old) (stands_for self.new) (reaching mark))) }
+        ensures err { OnErr result (Carries (stands_for self.old) (stands_for self.new) unchanged) }
 
-    ghost window = { λ s. s.window };
+        // Fewer may still be given, so asking until there is none ends.
+        ensures fewer { IfOk result (λ answer. IfSome answer
+            (λ _. left self.new < left self.old)) };
 
-    ghost stands_for = { SlotsStandFor };
+    // Each part that it stands for is a value of its type.
+    ghost parts_are_values: { (assembly : Self) (at : Standing)
+        → stands_for assembly at → All IsPartValue at.parts };
 
-    ghost left = { slots_left };
-
-    fn take(&mut self, part: &Part) -> Result<(), AllocError> {
-        note_value(part);
-        match one_of(part) {
-            Some(one) => match self.held.take(one, self.window) {
-                Ok(()) => return Ok(()),
-                Err(none) => return Err(none),
-            },
-            None => match self.healths.take(part) {
-                Ok(()) => return Ok(()),
-                Err(none) => return Err(none),
-            },
-        }
-    }
-
-    fn next_closed(&mut self, mark: u64) -> Result<Option<Closed>, AllocError> {
-        match self.held.first_due(self.window, mark) {
-            None => {
-                self.healths.forget(self.window, mark);
-                self.mark = mark;
-                self.none_at = mark;
-                Ok(None)
-            }
-            Some(slot) => {
-                let health = self.healths.choose(self.window, slot.key, slot.end);
-                let finding = slot.digest.finding(self.reference, slot.key, health);
-                let before = item_before(&self.known, &slot.key);
-                match remember(&mut self.known, &slot.key, &finding) {
-                    Ok(()) => {}
-                    Err(none) => return Err(none),
-                }
-                let verdict = judge(before, finding);
-                self.held.drop_slot(&slot);
-                self.mark = mark;
-                self.last = Some(Place {
-                    end: slot.end,
-                    key: slot.key,
-                });
-                Ok(Some(Closed {
-                    end: slot.end,
-                    key: slot.key,
-                    verdict,
-                }))
-            }
-        }
-    }
-
-    ghost parts_are_values = { parts_are_values };
-
-    ghost parts_are_a_set = { parts_are_a_set };
+    // Its parts are a set: what it stands for, it stands for in any order and with any repetition.
+    ghost parts_are_a_set: { (assembly : Self) (at : Standing) (other : List Part)
+        → stands_for assembly at → ((p : Part) → Contains at.parts p ↔ Contains other p)
+        → stands_for assembly (with_parts other at) };
 }

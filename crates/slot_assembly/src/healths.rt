@@ -2,7 +2,7 @@
 
 ghost use Rattle.std.specs.Prelude.{◌≡◌, ◌<◌, OnOk, OnErr, Some, None};
 ghost use Rattle.std.specs.BTreeSet.{btree_set_len};
-ghost use Rattle.period_items.specs.Mirrors.{or_else};
+ghost use Rattle.periods.specs.Mirrors.{or_else};
 ghost use Rattle.slot_assembly.specs.Order.{place_of_health, sat_place};
 ghost use Rattle.slot_assembly.specs.Healths.{AreStamped, HasStamp, IsChosen, IsFirstAbove};
 ghost use Rattle.slot_assembly.specs.Healths.{IsForgotten, IsHeard, IsHeardChanged, IsLastBelow};
@@ -12,7 +12,7 @@ ghost use Rattle.slot_assembly.specs.Healths.{near_up};
 use crate::order::{BySat, ByStamp, place_in_sat, place_of_heard};
 use nav_bits::{S, U};
 use nav_eph::{Body, GalHealth, Part, Sat, SentTag};
-use period_items::Key;
+use periods::Key;
 use std::alloc::AllocError;
 use std::collections::{BTreeMap, BTreeSet};
 

@@ -4,8 +4,8 @@ ghost use Rattle.std.specs.Prelude.{◌≡◌, OnOk, OnErr};
 ghost use Rattle.std.specs.List.Sorted.{IsStrictlySortedBy};
 ghost use Rattle.std.specs.Map.{keys_of};
 ghost use Rattle.slot_assembly.specs.Order.{rank_of};
-ghost use Rattle.slot_assembly.specs.Standing.{AreSameItems, IsRemembered, item_to_keep};
-ghost use Rattle.slot_assembly.specs.Standing.{known_for};
+ghost use Rattle.slot_assembly.specs.SlotStanding.{AreSameItems, IsRemembered, item_to_keep};
+ghost use Rattle.slot_assembly.specs.SlotStanding.{known_for};
 ghost use Rattle.slot_assembly.specs.contracts.order.RankOrd.TheImpl.{cmp-value as rank_cmp};
 
 use crate::order::{Rank, rank_of_key};
@@ -15,7 +15,7 @@ use nav_eph::{
     GalEph, GalHealth, GalIon, GalWord1, GalWord2, GalWord3, GalWord4, GpsClock, GpsEph, GpsIon,
     GpsOrbitA, GpsOrbitB, GpsSide, IonContent, IonEph, NavItem, Sat, SentSecond,
 };
-use period_items::{Finding, Key};
+use periods::{Finding, Key};
 use std::alloc::AllocError;
 use std::collections::BTreeMap;
 

@@ -6,7 +6,7 @@ ghost use Rattle.slot_assembly.specs.Order.{by_end, by_key, by_sat, by_stamp, is
 ghost use Rattle.slot_assembly.specs.Order.{is_of_sat, place_of_health, rank_of, sat_place};
 
 use nav_eph::{GalHealth, Sat, SentTag};
-use period_items::{Key, system_number};
+use periods::{Key, system_number};
 
 /// The numbers by which keys are ordered: class, system, satellite, and issue or content.
 #[derive(Clone, Copy, PartialEq, Eq, PartialOrd, Ord)]

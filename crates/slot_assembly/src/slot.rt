@@ -1,8 +1,8 @@
 //! A slot: what is kept of an open period.
 
 ghost use Rattle.std.specs.Prelude.{◌≡◌, IfOk, Some};
-ghost use Rattle.period_items.specs.DigestsOf.{digest_join};
-ghost use Rattle.period_items.specs.declared.digest.Digest.TheVariants.{Ion};
+ghost use Rattle.periods.specs.DigestsOf.{digest_join};
+ghost use Rattle.periods.specs.declared.digest.Digest.TheVariants.{Ion};
 ghost use Rattle.slot_assembly.specs.Slots.{IsOne, slot_of, slot_with};
 ghost use Rattle.slot_assembly.specs.declared.slot.PackedSlot.TheVariants.{Ionosphere};
 
@@ -11,7 +11,7 @@ use nav_eph::{
     GalWord1, GalWord2, GalWord3, GalWord4, GpsClock, GpsOrbitA, GpsOrbitB, GpsSide, Part, Sat,
     SentTag,
 };
-use period_items::{Digest, GalDigest, GpsDigest, Key, Seen, Sending, key_of_part};
+use periods::{Digest, GalDigest, GpsDigest, Key, Seen, Sending, key_of_part};
 use std::alloc::{AllocError, Global};
 
 /// An open period: its key, the stamps of its first and its last member, and what its members come

@@ -19,7 +19,7 @@ use nav_eph::{
     GalIon, GalWord1, GalWord2, GalWord3, GalWord4, GpsClock, GpsIon, GpsOrbitA, GpsOrbitB,
     GpsSide, Sat, SentTag,
 };
-use period_items::{Digest, GalDigest, GpsDigest, Key, Seen, Sending};
+use periods::{Digest, GalDigest, GpsDigest, Key, Seen, Sending};
 use std::alloc::{AllocError, Global};
 use std::collections::{BTreeMap, BTreeSet};
 

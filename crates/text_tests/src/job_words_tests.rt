@@ -1,6 +1,8 @@
 //! Words of the command line and what they spell.
 
-use job_words::{Found, options_of, words_give_values_in_one_way, words_spell_options_in_one_way};
+use bridge_engine::{
+    Found, options_of, words_give_values_in_one_way, words_spell_options_in_one_way,
+};
 use std::alloc::{AllocError, Global};
 use std::test::Fail;
 

@@ -7,13 +7,13 @@
 #[cfg(test)]
 mod job_words_tests;
 #[cfg(test)]
-mod rinex3_nav_tests;
+mod outlets_tests;
+#[cfg(test)]
+mod rinex3_tests;
 #[cfg(test)]
 mod rinex_read_tests;
 #[cfg(test)]
 mod rinex_write_tests;
-#[cfg(test)]
-mod run_texts_tests;
 #[cfg(test)]
 mod samples;
 #[cfg(test)]

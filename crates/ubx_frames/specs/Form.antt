@@ -1,6 +1,8 @@
--- The messages of UBX: B5 62, class, number, a length of two bytes, the low one first, a payload of so many bytes, and
+-- The messages of UBX: B5 62, class, number, a length of two bytes, the low one first, a payload of
+-- so many bytes, and
 -- two sums of all bytes from the class to the payload's end.
-use Rattle.std.specs.Prelude.{ℕ, ◌+◌, ◌-◌, ◌*◌, ◌%◌, ◌==◌, ◌&&◌, Bool, true, List, [], ◌∷◌, length, take, drop, slice_index}
+use Rattle.std.specs.Prelude.{ℕ, ◌+◌, ◌-◌, ◌*◌, ◌%◌, ◌==◌, ◌&&◌, Bool, true, List, [], ◌∷◌, length}
+use Rattle.std.specs.Prelude.{take, drop, slice_index}
 use Rattle.framing.specs.Headings.{Heading}
 use Rattle.framing.specs.Syncs.{Sync, heading_by}
 
@@ -14,7 +16,8 @@ abbrev pub running : ℕ → List ℕ → ℕ
 running a [] = 0
 running a (x ∷ xs) = (a + x) + running (a + x) xs
 
--- the size of the message that a header announces: six bytes of header, the payload, and two of sums
+-- the size of the message that a header announces: six bytes of header, the payload, and two of
+-- sums
 abbrev pub announced : List ℕ → ℕ
 announced xs = (slice_index xs 5 * 256 + slice_index xs 4) % 65536 + 8
 

@@ -1,5 +1,6 @@
 -- Sums beside bytes stay right where more bytes come.
-use Rattle.std.proofs.Common.{◌≡◌, ℕ, ◌+◌, ◌%◌, ◌<◌, ◌≤◌, List, ◌++◌, length, get_or, sym, ap, ◌∙◌, arith, length-append}
+use Rattle.std.proofs.Common.{ℕ, ◌+◌, ◌%◌, List, ◌++◌, get_or, sym, ap, ◌∙◌}
+use Rattle.std.proofs.Common.{arith, length-append}
 use Rattle.std.proofs.lemmas.List.{get_or_append_left}
 use Rattle.ubx_frames.specs.Sums.{AreSums}
 
@@ -8,6 +9,8 @@ sums_stay xs ys sums runs are = record {
   some = are.some;
   most = omega (arith, length-append xs ys, are.most);
   same = are.same;
-  sum_steps = λ i less. are.sum_steps i less ∙ ap (λ n. (get_or sums i 0 + n) % 256) (sym (get_or_append_left xs ys 0 i (omega (arith, are.most))));
+  sum_steps = λ i less. are.sum_steps i less
+      ∙ ap (λ n. (get_or sums i 0 + n) % 256)
+      (sym (get_or_append_left xs ys 0 i (omega (arith, are.most))));
   run_steps = are.run_steps;
 }

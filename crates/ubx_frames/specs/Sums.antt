@@ -1,11 +1,14 @@
 -- Sums beside some bytes; only the contracts of the judge's parts cite them.
 use Rattle.std.specs.Prelude.{◌≡◌, ℕ, ◌+◌, ◌%◌, ◌<◌, ◌≤◌, List, length, slice_index}
 
--- Each sum is the one before it with one byte more, and each running sum the one before it with one sum more, modulo
+-- Each sum is the one before it with one byte more, and each running sum the one before it with one
+-- sum more, modulo
 -- 256. They may begin with any sums, and stop before any byte.
 pub record AreSums (bytes sums runs : List ℕ) : Type 0 where
   pub some : 1 ≤ length sums
   pub most : length sums ≤ length bytes + 1
   pub same : length runs ≡ length sums
-  pub sum_steps : (i : ℕ) → i + 1 < length sums → slice_index sums (i + 1) ≡ (slice_index sums i + slice_index bytes i) % 256
-  pub run_steps : (i : ℕ) → i + 1 < length sums → slice_index runs (i + 1) ≡ (slice_index runs i + slice_index sums (i + 1)) % 256
+  pub sum_steps : (i : ℕ) → i + 1 < length sums
+      → slice_index sums (i + 1) ≡ (slice_index sums i + slice_index bytes i) % 256
+  pub run_steps : (i : ℕ) → i + 1 < length sums
+      → slice_index runs (i + 1) ≡ (slice_index runs i + slice_index sums (i + 1)) % 256

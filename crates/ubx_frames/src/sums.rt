@@ -1,6 +1,7 @@
 //! The two sums of messages: of one by itself, and by the sums beside bytes.
 
-ghost use Rattle.std.specs.Prelude.{◌≡◌, ℕ, ◌+◌, ◌-◌, ◌%◌, ◌^◌, ◌<◌, ◌≤◌, ◌==◌, ◌&&◌, List, length, take, drop};
+ghost use Rattle.std.specs.Prelude.{◌≡◌, ℕ, ◌+◌, ◌-◌, ◌%◌, ◌^◌, ◌<◌, ◌≤◌, ◌==◌, ◌&&◌, List};
+ghost use Rattle.std.specs.Prelude.{length, take, drop};
 ghost use Rattle.arrayvec.specs.ArrayVec.{array_vec_len};
 ghost use Rattle.ubx_frames.specs.Form.{total, running, has_right_sums as are_right};
 ghost use Rattle.ubx_frames.specs.Sums.{AreSums};

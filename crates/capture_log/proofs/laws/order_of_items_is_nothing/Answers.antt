@@ -1,5 +1,5 @@
 use Rattle.std.proofs.Common.{ap}
-use Rattle.period_items.specs.PeriodLists.{items_in}
+use Rattle.periods.specs.PeriodLists.{items_in}
 use Rattle.capture_log.specs.Events.{nothing_known}
 use Rattle.capture_log.specs.Log.{log_from, parts_in}
 use Rattle.capture_log.proofs.AnyOrder.{taken_there}

@@ -7,7 +7,8 @@ loop-place-preserved g c = record {
   onward = omega arith;
   inside = omega arith;
   passed = λ more.
-      sym (other_passed g.J.Judge.heading g.met.J.Judge.is_heading more c.args.bytes.now c.loop-place.place (omega arith)
+      sym (other_passed g.J.Judge.heading g.met.J.Judge.is_heading more c.args.bytes.now
+      c.loop-place.place (omega arith)
       (λ e. c.if-bytes-place.true (e ∙ sym c.first-first.ensures)))
       ∙ c.loop-place.invariant.passed more;
 }

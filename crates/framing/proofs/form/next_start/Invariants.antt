@@ -7,7 +7,8 @@ abbrev pub invariant-loop-place : goal.invariant-loop-place
 invariant-loop-place g l = record {
   onward : l.fn.from ≤ l.place;
   inside : l.place ≤ length l.bytes;
-  passed : (more : Bool) → from_first (format_of g.J.Judge.heading) more (drop l.place l.bytes) ≡ from_first (format_of g.J.Judge.heading) more (drop l.fn.from l.bytes);
+  passed : (more : Bool) → from_first (format_of g.J.Judge.heading) more (drop l.place l.bytes)
+      ≡ from_first (format_of g.J.Judge.heading) more (drop l.fn.from l.bytes);
 }
 
 abbrev pub decreases-loop-place : goal.decreases-loop-place

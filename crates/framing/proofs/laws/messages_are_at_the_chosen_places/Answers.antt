@@ -10,8 +10,10 @@ returns-clause-exist c = λ f bytes. record { exactly = chosen_fits (size_at f b
 
 pub returns-clause-only : goal.returns-clause-only
 returns-clause-only c =
-    λ f bytes chosen set. only_chosen (size_at f bytes) chosen (is_chosen f bytes) set.exactly (chosen_fits (size_at f bytes))
+    λ f bytes chosen set. only_chosen (size_at f bytes) chosen (is_chosen f bytes) set.exactly
+    (chosen_fits (size_at f bytes))
 
 pub returns-clause-messages : goal.returns-clause-messages
 returns-clause-messages c =
-    λ f bytes chosen set. chosen_messages f bytes chosen set bytes 0 0 refl (reaches_none f bytes chosen)
+    λ f bytes chosen set. chosen_messages f bytes chosen set bytes 0 0 refl
+    (reaches_none f bytes chosen)

@@ -6,7 +6,8 @@ use Rattle.framing.proofs.search.find.Given as goal
 abbrev pub invariant-loop-place : goal.invariant-loop-place
 invariant-loop-place g l = record {
   inside : l.place ≤ length l.bytes;
-  passed : from_first (format_of g.J.Judge.heading) l.more (drop l.place l.bytes) ≡ from_first (format_of g.J.Judge.heading) l.more (drop l.fn.start l.bytes);
+  passed : from_first (format_of g.J.Judge.heading) l.more (drop l.place l.bytes)
+      ≡ from_first (format_of g.J.Judge.heading) l.more (drop l.fn.start l.bytes);
   beside : g.J.Judge.IsBeside l.judge l.bytes;
 }
 

@@ -1,6 +1,6 @@
 use Rattle.std.proofs.Common.{◌≡◌, ◌+◌, ◌-◌, ◌*◌, ◌%◌, refl, sym, ◌∙◌, ap, arith}
 use Rattle.nav_bits.specs.Laws.{number_at-lt}
-use Rattle.lnav_parity.specs.Parity.{IsGood}
+use Rattle.lnav_subframe.specs.Parity.{IsGood}
 use Rattle.lnav_subframe.specs.Words.{last_before, word_of}
 use Rattle.lnav_subframe.proofs.Places.{goods_more, last_more, sources_more}
 use Rattle.lnav_subframe.proofs.words.source_of.Goals as goal

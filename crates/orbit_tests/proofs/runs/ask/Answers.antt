@@ -1,6 +1,6 @@
-use Rattle.period_items.specs.Verdicts.{closed_place}
-use Rattle.issue_periods.specs.Standing.{Carries, giving, reaching}
-use Rattle.issue_periods.proofs.Surface.{stood_giving, stood_reaching}
+use Rattle.periods.specs.Verdicts.{closed_place}
+use Rattle.slot_assembly.specs.Standing.{Carries, giving, reaching}
+use Rattle.slot_assembly.proofs.Surface.{stood_giving, stood_reaching}
 use Rattle.orbit_tests.proofs.runs.ask.Goals as goal
 
 pub asking-preserved : goal.asking-preserved

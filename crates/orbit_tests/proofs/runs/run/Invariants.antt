@@ -1,5 +1,5 @@
 use Rattle.std.proofs.Common.{◌≤◌}
-use Rattle.issue_periods.specs.Standing.{Stood}
+use Rattle.slot_assembly.specs.Standing.{Stood}
 use Rattle.orbit_tests.proofs.runs.run.Given as goal
 
 abbrev pub invariant-parts : goal.invariant-parts

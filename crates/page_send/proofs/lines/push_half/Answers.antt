@@ -1,6 +1,6 @@
 use Rattle.std.proofs.Common.{◌≡◌, ℕ, ◌+◌, ◌≤◌, ◌++◌, length, ap, sym, ◌∙◌, arith}
 use Rattle.inav_page.specs.Pages.{bytes_of_half}
-use Rattle.inav_page.specs.declared.signal.Signal.TheVariants.{E1b}
+use Rattle.nav_eph.specs.declared.signal.Signal.TheVariants.{E1b}
 use Rattle.capture_lines.specs.Texts.{half_text}
 use Rattle.page_send.specs.Slots.{half_item}
 use Rattle.page_send.proofs.Lengths.{half_short}

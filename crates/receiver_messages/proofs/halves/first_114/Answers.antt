@@ -17,4 +17,12 @@ returns-clause-value c =
 
 pub returns-clause-fits : goal.returns-clause-fits
 returns-clause-fits c =
-    omega (arith, number_at-lt c.args.bits.now 0 57, number_at-lt c.args.bits.now 57 57, c.from.ensures, c.from-2.ensures, c.get-2.ensures, c.get.ensures)
+    omega (
+      arith,
+      number_at-lt c.args.bits.now 0 57,
+      number_at-lt c.args.bits.now 57 57,
+      c.from.ensures,
+      c.from-2.ensures,
+      c.get-2.ensures,
+      c.get.ensures,
+    )

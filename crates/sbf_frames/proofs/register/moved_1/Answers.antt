@@ -11,4 +11,5 @@ returns-else-longer-clause-value c = one_place_back c.args.state c.if-longer.fal
 
 pub returns-else-longer-clause-fits : goal.returns-else-longer-clause-fits
 returns-else-longer-clause-fits c =
-    subst (λ n. n < 2 ^ 16) (sym (one_place_back c.args.state c.if-longer.false c.requires)) (turned-lt c.args.state c.requires)
+    subst (λ n. n < 2 ^ 16) (sym (one_place_back c.args.state c.if-longer.false c.requires))
+    (turned-lt c.args.state c.requires)

@@ -1,10 +1,16 @@
-use Rattle.std.proofs.Common.{sym, ap, ◌+◌, ◌∙◌, arith}
+use Rattle.std.proofs.Common.{arith}
 use Rattle.ubx_frames.proofs.SumSteps.{sum_next, running_next}
 use Rattle.ubx_frames.proofs.sums.sums_of.Goals as goal
 
 pub loop-byte-preserved : goal.loop-byte-preserved
 loop-byte-preserved c = record {
-  total_is = omega (arith, sum_next c.args.bytes.now c.loop-byte.byte-index (omega arith), c.loop-byte.invariant.total_is, c.from-total.ensures);
+  total_is = omega (
+    arith,
+    sum_next c.args.bytes.now c.loop-byte.byte-index
+        (omega arith),
+    c.loop-byte.invariant.total_is,
+    c.from-total.ensures,
+  );
   run_is =
       omega (
         arith,
@@ -15,5 +21,10 @@ loop-byte-preserved c = record {
         c.from-total.ensures,
       );
   total_le = omega (arith, c.loop-byte.invariant.total_le, c.from-total.ensures);
-  run_le = omega (arith, c.loop-byte.invariant.total_le, c.loop-byte.invariant.run_le, c.from-total.ensures);
+  run_le = omega (
+    arith,
+    c.loop-byte.invariant.total_le,
+    c.loop-byte.invariant.run_le,
+    c.from-total.ensures,
+  );
 }

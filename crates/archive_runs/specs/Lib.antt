@@ -1,2 +1,0 @@
-pub mod Archives
-pub mod Kept

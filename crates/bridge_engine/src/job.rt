@@ -1,0 +1,102 @@
+//! The conversions that the program does.
+
+ghost use Rattle.std.specs.Prelude.{IfOk, MatchOption, map};
+ghost use Rattle.std.specs.String.{string_bytes};
+ghost use Rattle.bridge_engine.specs.Job.{IsJob, GivesJob, Asks};
+ghost use Rattle.bridge_engine.specs.WordsFound.{given_of};
+
+use crate::table::job_in;
+use crate::values::values_of;
+use crate::{Found, options_of};
+use captures::{CaptureTo, SeedTo};
+use gnss_week::RefWeek;
+use nav_files::RinexTo;
+use rinex_write::HeaderWords;
+use std::alloc::{AllocError, Global};
+use streams::StreamTo;
+
+/// Which conversion the words ask for.
+#[derive(Clone, Copy)]
+pub enum Job {
+    /// `--from stream --to frames`: a line for each RTCM 3 frame of a stream.
+    StreamToFrames,
+    /// `--from capture`: a capture to a navigation file, to frames, to a list or to counts.
+    Capture(CaptureJob),
+    /// `--from stream`: the ephemerides of a stream, each once, to a navigation file or to frames.
+    Stream(StreamJob),
+    /// `--from rinex`: a navigation file of RINEX 4 to another one, to frames or to a list.
+    Rinex(RinexTo),
+    /// `--from rinex3`: the same of a file of RINEX 3.
+    Rinex3(RinexTo),
+    /// `--from rinex --to capture`: the capture that is sent of a navigation file of RINEX 4, near
+    /// this week.
+    SendRinex(RefWeek),
+    /// `--from rinex3 --to capture`: the same of a file of RINEX 3.
+    SendRinex3(RefWeek),
+    /// `--from rinex --to merged`: navigation files of RINEX 4, one behind the other, to one.
+    Merge(HeaderWords),
+    /// `--from rinex --to cover`: the times for which they have an ephemeris.
+    Cover,
+    /// `--from seed`: a capture that is made, or its counts.
+    Seed(SeedJob),
+}
+
+/// A conversion of a capture.
+#[derive(Clone, Copy)]
+pub struct CaptureJob {
+    /// The week near which it is read, where the words name one.
+    pub week: Option<RefWeek>,
+    /// What it is converted to.
+    pub to: CaptureTo,
+}
+
+/// A conversion of the ephemerides of a stream.
+#[derive(Clone, Copy)]
+pub struct StreamJob {
+    /// The week near which it is read.
+    pub week: RefWeek,
+    /// What it is converted to.
+    pub to: StreamTo,
+}
+
+/// The making of a capture.
+#[derive(Clone, Copy)]
+pub struct SeedJob {
+    /// The seed of its numbers.
+    pub seed: u32,
+    /// How many satellites of each system it has, 1 to 32.
+    pub sats: u8,
+    /// The week in which it begins.
+    pub week: RefWeek,
+    /// Whether it is written, or its counts.
+    pub to: SeedTo,
+}
+
+/// The job that the words give, where they give one: they spell the options of one row of the table
+/// of jobs, in any order, each once and each in its range.
+///
+/// # Errors
+///
+/// There was no memory to read the words.
+pub fn job_of(alloc: Global, words: &[String]) -> Result<Option<Job>, AllocError>
+    ensures { IfOk result (λ r. MatchOption r (¬ GivesJob (map string_bytes words.now))
+        (IsJob (map string_bytes words.now))) }
+{
+    let spelled = options_of(alloc, words)?;
+    match spelled {
+        None => Ok(None),
+        Some(found) => Ok(job_with(&found)),
+    }
+}
+
+// The job that has exactly these options, each in its range.
+fn job_with(found: &Found) -> Option<Job>
+    ensures { MatchOption result ((job : Job) → ¬ Asks (given_of found.now) job)
+        (Asks (given_of found.now)) }
+{
+    let (from, to) = (found.from?, found.to?);
+    match values_of(found) {
+        None => None,
+        Some(values) => job_in(from.as_bytes(), to.as_bytes(), &values),
+    }
+}

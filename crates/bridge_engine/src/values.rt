@@ -1,0 +1,193 @@
+//! The values of options: numbers of one to ten decimal digits, and the date of a header.
+
+ghost use Rattle.std.specs.Prelude.{◌≡◌, ◌<◌, ◌≤◌, ◌^◌, ℕ, List, Option, MatchOption, IsTrue, ◌↔◌, option_map, length};
+ghost use Rattle.std.specs.List.{list_all};
+ghost use Rattle.std.specs.Char.{is_ascii_digit};
+ghost use Rattle.std.specs.Str.Parse.{digits_value};
+ghost use Rattle.bridge_engine.specs.Job.{Writes, IsWeekText, IsLeapText, IsDateText, IsSeedText, IsSatsText, Reads, ReadsAs};
+ghost use Rattle.bridge_engine.specs.WordsFound.{given_of};
+
+use crate::Found;
+use gnss_week::RefWeek;
+
+/// What the options say beside the forms: of each its value, where it is there.
+#[derive(Clone, Copy)]
+pub struct Values {
+    /// The week near which times are read.
+    pub week: Option<RefWeek>,
+    /// The leap seconds between UTC and GPS time, 0 to 99.
+    pub leap: Option<u8>,
+    /// The date of a header, in 19 characters as `20240101 000000 UTC`.
+    pub date: Option<[u8; 19]>,
+    /// The seed of a capture that is made.
+    pub seed: Option<u32>,
+    /// The number of its satellites, 1 to 32.
+    pub sats: Option<u8>,
+}
+
+// The values of the options, where each is in its range.
+pub(crate) fn values_of(found: &Found) -> Option<Values>
+    ensures { MatchOption result ((values : Values) → ¬ ReadsAs (given_of found.now) values)
+        (ReadsAs (given_of found.now)) }
+{
+    let week = match week_of(found.week) {
+        Some(week) => week,
+        None => return None,
+    };
+    let leap = leap_of(found.leap)?;
+    let date = date_of(found.date)?;
+    let seed = seed_of(found.seed)?;
+    let sats = sats_of(found.sats)?;
+    Some(Values {
+        week,
+        leap,
+        date,
+        seed,
+        sats,
+    })
+}
+
+// The week that the option says, where it is there.
+fn week_of(text: Option<&str>) -> Option<Option<RefWeek>>
+    ensures { MatchOption result
+        ((week : Option ℕ) → ¬ Reads IsWeekText (option_map (λ t. t.now) text.entry) week)
+        (Reads IsWeekText (option_map (λ t. t.now) text.entry)) }
+{
+    match text {
+        None => Some(None),
+        Some(text) => match RefWeek::new(number_of(text)?) {
+            None => None,
+            Some(week) => Some(Some(week)),
+        },
+    }
+}
+
+// The leap seconds that the option says.
+fn leap_of(text: Option<&str>) -> Option<Option<u8>>
+    ensures { MatchOption result
+        ((leap : Option ℕ) → ¬ Reads IsLeapText (option_map (λ t. t.now) text.entry) leap)
+        (Reads IsLeapText (option_map (λ t. t.now) text.entry)) }
+{
+    match text {
+        None => Some(None),
+        Some(text) => {
+            let leap = number_of(text)?;
+            if leap > 99 {
+                None
+            } else {
+                Some(Some(leap as u8))
+            }
+        }
+    }
+}
+
+// The date that the option says.
+fn date_of(text: Option<&str>) -> Option<Option<[u8; 19]>>
+    ensures { MatchOption result
+        ((date : Option (List ℕ)) → ¬ Reads IsDateText (option_map (λ t. t.now) text.entry) date)
+        (Reads IsDateText (option_map (λ t. t.now) text.entry)) }
+{
+    match text {
+        None => Some(None),
+        Some(text) => {
+            let text = text.as_bytes();
+            let date = <[u8; 19]>::try_from(text).ok()?;
+            if is_date(text) {
+                Some(Some(date))
+            } else {
+                None
+            }
+        }
+    }
+}
+
+// The seed that the option says.
+fn seed_of(text: Option<&str>) -> Option<Option<u32>>
+    ensures { MatchOption result
+        ((seed : Option ℕ) → ¬ Reads IsSeedText (option_map (λ t. t.now) text.entry) seed)
+        (Reads IsSeedText (option_map (λ t. t.now) text.entry)) }
+{
+    match text {
+        None => Some(None),
+        Some(text) => Some(Some(number_of(text)?)),
+    }
+}
+
+// The number of satellites that the option says.
+fn sats_of(text: Option<&str>) -> Option<Option<u8>>
+    ensures { MatchOption result
+        ((sats : Option ℕ) → ¬ Reads IsSatsText (option_map (λ t. t.now) text.entry) sats)
+        (Reads IsSatsText (option_map (λ t. t.now) text.entry)) }
+{
+    match text {
+        None => Some(None),
+        Some(text) => {
+            let sats = number_of(text)?;
+            if sats < 1 || sats > 32 {
+                None
+            } else {
+                Some(Some(sats as u8))
+            }
+        }
+    }
+}
+
+// The number below 2^32 that one to ten decimal digits write.
+fn number_of(text: &str) -> Option<u32>
+    ensures { MatchOption result ((number : ℕ) → Writes text.now number → 2 ^ 32 ≤ number)
+        (Writes text.now) }
+{
+    let digits = text.as_bytes();
+    if digits.is_empty() || digits.len() > 10 || !are_digits(digits) {
+        return None;
+    }
+    let value = value_of_digits(digits);
+    if value > u64::from(u32::MAX) {
+        return None;
+    }
+    Some(value as u32)
+}
+
+// Whether the text has digits alone.
+fn are_digits(text: &[u8]) -> bool
+    ensures { result ≡ list_all is_ascii_digit text.now }
+{
+    text.iter().all(|byte| byte.is_ascii_digit())
+}
+
+// The number that ten digits write at most.
+fn value_of_digits(text: &[u8]) -> u64
+    requires digits { IsTrue (list_all is_ascii_digit text.now) }
+    requires few { length text.now ≤ 10 }
+    ensures { result ≡ digits_value 10 text.now }
+{
+    let mut value = 0u64;
+    'digits: for i in 0..text.len() {
+        value = value * 10 + u64::from(text[i] - b'0');
+    }
+    value
+}
+
+// Whether 19 characters have the form of a date: eight digits, a space, six digits, and ` UTC`.
+fn is_date(text: &[u8]) -> bool
+    requires { length text.now ≡ 19 }
+    ensures { IsTrue result ↔ IsDateText text.now text.now }
+{
+    if text[8] != b' ' {
+        return false;
+    }
+    if !is_same(&text[15..], b" UTC") {
+        return false;
+    }
+    if !are_digits(&text[..8]) {
+        return false;
+    }
+    are_digits(&text[9..15])
+}
+
+// Whether two texts are the same.
+fn is_same(one: &[u8], other: &[u8]) -> bool
+    ensures { IsTrue result ↔ (one.now ≡ other.now) }
+{
+    one == other
+}

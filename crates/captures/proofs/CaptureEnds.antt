@@ -1,0 +1,446 @@
+-- How a run over a capture ends: in its first line, in the text in front, in the lines behind, in what stands behind these, or done.
+use Rattle.std.proofs.Common.{◌≡◌, ℕ, ◌+◌, ◌-◌, ◌<◌, ◌≤◌, ◌^◌, true, false, List, [], ◌∷◌, ◌++◌, length, take, drop, length-drop, refl, sym, ap, subst, ◌∙◌, arith, ⊎_elim, append_assoc, append-nil}
+use Rattle.std.specs.Prelude.{Option, None, Some, Err, IsTrue, ◌⊎◌}
+use Rattle.std.proofs.lemmas.Bool.{true≢false}
+use Rattle.std.proofs.lemmas.List.{take-append-drop}
+use Rattle.std.specs.Io.KnownBytes.{Appends, Consumes, IsAtEnd}
+use Rattle.std.proofs.KnownBytes.{Appends-nil, Appends-trans, Consumes-all}
+use Rattle.nav_io.specs.Causes.{Rose}
+use Rattle.nav_io.specs.Front.{AppendsFront, IsFront}
+use Rattle.nav_io.specs.Lines.{Line, lines_by}
+use Rattle.nav_io.specs.LinesState.{LinesState, Reads, GivesLine, GivesEnd}
+use Rattle.nav_io.proofs.Surface.{reads_more}
+use Rattle.periods.specs.PeriodsOf.{closed_of, periods_of}
+use Rattle.capture_log.specs.Log.{log_of, mark_after, parts_of}
+use Rattle.captures.specs.declared.accept.Accepted.{Accepted}
+use Rattle.outlets.specs.declared.target.Target.{Target}
+use Rattle.captures.specs.declared.target.CaptureTo.{CaptureTo}
+use Rattle.captures.specs.declared.counts.CaptureCounts.{CaptureCounts}
+use Rattle.captures.specs.declared.counts.Tally.{Tally}
+use Rattle.captures.specs.declared.counts.Said.{Said}
+use Rattle.one_run.specs.declared.fault.BridgeFault.{BridgeFault}
+use Rattle.one_run.specs.declared.fault.BridgeFault.TheVariants.{ReadFault, WriteFault, ReportFault, TooLong, NoMemory, NotThisForm}
+use Rattle.outlets.specs.Targets.{back_text, front_text}
+use Rattle.captures.specs.Captures.{accepted_line, capture_in, capture_meaning, capture_of, capture_with, counts_in, counts_of, counts_text, least_output, output_of, periods, refusals_text, report_of_capture, settled_output, settled_report, settled_text, target_meaning, target_of, texts_of}
+use Rattle.captures.specs.Follows.{Accepts, CaptureAhead, CaptureFront, FollowsAll, FollowsBroke, FollowsSays, GivesHead, GivesNoHead, Stop, StopSays, closed_texts, no_tally}
+use Rattle.captures.specs.Notes.{line_report, tallied}
+use Rattle.captures.specs.Reports.{count_in, is_late, is_malformed, is_refused, is_unused}
+use Rattle.one_run.specs.Causes.{Faults, HasItsCause, faults_of}
+use Rattle.one_run.specs.Runs.{AppendsBetween, Broke, Done, Leaves, Says, World}
+use Rattle.captures.specs.Settled.{said_of, with_counts}
+use Rattle.captures.proofs.CaptureFronts.{Follow, accepts_first, capture_by, capture_lines, front_all, front_head, fronts_of, known_lines, last_all, last_front, last_texts, least_front, least_none, lines_follow, nothing_part, output_is, refuses_first, refuses_none, report_front, report_is, settled_is, settled_report_is}
+use Rattle.captures.proofs.Following.{all_lines, ended_lines}
+use Rattle.captures.proofs.Fronts.{LogLaws, appends_behind, appends_longer, front_behind, front_more, front_nil, front_trans}
+use Rattle.captures.proofs.LineCounts.{ended_before, lines_length, no_pieces, sum_pieces, recent_ended, recent_lines, recent_within}
+use Rattle.captures.proofs.Writing.{texts_front}
+
+-- lines of which none was read
+pub record IsFresh (state : LinesState) : Type 0 where
+  pub rest : state.rest ≡ []
+  pub ended : state.ended ≡ false
+  pub taken : state.taken ≡ 0
+  pub number : state.number ≡ 0
+
+-- nothing was held, so all is what was taken
+held_none : (held t : List ℕ) → held ≡ [] → t ≡ held ++ t
+held_none held t e = ap (λ (l : List ℕ). l ++ t) (sym e)
+
+pub fresh_lines : (left left_new : Option (List ℕ)) (old new : LinesState) (lines : List Line) (reads : Reads left left_new old new lines) → IsFresh old
+    → lines_by false reads.taken ≡ lines ++ lines_by false new.rest
+fresh_lines left left_new old new lines reads fresh = ap (lines_by false) (held_none old.rest reads.taken fresh.rest) ∙ all_lines left left_new old new lines reads
+
+-- ---- in the first line
+
+no_head_line : (to : Target) (week : Option ℕ) (left left1 written reported : Option (List ℕ)) (old new : LinesState) (line : Line) → IsFresh old → GivesLine left left1 old new line
+    → accepted_line week line ≡ None → Stop to week left left1 written written reported reported NotThisForm
+no_head_line to week left left1 written reported old new line fresh gives refused =
+    let few : length old.rest ≤ 4096 = omega (arith, ap length fresh.rest) in
+    let whole = held_none old.rest gives.reads.taken fresh.rest ∙ gives.split in
+    let lines = fresh_lines left left1 old new (line ∷ []) gives.reads fresh in
+    nothing_part to week left left1 written reported gives.reads.taken NotThisForm gives.reads.consumes
+    (recent_lines gives.reads.taken gives.front new.rest (line ∷ []) whole (gives.short few) lines)
+    (ap counts_in (ap (capture_in week) lines ∙ ap (capture_with (lines_by false new.rest)) refused), refuses_first week line left refused (known_lines left left1 old new (line ∷ []) gives.reads fresh.rest fresh.ended))
+
+no_head_end : (to : Target) (week : Option ℕ) (left left1 written reported : Option (List ℕ)) (old new : LinesState) → IsFresh old → GivesEnd left left1 old new
+    → Stop to week left left1 written written reported reported NotThisForm
+no_head_end to week left left1 written reported old new fresh gives =
+    let t = gives.reads.taken in
+    let none : lines_by false t ≡ [] ++ lines_by false [] = fresh_lines left left1 old new [] gives.reads fresh ∙ ap (lines_by false) gives.rest in
+    let few = recent_lines t t [] [] (sym (append-nil t)) (omega arith) none in
+    nothing_part to week left left1 written reported t NotThisForm gives.reads.consumes (omega (arith, few))
+    (ap (λ (l : List Line). counts_in (capture_in week l)) none, refuses_none week left left1 old new gives.reads fresh.rest fresh.ended gives.rest gives.ended)
+
+pub head_stops : (to : Target) (week : Option ℕ) (left left1 written reported : Option (List ℕ)) (old new : LinesState) (fault : BridgeFault) → IsFresh old → GivesNoHead week left left1 old new fault
+    → Stop to week left left1 written written reported reported fault
+head_stops to week left left1 written reported old new NotThisForm fresh h =
+    ⊎_elim (λ (given : (line : Line) × GivesLine left left1 old new line × (accepted_line week line ≡ None)). no_head_line to week left left1 written reported old new given.0 fresh given.1 given.2)
+    (λ (ends : GivesEnd left left1 old new). no_head_end to week left left1 written reported old new fresh ends) h
+head_stops to week left left1 written reported old new ReadFault fresh h =
+    let t = h.reads.taken in
+    let none : lines_by true t ≡ [] = ap (lines_by true) (held_none old.rest t fresh.rest) ∙ ended_lines left left1 old new [] h.reads h.more h.none in
+    let few = recent_ended t [] none in
+    nothing_part to week left left1 written reported t ReadFault h.reads.consumes (omega (arith, few))
+    (subst (Appends written written) (sym (settled_is to week t [] none)) (Appends-nil written), subst (Appends reported reported) (sym (settled_report_is week t [] none)) (Appends-nil reported))
+head_stops to week left left1 written reported old new TooLong fresh h =
+    let t = h.reads.taken in
+    let whole = held_none old.rest t fresh.rest ∙ h.split in
+    let few = recent_within t h.front h.last 0 whole (h.few (omega (arith, fresh.taken))) (omega (arith, ap length (no_pieces h.front h.none))) in
+    nothing_part to week left left1 written reported t TooLong h.reads.consumes (omega (arith, few)) (omega (arith, h.too_many, h.reads.count, fresh.taken))
+head_stops to week left left1 written reported old new WriteFault fresh h = absurd h
+head_stops to week left left1 written reported old new ReportFault fresh h = absurd h
+head_stops to week left left1 written reported old new NoMemory fresh h = absurd h
+
+-- ---- behind a first line that is accepted
+
+pub head_accepts : (week : Option ℕ) (left left1 : Option (List ℕ)) (old new : LinesState) (head : Accepted) → IsFresh old → GivesHead week left left1 old new head → Accepts week left
+head_accepts week left left1 old new head fresh h =
+    accepts_first week head h.line left h.accepted (known_lines left left1 old new (h.line ∷ []) h.gives.reads fresh.rest fresh.ended)
+
+-- the capture that the bytes taken are
+head_capture : (week : Option ℕ) (left left1 left2 : Option (List ℕ)) (old middle new : LinesState) (head : Accepted) (given : List Line) → IsFresh old → (h : GivesHead week left left1 old middle head)
+    → (reads : Reads left1 left2 middle new given) → capture_of week (h.gives.reads.taken ++ reads.taken) ≡ Some (capture_by head (given ++ lines_by false new.rest))
+head_capture week left left1 left2 old middle new head given fresh h reads =
+    ap (capture_in week) (fresh_lines left left2 old new (h.line ∷ given) (reads_more left left1 left2 old middle new (h.line ∷ []) given h.gives.reads reads) fresh)
+    ∙ capture_lines week head h.line (given ++ lines_by false new.rest) h.accepted
+
+-- the text in front was not written whole
+pub head_part : (to : Target) (week : Option ℕ) (left left1 written written_new reported : Option (List ℕ)) (old new : LinesState) (head : Accepted) → IsFresh old → GivesHead week left left1 old new head
+    → AppendsFront written written_new (front_text to) → Stop to week left left1 written written_new reported reported WriteFault
+head_part to week left left1 written written_new reported old new head fresh h (front, within, text) =
+    let t = h.gives.reads.taken in
+    let few : length old.rest ≤ 4096 = omega (arith, ap length fresh.rest) in
+    let whole = held_none old.rest t fresh.rest ∙ h.gives.split in
+    let recent = recent_lines t h.gives.front new.rest (h.line ∷ []) whole (h.gives.short few) (fresh_lines left left1 old new (h.line ∷ []) h.gives.reads fresh) in
+    let c = capture_by head (lines_by false new.rest) in
+    let capture : capture_of week t ≡ Some c =
+    ap (capture_in week) (fresh_lines left left1 old new (h.line ∷ []) h.gives.reads fresh) ∙ capture_lines week head h.line (lines_by false new.rest) h.accepted in
+    let behind = texts_of to (periods c) ++ back_text to (counts_text (counts_of c)) in
+    record {
+      taken = t;
+      consumes = h.gives.reads.consumes;
+      text = record {
+        front = front;
+        within = subst (IsFront front) (sym (output_is to week t c capture)) (front_trans front (front_text to) (front_text to ++ behind) within (front_more (front_text to) behind));
+        no_less = subst (λ (l : List ℕ). IsFront l front) (sym (least_none to week t recent)) (front_nil front);
+        grew = text;
+      };
+      report = ([], front_nil (report_of_capture week t), Appends-nil reported);
+      ahead = (
+        front_head to week head h.line left written written_new reported h.accepted (known_lines left left1 old new (h.line ∷ []) h.gives.reads fresh.rest fresh.ended) (front, within, text),
+        last_front to week left left1 written written_new (front, within, text),
+      );
+      says = head_accepts week left left1 old new head fresh h;
+    }
+
+-- no more lines have ended before the last 4,096 bytes than behind the first and that one
+recent_head : (line : Line) (a b front rest : List ℕ) (n : ℕ) → a ≡ front ++ rest → length rest ≤ 4096 → lines_by false a ≡ (line ∷ []) ++ lines_by false rest
+    → length (lines_by true (take (length (rest ++ b) - 4096) (rest ++ b))) ≤ n
+    → length (lines_by true (take (length (a ++ b) - 4096) (a ++ b))) ≤ n + 1
+recent_head line a b front rest n e few all recent =
+    let s = rest ++ b in
+    let k = length s - 4096 in
+    let whole : a ++ b ≡ (front ++ take k s) ++ drop k s =
+    ap (λ (l : List ℕ). l ++ b) e ∙ append_assoc front rest b ∙ ap (λ (l : List ℕ). front ++ l) (sym (take-append-drop k s)) ∙ sym (append_assoc front (take k s) (drop k s)) in
+    recent_within (a ++ b) (front ++ take k s) (drop k s) (n + 1) whole (omega (arith, length-drop k s))
+    (omega (arith, sum_pieces front (take k s), ended_before front rest (line ∷ []) (ap (lines_by false) (sym e) ∙ all), lines_length true (take k s), recent))
+
+-- a front of what all bytes give
+follow_front : (to : Target) (week : Option ℕ) (left left1 left2 written written1 written2 reported reported2 : Option (List ℕ)) (middle new : LinesState) (head : Accepted) (line : Line) (fault : BridgeFault) → accepted_line week line ≡ Some head
+    → Appends written written1 (front_text to) → (p : FollowsBroke to head left1 left2 middle new written1 written2 reported reported2 fault)
+    → Follow left new (line ∷ (p.given ++ p.last)) → CaptureFront to week left written written2 reported reported2
+follow_front to week None left1 left2 written written1 written2 reported reported2 middle new head line fault accepted begun p k = tt
+follow_front to week (Some bytes) left1 left2 written written1 written2 reported reported2 middle new head line fault accepted begun p k =
+    let text = p.text k.0 k.2 in
+    fronts_of to week head line (p.given ++ p.last) k.0 bytes written written1 written2 reported reported2 accepted k.1 begun (text.front, text.within, text.grew) p.report
+
+-- what the fault says besides
+follow_says : (to : Target) (week : Option ℕ) (left left1 left2 written written1 written2 reported reported2 : Option (List ℕ)) (old middle new : LinesState) (head : Accepted) (given last : List Line) (fault : BridgeFault) → IsFresh old
+    → (h : GivesHead week left left1 old middle head) → Appends written written1 (front_text to) → (reads : Reads left1 left2 middle new (given ++ last))
+    → FollowsSays to head given last new written1 written2 reported reported2 fault
+    → StopSays to week left (h.gives.reads.taken ++ reads.taken) written written2 reported reported2 fault
+follow_says to week left left1 left2 written written1 written2 reported reported2 old middle new head given last ReadFault fresh h begun reads says =
+    let t = h.gives.reads.taken ++ reads.taken in
+    let all = reads_more left left1 left2 old middle new (h.line ∷ []) (given ++ last) h.gives.reads reads in
+    let ended : lines_by true t ≡ h.line ∷ given =
+    ap (lines_by true) (held_none old.rest t fresh.rest) ∙ ended_lines left left2 old new (h.line ∷ (given ++ last)) all says.1 says.2
+    ∙ ap (λ (l : List Line). h.line ∷ (given ++ l)) says.0 ∙ ap (λ (l : List Line). h.line ∷ l) (append-nil given) in
+    let closed = closed_texts to head given in
+    let text : settled_output to week t ≡ front_text to ++ closed =
+    settled_is to week t (h.line ∷ given) ended ∙ ap (settled_text to) (capture_lines week head h.line given h.accepted) in
+    let report : settled_report week t ≡ line_report (log_of head.window given) =
+    settled_report_is week t (h.line ∷ given) ended ∙ ap refusals_text (capture_lines week head h.line given h.accepted) in (
+      subst (Appends written written2) (sym text) (Appends-trans written written1 written2 (front_text to) closed begun says.3),
+      subst (Appends reported reported2) (sym report) says.4,
+    )
+follow_says to week left left1 left2 written written1 written2 reported reported2 old middle new head given last TooLong fresh h begun reads says =
+    omega (arith, says, (reads_more left left1 left2 old middle new (h.line ∷ []) (given ++ last) h.gives.reads reads).count, fresh.taken)
+follow_says to week left left1 left2 written written1 written2 reported reported2 old middle new head given last NotThisForm fresh h begun reads says = absurd says
+follow_says to week left left1 left2 written written1 written2 reported reported2 old middle new head given last WriteFault fresh h begun reads says = head_accepts week left left1 old middle head fresh h
+follow_says to week left left1 left2 written written1 written2 reported reported2 old middle new head given last ReportFault fresh h begun reads says = head_accepts week left left1 old middle head fresh h
+follow_says to week left left1 left2 written written1 written2 reported reported2 old middle new head given last NoMemory fresh h begun reads says = head_accepts week left left1 old middle head fresh h
+
+-- a front of the output of the lines
+pub follow_stops : (laws : LogLaws) (to : Target) (week : Option ℕ) (left left1 left2 written written1 written2 reported reported2 : Option (List ℕ)) (old middle new : LinesState) (head : Accepted) (fault : BridgeFault) → IsFresh old
+    → GivesHead week left left1 old middle head → Appends written written1 (front_text to)
+    → FollowsBroke to head left1 left2 middle new written1 written2 reported reported2 fault
+    → Stop to week left left2 written written2 reported reported2 fault
+follow_stops laws to week left left1 left2 written written1 written2 reported reported2 old middle new head fault fresh h begun p =
+    let a = h.gives.reads.taken in
+    let t = a ++ p.reads.taken in
+    let reads = reads_more left left1 left2 old middle new (h.line ∷ []) (p.given ++ p.last) h.gives.reads p.reads in
+    let more = lines_by false new.rest in
+    let c = capture_by head ((p.given ++ p.last) ++ more) in
+    let few : length old.rest ≤ 4096 = omega (arith, ap length fresh.rest) in
+    let none : new.ended ≡ true → new.rest ≡ [] → more ≡ [] = λ ended rest. ap (lines_by false) rest in
+    let capture = head_capture week left left1 left2 old middle new head (p.given ++ p.last) fresh h p.reads in
+    let text = p.text more none in
+    let closed = closed_texts to head p.given in
+    let texts = texts_of to (periods c) in
+    let back = back_text to (counts_text (counts_of c)) in
+    let recent = recent_head h.line a p.reads.taken h.gives.front middle.rest (length (p.given ++ p.last)) (held_none old.rest a fresh.rest ∙ h.gives.split) (h.gives.short few)
+    (fresh_lines left left1 old middle (h.line ∷ []) h.gives.reads fresh) p.recent in
+    let least = least_front laws to week head h.line p.given p.last more t h.accepted p.few (fresh_lines left left2 old new (h.line ∷ (p.given ++ p.last)) reads fresh) (omega (arith, recent)) in
+    record {
+      taken = t;
+      consumes = reads.consumes;
+      text = record {
+        front = front_text to ++ text.front;
+        within = subst (IsFront (front_text to ++ text.front)) (sym (output_is to week t c capture))
+            (front_behind (front_text to) text.front (texts ++ back) (front_trans text.front texts (texts ++ back) text.within (front_more texts back)));
+        no_less = front_trans (least_output to week t) (front_text to ++ closed) (front_text to ++ text.front) least (front_behind (front_text to) closed text.front text.no_less);
+        grew = Appends-trans written written1 written2 (front_text to) text.front begun text.grew;
+      };
+      report = subst (AppendsFront reported reported2) (sym (report_is week t c capture))
+          (appends_longer reported reported2 (line_report (log_of head.window (p.given ++ p.last))) (line_report (log_of head.window c.lines) ++ counts_text (counts_of c))
+          (front_trans (line_report (log_of head.window (p.given ++ p.last))) (line_report (log_of head.window c.lines)) (line_report (log_of head.window c.lines) ++ counts_text (counts_of c))
+          (report_front head.window (p.given ++ p.last) more) (front_more (line_report (log_of head.window c.lines)) (counts_text (counts_of c)))) p.report);
+      ahead = (
+        follow_front to week left left1 left2 written written1 written2 reported reported2 middle new head h.line fault h.accepted begun p
+            (lines_follow left left2 old new (h.line ∷ (p.given ++ p.last)) reads fresh.rest fresh.ended),
+        last_texts to week left left2 written written1 written2 (periods c) begun (text.front, text.within, text.grew),
+      );
+      says = follow_says to week left left1 left2 written written1 written2 reported reported2 old middle new head p.given p.last fault fresh h begun p.reads p.says;
+    }
+
+-- ---- all lines were taken
+
+abbrev counts_by : ℕ → ℕ → ℕ → ℕ → ℕ → Said → CaptureCounts
+counts_by lines a b c d said = with_counts lines (record { malformed = a; late = b; refused = c; unused = d }) said
+
+same_counts : (lines a b c d m e f g h : ℕ) (said s : Said) → lines ≡ m → a ≡ e → b ≡ f → c ≡ g → d ≡ h → said ≡ s → counts_by lines a b c d said ≡ counts_by m e f g h s
+same_counts lines a b c d m e f g h said s p q r t u v = rw (p, q, r, t, u, v) refl
+
+zero_more : (n : ℕ) → 0 + n ≡ n
+zero_more n = omega arith
+
+pub counts_are : (head : Accepted) (given : List Line) (lines : ℕ) (tally : Tally) (said : Said) → lines ≡ length given + 1 → tally ≡ tallied no_tally (log_of head.window given)
+    → said ≡ said_of (periods_of head.week head.window (parts_of head.window given)) → with_counts lines tally said ≡ counts_of (capture_by head given)
+counts_are head given lines tally said number counts verdicts =
+    let log = log_of head.window given in
+    ap (λ (t : Tally). with_counts lines t said) counts
+    ∙ same_counts lines (0 + count_in is_malformed log) (0 + count_in is_late log) (0 + count_in is_refused log) (0 + count_in is_unused log) (length given + 1)
+    (count_in is_malformed log) (count_in is_late log) (count_in is_refused log) (count_in is_unused log) said
+    (said_of (periods_of head.week head.window (parts_of head.window given))) number (zero_more _) (zero_more _) (zero_more _) (zero_more _) verdicts
+
+-- all that was taken of a capture
+pub record IsTaken (to : Target) (week : Option ℕ) (left left2 written written2 reported reported2 : Option (List ℕ)) (head : Accepted) (counts : CaptureCounts) : Type 0 where
+  pub line : Line
+  pub given : List Line
+  pub taken : List ℕ
+  pub consumes : Consumes left left2 taken
+  pub end : IsAtEnd left2
+  pub fits : length taken < 2 ^ 32
+  pub accepted : accepted_line week line ≡ Some head
+  pub lines : lines_by false taken ≡ line ∷ given
+  pub text : Appends written written2 (front_text to ++ texts_of to (periods (capture_by head given)))
+  pub report : Appends reported reported2 (line_report (log_of head.window given))
+  pub counted : counts ≡ counts_of (capture_by head given)
+  pub accepts : Accepts week left
+
+pub all_taken : (to : Target) (week : Option ℕ) (left left1 left2 written written1 written2 reported reported2 : Option (List ℕ)) (old middle new : LinesState) (head : Accepted) (tally : Tally) (said : Said) (counts : CaptureCounts)
+    → IsFresh old → GivesHead week left left1 old middle head → Appends written written1 (front_text to)
+    → FollowsAll to head left1 left2 middle new written1 written2 reported reported2 tally said → counts ≡ with_counts new.number tally said
+    → IsTaken to week left left2 written written2 reported reported2 head counts
+all_taken to week left left1 left2 written written1 written2 reported reported2 old middle new head tally said counts fresh h begun p counted =
+    let reads = reads_more left left1 left2 old middle new (h.line ∷ []) p.given h.gives.reads p.reads in
+    record {
+      line = h.line;
+      given = p.given;
+      taken = reads.taken;
+      consumes = reads.consumes;
+      end = ⊎_elim (λ (before : old.ended ≡ true). absurd (true≢false (sym before ∙ fresh.ended))) (λ (at : IsAtEnd left2). at) (reads.at_end p.ended);
+      fits = omega (arith, p.low, reads.count, fresh.taken);
+      accepted = h.accepted;
+      lines = fresh_lines left left2 old new (h.line ∷ p.given) reads fresh ∙ ap (λ (l : List ℕ). (h.line ∷ p.given) ++ lines_by false l) p.rest ∙ append-nil (h.line ∷ p.given);
+      text = Appends-trans written written1 written2 (front_text to) _ begun p.text;
+      report = p.report;
+      counted = counted ∙ counts_are head p.given new.number tally said (omega (arith, p.number, h.gives.number, fresh.number)) p.counts p.verdicts;
+      accepts = head_accepts week left left1 old middle head fresh h;
+    }
+
+-- what stands behind the periods was not written whole, or the counts were not reported whole
+end_stops : (laws : LogLaws) (to : Target) (week : Option ℕ) (left left2 written written2 written3 reported reported2 reported3 : Option (List ℕ)) (head : Accepted) (counts : CaptureCounts) (fault : BridgeFault)
+    (t : IsTaken to week left left2 written written2 reported reported2 head counts) → AppendsFront written2 written3 (back_text to (counts_text counts)) → AppendsFront reported2 reported3 (counts_text counts)
+    → StopSays to week left t.taken written written3 reported reported3 fault → Stop to week left left2 written written3 reported reported3 fault
+end_stops laws to week left left2 written written2 written3 reported reported2 reported3 head counts fault t back report says =
+    let c = capture_by head t.given in
+    let capture : capture_of week t.taken ≡ Some c = ap (capture_in week) t.lines ∙ capture_lines week head t.line t.given t.accepted in
+    let texts = texts_of to (periods c) in
+    let closed = closed_texts to head t.given in
+    let nil = append-nil t.given in
+    let lines : lines_by false t.taken ≡ (t.line ∷ (t.given ++ [])) ++ [] = t.lines ∙ ap (λ (l : List Line). t.line ∷ l) (sym nil) ∙ sym (append-nil (t.line ∷ (t.given ++ []))) in
+    let recent = recent_lines t.taken t.taken [] (t.line ∷ (t.given ++ [])) (sym (append-nil t.taken)) (omega arith) lines in
+    let least = least_front laws to week head t.line t.given [] [] t.taken t.accepted (omega arith) lines recent in
+    let front = texts_front to (closed_of head.week head.window (mark_after head.window t.given) (parts_of head.window t.given)) (periods_of head.week head.window (parts_of head.window (t.given ++ [])))
+    (laws.front head.week head.window t.given []) in
+    let below : IsFront closed texts = subst (λ (l : List Line). IsFront closed (texts_of to (periods_of head.week head.window (parts_of head.window l)))) nil front in
+    let behind = subst (λ (x : CaptureCounts). AppendsFront written2 written3 (back_text to (counts_text x))) t.counted back in
+    let told = subst (λ (x : CaptureCounts). AppendsFront reported2 reported3 (counts_text x)) t.counted report in
+    let text : AppendsBetween written written3 (least_output to week t.taken) (output_of to week t.taken) = record {
+      front = (front_text to ++ texts) ++ behind.0;
+      within = subst (IsFront ((front_text to ++ texts) ++ behind.0)) (append_assoc (front_text to) texts (back_text to (counts_text (counts_of c))) ∙ sym (output_is to week t.taken c capture))
+          (front_behind (front_text to ++ texts) behind.0 (back_text to (counts_text (counts_of c))) behind.1);
+      no_less = front_trans (least_output to week t.taken) (front_text to ++ closed) ((front_text to ++ texts) ++ behind.0) least
+          (front_trans (front_text to ++ closed) (front_text to ++ texts) ((front_text to ++ texts) ++ behind.0) (front_behind (front_text to) closed texts below) (front_more (front_text to ++ texts) behind.0));
+      grew = Appends-trans written written2 written3 (front_text to ++ texts) behind.0 t.text behind.2;
+    } in
+    let report_text : AppendsFront reported reported3 (report_of_capture week t.taken) = subst (AppendsFront reported reported3) (sym (report_is week t.taken c capture))
+    (appends_behind reported reported2 reported3 (line_report (log_of head.window t.given)) (counts_text (counts_of c)) t.report told) in
+    let wrote : AppendsFront written written3 (output_of to week t.taken) = (text.front, text.within, text.grew) in
+    let same = Consumes-all left left2 t.taken [] t.taken t.consumes t.end refl in
+    record {
+      taken = t.taken;
+      consumes = t.consumes;
+      text = text;
+      report = report_text;
+      ahead = (front_all to week left written written3 reported reported3 t.taken same wrote report_text, last_all to week left left2 written written3 t.taken t.consumes t.end wrote);
+      says = says;
+    }
+
+pub end_stopped : (laws : LogLaws) (to : Target) (week : Option ℕ) (left left2 written written2 written3 reported reported2 reported3 : Option (List ℕ)) (head : Accepted) (counts : CaptureCounts) (fault : BridgeFault)
+    → IsTaken to week left left2 written written2 reported reported2 head counts → AppendsFront written2 written3 (back_text to (counts_text counts)) → AppendsFront reported2 reported3 (counts_text counts)
+    → (fault ≡ WriteFault) ⊎ (fault ≡ ReportFault) → Stop to week left left2 written written3 reported reported3 fault
+end_stopped laws to week left left2 written written2 written3 reported reported2 reported3 head counts fault t back report kind =
+    ⊎_elim (λ (e : fault ≡ WriteFault). subst (Stop to week left left2 written written3 reported reported3) (sym e) (end_stops laws to week left left2 written written2 written3 reported reported2 reported3 head counts WriteFault t back report t.accepts))
+    (λ (e : fault ≡ ReportFault). subst (Stop to week left left2 written written3 reported reported3) (sym e) (end_stops laws to week left left2 written written2 written3 reported reported2 reported3 head counts ReportFault t back report t.accepts)) kind
+
+-- ---- as a run of its meaning ends
+
+abbrev pub faults_at : {S T U : Type 0} → World S T U → Faults
+faults_at w = faults_of w.reads_failed w.writes_failed w.reports_failed
+
+leaves_nothing : {S T U : Type 0} (to : Target) (week : Option ℕ) (b a : World S T U) → Leaves (target_meaning to week) b a
+leaves_nothing to week b a = record { unread = λ e. absurd (true≢false e); silent = λ e. absurd (true≢false e) }
+
+-- each fault has its cause
+pub head_cause : (week : Option ℕ) (left left_new : Option (List ℕ)) (old new : LinesState) (reads reads_new writes reports : ℕ) (fault : BridgeFault) → GivesNoHead week left left_new old new fault
+    → (fault ≡ ReadFault → Rose reads reads_new) → HasItsCause {T = Unit {0}} (faults_of reads writes reports) (faults_of reads_new writes reports) (Err fault)
+head_cause week left left_new old new reads reads_new writes reports ReadFault h rose = rose refl
+head_cause week left left_new old new reads reads_new writes reports NotThisForm h rose = tt
+head_cause week left left_new old new reads reads_new writes reports TooLong h rose = tt
+head_cause week left left_new old new reads reads_new writes reports WriteFault h rose = absurd h
+head_cause week left left_new old new reads reads_new writes reports ReportFault h rose = absurd h
+head_cause week left left_new old new reads reads_new writes reports NoMemory h rose = tt
+
+pub follow_cause : (reads reads1 writes writes1 reports : ℕ) (now : Faults) (fault : BridgeFault) → HasItsCause {T = Unit {0}} (faults_of reads1 writes1 reports) now (Err fault) → reads1 ≡ reads → writes1 ≡ writes
+    → HasItsCause {T = Unit {0}} (faults_of reads writes reports) now (Err fault)
+follow_cause reads reads1 writes writes1 reports now fault h e f =
+    subst (λ (n : ℕ). HasItsCause {T = Unit {0}} (faults_of reads n reports) now (Err fault)) f (subst (λ (n : ℕ). HasItsCause {T = Unit {0}} (faults_of n writes1 reports) now (Err fault)) e h)
+
+follow_form : (to : Target) (head : Accepted) (given last : List Line) (new : LinesState) (start written told reported : Option (List ℕ)) (fault : BridgeFault)
+    → FollowsSays to head given last new start written told reported fault → fault ≡ NotThisForm → ⊥
+follow_form to head given last new start written told reported fault says e = subst (FollowsSays to head given last new start written told reported) e says
+
+pub followed_form : (to : Target) (head : Accepted) (left left_new : Option (List ℕ)) (old new : LinesState) (start written told reported : Option (List ℕ)) (fault : BridgeFault)
+    → FollowsBroke to head left left_new old new start written told reported fault → fault ≡ NotThisForm → ⊥
+followed_form to head left left_new old new start written told reported fault p e = follow_form to head p.given p.last new start written told reported fault p.says e
+
+written_fault : (fault other : BridgeFault) → (WriteFault ≡ other → ⊥) → (ReportFault ≡ other → ⊥) → (fault ≡ WriteFault) ⊎ (fault ≡ ReportFault) → fault ≡ other → ⊥
+written_fault fault other write report kind e =
+    ⊎_elim (λ (k : fault ≡ WriteFault). write (sym k ∙ e)) (λ (k : fault ≡ ReportFault). report (sym k ∙ e)) kind
+
+pub write_read : WriteFault ≡ ReadFault → ⊥
+write_read e = cc
+
+pub write_form : WriteFault ≡ NotThisForm → ⊥
+write_form e = cc
+
+report_read : ReportFault ≡ ReadFault → ⊥
+report_read e = cc
+
+report_form : ReportFault ≡ NotThisForm → ⊥
+report_form e = cc
+
+pub end_read : (fault : BridgeFault) → (fault ≡ WriteFault) ⊎ (fault ≡ ReportFault) → fault ≡ ReadFault → ⊥
+end_read fault kind = written_fault fault ReadFault write_read report_read kind
+
+pub end_form : (fault : BridgeFault) → (fault ≡ WriteFault) ⊎ (fault ≡ ReportFault) → fault ≡ NotThisForm → ⊥
+end_form fault kind = written_fault fault NotThisForm write_form report_form kind
+
+pub end_cause : (reads reads_new writes writes1 writes_new reports reports1 reports_new : ℕ) (fault : BridgeFault) → (fault ≡ WriteFault) ⊎ (fault ≡ ReportFault)
+    → HasItsCause {T = Unit {0}} (faults_of 0 writes1 reports1) (faults_of 0 writes_new reports_new) (Err fault) → writes1 ≡ writes → reports1 ≡ reports
+    → HasItsCause {T = Unit {0}} (faults_of reads writes reports) (faults_of reads_new writes_new reports_new) (Err fault)
+end_cause reads reads_new writes writes1 writes_new reports reports1 reports_new WriteFault kind h e f = subst (λ (n : ℕ). Rose n writes_new) e h
+end_cause reads reads_new writes writes1 writes_new reports reports1 reports_new ReportFault kind h e f = subst (λ (n : ℕ). Rose n reports_new) f h
+end_cause reads reads_new writes writes1 writes_new reports reports1 reports_new ReadFault kind h e f = absurd (end_read ReadFault kind refl)
+end_cause reads reads_new writes writes1 writes_new reports reports1 reports_new NotThisForm kind h e f = absurd (end_form NotThisForm kind refl)
+end_cause reads reads_new writes writes1 writes_new reports reports1 reports_new TooLong kind h e f = tt
+end_cause reads reads_new writes writes1 writes_new reports reports1 reports_new NoMemory kind h e f = tt
+
+pub end_quiet : (reads reads1 reads_new writes writes1 writes2 writes_new reports reports1 reports_new : ℕ) → faults_of 0 writes_new reports_new ≡ faults_of 0 writes2 reports1
+    → faults_of reads_new writes2 reports1 ≡ faults_of reads1 writes1 reports → reads1 ≡ reads → writes1 ≡ writes
+    → faults_of reads_new writes_new reports_new ≡ faults_of reads writes reports
+end_quiet reads reads1 reads_new writes writes1 writes2 writes_new reports reports1 reports_new last middle e f =
+    rw (ap (λ (x : Faults). x.output) last, ap (λ (x : Faults). x.report) last, sym e, sym f) middle
+
+stop_says : {S T U : Type 0} (to : Target) (week : Option ℕ) (taken : List ℕ) (b a : World S T U) (fault : BridgeFault)
+    → StopSays to week b.left taken b.written a.written b.reported a.reported fault → HasItsCause {T = Unit {0}} (faults_at b) (faults_at a) (Err fault)
+    → (fault ≡ ReadFault → IsTrue b.never_fails → ⊥) → (fault ≡ NotThisForm → (a.output ≡ b.output) × (a.report ≡ b.report)) → Says (target_meaning to week) taken b a fault
+stop_says to week taken b a ReadFault says cause never form = (refl, cause, never refl, says)
+stop_says to week taken b a WriteFault says cause never form = (cause, says)
+stop_says to week taken b a ReportFault says cause never form = (refl, cause, says)
+stop_says to week taken b a NotThisForm says cause never form = (says.0, says.1, (form refl).0, (form refl).1)
+stop_says to week taken b a TooLong says cause never form = says
+stop_says to week taken b a NoMemory says cause never form = (refl, says)
+
+pub stopped_by : {S T U : Type 0} (to : CaptureTo) (target : Target) (week : Option ℕ) (b a : World S T U) (fault : BridgeFault) → target ≡ target_of to
+    → Stop target week b.left a.left b.written a.written b.reported a.reported fault → HasItsCause {T = Unit {0}} (faults_at b) (faults_at a) (Err fault)
+    → (fault ≡ ReadFault → IsTrue b.never_fails → ⊥) → (fault ≡ NotThisForm → (a.output ≡ b.output) × (a.report ≡ b.report)) → Broke (capture_meaning to week) b a fault
+stopped_by to target week b a fault same stop cause never form =
+    subst (λ (t : Target). Broke (target_meaning t week) b a fault) same (record {
+      taken = stop.taken;
+      consumes = stop.consumes;
+      text = stop.text;
+      told = stop.report;
+      leaves = leaves_nothing target week b a;
+      says = stop_says target week stop.taken b a fault stop.says cause never form;
+    })
+
+pub ahead_of : (to : CaptureTo) (target : Target) (week : Option ℕ) (left left_new written written_new reported reported_new : Option (List ℕ)) (fault : BridgeFault) → target ≡ target_of to
+    → Stop target week left left_new written written_new reported reported_new fault → CaptureAhead (target_of to) week left left_new written written_new reported reported_new
+ahead_of to target week left left_new written written_new reported reported_new fault same stop = subst (λ (t : Target). CaptureAhead t week left left_new written written_new reported reported_new) same stop.ahead
+
+pub all_done : {S T U : Type 0} (to : CaptureTo) (target : Target) (week : Option ℕ) (b a : World S T U) (written2 reported2 : Option (List ℕ)) (head : Accepted) (counts : CaptureCounts) → target ≡ target_of to
+    → IsTaken target week b.left a.left b.written written2 b.reported reported2 head counts → Appends written2 a.written (back_text target (counts_text counts)) → Appends reported2 a.reported (counts_text counts)
+    → faults_at a ≡ faults_at b → Done (capture_meaning to week) b a counts
+all_done to target week b a written2 reported2 head counts same t back report quiet =
+    let c = capture_by head t.given in
+    let capture : capture_of week t.taken ≡ Some c = ap (capture_in week) t.lines ∙ capture_lines week head t.line t.given t.accepted in
+    let texts = texts_of target (periods c) in
+    let behind = subst (λ (x : CaptureCounts). Appends written2 a.written (back_text target (counts_text x))) t.counted back in
+    let told = subst (λ (x : CaptureCounts). Appends reported2 a.reported (counts_text x)) t.counted report in
+    subst (λ (x : Target). Done (target_meaning x week) b a counts) same (record {
+      taken = t.taken;
+      consumes = t.consumes;
+      end = t.end;
+      fits = t.fits;
+      counted = ap counts_in capture ∙ ap Some (sym t.counted);
+      text = subst (Appends b.written a.written) (append_assoc (front_text target) texts (back_text target (counts_text (counts_of c))) ∙ sym (output_is target week t.taken c capture))
+          (Appends-trans b.written written2 a.written (front_text target ++ texts) (back_text target (counts_text (counts_of c))) t.text behind);
+      told = subst (Appends b.reported a.reported) (sym (report_is week t.taken c capture))
+          (Appends-trans b.reported reported2 a.reported (line_report (log_of head.window t.given)) (counts_text (counts_of c)) t.report told);
+      leaves = leaves_nothing target week b a;
+      reads = ap (λ (f : Faults). f.input) quiet;
+      writes = ap (λ (f : Faults). f.output) quiet;
+      reports = ap (λ (f : Faults). f.report) quiet;
+    })

@@ -1,0 +1,9 @@
+pub mod Seeds
+pub mod Counting
+pub mod Reports
+pub mod Captures
+pub mod Runs
+pub mod Notes
+pub mod Settled
+pub mod Follows
+pub mod Hearings

@@ -1,0 +1,134 @@
+//! What a run over a capture counts.
+
+ghost use Rattle.std.specs.Prelude.{◌≡◌, [], ◌+◌, ◌<◌, ◌≤◌, ◌^◌, ◌++◌, codes, length};
+ghost use Rattle.captures.specs.Captures.{counts_text};
+ghost use Rattle.captures.specs.Follows.{no_tally};
+ghost use Rattle.captures.specs.Settled.{said, said_of, total_said, with_counts};
+
+use one_run::{Text, append_count};
+use periods::Verdict;
+
+/// What a run over a capture counts.
+#[derive(Clone, Copy, PartialEq, Eq)]
+pub struct CaptureCounts {
+    /// The lines, the first one included.
+    pub lines: u64,
+    /// The lines that have none of the forms of a line.
+    pub malformed: u64,
+    /// The lines that came too late.
+    pub late: u64,
+    /// The subframes, frames, messages and words heard that were refused.
+    pub refused: u64,
+    /// The subframes, page halves, messages and words heard that are of a kind that is passed over.
+    pub unused: u64,
+    /// The periods whose parts all came, agree, and bring something new.
+    pub whole: u64,
+    /// The periods of which a kind of part was not heard.
+    pub partial: u64,
+    /// The periods of which two parts of one kind differ.
+    pub contradicted: u64,
+    /// The periods of Galileo without health near their end.
+    pub nohealth: u64,
+    /// The periods that say again what the last complete one of their key said.
+    pub again: u64,
+}
+
+// What the lines of a capture come to, but for the parts that they bring.
+#[derive(Clone, Copy)]
+pub(crate) struct Tally {
+    pub(crate) malformed: u64,
+    pub(crate) late: u64,
+    pub(crate) refused: u64,
+    pub(crate) unused: u64,
+}
+
+impl Tally {
+    // Nothing was counted.
+    pub(crate) fn new() -> Tally
+        ensures { result ≡ no_tally }
+    {
+        Tally {
+            malformed: 0,
+            late: 0,
+            refused: 0,
+            unused: 0,
+        }
+    }
+}
+
+// What is said of the periods.
+#[derive(Clone, Copy)]
+pub(crate) struct Said {
+    pub(crate) whole: u64,
+    pub(crate) partial: u64,
+    pub(crate) contradicted: u64,
+    pub(crate) nohealth: u64,
+    pub(crate) again: u64,
+}
+
+impl Said {
+    // Nothing was said.
+    pub(crate) fn new() -> Said
+        ensures { result ≡ said_of [] }
+    {
+        Said {
+            whole: 0,
+            partial: 0,
+            contradicted: 0,
+            nohealth: 0,
+            again: 0,
+        }
+    }
+
+    // Counts what is said of a period.
+    pub(crate) fn count(&mut self, verdict: &Verdict)
+        requires { total_said self.old + 1 < 2 ^ 64 }
+        ensures said { self.new ≡ said self.old verdict.now }
+        ensures total { total_said self.new ≡ total_said self.old + 1 }
+    {
+        match verdict {
+            Verdict::Whole(_) => self.whole += 1,
+            Verdict::Partial => self.partial += 1,
+            Verdict::Contradicted => self.contradicted += 1,
+            Verdict::NoHealth => self.nohealth += 1,
+            Verdict::Again => self.again += 1,
+        }
+    }
+}
+
+// The counts of a capture of so many lines.
+pub(crate) fn counts_with(lines: u32, tally: &Tally, said: &Said) -> CaptureCounts
+    ensures { result ≡ with_counts lines tally.now said.now }
+{
+    CaptureCounts {
+        lines: u64::from(lines),
+        malformed: tally.malformed,
+        late: tally.late,
+        refused: tally.refused,
+        unused: tally.unused,
+        whole: said.whole,
+        partial: said.partial,
+        contradicted: said.contradicted,
+        nohealth: said.nohealth,
+        again: said.again,
+    }
+}
+
+/// The text of the counts of a capture: a line for each, its name, a space and the number, in the order of the fields.
+#[tactic(auto, unfolding(crate::specs::Captures::counts_text))]
+pub(crate) fn capture_counts_text(counts: &CaptureCounts) -> Text
+    ensures { result.items ≡ counts_text counts.now }
+{
+    let mut text = Text::new();
+    append_count(&mut text, b"lines", counts.lines);
+    append_count(&mut text, b"malformed", counts.malformed);
+    append_count(&mut text, b"late", counts.late);
+    append_count(&mut text, b"refused", counts.refused);
+    append_count(&mut text, b"unused", counts.unused);
+    append_count(&mut text, b"whole", counts.whole);
+    append_count(&mut text, b"partial", counts.partial);
+    append_count(&mut text, b"contradicted", counts.contradicted);
+    append_count(&mut text, b"nohealth", counts.nohealth);
+    append_count(&mut text, b"again", counts.again);
+    text
+}

@@ -1,0 +1,201 @@
+//! What a run over a capture holds between two lines, and what it makes of the next.
+
+ghost use Rattle.std.specs.Prelude.{◌≡◌, ℕ, ◌+◌, ◌-◌, ◌^◌, ◌<◌, ◌≤◌, length, max, nat_lt};
+ghost use Rattle.nav_eph.specs.declared.sat.System.TheVariants.{Gal};
+ghost use Rattle.capture_log.specs.Events.{Known, events_of, known_with, of_half};
+ghost use Rattle.capture_log.specs.Log.{noted};
+ghost use Rattle.one_run.specs.Causes.{faults_of};
+ghost use Rattle.captures.specs.Hearings.{Finishes, HoldsSome, IsNew, IsNextOf, IsOpenAt};
+ghost use Rattle.captures.specs.Hearings.{Steps, Took};
+ghost use Rattle.captures.specs.Notes.{HasSystem, KeepsHalves, known_half, total};
+
+use crate::counts::{Said, Tally};
+use crate::ear::Ear;
+use crate::settle::{write_closed, write_risen};
+use capture_lines::LineItem;
+use capture_log::{Event, parts_of_lines_are_values, what_is_closed_stays};
+use gnss_week::RefWeek;
+use inav_page::{HalfFault, Halves, halves_are_decided, read_half, words_are_the_function};
+use nav_bits::Bits;
+use nav_eph::{Sat, Signal};
+use nav_io::Sink;
+use one_run::BridgeFault;
+use outlets::Target;
+use slot_assembly::SlotAssembly;
+use std::alloc::Global;
+
+// What a run holds between two lines: the window, the greatest stamp of the lines so far, the
+// halves that may still have a partner, what events go to, and what is said of periods.
+#[derive(Drop)]
+pub(crate) struct Hearing {
+    pub(crate) window: u32,
+    pub(crate) greatest: u32,
+    pub(crate) halves: Halves,
+    pub(crate) ear: Ear,
+    pub(crate) said: Said,
+}
+
+impl Hearing {
+    // No line was taken.
+    pub(crate) fn new(alloc: Global, week: RefWeek, window: u32) -> Hearing
+        requires least { 60 ≤ window }
+        requires most { window ≤ 14400 }
+        ensures { IsNew result week window }
+    {
+        Hearing {
+            window,
+            greatest: 0,
+            halves: Halves::new(alloc, window),
+            ear: Ear {
+                assembly: SlotAssembly::new(alloc, week, window),
+                tally: Tally::new(),
+            },
+            said: Said::new(),
+        }
+    }
+
+    // The mark of the lines so far, below which no accepted line comes.
+    fn mark(&self) -> u64
+        ensures { result ≡ self.now.greatest - self.now.window }
+    {
+        u64::from(self.greatest.saturating_sub(self.window))
+    }
+
+    // Whether a stamp lies behind the greatest by more than the window.
+    fn is_late(&self, stamp: u32) -> bool
+        ensures { result ≡ nat_lt (stamp + self.now.window) self.now.greatest }
+    {
+        u64::from(stamp) + u64::from(self.window) < u64::from(self.greatest)
+    }
+
+    // Takes what a page half brings that is not late.
+    fn half<U: Sink>(
+        &mut self,
+        number: u32,
+        stamp: u32,
+        sat: Sat,
+        signal: Signal,
+        bits: &Bits<15>,
+        report: &mut U,
+    ) -> Result<(), BridgeFault>
+        requires system { sat.system ≡ Gal }
+        requires open { IsOpenAt self.old.ear stamp }
+        requires room { total self.old.ear.tally + length self.old.halves.kept + 1 < 2 ^ 64 }
+        ensures { (known : Known) → KeepsHalves self.old.halves self.old.window known
+            → known.greatest ≡ self.old.greatest
+            → self.old.greatest ≤ stamp + self.old.window
+            → Took self.old self.new (U.written report.old) (U.written report.new)
+            (U.faults report.old) (U.faults report.new)
+            (noted number (of_half known.halves stamp sat signal bits.now))
+            (known_half known stamp sat signal bits.now) result }
+    {
+        halves_are_decided();
+        words_are_the_function();
+        self.greatest = self.greatest.max(stamp);
+        match read_half(bits) {
+            Err(HalfFault::Alert) => self.ear.event(number, &Event::Unused, report),
+            Ok(half) => match self.halves.take(stamp, sat, signal, &half) {
+                Ok(joined) => self.ear.words(number, sat, &joined, report),
+                Err(_) => Err(BridgeFault::NoMemory),
+            },
+        }
+    }
+
+    // Takes what the line with this number stands for.
+    fn item<U: Sink>(
+        &mut self,
+        number: u32,
+        item: &LineItem,
+        report: &mut U,
+    ) -> Result<(), BridgeFault>
+        requires system { HasSystem item.now }
+        requires open { IsOpenAt self.old.ear (self.old.greatest - self.old.window) }
+        requires room { total self.old.ear.tally + length self.old.halves.kept + 1 < 2 ^ 64 }
+        ensures { (known : Known) → known.greatest ≡ self.old.greatest
+            → KeepsHalves self.old.halves self.old.window known
+            → Took self.old self.new (U.written report.old) (U.written report.new)
+            (U.faults report.old) (U.faults report.new)
+            (noted number (events_of self.old.window known item.now))
+            (known_with self.old.window known item.now) result }
+    {
+        match item {
+            LineItem::Pass => Ok(()),
+            LineItem::Malformed => self.ear.event(number, &Event::Malformed, report),
+            LineItem::Lnav { stamp, sat, bits } => {
+                if self.is_late(*stamp) {
+                    return self.ear.event(number, &Event::Late, report);
+                }
+                self.greatest = self.greatest.max(*stamp);
+                self.ear.subframe(number, *stamp, *sat, bits, report)
+            }
+            LineItem::Half {
+                stamp,
+                sat,
+                signal,
+                bits,
+            } => {
+                if self.is_late(*stamp) {
+                    return self.ear.event(number, &Event::Late, report);
+                }
+                self.half(number, *stamp, *sat, *signal, bits, report)
+            }
+            LineItem::Frame { stamp, bytes } => {
+                if self.is_late(*stamp) {
+                    return self.ear.event(number, &Event::Late, report);
+                }
+                self.greatest = self.greatest.max(*stamp);
+                self.ear.frame(number, *stamp, bytes.as_slice(), report)
+            }
+        }
+    }
+
+    // Takes the line with this number to its end: what it stands for, and then each period that is
+    // closed by it is written.
+    pub(crate) fn step<T: Sink, U: Sink>(
+        &mut self,
+        number: u32,
+        item: &LineItem,
+        to: &Target,
+        output: &mut T,
+        report: &mut U,
+    ) -> Result<(), BridgeFault>
+        requires system { HasSystem item.now }
+        requires next { IsNextOf to.now number item.now self.old
+            (T.written output.old) (U.written report.old) }
+        ensures { Steps to.now number item.now self.old self.new
+            (T.written output.old) (T.written output.new)
+            (U.written report.old) (U.written report.new)
+            (faults_of 0 (T.faults output.old) (U.faults report.old))
+            (faults_of 0 (T.faults output.new) (U.faults report.new)) result }
+    {
+        what_is_closed_stays();
+        parts_of_lines_are_values();
+        let before = self.mark();
+        match self.item(number, item, report) {
+            Ok(()) => {}
+            Err(fault) => return Err(fault),
+        }
+        let mark = self.mark();
+        write_risen(
+            to,
+            &mut self.ear.assembly,
+            before,
+            mark,
+            output,
+            &mut self.said,
+        )
+    }
+
+    // Writes each period that was not written yet. No line comes any more.
+    pub(crate) fn finish<T: Sink>(&mut self, to: &Target, output: &mut T) -> Result<(), BridgeFault>
+        requires { HoldsSome to.now self.old (T.written output.old) }
+        ensures { Finishes to.now self.old self.new
+            (T.written output.old) (T.written output.new)
+            (T.faults output.old) (T.faults output.new) result }
+    {
+        what_is_closed_stays();
+        parts_of_lines_are_values();
+        let _greatest = self.greatest;
+        write_closed(to, &mut self.ear.assembly, u64::MAX, output, &mut self.said)
+    }
+}

@@ -1,0 +1,42 @@
+//! The lines of a report: what is refused, and why.
+
+ghost use Rattle.std.specs.Prelude.{◌≡◌, ◌+◌, ◌<◌, ◌≤◌, ◌++◌, codes, length};
+ghost use Rattle.arrayvec.specs.ArrayVec.{array_vec_len};
+ghost use Rattle.one_run.specs.Reports.{report_front as front_of, report_line};
+ghost use Rattle.captures.specs.Reports.{refusal_text};
+
+use capture_log::Refusal;
+use one_run::{Text, append, append_decimal, report_front};
+
+// Appends why something is refused.
+fn append_refusal(text: &mut Text, refusal: &Refusal)
+    requires { array_vec_len text.old + 47 ≤ 640 }
+    ensures items { text.new.items ≡ text.old.items ++ refusal_text refusal.now }
+    ensures short { array_vec_len text.new ≤ array_vec_len text.old + 47 }
+{
+    match refusal {
+        Refusal::Frame => append(text, b"frame"),
+        Refusal::Preamble => append(text, b"preamble"),
+        Refusal::Parity { word } => {
+            append(text, b"parity ");
+            append_decimal(text, u64::from(*word));
+        }
+        Refusal::Tow => append(text, b"tow"),
+        Refusal::Time => append(text, b"time"),
+        Refusal::Satellite => append(text, b"satellite"),
+        Refusal::Sisa => append(text, b"sisa"),
+        Refusal::Short => append(text, b"short"),
+    }
+}
+
+/// A line of a report on something that is refused.
+#[tactic(auto, unfolding(one_run::specs::Reports::report_line))]
+pub(crate) fn refused_text(subject: &[u8], number: u64, refusal: &Refusal) -> Text
+    requires { length subject.now ≤ 16 }
+    ensures { result.items ≡ report_line subject.now number (refusal_text refusal.now) }
+{
+    let mut text = report_front(subject, number);
+    append_refusal(&mut text, refusal);
+    append(&mut text, b"\n");
+    text
+}

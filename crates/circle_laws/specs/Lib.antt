@@ -1,2 +1,0 @@
-pub mod SlotParts
-pub mod SentCapture

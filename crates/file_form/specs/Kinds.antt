@@ -1,0 +1,85 @@
+-- What the first bytes of a file say of its form.
+use Rattle.std.specs.Prelude.{◌==◌, nat_eq, nat_lt, ◌&&◌, ℕ, Bool, if◌then◌else◌, List, [], ◌∷◌, length, take, drop, codes, slice_index}
+use Rattle.std.specs.List.{starts_with}
+use Rattle.file_form.specs.declared.Kind.{Kind}
+use Rattle.file_form.specs.declared.Kind.TheVariants.{Empty, Capture1, Capture2, Rinex4, Rinex3, Rinex2, Observations, Hatanaka, OtherRinex, Stream, Ubx, Sbf, Nmea, Gzip, Compress, Zip, Marked, Unknown}
+
+-- the bytes begin with this mark
+abbrev pub begins : List ℕ → List ℕ → Bool
+begins mark bytes = starts_with nat_eq bytes mark
+
+-- this text stands behind so many bytes
+abbrev pub stands_at : ℕ → List ℕ → List ℕ → Bool
+stands_at place text bytes = starts_with nat_eq (drop place bytes) text
+
+-- the first character that is no blank, or a blank
+abbrev pub first_char : List ℕ → ℕ
+first_char [] = 32
+first_char (x ∷ xs) = if x == 32 then first_char xs else x
+
+-- the first character of the version in columns 1-9, or a blank
+abbrev pub version_of : List ℕ → ℕ
+version_of front = first_char (take 9 front)
+
+-- a file of RINEX, by its type in column 21: `O` observations, `N` navigation, and there by its version
+unfoldable pub rinex_kind : List ℕ → Kind
+rinex_kind front =
+    if stands_at 20 (codes "O") front then Observations
+    else if stands_at 20 (codes "N") front then
+    (if version_of front == 52 then Rinex4
+    else if version_of front == 51 then Rinex3
+    else if version_of front == 50 then Rinex2
+    else OtherRinex)
+    else OtherRinex
+
+-- a text: a capture, a log of SBF or NMEA, one that is marked as UTF-8, or RINEX by the label in columns 61-80
+unfoldable pub text_kind : List ℕ → Kind
+text_kind front =
+    if begins (codes "NAVCAP 1") front then Capture1
+    else if begins (codes "NAVCAP 2") front then Capture2
+    else if begins (codes "$@") front then Sbf
+    else if begins (codes "$G") front then Nmea
+    else if begins (239 ∷ 187 ∷ 191 ∷ []) front then Marked
+    else if stands_at 60 (codes "CRINEX VERS   / TYPE") front then Hatanaka
+    else if stands_at 60 (codes "RINEX VERSION / TYPE") front then rinex_kind front
+    else Unknown
+
+-- Bytes that are no text: a frame of RTCM 3, whose preamble is followed by six bits of 0 and ten of its length; a message of
+-- UBX; and what gzip, compress and zip write.
+unfoldable pub binary_kind : List ℕ → Kind
+binary_kind front =
+    if begins (0xd3 ∷ []) front then (if nat_lt 1 (length front) && nat_lt (slice_index front 1) 4 then Stream else Unknown)
+    else if begins (0xb5 ∷ 0x62 ∷ []) front then Ubx
+    else if begins (0x1f ∷ 0x8b ∷ []) front then Gzip
+    else if begins (0x1f ∷ 0x9d ∷ []) front then Compress
+    else if begins (codes "PK") front then Zip
+    else Unknown
+
+-- the second kind where the first is unknown
+abbrev pub or_else : Kind → Kind → Kind
+or_else Unknown kind = kind
+or_else Empty kind = Empty
+or_else Capture1 kind = Capture1
+or_else Capture2 kind = Capture2
+or_else Rinex4 kind = Rinex4
+or_else Rinex3 kind = Rinex3
+or_else Rinex2 kind = Rinex2
+or_else Observations kind = Observations
+or_else Hatanaka kind = Hatanaka
+or_else OtherRinex kind = OtherRinex
+or_else Stream kind = Stream
+or_else Ubx kind = Ubx
+or_else Sbf kind = Sbf
+or_else Nmea kind = Nmea
+or_else Gzip kind = Gzip
+or_else Compress kind = Compress
+or_else Zip kind = Zip
+or_else Marked kind = Marked
+
+-- the form that the first bytes tell
+unfoldable pub front_kind : List ℕ → Kind
+front_kind front = if length front == 0 then Empty else or_else (binary_kind front) (text_kind front)
+
+-- The form of a file with these bytes.
+unfoldable pub kind_of : List ℕ → Kind
+kind_of bytes = front_kind (take 80 bytes)

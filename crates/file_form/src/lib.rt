@@ -1,0 +1,185 @@
+//! The form of a file, told by its first bytes.
+//!
+//! [`kind_of`] looks at no more than 80 bytes, so a front of a file that has as many says what the
+//! whole file says ([`first_bytes_decide`]).
+//!
+//! ```rust
+//! assert!(rt; kind_of(b"NAVCAP 1\n") == Kind::Capture1);
+//! ```
+#![tactic(auto)]
+
+ghost use Rattle.std.specs.Prelude.{◌≡◌, ◌≤◌, ℕ, List, take, drop, nat_eq};
+ghost use Rattle.std.specs.List.{starts_with};
+ghost use Rattle.file_form.specs.Kinds.{kind_of, front_kind, binary_kind, text_kind};
+ghost use Rattle.file_form.specs.Kinds.{rinex_kind, version_of, first_char};
+
+mod laws;
+
+pub use crate::laws::first_bytes_decide;
+
+/// How many bytes tell a file's form: the first line of a RINEX file.
+pub const LOOKED_AT: usize = 80;
+
+/// The form of a file.
+#[derive(Clone, Copy, PartialEq, Eq, Debug)]
+pub enum Kind {
+    /// No byte.
+    Empty,
+    /// A capture whose first line names no week.
+    Capture1,
+    /// A capture whose first line names its week.
+    Capture2,
+    /// A navigation file of RINEX 4.
+    Rinex4,
+    /// A navigation file of RINEX 3.
+    Rinex3,
+    /// A navigation file of RINEX 2.
+    Rinex2,
+    /// An observation file of RINEX.
+    Observations,
+    /// An observation file of RINEX in Hatanaka's compact form.
+    Hatanaka,
+    /// Another file of RINEX.
+    OtherRinex,
+    /// A stream of RTCM 3.
+    Stream,
+    /// A log of a receiver in UBX messages.
+    Ubx,
+    /// A log of a receiver in SBF blocks.
+    Sbf,
+    /// Sentences of NMEA 0183.
+    Nmea,
+    /// A file that is packed by gzip.
+    Gzip,
+    /// A file that is packed by compress.
+    Compress,
+    /// An archive of zip.
+    Zip,
+    /// A text with a byte order mark of UTF-8 in front.
+    Marked,
+    /// Any other bytes.
+    Unknown,
+}
+
+/// The form of a file that begins with these bytes.
+#[tactic(auto, using(std::proofs::lemmas::List::take_min), unfolding(crate::specs::Kinds::kind_of))]
+pub fn kind_of(bytes: &[u8]) -> Kind
+    ensures { result ≡ kind_of bytes.now }
+{
+    front_kind(&bytes[..LOOKED_AT.min(bytes.len())])
+}
+
+// The form that the first bytes tell.
+#[tactic(auto, unfolding(crate::specs::Kinds::front_kind))]
+fn front_kind(front: &[u8]) -> Kind
+    ensures { result ≡ front_kind front.now }
+{
+    if front.is_empty() {
+        return Kind::Empty;
+    }
+    match binary_kind(front) {
+        Kind::Unknown => text_kind(front),
+        kind => kind,
+    }
+}
+
+// The form of a file that is no text, or `Unknown`.
+#[tactic(auto, unfolding(crate::specs::Kinds::binary_kind))]
+fn binary_kind(front: &[u8]) -> Kind
+    ensures { result ≡ binary_kind front.now }
+{
+    if begins(front, b"\xd3") {
+        if front.len() > 1 && front[1] < 4 {
+            return Kind::Stream;
+        }
+        return Kind::Unknown;
+    }
+    if begins(front, b"\xb5\x62") {
+        Kind::Ubx
+    } else if begins(front, b"\x1f\x8b") {
+        Kind::Gzip
+    } else if begins(front, b"\x1f\x9d") {
+        Kind::Compress
+    } else if begins(front, b"PK") {
+        Kind::Zip
+    } else {
+        Kind::Unknown
+    }
+}
+
+// The form of a file that begins as a text.
+#[tactic(auto, unfolding(crate::specs::Kinds::text_kind))]
+fn text_kind(front: &[u8]) -> Kind
+    ensures { result ≡ text_kind front.now }
+{
+    if begins(front, b"NAVCAP 1") {
+        Kind::Capture1
+    } else if begins(front, b"NAVCAP 2") {
+        Kind::Capture2
+    } else if begins(front, b"$@") {
+        Kind::Sbf
+    } else if begins(front, b"$G") {
+        Kind::Nmea
+    } else if begins(front, b"\xef\xbb\xbf") {
+        Kind::Marked
+    } else if stands_at(front, 60, b"CRINEX VERS   / TYPE") {
+        Kind::Hatanaka
+    } else if stands_at(front, 60, b"RINEX VERSION / TYPE") {
+        rinex_kind(front)
+    } else {
+        Kind::Unknown
+    }
+}
+
+// The form of a file of RINEX, by its version and its type in column 21.
+#[tactic(auto, unfolding(crate::specs::Kinds::rinex_kind))]
+fn rinex_kind(front: &[u8]) -> Kind
+    ensures { result ≡ rinex_kind front.now }
+{
+    if stands_at(front, 20, b"O") {
+        return Kind::Observations;
+    }
+    if !stands_at(front, 20, b"N") {
+        return Kind::OtherRinex;
+    }
+    match version_of(front) {
+        b'4' => Kind::Rinex4,
+        b'3' => Kind::Rinex3,
+        b'2' => Kind::Rinex2,
+        _ => Kind::OtherRinex,
+    }
+}
+
+// The first character of the version in columns 1-9, or a blank.
+fn version_of(front: &[u8]) -> u8
+    ensures { result ≡ version_of front.now }
+{
+    first_char(&front[..9.min(front.len())])
+}
+
+// The first character that is no blank, or a blank.
+fn first_char(text: &[u8]) -> u8
+    ensures { result ≡ first_char text.now }
+{
+    for byte in text {
+        if *byte != b' ' {
+            return *byte;
+        }
+    }
+    b' '
+}
+
+// Whether the bytes begin with these.
+fn begins(bytes: &[u8], mark: &[u8]) -> bool
+    ensures { result ≡ starts_with nat_eq bytes.now mark.now }
+{
+    bytes.starts_with(mark)
+}
+
+// Whether this text stands behind so many bytes.
+#[tactic(auto, using(std::proofs::lemmas::List::drop_min))]
+fn stands_at(bytes: &[u8], place: usize, text: &[u8]) -> bool
+    ensures { result ≡ starts_with nat_eq (drop place bytes.now) text.now }
+{
+    begins(&bytes[place.min(bytes.len())..], text)
+}

@@ -1,0 +1,50 @@
+//! What the system said of a call that failed, as far as a sentence tells it.
+
+use std::io::ErrorKind;
+
+/// Why a call on a file failed.
+#[derive(Clone, Copy, PartialEq, Eq, Debug)]
+pub enum FileFault {
+    /// There is no file of this name.
+    NotFound,
+    /// There is a file of this name.
+    AlreadyThere,
+    /// The system does not allow it.
+    NotAllowed,
+    /// The name is that of a folder.
+    IsFolder,
+    /// A part of the path is no folder.
+    NoFolder,
+    /// The disk is full.
+    DiskFull,
+    /// A quota is used up.
+    QuotaFull,
+    /// The file would be too large for its file system.
+    TooLarge,
+    /// The file system can only be read.
+    ReadOnly,
+    /// The reader of a pipe has gone.
+    ReaderGone,
+    /// There was no memory.
+    NoMemory,
+    /// Anything else.
+    Other,
+}
+
+/// What an error of this kind says.
+pub(crate) fn fault_of(kind: ErrorKind) -> FileFault {
+    match kind {
+        ErrorKind::NotFound => FileFault::NotFound,
+        ErrorKind::AlreadyExists => FileFault::AlreadyThere,
+        ErrorKind::PermissionDenied => FileFault::NotAllowed,
+        ErrorKind::IsADirectory => FileFault::IsFolder,
+        ErrorKind::NotADirectory => FileFault::NoFolder,
+        ErrorKind::StorageFull => FileFault::DiskFull,
+        ErrorKind::QuotaExceeded => FileFault::QuotaFull,
+        ErrorKind::FileTooLarge => FileFault::TooLarge,
+        ErrorKind::ReadOnlyFilesystem => FileFault::ReadOnly,
+        ErrorKind::BrokenPipe => FileFault::ReaderGone,
+        ErrorKind::OutOfMemory => FileFault::NoMemory,
+        _ => FileFault::Other,
+    }
+}

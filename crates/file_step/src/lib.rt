@@ -1,0 +1,30 @@
+//! The step from one file to another: the file that has the name afterwards is the whole output on
+//! the bytes of the input, or the name is as it was before.
+//!
+//! - [`Folder`], where files are read and written: [`HostFolder`] is that of the system;
+//! - [`Conversion`], what makes the bytes of one file of those of another;
+//! - [`put_output`], which writes an output beside its name, as a part, and gives it the name once
+//!   it is whole; [`convert_file`], which opens the input too.
+//!
+//! ```rust
+//! let mut folder = HostFolder::new(rt.alloc(), &rt);
+//! let part = part_of(rt.alloc(), "station.rnx")?;
+//! convert_file(&mut folder, &mut run, "station.navcap", part.as_str(), "station.rnx")?;
+//! ```
+#![tactic(auto)]
+
+mod faults;
+mod folder;
+mod gathered;
+mod host;
+mod input;
+mod names;
+mod step;
+
+pub use crate::faults::FileFault;
+pub use crate::folder::Folder;
+pub use crate::gathered::Gathered;
+pub use crate::host::HostFolder;
+pub use crate::input::FileInput;
+pub use crate::names::part_of;
+pub use crate::step::{Conversion, StepFault, convert_file, put_output};

@@ -1,0 +1,132 @@
+//! The step from one file to another.
+
+ghost use Rattle.std.specs.Prelude.{◌≡◌, ◌≢◌, ◌⊎◌, ℕ, List, Option, Some, IfSome, IfErr, ◌≤◌};
+ghost use Rattle.std.specs.Prelude.{OnOk, OnErr};
+ghost use Rattle.std.specs.Io.KnownBytes.{Appends};
+ghost use Rattle.nav_io.specs.Causes.{Rose};
+ghost use Rattle.file_step.specs.Files.{Publishes, Stays};
+ghost use Rattle.file_step.specs.Steps.{BrokeOff, Converts, Lacks, bytes_of};
+
+use crate::faults::FileFault;
+use crate::folder::Folder;
+use nav_io::{Sink, Source};
+
+/// What makes the bytes of one file of those of another.
+pub trait Conversion {
+    /// Why it breaks off.
+    type Fault: Drop;
+
+    // What it writes of the bytes.
+    ghost makes: { Self → List ℕ → List ℕ };
+
+    // The bytes that it accepts.
+    ghost can: { Self → List ℕ → Type 0 };
+
+    // A fault that says that something was wanting, as memory, that neither the bytes nor a call
+    // decides.
+    ghost lacks: { Self.Fault → Type 0 };
+
+    // How often a call failed that is neither on the input nor on the output, as one on a report.
+    ghost faults: { Self → ℕ };
+
+    /// Reads the input to its end, and writes what it makes of its bytes.
+    fn run<S: Source, T: Sink>(&mut self, input: &mut S, output: &mut T) -> Result<(), Self::Fault>
+        ensures text { OnOk result (IfSome (S.left input.old) (λ bytes.
+            Appends (T.written output.old) (T.written output.new) (makes self.old bytes))) }
+        ensures complete { IfSome (S.left input.old) (λ bytes. can self.old bytes
+            → ¬ Rose (S.faults input.old) (S.faults input.new)
+            → ¬ Rose (T.faults output.old) (T.faults output.new)
+            → ¬ Rose (faults self.old) (faults self.new)
+            → IfErr result lacks) };
+}
+
+/// Why an output did not get its name.
+#[derive(Drop)]
+pub enum StepFault<E> {
+    /// The input was not opened.
+    Open(FileFault),
+    /// The part was not begun.
+    Begin(FileFault),
+    /// The conversion broke off, and so the part was given up: what the folder said then.
+    Run(E, Result<(), FileFault>),
+    /// The output was not written to its end, or did not get its name.
+    Publish(FileFault),
+}
+
+/// Writes what the conversion makes of the input, as a part beside the name, and gives it the name
+/// once it is whole.
+///
+/// # Errors
+///
+/// The name is as it was, and the part is removed where the folder can remove it.
+pub fn put_output<F: Folder, S: Source, C: Conversion>(
+    folder: &mut F,
+    conversion: &mut C,
+    input: &mut S,
+    part: &str,
+    name: &str,
+) -> Result<(), StepFault<C::Fault>>
+    requires { part.now ≢ name.now }
+    ensures put { OnOk result (IfSome (S.left input.old) (λ bytes.
+        Publishes (F.files folder.old) (F.files folder.new) part.now name.now
+        (Some (C.makes conversion.old bytes)))) }
+    ensures stays { OnErr result (Stays (F.files folder.old) (F.files folder.new) part.now) }
+    ensures failed { IfErr result (λ fault. BrokeOff fault
+        ⊎ Rose (F.faults folder.old) (F.faults folder.new)) }
+    ensures later { F.faults folder.old ≤ F.faults folder.new }
+
+    // It is done where the bytes are accepted and nothing fails.
+    ensures complete { IfSome (S.left input.old) (λ bytes. C.can conversion.old bytes
+        → ¬ Rose (S.faults input.old) (S.faults input.new)
+        → ¬ Rose (C.faults conversion.old) (C.faults conversion.new)
+        → ¬ Rose (F.faults folder.old) (F.faults folder.new)
+        → IfErr result (Lacks C.lacks)) }
+{
+    let mut draft = match folder.draft(part) {
+        Ok(draft) => draft,
+        Err(fault) => return Err(StepFault::Begin(fault)),
+    };
+    if let Err(fault) = conversion.run(input, &mut draft) {
+        let told = folder.discard(draft, part);
+        return Err(StepFault::Run(fault, told));
+    }
+    match folder.publish(draft, part, name) {
+        Ok(()) => Ok(()),
+        Err(fault) => Err(StepFault::Publish(fault)),
+    }
+}
+
+/// Converts the file of one name to a file of another.
+///
+/// # Errors
+///
+/// The name is as it was, and the part is removed where the folder can remove it.
+pub fn convert_file<F: Folder, C: Conversion>(
+    folder: &mut F,
+    conversion: &mut C,
+    from: &str,
+    part: &str,
+    name: &str,
+) -> Result<(), StepFault<C::Fault>>
+    requires { part.now ≢ name.now }
+    ensures converts { OnOk result (Converts (C.makes conversion.old) (F.files folder.old)
+        (F.files folder.new) from.now part.now name.now) }
+    ensures stays { OnErr result (Stays (F.files folder.old) (F.files folder.new) part.now) }
+    ensures failed { IfErr result (λ fault. BrokeOff fault
+        ⊎ Rose (F.faults folder.old) (F.faults folder.new)) }
+
+    // It is done where the file is there, its bytes are accepted and nothing fails.
+    ensures complete { IfSome (bytes_of (F.files folder.old) from.now) (λ bytes.
+        C.can conversion.old bytes
+        → ¬ Rose (C.faults conversion.old) (C.faults conversion.new)
+        → ¬ Rose (F.faults folder.old) (F.faults folder.new)
+        → IfErr result (Lacks C.lacks)) }
+{
+    let mut input = match folder.open(from) {
+        Ok(input) => input,
+        Err(fault) => return Err(StepFault::Open(fault)),
+    };
+    let done = put_output(folder, conversion, &mut input, part, name);
+    let _ = folder.close(input);
+    done
+}

@@ -1,0 +1,185 @@
+//! Why a file is not converted.
+
+ghost use Rattle.std.specs.Prelude.{◌≡◌};
+ghost use Rattle.file_texts.specs.Says.{status_of};
+
+use file_form::Kind;
+use file_step::FileFault;
+use std::fmt;
+
+/// Why a file is not converted, or not to its end.
+#[derive(Clone, Copy, Debug, Drop)]
+pub enum Refusal<'a> {
+    /// A file of this form is not converted to that.
+    NoSuchConversion(Kind),
+    /// No conversion takes a file of this form.
+    NoConversion(Kind),
+    /// The value of `--date` is no date.
+    Date(&'a str),
+    /// The value of `--week` is no week near which a file is read.
+    Week(&'a str),
+    /// The input has no name of a file, so that its output has none.
+    NoName,
+    /// The input was not opened.
+    NotOpened(FileFault),
+    /// Reading failed after so many bytes.
+    ReadFault(u64, FileFault),
+    /// A file has the name of the output.
+    OutputThere(&'a str),
+    /// A file has the name of the part.
+    PartThere(&'a str),
+    /// The output is the input itself.
+    SameFile(&'a str),
+    /// Writing the output failed.
+    WriteFault(&'a str, FileFault),
+    /// The first line or the header of a file of this form is not accepted.
+    NotAccepted(Kind),
+    /// There was no memory.
+    NoMemory,
+    /// The report was not written.
+    ReportFault,
+    /// The input is too long.
+    TooLong,
+    /// A word of the command line is not UTF-8.
+    Word,
+}
+
+impl Refusal<'_> {
+    /// The status of the program.
+    pub fn status(&self) -> u8
+        ensures { result ≡ status_of self.now }
+    {
+        match self {
+            Refusal::NoSuchConversion(_)
+            | Refusal::NoConversion(_)
+            | Refusal::Date(_)
+            | Refusal::Week(_)
+            | Refusal::NoName => 2,
+            Refusal::NotOpened(_) | Refusal::ReadFault(_, _) => 3,
+            Refusal::OutputThere(_)
+            | Refusal::PartThere(_)
+            | Refusal::SameFile(_)
+            | Refusal::WriteFault(_, _) => 4,
+            Refusal::NotAccepted(_) => 5,
+            Refusal::NoMemory => 6,
+            Refusal::ReportFault => 7,
+            Refusal::TooLong => 8,
+            Refusal::Word => 9,
+        }
+    }
+}
+
+/// What a file of this form is.
+pub fn kind_text(kind: Kind) -> &'static str {
+    match kind {
+        Kind::Empty => "an empty file",
+        Kind::Capture1 => "a capture without a week",
+        Kind::Capture2 => "a capture with a week",
+        Kind::Rinex4 => "a navigation file of RINEX 4",
+        Kind::Rinex3 => "a navigation file of RINEX 3",
+        Kind::Rinex2 => "a navigation file of RINEX 2",
+        Kind::Observations => "an observation file of RINEX",
+        Kind::Hatanaka => "an observation file in Hatanaka's compact form",
+        Kind::OtherRinex => "a file of RINEX, and no navigation file of version 3 or 4",
+        Kind::Stream => "an RTCM 3 stream",
+        Kind::Ubx => "a receiver's log of UBX messages",
+        Kind::Sbf => "a receiver's log of SBF blocks",
+        Kind::Nmea => "a log of NMEA 0183",
+        Kind::Gzip => "packed by gzip",
+        Kind::Compress => "packed by compress",
+        Kind::Zip => "an archive of zip",
+        Kind::Marked => "a text with a byte order mark in front",
+        Kind::Unknown => "of no form that is known",
+    }
+}
+
+/// To what a file of this form converts, or how it can be made one that does.
+pub fn targets_of(kind: Kind) -> &'static str {
+    match kind {
+        Kind::Capture1 | Kind::Capture2 => "that converts to rinex, rinex3, rtcm, list, count",
+        Kind::Rinex4 => "that converts to rinex, rinex3, rtcm, list, capture, merged, cover",
+        Kind::Rinex3 => "that converts to rinex, rinex3, rtcm, list, capture",
+        Kind::Stream => "that converts to rinex, rinex3, rtcm, frames",
+        Kind::Rinex2 => "only versions 3 and 4 are read",
+        Kind::Observations | Kind::Hatanaka | Kind::OtherRinex => "it has no orbits to convert",
+        Kind::Ubx => "navlog --from ubx makes a capture of it; --from stream reads its frames",
+        Kind::Sbf => "navlog --from sbf makes a capture of it; --from stream reads its frames",
+        Kind::Nmea => "it has no orbits to convert",
+        Kind::Gzip | Kind::Compress => "unpack it: gzip -dc FILE | navconvert -o OUT -",
+        Kind::Zip => "unpack it: unzip -p FILE | navconvert -o OUT -",
+        Kind::Marked => "take its first three bytes away: tail -c +4 FILE | navconvert -o OUT -",
+        Kind::Empty => "there is nothing to convert",
+        Kind::Unknown => "name its form by --from, as --list-forms has it",
+    }
+}
+
+// What a call on a file failed for.
+fn fault_text(fault: FileFault) -> &'static str {
+    match fault {
+        FileFault::NotFound => "there is no such file",
+        FileFault::AlreadyThere => "there is a file of this name",
+        FileFault::NotAllowed => "the system does not allow it",
+        FileFault::IsFolder => "it is a folder; name the files in it",
+        FileFault::NoFolder => "a part of the path is no folder",
+        FileFault::DiskFull => "the disk is full",
+        FileFault::QuotaFull => "the quota is used up",
+        FileFault::TooLarge => "the file would be too large for its file system",
+        FileFault::ReadOnly => "the file system can only be read",
+        FileFault::ReaderGone => "its reader has gone",
+        FileFault::NoMemory => "there was no memory",
+        FileFault::Other => "the system gives no reason that is known here",
+    }
+}
+
+impl fmt::Display for Refusal<'_> {
+    fn fmt<W: fmt::Write>(&self, f: &mut fmt::Formatter<W>) -> fmt::Result {
+        match *self {
+            Refusal::NoSuchConversion(kind) | Refusal::NoConversion(kind) => {
+                write!(f, "it is {}; {}", kind_text(kind), targets_of(kind))
+            }
+            Refusal::Date(date) => {
+                write!(f, "--date {date}: write it as \"20240101 000000 UTC\"")
+            }
+            Refusal::Week(week) => write!(f, "--week {week}: 1024 to 8191"),
+            Refusal::NoName => write!(f, "it has no name of a file; name the output by -o"),
+            Refusal::NotOpened(fault) => write!(f, "{}", fault_text(fault)),
+            Refusal::ReadFault(count, fault) => {
+                write!(
+                    f,
+                    "reading it failed after {count} bytes: {}",
+                    fault_text(fault)
+                )
+            }
+            Refusal::OutputThere(name) => {
+                write!(f, "{name} is there already; --overwrite replaces it")
+            }
+            Refusal::PartThere(part) => write!(
+                f,
+                "{part} is there: another run is writing it, or one was cut off; remove it"
+            ),
+            Refusal::SameFile(name) => {
+                write!(f, "{name} is the input itself; name the output by -o")
+            }
+            Refusal::WriteFault(name, fault) => {
+                write!(
+                    f,
+                    "writing {name} failed: {}; it is as it was",
+                    fault_text(fault)
+                )
+            }
+            Refusal::NotAccepted(Kind::Capture1) => {
+                write!(f, "its first line names no week; name it by --week")
+            }
+            Refusal::NotAccepted(Kind::Capture2) => {
+                write!(f, "its first line names another week than --week")
+            }
+            Refusal::NotAccepted(_) => write!(f, "its header is not accepted"),
+            Refusal::NoMemory => write!(f, "there was no memory"),
+            Refusal::ReportFault => write!(f, "the report was not written"),
+            Refusal::TooLong => {
+                write!(f, "it has more than 4,294,967,295 bytes; cut it in parts")
+            }
+            Refusal::Word => write!(f, "a word of the command line is not UTF-8"),
+        }
+    }
+}

@@ -1,0 +1,94 @@
+//! The words of `navbridge`.
+
+ghost use Rattle.std.specs.Prelude.{◌≡◌, ◌++◌, ◌∷◌, [], IfOk, OnOk, map, option_map};
+ghost use Rattle.std.specs.String.{string_bytes};
+ghost use Rattle.front_plan.specs.Plans.{words_of, week_words, header_words};
+
+use crate::table::{Row, Target, WeekRule, from_word};
+use file_form::Kind;
+use std::alloc::{AllocError, Global};
+
+/// The values of a conversion.
+#[derive(Clone, Copy)]
+pub struct Values<'a> {
+    /// The week, where one is named.
+    pub week: Option<&'a str>,
+    /// The week of the clock.
+    pub clock_week: &'a str,
+    /// The leap seconds of a header.
+    pub leap: &'a str,
+    /// The date of a header.
+    pub date: &'a str,
+}
+
+/// The words of `navbridge` for the conversion of a file of this form that takes these values.
+pub fn words_for(
+    alloc: Global,
+    kind: Kind,
+    target: Target,
+    row: Row,
+    values: &Values,
+) -> Result<Vec<String>, AllocError>
+    ensures { IfOk result (λ words. map string_bytes words.items
+        ≡ words_of kind target row (option_map (λ week. week.now) values.now.week)
+        values.now.clock_week.now values.now.leap.now values.now.date.now) }
+{
+    let mut words = Vec::new(alloc);
+    push_option(alloc, &mut words, "--from=", from_word(kind))?;
+    push_option(alloc, &mut words, "--to=", target.word())?;
+    push_week(alloc, &mut words, row.week, values.week, values.clock_week)?;
+    push_header(alloc, &mut words, row.header, values.leap, values.date)?;
+    Ok(words)
+}
+
+// Appends the week that a conversion with this rule is given.
+fn push_week(
+    alloc: Global,
+    words: &mut Vec<String>,
+    rule: WeekRule,
+    named: Option<&str>,
+    clock_week: &str,
+) -> Result<(), AllocError>
+    ensures { OnOk result (map string_bytes words.new.items ≡ map string_bytes words.old.items
+        ++ week_words rule (option_map (λ week. week.now) named.entry) clock_week.now) }
+{
+    match (rule, named) {
+        (WeekRule::Never, _) | (WeekRule::IfNamed, None) => Ok(()),
+        (WeekRule::Always, None) => push_option(alloc, words, "--week=", clock_week),
+        (_, Some(week)) => push_option(alloc, words, "--week=", week),
+    }
+}
+
+// Appends the leap seconds and the date of a header, where the conversion writes one.
+fn push_header(
+    alloc: Global,
+    words: &mut Vec<String>,
+    header: bool,
+    leap: &str,
+    date: &str,
+) -> Result<(), AllocError>
+    ensures { OnOk result (map string_bytes words.new.items ≡ map string_bytes words.old.items
+        ++ header_words header leap.now date.now) }
+{
+    if !header {
+        return Ok(());
+    }
+    push_option(alloc, words, "--leap=", leap)?;
+    push_option(alloc, words, "--date=", date)
+}
+
+// Appends a word: the name of an option, and its value.
+fn push_option(
+    alloc: Global,
+    words: &mut Vec<String>,
+    name: &str,
+    value: &str,
+) -> Result<(), AllocError>
+    ensures { OnOk result (map string_bytes words.new.items ≡ map string_bytes words.old.items
+        ++ (name.now ++ value.now) ∷ []) }
+{
+    let mut word = String::from_str(alloc, name)?;
+    word.push_str(value)?;
+    words.push(word)?;
+    Ok(())
+}

@@ -1,0 +1,44 @@
+//! A conversion for tests.
+
+ghost use Rattle.std.specs.Prelude.{◌≡◌, ◌≢◌, ◌⊎◌, ℕ, List, Option, IfSome, IfErr, OnOk, codes};
+
+use file_step::Conversion;
+use nav_io::{Sink, Source};
+
+/// Writes the same seven bytes of any file but an empty one and one that begins with `?`.
+#[derive(Drop)]
+pub(crate) struct Seven;
+
+/// Why it breaks off.
+#[derive(Clone, Copy, PartialEq, Eq, Debug)]
+pub(crate) enum Broken {
+    /// A read or a write failed.
+    Failed,
+    /// The file is refused.
+    Refused,
+}
+
+impl Conversion for Seven {
+    type Fault = Broken;
+
+    ghost makes = { λ _ _. codes "seven b" };
+
+    ghost can = { λ _ _. ⊥ };
+
+    ghost lacks = { λ _. ⊥ };
+
+    ghost faults = { λ _. 0 };
+
+    fn run<S: Source, T: Sink>(&mut self, input: &mut S, output: &mut T) -> Result<(), Broken> {
+        let mut piece = [0; 4];
+        match input.read(&mut piece) {
+            Ok(count) if count > 0 && piece[0] != b'?' => {}
+            Ok(_) => return Err(Broken::Refused),
+            Err(_) => return Err(Broken::Failed),
+        }
+        match output.write(b"seven b") {
+            Ok(()) => Ok(()),
+            Err(_) => Err(Broken::Failed),
+        }
+    }
+}

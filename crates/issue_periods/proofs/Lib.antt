@@ -1,5 +1,0 @@
-mod DueLemmas
-mod GivenLemmas
-mod SettleLemmas
-mod PlainLemmas
-pub mod Surface

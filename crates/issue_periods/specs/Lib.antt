@@ -1,4 +1,0 @@
-pub mod Standing
-pub mod Given
-pub mod Plain
-pub mod PlainLaws

@@ -1,4 +1,0 @@
-pub mod Targets
-pub mod Streams
-pub mod Files
-pub mod Mirrors

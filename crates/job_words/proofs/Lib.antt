@@ -1,8 +1,0 @@
-pub mod Spellings
-pub mod Rules
-pub mod Turns
-pub mod Lexed
-pub mod Readings
-pub mod Listings
-pub mod Outcomes
-pub mod Surface

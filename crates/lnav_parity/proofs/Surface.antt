@@ -1,6 +1,0 @@
--- What proofs of other crates cite: the source bits of a word, and the functions of words.
-pub use Rattle.lnav_parity.proofs.Words.{checked_source}
-pub use Rattle.lnav_parity.proofs.Equations.{one_word}
-pub use Rattle.lnav_parity.proofs.Choice.{one_solved}
-pub use Rattle.lnav_parity.proofs.Functions.{good-decides, one_source, source-is, source-only}
-pub use Rattle.lnav_parity.proofs.Functions.{made-good, made-source, made-lt, solved-is, solved-lt}

@@ -1,3 +1,0 @@
-pub mod Parity
-pub mod Mirrors
-pub mod Functions

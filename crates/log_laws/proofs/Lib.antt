@@ -1,0 +1,4 @@
+mod SaidRanges
+mod LogTexts
+mod LogBegins
+mod LogLines

@@ -1,0 +1,2 @@
+pub mod LogItems
+pub mod LogHeard

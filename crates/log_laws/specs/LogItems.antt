@@ -1,0 +1,77 @@
+-- What a log brings: its subframes and pages, each with its time, and the items of a capture that
+-- they are.
+use Rattle.std.specs.Prelude.{ℕ, ◌-◌, ◌*◌, ◌/◌, List, [], ◌∷◌, ◌++◌, Option, Some, None}
+use Rattle.capture_lines.specs.declared.item.LineItem.{LineItem}
+use Rattle.capture_lines.specs.declared.item.LineItem.TheVariants.{Lnav, Half}
+use Rattle.receiver_messages.specs.Words.{read_words, subframe_bytes}
+use Rattle.receiver_messages.specs.declared.said.Content.{Content}
+use Rattle.receiver_messages.specs.declared.said.Content.TheVariants.{Refused, Subframe, Page}
+use Rattle.receiver_messages.specs.declared.said.Reason.{Reason}
+use Rattle.receiver_messages.specs.declared.said.Said.{Said}
+use Rattle.receiver_messages.specs.declared.said.Said.TheVariants.{Other, Time, Heard, Dated}
+use Rattle.receiver_log.specs.Log.{reason_in}
+
+-- a subframe or a page, or why there is none, with its time
+pub record Timed : Type 0 where
+  pub time : Option ℕ
+  pub content : Content
+
+-- the time behind a message: a time message sets it, or takes it away
+abbrev pub time_behind : Option ℕ → Said → Option ℕ
+time_behind time Other = time
+time_behind time (Time next) = next
+time_behind time (Heard content) = time
+time_behind time (Dated own content) = time
+
+-- what a message brings: a subframe or a page that has no time of its own has that of the last time
+-- message
+abbrev pub brought : Option ℕ → Said → List Timed
+brought time Other = []
+brought time (Time next) = []
+brought time (Heard content) = record { time = time; content = content } ∷ []
+brought time (Dated own content) = record { time = own; content = content } ∷ []
+
+-- what messages bring, for what each of them says, from a time on
+abbrev pub brought_by : (List ℕ → Said) → Option ℕ → List (List ℕ) → List Timed
+brought_by said time [] = []
+brought_by said time (m ∷ ms) = brought time (said m)
+    ++ brought_by said (time_behind time (said m)) ms
+
+-- the second of its first line: a page's even half was sent a second before its time
+abbrev pub first_second : Option ℕ → Content → Option ℕ
+first_second None content = None
+first_second (Some time) (Refused reason) = None
+first_second (Some time) (Subframe sat words) = Some time
+first_second (Some time) (Page sat signal even odd) = Some (time - 1)
+
+-- the week in which the second two hours before a first line lies, or that of what follows
+abbrev pub week_before : Option ℕ → Option ℕ → Option ℕ
+week_before (Some first) following = Some ((first - 7200) / 604800)
+week_before None following = following
+
+-- the week of a log: that of the first of its lines
+abbrev pub week_of_log : List Timed → Option ℕ
+week_of_log [] = None
+week_of_log (x ∷ xs) = week_before (first_second x.time x.content) (week_of_log xs)
+
+-- the items, unless there is a reason against them
+abbrev pub unless : Option Reason → List LineItem → List LineItem
+unless None items = items
+unless (Some reason) items = []
+
+-- the items of a subframe or of a page in a capture of this week
+abbrev pub items_at : ℕ → Option ℕ → Content → List LineItem
+items_at week None content = []
+items_at week (Some time) (Refused reason) = []
+items_at week (Some time) (Subframe sat words) =
+    unless (reason_in week time time)
+    (Lnav (time - 604800 * week) sat (subframe_bytes (read_words words)) ∷ [])
+items_at week (Some time) (Page sat signal even odd) =
+    unless (reason_in week (time - 1) time)
+    (Half (time - 1 - 604800 * week) sat signal even ∷ Half (time - 604800 * week) sat signal odd
+    ∷ [])
+
+-- the items of what a log brings
+abbrev pub items_of_log : ℕ → List Timed → List LineItem
+items_of_log week [] = []
+items_of_log week (x ∷ xs) = items_at week x.time x.content ++ items_of_log week xs

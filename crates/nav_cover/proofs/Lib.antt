@@ -1,2 +1,0 @@
-mod SweepLemmas
-mod CoverLemmas

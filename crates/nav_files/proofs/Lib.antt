@@ -1,0 +1,10 @@
+mod KeptLemmas
+pub mod Tolds
+pub mod SentLemmas
+pub mod RecordLemmas
+pub mod FileLemmas
+pub mod FileEnds
+pub mod ConvertLemmas
+mod TakenLemmas
+pub mod WholeLemmas
+pub mod Surface

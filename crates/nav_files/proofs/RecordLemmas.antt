@@ -1,0 +1,65 @@
+-- Records after records: what was written, reported and counted of them.
+use Rattle.std.proofs.Common.{◌≡◌, ℕ, ◌+◌, ◌≤◌, ◌*◌, ◌^◌, List, [], ◌∷◌, ◌++◌, map, sum, refl, sym, ap, subst, ◌∙◌, arith, length-append}
+use Rattle.std.specs.Prelude.{Option, Some, None, IfSome, IfNone}
+use Rattle.std.specs.List.{sum_by}
+use Rattle.std.proofs.lemmas.List.Sums.{sum-map, sum_by-append}
+use Rattle.rinex_read.specs.Forms.{Form}
+use Rattle.rinex_read.specs.States.{RecordsState, Steps, GivesRead, GivesRecord, GivesNone, held_count, lines_left}
+use Rattle.rinex_read.specs.declared.judged.ItemRead.{ItemRead}
+use Rattle.rinex_read.specs.declared.judged.ItemRead.TheVariants.{Item, Refused, PassedOver, End}
+use Rattle.nav_files.specs.declared.counts.RinexCounts.{RinexCounts}
+use Rattle.nav_files.specs.Files.{counts_of_reads, is_refused, is_passed, is_item}
+use Rattle.nav_files.specs.Mirrors.{IsRecord, counted}
+
+-- steps of a reader, one after another
+abbrev pub Follow : Form → Type 0
+Follow f = (left middle left_new : Option (List ℕ)) (old now new : RecordsState) (some more : List ItemRead)
+    → Steps f left middle old now some → Steps f middle left_new now new more → Steps f left left_new old new (some ++ more)
+
+-- ---- counts
+
+count-append : (kind : ItemRead → ℕ) (xs ys : List ItemRead) → sum (map kind (xs ++ ys)) ≡ sum (map kind xs) + sum (map kind ys)
+count-append kind xs ys =
+    sum-map kind (xs ++ ys) ∙ sum_by-append kind xs ys ∙ sym (ap (λ m. m + sum (map kind ys)) (sum-map kind xs) ∙ ap (λ m. sum_by kind xs + m) (sum-map kind ys))
+
+counts_are : (c : RinexCounts) (records refused passed items : ℕ) → c.records ≡ records → c.refused ≡ refused → c.passed ≡ passed → c.items ≡ items
+    → c ≡ record { records = records; refused = refused; passed = passed; items = items }
+counts_are c records refused passed items a b d e = rw (sym a, sym b, sym d, sym e) refl
+
+-- the counts of records with one more
+pub counts_more : (given : List ItemRead) (read : ItemRead) → counted (counts_of_reads given) read ≡ counts_of_reads (given ++ read ∷ [])
+counts_more given read =
+    counts_are (counted (counts_of_reads given) read) _ _ _ _
+    (omega (arith, length-append given (read ∷ [])))
+    (omega (arith, count-append is_refused given (read ∷ [])))
+    (omega (arith, count-append is_passed given (read ∷ [])))
+    (omega (arith, count-append is_item given (read ∷ [])))
+
+-- ---- steps
+
+pub gives_record : (f : Form) (read : ItemRead) (left left_new : Option (List ℕ)) (old new : RecordsState)
+    → IsRecord read → GivesRead f read left left_new old new → GivesRecord f left left_new old new read
+gives_record f (Item line item) left left_new old new is gives = gives
+gives_record f (Refused line reason) left left_new old new is gives = gives
+gives_record f (PassedOver line) left left_new old new is gives = gives
+gives_record f End left left_new old new is gives = absurd is
+
+-- a record that was given
+pub some_read : (f : Form) (o : Option ItemRead) (read : ItemRead) (left left_new : Option (List ℕ)) (old new : RecordsState)
+    → o ≡ Some read → IfSome o (λ r. IsRecord r × GivesRead f r left left_new old new) → GivesRecord f left left_new old new read
+some_read f o read left left_new old new is gives =
+    let both = subst (λ (x : Option ItemRead). IfSome x (λ r. IsRecord r × GivesRead f r left left_new old new)) is gives in
+    gives_record f read left left_new old new both.0 both.1
+
+-- no record was left
+pub none_read : (f : Form) (o : Option ItemRead) (left left_new : Option (List ℕ)) (old new : RecordsState)
+    → o ≡ None → IfNone o (GivesNone f left left_new old new) → GivesNone f left left_new old new
+none_read f o left left_new old new is none = subst (λ (x : Option ItemRead). IfNone x (GivesNone f left left_new old new)) is none
+
+pub held_few : (kept : List (List ℕ)) → held_count kept ≤ 1
+held_few [] = omega arith
+held_few (k ∷ ks) = omega arith
+
+-- there are few records
+pub left_few : (s : RecordsState) → lines_left s ≤ 2 * 2 ^ 32 + 1
+left_few s = omega (arith, held_few s.kept)

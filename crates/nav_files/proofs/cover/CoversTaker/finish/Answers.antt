@@ -1,0 +1,9 @@
+use Rattle.std.proofs.Common.{[], ap}
+use Rattle.std.specs.List.{flat_map}
+use Rattle.nav_files.specs.Archives.{cover_line, items_of}
+use Rattle.nav_files.proofs.KeptLemmas.{finish_as}
+use Rattle.nav_files.proofs.cover.CoversTaker.finish.Goals as goal
+
+pub returns-clause-output : goal.returns-clause-output
+returns-clause-output g c = λ reads start held so_far.
+    finish_as [] _ _ start _ _ _ _ _ (ap (flat_map cover_line) (c.covering.ensures.only (items_of reads) c.args.state.now.cover held.2)) so_far c.write_ranges.ensures

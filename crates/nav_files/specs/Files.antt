@@ -1,0 +1,118 @@
+-- What is written and reported of a RINEX navigation file: its items in the order of its records, repeats included.
+use Rattle.std.specs.Prelude.{ℕ, Bool, true, false, List, [], ◌++◌, length, codes, map, sum, Option, None, Some, Result, Ok, Err}
+use Rattle.std.specs.List.{flat_map}
+use Rattle.nav_eph.specs.declared.items.NavItem.{NavItem}
+use Rattle.rinex_read.specs.Files.{file_reads}
+use Rattle.rinex_read.specs.Forms.{Form}
+use Rattle.rinex_read.specs.declared.judged.HeaderFault.{HeaderFault}
+use Rattle.rinex_read.specs.declared.judged.ItemRead.{ItemRead}
+use Rattle.rinex_read.specs.declared.judged.ItemRead.TheVariants.{Item, Refused, PassedOver, End}
+use Rattle.rinex_read.specs.declared.reason.Reason.{Reason}
+use Rattle.rinex_read.specs.declared.reason.Reason.TheVariants.{BadSat, Short, NotANumber, Blank, OutOfRange, NoSuchDate, Week, Fit, EpochStep, EpochFar}
+use Rattle.outlets.specs.Targets.{front_text, item_text}
+use Rattle.outlets.specs.declared.target.Target.{Target}
+use Rattle.one_run.specs.Reports.{report_line, count_line}
+use Rattle.one_run.specs.Runs.{Meaning, no_least}
+use Rattle.nav_files.specs.declared.target.RinexTo.{RinexTo}
+use Rattle.nav_files.specs.declared.counts.RinexCounts.{RinexCounts}
+use Rattle.nav_files.specs.Targets.{target_of_file}
+
+-- why a record is refused
+abbrev pub reason_text : Reason → List ℕ
+reason_text BadSat = codes "satellite"
+reason_text Short = codes "short"
+reason_text NotANumber = codes "number"
+reason_text Blank = codes "blank"
+reason_text OutOfRange = codes "range"
+reason_text NoSuchDate = codes "date"
+reason_text Week = codes "week"
+reason_text Fit = codes "fit"
+reason_text EpochStep = codes "step"
+reason_text EpochFar = codes "far"
+
+-- what is written of a record: the text of its item
+abbrev pub read_text : (ℕ → NavItem → List ℕ) → ItemRead → List ℕ
+read_text text (Item line item) = text line item
+read_text text (Refused line reason) = []
+read_text text (PassedOver line) = []
+read_text text End = []
+
+-- what a report says of a record: its first line, and why it is refused
+abbrev pub read_report : ItemRead → List ℕ
+read_report (Item line item) = []
+read_report (Refused line reason) = report_line (codes "line") line (reason_text reason)
+read_report (PassedOver line) = []
+read_report End = []
+
+-- 1 for the records of a kind, to be summed
+abbrev pub is_refused : ItemRead → ℕ
+is_refused (Item line item) = 0
+is_refused (Refused line reason) = 1
+is_refused (PassedOver line) = 0
+is_refused End = 0
+
+abbrev pub is_passed : ItemRead → ℕ
+is_passed (Item line item) = 0
+is_passed (Refused line reason) = 0
+is_passed (PassedOver line) = 1
+is_passed End = 0
+
+abbrev pub is_item : ItemRead → ℕ
+is_item (Item line item) = 1
+is_item (Refused line reason) = 0
+is_item (PassedOver line) = 0
+is_item End = 0
+
+-- the counts of records
+abbrev pub counts_of_reads : List ItemRead → RinexCounts
+counts_of_reads reads = record {
+  records = length reads;
+  refused = sum (map is_refused reads);
+  passed = sum (map is_passed reads);
+  items = sum (map is_item reads);
+}
+
+-- their text: a line for each, in the order of the fields
+unfoldable pub file_counts_text : RinexCounts → List ℕ
+file_counts_text c =
+    ((count_line (codes "records") c.records ++ count_line (codes "refused") c.refused)
+    ++ count_line (codes "passed") c.passed) ++ count_line (codes "items") c.items
+
+-- what becomes of a file by what becomes of its records: nothing where its header is refused
+abbrev pub counted_in : {C : Type 0} → (List ItemRead → C) → Result (List ItemRead) HeaderFault → Option C
+counted_in count (Ok reads) = Some (count reads)
+counted_in count (Err fault) = None
+
+abbrev pub text_in : (List ItemRead → List ℕ) → Result (List ItemRead) HeaderFault → List ℕ
+text_in text (Ok reads) = text reads
+text_in text (Err fault) = []
+
+-- a run over a file of a form: whether it takes memory, what it writes and reports of the records, and what it counts of them
+abbrev pub file_meaning : {C : Type 0} → Form → Bool → (List ItemRead → List ℕ) → (List ItemRead → List ℕ) → (List ItemRead → C) → Meaning C
+file_meaning f memory output report count = record {
+  reads = true;
+  reports = true;
+  memory = memory;
+  counts = λ bytes. counted_in count (file_reads f bytes);
+  whole = record { output = λ bytes. text_in output (file_reads f bytes); report = λ bytes. text_in report (file_reads f bytes) };
+  least = no_least;
+  settled = None;
+}
+
+-- what is written of the records of a file that is converted: a text in front, and one for each item
+abbrev pub convert_text : Target → List ItemRead → List ℕ
+convert_text to reads = front_text to ++ flat_map (read_text (item_text to)) reads
+
+-- what is reported of them: a line for each record that is refused, and the counts
+abbrev pub convert_report : List ItemRead → List ℕ
+convert_report reads = flat_map read_report reads ++ file_counts_text (counts_of_reads reads)
+
+abbrev pub convert_meaning : Form → Target → Meaning RinexCounts
+convert_meaning f to = file_meaning f false (convert_text to) convert_report counts_of_reads
+
+-- the output and the report of the bytes of a file of a form
+abbrev pub file_output : Form → RinexTo → List ℕ → List ℕ
+file_output f to bytes = text_in (convert_text (target_of_file to)) (file_reads f bytes)
+
+abbrev pub file_report : Form → List ℕ → List ℕ
+file_report f bytes = text_in convert_report (file_reads f bytes)

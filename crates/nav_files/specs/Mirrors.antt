@@ -1,0 +1,50 @@
+-- A file while it is read. Private functions cite these.
+use Rattle.std.specs.Prelude.{◌≡◌, ◌+◌, ◌-◌, ◌^◌, ◌⊎◌, ℕ, List, Option}
+use Rattle.rinex_read.specs.Forms.{Form}
+use Rattle.nav_io.specs.declared.lines.LineFault.TheVariants as lines
+use Rattle.rinex_read.specs.States.{RecordsState, HeaderSteps, BreaksRecord}
+use Rattle.rinex_read.specs.declared.judged.HeaderState.TheVariants.{NotRinexNav, OtherVersion}
+use Rattle.rinex_read.specs.declared.judged.ItemRead.{ItemRead}
+use Rattle.rinex_read.specs.declared.judged.ItemRead.TheVariants.{Item, Refused, PassedOver, End}
+use Rattle.one_run.specs.declared.fault.BridgeFault.{BridgeFault}
+use Rattle.one_run.specs.declared.fault.BridgeFault.TheVariants.{ReadFault, NotThisForm, TooLong}
+use Rattle.nav_files.specs.declared.counts.RinexCounts.{RinexCounts}
+use Rattle.nav_files.specs.Files.{is_refused, is_passed, is_item}
+
+-- a record, and not the end
+abbrev pub IsRecord : ItemRead → Type 0
+IsRecord (Item line item) = Unit {0}
+IsRecord (Refused line reason) = Unit {0}
+IsRecord (PassedOver line) = Unit {0}
+IsRecord End = ⊥
+
+-- the counts with a record more
+abbrev pub counted : RinexCounts → ItemRead → RinexCounts
+counted c read = record {
+  records = c.records + 1;
+  refused = c.refused + is_refused read;
+  passed = c.passed + is_passed read;
+  items = c.items + is_item read;
+}
+
+-- the records that were counted are those of the three kinds
+abbrev pub AreCounted : RinexCounts → Type 0
+AreCounted c = c.refused + c.passed + c.items ≡ c.records
+
+-- how the header was left at a fault
+abbrev pub HeaderFaultOf : BridgeFault → RecordsState → Type 0
+HeaderFaultOf ReadFault new = Unit {0}
+HeaderFaultOf TooLong new = new.lines.taken ≡ 2 ^ 32
+HeaderFaultOf NotThisForm new = (new.header ≡ NotRinexNav) ⊎ (new.header ≡ OtherVersion)
+HeaderFaultOf _ new = ⊥
+
+-- How the reader breaks off behind the header.
+abbrev pub BreaksRead : Form → Option (List ℕ) → Option (List ℕ) → RecordsState → RecordsState → BridgeFault → Type 0
+BreaksRead f left left_new old new ReadFault = BreaksRecord f left left_new old new lines.ReadFault
+BreaksRead f left left_new old new TooLong = BreaksRecord f left left_new old new lines.TooLong
+BreaksRead f left left_new old new _ = ⊥
+
+-- The header is refused, whatever bytes follow, or the reader breaks off in it.
+pub record NoHeader (f : Form) (left left_new : Option (List ℕ)) (old new : RecordsState) (fault : BridgeFault) : Type 0 where
+  pub steps : HeaderSteps f left left_new old new
+  pub by : HeaderFaultOf fault new

@@ -1,0 +1,39 @@
+//! The header of a navigation file.
+
+ghost use Rattle.std.specs.Prelude.{IsTrue, IsErrOf, IfErr, OnOk};
+ghost use Rattle.rinex_read.specs.States.{IsNew, PassesHeader};
+ghost use Rattle.one_run.specs.Causes.{HasItsCause, faults_of};
+ghost use Rattle.nav_files.specs.Mirrors.{NoHeader};
+
+use crate::records::fault_of;
+use nav_io::Source;
+use one_run::BridgeFault;
+use rinex_read::{FileForm, HeaderFault, RecordReader};
+
+/// Reads the header.
+///
+/// # Errors
+///
+/// `NotThisForm` where the header is refused; `ReadFault` only where the input's count of faults rose or stands at its last
+/// value; `TooLong` only where 4,294,967,295 bytes were taken and one more was there.
+pub fn pass_header<F: FileForm, S: Source>(
+    records: &mut RecordReader<F>,
+    input: &mut S,
+) -> Result<(), BridgeFault>
+    requires first { IsNew records.old }
+    ensures header { OnOk result (PassesHeader F.form (S.left input.old) (S.left input.new)
+        records.old records.new) }
+    ensures broken { IfErr result (NoHeader F.form (S.left input.old) (S.left input.new)
+        records.old records.new) }
+    ensures cause { HasItsCause (faults_of (S.faults input.old) 0 0)
+        (faults_of (S.faults input.new) 0 0) result }
+    ensures never { IsTrue (S.never_fails input.old)
+        → (IsErrOf result BridgeFault.ReadFault → ⊥) × IsTrue (S.never_fails input.new) }
+{
+    match records.read_header(input) {
+        Ok(()) => Ok(()),
+        Err(HeaderFault::NotRinexNav) => Err(BridgeFault::NotThisForm),
+        Err(HeaderFault::Version) => Err(BridgeFault::NotThisForm),
+        Err(HeaderFault::Line(fault)) => Err(fault_of(fault)),
+    }
+}

@@ -1,0 +1,71 @@
+//! The runs over navigation files.
+
+ghost use Rattle.rinex_read.specs.Forms.{rinex4};
+ghost use Rattle.rinex_read.specs.Form3.{rinex3};
+ghost use Rattle.one_run.specs.Runs.{Ended, world};
+ghost use Rattle.nav_files.specs.Files.{convert_meaning};
+ghost use Rattle.nav_files.specs.Targets.{target_of_file};
+
+use crate::counts::RinexCounts;
+use crate::taker::run_file;
+use crate::target::RinexTo;
+use nav_io::{Sink, Source};
+use one_run::BridgeFault;
+use outlets::Target;
+use rinex_read::{Rinex3, Rinex4};
+
+/// Reads a navigation file of RINEX 4 to its end, and writes what it is converted to while it reads.
+///
+/// The header is judged first. Then the text in front is written, and after each record what its item becomes, repeats
+/// included: a record of RINEX, a frame of RTCM or a line of a list. A record that is refused gives a line of the report,
+/// with the number of its first line, and at the end the counts stand there.
+///
+/// # Errors
+///
+/// - `NotThisForm` exactly where the header is refused; nothing is written then.
+/// - `ReadFault`, `WriteFault`, `ReportFault` only where the count of faults of the input, the output or the report rose, or
+///   stands at its last value.
+/// - `TooLong` only where 4,294,967,295 bytes were taken and one more was there.
+///
+/// It takes no memory.
+pub fn run_rinex<S: Source, T: Sink, U: Sink>(
+    to: &RinexTo,
+    input: &mut S,
+    output: &mut T,
+    report: &mut U,
+) -> Result<RinexCounts, BridgeFault>
+    ensures { Ended (convert_meaning rinex4 (target_of_file to.now))
+        (world input.old (S.left input.old) (S.never_fails input.old) (S.faults input.old)
+        output.old (T.written output.old) (T.faults output.old)
+        report.old (U.written report.old) (U.faults report.old))
+        (world input.new (S.left input.new) (S.never_fails input.new) (S.faults input.new)
+        output.new (T.written output.new) (T.faults output.new)
+        report.new (U.written report.new) (U.faults report.new)) result }
+{
+    let mut counts = RinexCounts::new();
+    run_file::<Rinex4, Target, S, T, U>(&to.target(), &mut counts, input, output, report)
+}
+
+/// Reads a navigation file of RINEX 3 to its end, and writes what it is converted to while it reads, as [`run_rinex`]
+/// does: the ephemerides of GPS and those of Galileo from I/NAV (RINEX 3.05).
+///
+/// # Errors
+///
+/// As those of [`run_rinex`].
+pub fn run_rinex3<S: Source, T: Sink, U: Sink>(
+    to: &RinexTo,
+    input: &mut S,
+    output: &mut T,
+    report: &mut U,
+) -> Result<RinexCounts, BridgeFault>
+    ensures { Ended (convert_meaning rinex3 (target_of_file to.now))
+        (world input.old (S.left input.old) (S.never_fails input.old) (S.faults input.old)
+        output.old (T.written output.old) (T.faults output.old)
+        report.old (U.written report.old) (U.faults report.old))
+        (world input.new (S.left input.new) (S.never_fails input.new) (S.faults input.new)
+        output.new (T.written output.new) (T.faults output.new)
+        report.new (U.written report.new) (U.faults report.new)) result }
+{
+    let mut counts = RinexCounts::new();
+    run_file::<Rinex3, Target, S, T, U>(&to.target(), &mut counts, input, output, report)
+}

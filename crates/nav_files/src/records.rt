@@ -1,0 +1,92 @@
+//! The records of a navigation file, one after another.
+
+ghost use Rattle.std.specs.Prelude.{◌≡◌, ◌+◌, ◌^◌, ◌<◌, ◌≤◌, length, IsTrue, IsErrOf, IfOk, IfErr, IfSome, IfNone};
+ghost use Rattle.rinex_read.specs.States.{GivesNone, GivesRead};
+ghost use Rattle.rinex_read.specs.RoundTrip.{IsWholeRead};
+ghost use Rattle.rinex_read.specs.declared.judged.HeaderState.TheVariants.{Passed};
+ghost use Rattle.one_run.specs.Causes.{HasItsCause, fault_by, faults_of};
+ghost use Rattle.nav_files.specs.Files.{reason_text};
+ghost use Rattle.nav_files.specs.Mirrors.{AreCounted, BreaksRead, IsRecord, counted};
+
+use crate::counts::RinexCounts;
+use nav_io::{LineFault, Source};
+use one_run::BridgeFault;
+use rinex_read::{FileForm, ItemRead, Reason, RecordReader};
+
+/// The fault of a run whose lines broke off so.
+pub fn fault_of(fault: LineFault) -> BridgeFault
+    ensures { result ≡ fault_by fault }
+{
+    match fault {
+        LineFault::ReadFault => BridgeFault::ReadFault,
+        LineFault::TooLong => BridgeFault::TooLong,
+    }
+}
+
+/// Why a record is refused, in a word.
+pub fn reason_word(reason: Reason) -> &'static [u8]
+    ensures word { result.now ≡ reason_text reason }
+    ensures short { length result.now ≤ 32 }
+{
+    match reason {
+        Reason::BadSat => b"satellite",
+        Reason::Short => b"short",
+        Reason::NotANumber => b"number",
+        Reason::Blank => b"blank",
+        Reason::OutOfRange => b"range",
+        Reason::NoSuchDate => b"date",
+        Reason::Week => b"week",
+        Reason::Fit => b"fit",
+        Reason::EpochStep => b"step",
+        Reason::EpochFar => b"far",
+    }
+}
+
+/// Counts a record.
+pub fn count_read(read: &ItemRead, counts: &mut RinexCounts)
+    requires record { IsRecord read.now }
+    requires room { counts.old.records + 1 < 2 ^ 64 }
+    requires counted { AreCounted counts.old }
+    ensures counts { counts.new ≡ counted counts.old read.now }
+    ensures counted { AreCounted counts.new }
+{
+    match read {
+        ItemRead::Item { .. } => counts.items += 1,
+        ItemRead::Refused { .. } => counts.refused += 1,
+        ItemRead::PassedOver { .. } => counts.passed += 1,
+        ItemRead::End => {}
+    }
+    counts.records += 1;
+}
+
+/// The next record; none at the end of the file. What is read of a record is whole: its fields are within their digits, and
+/// its parts fit together.
+///
+/// # Errors
+///
+/// `ReadFault` only where the input's count of faults rose or stands at its last value; `TooLong` only where 4,294,967,295
+/// bytes were taken and one more was there.
+pub fn next_read<F: FileForm, S: Source>(
+    records: &mut RecordReader<F>,
+    input: &mut S,
+) -> Result<Option<ItemRead>, BridgeFault>
+    requires header { records.old.header ≡ Passed }
+    ensures read { IfOk result (λ given. IfSome given (λ read. IsRecord read
+        × GivesRead F.form read (S.left input.old) (S.left input.new) records.old records.new)) }
+    ensures item { IfOk result (λ given. IfSome given IsWholeRead) }
+    ensures none { IfOk result (λ given. IfNone given
+        (GivesNone F.form (S.left input.old) (S.left input.new) records.old records.new)) }
+    ensures header { records.new.header ≡ Passed }
+    ensures broken { IfErr result (λ fault. BreaksRead F.form (S.left input.old) (S.left input.new)
+        records.old records.new fault) }
+    ensures cause { HasItsCause (faults_of (S.faults input.old) 0 0)
+        (faults_of (S.faults input.new) 0 0) result }
+    ensures never { IsTrue (S.never_fails input.old)
+        → (IsErrOf result BridgeFault.ReadFault → ⊥) × IsTrue (S.never_fails input.new) }
+{
+    match records.next_item(input) {
+        Ok(ItemRead::End) => Ok(None),
+        Ok(read) => Ok(Some(read)),
+        Err(fault) => Err(fault_of(fault)),
+    }
+}

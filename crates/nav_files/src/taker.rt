@@ -1,0 +1,192 @@
+//! The run over a navigation file, whatever is done with its records.
+
+ghost use Rattle.std.specs.Prelude.{◌≡◌, ◌⊎◌, ◌+◌, ◌^◌, ◌<◌, ◌++◌, ◌∷◌, ℕ, Bool, true, List, [], Option, length};
+ghost use Rattle.std.specs.Prelude.{IsTrue, IsErrOf, IfErr, MatchResult, OnOk};
+ghost use Rattle.std.specs.Io.KnownBytes.{Appends};
+ghost use Rattle.nav_io.specs.Causes.{HasCause};
+ghost use Rattle.nav_io.specs.Front.{AppendsFront, IsFront};
+ghost use Rattle.nav_io.specs.Writes.{Writes};
+ghost use Rattle.rinex_read.specs.RoundTrip.{IsWholeRead};
+ghost use Rattle.rinex_read.specs.declared.judged.HeaderState.TheVariants.{Passed};
+ghost use Rattle.rinex_read.specs.declared.judged.ItemRead.{ItemRead};
+ghost use Rattle.one_run.specs.Causes.{HasItsCause, faults_of};
+ghost use Rattle.one_run.specs.Runs.{Ended, world};
+ghost use Rattle.nav_files.specs.Files.{file_meaning};
+ghost use Rattle.nav_files.specs.Mirrors.{IsRecord};
+ghost use Rattle.nav_files.specs.Taken.{TakesAll, TakesPart};
+
+use crate::file::pass_header;
+use crate::records::next_read;
+use nav_io::{Failed, Sink, Source};
+use one_run::{BridgeFault, Text};
+use rinex_read::{
+    FileForm, ItemRead, RecordReader, readers_begin_with_the_file, steps_follow_one_another,
+};
+
+/// What a run does with the records of a file, one after another. Its settings stay as they are; what it holds of the records
+/// is its state.
+pub trait Taker {
+    type State;
+
+    type Counts: Copy;
+
+    // What is written and reported once these records were taken.
+    ghost text: { Self → List ItemRead → List ℕ };
+
+    ghost told: { Self → List ItemRead → List ℕ };
+
+    // What is written and reported of all records of a file, and what is counted.
+    ghost whole: { Self → List ItemRead → List ℕ };
+
+    ghost reported: { Self → List ItemRead → List ℕ };
+
+    ghost count: { Self → List ItemRead → Self.Counts };
+
+    // Whether it takes memory.
+    ghost memory: { Bool };
+
+    // The state holds what these records come to.
+    ghost holds: { Self → Self.State → List ItemRead → Type 0 };
+
+    // What was written and reported is a front of the whole; at first nothing is reported.
+    fn begins(&self)
+        ensures text { (some more : List ItemRead)
+            → IsFront (text self.now some) (whole self.now (some ++ more)) }
+        ensures told { (some more : List ItemRead)
+            → IsFront (told self.now some) (reported self.now (some ++ more)) }
+        ensures silent { told self.now [] ≡ [] };
+
+    // Writes what stands in front.
+    fn begin<T: Sink>(&self, output: &mut T) -> Result<(), Failed>
+        ensures { Writes (T.written output.old) (T.written output.new)
+            (T.faults output.old) (T.faults output.new) result (text self.now []) };
+
+    // Takes a record.
+    fn take<T: Sink, U: Sink>(
+        &self,
+        state: &mut Self::State,
+        read: &ItemRead,
+        output: &mut T,
+        report: &mut U,
+    ) -> Result<(), BridgeFault>
+        requires record { IsRecord read.now }
+        requires item { IsWholeRead read.now }
+        requires few { (reads : List ItemRead) × holds self.now state.old reads
+            × (length reads + 1 < 2 ^ 64) }
+        ensures held { OnOk result ((reads : List ItemRead) → holds self.now state.old reads
+            → holds self.now state.new (reads ++ read.now ∷ [])) }
+        ensures output { (reads : List ItemRead) (start : Option (List ℕ))
+            → holds self.now state.old reads
+            → Appends start (T.written output.old) (text self.now reads)
+            → MatchResult result
+            (λ _. Appends start (T.written output.new) (text self.now (reads ++ read.now ∷ [])))
+            (λ _. AppendsFront start (T.written output.new)
+            (text self.now (reads ++ read.now ∷ []))) }
+        ensures report { (reads : List ItemRead) (start : Option (List ℕ))
+            → holds self.now state.old reads
+            → Appends start (U.written report.old) (told self.now reads)
+            → MatchResult result
+            (λ _. Appends start (U.written report.new) (told self.now (reads ++ read.now ∷ [])))
+            (λ _. AppendsFront start (U.written report.new)
+            (told self.now (reads ++ read.now ∷ []))) }
+        ensures cause { HasItsCause (faults_of 0 (T.faults output.old) (U.faults report.old))
+            (faults_of 0 (T.faults output.new) (U.faults report.new)) result }
+        ensures kinds { IfErr result (λ fault. (fault ≡ BridgeFault.WriteFault)
+            ⊎ ((fault ≡ BridgeFault.ReportFault)
+            ⊎ ((fault ≡ BridgeFault.NoMemory) × (memory ≡ true)))) };
+
+    // What is counted of the records that were taken.
+    fn counts(&self, state: &Self::State) -> Self::Counts
+        ensures { (reads : List ItemRead) → holds self.now state.now reads
+            → result ≡ count self.now reads };
+
+    // Writes what is written at the end of a file.
+    fn finish<T: Sink>(&self, state: &mut Self::State, output: &mut T) -> Result<(), Failed>
+        ensures output { (reads : List ItemRead) (start : Option (List ℕ))
+            → holds self.now state.old reads
+            → Appends start (T.written output.old) (text self.now reads)
+            → MatchResult result
+            (λ _. Appends start (T.written output.new) (whole self.now reads))
+            (λ _. AppendsFront start (T.written output.new) (whole self.now reads)) }
+        ensures cause { HasCause (T.faults output.old) (T.faults output.new) result };
+
+    // The text of counts.
+    fn counts_text(&self, counts: &Self::Counts) -> Text
+        ensures { (reads : List ItemRead) → counts.now ≡ count self.now reads
+            → reported self.now reads ≡ told self.now reads ++ result.items };
+}
+
+// Takes the records behind the header, one after another.
+fn take_records<F: FileForm, K: Taker, S: Source, T: Sink, U: Sink>(
+    taker: &K,
+    state: &mut K::State,
+    records: &mut RecordReader<F>,
+    input: &mut S,
+    output: &mut T,
+    report: &mut U,
+) -> Result<(), BridgeFault>
+    requires header { records.old.header ≡ Passed }
+    requires nothing { K.holds taker.now state.old [] }
+    ensures all { OnOk result (TakesAll F.form (K.text taker.now) (K.told taker.now)
+        (K.holds taker.now state.new) (S.left input.old) (S.left input.new)
+        records.old records.new (T.written output.old) (T.written output.new)
+        (U.written report.old) (U.written report.new)) }
+    ensures broken { IfErr result (TakesPart F.form (K.text taker.now) (K.told taker.now)
+        K.memory (S.left input.old) (S.left input.new)
+        records.old records.new (T.written output.old) (T.written output.new)
+        (U.written report.old) (U.written report.new)) }
+    ensures cause { HasItsCause
+        (faults_of (S.faults input.old) (T.faults output.old) (U.faults report.old))
+        (faults_of (S.faults input.new) (T.faults output.new) (U.faults report.new)) result }
+    ensures never { IsTrue (S.never_fails input.old) → IsErrOf result BridgeFault.ReadFault → ⊥ }
+{
+    steps_follow_one_another::<F>();
+    'records: loop {
+        match next_read::<F, S>(records, input) {
+            Err(fault) => return Err(fault),
+            Ok(None) => return Ok(()),
+            Ok(Some(read)) => taker.take(state, &read, output, report)?,
+        }
+    }
+}
+
+/// Reads a navigation file of a form to its end.
+///
+/// The header is judged first; then the records are taken, one after another, and at the end the counts are reported.
+pub fn run_file<F: FileForm, K: Taker, S: Source, T: Sink, U: Sink>(
+    taker: &K,
+    state: &mut K::State,
+    input: &mut S,
+    output: &mut T,
+    report: &mut U,
+) -> Result<K::Counts, BridgeFault>
+    requires nothing { K.holds taker.now state.old [] }
+    ensures { Ended (file_meaning F.form K.memory (K.whole taker.now) (K.reported taker.now)
+        (K.count taker.now))
+        (world input.old (S.left input.old) (S.never_fails input.old) (S.faults input.old)
+        output.old (T.written output.old) (T.faults output.old)
+        report.old (U.written report.old) (U.faults report.old))
+        (world input.new (S.left input.new) (S.never_fails input.new) (S.faults input.new)
+        output.new (T.written output.new) (T.faults output.new)
+        report.new (U.written report.new) (U.faults report.new)) result }
+{
+    readers_begin_with_the_file::<F>();
+    steps_follow_one_another::<F>();
+    taker.begins();
+    let mut records: RecordReader<F> = RecordReader::new();
+    pass_header::<F, S>(&mut records, input)?;
+    match taker.begin(output) {
+        Ok(()) => {}
+        Err(Failed) => return Err(BridgeFault::WriteFault),
+    }
+    take_records(taker, state, &mut records, input, output, report)?;
+    let counts = taker.counts(state);
+    match taker.finish(state, output) {
+        Ok(()) => {}
+        Err(Failed) => return Err(BridgeFault::WriteFault),
+    }
+    match report.write(taker.counts_text(&counts).as_slice()) {
+        Ok(()) => Ok(counts),
+        Err(Failed) => Err(BridgeFault::ReportFault),
+    }
+}

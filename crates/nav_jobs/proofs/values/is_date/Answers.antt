@@ -1,6 +1,0 @@
-use Rattle.std.proofs.Common.{rules, refl}
-use Rattle.nav_jobs.proofs.Dates.{date_form}
-use Rattle.nav_jobs.proofs.values.is_date.Goals as goal
-
-pub returns : goal.returns
-returns c = date_form c.args.text.now c.are_digits-2.result c.requires (search rules) (c.if-not-is_same.ensures.0 refl) (search rules) (search rules)

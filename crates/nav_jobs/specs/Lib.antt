@@ -1,4 +1,0 @@
-pub mod Job
-pub mod JobTexts
-pub mod Found
-pub mod Statuses

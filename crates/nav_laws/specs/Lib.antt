@@ -1,0 +1,4 @@
+pub mod SlotParts
+pub mod SentCapture
+pub mod Plain
+pub mod PlainLaws

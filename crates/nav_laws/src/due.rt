@@ -1,0 +1,77 @@
+//! The first period that is due among kept parts.
+
+ghost use Rattle.std.specs.Prelude.{◌≡◌, ◌<◌, None};
+ghost use Rattle.periods.specs.Mirrors.{best_among, best_with, is_better};
+ghost use Rattle.periods.specs.PeriodsOf.{place_at, is_before};
+ghost use Rattle.nav_laws.specs.Plain.{is_after, due};
+
+use nav_eph::Part;
+use periods::{Place, comes_before, is_quiet, place_of_part};
+
+// The place is behind the last one given.
+fn is_behind(last: &Option<Place>, place: &Place) -> bool
+    ensures { result ≡ is_after last.now place.now }
+{
+    match last {
+        None => true,
+        Some(given) => comes_before(given, place),
+    }
+}
+
+// No place was found yet, or this one comes before.
+fn is_sooner(best: &Option<Place>, place: &Place) -> bool
+    ensures { result ≡ is_better is_before best.now place.now }
+{
+    match best {
+        None => true,
+        Some(b) => comes_before(place, b),
+    }
+}
+
+// The place is that of a period that is closed at the mark and was not given.
+fn is_due(parts: &[Part], window: u32, mark: u64, last: &Option<Place>, place: &Place) -> bool
+    ensures { result ≡ due parts.now window mark last.now place.now }
+{
+    place.end as u64 + (window as u64) < mark
+        && (is_behind(last, place) && is_quiet(parts, window, &place.key, place.end))
+}
+
+// The first due place so far, and one more.
+fn place_with(
+    best: Option<Place>,
+    place: Option<Place>,
+    parts: &[Part],
+    window: u32,
+    mark: u64,
+    last: &Option<Place>,
+) -> Option<Place>
+    ensures { result ≡ best_with (due parts.now window mark last.now) is_before best place }
+{
+    match place {
+        None => best,
+        Some(q) => {
+            if is_sooner(&best, &q) && is_due(parts, window, mark, last, &q) {
+                Some(q)
+            } else {
+                best
+            }
+        }
+    }
+}
+
+// The first place that is due.
+pub(crate) fn first_due(
+    parts: &[Part],
+    window: u32,
+    mark: u64,
+    last: &Option<Place>,
+) -> Option<Place>
+    ensures { result
+        ≡ best_among place_at (due parts.now window mark last.now) is_before parts.now None }
+{
+    let mut best: Option<Place> = None;
+    for part in parts {
+        best = place_with(best, place_of_part(part), parts, window, mark, last);
+    }
+    best
+}

@@ -1,0 +1,18 @@
+//! A law of what is far from a mark: the function does nothing, and its contract is the law.
+
+ghost use Rattle.std.specs.Prelude.{◌≡◌, ◌+◌, ◌*◌, ◌<◌, ◌≤◌, ◌++◌};
+ghost use Rattle.std.specs.Prelude.{ℕ, List, Option, All, Contains};
+ghost use Rattle.nav_eph.specs.declared.part.Part.{Part};
+ghost use Rattle.periods.specs.declared.key.Place.{Place};
+ghost use Rattle.periods.specs.Periods.{IsPeriod};
+ghost use Rattle.slot_assembly.specs.Standing.{IsAfter, NoneDue};
+
+/// Where no period is due at a mark, and later parts come from the mark on, what was heard two
+/// windows before the mark is farther than the window from each end to come.
+pub fn old_is_far()
+    ensures { (window mark : ℕ) (parts later : List Part) (last : Option Place)
+        (place : Place) (stamp : ℕ)
+        → NoneDue window (Contains parts) mark last → All (λ p. mark ≤ p.stamp) later
+        → IsPeriod window (Contains (parts ++ later)) place → IsAfter last place
+        → stamp + 2 * window < mark → stamp + window < place.end }
+{}

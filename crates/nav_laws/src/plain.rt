@@ -1,0 +1,120 @@
+//! The plain assembly: it keeps all parts and searches.
+
+ghost use Rattle.std.specs.Prelude.{◌≡◌, ◌≤◌, ◌<◌, ◌+◌, ◌^◌};
+
+use crate::due::first_due;
+use crate::kept::keep;
+use gnss_week::RefWeek;
+use nav_eph::Part;
+use periods::{Closed, Place, note_value, verdict_on};
+use slot_assembly::Assembly;
+use std::alloc::{AllocError, Global};
+use std::marker::Model;
+
+/// An assembly that keeps every part, and searches them all for what is closed: the definition's
+/// own program.
+///
+/// A contract sees the week `reference` near which it listens, the `window` in seconds, the `parts`
+/// that it keeps, the greatest `mark` given and the `last` period given.
+#[derive(Drop)]
+pub struct PlainAssembly {
+    parts: Vec<Part>,
+    reference: RefWeek,
+    window: u32,
+    mark: u64,
+    last: Option<Place>,
+    // no kept part has an earlier stamp
+    least: u32,
+    // the last mark at which there was none to give
+    none_at: u64,
+}
+
+impl Model for PlainAssembly {
+    ghost use Rattle.nav_laws.specs.Plain.{PlainState};
+
+    ghost Value = { PlainState };
+
+    ghost view = { λ s. record {
+      reference = s.reference;
+      window = s.window;
+      parts = s.parts.items;
+      mark = s.mark;
+      last = s.last;
+      least = s.least;
+      none_at = s.none_at;
+    } };
+}
+
+impl PlainAssembly {
+    ghost use Rattle.nav_laws.specs.Plain.{PlainStandsFor};
+    ghost use Rattle.slot_assembly.specs.Standing.{nothing_yet};
+
+    /// An assembly of no parts, near the week `r`, with a window of 60 to 14,400 seconds.
+    pub fn new(alloc: Global, r: RefWeek, window: u32) -> PlainAssembly
+        requires least { 60 ≤ window }
+        requires most { window ≤ 14400 }
+        ensures reference { result.reference ≡ r }
+        ensures window { result.window ≡ window }
+        ensures stands { PlainStandsFor result nothing_yet }
+    {
+        PlainAssembly {
+            parts: Vec::new(alloc),
+            reference: r,
+            window,
+            mark: 0,
+            last: None,
+            least: u32::MAX,
+            none_at: 0,
+        }
+    }
+}
+
+impl Assembly for PlainAssembly {
+    ghost use Rattle.nav_laws.specs.Plain.{PlainStandsFor, plain_left};
+    ghost use Rattle.nav_laws.specs.PlainLaws.{parts_are_a_set, parts_are_values};
+
+    ghost reference = { λ s. s.reference };
+
+    ghost window = { λ s. s.window };
+
+    ghost stands_for = { PlainStandsFor };
+
+    ghost left = { plain_left };
+
+    fn take(&mut self, part: &Part) -> Result<(), AllocError> {
+        note_value(part);
+        keep(&mut self.parts, part)?;
+        self.least = self.least.min(part.stamp);
+        Ok(())
+    }
+
+    fn next_closed(&mut self, mark: u64) -> Result<Option<Closed>, AllocError> {
+        // There was none at this mark, and what came since does not end before it; or no kept part
+        // is old enough.
+        if mark <= self.none_at || mark <= self.least as u64 + self.window as u64 {
+            self.mark = mark;
+            return Ok(None);
+        }
+        match first_due(&self.parts, self.window, mark, &self.last) {
+            None => {
+                self.mark = mark;
+                self.none_at = mark;
+                Ok(None)
+            }
+            Some(place) => {
+                let said = verdict_on(&self.parts, self.reference, self.window, &place);
+                self.mark = mark;
+                self.last = Some(place);
+                Ok(Some(Closed {
+                    end: place.end,
+                    key: place.key,
+                    verdict: said,
+                }))
+            }
+        }
+    }
+
+    ghost parts_are_values = { parts_are_values };
+
+    ghost parts_are_a_set = { parts_are_a_set };
+}

@@ -1,0 +1,6 @@
+mod SweepLemmas
+mod CoverLemmas
+mod Orders
+mod InsertLemmas
+mod MergeLemmas
+mod HeldLemmas

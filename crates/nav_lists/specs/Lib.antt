@@ -1,0 +1,4 @@
+pub mod Covering
+pub mod Ranges
+pub mod Held
+pub mod Merging

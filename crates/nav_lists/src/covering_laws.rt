@@ -1,0 +1,24 @@
+ghost use Rattle.std.specs.Prelude.{◌≡◌, ◌↔◌, ◌⊎◌, List};
+ghost use Rattle.std.specs.List.{Contains};
+ghost use Rattle.nav_eph.specs.declared.items.NavItem.{NavItem};
+ghost use Rattle.nav_lists.specs.Covering.{AreCovering, AreCovers, CoversSecond, IsIn, covers_of};
+ghost use Rattle.nav_lists.specs.declared.range.CoverRange.{CoverRange};
+
+/// `covers_of` is the one list of the ranges that some items cover, and it depends on the set of the
+/// items alone.
+pub fn covering()
+    ensures are { (items : List NavItem) →
+        AreCovers (AreCovering (Contains items)) (covers_of items) }
+    ensures only { (items : List NavItem) (xs : List CoverRange) →
+        AreCovers (AreCovering (Contains items)) xs → xs ≡ covers_of items }
+    ensures set { (some other : List NavItem) →
+        ((i : NavItem) → Contains some i ↔ Contains other i) → covers_of some ≡ covers_of other }
+{}
+
+/// Some ranges, with what one item more covers, make one list of ranges: what the contract of
+/// `Cover::add` says of an answer determines it.
+pub fn one_cover()
+    ensures { (old xs ys : List CoverRange) (item : NavItem) →
+        AreCovers (λ sat m. IsIn old sat m ⊎ CoversSecond item sat m) xs →
+        AreCovers (λ sat m. IsIn old sat m ⊎ CoversSecond item sat m) ys → xs ≡ ys }
+{}

@@ -1,0 +1,19 @@
+ghost use Rattle.std.specs.Prelude.{◌≡◌, ◌↔◌, List, ◌++◌};
+ghost use Rattle.std.specs.List.{Contains};
+ghost use Rattle.nav_eph.specs.declared.items.NavItem.{NavItem};
+ghost use Rattle.nav_lists.specs.Merging.{IsMerged, merged_of};
+
+/// `merged_of` is the one merged list of some items. It depends on the set of the items alone: their
+/// order is nothing, nor is repeating, nor is merging some of them before.
+pub fn merging()
+    ensures are { (items : List NavItem) → IsMerged (Contains items) (merged_of items) }
+    ensures only { (items xs : List NavItem) →
+        IsMerged (Contains items) xs → xs ≡ merged_of items }
+    ensures set { (some other : List NavItem) →
+        ((i : NavItem) → Contains some i ↔ Contains other i) → merged_of some ≡ merged_of other }
+    ensures turned { (some more : List NavItem) →
+        merged_of (some ++ more) ≡ merged_of (more ++ some) }
+    ensures twice { (some : List NavItem) → merged_of (some ++ some) ≡ merged_of some }
+    ensures again { (some more : List NavItem) →
+        merged_of (merged_of some ++ more) ≡ merged_of (some ++ more) }
+{}

@@ -1,4 +1,0 @@
-mod Orders
-mod InsertLemmas
-mod MergeLemmas
-mod HeldLemmas

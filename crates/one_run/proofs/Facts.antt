@@ -1,0 +1,193 @@
+-- What follows of a run from how it ended.
+use Rattle.std.proofs.Common.{◌≡◌, ◌⊎◌, inl, inr, ◌^◌, ◌<◌, ◌≤◌, ℕ, Bool, false, true, List, ◌++◌, length, Option, None, Some, Result, Ok, Err, refl, sym, ap, subst, ◌∙◌, arith, append-nil, length-append}
+use Rattle.std.specs.Prelude.{IfSome, IfOk, IsSome, IsOk, IsErr, IsErrOf, OnOk, MatchResult}
+use Rattle.std.specs.Io.KnownBytes.{Appends, Consumes, IsAtEnd}
+use Rattle.nav_io.specs.Causes.{Rose}
+use Rattle.one_run.specs.declared.fault.BridgeFault.{BridgeFault}
+use Rattle.one_run.specs.declared.fault.BridgeFault.TheVariants.{ReadFault, WriteFault, ReportFault, NotThisForm, TooLong, NoMemory}
+use Rattle.one_run.specs.Runs.{Accepts, Broke, Done, Ended, Leaves, Meaning, Says, World, bytes_for}
+use Rattle.one_run.specs.Ends.{EndedBy, any_count, fault_status, status_of, uncounted}
+
+-- ---- known bytes
+
+if_some : (o : Option (List ℕ)) (P : List ℕ → Type 0) → ((bytes : List ℕ) → o ≡ Some bytes → P bytes) → IfSome o P
+if_some None P each = tt
+if_some (Some bytes) P each = each bytes refl
+
+at_some : (o : Option (List ℕ)) (P : List ℕ → Type 0) (bytes : List ℕ) → o ≡ Some bytes → IfSome o P → P bytes
+at_some o P bytes is all = subst (λ (x : Option (List ℕ)). IfSome x P) is all
+
+-- what was taken up to the end is all of it
+taken_all : (o o' : Option (List ℕ)) (taken : List ℕ) (P : List ℕ → Type 0) → Consumes o o' taken → IsAtEnd o' → P taken → IfSome o P
+taken_all None o' taken P takes end p = tt
+taken_all (Some bytes) None taken P takes end p = absurd takes
+taken_all (Some bytes) (Some rest) taken P takes end p = subst P (sym (takes ∙ ap (λ (l : List ℕ). taken ++ l) end ∙ append-nil taken)) p
+
+-- no more was taken than was there
+taken_within : (o o' : Option (List ℕ)) (taken bytes : List ℕ) → o ≡ Some bytes → Consumes o o' taken → length taken ≤ length bytes
+taken_within o o' taken bytes is takes = within o' (subst (λ (x : Option (List ℕ)). Consumes x o' taken) is takes) where
+  within : (o' : Option (List ℕ)) → Consumes (Some bytes) o' taken → length taken ≤ length bytes
+  within None none = absurd none
+  within (Some rest) split = omega (arith, ap length split, length-append taken rest)
+
+-- ---- a run that is done
+
+pub text_of : {C S T U : Type 0} (m : Meaning C) (b a : World S T U) (r : Result C BridgeFault) → Ended m b a r
+    → OnOk r (IfSome (bytes_for m b) (λ bytes. Appends b.written a.written (m.whole.output bytes)))
+text_of m b a (Ok counts) done = taken_all _ _ done.taken _ done.consumes done.end done.text
+text_of m b a (Err fault) broke = tt
+
+pub told_of : {C S T U : Type 0} (m : Meaning C) (b a : World S T U) (r : Result C BridgeFault) → Ended m b a r
+    → OnOk r (IfSome (bytes_for m b) (λ bytes. Appends b.reported a.reported (m.whole.report bytes)))
+told_of m b a (Ok counts) done = taken_all _ _ done.taken _ done.consumes done.end done.told
+told_of m b a (Err fault) broke = tt
+
+pub counts_of : {C S T U : Type 0} (m : Meaning C) (b a : World S T U) (r : Result C BridgeFault) → Ended m b a r
+    → IfOk r (λ counts. IfSome (bytes_for m b) (λ bytes. m.counts bytes ≡ Some counts))
+counts_of m b a (Ok counts) done = taken_all _ _ done.taken _ done.consumes done.end done.counted
+counts_of m b a (Err fault) broke = tt
+
+pub end_of : {C S T U : Type 0} (m : Meaning C) (b a : World S T U) (r : Result C BridgeFault) → Ended m b a r → OnOk r (IsAtEnd (bytes_for m a))
+end_of m b a (Ok counts) done = done.end
+end_of m b a (Err fault) broke = tt
+
+pub no_fault : {C S T U : Type 0} (m : Meaning C) (b a : World S T U) (r : Result C BridgeFault) → Ended m b a r
+    → OnOk r ((a.reads_failed ≡ b.reads_failed) × (a.writes_failed ≡ b.writes_failed) × (a.reports_failed ≡ b.reports_failed))
+no_fault m b a (Ok counts) done = (done.reads, done.writes, done.reports)
+no_fault m b a (Err fault) broke = tt
+
+-- ---- each run
+
+pub leaves_of : {C S T U : Type 0} (m : Meaning C) (b a : World S T U) (r : Result C BridgeFault) → Ended m b a r → Leaves m b a
+leaves_of m b a (Ok counts) done = done.leaves
+leaves_of m b a (Err fault) broke = broke.leaves
+
+pub long_of : {C S T U : Type 0} (m : Meaning C) (b a : World S T U) (r : Result C BridgeFault) → Ended m b a r
+    → IfSome (bytes_for m b) (λ bytes. 2 ^ 32 ≤ length bytes → IsErr r)
+long_of {C = C} m b a (Ok counts) done =
+    taken_all _ _ done.taken (λ bytes. 2 ^ 32 ≤ length bytes → IsErr {T = C} {E = BridgeFault} (Ok counts)) done.consumes done.end (λ long. absurd (omega (arith, long, done.fits)))
+long_of {C = C} m b a (Err fault) broke =
+    if_some _ (λ bytes. 2 ^ 32 ≤ length bytes → IsErr {T = C} {E = BridgeFault} (Err fault)) (λ bytes is long. refl)
+
+pub accepted_of : {C S T U : Type 0} (m : Meaning C) (b a : World S T U) (r : Result C BridgeFault) → Ended m b a r
+    → IsOk r ⊎ (IsErrOf r WriteFault ⊎ (IsErrOf r ReportFault ⊎ IsErrOf r NoMemory)) → Accepts m b
+accepted_of {C = C} m b a r ended end = by_end r ended end where
+  counted : (o : Option C) (counts : C) → o ≡ Some counts → IsSome o
+  counted o counts is = subst (λ (x : Option C). IsSome x) (sym is) refl
+
+  by_end : (r : Result C BridgeFault) → Ended m b a r → IsOk r ⊎ (IsErrOf r WriteFault ⊎ (IsErrOf r ReportFault ⊎ IsErrOf r NoMemory)) → Accepts m b
+  by_end (Ok counts) done end = taken_all _ _ done.taken (λ bytes. IsSome (m.counts bytes)) done.consumes done.end (counted _ counts done.counted)
+  by_end (Err fault) broke (inl ok) = absurd (let none : false ≡ true = ok in cc)
+  by_end (Err fault) broke (inr (inl is)) = (subst (Ended m b a) is broke).says.1
+  by_end (Err fault) broke (inr (inr (inl is))) = (subst (Ended m b a) is broke).says.2
+  by_end (Err fault) broke (inr (inr (inr is))) = (subst (Ended m b a) is broke).says.1
+
+-- a run ends well, or finds no memory, where its input is accepted and nothing fails
+pub complete_of : {C S T U : Type 0} (m : Meaning C) (b a : World S T U) (r : Result C BridgeFault) → Ended m b a r
+    → IfSome (bytes_for m b) (λ bytes. length bytes < 2 ^ 32 → IsSome (m.counts bytes)
+    → (Rose b.reads_failed a.reads_failed → ⊥) → (Rose b.writes_failed a.writes_failed → ⊥)
+    → (m.reports ≡ false) ⊎ (Rose b.reports_failed a.reports_failed → ⊥)
+    → IsOk r ⊎ (IsErrOf r NoMemory × (m.memory ≡ true)))
+complete_of {C = C} m b a r ended = if_some _ _ (λ bytes is. by_end r ended bytes is) where
+  never : (reports : Bool) → reports ≡ true → reports ≡ false → ⊥
+  never reports some none = cc
+
+  none_there : (o : Option C) → o ≡ None → IsSome o → ⊥
+  none_there o none some = let e : false ≡ true = subst (λ (x : Option C). IsSome x) none some in cc
+
+  by_end : (r : Result C BridgeFault) → Ended m b a r → (bytes : List ℕ) → bytes_for m b ≡ Some bytes → length bytes < 2 ^ 32 → IsSome (m.counts bytes)
+      → (Rose b.reads_failed a.reads_failed → ⊥) → (Rose b.writes_failed a.writes_failed → ⊥)
+      → (m.reports ≡ false) ⊎ (Rose b.reports_failed a.reports_failed → ⊥)
+      → IsOk r ⊎ (IsErrOf r NoMemory × (m.memory ≡ true))
+  by_end (Ok counts) done bytes is few some reads writes reports = inl refl
+  by_end (Err ReadFault) broke bytes is few some reads writes reports = absurd (reads broke.says.1)
+  by_end (Err WriteFault) broke bytes is few some reads writes reports = absurd (writes broke.says.0)
+  by_end (Err ReportFault) broke bytes is few some reads writes (inl silent) = absurd (never m.reports broke.says.0 silent)
+  by_end (Err ReportFault) broke bytes is few some reads writes (inr reports) = absurd (reports broke.says.1)
+  by_end (Err NotThisForm) broke bytes is few some reads writes reports =
+      absurd (none_there (m.counts bytes) (at_some _ (λ l. m.counts l ≡ None) bytes is broke.says.1) some)
+  by_end (Err TooLong) broke bytes is few some reads writes reports =
+      absurd (omega (arith, few, broke.says, taken_within _ _ broke.taken bytes is broke.consumes))
+  by_end (Err NoMemory) broke bytes is few some reads writes reports = inr (refl, broke.says.0)
+
+-- ---- a run that broke off
+
+pub broke_by : {C S T U : Type 0} (m : Meaning C) (b a : World S T U) (r : Result C BridgeFault) (fault : BridgeFault) → Ended m b a r → IsErrOf r fault
+    → Broke m b a fault
+broke_by m b a r fault ended is = subst (Ended m b a) is ended
+
+-- ---- whatever is counted
+
+any_some : {C : Type 0} (o : Option C) → IsSome o → IsSome (any_count o)
+any_some None some = absurd (let no : false ≡ true = some in cc)
+any_some (Some counts) some = refl
+
+any_accepts : {C : Type 0} (counts : List ℕ → Option C) (o : Option (List ℕ)) → IfSome o (λ bytes. IsSome (counts bytes))
+    → IfSome o (λ bytes. IsSome (any_count (counts bytes)))
+any_accepts counts None all = tt
+any_accepts counts (Some bytes) some = any_some (counts bytes) some
+
+any_refuses : {C : Type 0} (counts : List ℕ → Option C) (o : Option (List ℕ)) → IfSome o (λ bytes. counts bytes ≡ None)
+    → IfSome o (λ bytes. any_count (counts bytes) ≡ None)
+any_refuses counts None all = tt
+any_refuses counts (Some bytes) none = ap any_count none
+
+any_says : {C S T U : Type 0} (m : Meaning C) (taken : List ℕ) (b a : World S T U) (fault : BridgeFault) → Says m taken b a fault → Says (uncounted m) taken b a fault
+any_says m taken b a ReadFault says = says
+any_says m taken b a WriteFault says = (says.0, any_accepts m.counts _ says.1)
+any_says m taken b a ReportFault says = (says.0, says.1, any_accepts m.counts _ says.2)
+any_says m taken b a NotThisForm says = (ap any_count says.0, any_refuses m.counts _ says.1, says.2, says.3)
+any_says m taken b a TooLong says = says
+any_says m taken b a NoMemory says = (says.0, any_accepts m.counts _ says.1)
+
+any_done : {C S T U : Type 0} (m : Meaning C) (b a : World S T U) (counts : C) → Done m b a counts → Done (uncounted m) b a tt
+any_done m b a counts done = record {
+  taken = done.taken;
+  consumes = done.consumes;
+  end = done.end;
+  fits = done.fits;
+  counted = ap any_count done.counted;
+  text = done.text;
+  told = done.told;
+  leaves = record { unread = done.leaves.unread; silent = done.leaves.silent };
+  reads = done.reads;
+  writes = done.writes;
+  reports = done.reports;
+}
+
+any_broke : {C S T U : Type 0} (m : Meaning C) (b a : World S T U) (fault : BridgeFault) → Broke m b a fault → Broke (uncounted m) b a fault
+any_broke m b a fault broke = record {
+  taken = broke.taken;
+  consumes = broke.consumes;
+  text = broke.text;
+  told = broke.told;
+  leaves = record { unread = broke.leaves.unread; silent = broke.leaves.silent };
+  says = any_says m broke.taken b a fault broke.says;
+}
+
+-- a run that ended as another did, without what was counted
+pub ended_as : {C S T U : Type 0} (m : Meaning C) (b a : World S T U) (run : Result C BridgeFault) (result : Result (Unit {0}) BridgeFault)
+    → MatchResult run (λ counts. result ≡ Ok tt) (λ fault. result ≡ Err fault) → Ended m b a run → Ended (uncounted m) b a result
+ended_as m b a (Ok counts) result is done = subst (Ended (uncounted m) b a) (sym is) (any_done m b a counts done)
+ended_as m b a (Err fault) result is broke = subst (Ended (uncounted m) b a) (sym is) (any_broke m b a fault broke)
+
+-- ---- by its status
+
+one_fault : (f g : BridgeFault) → fault_status f ≡ fault_status g → f ≡ g
+one_fault f g e = search arith
+
+some_status : (f : BridgeFault) → 0 ≡ fault_status f → ⊥
+some_status f e = search arith
+
+pub by_status : {S T U : Type 0} (m : Meaning (Unit {0})) (b a : World S T U) (status : ℕ) (fault : BridgeFault) → EndedBy m b a status
+    → status ≡ fault_status fault → Broke m b a fault
+by_status m b a status fault by is = by_end by.result by.ended (sym by.is ∙ is) where
+  by_end : (r : Result (Unit {0}) BridgeFault) → Ended m b a r → status_of r ≡ fault_status fault → Broke m b a fault
+  by_end (Ok counts) done e = absurd (some_status fault e)
+  by_end (Err other) broke e = subst (λ (f : BridgeFault). Broke m b a f) (one_fault other fault e) broke
+
+pub done_by : {S T U : Type 0} (m : Meaning (Unit {0})) (b a : World S T U) (status : ℕ) → EndedBy m b a status → status ≡ 0 → Done m b a tt
+done_by m b a status by is = by_end by.result by.ended (sym by.is ∙ is) where
+  by_end : (r : Result (Unit {0}) BridgeFault) → Ended m b a r → status_of r ≡ 0 → Done m b a tt
+  by_end (Ok counts) done e = done
+  by_end (Err fault) broke e = absurd (some_status fault (sym e))

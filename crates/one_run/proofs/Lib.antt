@@ -1,0 +1,4 @@
+mod Digits
+pub mod Facts
+pub mod Fronts
+pub mod Surface

@@ -1,0 +1,30 @@
+-- The cause of each fault of a run: the count of faults of the object that failed rose.
+use Rattle.std.specs.Prelude.{◌≡◌, ℕ, Result, Ok, Err}
+use Rattle.nav_io.specs.Causes.{Rose}
+use Rattle.nav_io.specs.declared.lines.LineFault.{LineFault}
+use Rattle.nav_io.specs.declared.lines.LineFault.TheVariants as lines
+use Rattle.one_run.specs.declared.fault.BridgeFault.{BridgeFault}
+use Rattle.one_run.specs.declared.fault.BridgeFault.TheVariants.{ReadFault, WriteFault, ReportFault, TooLong}
+
+-- the counts of faults that a run may raise
+pub record Faults : Type 0 where
+  pub input : ℕ
+  pub output : ℕ
+  pub report : ℕ
+
+-- the three counts
+abbrev pub faults_of : ℕ → ℕ → ℕ → Faults
+faults_of input output report = record { input = input; output = output; report = report }
+
+-- each fault has its cause, and none of the counts rose where the run is done
+abbrev pub HasItsCause : {T : Type 0} → Faults → Faults → Result T BridgeFault → Type 0
+HasItsCause before now (Ok x) = now ≡ before
+HasItsCause before now (Err ReadFault) = Rose before.input now.input
+HasItsCause before now (Err WriteFault) = Rose before.output now.output
+HasItsCause before now (Err ReportFault) = Rose before.report now.report
+HasItsCause before now (Err fault) = Unit {0}
+
+-- the fault of a run whose lines broke off so
+abbrev pub fault_by : LineFault → BridgeFault
+fault_by lines.ReadFault = ReadFault
+fault_by lines.TooLong = TooLong

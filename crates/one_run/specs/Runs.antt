@@ -1,0 +1,172 @@
+-- The contract of a run: what it makes of the bytes of its input, and how it ended.
+use Rattle.std.specs.Prelude.{◌≡◌, ◌^◌, ◌<◌, ℕ, Bool, true, false, List, [], length, Option, None, Some, Result, Ok, Err, IfSome, IsSome, IsTrue, if◌then◌else◌}
+use Rattle.std.specs.Io.KnownBytes.{Appends, Consumes, IsAtEnd}
+use Rattle.nav_io.specs.Causes.{Rose}
+use Rattle.nav_io.specs.Front.{AppendsFront, IsFront}
+use Rattle.one_run.specs.declared.fault.BridgeFault.{BridgeFault}
+use Rattle.one_run.specs.declared.fault.BridgeFault.TheVariants.{ReadFault, WriteFault, ReportFault, NotThisForm, TooLong, NoMemory}
+
+-- what is written and reported of bytes
+pub record Texts : Type 0 where
+  pub output : List ℕ → List ℕ
+  pub report : List ℕ → List ℕ
+
+-- what a run makes of the bytes of its input
+pub record Meaning (C : Type 0) : Type 0 where
+  -- whether it reads the input
+  pub reads : Bool
+  -- whether it writes to the report
+  pub reports : Bool
+  -- whether it takes memory
+  pub memory : Bool
+  -- what it counts of the bytes; nothing where they do not begin as its form asks
+  pub counts : List ℕ → Option C
+  -- what it writes and reports of all of them
+  pub whole : Texts
+  -- what it has written at least once these were taken, whatever fails
+  pub least : List ℕ → List ℕ
+  -- what exactly is written and reported of them where a read fails, if it says so
+  pub settled : Option Texts
+
+-- nothing: the least that is written where no more is promised
+abbrev pub no_least : List ℕ → List ℕ
+no_least bytes = []
+
+-- known bytes grew by a front of the one text that has the other as a front
+pub record AppendsBetween (old new : Option (List ℕ)) (least whole : List ℕ) : Type 0 where
+  pub front : List ℕ
+  pub within : IsFront front whole
+  pub no_less : IsFront least front
+  pub grew : Appends old new front
+
+-- An input, an output and a report, as a run sees them: the objects themselves, the bytes that are known of them, whether the
+-- input is known not to fail, and the counts of faults.
+pub record World (S T U : Type 0) : Type 0 where
+  pub input : S
+  pub output : T
+  pub report : U
+  pub left : Option (List ℕ)
+  pub never_fails : Bool
+  pub written : Option (List ℕ)
+  pub reported : Option (List ℕ)
+  pub reads_failed : ℕ
+  pub writes_failed : ℕ
+  pub reports_failed : ℕ
+
+-- the three objects, each with what is known of it
+abbrev pub world : {S T U : Type 0} → S → Option (List ℕ) → Bool → ℕ → T → Option (List ℕ) → ℕ → U → Option (List ℕ) → ℕ → World S T U
+world input left never_fails reads_failed output written writes_failed report reported reports_failed = record {
+  input = input;
+  output = output;
+  report = report;
+  left = left;
+  never_fails = never_fails;
+  written = written;
+  reported = reported;
+  reads_failed = reads_failed;
+  writes_failed = writes_failed;
+  reports_failed = reports_failed;
+}
+
+-- the bytes that a run has to read, where they are known: none of a run that reads nothing
+abbrev pub bytes_for : {C S T U : Type 0} → Meaning C → World S T U → Option (List ℕ)
+bytes_for m w = if m.reads then w.left else Some []
+
+-- the bytes begin as the run's form asks, where they are known
+abbrev pub Accepts : {C S T U : Type 0} → Meaning C → World S T U → Type 0
+Accepts m before = IfSome (bytes_for m before) (λ bytes. IsSome (m.counts bytes))
+
+-- they do not
+abbrev pub Refuses : {C S T U : Type 0} → Meaning C → World S T U → Type 0
+Refuses m before = IfSome (bytes_for m before) (λ bytes. m.counts bytes ≡ None)
+
+-- what a run leaves as it was
+pub record Leaves {C S T U : Type 0} (m : Meaning C) (before after : World S T U) : Type 0 where
+  pub unread : m.reads ≡ false → after.input ≡ before.input
+  pub silent : m.reports ≡ false → after.report ≡ before.report
+
+-- The run is done: the input was read to its end, nothing failed, and what its bytes give was counted, written and reported.
+pub record Done {C S T U : Type 0} (m : Meaning C) (before after : World S T U) (counts : C) : Type 0 where
+  pub taken : List ℕ
+  pub consumes : Consumes (bytes_for m before) (bytes_for m after) taken
+  pub end : IsAtEnd (bytes_for m after)
+  pub fits : length taken < 2 ^ 32
+  pub counted : m.counts taken ≡ Some counts
+  pub text : Appends before.written after.written (m.whole.output taken)
+  pub told : Appends before.reported after.reported (m.whole.report taken)
+  pub leaves : Leaves m before after
+  pub reads : after.reads_failed ≡ before.reads_failed
+  pub writes : after.writes_failed ≡ before.writes_failed
+  pub reports : after.reports_failed ≡ before.reports_failed
+
+-- what exactly is written and reported of these bytes where a read fails, if the meaning says so
+abbrev pub Settles : {S T U : Type 0} → Option Texts → List ℕ → World S T U → World S T U → Type 0
+Settles None taken before after = Unit {0}
+Settles (Some texts) taken before after =
+    Appends before.written after.written (texts.output taken) × Appends before.reported after.reported (texts.report taken)
+
+-- what each fault says of a run that took these bytes
+abbrev pub Says : {C S T U : Type 0} → Meaning C → List ℕ → World S T U → World S T U → BridgeFault → Type 0
+Says m taken before after ReadFault =
+    (m.reads ≡ true) × Rose before.reads_failed after.reads_failed × (IsTrue before.never_fails → ⊥) × Settles m.settled taken before after
+Says m taken before after WriteFault = Rose before.writes_failed after.writes_failed × Accepts m before
+Says m taken before after ReportFault = (m.reports ≡ true) × Rose before.reports_failed after.reports_failed × Accepts m before
+Says m taken before after NotThisForm =
+    (m.counts taken ≡ None) × Refuses m before × (after.output ≡ before.output) × (after.report ≡ before.report)
+Says m taken before after TooLong = length taken ≡ 2 ^ 32
+Says m taken before after NoMemory = (m.memory ≡ true) × Accepts m before
+
+-- The run broke off with a fault: of what the bytes that were taken give a front was written, no less than the least, and a
+-- front was reported.
+pub record Broke {C S T U : Type 0} (m : Meaning C) (before after : World S T U) (fault : BridgeFault) : Type 0 where
+  pub taken : List ℕ
+  pub consumes : Consumes (bytes_for m before) (bytes_for m after) taken
+  pub text : AppendsBetween before.written after.written (m.least taken) (m.whole.output taken)
+  pub told : AppendsFront before.reported after.reported (m.whole.report taken)
+  pub leaves : Leaves m before after
+  pub says : Says m taken before after fault
+
+-- how a run of this meaning ended
+abbrev pub Ended : {C S T U : Type 0} → Meaning C → World S T U → World S T U → Result C BridgeFault → Type 0
+Ended m before after (Ok counts) = Done m before after counts
+Ended m before after (Err fault) = Broke m before after fault
+
+-- The same, by what an input, an output and a report tell: the bytes that are left, whether no read fails, the bytes that were
+-- written, and the counts of faults; then each object before and after.
+abbrev pub Ran : {C S T U : Type 0} → Meaning C
+    → (S → Option (List ℕ)) → (S → Bool) → (S → ℕ) → (T → Option (List ℕ)) → (T → ℕ) → (U → Option (List ℕ)) → (U → ℕ)
+    → S → S → T → T → U → U → Result C BridgeFault → Type 0
+Ran m left never_fails reads_failed written writes_failed reported reports_failed input input_new output output_new report report_new result =
+    Ended m
+    (world input (left input) (never_fails input) (reads_failed input) output (written output) (writes_failed output) report (reported report) (reports_failed report))
+    (world input_new (left input_new) (never_fails input_new) (reads_failed input_new) output_new (written output_new) (writes_failed output_new)
+    report_new (reported report_new) (reports_failed report_new)) result
+
+-- the input was read to its end: these bytes were taken, and what they give was written and reported
+pub record RunsWhole (output report : List ℕ → List ℕ) (left left_new written written_new reported reported_new : Option (List ℕ)) : Type 0 where
+  pub taken : List ℕ
+  pub consumes : Consumes left left_new taken
+  pub end : IsAtEnd left_new
+  pub fits : length taken < 2 ^ 32
+  pub text : Appends written written_new (output taken)
+  pub report_text : Appends reported reported_new (report taken)
+
+-- the run broke off: these bytes were taken, and of what they would give a front was written, no less than the least, and a front reported
+pub record RunsPart (output least report : List ℕ → List ℕ) (left left_new written written_new reported reported_new : Option (List ℕ)) : Type 0 where
+  pub taken : List ℕ
+  pub consumes : Consumes left left_new taken
+  pub text : AppendsBetween written written_new (least taken) (output taken)
+  pub report_text : AppendsFront reported reported_new (report taken)
+
+-- a read failed: these bytes were taken, and exactly what they settle was written and reported
+pub record RunsSettled (output report : List ℕ → List ℕ) (left left_new written written_new reported reported_new : Option (List ℕ)) : Type 0 where
+  pub taken : List ℕ
+  pub consumes : Consumes left left_new taken
+  pub text : Appends written written_new (output taken)
+  pub report_text : Appends reported reported_new (report taken)
+
+-- more bytes than a run takes were there
+pub record TakesTooMany (left left_new : Option (List ℕ)) : Type 0 where
+  pub taken : List ℕ
+  pub consumes : Consumes left left_new taken
+  pub too_many : length taken ≡ 2 ^ 32

@@ -1,0 +1,60 @@
+//! The line of a period in a list.
+
+ghost use Rattle.std.specs.Prelude.{◌≡◌, ◌+◌, ◌≤◌, ◌++◌, length};
+ghost use Rattle.arrayvec.specs.ArrayVec.{array_vec_len};
+ghost use Rattle.outlets.specs.PeriodLines.{key_text, list_period, verdict_text};
+
+use crate::append_issue;
+use one_run::{Text, append, append_decimal, append_hex};
+use periods::{Closed, Key, Verdict};
+
+// Appends what a period is a period of: an ephemeris by its satellite and issue, an ionosphere by
+// the letter of its system and the hexadecimal digits of its content.
+fn append_key(text: &mut Text, key: &Key)
+    requires { array_vec_len text.old + 48 ≤ 640 }
+    ensures items { text.new.items ≡ text.old.items ++ key_text key.now }
+    ensures short { array_vec_len text.new ≤ array_vec_len text.old + 48 }
+{
+    match key {
+        Key::Gps(sat, issue) => append_issue(text, *sat, issue.value()),
+        Key::Gal(sat, issue) => append_issue(text, *sat, issue.value()),
+        Key::GpsIon(content) => {
+            append(text, b"ION G ");
+            append_hex(text, 16, content.number());
+        }
+        Key::GalIon(content) => {
+            append(text, b"ION E ");
+            append_hex(text, 11, content.number());
+        }
+    }
+}
+
+// What is said of a period, in a word.
+fn verdict_word(verdict: &Verdict) -> &'static [u8]
+    ensures word { result.now ≡ verdict_text verdict.now }
+    ensures short { length result.now ≤ 12 }
+{
+    match verdict {
+        Verdict::Whole(_) => b"whole",
+        Verdict::Partial => b"partial",
+        Verdict::Contradicted => b"contradicted",
+        Verdict::NoHealth => b"nohealth",
+        Verdict::Again => b"again",
+    }
+}
+
+/// The line of a period in a list: `<end> EPH <satellite> <issue> <verdict>`, or
+/// `<end> ION G <16 digits> <verdict>`, of Galileo `<end> ION E <11 digits> <verdict>`, and LF.
+#[tactic(auto, unfolding(crate::specs::PeriodLines::list_period))]
+pub(crate) fn period_line(closed: &Closed) -> Text
+    ensures { result.items ≡ list_period closed.now }
+{
+    let mut text = Text::new();
+    append_decimal(&mut text, u64::from(closed.end));
+    append(&mut text, b" ");
+    append_key(&mut text, &closed.key);
+    append(&mut text, b" ");
+    append(&mut text, verdict_word(&closed.verdict));
+    append(&mut text, b"\n");
+    text
+}

@@ -1,0 +1,164 @@
+//! A source whose first bytes were looked at.
+
+ghost use Rattle.std.specs.Prelude.{◌≡◌, ◌<◌, ◌≤◌, [], length, take, drop};
+ghost use Rattle.std.specs.Prelude.{IsTrue, IsOk, IfOk, OnOk, IfSome, MatchResult};
+ghost use Rattle.std.specs.Io.KnownBytes.{Consumes, IsAtEnd, Keeps};
+ghost use Rattle.nav_io.specs.Causes.{HasCause};
+
+use nav_io::{Failed, Source};
+use std::alloc::{AllocError, Global};
+
+/// Why a source could not be looked at.
+#[derive(Clone, Copy, PartialEq, Eq, Debug)]
+pub enum PeekFault {
+    /// There was no memory.
+    NoMemory,
+    /// A read failed.
+    ReadFault,
+}
+
+impl From<AllocError> for PeekFault {
+    ghost use Rattle.peek_io.specs.declared.peeked.PeekFault.TheVariants.{NoMemory};
+
+    ghost from_gives = { λ _ fault. fault ≡ NoMemory };
+
+    fn from(_error: AllocError) -> PeekFault {
+        PeekFault::NoMemory
+    }
+}
+
+/// A source whose first bytes were looked at. It gives them again, and then what follows.
+#[derive(Drop)]
+pub struct Peeked<S: Source> {
+    front: Vec<u8>,
+    // how many bytes of the front were given again
+    place: usize,
+    source: S,
+    ghost within: { place ≤ length front.items },
+}
+
+impl<S: Source> Peeked<S> {
+    /// The bytes that were looked at.
+    pub fn front(&self) -> &[u8]
+        ensures { result.now ≡ self.now.front.items }
+    {
+        &self.front
+    }
+
+    /// The source inside. What was not given again of the front is let go.
+    pub fn into_source(self) -> S
+        ensures { result ≡ self.source }
+    {
+        let Peeked {
+            front: _,
+            place: _,
+            source,
+        } = self;
+        source
+    }
+
+    // The bytes of the front that were not given again.
+    fn kept(&self) -> &[u8]
+        ensures { result.now ≡ drop self.now.place self.now.front.items }
+    {
+        &self.front[self.place..]
+    }
+}
+
+impl<S: Source> Source for Peeked<S> {
+    ghost use Rattle.std.specs.Prelude.{drop};
+    ghost use Rattle.std.specs.Io.KnownBytes.{prepend_known};
+
+    ghost left = { λ s. prepend_known (drop s.place s.front.items) (S.left s.source) };
+
+    ghost faults = { λ s. S.faults s.source };
+
+    ghost never_fails = { λ s. S.never_fails s.source };
+
+    /// Gives what is kept of the front, and behind it one `read` of the source inside.
+    fn read(&mut self, into: &mut [u8]) -> Result<usize, Failed> {
+        if self.place == self.front.len() {
+            return self.source.read(into);
+        }
+        let count = give(self.kept(), into);
+        self.place += count;
+        Ok(count)
+    }
+}
+
+/// Looks at the first bytes of a source, so many at most: fewer only where it has no more.
+pub fn peek<S: Source + Drop>(alloc: Global, source: S, most: usize) -> Result<Peeked<S>, PeekFault>
+    // The source that is given has the bytes of this one.
+    ensures left { IfOk result (λ peeked.
+        Keeps (S.left source) (⟦<Peeked<S> as Source>⟧.left peeked)) }
+    ensures front { IfOk result (λ peeked.
+        IfSome (S.left source) (λ bytes. peeked.front.items ≡ take most bytes)) }
+
+    // It has failed as often, and a read fails only where one of the source does.
+    ensures faults { IfOk result (λ peeked.
+        ⟦<Peeked<S> as Source>⟧.faults peeked ≡ S.faults source) }
+    ensures never { IsTrue (S.never_fails source) → MatchResult result
+        (λ peeked. IsTrue (⟦<Peeked<S> as Source>⟧.never_fails peeked))
+        (λ fault. fault ≡ PeekFault.NoMemory) }
+{
+    let mut source = source;
+    let mut front = Vec::with_capacity(alloc, most)?;
+    fill(&mut source, &mut front, most)?;
+    Ok(Peeked {
+        front,
+        place: 0,
+        source,
+    })
+}
+
+// Reads until so many bytes are there, or the source is at its end.
+fn fill<S: Source>(source: &mut S, front: &mut Vec<u8>, most: usize) -> Result<(), PeekFault>
+    requires { front.old.items ≡ [] }
+    ensures bytes { OnOk result (Consumes (S.left source.old) (S.left source.new)
+        front.new.items) }
+    ensures front { OnOk result (IfSome (S.left source.old) (λ bytes.
+        front.new.items ≡ take most bytes)) }
+    ensures faults { OnOk result (S.faults source.new ≡ S.faults source.old) }
+    ensures never { IsTrue (S.never_fails source.old) → MatchResult result
+        (λ _. IsTrue (S.never_fails source.new)) (λ fault. fault ≡ PeekFault.NoMemory) }
+{
+    let mut piece = [0; 80];
+    while front.len() < most {
+        match read_part(source, &mut piece, most - front.len()) {
+            Ok(0) => return Ok(()),
+            Ok(count) => front.extend_from_slice(&piece[..count])?,
+            Err(Failed) => return Err(PeekFault::ReadFault),
+        }
+    }
+    Ok(())
+}
+
+// Reads so many bytes at most into the front of the piece.
+fn read_part<S: Source>(source: &mut S, piece: &mut [u8], most: usize) -> Result<usize, Failed>
+    requires some { 0 < most }
+    requires room { 0 < length piece.old }
+    ensures within { IfOk result (λ count. count ≤ length piece.old) }
+    ensures most { IfOk result (λ count. count ≤ most) }
+    ensures bytes { MatchResult result
+        (λ count. Consumes (S.left source.old) (S.left source.new) (take count piece.new)
+        × (count ≡ 0 → IsAtEnd (S.left source.new)))
+        (λ _. Keeps (S.left source.old) (S.left source.new)) }
+    ensures cause { HasCause (S.faults source.old) (S.faults source.new) result }
+    ensures never { IsTrue (S.never_fails source.old)
+        → IsOk result × IsTrue (S.never_fails source.new) }
+{
+    let len = most.min(piece.len());
+    source.read(&mut piece[..len])
+}
+
+// Copies the first bytes that are kept.
+fn give(kept: &[u8], into: &mut [u8]) -> usize
+    ensures kept { result ≤ length kept.now }
+    ensures fits { result ≤ length into.new }
+    ensures bytes { take result into.new ≡ take result kept.now }
+    ensures end { result ≡ 0 → 0 < length into.new → kept.now ≡ [] }
+{
+    let count = into.len().min(kept.len());
+    into[..count].copy_from_slice(&kept[..count]);
+    count
+}

@@ -1,6 +1,0 @@
-use Rattle.std.proofs.Common.{◌≡◌, None, drop}
-use Rattle.period_items.specs.PeriodsOf.{members_digest}
-use Rattle.period_items.proofs.find.digest_members.Given as goal
-
-abbrev pub invariant-loop-part : goal.invariant-loop-part
-invariant-loop-part l = members_digest l.key l.end l.before (drop l.part-index l.parts) l.all ≡ members_digest l.key l.end l.before l.parts None

@@ -1,6 +1,0 @@
--- What other crates cite: lemmas over sets of stamps, which a law over lists can't say, and membership in lists by recursion.
-pub use Rattle.period_laws.proofs.Membership.{In, In-from_contains, contains_from_In}
-pub use Rattle.period_laws.proofs.EndLemmas.{Same, turned, IsEnd-same, IsEndOf-same, own_end, IsEndOf-one, carried, covered, bridge, IsKnown, IsKnown-same, ReadOf, known_list, IsEnd-later, IsEnd-was, IsEndOf-later, IsEndOf-was}
-pub use Rattle.period_laws.proofs.JoinLemmas.{joined, joined_touched, other_stays, at_most_two}
-pub use Rattle.period_laws.proofs.Lists.{known_stamps}
-pub use Rattle.period_laws.proofs.ApartLemmas.{AreApart, left_end, right_end, end_cases, left_end_of, end_of_left, right_end_of, end_of_right, none_across}

@@ -1,0 +1,239 @@
+-- Parts that are farther than a window before others change none of their periods, nor do the others change theirs.
+use Rattle.std.proofs.Common.{ℕ, ◌+◌, ◌<◌, ◌≤◌, ◌⊎◌, inl, inr, List, ◌++◌, Contains, All, refl, subst, arith}
+use Rattle.std.proofs.lemmas.List.Elements.{All-contains, Contains-append_left, Contains-append_right, Contains-append_cases}
+use Rattle.periods.specs.Ends.{IsEndOf}
+use Rattle.periods.proofs.EndSurface.{Same, turned, covered, AreApart, left_end, right_end, end_cases, left_end_of, end_of_left, right_end_of, end_of_right, none_across}
+use Rattle.nav_eph.specs.Satellite.{Satellite}
+use Rattle.nav_eph.specs.declared.galileo.GalHealth.{GalHealth}
+use Rattle.nav_eph.specs.declared.tag.SentTag.{SentTag}
+use Rattle.nav_eph.specs.declared.items.NavItem.{NavItem}
+use Rattle.nav_eph.specs.declared.part.Part.{Part}
+use Rattle.periods.specs.declared.key.Key.{Key}
+use Rattle.periods.specs.declared.key.Key.TheVariants.{Gps, Gal, GpsIon, GalIon}
+use Rattle.periods.specs.declared.key.Place.{Place}
+use Rattle.periods.specs.declared.closed.Finding.TheVariants.{Complete}
+use Rattle.periods.specs.PeriodsOf.{end_place}
+use Rattle.periods.specs.Values.{HasValue}
+use Rattle.periods.specs.Parts.{health_of}
+use Rattle.periods.specs.Periods.{IsHeardAt, IsPeriod, IsMember}
+use Rattle.periods.specs.Verdicts.{IsComplete, IsFound, IsHealthBefore, IsHealthBehind}
+use Rattle.periods.proofs.PeriodLemmas.{heard_to, IsUpToEnd-to, IsBehindEnd-to, none_same, health_stamp}
+use Rattle.periods.proofs.ValueFindings.{IsFoundIn-same}
+use Rattle.periods.proofs.TouchLemmas.{known_parts}
+
+-- The parts of the first set lie more than a window below the mark, and of each key each has an end there; those of the second lie from
+-- the mark on; there are no others.
+pub record Splits (w mark : ℕ) (first second all : Part → Type 0) : Type 0 where
+  pub low : (p : Part) → first p → p.stamp + w < mark
+  pub high : (p : Part) → second p → mark ≤ p.stamp
+  pub left : (p : Part) → first p → all p
+  pub right : (p : Part) → second p → all p
+  pub cases : (p : Part) → all p → first p ⊎ second p
+  pub ends : (key : Key) (s : ℕ) → IsHeardAt first key s → (e : ℕ) × IsEndOf w (IsHeardAt first key) e s
+
+-- the same set, split
+pub splits_same : (w mark : ℕ) (first second a b : Part → Type 0) → Same a b → Splits w mark first second a → Splits w mark first second b
+splits_same w mark first second a b s h = record {
+  low = h.low;
+  high = h.high;
+  left = λ p i. s.to p (h.left p i);
+  right = λ p i. s.to p (h.right p i);
+  cases = λ p i. h.cases p (s.from p i);
+  ends = h.ends;
+}
+
+-- a list of parts, and others behind it
+pub splits_lists : (w mark : ℕ) (some more : List Part) → All (λ p. p.stamp + w < mark) some → All (λ p. mark ≤ p.stamp) more
+    → Splits w mark (Contains some) (Contains more) (Contains (some ++ more))
+splits_lists w mark some more low high = record {
+  low = λ p i. All-contains (λ x. x.stamp + w < mark) some p low i;
+  high = λ p i. All-contains (λ x. mark ≤ x.stamp) more p high i;
+  left = λ p i. Contains-append_left some more p i;
+  right = λ p i. Contains-append_right some more p i;
+  cases = λ p i. Contains-append_cases some more p i;
+  ends = λ key s h. covered w (IsHeardAt (Contains some) key) (known_parts w some key) s h;
+}
+
+stamps_apart : (w mark : ℕ) (first second all : Part → Type 0) (key : Key) → Splits w mark first second all
+    → AreApart w mark (IsHeardAt first key) (IsHeardAt second key) (IsHeardAt all key)
+stamps_apart w mark first second all key h = record {
+  low = λ s x. subst (λ (z : ℕ). z + w < mark) x.at_stamp (h.low x.part x.here);
+  high = λ s x. subst (λ (z : ℕ). mark ≤ z) x.at_stamp (h.high x.part x.here);
+  left = λ s x. heard_to first all key s h.left x;
+  right = λ s x. heard_to second all key s h.right x;
+  cases = λ s x. elim (h.cases x.part x.here) [
+    | inl a ↦ inl (record { part = x.part; here = a; of_key = x.of_key; at_stamp = x.at_stamp })
+    | inr b ↦ inr (record { part = x.part; here = b; of_key = x.of_key; at_stamp = x.at_stamp })
+  ];
+  ends = h.ends key;
+}
+
+-- where the periods of either end
+pub left_low : (w mark : ℕ) (first second all : Part → Type 0) (q : Place) → Splits w mark first second all → IsPeriod w first q → q.end + w < mark
+left_low w mark first second all q h p = (stamps_apart w mark first second all q.key h).low q.end p.heard
+
+pub right_high : (w mark : ℕ) (first second all : Part → Type 0) (q : Place) → Splits w mark first second all → IsPeriod w second q → mark ≤ q.end
+right_high w mark first second all q h p = (stamps_apart w mark first second all q.key h).high q.end p.heard
+
+-- the periods of all are those of the first set and those of the second
+pub left_period : (w mark : ℕ) (first second all : Part → Type 0) (q : Place) → Splits w mark first second all → IsPeriod w first q → IsPeriod w all q
+left_period w mark first second all q h p =
+    left_end w mark (IsHeardAt first q.key) (IsHeardAt second q.key) (IsHeardAt all q.key) q.end (stamps_apart w mark first second all q.key h) p
+
+pub right_period : (w mark : ℕ) (first second all : Part → Type 0) (q : Place) → Splits w mark first second all → IsPeriod w second q → IsPeriod w all q
+right_period w mark first second all q h p =
+    right_end w mark (IsHeardAt first q.key) (IsHeardAt second q.key) (IsHeardAt all q.key) q.end (stamps_apart w mark first second all q.key h) p
+
+pub period_cases : (w mark : ℕ) (first second all : Part → Type 0) (q : Place) → Splits w mark first second all → IsPeriod w all q → IsPeriod w first q ⊎ IsPeriod w second q
+period_cases w mark first second all q h p =
+    end_cases w mark (IsHeardAt first q.key) (IsHeardAt second q.key) (IsHeardAt all q.key) q.end (stamps_apart w mark first second all q.key h) p
+
+-- with the same members
+pub left_members : (w mark : ℕ) (first second all : Part → Type 0) (q : Place) → Splits w mark first second all → IsPeriod w first q
+    → Same (IsMember w first q) (IsMember w all q)
+left_members w mark first second all q h hq =
+    let a = stamps_apart w mark first second all q.key h in
+    let low = left_low w mark first second all q h hq in
+    record {
+      to = λ p m. record {
+        here = h.left p m.here;
+        of_key = m.of_key;
+        ends = left_end_of w mark (IsHeardAt first q.key) (IsHeardAt second q.key) (IsHeardAt all q.key) q.end p.stamp a m.ends;
+      };
+      from = λ p m. record {
+        here = elim (h.cases p m.here) [ inl x ↦ x | inr x ↦ absurd (omega (arith, h.high p x, m.ends.after)) ];
+        of_key = m.of_key;
+        ends = end_of_left w mark (IsHeardAt first q.key) (IsHeardAt second q.key) (IsHeardAt all q.key) q.end p.stamp a hq m.ends;
+      };
+    }
+
+pub right_members : (w mark : ℕ) (first second all : Part → Type 0) (q : Place) → Splits w mark first second all → IsPeriod w second q
+    → Same (IsMember w second q) (IsMember w all q)
+right_members w mark first second all q h hq =
+    let a = stamps_apart w mark first second all q.key h in
+    record {
+      to = λ p m. record {
+        here = h.right p m.here;
+        of_key = m.of_key;
+        ends = right_end_of w mark (IsHeardAt first q.key) (IsHeardAt second q.key) (IsHeardAt all q.key) q.end p.stamp a (h.high p m.here) m.ends;
+      };
+      from = λ p m. record {
+        here = elim (h.cases p m.here) [
+          | inl x ↦ absurd (none_across w mark (IsHeardAt first q.key) (IsHeardAt second q.key) (IsHeardAt all q.key) q.end p.stamp a
+              (record { part = p; here = x; of_key = m.of_key; at_stamp = refl }) hq m.ends)
+          | inr x ↦ x
+        ];
+        of_key = m.of_key;
+        ends = end_of_right w mark (IsHeardAt first q.key) (IsHeardAt second q.key) (IsHeardAt all q.key) q.end p.stamp a hq m.ends;
+      };
+    }
+
+-- a health that lies below the mark is one of the first set, and one from there less a window on is one of the second
+health_left : (w mark : ℕ) (first second all : Part → Type 0) (sat : Satellite) (v : ℕ × GalHealth × SentTag) → Splits w mark first second all
+    → v.0 < mark → HasValue (health_of sat) all v → HasValue (health_of sat) first v
+health_left w mark first second all sat v h l x = record {
+  element = x.element;
+  here = elim (h.cases x.element x.here) [ inl a ↦ a | inr b ↦ absurd (omega (arith, h.high x.element b, health_stamp sat x.element v x.is)) ];
+  is = x.is;
+}
+
+health_right : (w mark : ℕ) (first second all : Part → Type 0) (sat : Satellite) (v : ℕ × GalHealth × SentTag) → Splits w mark first second all
+    → mark ≤ v.0 + w → HasValue (health_of sat) all v → HasValue (health_of sat) second v
+health_right w mark first second all sat v h l x = record {
+  element = x.element;
+  here = elim (h.cases x.element x.here) [ inl a ↦ absurd (omega (arith, h.low x.element a, health_stamp sat x.element v x.is)) | inr b ↦ b ];
+  is = x.is;
+}
+
+left_before : (w mark : ℕ) (first second all : Part → Type 0) (key : Key) (e : ℕ) → Splits w mark first second all → e + w < mark
+    → Same (IsHealthBefore w first key e) (IsHealthBefore w all key e)
+left_before w mark first second all (Gps sat i) e h l = none_same
+left_before w mark first second all (Gal sat i) e h l = record {
+  to = λ x v. IsUpToEnd-to w first all sat e x h.left v;
+  from = λ x v. record { heard = health_left w mark first second all sat x h (omega (arith, v.by_end)) v.heard; by_end = v.by_end; near = v.near };
+}
+left_before w mark first second all (GpsIon c) e h l = none_same
+left_before w mark first second all (GalIon c) e h l = none_same
+
+left_behind : (w mark : ℕ) (first second all : Part → Type 0) (key : Key) (e : ℕ) → Splits w mark first second all → e + w < mark
+    → Same (IsHealthBehind w first key e) (IsHealthBehind w all key e)
+left_behind w mark first second all (Gps sat i) e h l = none_same
+left_behind w mark first second all (Gal sat i) e h l = record {
+  to = λ x v. IsBehindEnd-to w first all sat e x h.left v;
+  from = λ x v. record { heard = health_left w mark first second all sat x h (omega (arith, v.near)) v.heard; behind = v.behind; near = v.near };
+}
+left_behind w mark first second all (GpsIon c) e h l = none_same
+left_behind w mark first second all (GalIon c) e h l = none_same
+
+right_before : (w mark : ℕ) (first second all : Part → Type 0) (key : Key) (e : ℕ) → Splits w mark first second all → mark ≤ e
+    → Same (IsHealthBefore w second key e) (IsHealthBefore w all key e)
+right_before w mark first second all (Gps sat i) e h l = none_same
+right_before w mark first second all (Gal sat i) e h l = record {
+  to = λ x v. IsUpToEnd-to w second all sat e x h.right v;
+  from = λ x v. record { heard = health_right w mark first second all sat x h (omega (arith, v.near)) v.heard; by_end = v.by_end; near = v.near };
+}
+right_before w mark first second all (GpsIon c) e h l = none_same
+right_before w mark first second all (GalIon c) e h l = none_same
+
+right_behind : (w mark : ℕ) (first second all : Part → Type 0) (key : Key) (e : ℕ) → Splits w mark first second all → mark ≤ e
+    → Same (IsHealthBehind w second key e) (IsHealthBehind w all key e)
+right_behind w mark first second all (Gps sat i) e h l = none_same
+right_behind w mark first second all (Gal sat i) e h l = record {
+  to = λ x v. IsBehindEnd-to w second all sat e x h.right v;
+  from = λ x v. record { heard = health_right w mark first second all sat x h (omega (arith, v.behind)) v.heard; behind = v.behind; near = v.near };
+}
+right_behind w mark first second all (GpsIon c) e h l = none_same
+right_behind w mark first second all (GalIon c) e h l = none_same
+
+-- and so they come to the same
+pub found_left : (r w mark : ℕ) (first second all : Part → Type 0) (q : Place) → Splits w mark first second all → IsPeriod w first q
+    → Same (IsFound r w first q) (IsFound r w all q)
+found_left r w mark first second all q h hq =
+    let low = left_low w mark first second all q h hq in
+    let m = left_members w mark first second all q h hq in
+    let b = left_before w mark first second all q.key q.end h low in
+    let a = left_behind w mark first second all q.key q.end h low in
+    record {
+      to = λ f x. IsFoundIn-same r q.key (IsMember w first q) (IsMember w all q) (IsHealthBefore w first q.key q.end) (IsHealthBehind w first q.key q.end)
+          (IsHealthBefore w all q.key q.end) (IsHealthBehind w all q.key q.end) f m b a x;
+      from = λ f x. IsFoundIn-same r q.key (IsMember w all q) (IsMember w first q) (IsHealthBefore w all q.key q.end) (IsHealthBehind w all q.key q.end)
+          (IsHealthBefore w first q.key q.end) (IsHealthBehind w first q.key q.end) f (turned (IsMember w first q) (IsMember w all q) m)
+          (turned (IsHealthBefore w first q.key q.end) (IsHealthBefore w all q.key q.end) b) (turned (IsHealthBehind w first q.key q.end) (IsHealthBehind w all q.key q.end) a) x;
+    }
+
+pub found_right : (r w mark : ℕ) (first second all : Part → Type 0) (q : Place) → Splits w mark first second all → IsPeriod w second q
+    → Same (IsFound r w second q) (IsFound r w all q)
+found_right r w mark first second all q h hq =
+    let high = right_high w mark first second all q h hq in
+    let m = right_members w mark first second all q h hq in
+    let b = right_before w mark first second all q.key q.end h high in
+    let a = right_behind w mark first second all q.key q.end h high in
+    record {
+      to = λ f x. IsFoundIn-same r q.key (IsMember w second q) (IsMember w all q) (IsHealthBefore w second q.key q.end) (IsHealthBehind w second q.key q.end)
+          (IsHealthBefore w all q.key q.end) (IsHealthBehind w all q.key q.end) f m b a x;
+      from = λ f x. IsFoundIn-same r q.key (IsMember w all q) (IsMember w second q) (IsHealthBefore w all q.key q.end) (IsHealthBehind w all q.key q.end)
+          (IsHealthBefore w second q.key q.end) (IsHealthBehind w second q.key q.end) f (turned (IsMember w second q) (IsMember w all q) m)
+          (turned (IsHealthBefore w second q.key q.end) (IsHealthBefore w all q.key q.end) b) (turned (IsHealthBehind w second q.key q.end) (IsHealthBehind w all q.key q.end) a) x;
+    }
+
+-- complete periods are those of either
+pub complete_left : (r w mark : ℕ) (first second all : Part → Type 0) (key : Key) (e : ℕ) (item : NavItem) → Splits w mark first second all
+    → IsComplete r w first key e item → IsComplete r w all key e item
+complete_left r w mark first second all key e item h c = record {
+  period = left_period w mark first second all (end_place key e) h c.period;
+  found = (found_left r w mark first second all (end_place key e) h c.period).to (Complete item) c.found;
+}
+
+pub complete_right : (r w mark : ℕ) (first second all : Part → Type 0) (key : Key) (e : ℕ) (item : NavItem) → Splits w mark first second all
+    → IsComplete r w second key e item → IsComplete r w all key e item
+complete_right r w mark first second all key e item h c = record {
+  period = right_period w mark first second all (end_place key e) h c.period;
+  found = (found_right r w mark first second all (end_place key e) h c.period).to (Complete item) c.found;
+}
+
+pub complete_cases : (r w mark : ℕ) (first second all : Part → Type 0) (key : Key) (e : ℕ) (item : NavItem) → Splits w mark first second all
+    → IsComplete r w all key e item → IsComplete r w first key e item ⊎ IsComplete r w second key e item
+complete_cases r w mark first second all key e item h c = elim (period_cases w mark first second all (end_place key e) h c.period) [
+  | inl p ↦ inl (record { period = p; found = (found_left r w mark first second all (end_place key e) h p).from (Complete item) c.found })
+  | inr p ↦ inr (record { period = p; found = (found_right r w mark first second all (end_place key e) h p).from (Complete item) c.found })
+]

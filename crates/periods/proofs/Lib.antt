@@ -1,0 +1,26 @@
+mod Membership
+mod EndLemmas
+mod JoinLemmas
+mod Lists
+mod EndsApart
+pub mod EndSurface
+mod Orders
+mod Folds
+mod KeyLemmas
+mod ValueLemmas
+mod ValueFindings
+mod ValueItems
+mod DigestLemmas
+mod DigestFindings
+mod HealthLemmas
+mod PeriodLemmas
+mod AgainLemmas
+mod VerdictLemmas
+mod ListLemmas
+mod SearchLemmas
+mod LastLemmas
+mod ExistLemmas
+mod TouchLemmas
+mod ApartLemmas
+mod Examples
+pub mod Surface

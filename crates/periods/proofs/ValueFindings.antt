@@ -1,0 +1,350 @@
+-- What members and the health near an end come to: one finding at most, and the same of the same sets.
+use Rattle.std.proofs.Common.{◌≡◌, ℕ, ◌*◌, inl, inr, Bool, true, false, ◌==◌, if◌then◌else◌, List, ◌∷◌, None, Some, refl, sym, ap, subst, ◌∙◌, eq-eqb}
+use Rattle.std.proofs.lemmas.Bool.{and_from}
+use Rattle.gnss_week.specs.Weeks.{IsSecond}
+use Rattle.nav_eph.specs.Satellite.{Satellite, place_of}
+use Rattle.nav_eph.specs.Bodies.{IsGpsSide, IsSentTag, IsGalHealth}
+use Rattle.nav_eph.specs.declared.gps.GpsSide.{GpsSide}
+use Rattle.nav_eph.specs.declared.galileo.GalHealth.{GalHealth}
+use Rattle.nav_eph.specs.declared.tag.SentTag.{SentTag}
+use Rattle.nav_eph.specs.declared.tag.SentTag.TheVariants.{Sent, Toe}
+use Rattle.nav_eph.specs.declared.ion.IonContent.{IonContent}
+use Rattle.nav_eph.specs.declared.ion.IonContent.TheVariants.{Gps as OfGps, Gal as OfGal}
+use Rattle.nav_eph.specs.declared.items.GpsEph.{GpsEph}
+use Rattle.nav_eph.specs.declared.items.GalEph.{GalEph}
+use Rattle.nav_eph.specs.declared.items.IonEph.{IonEph}
+use Rattle.nav_eph.specs.declared.items.NavItem.{NavItem}
+use Rattle.nav_eph.specs.declared.items.NavItem.TheVariants.{Gps as GpsItem, Gal as GalItem, Ion as IonItem}
+use Rattle.nav_eph.specs.declared.part.Part.{Part}
+use Rattle.nav_eph.specs.declared.part.Body.{Body}
+use Rattle.nav_eph.specs.declared.part.Body.TheVariants.{GpsClock as OfClock, GalHealth as OfHealth, GpsIon as OfGpsIon, GalIon as OfGalIon}
+use Rattle.nav_eph.proofs.Surface.{one_side, one_tag, one_health, one_sending}
+use Rattle.periods.proofs.EndSurface.{Same, turned}
+use Rattle.periods.specs.declared.key.Key.{Key}
+use Rattle.periods.specs.declared.key.Key.TheVariants.{Gps, Gal, GpsIon, GalIon}
+use Rattle.periods.specs.declared.key.Sending.{Sending}
+use Rattle.periods.specs.declared.closed.Finding.{Finding}
+use Rattle.periods.specs.declared.closed.Finding.TheVariants.{Differs, Misses, LacksHealth, Complete}
+use Rattle.periods.specs.Values.{HasValue, IsEmpty, IsOnly, IsFirstBy, IsEarlier, IsLater}
+use Rattle.nav_eph.specs.Values.{IsPartValue}
+use Rattle.periods.specs.Parts.{clock_of, orbit_a_of, orbit_b_of, word1_of, word2_of, word3_of, word4_of, side_in, side_of, fit_of, sent_tag_in, sent_tag_of, toe_tag_in, toe_tag_of, sending_in, sending_of, health_in, health_of, same_sat, side_numbers, fit_numbers, tag_numbers, health_numbers, sending_numbers}
+use Rattle.nav_eph.specs.Values.{IsBodyValue}
+use Rattle.periods.specs.Items.{toe_week_of, gps_moment, gal_moment, sent_second, gps_ion_moment, gal_ion_moment, IsHealth, IsGpsTag, IsGpsItemOf, IsGalItemOf, IsIonItemOf}
+use Rattle.periods.specs.Verdicts.{IsContradicted, IsPartial, IsWithoutHealth, IsItemOf, IsFoundIn}
+use Rattle.periods.proofs.Orders.{same_numbers}
+use Rattle.periods.proofs.Folds.{some_is, none_some}
+use Rattle.periods.proofs.KeyLemmas.{same_sat-is}
+use Rattle.periods.proofs.ValueLemmas.{same_values, IsEmpty-same, IsOnly-same, Differ-same, IsFirstBy-same, IsFirstOrElse-same, only_agrees, only_there}
+
+heads : {x y : ℕ} {xs ys : List ℕ} → x ∷ xs ≡ y ∷ ys → x ≡ y
+heads e = cc
+
+tails : {x y : ℕ} {xs ys : List ℕ} → x ∷ xs ≡ y ∷ ys → xs ≡ ys
+tails e = cc
+
+-- what holds of a health with its tag
+pub record IsHealthValue (h : ℕ × GalHealth × SentTag) : Type 0 where
+  pub health : IsGalHealth h.1
+  pub tag : IsSentTag h.2
+
+-- what the parts say is within its digits
+side_value : (stamp : ℕ) (body : Body) (v : ℕ × GpsSide) → IsBodyValue body → side_in stamp body ≡ Some v → IsGpsSide v.1
+side_value stamp (OfClock c s t) v b e = subst (λ (x : ℕ × GpsSide). IsGpsSide x.1) (some_is (stamp, s) v e) b.0
+side_value stamp _ v b e = absurd (none_some v e)
+
+sent_value : (stamp : ℕ) (body : Body) (v : ℕ × SentTag) → IsBodyValue body → sent_tag_in stamp body ≡ Some v → IsSentTag v.1
+sent_value stamp (OfClock c s (Sent w n)) v b e = subst (λ (x : ℕ × SentTag). IsSentTag x.1) (some_is (stamp, Sent w n) v e) b.1
+sent_value stamp (OfClock c s (Toe w n)) v b e = absurd (none_some v e)
+sent_value stamp _ v b e = absurd (none_some v e)
+
+toe_value : (stamp : ℕ) (body : Body) (v : ℕ × SentTag) → IsBodyValue body → toe_tag_in stamp body ≡ Some v → IsSentTag v.1
+toe_value stamp (OfClock c s (Sent w n)) v b e = absurd (none_some v e)
+toe_value stamp (OfClock c s (Toe w n)) v b e = subst (λ (x : ℕ × SentTag). IsSentTag x.1) (some_is (stamp, Toe w n) v e) b.1
+toe_value stamp _ v b e = absurd (none_some v e)
+
+pub sending_value : (stamp : ℕ) (sat : Satellite) (body : Body) (v : Sending) → IsBodyValue body → sending_in stamp sat body ≡ Some v → IsSecond v.second
+sending_value stamp sat (OfGpsIon i s) v b e =
+    subst (λ (x : Sending). IsSecond x.second) (some_is (record { stamp = stamp; sat = sat; wn = 0; second = s }) v e) b.1
+sending_value stamp sat (OfGalIon i w s) v b e =
+    subst (λ (x : Sending). IsSecond x.second) (some_is (record { stamp = stamp; sat = sat; wn = w; second = s }) v e) b.1
+sending_value stamp sat _ v b e = absurd (none_some v e)
+
+health_value_in : (stamp : ℕ) (body : Body) (h : ℕ × GalHealth × SentTag) → IsBodyValue body → health_in stamp body ≡ Some h → IsHealthValue h
+health_value_in stamp (OfHealth health tag) h b e =
+    subst IsHealthValue (some_is (stamp, health, tag) h e) (record { health = b.0; tag = b.1 })
+health_value_in stamp _ h b e = absurd (none_some h e)
+
+health_value_if : (t : Bool) (stamp : ℕ) (body : Body) (h : ℕ × GalHealth × SentTag) → IsBodyValue body → (if t then health_in stamp body else None) ≡ Some h → IsHealthValue h
+health_value_if true stamp body h b e = health_value_in stamp body h b e
+health_value_if false stamp body h b e = absurd (none_some h e)
+
+pub health_value : (sat : Satellite) (p : Part) (h : ℕ × GalHealth × SentTag) → IsPartValue p → health_of sat p ≡ Some h → IsHealthValue h
+health_value sat p h v e = health_value_if (same_sat p.sat sat) p.stamp p.body h v.body e
+
+-- two that are the only one, and two that are first, are one
+one_only : {X : Type 0} (values : X → Type 0) (v w : X) → IsOnly values v → IsOnly values w → v ≡ w
+one_only values v w h k = k.only v h.here
+
+first_numbers : {X : Type 0} (numbers : X → List ℕ) (values : X → Type 0) (v w : X)
+    → IsFirstBy (IsEarlier numbers) values v → IsFirstBy (IsEarlier numbers) values w → numbers v ≡ numbers w
+first_numbers numbers values v w h k = same_numbers numbers v w (λ r. k.first v h.here r) (λ r. h.first w k.here r)
+
+last_numbers : {X : Type 0} (numbers : X → List ℕ) (values : X → Type 0) (v w : X)
+    → IsFirstBy (IsLater numbers) values v → IsFirstBy (IsLater numbers) values w → numbers v ≡ numbers w
+last_numbers numbers values v w h k = same_numbers numbers v w (λ r. h.first w k.here r) (λ r. k.first v h.here r)
+
+one_side_of : (members : Part → Type 0) (v w : ℕ × GpsSide) → ((p : Part) → members p → IsPartValue p)
+    → IsFirstBy (IsLater side_numbers) (HasValue side_of members) v → IsFirstBy (IsLater side_numbers) (HasValue side_of members) w → v.1 ≡ w.1
+one_side_of members v w are h k =
+    let e = last_numbers side_numbers (HasValue side_of members) v w h k in
+    one_side v.1 w.1
+    (side_value h.here.element.stamp h.here.element.body v (are h.here.element h.here.here).body h.here.is)
+    (side_value k.here.element.stamp k.here.element.body w (are k.here.element k.here.here).body k.here.is)
+    (heads (tails e))
+
+one_fit_of : (members : Part → Type 0) (v w : ℕ × ℕ)
+    → IsFirstBy (IsLater fit_numbers) (HasValue fit_of members) v → IsFirstBy (IsLater fit_numbers) (HasValue fit_of members) w → v.1 ≡ w.1
+one_fit_of members v w h k = heads (tails (last_numbers fit_numbers (HasValue fit_of members) v w h k))
+
+one_tag_of : (members : Part → Type 0) (v w : ℕ × SentTag) → ((p : Part) → members p → IsPartValue p) → IsGpsTag members v → IsGpsTag members w → v.1 ≡ w.1
+one_tag_of members v w are (inl h) (inl k) =
+    let e = first_numbers tag_numbers (HasValue sent_tag_of members) v w h k in
+    one_tag v.1 w.1
+    (sent_value h.here.element.stamp h.here.element.body v (are h.here.element h.here.here).body h.here.is)
+    (sent_value k.here.element.stamp k.here.element.body w (are k.here.element k.here.here).body k.here.is)
+    (heads (tails e))
+one_tag_of members v w are (inl h) (inr k) = absurd (k.0 v h.here)
+one_tag_of members v w are (inr h) (inl k) = absurd (h.0 w k.here)
+one_tag_of members v w are (inr h) (inr k) =
+    let e = first_numbers tag_numbers (HasValue toe_tag_of members) v w h.1 k.1 in
+    one_tag v.1 w.1
+    (toe_value h.1.here.element.stamp h.1.here.element.body v (are h.1.here.element h.1.here.here).body h.1.here.is)
+    (toe_value k.1.here.element.stamp k.1.here.element.body w (are k.1.here.element k.1.here.here).body k.1.here.is)
+    (heads (tails e))
+
+same_healths : (v w : ℕ × GalHealth × SentTag) → IsHealthValue v → IsHealthValue w → health_numbers v ≡ health_numbers w → (v.1 ≡ w.1) × (v.2 ≡ w.2)
+same_healths v w a b e = one_health v.1 w.1 v.2 w.2 a.health b.health a.tag b.tag (heads (tails e))
+
+one_health_of : (before behind : ℕ × GalHealth × SentTag → Type 0) (v w : ℕ × GalHealth × SentTag)
+    → ((h : ℕ × GalHealth × SentTag) → before h → IsHealthValue h) → ((h : ℕ × GalHealth × SentTag) → behind h → IsHealthValue h)
+    → IsHealth before behind v → IsHealth before behind w → (v.1 ≡ w.1) × (v.2 ≡ w.2)
+one_health_of before behind v w x y (inl h) (inl k) = same_healths v w (x v h.here) (x w k.here) (last_numbers health_numbers before v w h k)
+one_health_of before behind v w x y (inl h) (inr k) = absurd (k.0 v h.here)
+one_health_of before behind v w x y (inr h) (inl k) = absurd (h.0 w k.here)
+one_health_of before behind v w x y (inr h) (inr k) = same_healths v w (y v h.1.here) (y w k.1.here) (first_numbers health_numbers behind v w h.1 k.1)
+
+one_satellite : (s t : Satellite) → place_of s.system ≡ place_of t.system → s.number ≡ t.number → s ≡ t
+one_satellite s t e f =
+    same_sat-is s t (and_from (place_of s.system == place_of t.system) (s.number == t.number) (eq-eqb (place_of s.system) (place_of t.system) e) (eq-eqb s.number t.number f))
+
+one_sending_of : (members : Part → Type 0) (v w : Sending) → ((p : Part) → members p → IsPartValue p)
+    → IsFirstBy (IsEarlier sending_numbers) (HasValue sending_of members) v → IsFirstBy (IsEarlier sending_numbers) (HasValue sending_of members) w → v ≡ w
+one_sending_of members v w are h k =
+    let e : sending_numbers v ≡ sending_numbers w = first_numbers sending_numbers (HasValue sending_of members) v w h k in
+    let stamp : v.stamp ≡ w.stamp = heads e in
+    let sat : v.sat ≡ w.sat = one_satellite v.sat w.sat (heads (tails e)) (heads (tails (tails e))) in
+    let time = one_sending v.wn w.wn v.second w.second
+    (sending_value h.here.element.stamp h.here.element.sat h.here.element.body v (are h.here.element h.here.here).body h.here.is)
+    (sending_value k.here.element.stamp k.here.element.sat k.here.element.body w (are k.here.element k.here.here).body k.here.is)
+    (heads (tails (tails (tails e)))) in
+    λ i. record { stamp = stamp i; sat = sat i; wn = time.0 i; second = time.1 i }
+
+-- the items are one
+one_gps_item : (r : ℕ) (sat : Satellite) (members : Part → Type 0) (e f : GpsEph) → ((p : Part) → members p → IsPartValue p)
+    → IsGpsItemOf r sat members e → IsGpsItemOf r sat members f → e ≡ f
+one_gps_item r sat members e f are h k =
+    let same : e.sat ≡ f.sat = h.sat ∙ sym k.sat in
+    let clock : e.clock ≡ f.clock = one_only (HasValue clock_of members) e.clock f.clock h.clock k.clock in
+    let a : e.a ≡ f.a = one_only (HasValue orbit_a_of members) e.a f.a h.a k.a in
+    let b : e.b ≡ f.b = one_only (HasValue orbit_b_of members) e.b f.b h.b k.b in
+    let side : e.side ≡ f.side = one_side_of members (h.side_stamp, e.side) (k.side_stamp, f.side) are h.side k.side in
+    let fit : e.fit ≡ f.fit = one_fit_of members (h.fit_stamp, e.fit) (k.fit_stamp, f.fit) h.fit k.fit in
+    let tag : h.tag.1 ≡ k.tag.1 = one_tag_of members h.tag k.tag are h.tag_is k.tag_is in
+    let week : e.toe_week ≡ f.toe_week = h.toe_week ∙ (λ i. toe_week_of (gps_moment r (tag i)) (16 * (a i).toe)) ∙ sym k.toe_week in
+    let sent : e.sent ≡ f.sent = h.sent ∙ (λ i. sent_second (tag i) (gps_moment r (tag i)) (week i)) ∙ sym k.sent in
+    λ i. record { sat = same i; clock = clock i; side = side i; a = a i; fit = fit i; b = b i; toe_week = week i; sent = sent i }
+
+one_gal_item : (r : ℕ) (sat : Satellite) (members : Part → Type 0) (before behind : ℕ × GalHealth × SentTag → Type 0) (e f : GalEph)
+    → ((h : ℕ × GalHealth × SentTag) → before h → IsHealthValue h) → ((h : ℕ × GalHealth × SentTag) → behind h → IsHealthValue h)
+    → IsGalItemOf r sat members before behind e → IsGalItemOf r sat members before behind f → e ≡ f
+one_gal_item r sat members before behind e f x y h k =
+    let same : e.sat ≡ f.sat = h.sat ∙ sym k.sat in
+    let w1 : e.w1 ≡ f.w1 = one_only (HasValue word1_of members) e.w1 f.w1 h.w1 k.w1 in
+    let w2 : e.w2 ≡ f.w2 = one_only (HasValue word2_of members) e.w2 f.w2 h.w2 k.w2 in
+    let w3 : e.w3 ≡ f.w3 = one_only (HasValue word3_of members) e.w3 f.w3 h.w3 k.w3 in
+    let w4 : e.w4 ≡ f.w4 = one_only (HasValue word4_of members) e.w4 f.w4 h.w4 k.w4 in
+    let heard = one_health_of before behind h.heard k.heard x y h.heard_is k.heard_is in
+    let tag : h.heard.2 ≡ k.heard.2 = heard.1 in
+    let health : e.health ≡ f.health = h.health ∙ heard.0 ∙ sym k.health in
+    let week : e.toe_week ≡ f.toe_week = h.toe_week ∙ (λ i. toe_week_of (gal_moment r (tag i)) (60 * (w1 i).toe)) ∙ sym k.toe_week in
+    let sent : e.sent ≡ f.sent = h.sent ∙ (λ i. sent_second (tag i) (gal_moment r (tag i)) (week i)) ∙ sym k.sent in
+    λ i. record { sat = same i; w1 = w1 i; w2 = w2 i; w3 = w3 i; w4 = w4 i; health = health i; toe_week = week i; sent = sent i }
+
+one_ion_item : (moment_of : Sending → ℕ) (said : IonContent) (members : Part → Type 0) (e f : IonEph) → ((p : Part) → members p → IsPartValue p)
+    → IsIonItemOf moment_of said members e → IsIonItemOf moment_of said members f → e ≡ f
+one_ion_item moment_of said members e f are h k =
+    let content : e.content ≡ f.content = h.content ∙ sym k.content in
+    let sending : h.sending ≡ k.sending = one_sending_of members h.sending k.sending are h.first k.first in
+    let sat : e.sat ≡ f.sat = h.sat ∙ (λ i. (sending i).sat) ∙ sym k.sat in
+    let moment : e.moment ≡ f.moment = h.moment ∙ (λ i. moment_of (sending i)) ∙ sym k.moment in
+    λ i. record { sat = sat i; moment = moment i; content = content i }
+
+one_item : (r : ℕ) (key : Key) (members : Part → Type 0) (before behind : ℕ × GalHealth × SentTag → Type 0) (e f : NavItem)
+    → ((p : Part) → members p → IsPartValue p) → ((h : ℕ × GalHealth × SentTag) → before h → IsHealthValue h) → ((h : ℕ × GalHealth × SentTag) → behind h → IsHealthValue h)
+    → IsItemOf r key members before behind e → IsItemOf r key members before behind f → e ≡ f
+one_item r (Gps sat issue) members before behind (GpsItem e) (GpsItem f) are x y h k = ap GpsItem (one_gps_item r sat members e f are h k)
+one_item r (Gps sat issue) members before behind (GpsItem e) (GalItem f) are x y h k = absurd k
+one_item r (Gps sat issue) members before behind (GpsItem e) (IonItem f) are x y h k = absurd k
+one_item r (Gal sat issue) members before behind (GalItem e) (GalItem f) are x y h k = ap GalItem (one_gal_item r sat members before behind e f x y h k)
+one_item r (Gal sat issue) members before behind (GalItem e) (GpsItem f) are x y h k = absurd k
+one_item r (Gal sat issue) members before behind (GalItem e) (IonItem f) are x y h k = absurd k
+one_item r (GpsIon content) members before behind (IonItem e) (IonItem f) are x y h k = ap IonItem (one_ion_item (gps_ion_moment r) (OfGps content) members e f are h k)
+one_item r (GpsIon content) members before behind (IonItem e) (GpsItem f) are x y h k = absurd k
+one_item r (GpsIon content) members before behind (IonItem e) (GalItem f) are x y h k = absurd k
+one_item r (GalIon content) members before behind (IonItem e) (IonItem f) are x y h k = ap IonItem (one_ion_item (gal_ion_moment r) (OfGal content) members e f are h k)
+one_item r (GalIon content) members before behind (IonItem e) (GpsItem f) are x y h k = absurd k
+one_item r (GalIon content) members before behind (IonItem e) (GalItem f) are x y h k = absurd k
+one_item r key members before behind e f are x y h k = absurd h
+
+-- where there is an item, the members agree, each kind is there, and so is health
+item_agrees : (r : ℕ) (key : Key) (members : Part → Type 0) (before behind : ℕ × GalHealth × SentTag → Type 0) (e : NavItem)
+    → IsItemOf r key members before behind e → IsContradicted key members → ⊥
+item_agrees r (Gps sat issue) members before behind (GpsItem e) h (inl d) = only_agrees (HasValue clock_of members) e.clock h.clock d
+item_agrees r (Gps sat issue) members before behind (GpsItem e) h (inr (inl d)) = only_agrees (HasValue orbit_a_of members) e.a h.a d
+item_agrees r (Gps sat issue) members before behind (GpsItem e) h (inr (inr d)) = only_agrees (HasValue orbit_b_of members) e.b h.b d
+item_agrees r (Gal sat issue) members before behind (GalItem e) h (inl d) = only_agrees (HasValue word1_of members) e.w1 h.w1 d
+item_agrees r (Gal sat issue) members before behind (GalItem e) h (inr (inl d)) = only_agrees (HasValue word2_of members) e.w2 h.w2 d
+item_agrees r (Gal sat issue) members before behind (GalItem e) h (inr (inr (inl d))) = only_agrees (HasValue word3_of members) e.w3 h.w3 d
+item_agrees r (Gal sat issue) members before behind (GalItem e) h (inr (inr (inr d))) = only_agrees (HasValue word4_of members) e.w4 h.w4 d
+item_agrees r (GpsIon content) members before behind e h d = d
+item_agrees r (GalIon content) members before behind e h d = d
+item_agrees r key members before behind e h d = absurd h
+
+item_whole : (r : ℕ) (key : Key) (members : Part → Type 0) (before behind : ℕ × GalHealth × SentTag → Type 0) (e : NavItem)
+    → IsItemOf r key members before behind e → IsPartial key members → ⊥
+item_whole r (Gps sat issue) members before behind (GpsItem e) h (inl d) = only_there (HasValue clock_of members) e.clock h.clock d
+item_whole r (Gps sat issue) members before behind (GpsItem e) h (inr (inl d)) = only_there (HasValue orbit_a_of members) e.a h.a d
+item_whole r (Gps sat issue) members before behind (GpsItem e) h (inr (inr d)) = only_there (HasValue orbit_b_of members) e.b h.b d
+item_whole r (Gal sat issue) members before behind (GalItem e) h (inl d) = only_there (HasValue word1_of members) e.w1 h.w1 d
+item_whole r (Gal sat issue) members before behind (GalItem e) h (inr (inl d)) = only_there (HasValue word2_of members) e.w2 h.w2 d
+item_whole r (Gal sat issue) members before behind (GalItem e) h (inr (inr (inl d))) = only_there (HasValue word3_of members) e.w3 h.w3 d
+item_whole r (Gal sat issue) members before behind (GalItem e) h (inr (inr (inr d))) = only_there (HasValue word4_of members) e.w4 h.w4 d
+item_whole r (GpsIon content) members before behind e h d = d
+item_whole r (GalIon content) members before behind e h d = d
+item_whole r key members before behind e h d = absurd h
+
+health_there : (before behind : ℕ × GalHealth × SentTag → Type 0) (v : ℕ × GalHealth × SentTag) → IsHealth before behind v → IsEmpty before × IsEmpty behind → ⊥
+health_there before behind v (inl h) none = none.0 v h.here
+health_there before behind v (inr h) none = none.1 v h.1.here
+
+item_healthy : (r : ℕ) (key : Key) (members : Part → Type 0) (before behind : ℕ × GalHealth × SentTag → Type 0) (e : NavItem)
+    → IsItemOf r key members before behind e → IsWithoutHealth key before behind → ⊥
+item_healthy r (Gps sat issue) members before behind e h d = d
+item_healthy r (Gal sat issue) members before behind (GalItem e) h d = health_there before behind h.heard h.heard_is d
+item_healthy r (GpsIon content) members before behind e h d = d
+item_healthy r (GalIon content) members before behind e h d = d
+item_healthy r key members before behind e h d = absurd h
+
+pub IsFoundIn-one : (r : ℕ) (key : Key) (members : Part → Type 0) (before behind : ℕ × GalHealth × SentTag → Type 0) (f g : Finding)
+    → ((p : Part) → members p → IsPartValue p) → ((h : ℕ × GalHealth × SentTag) → before h → IsHealthValue h) → ((h : ℕ × GalHealth × SentTag) → behind h → IsHealthValue h)
+    → IsFoundIn r key members before behind f → IsFoundIn r key members before behind g → f ≡ g
+IsFoundIn-one r key members before behind Differs Differs are x y h k = refl
+IsFoundIn-one r key members before behind Differs Misses are x y h k = absurd (k.0 h)
+IsFoundIn-one r key members before behind Differs LacksHealth are x y h k = absurd (k.0 h)
+IsFoundIn-one r key members before behind Differs (Complete j) are x y h k = absurd (item_agrees r key members before behind j k h)
+IsFoundIn-one r key members before behind Misses Differs are x y h k = absurd (h.0 k)
+IsFoundIn-one r key members before behind Misses Misses are x y h k = refl
+IsFoundIn-one r key members before behind Misses LacksHealth are x y h k = absurd (k.1 h.1)
+IsFoundIn-one r key members before behind Misses (Complete j) are x y h k = absurd (item_whole r key members before behind j k h.1)
+IsFoundIn-one r key members before behind LacksHealth Differs are x y h k = absurd (h.0 k)
+IsFoundIn-one r key members before behind LacksHealth Misses are x y h k = absurd (h.1 k.1)
+IsFoundIn-one r key members before behind LacksHealth LacksHealth are x y h k = refl
+IsFoundIn-one r key members before behind LacksHealth (Complete j) are x y h k = absurd (item_healthy r key members before behind j k h.2)
+IsFoundIn-one r key members before behind (Complete i) Differs are x y h k = absurd (item_agrees r key members before behind i h k)
+IsFoundIn-one r key members before behind (Complete i) Misses are x y h k = absurd (item_whole r key members before behind i h k.1)
+IsFoundIn-one r key members before behind (Complete i) LacksHealth are x y h k = absurd (item_healthy r key members before behind i h k.2)
+IsFoundIn-one r key members before behind (Complete i) (Complete j) are x y h k = ap Complete (one_item r key members before behind i j are x y h k)
+
+-- of the same sets
+contradicted_same : (key : Key) (a b : Part → Type 0) → Same a b → IsContradicted key a → IsContradicted key b
+contradicted_same (Gps sat issue) a b s (inl d) = inl (Differ-same (HasValue clock_of a) (HasValue clock_of b) (same_values clock_of a b s) d)
+contradicted_same (Gps sat issue) a b s (inr (inl d)) = inr (inl (Differ-same (HasValue orbit_a_of a) (HasValue orbit_a_of b) (same_values orbit_a_of a b s) d))
+contradicted_same (Gps sat issue) a b s (inr (inr d)) = inr (inr (Differ-same (HasValue orbit_b_of a) (HasValue orbit_b_of b) (same_values orbit_b_of a b s) d))
+contradicted_same (Gal sat issue) a b s (inl d) = inl (Differ-same (HasValue word1_of a) (HasValue word1_of b) (same_values word1_of a b s) d)
+contradicted_same (Gal sat issue) a b s (inr (inl d)) = inr (inl (Differ-same (HasValue word2_of a) (HasValue word2_of b) (same_values word2_of a b s) d))
+contradicted_same (Gal sat issue) a b s (inr (inr (inl d))) = inr (inr (inl (Differ-same (HasValue word3_of a) (HasValue word3_of b) (same_values word3_of a b s) d)))
+contradicted_same (Gal sat issue) a b s (inr (inr (inr d))) = inr (inr (inr (Differ-same (HasValue word4_of a) (HasValue word4_of b) (same_values word4_of a b s) d)))
+contradicted_same (GpsIon content) a b s d = d
+contradicted_same (GalIon content) a b s d = d
+
+partial_same : (key : Key) (a b : Part → Type 0) → Same a b → IsPartial key a → IsPartial key b
+partial_same (Gps sat issue) a b s (inl d) = inl (IsEmpty-same (HasValue clock_of a) (HasValue clock_of b) (same_values clock_of a b s) d)
+partial_same (Gps sat issue) a b s (inr (inl d)) = inr (inl (IsEmpty-same (HasValue orbit_a_of a) (HasValue orbit_a_of b) (same_values orbit_a_of a b s) d))
+partial_same (Gps sat issue) a b s (inr (inr d)) = inr (inr (IsEmpty-same (HasValue orbit_b_of a) (HasValue orbit_b_of b) (same_values orbit_b_of a b s) d))
+partial_same (Gal sat issue) a b s (inl d) = inl (IsEmpty-same (HasValue word1_of a) (HasValue word1_of b) (same_values word1_of a b s) d)
+partial_same (Gal sat issue) a b s (inr (inl d)) = inr (inl (IsEmpty-same (HasValue word2_of a) (HasValue word2_of b) (same_values word2_of a b s) d))
+partial_same (Gal sat issue) a b s (inr (inr (inl d))) = inr (inr (inl (IsEmpty-same (HasValue word3_of a) (HasValue word3_of b) (same_values word3_of a b s) d)))
+partial_same (Gal sat issue) a b s (inr (inr (inr d))) = inr (inr (inr (IsEmpty-same (HasValue word4_of a) (HasValue word4_of b) (same_values word4_of a b s) d)))
+partial_same (GpsIon content) a b s d = d
+partial_same (GalIon content) a b s d = d
+
+without_same : (key : Key) (before behind before' behind' : ℕ × GalHealth × SentTag → Type 0) → Same before before' → Same behind behind'
+    → IsWithoutHealth key before behind → IsWithoutHealth key before' behind'
+without_same (Gps sat issue) before behind before' behind' s t d = d
+without_same (Gal sat issue) before behind before' behind' s t d = (IsEmpty-same before before' s d.0, IsEmpty-same behind behind' t d.1)
+without_same (GpsIon content) before behind before' behind' s t d = d
+without_same (GalIon content) before behind before' behind' s t d = d
+
+item_same : (r : ℕ) (key : Key) (a b : Part → Type 0) (before behind before' behind' : ℕ × GalHealth × SentTag → Type 0) (e : NavItem)
+    → Same a b → Same before before' → Same behind behind' → IsItemOf r key a before behind e → IsItemOf r key b before' behind' e
+item_same r (Gps sat issue) a b before behind before' behind' (GpsItem e) s t u h = record {
+  sat = h.sat;
+  clock = IsOnly-same (HasValue clock_of a) (HasValue clock_of b) e.clock (same_values clock_of a b s) h.clock;
+  a = IsOnly-same (HasValue orbit_a_of a) (HasValue orbit_a_of b) e.a (same_values orbit_a_of a b s) h.a;
+  b = IsOnly-same (HasValue orbit_b_of a) (HasValue orbit_b_of b) e.b (same_values orbit_b_of a b s) h.b;
+  side_stamp = h.side_stamp;
+  side = IsFirstBy-same (IsLater side_numbers) (HasValue side_of a) (HasValue side_of b) (h.side_stamp, e.side) (same_values side_of a b s) h.side;
+  fit_stamp = h.fit_stamp;
+  fit = IsFirstBy-same (IsLater fit_numbers) (HasValue fit_of a) (HasValue fit_of b) (h.fit_stamp, e.fit) (same_values fit_of a b s) h.fit;
+  tag = h.tag;
+  tag_is = IsFirstOrElse-same (IsEarlier tag_numbers) (IsEarlier tag_numbers) (HasValue sent_tag_of a) (HasValue sent_tag_of b) (HasValue toe_tag_of a) (HasValue toe_tag_of b) h.tag
+      (same_values sent_tag_of a b s) (same_values toe_tag_of a b s) h.tag_is;
+  toe_week = h.toe_week;
+  sent = h.sent;
+}
+item_same r (Gal sat issue) a b before behind before' behind' (GalItem e) s t u h = record {
+  sat = h.sat;
+  w1 = IsOnly-same (HasValue word1_of a) (HasValue word1_of b) e.w1 (same_values word1_of a b s) h.w1;
+  w2 = IsOnly-same (HasValue word2_of a) (HasValue word2_of b) e.w2 (same_values word2_of a b s) h.w2;
+  w3 = IsOnly-same (HasValue word3_of a) (HasValue word3_of b) e.w3 (same_values word3_of a b s) h.w3;
+  w4 = IsOnly-same (HasValue word4_of a) (HasValue word4_of b) e.w4 (same_values word4_of a b s) h.w4;
+  heard = h.heard;
+  heard_is = IsFirstOrElse-same (IsLater health_numbers) (IsEarlier health_numbers) before before' behind behind' h.heard t u h.heard_is;
+  health = h.health;
+  toe_week = h.toe_week;
+  sent = h.sent;
+}
+item_same r (GpsIon content) a b before behind before' behind' (IonItem e) s t u h = record {
+  content = h.content;
+  sending = h.sending;
+  first = IsFirstBy-same (IsEarlier sending_numbers) (HasValue sending_of a) (HasValue sending_of b) h.sending (same_values sending_of a b s) h.first;
+  sat = h.sat;
+  moment = h.moment;
+}
+item_same r (GalIon content) a b before behind before' behind' (IonItem e) s t u h = record {
+  content = h.content;
+  sending = h.sending;
+  first = IsFirstBy-same (IsEarlier sending_numbers) (HasValue sending_of a) (HasValue sending_of b) h.sending (same_values sending_of a b s) h.first;
+  sat = h.sat;
+  moment = h.moment;
+}
+item_same r key a b before behind before' behind' e s t u h = absurd h
+
+pub IsFoundIn-same : (r : ℕ) (key : Key) (a b : Part → Type 0) (before behind before' behind' : ℕ × GalHealth × SentTag → Type 0) (f : Finding)
+    → Same a b → Same before before' → Same behind behind' → IsFoundIn r key a before behind f → IsFoundIn r key b before' behind' f
+IsFoundIn-same r key a b before behind before' behind' Differs s t u h = contradicted_same key a b s h
+IsFoundIn-same r key a b before behind before' behind' Misses s t u h =
+    (λ d. h.0 (contradicted_same key b a (turned a b s) d), partial_same key a b s h.1)
+IsFoundIn-same r key a b before behind before' behind' LacksHealth s t u h =
+    (λ d. h.0 (contradicted_same key b a (turned a b s) d), λ d. h.1 (partial_same key b a (turned a b s) d), without_same key before behind before' behind' t u h.2)
+IsFoundIn-same r key a b before behind before' behind' (Complete item) s t u h = item_same r key a b before behind before' behind' item s t u h

@@ -1,0 +1,50 @@
+-- What a set of parts comes to, kind by kind and choice by choice.
+use Rattle.std.specs.Prelude.{ℕ, Option, None, Some}
+use Rattle.nav_eph.specs.declared.galileo.GalHealth.{GalHealth}
+use Rattle.nav_eph.specs.declared.tag.SentTag.{SentTag}
+use Rattle.nav_eph.specs.declared.part.Part.{Part}
+use Rattle.periods.specs.declared.key.Key.{Key}
+use Rattle.periods.specs.declared.key.Key.TheVariants.{Gps, Gal, GpsIon, GalIon}
+use Rattle.periods.specs.declared.digest.Seen.{Seen}
+use Rattle.periods.specs.declared.digest.Seen.TheVariants.{Nothing, One, Different}
+use Rattle.periods.specs.declared.digest.GpsDigest.{GpsDigest}
+use Rattle.periods.specs.declared.digest.GalDigest.{GalDigest}
+use Rattle.periods.specs.declared.digest.Digest.{Digest}
+use Rattle.periods.specs.declared.digest.Digest.TheVariants.{Gps as GpsForm, Gal as GalForm, Ion as IonForm}
+use Rattle.periods.specs.Items.{IsHealth}
+use Rattle.periods.specs.Values.{HasValue, IsEmpty, IsOnly, Differ, IsBest, IsFirstBy, IsEarlier, IsLater}
+use Rattle.periods.specs.Parts.{clock_of, orbit_a_of, orbit_b_of, word1_of, word2_of, word3_of, word4_of, side_of, fit_of, sent_tag_of, toe_tag_of, sending_of, side_numbers, fit_numbers, tag_numbers, sending_numbers}
+
+-- there is no value, one value, or there are two that differ
+abbrev pub IsSeen : {X : Type 0} → (X → Type 0) → Seen X → Type 0
+IsSeen values Nothing = IsEmpty values
+IsSeen values (One x) = IsOnly values x
+IsSeen values Different = Differ values
+
+pub record IsGpsDigest (members : Part → Type 0) (d : GpsDigest) : Type 0 where
+  pub clock : IsSeen (HasValue clock_of members) d.clock
+  pub a : IsSeen (HasValue orbit_a_of members) d.a
+  pub b : IsSeen (HasValue orbit_b_of members) d.b
+  pub side : IsBest (IsLater side_numbers) (HasValue side_of members) d.side
+  pub fit : IsBest (IsLater fit_numbers) (HasValue fit_of members) d.fit
+  pub sent : IsBest (IsEarlier tag_numbers) (HasValue sent_tag_of members) d.sent
+  pub toe : IsBest (IsEarlier tag_numbers) (HasValue toe_tag_of members) d.toe
+
+pub record IsGalDigest (members : Part → Type 0) (d : GalDigest) : Type 0 where
+  pub w1 : IsSeen (HasValue word1_of members) d.w1
+  pub w2 : IsSeen (HasValue word2_of members) d.w2
+  pub w3 : IsSeen (HasValue word3_of members) d.w3
+  pub w4 : IsSeen (HasValue word4_of members) d.w4
+
+-- what the members of a key come to, in the key's form
+abbrev pub IsDigest : Key → (Part → Type 0) → Digest → Type 0
+IsDigest (Gps sat issue) members (GpsForm d) = IsGpsDigest members d
+IsDigest (Gal sat issue) members (GalForm d) = IsGalDigest members d
+IsDigest (GpsIon content) members (IonForm s) = IsFirstBy (IsEarlier sending_numbers) (HasValue sending_of members) s
+IsDigest (GalIon content) members (IonForm s) = IsFirstBy (IsEarlier sending_numbers) (HasValue sending_of members) s
+IsDigest key members digest = ⊥
+
+-- the health that counts, or that there is none up to the end and behind it
+abbrev pub IsBestHealth : (ℕ × GalHealth × SentTag → Type 0) → (ℕ × GalHealth × SentTag → Type 0) → Option (ℕ × GalHealth × SentTag) → Type 0
+IsBestHealth before behind None = IsEmpty before × IsEmpty behind
+IsBestHealth before behind (Some h) = IsHealth before behind h

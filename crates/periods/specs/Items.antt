@@ -1,0 +1,94 @@
+-- The item that the members of a period make.
+use Rattle.std.specs.Prelude.{◌≡◌, ℕ, ◌+◌, ◌*◌, pos, ◌-ℤ◌}
+use Rattle.gnss_week.specs.Weeks.{week_of}
+use Rattle.gnss_week.specs.Functions.{gps_week_to, galileo_week_to, moment_near}
+use Rattle.nav_eph.specs.Satellite.{Satellite}
+use Rattle.nav_eph.specs.Conditions.{wn_of}
+use Rattle.nav_eph.specs.declared.galileo.GalHealth.{GalHealth}
+use Rattle.nav_eph.specs.declared.ion.IonContent.{IonContent}
+use Rattle.nav_eph.specs.declared.tag.SentTag.{SentTag}
+use Rattle.nav_eph.specs.declared.tag.SentTag.TheVariants.{Sent, Toe}
+use Rattle.nav_eph.specs.declared.items.SentSecond.{SentSecond}
+use Rattle.nav_eph.specs.declared.items.SentSecond.TheVariants.{Unknown, At}
+use Rattle.nav_eph.specs.declared.items.GpsEph.{GpsEph}
+use Rattle.nav_eph.specs.declared.items.GalEph.{GalEph}
+use Rattle.nav_eph.specs.declared.items.IonEph.{IonEph}
+use Rattle.nav_eph.specs.declared.part.Part.{Part}
+use Rattle.periods.specs.declared.key.Sending.{Sending}
+use Rattle.periods.specs.Values.{HasValue, IsOnly, IsFirstBy, IsFirstOrElse, IsEarlier, IsLater}
+use Rattle.periods.specs.Parts.{clock_of, orbit_a_of, orbit_b_of, word1_of, word2_of, word3_of, word4_of, side_of, fit_of, sent_tag_of, toe_tag_of, sending_of, side_numbers, fit_numbers, tag_numbers, health_numbers, sending_numbers}
+
+-- the second of the week that a tag names
+abbrev pub tag_second : SentTag → ℕ
+tag_second (Sent wn second) = second
+tag_second (Toe wn second) = second
+
+-- the moment that a tag of GPS names, for a reader near the week r
+abbrev pub gps_moment : ℕ → SentTag → ℕ
+gps_moment r tag = 604800 * gps_week_to r (wn_of tag) + tag_second tag
+
+-- the moment that a tag of Galileo names, for a reader near the week r
+abbrev pub gal_moment : ℕ → SentTag → ℕ
+gal_moment r tag = 604800 * galileo_week_to r (wn_of tag) + tag_second tag
+
+-- the week of toe: that of the moment nearest to the tag's with the second of toe
+abbrev pub toe_week_of : ℕ → ℕ → ℕ
+toe_week_of moment toe_second = week_of (moment_near moment toe_second)
+
+-- the second of sending, counted from the start of the week of toe; not known from a tag that names a toe
+abbrev pub sent_second : SentTag → ℕ → ℕ → SentSecond
+sent_second (Sent wn second) moment toe_week = At (pos moment -ℤ pos (604800 * toe_week))
+sent_second (Toe wn second) moment toe_week = Unknown
+
+-- the satellite's health: the last one up to the end or, where there is none, the first one behind it
+abbrev pub IsHealth : (ℕ × GalHealth × SentTag → Type 0) → (ℕ × GalHealth × SentTag → Type 0) → ℕ × GalHealth × SentTag → Type 0
+IsHealth before behind health = IsFirstOrElse (IsLater health_numbers) (IsEarlier health_numbers) before behind health
+
+-- the tag of GPS: the earliest that names the moment of sending or, where there is none, the earliest that names a toe
+abbrev pub IsGpsTag : (Part → Type 0) → ℕ × SentTag → Type 0
+IsGpsTag members tag = IsFirstOrElse (IsEarlier tag_numbers) (IsEarlier tag_numbers) (HasValue sent_tag_of members) (HasValue toe_tag_of members) tag
+
+-- an ephemeris of GPS: the contents of the members, the side and the fit flag that came last, and the week of toe and the second of
+-- sending by the tag
+pub record IsGpsItemOf (r : ℕ) (satellite : Satellite) (members : Part → Type 0) (e : GpsEph) : Type 0 where
+  pub sat : e.sat ≡ satellite
+  pub clock : IsOnly (HasValue clock_of members) e.clock
+  pub a : IsOnly (HasValue orbit_a_of members) e.a
+  pub b : IsOnly (HasValue orbit_b_of members) e.b
+  pub side_stamp : ℕ
+  pub side : IsFirstBy (IsLater side_numbers) (HasValue side_of members) (side_stamp, e.side)
+  pub fit_stamp : ℕ
+  pub fit : IsFirstBy (IsLater fit_numbers) (HasValue fit_of members) (fit_stamp, e.fit)
+  pub tag : ℕ × SentTag
+  pub tag_is : IsGpsTag members tag
+  pub toe_week : e.toe_week ≡ toe_week_of (gps_moment r tag.1) (16 * e.a.toe)
+  pub sent : e.sent ≡ sent_second tag.1 (gps_moment r tag.1) e.toe_week
+
+-- an ephemeris of Galileo: the contents of the members, and health, week of toe and second of sending by the health part
+pub record IsGalItemOf (r : ℕ) (satellite : Satellite) (members : Part → Type 0) (before behind : ℕ × GalHealth × SentTag → Type 0) (e : GalEph) : Type 0 where
+  pub sat : e.sat ≡ satellite
+  pub w1 : IsOnly (HasValue word1_of members) e.w1
+  pub w2 : IsOnly (HasValue word2_of members) e.w2
+  pub w3 : IsOnly (HasValue word3_of members) e.w3
+  pub w4 : IsOnly (HasValue word4_of members) e.w4
+  pub heard : ℕ × GalHealth × SentTag
+  pub heard_is : IsHealth before behind heard
+  pub health : e.health ≡ heard.1
+  pub toe_week : e.toe_week ≡ toe_week_of (gal_moment r heard.2) (60 * e.w1.toe)
+  pub sent : e.sent ≡ sent_second heard.2 (gal_moment r heard.2) e.toe_week
+
+-- the moment at which GPS sent an ionosphere, which bears no week: the one nearest to the stamp, counted from the start of the week r
+abbrev pub gps_ion_moment : ℕ → Sending → ℕ
+gps_ion_moment r s = moment_near (604800 * r + s.stamp) s.second
+
+-- the moment at which Galileo sent an ionosphere
+abbrev pub gal_ion_moment : ℕ → Sending → ℕ
+gal_ion_moment r s = 604800 * galileo_week_to r s.wn + s.second
+
+-- an ionosphere: the content, and satellite and moment of the member that came first
+pub record IsIonItemOf (moment_of : Sending → ℕ) (said : IonContent) (members : Part → Type 0) (e : IonEph) : Type 0 where
+  pub content : e.content ≡ said
+  pub sending : Sending
+  pub first : IsFirstBy (IsEarlier sending_numbers) (HasValue sending_of members) sending
+  pub sat : e.sat ≡ sending.sat
+  pub moment : e.moment ≡ moment_of sending

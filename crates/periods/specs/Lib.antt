@@ -1,0 +1,14 @@
+pub mod Ends
+pub mod Joining
+pub mod Values
+pub mod Parts
+pub mod Periods
+pub mod Items
+pub mod Verdicts
+pub mod PeriodLists
+pub mod Digests
+pub mod Mirrors
+pub mod KeyTests
+pub mod DigestsOf
+pub mod PeriodsOf
+pub mod Touching

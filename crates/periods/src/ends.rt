@@ -1,0 +1,49 @@
+//! Laws of ends: each function does nothing, and its contract is the law.
+
+ghost use Rattle.std.specs.Prelude.{◌≡◌, ◌+◌, ◌∷◌, ◌++◌, ◌<◌, ◌≤◌};
+ghost use Rattle.std.specs.Prelude.{ℕ, List, [], All, Contains};
+ghost use Rattle.periods.specs.Ends.{IsEnd, IsEndOf};
+ghost use Rattle.periods.specs.Joining.{IsJoinedEnd, IsTouchedEnd, StaysEnd};
+
+/// Each stamp has exactly one end.
+pub fn each_stamp_has_one_end()
+    ensures some { (window : ℕ) (stamps : List ℕ) (s : ℕ) → Contains stamps s
+        → (e : ℕ) × IsEndOf window (Contains stamps) e s }
+    ensures only { (window : ℕ) (stamps : List ℕ) (d e s : ℕ)
+        → IsEndOf window (Contains stamps) d s
+        → IsEndOf window (Contains stamps) e s → d ≡ e }
+{}
+
+/// One stamp more: what it touches, two ends at most, becomes one end with it, and all else stays.
+pub fn one_more_stamp()
+    ensures one { (window : ℕ) (stamps : List ℕ) (stamp : ℕ)
+        → (e : ℕ)
+        × IsJoinedEnd window (Contains stamps) (Contains (stamps ++ stamp ∷ [])) stamp e }
+    ensures at_most_two { (window : ℕ) (stamps : List ℕ) (stamp a b c : ℕ)
+        → IsTouchedEnd window (Contains stamps) stamp a
+        → IsTouchedEnd window (Contains stamps) stamp b
+        → IsTouchedEnd window (Contains stamps) stamp c → a < b → b < c → ⊥ }
+    ensures rest { (window : ℕ) (stamps : List ℕ) (stamp e : ℕ)
+        → IsEnd window (Contains stamps) e
+        → (IsTouchedEnd window (Contains stamps) stamp e → ⊥)
+        → StaysEnd window (Contains stamps) (Contains (stamps ++ stamp ∷ [])) e }
+{}
+
+/// Later stamps leave the ends whose window they do not reach, with their stamps, and bring no end
+/// before them.
+pub fn later_stamps_change_no_closed_end()
+    ensures end_stays { (window mark : ℕ) (stamps later : List ℕ) (e : ℕ)
+        → All (λ s. mark ≤ s) later → e + window < mark → IsEnd window (Contains stamps) e
+        → IsEnd window (Contains (stamps ++ later)) e }
+    ensures end_was { (window mark : ℕ) (stamps later : List ℕ) (e : ℕ)
+        → All (λ s. mark ≤ s) later → e + window < mark
+        → IsEnd window (Contains (stamps ++ later)) e → IsEnd window (Contains stamps) e }
+    ensures stamp_stays { (window mark : ℕ) (stamps later : List ℕ) (e s : ℕ)
+        → All (λ s. mark ≤ s) later → e + window < mark
+        → IsEndOf window (Contains stamps) e s
+        → IsEndOf window (Contains (stamps ++ later)) e s }
+    ensures stamp_was { (window mark : ℕ) (stamps later : List ℕ) (e s : ℕ)
+        → All (λ s. mark ≤ s) later → e + window < mark
+        → IsEndOf window (Contains (stamps ++ later)) e s
+        → IsEndOf window (Contains stamps) e s }
+{}

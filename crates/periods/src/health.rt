@@ -1,0 +1,152 @@
+ghost use Rattle.std.specs.Prelude.{◌≡◌, None};
+ghost use Rattle.periods.specs.Parts.{health_numbers, health_of};
+ghost use Rattle.periods.specs.DigestsOf.{health_at};
+ghost use Rattle.periods.specs.Mirrors.{behind_end, best_among, best_with, earlier};
+ghost use Rattle.periods.specs.DigestsOf.{satellite_health};
+ghost use Rattle.periods.specs.Mirrors.{is_better, later, up_to_end};
+
+use crate::key::Key;
+use crate::order::is_same_sat;
+use nav_eph::{Body, GalHealth, Part, Sat, SentTag};
+
+// The health that a part says of a satellite, with its stamp.
+fn read_health(part: &Part, sat: Sat) -> Option<(u32, GalHealth, SentTag)>
+    ensures { result ≡ health_of sat part.now }
+{
+    if !is_same_sat(&part.sat, &sat) {
+        return None;
+    }
+    match part.body {
+        Body::GalHealth(health, tag) => Some((part.stamp, health, tag)),
+        _ => None,
+    }
+}
+
+// One health comes before another: by its stamp, and then by the number of its digits and the
+// tag's.
+fn is_earlier(one: &(u32, GalHealth, SentTag), other: &(u32, GalHealth, SentTag)) -> bool
+    ensures { result ≡ earlier health_numbers one.now other.now }
+{
+    let number = one.1.number_with(&one.2);
+    one.0 < other.0 || (one.0 == other.0 && number < other.1.number_with(&other.2))
+}
+
+// No health was found yet, or this one is later.
+fn is_last(best: &Option<(u32, GalHealth, SentTag)>, health: &(u32, GalHealth, SentTag)) -> bool
+    ensures { result ≡ is_better (later health_numbers) best.now health.now }
+{
+    match best {
+        None => true,
+        Some(b) => is_earlier(b, health),
+    }
+}
+
+// No health was found yet, or this one is earlier.
+fn is_first(best: &Option<(u32, GalHealth, SentTag)>, health: &(u32, GalHealth, SentTag)) -> bool
+    ensures { result ≡ is_better (earlier health_numbers) best.now health.now }
+{
+    match best {
+        None => true,
+        Some(b) => is_earlier(health, b),
+    }
+}
+
+// The later of the last health so far and of one more, where this is up to the end and near it.
+fn last_with(
+    best: Option<(u32, GalHealth, SentTag)>,
+    health: Option<(u32, GalHealth, SentTag)>,
+    window: u32,
+    end: u32,
+) -> Option<(u32, GalHealth, SentTag)>
+    ensures { result ≡ best_with (up_to_end window end) (later health_numbers) best health }
+{
+    match health {
+        None => best,
+        Some(h) => {
+            let is_near = h.0 <= end && end as u64 <= h.0 as u64 + window as u64;
+            if is_near && is_last(&best, &h) {
+                Some(h)
+            } else {
+                best
+            }
+        }
+    }
+}
+
+// The earlier of the first health so far and of one more, where this is behind the end and near it.
+fn first_with(
+    best: Option<(u32, GalHealth, SentTag)>,
+    health: Option<(u32, GalHealth, SentTag)>,
+    window: u32,
+    end: u32,
+) -> Option<(u32, GalHealth, SentTag)>
+    ensures { result ≡ best_with (behind_end window end) (earlier health_numbers) best health }
+{
+    match health {
+        None => best,
+        Some(h) => {
+            let is_near = end < h.0 && h.0 as u64 <= end as u64 + window as u64;
+            if is_near && is_first(&best, &h) {
+                Some(h)
+            } else {
+                best
+            }
+        }
+    }
+}
+
+// The satellite's last health up to the end, within the window.
+fn last_up_to(parts: &[Part], window: u32, sat: Sat, end: u32) -> Option<(u32, GalHealth, SentTag)>
+    ensures { result
+        ≡ best_among (health_of sat) (up_to_end window end)
+        (later health_numbers) parts.now None }
+{
+    let mut best: Option<(u32, GalHealth, SentTag)> = None;
+    for part in parts {
+        best = last_with(best, read_health(part, sat), window, end);
+    }
+    best
+}
+
+// The satellite's first health behind the end, within the window.
+pub(crate) fn first_behind(
+    parts: &[Part],
+    window: u32,
+    sat: Sat,
+    end: u32,
+) -> Option<(u32, GalHealth, SentTag)>
+    ensures { result ≡ best_among (health_of sat) (behind_end window end)
+        (earlier health_numbers) parts.now None }
+{
+    let mut best: Option<(u32, GalHealth, SentTag)> = None;
+    for part in parts {
+        best = first_with(best, read_health(part, sat), window, end);
+    }
+    best
+}
+
+// The satellite's last health up to the end or, where there is none, the first one behind it.
+fn sat_health(parts: &[Part], window: u32, sat: Sat, end: u32) -> Option<(u32, GalHealth, SentTag)>
+    ensures { result ≡ satellite_health window parts.now sat end }
+{
+    match last_up_to(parts, window, sat, end) {
+        Some(health) => Some(health),
+        None => first_behind(parts, window, sat, end),
+    }
+}
+
+// The health that counts for a period of the key with that end: that of a Galileo key's satellite,
+// with its stamp and its tag.
+pub(crate) fn health_near(
+    parts: &[Part],
+    window: u32,
+    key: Key,
+    end: u32,
+) -> Option<(u32, GalHealth, SentTag)>
+    ensures { result ≡ health_at window parts.now key end }
+{
+    match key {
+        Key::Gal(sat, _) => sat_health(parts, window, sat, end),
+        _ => None,
+    }
+}

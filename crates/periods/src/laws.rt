@@ -1,0 +1,141 @@
+//! Laws of periods: each function does nothing, and its contract is the law.
+
+ghost use Rattle.std.specs.Prelude.{◌≡◌, ◌+◌, ◌*◌, ◌<◌, ◌≤◌};
+ghost use Rattle.std.specs.Prelude.{◌∷◌, ◌++◌, ◌↔◌, ◌⊎◌, ℕ, List, []};
+ghost use Rattle.std.specs.Prelude.{Option, Some, true, All, Contains};
+ghost use Rattle.gnss_week.specs.Weeks.{IsReference};
+ghost use Rattle.nav_eph.specs.Conditions.{IsPart};
+ghost use Rattle.nav_eph.specs.Ranges.{HasRanges, IsItem};
+ghost use Rattle.nav_eph.specs.declared.items.NavItem.{NavItem};
+ghost use Rattle.nav_eph.specs.declared.part.Part.{Part};
+ghost use Rattle.periods.specs.declared.key.Key.{Key};
+ghost use Rattle.periods.specs.declared.key.Place.{Place};
+ghost use Rattle.periods.specs.declared.closed.Closed.{Closed};
+ghost use Rattle.periods.specs.declared.closed.Verdict.TheVariants.{Whole, Again};
+ghost use Rattle.periods.specs.declared.closed.Finding.{Finding};
+ghost use Rattle.periods.specs.Verdicts.{IsClosed, IsFound, IsOfEphemeris};
+ghost use Rattle.nav_eph.specs.Values.{IsPartValue};
+ghost use Rattle.periods.specs.Parts.{key_of};
+ghost use Rattle.periods.specs.Periods.{IsMember, IsPeriod};
+ghost use Rattle.periods.specs.declared.digest.Digest.{Digest};
+ghost use Rattle.periods.specs.Digests.{IsDigest};
+ghost use Rattle.periods.specs.KeyTests.{is_of};
+ghost use Rattle.periods.specs.DigestsOf.{digest_finding, digest_join, digest_of, health_at};
+ghost use Rattle.periods.specs.PeriodLists.{ArePeriods, AreClosed, IsPrefix, items_in};
+ghost use Rattle.periods.specs.PeriodsOf.{periods_of, closed_of};
+ghost use Rattle.periods.specs.Touching.{IsTouched, IsJoined, Stays};
+
+/// Each list of parts has exactly one list of periods, and one of those closed at a mark: the
+/// computed ones.
+pub fn periods_are()
+    ensures are { (r window : ℕ) (parts : List Part) → All IsPartValue parts
+        → ArePeriods r window (Contains parts) (periods_of r window parts) }
+    ensures only { (r window : ℕ) (parts : List Part) (xs : List Closed) → All IsPartValue parts
+        → ArePeriods r window (Contains parts) xs → xs ≡ periods_of r window parts }
+    ensures closed { (r window mark : ℕ) (parts : List Part) → All IsPartValue parts
+        → AreClosed r window (Contains parts) mark (closed_of r window mark parts) }
+    ensures only_closed { (r window mark : ℕ) (parts : List Part) (xs : List Closed)
+        → All IsPartValue parts → AreClosed r window (Contains parts) mark xs
+        → xs ≡ closed_of r window mark parts }
+{}
+
+/// Order and repetition of the parts are nothing.
+pub fn order_is_nothing()
+    ensures { (r window : ℕ) (some other : List Part) → All IsPartValue some
+        → ((p : Part) → Contains some p ↔ Contains other p)
+        → periods_of r window some ≡ periods_of r window other }
+{}
+
+/// What is closed stays: later parts change nothing of it, more is closed at a higher mark behind
+/// it, and all of it is at the front of the periods.
+pub fn closed_stays()
+    ensures later { (r window mark : ℕ) (parts later : List Part)
+        → All IsPartValue (parts ++ later) → All (λ p. mark ≤ p.stamp) later
+        → closed_of r window mark (parts ++ later) ≡ closed_of r window mark parts }
+    ensures rise { (r window mark higher : ℕ) (parts : List Part) → mark ≤ higher
+        → IsPrefix (closed_of r window mark parts) (closed_of r window higher parts) }
+    ensures front { (r window mark : ℕ) (parts : List Part)
+        → IsPrefix (closed_of r window mark parts) (periods_of r window parts) }
+    ensures all { (r window mark : ℕ) (parts : List Part)
+        → All (λ p. p.stamp + window < mark) parts
+        → closed_of r window mark parts ≡ periods_of r window parts }
+{}
+
+/// One more part: what it touches, at most two periods of its key, becomes one period with it, and
+/// all else stays.
+pub fn one_more_part()
+    ensures one { (window : ℕ) (parts : List Part) (part : Part) (key : Key)
+        → key_of part ≡ Some key → (place : Place)
+        × IsJoined window (Contains parts) part (Contains (parts ++ part ∷ [])) place }
+    ensures at_most_two { (window : ℕ) (parts : List Part) (part : Part) (a b c : Place)
+        → IsTouched window (Contains parts) part a → IsTouched window (Contains parts) part b
+        → IsTouched window (Contains parts) part c → a.end < b.end → b.end < c.end → ⊥ }
+    ensures rest { (window : ℕ) (parts : List Part) (part : Part) (place : Place)
+        → IsPeriod window (Contains parts) place
+        → (IsTouched window (Contains parts) part place → ⊥)
+        → Stays window (Contains parts) (Contains (parts ++ part ∷ [])) place }
+{}
+
+/// Parts that lie more than a window before others change none of their periods, nor the others
+/// theirs: the periods of both together are those of either, and each comes to the same by itself.
+/// What is said of one may differ, since it may say again what an earlier one said.
+pub fn parts_far_apart()
+    ensures periods { (window mark : ℕ) (some more : List Part) (place : Place)
+        → All (λ p. p.stamp + window < mark) some → All (λ p. mark ≤ p.stamp) more
+        → IsPeriod window (Contains (some ++ more)) place
+        ↔ (IsPeriod window (Contains some) place ⊎ IsPeriod window (Contains more) place) }
+    ensures first { (r window mark : ℕ) (some more : List Part) (place : Place)
+        (finding : Finding) → All (λ p. p.stamp + window < mark) some
+        → All (λ p. mark ≤ p.stamp) more
+        → IsPeriod window (Contains some) place
+        → IsFound r window (Contains (some ++ more)) place finding
+        ↔ IsFound r window (Contains some) place finding }
+    ensures second { (r window mark : ℕ) (some more : List Part) (place : Place)
+        (finding : Finding) → All (λ p. p.stamp + window < mark) some
+        → All (λ p. mark ≤ p.stamp) more
+        → IsPeriod window (Contains more) place
+        → IsFound r window (Contains (some ++ more)) place finding
+        ↔ IsFound r window (Contains more) place finding }
+{}
+
+/// What the calls compute of parts is what is described: of one part, of the parts of two sets
+/// together, and of the members of a period with the health near its end.
+pub fn digests_are()
+    ensures one { (part : Part) (key : Key) (d : Digest)
+        → key_of part ≡ Some key → digest_of part ≡ Some d
+        → IsDigest key (Contains (part ∷ [])) d }
+    ensures joined { (key : Key) (some more : List Part) (x y : Digest)
+        → IsDigest key (Contains some) x → IsDigest key (Contains more) y
+        → IsDigest key (Contains (some ++ more)) (digest_join x y) }
+    ensures finding { (r window : ℕ) (parts : List Part) (place : Place) (d : Digest)
+        → IsDigest place.key (IsMember window (Contains parts) place) d
+        → IsFound r window (Contains parts) place
+        (digest_finding r place.key d (health_at window parts place.key place.end)) }
+{}
+
+/// A part is told to be of a key exactly where that is its key.
+pub fn keys_are_told()
+    ensures { (key : Key) (part : Part)
+        → (is_of key part ≡ true) ↔ (key_of part ≡ Some key) }
+{}
+
+/// Only an ephemeris is said again, and never an ionosphere.
+pub fn only_ephemerides_are_said_again()
+    ensures { (r window : ℕ) (parts : List Part) (c : Closed)
+        → IsClosed r window (Contains parts) c → c.verdict ≡ Again → IsOfEphemeris c.key }
+{}
+
+/// The items of periods that follow others are those of the first, and then those of the second.
+pub fn items_follow()
+    ensures { (some more : List Closed)
+        → items_in (some ++ more) ≡ items_in some ++ items_in more }
+{}
+
+/// The item of a period fits together, as the constructors of items demand, where each part is of a
+/// satellite that sends such: its ranges, the satellite's system, the issues of its halves or
+/// words, the second of sending, the week of an ionosphere.
+pub fn items_fit_together()
+    ensures { (r window : ℕ) (parts : List Part) (c : Closed) (item : NavItem) → IsReference r
+        → All IsPartValue parts → All (λ p. IsPart p.sat p.body) parts → HasRanges item
+        → IsClosed r window (Contains parts) c → c.verdict ≡ Whole item → IsItem item }
+{}

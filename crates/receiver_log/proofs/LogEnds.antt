@@ -1,0 +1,386 @@
+-- The ends of a run over a log.
+use Rattle.std.proofs.Common.{◌≡◌, ◌⊎◌, ℕ, ◌+◌, ◌<◌, ◌≤◌, Bool, true, false, not, List, [], ◌∷◌}
+use Rattle.std.proofs.Common.{◌++◌}
+use Rattle.std.proofs.Common.{length, take, refl, sym, ap, subst, ◌∙◌, append-nil}
+use Rattle.std.proofs.Common.{inl, inr, length-append}
+use Rattle.std.proofs.KnownBytes.{Appends-trans, Consumes-trans}
+use Rattle.std.specs.Prelude.{Option, Some, None, IsTrue, Result, Ok, Err, OnOk, OnErr, IfErr}
+use Rattle.std.specs.Io.KnownBytes.{Appends, Consumes, IsAtEnd, Keeps}
+use Rattle.nav_io.specs.Causes.{Rose}
+use Rattle.nav_io.specs.Front.{AppendsFront}
+use Rattle.framing.specs.Headings.{Heading, format_of}
+use Rattle.framing.specs.Messages.{messages, decided}
+use Rattle.framing.specs.State.{DeframerState, IsWaiting, MayFeed}
+use Rattle.one_run.specs.Causes.{HasItsCause, faults_of}
+use Rattle.one_run.specs.Runs.{World}
+use Rattle.one_run.specs.declared.fault.BridgeFault.{BridgeFault}
+use Rattle.one_run.specs.declared.fault.BridgeFault.TheVariants.{ReadFault, WriteFault, ReportFault}
+use Rattle.one_run.specs.declared.fault.BridgeFault.TheVariants.{TooLong}
+use Rattle.one_run.proofs.Surface.{front_behind, front_longer, whole_front}
+use Rattle.receiver_messages.specs.declared.said.Said.{Said}
+use Rattle.receiver_log.specs.declared.state.LogState.{LogState}
+use Rattle.receiver_log.specs.Capture.{capture_of, decided_capture, decided_report, lines_from}
+use Rattle.receiver_log.specs.Capture.{refusals_from, report_of, state_after}
+use Rattle.receiver_log.specs.Log.{begun}
+use Rattle.receiver_log.specs.LogRuns.{LogBroke, LogEnded, too_many}
+use Rattle.receiver_log.specs.Report.{counts_report}
+use Rattle.receiver_log.specs.Steps.{Hears, Stops}
+use Rattle.receiver_log.proofs.LogSteps.{hears_fed, hears_nothing, hears_on, lines_front}
+use Rattle.receiver_log.proofs.LogSteps.{refusals_front, stops_of, stops_on}
+
+-- these bytes were taken, and what is decided of them was heard
+pub record LogSoFar (h : Heading) (said : List ℕ → Said)
+    (left left_new written written_new reported reported_new : Option (List ℕ))
+    (held : DeframerState) (state : LogState) (taken : ℕ) : Type 0 where
+  pub bytes : List ℕ
+  pub consumes : Consumes left left_new bytes
+  pub size : length bytes ≡ taken
+  pub hears : Hears h said true bytes held.rest begun state written written_new [] [] reported
+      reported_new
+  pub may_feed : MayFeed (format_of h) held
+
+-- what a run that broke off did, whatever its fault
+pub record Broken (h : Heading) (said : List ℕ → Said)
+    (left left_new written written_new reported reported_new : Option (List ℕ)) : Type 0 where
+  pub taken : List ℕ
+  pub consumes : Consumes left left_new taken
+  pub text : AppendsFront written written_new (capture_of h said taken)
+  pub told : AppendsFront reported reported_new (report_of h said taken)
+
+keeps_consumes : (old new : Option (List ℕ)) → Keeps old new → Consumes old new []
+keeps_consumes None new a = tt
+keeps_consumes (Some xs) None a = absurd a
+keeps_consumes (Some xs) (Some ys) a = sym a
+
+consumes_none : (left l1 l2 : Option (List ℕ)) (bytes : List ℕ) → Consumes left l1 bytes
+    → Consumes l1 l2 [] → Consumes left l2 bytes
+consumes_none left l1 l2 bytes a b =
+    subst (Consumes left l2) (append-nil bytes) (Consumes-trans left l1 l2 bytes [] a b)
+
+none_read : (l1 l2 : Option (List ℕ)) (n : ℕ) (buffer : List ℕ) → n ≡ 0
+    → Consumes l1 l2 (take n buffer) → Consumes l1 l2 []
+none_read l1 l2 n buffer zero read = subst (λ (k : ℕ). Consumes l1 l2 (take k buffer)) zero read
+
+-- no message is decided of what waits
+waiting_decided : (h : Heading) (rest : List ℕ) → IsWaiting (format_of h) rest
+    → decided (format_of h) rest ≡ []
+waiting_decided h [] w = refl
+waiting_decided h (x ∷ xs) w = elim w [ inl e ↦ cc | inr o ↦ rw o refl ]
+
+module _ (h : Heading) (said : List ℕ → Said) where
+  -- a run that stopped
+  broken_by : (left l1 : Option (List ℕ)) (w w1 r r1 : Option (List ℕ)) (bytes : List ℕ)
+      (more : Bool)
+      → Consumes left l1 bytes → Stops h said more bytes begun w w1 [] r r1
+      → Broken h said left l1 w w1 r r1
+  broken_by left l1 w w1 r r1 bytes more consumes stops =
+      let behind = stops.stream [] (λ _. refl) in
+      let whole : messages (format_of h) bytes ≡ stops.heard ++ behind.0 =
+      ap (messages (format_of h)) (sym (append-nil bytes)) ∙ behind.1 in
+      let counts = counts_report (state_after said begun (messages (format_of h) bytes)).counts
+      (length bytes) in
+      record {
+        taken = bytes;
+        consumes = consumes;
+        text = subst (λ ms. AppendsFront w w1 (lines_from said begun ms)) (sym whole)
+            (lines_front said begun stops.heard behind.0 w w1 stops.put);
+        told = front_longer r r1 (refusals_from said begun (messages (format_of h) bytes)) counts
+            (subst (λ ms. AppendsFront r r1 (refusals_from said begun ms)) (sym whole)
+            (refusals_front said begun stops.heard behind.0 r r1 stops.told));
+      }
+
+  -- nothing was read yet
+  pub log_start : (left w r : Option (List ℕ)) (held : DeframerState) (state : LogState)
+      → held.rest ≡ [] → held.finished ≡ false
+      → state ≡ begun → LogSoFar h said left left w w r r held state 0
+  log_start left w r held state none began is = record {
+    bytes = [];
+    consumes = none_taken left;
+    size = refl;
+    hears = rw (none, is) (hears_nothing h said true [] begun w r []);
+    may_feed = (began, inl none);
+  }
+    where
+      none_taken : (o : Option (List ℕ)) → Consumes o o []
+      none_taken None = tt
+      none_taken (Some xs) = refl
+
+  -- a piece was taken
+  pub log_piece : (left l1 l2 w w1 w2 r r1 r2 : Option (List ℕ)) (held new : DeframerState)
+      (state next : LogState) (taken : ℕ) (piece : List ℕ) (n : ℕ)
+      → LogSoFar h said left l1 w w1 r r1 held state taken → Consumes l1 l2 piece → length piece ≡ n
+      → Hears h said true (held.rest ++ piece) new.rest state next w1 w2 [] [] r1 r2
+      → MayFeed (format_of h) new
+      → LogSoFar h said left l2 w w2 r r2 new next (taken + n)
+  log_piece left l1 l2 w w1 w2 r r1 r2 held new state next taken piece n far read size hears may =
+      record {
+        bytes = far.bytes ++ piece;
+        consumes = Consumes-trans left l1 l2 far.bytes piece far.consumes read;
+        size = length-append far.bytes piece ∙ ap (λ k. k + length piece) far.size
+            ∙ ap (λ k. taken + k) size;
+        hears = hears_on h said true (far.bytes ++ piece)
+            (held.rest ++ piece) new.rest begun state next w w1 w2 [] [] [] r r1 r2
+            (hears_fed h said far.bytes held.rest piece begun state w w1 [] [] r r1 far.hears)
+            hears;
+        may_feed = may;
+      }
+
+  -- what was written and reported of what was heard
+  written_of : (more : Bool) (a b : List ℕ) (s s1 : LogState) (w w1 r r1 : Option (List ℕ))
+      (x : Hears h said more a b s s1 w w1 [] [] r r1)
+      → Appends w w1 (lines_from said s x.heard)
+  written_of more a b s s1 w w1 r r1 x =
+      subst (Appends w w1) (sym (x.puts.parts ∙ append-nil x.puts.put)) x.puts.grew
+
+  heard_is : (left l1 w w1 r r1 : Option (List ℕ)) (held : DeframerState) (state : LogState)
+      (taken : ℕ)
+      → (far : LogSoFar h said left l1 w w1 r r1 held state taken)
+      → far.hears.heard ≡ decided (format_of h) far.bytes
+  heard_is left l1 w w1 r r1 held state taken far =
+      let f = format_of h in
+      sym (ap (decided f) (sym (append-nil far.bytes)) ∙ far.hears.decides refl []
+      ∙ ap (λ t. far.hears.heard ++ decided f t) (append-nil held.rest)
+      ∙ ap (λ t. far.hears.heard ++ t) (waiting_decided h held.rest far.may_feed.1)
+      ∙ append-nil far.hears.heard)
+
+  -- ---- ends
+
+  -- a read failed
+  pub record Settled (left left_new written written_new reported reported_new : Option (List ℕ)) :
+      Type 0 where
+    pub broken : Broken h said left left_new written written_new reported reported_new
+    pub text : Appends written written_new (decided_capture h said broken.taken)
+    pub told : Appends reported reported_new (decided_report h said broken.taken)
+
+  pub no_read : (left l1 l2 w w1 r r1 : Option (List ℕ)) (held : DeframerState) (state : LogState)
+      (taken : ℕ)
+      → LogSoFar h said left l1 w w1 r r1 held state taken → Keeps l1 l2 → Settled left l2 w w1 r r1
+  unfolding broken_by
+  no_read left l1 l2 w w1 r r1 held state taken far keeps =
+      let is = heard_is left l1 w w1 r r1 held state taken far in
+      record {
+        broken = broken_by left l2 w w1 r r1 far.bytes true
+            (consumes_none left l1 l2 far.bytes far.consumes (keeps_consumes l1 l2 keeps))
+            (stops_of h said true far.bytes held.rest begun state w w1 [] r r1 far.hears);
+        text = subst (λ ms. Appends w w1 (lines_from said begun ms)) is
+            (written_of true far.bytes held.rest begun state w w1 r r1 far.hears);
+        told = subst (λ ms. Appends r r1 (refusals_from said begun ms)) is far.hears.told;
+      }
+
+  -- there were too many bytes
+  pub record Long (left left_new written written_new reported reported_new : Option (List ℕ))
+      (least : ℕ) : Type 0 where
+    pub broken : Broken h said left left_new written written_new reported reported_new
+    pub many : least ≤ length broken.taken
+
+  pub too_long : (left l1 w w1 r r1 : Option (List ℕ)) (held : DeframerState) (state : LogState)
+      (taken least : ℕ)
+      → LogSoFar h said left l1 w w1 r r1 held state taken → least ≤ taken
+      → Long left l1 w w1 r r1 least
+  unfolding broken_by
+  too_long left l1 w w1 r r1 held state taken least far many = record {
+    broken = broken_by left l1 w w1 r r1 far.bytes true far.consumes
+        (stops_of h said true far.bytes held.rest begun state w w1 [] r r1 far.hears);
+    many = rw far.size many;
+  }
+
+  -- a piece was not taken to its end
+  pub broken_piece : (left l1 l2 w w1 w2 r r1 r2 : Option (List ℕ)) (held : DeframerState)
+      (state : LogState) (taken : ℕ) (piece : List ℕ)
+      → LogSoFar h said left l1 w w1 r r1 held state taken → Consumes l1 l2 piece
+      → Stops h said true (held.rest ++ piece) state w1 w2 [] r1 r2
+      → Broken h said left l2 w w2 r r2
+  broken_piece left l1 l2 w w1 w2 r r1 r2 held state taken piece far read stops =
+      broken_by left l2 w w2 r r2 (far.bytes ++ piece) true
+      (Consumes-trans left l1 l2 far.bytes piece far.consumes read)
+      (stops_on h said true (far.bytes ++ piece)
+      (held.rest ++ piece) begun state w w1 w2 [] [] r r1 r2
+      (hears_fed h said far.bytes held.rest piece begun state w w1 [] [] r r1 far.hears) stops)
+
+  -- after the last byte
+  at_end : (a b : List ℕ) (s s1 : LogState) (w w1 r r1 : Option (List ℕ))
+      → Hears h said true a b s s1 w w1 [] [] r r1 → Hears h said false a b s s1 w w1 [] [] r r1
+  at_end a b s s1 w w1 r r1 x = record {
+    heard = x.heard;
+    stream = λ following last. x.stream following (λ e. cc e);
+    decides = λ on. cc on;
+    state_is = x.state_is;
+    puts = x.puts;
+    told = x.told;
+  }
+
+  pub broken_end : (left l1 l2 w w1 w2 r r1 r2 : Option (List ℕ)) (held last : DeframerState)
+      (state : LogState) (taken n : ℕ) (buffer : List ℕ)
+      → LogSoFar h said left l1 w w1 r r1 held state taken → n ≡ 0 → Consumes l1 l2 (take n buffer)
+      → last.rest ≡ held.rest → last.finished ≡ true
+      → Stops h said (not last.finished) last.rest state w1 w2 [] r1 r2
+      → Broken h said left l2 w w2 r r2
+  broken_end left l1 l2 w w1 w2 r r1 r2 held last state taken n buffer far zero read same finished
+      stops =
+      let ends : Stops h said false held.rest state w1 w2 [] r1 r2 =
+      subst (λ rest. Stops h said false rest state w1 w2 [] r1 r2) same
+      (subst (λ b. Stops h said (not b) last.rest state w1 w2 [] r1 r2) finished stops) in
+      broken_by left l2 w w2 r r2 far.bytes false
+      (consumes_none left l1 l2 far.bytes far.consumes (none_read l1 l2 n buffer zero read))
+      (stops_on h said false far.bytes held.rest begun state w w1 w2 [] [] r r1 r2
+      (at_end far.bytes held.rest begun state w w1 r r1 far.hears) ends)
+
+  -- all messages were heard
+  pub record Whole (left left_new written written_new reported reported_new : Option (List ℕ))
+      (state : LogState) (count : ℕ) : Type 0 where
+    pub taken : List ℕ
+    pub consumes : Consumes left left_new taken
+    pub size : length taken ≡ count
+    pub text : Appends written written_new (capture_of h said taken)
+    pub told : Appends reported reported_new
+        (refusals_from said begun (messages (format_of h) taken))
+    pub state_is : state ≡ state_after said begun (messages (format_of h) taken)
+
+  pub all_heard : (left l1 l2 w w1 w2 r r1 r2 : Option (List ℕ)) (held last new : DeframerState)
+      (state next : LogState) (taken n : ℕ) (buffer : List ℕ)
+      → LogSoFar h said left l1 w w1 r r1 held state taken → n ≡ 0 → Consumes l1 l2 (take n buffer)
+      → last.rest ≡ held.rest → last.finished ≡ true
+      → Hears h said (not last.finished) last.rest new.rest state next w1 w2 [] [] r1 r2
+      → (last.finished ≡ true → new.rest ≡ [])
+      → Whole left l2 w w2 r r2 next taken
+  all_heard left l1 l2 w w1 w2 r r1 r2 held last new state next taken n buffer far zero read same
+      finished hears none =
+      let ends : Hears h said false held.rest new.rest state next w1 w2 [] [] r1 r2 =
+      subst (λ rest. Hears h said false rest new.rest state next w1 w2 [] [] r1 r2) same
+      (subst (λ b. Hears h said (not b) last.rest new.rest state next w1 w2 [] [] r1 r2) finished
+      hears) in
+      let all = hears_on h said false far.bytes held.rest new.rest begun state next w w1 w2 [] [] []
+      r r1 r2
+      (at_end far.bytes held.rest begun state w w1 r r1 far.hears) ends in
+      let is : all.heard ≡ messages (format_of h) far.bytes =
+      sym (ap (messages (format_of h)) (sym (append-nil far.bytes)) ∙ all.stream [] (λ _. refl)
+      ∙ ap (λ t. all.heard ++ messages (format_of h) t) (append-nil new.rest ∙ none finished)
+      ∙ append-nil all.heard) in
+      record {
+        taken = far.bytes;
+        consumes = consumes_none left l1 l2 far.bytes far.consumes
+            (none_read l1 l2 n buffer zero read);
+        size = far.size;
+        text = subst (λ ms. Appends w w2 (lines_from said begun ms)) is
+            (written_of false far.bytes new.rest begun next w w2 r r2 all);
+        told = subst (λ ms. Appends r r2 (refusals_from said begun ms)) is all.told;
+        state_is = all.state_is ∙ ap (state_after said begun) is;
+      }
+
+  -- the counts were reported
+  pub counts_told : (left l2 w w2 r r2 r3 : Option (List ℕ)) (state : LogState) (count : ℕ)
+      → (whole : Whole left l2 w w2 r r2 state count)
+      → Appends r2 r3 (counts_report state.counts count)
+      → Appends r r3 (report_of h said whole.taken)
+  counts_told left l2 w w2 r r2 r3 state count whole told =
+      Appends-trans r r2 r3 _ _ whole.told
+      (subst (Appends r2 r3) (ap (λ s. counts_report s.counts count) whole.state_is
+      ∙ ap (counts_report _) (sym whole.size)) told)
+
+  -- the counts were not
+  pub counts_failed : (left l2 w w2 r r2 r3 : Option (List ℕ)) (state : LogState) (count : ℕ)
+      → Whole left l2 w w2 r r2 state count
+      → AppendsFront r2 r3 (counts_report state.counts count) → Broken h said left l2 w w2 r r3
+  counts_failed left l2 w w2 r r2 r3 state count whole told = record {
+    taken = whole.taken;
+    consumes = whole.consumes;
+    text = whole_front w w2 _ whole.text;
+    told = front_behind r r2 r3 _ _ whole.told
+        (subst (AppendsFront r2 r3) (ap (λ s. counts_report s.counts count) whole.state_is
+        ∙ ap (counts_report _) (sym whole.size)) told);
+  }
+
+  -- ---- as the contract says it
+
+  pub read_broke : {S T U : Type 0} (b a : World S T U)
+      → Settled b.left a.left b.written a.written b.reported a.reported
+      → Rose b.reads_failed a.reads_failed → (IsTrue b.never_fails → ⊥)
+      → LogBroke h said b a ReadFault
+  read_broke b a x rose never = record {
+    taken = x.broken.taken;
+    consumes = x.broken.consumes;
+    text = x.broken.text;
+    told = x.broken.told;
+    says = (rose, never, x.text, x.told);
+  }
+
+  pub long_broke : {S T U : Type 0} (b a : World S T U)
+      → Long b.left a.left b.written a.written b.reported a.reported too_many
+      → LogBroke h said b a TooLong
+  long_broke b a x = record {
+    taken = x.broken.taken;
+    consumes = x.broken.consumes;
+    text = x.broken.text;
+    told = x.broken.told;
+    says = x.many;
+  }
+
+  pub write_broke : {S T U : Type 0} (b a : World S T U) (fault : BridgeFault) (w u : ℕ)
+      → Broken h said b.left a.left b.written a.written b.reported a.reported
+      → (fault ≡ WriteFault) ⊎ (fault ≡ ReportFault) → w ≡ b.writes_failed → u ≡ b.reports_failed
+      → HasItsCause {T = Unit {0}} (faults_of 0 w u) (faults_of 0 a.writes_failed a.reports_failed)
+      (Err fault)
+      → LogBroke h said b a fault
+  write_broke b a fault w u x (inl e) ew eu cause =
+      let here : HasItsCause {T = Unit {0}} (faults_of 0 w u)
+      (faults_of 0 a.writes_failed a.reports_failed) (Err WriteFault) = rw e at cause in
+      let rose : Rose b.writes_failed a.writes_failed = rw ew at here in
+      rw e (record {
+        taken = x.taken;
+        consumes = x.consumes;
+        text = x.text;
+        told = x.told;
+        says =
+            rose;
+      })
+  write_broke b a fault w u x (inr e) ew eu cause =
+      let here : HasItsCause {T = Unit {0}} (faults_of 0 w u)
+      (faults_of 0 a.writes_failed a.reports_failed) (Err ReportFault) = rw e at cause in
+      let rose : Rose b.reports_failed a.reports_failed = rw eu at here in
+      rw e (record {
+        taken = x.taken;
+        consumes = x.consumes;
+        text = x.text;
+        told = x.told;
+        says =
+            rose;
+      })
+
+  pub counts_end : {S T U : Type 0} (b a : World S T U) (result : Result (Unit {0}) BridgeFault)
+      (r2 : Option (List ℕ)) (u : ℕ) (state : LogState) (count : ℕ)
+      → Whole b.left a.left b.written a.written b.reported r2 state count → IsAtEnd a.left
+      → count < too_many
+      → a.reads_failed ≡ b.reads_failed → a.writes_failed ≡ b.writes_failed → u ≡ b.reports_failed
+      → OnOk result (Appends r2 a.reported (counts_report state.counts count))
+      → OnErr result (AppendsFront r2 a.reported (counts_report state.counts count))
+      → IfErr result (λ fault. fault ≡ ReportFault)
+      → HasItsCause (faults_of 0 0 u) (faults_of 0 0 a.reports_failed) result
+      → LogEnded h said b a result
+  counts_end b a (Ok done) r2 u state count whole end few reads writes reports told part kind
+      cause = record {
+        taken = whole.taken;
+        consumes = whole.consumes;
+        end = end;
+        fits = rw whole.size few;
+        text = whole.text;
+        told = counts_told b.left a.left b.written a.written b.reported r2 a.reported state count
+            whole told;
+        reads = reads;
+        writes = writes;
+        reports = ap (λ f. f.report) cause ∙ reports;
+      }
+  counts_end b a (Err fault) r2 u state count whole end few reads writes reports told part kind
+      cause =
+      let here : HasItsCause {T = Unit {0}} (faults_of 0 0 u) (faults_of 0 0 a.reports_failed)
+      (Err ReportFault) = rw kind at cause in
+      let rose : Rose b.reports_failed a.reports_failed = rw reports at here in
+      let x = counts_failed b.left a.left b.written a.written b.reported r2 a.reported state count
+      whole part in
+      rw kind (record {
+        taken = x.taken;
+        consumes = x.consumes;
+        text = x.text;
+        told = x.told;
+        says =
+            rose;
+      })

@@ -1,2 +1,0 @@
-pub mod Form3
-pub mod Texts3

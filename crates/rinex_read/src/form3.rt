@@ -1,0 +1,118 @@
+//! The form of RINEX 3: what its records stand for.
+
+ghost use Rattle.std.specs.Prelude.{◌≡◌, List, ℕ, length, pos};
+ghost use Rattle.rinex_read.specs.Form3.{is_inav, is_inav_number, is_three};
+ghost use Rattle.rinex_read.specs.Form3.{judged3, says_inav, titled};
+
+use crate::form::FileForm;
+use crate::judged::Judged;
+use crate::line::columns;
+use crate::record::RecordLines;
+use scaled_decimal::{DecimalFault, Scale, read};
+
+// `3.02`, `3.03`, `3.04` or `3.05`.
+fn is_three(text: &[u8]) -> bool
+    ensures { result ≡ is_three text.now }
+{
+    match text {
+        [a, b, c, d] => *a == b'3' && *b == b'.' && *c == b'0' && b'2' <= *d && *d <= b'5',
+        _ => false,
+    }
+}
+
+// The scale of whole numbers.
+const WHOLE: Scale = Scale {
+    pi: false,
+    factor: 1,
+    two: 0,
+    ten: 0,
+};
+
+// The data sources are those of I/NAV: bit 0 or bit 2 is set, and bit 1 is not.
+fn is_inav_number(number: u64) -> bool
+    ensures { result ≡ is_inav_number number }
+{
+    number / 2 % 2 == 0 && (number % 2 == 1 || number / 4 % 2 == 1)
+}
+
+// The same of what was read; no number says none.
+fn says_inav(sources: Result<i64, DecimalFault>) -> bool
+    ensures { result ≡ says_inav sources }
+{
+    match sources {
+        Ok(number) => is_inav_number(number.unsigned_abs()),
+        Err(_) => false,
+    }
+}
+
+// The sixth line says that the record is one of I/NAV.
+#[tactic(auto, unfolding(crate::specs::Form3::is_inav))]
+fn is_inav(lines: &[[u8; 80]]) -> bool
+    ensures { result ≡ is_inav lines.now }
+{
+    if lines.len() < 6 {
+        return false;
+    }
+    says_inav(read(columns(&lines[5], 23, 19), &WHOLE, 0, 1023))
+}
+
+// The title that a record has in RINEX 4.
+fn titled(message: &[u8; 4], line: &[u8; 80]) -> [u8; 14]
+    ensures { result ≡ titled message.now line.now }
+{
+    let sat = columns(line, 0, 3);
+    let [a, b, c, d] = *message;
+    [
+        b'>', b' ', b'E', b'P', b'H', b' ', sat[0], sat[1], sat[2], b' ', a, b, c, d,
+    ]
+}
+
+// What the lines of a record stand for.
+#[tactic(auto, unfolding(crate::specs::Form3::judged3))]
+fn judge(lines: &RecordLines) -> Judged
+    ensures { result ≡ judged3 lines.now }
+{
+    let kept = lines.lines();
+    match kept {
+        [] => Judged::PassedOver,
+        [first, ..] => {
+            if first[0] == b'G' {
+                return lines.judge_behind(&titled(b"LNAV", first));
+            }
+            if first[0] == b'E' && is_inav(kept) {
+                return lines.judge_behind(&titled(b"INAV", first));
+            }
+            Judged::PassedOver
+        }
+    }
+}
+
+/// Versions 3.02 to 3.05: a record begins at each line whose first column is not blank (RINEX 3.05,
+/// navigation message files).
+///
+/// A record of GPS is judged as the record of RINEX 4 with the title `> EPH G05 LNAV` of its
+/// satellite before it; one of Galileo with `> EPH E11 INAV`, where the data sources in its sixth
+/// line say that it is of I/NAV. Each other record is passed over.
+pub struct Rinex3;
+
+impl FileForm for Rinex3 {
+    ghost use Rattle.rinex_read.specs.Form3.{rinex3};
+
+    ghost form = { rinex3 };
+
+    fn names(text: &[u8]) -> bool {
+        is_three(text)
+    }
+
+    fn starts(first: u8) -> bool {
+        first != b' '
+    }
+
+    fn judge(lines: &RecordLines) -> Judged {
+        judge(lines)
+    }
+
+    fn looks_at_kept() {}
+
+    fn gives_items() {}
+}

@@ -1,3 +1,0 @@
-mod Generated
-mod SeedClauses
-mod CountEnds

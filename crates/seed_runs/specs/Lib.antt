@@ -1,2 +1,0 @@
-pub mod Seeds
-pub mod Counting

@@ -1,3 +1,0 @@
-pub mod Tolds
-pub mod Follows
-pub mod WholeFiles

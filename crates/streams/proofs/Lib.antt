@@ -1,0 +1,16 @@
+mod AlikeLemmas
+mod MessageKeys
+mod SentLemmas
+mod KnownLemmas
+mod StreamLemmas
+mod DecidedLemmas
+mod MoveLemmas
+mod PieceLemmas
+mod PieceEnds
+mod StreamEnds
+mod Breakings
+mod Feeding
+mod Goings
+mod Holding
+mod Numbers
+mod SoFar

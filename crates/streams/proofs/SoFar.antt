@@ -1,0 +1,166 @@
+-- What a run has taken and written so far, and how it ends.
+use Rattle.std.proofs.Common.{◌≡◌, ◌+◌, ◌<◌, ◌≤◌, ◌^◌, ℕ, Bool, true, false, not, List, [], ◌++◌, length, take, refl, sym, ap, ◌∙◌, subst, inl, arith, append-nil, length-append}
+use Rattle.std.specs.Prelude.{Option, None, Some, IfSome, IsSome, IsTrue}
+use Rattle.std.specs.List.{flat_map}
+use Rattle.std.specs.Io.KnownBytes.{Appends, Consumes, IsAtEnd, Keeps}
+use Rattle.std.proofs.KnownBytes.{Consumes-nil, Consumes-trans, Consumes-kept}
+use Rattle.nav_io.specs.Causes.{Rose}
+use Rattle.nav_io.specs.Front.{AppendsFront}
+use Rattle.rtcm_frame.specs.Frames.{frames}
+use Rattle.rtcm_frame.specs.State.{DeframerState, MayFeed}
+use Rattle.one_run.specs.declared.fault.BridgeFault.TheVariants.{ReadFault, WriteFault, TooLong}
+use Rattle.one_run.specs.declared.fault.BridgeFault.{BridgeFault}
+use Rattle.one_run.specs.Runs.{Broke, Done, Leaves, Says, World}
+use Rattle.one_run.proofs.Surface.{between, whole_front}
+use Rattle.streams.specs.declared.frame_run.FrameCounts.{FrameCounts}
+use Rattle.streams.specs.FrameLines.{frames_meaning, line_of}
+use Rattle.streams.specs.FrameRuns.{Goes, Breaks, output_of}
+use Rattle.streams.proofs.Goings.{goes_nowhere, goes_on, goes_fed}
+use Rattle.streams.proofs.Breakings.{front_after, front_of_break, front_of_last}
+
+-- The bytes taken, and what they decide, so far.
+pub record RunsSoFar (line : List ℕ → List ℕ) (left left_new written written_new : Option (List ℕ)) (state : DeframerState) (taken count : ℕ) : Type 0 where
+  pub bytes : List ℕ
+  pub consumes : Consumes left left_new bytes
+  pub goes : Goes line true bytes state.rest written written_new 0 count
+  pub may_feed : MayFeed state
+  pub size : length bytes ≡ taken
+  pub limit : taken ≤ 2 ^ 32
+  pub room : count + length state.rest ≤ taken
+
+-- nothing was taken
+pub so_far_start : (line : List ℕ → List ℕ) (left w : Option (List ℕ)) (state : DeframerState) → state.rest ≡ [] → state.finished ≡ false → RunsSoFar line left left w w state 0 0
+so_far_start line left w state none open_end = record {
+  bytes = [];
+  consumes = Consumes-nil left;
+  goes = subst (λ (l : List ℕ). Goes line true [] l w w 0 0) (sym none) (goes_nowhere line true [] w 0);
+  may_feed = (open_end, inl none);
+  size = refl;
+  limit = omega arith;
+  room = omega (arith, ap length none);
+}
+
+-- a piece was taken
+pub so_far_piece : (line : List ℕ → List ℕ) (left l1 l2 w w1 w2 : Option (List ℕ)) (old new : DeframerState) (taken count counted : ℕ) (piece : List ℕ) (n : ℕ)
+    → RunsSoFar line left l1 w w1 old taken count → Consumes l1 l2 piece → length piece ≡ n → taken + n ≤ 2 ^ 32
+    → Goes line true (old.rest ++ piece) new.rest w1 w2 count counted → MayFeed new → counted + length new.rest ≤ count + length old.rest + length piece
+    → RunsSoFar line left l2 w w2 new (taken + n) counted
+so_far_piece line left l1 l2 w w1 w2 old new taken count counted piece n far read size limit goes may_feed room = record {
+  bytes = far.bytes ++ piece;
+  consumes = Consumes-trans left l1 l2 far.bytes piece far.consumes read;
+  goes = goes_on line true _ (old.rest ++ piece) new.rest w w1 w2 0 count counted (goes_fed line far.bytes old.rest piece w w1 0 count far.goes) goes;
+  may_feed = may_feed;
+  size = omega (arith, length-append far.bytes piece, far.size, size);
+  limit = limit;
+  room = omega (arith, far.room, room, size);
+}
+
+-- what was given between two rests, after the last byte
+pub goes_last : (line : List ℕ → List ℕ) (a b : List ℕ) (v w : Option (List ℕ)) (k n : ℕ) → Goes line true a b v w k n → Goes line false a b v w k n
+goes_last line a b v w k n goes = record {
+  given = goes.given;
+  stream = λ following last. goes.stream following (λ never. cc);
+  text = goes.text;
+  counts = goes.counts;
+}
+
+-- what was given by the last byte is all
+all_given : (line : List ℕ → List ℕ) (bytes after : List ℕ) (v w : Option (List ℕ)) (n : ℕ) → after ≡ [] → (goes : Goes line false bytes after v w 0 n) → frames bytes ≡ goes.given
+all_given line bytes after v w n none goes =
+    ap frames (sym (append-nil bytes)) ∙ goes.stream [] (λ last. refl) ∙ ap (λ (l : List ℕ). goes.given ++ frames (l ++ [])) none ∙ append-nil goes.given
+
+-- a read that gave no byte
+takes_none : (left l1 l2 : Option (List ℕ)) (bytes : List ℕ) (n : ℕ) (buffer : List ℕ) → Consumes left l1 bytes → n ≡ 0 → Consumes l1 l2 (take n buffer) → Consumes left l2 bytes
+takes_none left l1 l2 bytes n buffer before zero read =
+    let none : Consumes l1 l2 [] = subst (λ (k : ℕ). Consumes l1 l2 (take k buffer)) zero read in
+    subst (Consumes left l2) (append-nil bytes) (Consumes-trans left l1 l2 bytes [] before none)
+
+-- ---- how the run ends
+
+-- nothing is reported
+pub record IsSilent {S T U : Type 0} (b a : World S T U) : Type 0 where
+  pub report : a.report ≡ b.report
+  pub told : Appends b.reported a.reported []
+  pub failed : a.reports_failed ≡ b.reports_failed
+
+-- every stream is accepted
+accepts : (left : Option (List ℕ)) → IfSome left (λ bytes. IsSome (frames_meaning.counts bytes))
+accepts None = tt
+accepts (Some bytes) = refl
+
+leaves : {S T U : Type 0} (b a : World S T U) → IsSilent b a → Leaves frames_meaning b a
+leaves b a silent = record { unread = λ never. cc; silent = λ same. silent.report }
+
+-- the run broke off
+broke : {S T U : Type 0} (b a : World S T U) (fault : BridgeFault) (taken : List ℕ) → IsSilent b a → Consumes b.left a.left taken
+    → AppendsFront b.written a.written (output_of line_of taken) → Says frames_meaning taken b a fault → Broke frames_meaning b a fault
+broke b a fault taken silent consumes text says = record {
+  taken = taken;
+  consumes = consumes;
+  text = between b.written a.written (output_of line_of taken) text;
+  told = whole_front b.reported a.reported [] silent.told;
+  leaves = leaves b a silent;
+  says = says;
+}
+
+-- the counts of so many frames
+abbrev counts_of : ℕ → FrameCounts
+counts_of n = record { frames = n }
+
+-- the run is done
+pub done_frames : {S T U : Type 0} (b a : World S T U) (l1 w1 : Option (List ℕ)) (old last : DeframerState) (after : List ℕ) (taken count counted : ℕ) (n : ℕ) (buffer : List ℕ)
+    → IsSilent b a → RunsSoFar line_of b.left l1 b.written w1 old taken count → taken < 2 ^ 32 → n ≡ 0 → Consumes l1 a.left (take n buffer) → IsAtEnd a.left
+    → last.rest ≡ old.rest → last.finished ≡ true → (last.finished ≡ true → after ≡ [])
+    → Goes line_of (not last.finished) last.rest after w1 a.written count counted
+    → a.reads_failed ≡ b.reads_failed → a.writes_failed ≡ b.writes_failed
+    → Done frames_meaning b a (record { frames = counted })
+done_frames b a l1 w1 old last after taken count counted n buffer silent far fits zero read end same finished none goes reads writes =
+    let ends = subst (λ (x : Bool). Goes line_of (not x) last.rest after w1 a.written count counted) finished goes in
+    let from = subst (λ (l : List ℕ). Goes line_of false l after w1 a.written count counted) same ends in
+    let whole = goes_on line_of false far.bytes old.rest after b.written w1 a.written 0 count counted (goes_last line_of far.bytes old.rest b.written w1 0 count far.goes) from in
+    let all = all_given line_of far.bytes after b.written a.written counted (none finished) whole in
+    record {
+      taken = far.bytes;
+      consumes = takes_none b.left l1 a.left far.bytes n buffer far.consumes zero read;
+      end = end;
+      fits = omega (arith, far.size, fits);
+      counted = ap (λ (n : ℕ). Some (counts_of n)) (let same : length (frames far.bytes) ≡ counted = omega (arith, whole.counts, ap length all) in same);
+      text = subst (λ (l : List (List ℕ)). Appends b.written a.written (flat_map line_of l)) (sym all) whole.text;
+      told = silent.told;
+      leaves = leaves b a silent;
+      reads = reads;
+      writes = writes;
+      reports = silent.failed;
+    }
+
+-- a read failed
+pub broke_read : {S T U : Type 0} (b a : World S T U) (l1 : Option (List ℕ)) (state : DeframerState) (taken count : ℕ)
+    → IsSilent b a → RunsSoFar line_of b.left l1 b.written a.written state taken count → Keeps l1 a.left
+    → Rose b.reads_failed a.reads_failed → (IsTrue b.never_fails → ⊥) → Broke frames_meaning b a ReadFault
+broke_read b a l1 state taken count silent far kept rose never =
+    broke b a ReadFault far.bytes silent (Consumes-kept b.left l1 a.left far.bytes far.consumes kept) (front_after line_of far.bytes state.rest b.written a.written 0 count far.goes)
+    (refl, rose, never, tt)
+
+-- a write failed in a piece
+pub broke_piece : {S T U : Type 0} (b a : World S T U) (l1 w1 : Option (List ℕ)) (old : DeframerState) (taken count : ℕ) (piece : List ℕ)
+    → IsSilent b a → RunsSoFar line_of b.left l1 b.written w1 old taken count → Consumes l1 a.left piece → Breaks line_of true (old.rest ++ piece) w1 a.written
+    → Rose b.writes_failed a.writes_failed → Broke frames_meaning b a WriteFault
+broke_piece b a l1 w1 old taken count piece silent far read breaks rose =
+    broke b a WriteFault (far.bytes ++ piece) silent (Consumes-trans b.left l1 a.left far.bytes piece far.consumes read)
+    (front_of_break line_of far.bytes old.rest piece b.written w1 a.written 0 count far.goes breaks) (rose, accepts b.left)
+
+-- a write failed after the last byte
+pub broke_last : {S T U : Type 0} (b a : World S T U) (l1 w1 : Option (List ℕ)) (old last : DeframerState) (taken count : ℕ) (n : ℕ) (buffer : List ℕ)
+    → IsSilent b a → RunsSoFar line_of b.left l1 b.written w1 old taken count → n ≡ 0 → Consumes l1 a.left (take n buffer) → last.rest ≡ old.rest → last.finished ≡ true
+    → Breaks line_of (not last.finished) last.rest w1 a.written → Rose b.writes_failed a.writes_failed → Broke frames_meaning b a WriteFault
+broke_last b a l1 w1 old last taken count n buffer silent far zero read same finished breaks rose =
+    let ends = subst (λ (x : Bool). Breaks line_of (not x) last.rest w1 a.written) finished breaks in
+    let from = subst (λ (l : List ℕ). Breaks line_of false l w1 a.written) same ends in
+    broke b a WriteFault far.bytes silent (takes_none b.left l1 a.left far.bytes n buffer far.consumes zero read)
+    (front_of_last line_of far.bytes old.rest b.written w1 a.written 0 count far.goes from) (rose, accepts b.left)
+
+-- too many bytes were there
+pub broke_long : {S T U : Type 0} (b a : World S T U) (state : DeframerState) (taken count : ℕ)
+    → IsSilent b a → RunsSoFar line_of b.left a.left b.written a.written state taken count → 2 ^ 32 ≤ taken → Broke frames_meaning b a TooLong
+broke_long b a state taken count silent far long =
+    broke b a TooLong far.bytes silent far.consumes (front_after line_of far.bytes state.rest b.written a.written 0 count far.goes) (omega (arith, far.size, far.limit, long))

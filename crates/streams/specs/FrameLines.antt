@@ -1,0 +1,28 @@
+-- The line of a frame, and what a run makes of a stream of frames.
+use Rattle.std.specs.Prelude.{ℕ, ◌+◌, ◌*◌, ◌/◌, true, false, List, [], ◌∷◌, ◌++◌, length, Option, None, Some, codes, decimal}
+use Rattle.rtcm_frame.specs.Frames.{frames}
+use Rattle.rtcm_frame.specs.State.{payload_of}
+use Rattle.one_run.specs.Runs.{Meaning, no_least}
+use Rattle.streams.specs.declared.frame_run.FrameCounts.{FrameCounts}
+use Rattle.streams.specs.FrameRuns.{output_of}
+
+-- the number that the payload's first twelve bits give; a dash where there are fewer than two bytes
+unfoldable pub number_text : List ℕ → List ℕ
+number_text (first ∷ second ∷ more) = decimal (first * 16 + second / 16)
+number_text few = codes "-"
+
+-- the number, a space, the length of the payload in bytes, and LF
+unfoldable pub line_of : List ℕ → List ℕ
+line_of frame = number_text (payload_of frame) ++ codes " " ++ decimal (length (payload_of frame)) ++ codes "\n"
+
+-- a run writes a line for each frame, counts them, and reports nothing
+abbrev pub frames_meaning : Meaning FrameCounts
+frames_meaning = record {
+  reads = true;
+  reports = false;
+  memory = false;
+  counts = λ bytes. Some (record { frames = length (frames bytes) });
+  whole = record { output = output_of line_of; report = λ bytes. [] };
+  least = no_least;
+  settled = None;
+}

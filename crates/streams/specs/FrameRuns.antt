@@ -1,0 +1,40 @@
+-- What a run over a stream of frames takes and writes. A run writes something for each frame: `line` says what.
+use Rattle.std.specs.Prelude.{◌≡◌, ◌+◌, ℕ, Bool, false, List, [], ◌++◌, length, Option}
+use Rattle.std.specs.List.{flat_map}
+use Rattle.std.specs.Io.KnownBytes.{Appends}
+use Rattle.nav_io.specs.Front.{AppendsFront}
+use Rattle.rtcm_frame.specs.Frames.{frames}
+
+-- the lines of these frames
+abbrev pub text_of : (List ℕ → List ℕ) → List (List ℕ) → List ℕ
+text_of line all = flat_map line all
+
+-- a line for each frame of the bytes
+abbrev pub output_of : (List ℕ → List ℕ) → List ℕ → List ℕ
+output_of line bytes = text_of line (frames bytes)
+
+-- Between two rests: frames were given, and their lines written, which stand before those of the new rest, whatever bytes follow.
+pub record Goes (line : List ℕ → List ℕ) (more : Bool) (before after : List ℕ) (old new : Option (List ℕ)) (count counted : ℕ) : Type 0 where
+  pub given : List (List ℕ)
+  pub stream : (following : List ℕ) → (more ≡ false → following ≡ []) → frames (before ++ following) ≡ given ++ frames (after ++ following)
+  pub text : Appends old new (text_of line given)
+  pub counts : counted ≡ count + length given
+
+-- A write failed: whatever bytes follow, a front of the lines was written.
+pub record Breaks (line : List ℕ → List ℕ) (more : Bool) (before : List ℕ) (old new : Option (List ℕ)) : Type 0 where
+  pub text : (following : List ℕ) → (more ≡ false → following ≡ []) → AppendsFront old new (output_of line (before ++ following))
+
+-- Some bytes were kept and a line was gathered behind them: what was not written of these is kept.
+pub record Gathers (old new : Option (List ℕ)) (held kept line : List ℕ) : Type 0 where
+  pub out : List ℕ
+  pub text : Appends old new out
+  pub same : held ++ line ≡ out ++ kept
+
+-- The same as Goes, where the last bytes of the lines are held and not written yet.
+pub record Holds (line : List ℕ → List ℕ) (more : Bool) (before after : List ℕ) (old new : Option (List ℕ)) (held : List ℕ) (count counted : ℕ) : Type 0 where
+  pub given : List (List ℕ)
+  pub stream : (following : List ℕ) → (more ≡ false → following ≡ []) → frames (before ++ following) ≡ given ++ frames (after ++ following)
+  pub out : List ℕ
+  pub text : Appends old new out
+  pub same : text_of line given ≡ out ++ held
+  pub counts : counted ≡ count + length given

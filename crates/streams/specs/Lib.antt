@@ -1,0 +1,5 @@
+pub mod Targets
+pub mod Streams
+pub mod Mirrors
+pub mod FrameLines
+pub mod FrameRuns

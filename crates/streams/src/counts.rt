@@ -1,0 +1,46 @@
+//! What a run over a stream counts.
+
+ghost use Rattle.std.specs.Prelude.{◌≡◌, []};
+ghost use Rattle.streams.specs.Streams.{counts_of_readings, stream_counts_text};
+
+use one_run::{Text, append_count};
+
+/// What a run over a stream counts.
+#[derive(Clone, Copy, PartialEq, Eq)]
+pub struct StreamCounts {
+    /// The frames.
+    pub frames: u64,
+    /// The frames of message 1019 or 1046 that were refused.
+    pub refused: u64,
+    /// The frames of other messages, and those without a message number.
+    pub unused: u64,
+    /// The items, each at its first place only.
+    pub items: u64,
+}
+
+impl StreamCounts {
+    // Nothing was counted.
+    pub(crate) fn new() -> StreamCounts
+        ensures { result ≡ counts_of_readings [] }
+    {
+        StreamCounts {
+            frames: 0,
+            refused: 0,
+            unused: 0,
+            items: 0,
+        }
+    }
+}
+
+/// The text of the counts of a stream: a line for each, its name, a space and the number, in the order of the fields.
+#[tactic(auto, unfolding(crate::specs::Streams::stream_counts_text))]
+pub(crate) fn stream_counts_text(counts: &StreamCounts) -> Text
+    ensures { result.items ≡ stream_counts_text counts.now }
+{
+    let mut text = Text::new();
+    append_count(&mut text, b"frames", counts.frames);
+    append_count(&mut text, b"refused", counts.refused);
+    append_count(&mut text, b"unused", counts.unused);
+    append_count(&mut text, b"items", counts.items);
+    text
+}

@@ -1,0 +1,295 @@
+//! The frames of a stream, one after another.
+
+ghost use Rattle.std.specs.Prelude.{◌≡◌, ◌⊎◌, ◌+◌, ◌^◌, ◌<◌, ◌≤◌, ◌∷◌, ◌++◌, ◌||◌, [], ℕ, List, Option, true, not, codes, Err, length, take, IsErrOf, IfOk, IfErr, IfSome, OnOk, OnErr, IsTrue};
+ghost use Rattle.std.specs.Io.KnownBytes.{Appends};
+ghost use Rattle.nav_eph.specs.declared.items.NavItem.{NavItem};
+ghost use Rattle.nav_io.specs.Front.{AppendsFront};
+ghost use Rattle.rtcm_frame.specs.State.{MayFeed, IsWaiting, payload_of};
+ghost use Rattle.outlets.specs.Targets.{front_text, item_text};
+ghost use Rattle.rtcm_eph.specs.declared.fault.MessageFault.{MessageFault};
+ghost use Rattle.one_run.specs.Causes.{HasItsCause, faults_of};
+ghost use Rattle.one_run.specs.Reports.{report_line};
+ghost use Rattle.streams.specs.Streams.{reading_report};
+ghost use Rattle.streams.specs.Mirrors.{AreFew, HasRoom, IsReadOf, IsStreamFault, KeptPlaces, StreamBreaks, StreamGoes, StreamMoves, StreamStops, is_given, once_text, sent_alike, with_fault, with_item, with_refusal, with_unused};
+
+use crate::counts::StreamCounts;
+use crate::given::Given;
+use gnss_week::RefWeek;
+use nav_eph::{NavItem, equality_is_decided};
+use nav_io::{Failed, Sink};
+use one_run::{BridgeFault, report_text};
+use outlets::Target;
+use rtcm_eph::{
+    MessageFault, item_function, message_bytes, read_item, sent_1019_is_read, sent_1046_is_read,
+};
+use rtcm_frame::{Deframer, Frame};
+
+// Reports a frame with this number that is refused, and counts it.
+fn refuse<U: Sink>(
+    number: u64,
+    reason: &[u8],
+    report: &mut U,
+    counts: &mut StreamCounts,
+) -> Result<(), BridgeFault>
+    requires room { HasRoom counts.old }
+    requires reason { length reason.now ≤ 32 }
+    ensures report { OnOk result (Appends (U.written report.old) (U.written report.new)
+        (report_line (codes "frame") number reason.now)) }
+    ensures counts { OnOk result (counts.new ≡ with_refusal counts.old) }
+    ensures part { OnErr result (AppendsFront (U.written report.old) (U.written report.new)
+        (report_line (codes "frame") number reason.now)) }
+    ensures cause { HasItsCause (faults_of 0 0 (U.faults report.old))
+        (faults_of 0 0 (U.faults report.new)) result }
+    ensures kind { IfErr result (λ fault. fault ≡ BridgeFault.ReportFault) }
+{
+    match report.write(report_text(b"frame", number, reason).as_slice()) {
+        Ok(()) => {
+            counts.refused += 1;
+            counts.frames += 1;
+            Ok(())
+        }
+        Err(Failed) => Err(BridgeFault::ReportFault),
+    }
+}
+
+// Counts a frame that is not used.
+fn pass(counts: &mut StreamCounts)
+    requires room { HasRoom counts.old }
+    ensures counts { counts.new ≡ with_unused counts.old }
+{
+    counts.unused += 1;
+    counts.frames += 1;
+}
+
+// Reports a frame with this number that is refused, or is not used, and counts it.
+fn tell_fault<U: Sink>(
+    fault: MessageFault,
+    number: u64,
+    report: &mut U,
+    counts: &mut StreamCounts,
+) -> Result<(), BridgeFault>
+    requires room { HasRoom counts.old }
+    ensures report { OnOk result (Appends (U.written report.old) (U.written report.new)
+        (reading_report number (Err fault))) }
+    ensures counts { OnOk result (counts.new ≡ with_fault counts.old fault) }
+    ensures part { OnErr result (AppendsFront (U.written report.old) (U.written report.new)
+        (reading_report number (Err fault))) }
+    ensures cause { HasItsCause (faults_of 0 0 (U.faults report.old))
+        (faults_of 0 0 (U.faults report.new)) result }
+    ensures kind { IfErr result (λ fault. fault ≡ BridgeFault.ReportFault) }
+{
+    match fault {
+        MessageFault::NoNumber => {
+            pass(counts);
+            Ok(())
+        }
+        MessageFault::OtherMessage { .. } => {
+            pass(counts);
+            Ok(())
+        }
+        MessageFault::Short => refuse(number, b"short", report, counts),
+        MessageFault::BadSat => refuse(number, b"satellite", report, counts),
+        MessageFault::BadTime => refuse(number, b"time", report, counts),
+        MessageFault::SpareSisa => refuse(number, b"sisa", report, counts),
+    }
+}
+
+// Writes an item that was read of a payload, where it was not given before, and counts it.
+fn give_item<T: Sink>(
+    to: &Target,
+    item: &NavItem,
+    payload: &[u8],
+    given: &mut Given,
+    output: &mut T,
+    counts: &mut StreamCounts,
+) -> Result<(), BridgeFault>
+    requires read { IsReadOf payload.now item.now }
+    requires room { HasRoom counts.old }
+    ensures output { OnOk result (Appends (T.written output.old) (T.written output.new)
+        (once_text (item_text to.now 0) (is_given given.old item.now) item.now)) }
+    ensures counts { OnOk result
+        (counts.new ≡ with_item counts.old (is_given given.old item.now)) }
+    ensures given { OnOk result ((other : NavItem) → is_given given.new other
+        ≡ (sent_alike item.now other || is_given given.old other)) }
+    ensures kept { OnOk result (KeptPlaces given.old given.new payload.now) }
+    ensures part { OnErr result (AppendsFront (T.written output.old) (T.written output.new)
+        (once_text (item_text to.now 0) (is_given given.old item.now) item.now)) }
+    ensures cause { HasItsCause (faults_of 0 (T.faults output.old) 0)
+        (faults_of 0 (T.faults output.new) 0) result }
+    ensures kinds { IfErr result (λ fault. (fault ≡ BridgeFault.WriteFault)
+        ⊎ (fault ≡ BridgeFault.NoMemory)) }
+{
+    match given.add(item, payload) {
+        Err(_) => Err(BridgeFault::NoMemory),
+        Ok(false) => {
+            counts.frames += 1;
+            Ok(())
+        }
+        Ok(true) => match to.put(0, item, output) {
+            Ok(()) => {
+                counts.items += 1;
+                counts.frames += 1;
+                Ok(())
+            }
+            Err(Failed) => Err(BridgeFault::WriteFault),
+        },
+    }
+}
+
+// Takes a frame.
+fn take_frame<T: Sink, U: Sink>(
+    to: &Target,
+    r: RefWeek,
+    frame: &Frame,
+    given: &mut Given,
+    output: &mut T,
+    report: &mut U,
+    counts: &mut StreamCounts,
+) -> Result<(), BridgeFault>
+    requires room { HasRoom counts.old }
+    ensures goes { OnOk result (StreamGoes r (front_text to.now) (item_text to.now 0)
+        (frame.now ∷ []) (T.written output.old) (T.written output.new)
+        (U.written report.old) (U.written report.new) given.old given.new counts.old counts.new) }
+    ensures breaks { OnErr result (StreamBreaks r (front_text to.now) (item_text to.now 0)
+        (frame.now ∷ []) (T.written output.old) (T.written output.new)
+        (U.written report.old) (U.written report.new) given.old counts.old) }
+    ensures cause { HasItsCause (faults_of 0 (T.faults output.old) (U.faults report.old))
+        (faults_of 0 (T.faults output.new) (U.faults report.new)) result }
+    ensures kinds { IfErr result IsStreamFault }
+    ensures some { OnOk result (AreFew counts.new) }
+    ensures frames { OnOk result (counts.new.frames ≡ counts.old.frames + 1) }
+{
+    let _reference = r.value();
+    equality_is_decided();
+    item_function();
+    message_bytes();
+    sent_1019_is_read();
+    sent_1046_is_read();
+    let payload = frame.payload();
+    if given.knows(payload) {
+        counts.frames += 1;
+        return Ok(());
+    }
+    match read_item(payload, r) {
+        Ok(item) => give_item(to, &item, payload, given, output, counts),
+        Err(fault) => tell_fault(fault, counts.frames + 1, report, counts),
+    }
+}
+
+// Takes the frames that are decided: an item is written as soon as its frame is there.
+pub(crate) fn take_frames<T: Sink, U: Sink>(
+    to: &Target,
+    r: RefWeek,
+    deframer: &mut Deframer,
+    given: &mut Given,
+    output: &mut T,
+    report: &mut U,
+    counts: &mut StreamCounts,
+) -> Result<(), BridgeFault>
+    requires some { AreFew counts.old }
+    requires room { counts.old.frames + length deframer.old.rest < 2 ^ 64 }
+    ensures goes { OnOk result (StreamMoves r (front_text to.now) (item_text to.now 0)
+        (not deframer.old.finished) deframer.old.rest deframer.new.rest
+        (T.written output.old) (T.written output.new)
+        (U.written report.old) (U.written report.new) given.old given.new counts.old counts.new) }
+    ensures breaks { OnErr result (StreamStops r (front_text to.now) (item_text to.now 0)
+        (not deframer.old.finished) deframer.old.rest
+        (T.written output.old) (T.written output.new)
+        (U.written report.old) (U.written report.new) given.old counts.old) }
+    ensures waiting { OnOk result (IsWaiting deframer.new.rest) }
+    ensures last { OnOk result (deframer.old.finished ≡ true → deframer.new.rest ≡ []) }
+    ensures finished { deframer.new.finished ≡ deframer.old.finished }
+    ensures cause { HasItsCause (faults_of 0 (T.faults output.old) (U.faults report.old))
+        (faults_of 0 (T.faults output.new) (U.faults report.new)) result }
+    ensures kinds { IfErr result IsStreamFault }
+    ensures some { OnOk result (AreFew counts.new) }
+    ensures room { OnOk result (counts.new.frames + length deframer.new.rest
+        ≤ counts.old.frames + length deframer.old.rest) }
+{
+    while let Some(frame) = deframer.next_frame() {
+        take_frame(to, r, &frame, given, output, report, counts)?;
+    }
+    Ok(())
+}
+
+// Feeds what there is room for, and takes the frames that it decides; how many bytes were fed.
+fn take_some<T: Sink, U: Sink>(
+    to: &Target,
+    r: RefWeek,
+    deframer: &mut Deframer,
+    piece: &[u8],
+    given: &mut Given,
+    output: &mut T,
+    report: &mut U,
+    counts: &mut StreamCounts,
+) -> Result<usize, BridgeFault>
+    requires may_feed { MayFeed deframer.old }
+    requires bytes { 0 < length piece.now }
+    requires some { AreFew counts.old }
+    requires room { counts.old.frames + length deframer.old.rest + length piece.now < 2 ^ 64 }
+    ensures bytes { IfOk result (λ count. 0 < count) }
+    ensures within { IfOk result (λ count. count ≤ length piece.now) }
+    ensures goes { IfOk result (λ count. StreamMoves r (front_text to.now) (item_text to.now 0)
+        true (deframer.old.rest ++ take count piece.now) deframer.new.rest
+        (T.written output.old) (T.written output.new)
+        (U.written report.old) (U.written report.new) given.old given.new counts.old counts.new) }
+    ensures breaks { OnErr result (StreamStops r (front_text to.now) (item_text to.now 0)
+        true (deframer.old.rest ++ piece.now) (T.written output.old) (T.written output.new)
+        (U.written report.old) (U.written report.new) given.old counts.old) }
+    ensures may_feed { OnOk result (MayFeed deframer.new) }
+    ensures cause { HasItsCause (faults_of 0 (T.faults output.old) (U.faults report.old))
+        (faults_of 0 (T.faults output.new) (U.faults report.new)) result }
+    ensures kinds { IfErr result IsStreamFault }
+    ensures some { OnOk result (AreFew counts.new) }
+    ensures room { IfOk result (λ count. counts.new.frames + length deframer.new.rest
+        ≤ counts.old.frames + length deframer.old.rest + count) }
+{
+    let count = deframer.feed_some(piece);
+    take_frames(to, r, deframer, given, output, report, counts)?;
+    Ok(count)
+}
+
+// Feeds a piece, and takes the frames that it decides.
+pub(crate) fn take_piece<T: Sink, U: Sink>(
+    to: &Target,
+    r: RefWeek,
+    deframer: &mut Deframer,
+    piece: &[u8],
+    given: &mut Given,
+    output: &mut T,
+    report: &mut U,
+    counts: &mut StreamCounts,
+) -> Result<(), BridgeFault>
+    requires may_feed { MayFeed deframer.old }
+    requires some { AreFew counts.old }
+    requires room { counts.old.frames + length deframer.old.rest + length piece.now < 2 ^ 64 }
+    ensures goes { OnOk result (StreamMoves r (front_text to.now) (item_text to.now 0)
+        true (deframer.old.rest ++ piece.now) deframer.new.rest
+        (T.written output.old) (T.written output.new)
+        (U.written report.old) (U.written report.new) given.old given.new counts.old counts.new) }
+    ensures breaks { OnErr result (StreamStops r (front_text to.now) (item_text to.now 0)
+        true (deframer.old.rest ++ piece.now) (T.written output.old) (T.written output.new)
+        (U.written report.old) (U.written report.new) given.old counts.old) }
+    ensures may_feed { OnOk result (MayFeed deframer.new) }
+    ensures cause { HasItsCause (faults_of 0 (T.faults output.old) (U.faults report.old))
+        (faults_of 0 (T.faults output.new) (U.faults report.new)) result }
+    ensures kinds { IfErr result IsStreamFault }
+    ensures some { OnOk result (AreFew counts.new) }
+    ensures room { OnOk result (counts.new.frames + length deframer.new.rest
+        ≤ counts.old.frames + length deframer.old.rest + length piece.now) }
+{
+    let mut fed = 0;
+    while fed < piece.len() {
+        fed += take_some(
+            to,
+            r,
+            deframer,
+            &piece[fed..],
+            given,
+            output,
+            report,
+            counts,
+        )?;
+    }
+    Ok(())
+}

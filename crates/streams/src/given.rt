@@ -1,0 +1,102 @@
+//! What was given of a stream, so that each item is given at its first place only.
+
+ghost use Rattle.std.specs.Prelude.{◌≡◌, ◌||◌, not, false, ℕ, List, None, OnOk, OnErr, IfOk, IsTrue, replicate};
+ghost use Rattle.nav_eph.specs.declared.items.NavItem.{NavItem};
+ghost use Rattle.rtcm_eph.specs.Writing.{bytes_1019, bytes_1046};
+ghost use Rattle.streams.specs.Mirrors.{IsReadOf, KeptMore, KeptPlaces, NothingKept, StandsIn, has_key, is_given, sent_alike};
+
+use crate::messages::Messages;
+use crate::seen::{Seen, place_of};
+use crate::sent::{sent_1019, sent_1046};
+use nav_eph::NavItem;
+use std::alloc::{AllocError, Global};
+use std::marker::Model;
+
+// The messages of the ephemerides that were given, each once. Two ephemerides of a stream are equal where the same message
+// is sent for them. Beside them stand payloads as they came, so that most repeats need not be read.
+#[derive(Drop)]
+pub(crate) struct Given {
+    gps: Messages<61>,
+    gal: Messages<63>,
+    gps_seen: Seen<61>,
+    gal_seen: Seen<63>,
+}
+
+impl Model for Given {
+    ghost use Rattle.streams.specs.Mirrors.{GivenState};
+
+    ghost Value = { GivenState };
+
+    ghost view = { λ g. record {
+      gps = g.gps;
+      gal = g.gal;
+      gps_seen = g.gps_seen.places;
+      gal_seen = g.gal_seen.places;
+    } };
+}
+
+impl Given {
+    // Nothing was given.
+    pub(crate) fn new(alloc: Global) -> Given
+        ensures none { (other : NavItem) → is_given result other ≡ false }
+        ensures kept { NothingKept result }
+    {
+        Given {
+            gps: Messages::new(alloc),
+            gal: Messages::new(alloc),
+            gps_seen: Seen::new(),
+            gal_seen: Seen::new(),
+        }
+    }
+
+    // Whether this payload is kept: then its item was given.
+    pub(crate) fn knows(&self, payload: &[u8]) -> bool
+        ensures { IsTrue result → StandsIn self.now payload.now }
+    {
+        if payload.len() == 61 {
+            return self.gps_seen.holds(payload, place_of(payload, 6));
+        }
+        payload.len() == 63 && self.gal_seen.holds(payload, place_of(payload, 4))
+    }
+
+    // Keeps a payload whose item was given, where it is no longer than its message.
+    fn keep(&mut self, payload: &[u8])
+        ensures { KeptMore self.old self.new payload.now }
+    {
+        if payload.len() == 61 {
+            self.gps_seen.keep(payload, place_of(payload, 6));
+        } else if payload.len() == 63 {
+            self.gal_seen.keep(payload, place_of(payload, 4));
+        }
+    }
+
+    // Adds the item that was read of a payload, by the message that is sent for it; whether that
+    // was not there.
+    fn add_item(&mut self, item: &NavItem, payload: &[u8]) -> Result<bool, AllocError>
+        requires read { IsReadOf payload.now item.now }
+        ensures added { IfOk result (λ added. added ≡ not (is_given self.old item.now)) }
+        ensures adds { OnOk result ((other : NavItem)
+            → is_given self.new other ≡ (sent_alike item.now other || is_given self.old other)) }
+        ensures same { OnOk result ((self.new.gps_seen ≡ self.old.gps_seen)
+            × (self.new.gal_seen ≡ self.old.gal_seen)) }
+    {
+        match item {
+            NavItem::Gps(e) => self.gps.add(&sent_1019(e, payload)),
+            NavItem::Gal(e) => self.gal.add(&sent_1046(e, payload)),
+            NavItem::Ion(_) => Ok(true),
+        }
+    }
+
+    // Adds the item that was read of a payload, and keeps the payload; whether the item was not there.
+    pub(crate) fn add(&mut self, item: &NavItem, payload: &[u8]) -> Result<bool, AllocError>
+        requires read { IsReadOf payload.now item.now }
+        ensures added { IfOk result (λ added. added ≡ not (is_given self.old item.now)) }
+        ensures adds { OnOk result ((other : NavItem)
+            → is_given self.new other ≡ (sent_alike item.now other || is_given self.old other)) }
+        ensures kept { OnOk result (KeptPlaces self.old self.new payload.now) }
+    {
+        let added = self.add_item(item, payload)?;
+        self.keep(payload);
+        Ok(added)
+    }
+}

@@ -1,0 +1,36 @@
+//! The runs over a stream of RTCM frames (10403.3): its frames as lines, and its ephemerides converted.
+//!
+//! - [`run_frames`], a line for each frame;
+//! - [`run_stream`], over the messages 1019 and 1046: each ephemeris once, at its first place.
+//!
+//! What a run writes and reports is a function of the bytes that it took: `specs/FrameLines.antt` and
+//! `specs/Streams.antt` say it. A fault leaves a prefix of it.
+//!
+//! ```rust
+//! use nav_io::{MemSink, MemSource};
+//! use streams::run_frames;
+//!
+//! let mut input = MemSource::new(Vec::new(rt.alloc()), Vec::new(rt.alloc()), Vec::new(rt.alloc()));
+//! let mut output = MemSink::new(rt.alloc(), 64, Vec::new(rt.alloc()))?;
+//! let counts = run_frames(&mut input, &mut output);
+//! assert!(rt; counts.is_ok());
+//! ```
+#![tactic(auto)]
+
+mod counts;
+mod frame_run;
+mod frames;
+mod given;
+mod line;
+mod messages;
+mod pieces;
+mod seen;
+mod sent;
+mod stream;
+mod streams;
+mod target;
+
+pub use crate::counts::StreamCounts;
+pub use crate::frame_run::{FrameCounts, run_frames};
+pub use crate::streams::run_stream;
+pub use crate::target::StreamTo;

@@ -1,0 +1,214 @@
+#!/usr/bin/env bash
+# Looks whether what the documents name is there: crates, files, definitions, functions, clauses, laws, headings of links.
+#
+#   examples/names.sh             each name that is not there, with its place; status 1 where there is one
+#   examples/names.sh --of NAME   the places of the documents that name NAME
+#
+# In docs/PROMISES.md a heading names crates, and the last column of its rows functions of these and, behind a colon, clauses of
+# each of the functions before it. In docs/DEFINITIONS.md a row names a crate and files of its specs/. In all documents what
+# stands between backticks is looked for if it is a path of the repository, or a name with _ or :: or a capital letter in it:
+# among the names of the sources and definitions, without their comments. A clause that is shown, and a version in the sources,
+# are looked at too: the one stands so in a contract, the other is that of CHANGELOG.md.
+#
+# Status: 0 all is there; 1 something is not; 2 the words are wrong, or there are no sources.
+set -euo pipefail
+cd "$(dirname "$(readlink -f "$0")")/.."
+case ${1:-} in
+  -h | --help)
+    sed -n '2,/^set /{/^set /d;s/^# \{0,1\}//;p}' "$0"
+    exit 0
+    ;;
+  '') name='' ;;
+  --of)
+    [ $# = 2 ] || { echo "names: --of wants a name; --help" >&2; exit 2; }
+    name=$2
+    ;;
+  *)
+    echo "names: $1 is no option; --help" >&2
+    exit 2
+    ;;
+esac
+[ -e crates.txt ] || { echo "names: no crates.txt: only a repository has sources to look in" >&2; exit 2; }
+exec python3 - "$name" << 'PYTHON'
+import glob
+import os
+import re
+import sys
+
+WANTED = sys.argv[1]
+PAGES = sorted(
+    [it for it in glob.glob("*.md")] + glob.glob("docs/*.md") + glob.glob("examples/*.md") + glob.glob("bench/*.md")
+)
+# words of other programs, of systemd, of formats; a line each: what they are of
+OTHERS = set(
+    """DynamicUser ProtectHome ProtectSystem NoNewPrivileges NoNewPrivs NRestarts PrivateTmp KillMode Restart User Result ProtectKernelTunables
+    ProtectKernelLogs ProtectClock PrivateDevices DeviceAllow
+    MaxArraySize StartTime JobId
+    RssAnon VmHWM VmRSS
+    README CONTRIBUTING CHANGELOG HANDLES SOURCE_DATE_EPOCH
+    GPSRawCA GALRawINAV
+    RT_JOBS NAVBRIDGE_SOURCE NAVBRIDGE_SPAN STATE_DIRECTORY
+    perf_event E1 E5b""".split()
+)
+TOPS = ("crates/", "docs/", "examples/", "bench/", "packaging/", ".ci/")
+
+
+def read(path):
+    with open(path, encoding="utf-8") as it:
+        return it.read()
+
+
+def code(path):
+    """The text without comments."""
+    text = read(path)
+    return re.sub(r"--.*" if path.endswith(".antt") else r"//.*", "", text)
+
+
+crates, uses = {}, set()
+for line in read("crates.txt").splitlines():
+    line = line.split("#")[0]
+    if ":" in line:
+        head, below = line.split(":", 1)
+        crates[head.split()[0]] = below.split()
+        uses |= set(below.split())
+stems, known = {}, set(crates) | uses
+# by crate and function the clauses of each function of that name, and where a type or trait has it
+clauses = {}
+for path in glob.glob("crates/*/src/**/*.rt", recursive=True) + glob.glob("crates/*/specs/**/*.antt", recursive=True):
+    crate, text = path.split("/")[1], code(path)
+    known |= set(re.findall(r"\w+", text))
+    stem = os.path.basename(path).rsplit(".", 1)[0]
+    known.add(stem)
+    if path.endswith(".antt"):
+        stems.setdefault(crate, set()).add(stem)
+        continue
+    # functions, and the laws of traits
+    found = list(re.finditer(r"\b(?:fn|ghost(?= \w+:)) (\w+)", text))
+    for at, it in enumerate(found):
+        end = found[at + 1].start() if at + 1 < len(found) else len(text)
+        said = set(re.findall(r"\b(?:ensures|requires)\*?\s+(\w+)\s*\{", text[it.start() : end]))
+        clauses.setdefault((crate, it[1]), []).append(said)
+for path in glob.glob("crates/*/proofs/Surface.antt"):
+    known |= set(re.findall(r"\w+", code(path)))
+for path in glob.glob("crates/*/must-fail/*.edit"):
+    known.add(os.path.basename(path).rsplit(".", 1)[0])
+# in scripts and plain programs beside the sources
+for path in glob.glob("bench/*.*") + glob.glob("examples/**/*", recursive=True) + glob.glob("packaging/*.*"):
+    if path.endswith((".sh", ".py", ".c", ".h", ".bash", "-station")) and "names.sh" not in path:
+        known |= set(re.findall(r"\w+", read(path)))
+files = {os.path.basename(it) for it in glob.glob("**/*", recursive=True)} | {".edit"}
+
+missing = 0
+
+
+def tell(page, number, what):
+    global missing
+    if not WANTED:
+        print(f"{page}:{number}: {what}")
+        missing += 1
+
+
+def slug(heading):
+    return re.sub(r"[^\w\- ]", "", heading.strip().lower().replace("`", "")).replace(" ", "-")
+
+
+def headings(page):
+    return {slug(it) for it in re.findall(r"^#+ (.*)$", read(page), re.M)}
+
+
+def look_for_link(page, number, target):
+    if re.match(r"[a-z]+:", target):
+        return
+    path, _, anchor = target.partition("#")
+    at = os.path.normpath(os.path.join(os.path.dirname(page), path)) if path else page
+    if not os.path.exists(at):
+        tell(page, number, f"{target}: no such file")
+    elif anchor and at.endswith(".md") and anchor not in headings(at):
+        tell(page, number, f"{target}: no such heading")
+
+
+def look_for_word(page, number, word):
+    if word.startswith(TOPS) and " " not in word:
+        if "/out/" not in word and "NAME" not in word and "/build" not in word and not glob.glob(word):
+            tell(page, number, f"{word}: no such file")
+    elif re.fullmatch(r"[\w.-]+\.(md|antt|rt|sh|py|c|h)", word):
+        if word not in files:
+            tell(page, number, f"{word}: no such file")
+    elif re.fullmatch(r"(\w+::)?\w+", word) and ("_" in word or "::" in word or re.search(r"[a-z]", word) and re.search(r"[A-Z]", word)):
+        for it in word.split("::"):
+            if it not in known and it not in OTHERS and not re.search(r"_[SR]_\d", it):
+                tell(page, number, f"{word}: no such name")
+
+
+def look_for_clauses(page, number, within, cell):
+    """A cell of docs/PROMISES.md: functions, and behind a colon clauses of each."""
+    for group in cell.split(";"):
+        before, _, after = group.partition(":`" if ":`" in group else ": ")
+        names, labels = re.findall(r"`([^`]+)`", before), re.findall(r"`([^`]+)`", ("`" if ":`" in group else "") + after)
+        for name in names:
+            function = name.split("::")[-1]
+            places = [it for crate in within for it in clauses.get((crate, function), [])]
+            if not places:
+                tell(page, number, f"{name}: no such function in {', '.join(within)}")
+                continue
+            for label in labels:
+                if not any(label in it for it in places):
+                    tell(page, number, f"{name}: no clause {label}")
+
+
+for page in PAGES:
+    within, fenced = [], False
+    for number, line in enumerate(read(page).splitlines(), 1):
+        if WANTED and re.search(rf"(?<!\w){re.escape(WANTED)}(?!\w)", line):
+            print(f"{page}:{number}: {line.strip()[:150]}")
+        if line.startswith("```"):
+            fenced = not fenced
+        if fenced or line.startswith("```"):
+            continue
+        words = re.findall(r"`([^`]+)`", line)
+        for target in re.findall(r"\]\(([^) ]+)\)", line):
+            look_for_link(page, number, target)
+        if page == "docs/PROMISES.md" and line.startswith("#"):
+            within = words
+            for it in within:
+                if it not in crates:
+                    tell(page, number, f"{it}: no such crate")
+        elif page == "docs/PROMISES.md" and line.startswith("| ") and within:
+            cells = line.strip("| ").split(" | ")
+            if cells[-1].startswith("`"):
+                look_for_clauses(page, number, within, cells[-1])
+        elif page == "docs/DEFINITIONS.md" and line.startswith("| `"):
+            cells = line.strip("| ").split(" | ")
+            for crate in re.findall(r"`([^`]+)`", cells[0]):
+                if crate not in crates:
+                    tell(page, number, f"{crate}: no such crate")
+                    continue
+                for stem in re.findall(r"`([^`]+)`", cells[1]):
+                    if stem not in stems.get(crate, set()):
+                        tell(page, number, f"{crate}: no file {stem} in its specs/")
+        elif page == "docs/ARCHITECTURE.md" and line.startswith("| `"):
+            for it in re.findall(r"`([^`]+)`", line.split(" | ")[0]):
+                if it not in crates:
+                    tell(page, number, f"{it}: no such crate")
+        for word in words:
+            look_for_word(page, number, word)
+if not WANTED and os.path.exists("docs/ARCHITECTURE.md"):
+    text = read("docs/ARCHITECTURE.md")
+    for it in crates:
+        if f"`{it}`" not in text:
+            tell("docs/ARCHITECTURE.md", 1, f"the crate {it} is not in the map")
+contracts = "".join("".join(read(it).split()) for it in glob.glob("crates/*/src/**/*.rt", recursive=True))
+for page in PAGES:
+    for shown in re.findall(r"^```\n(ensures .*?)^```", read(page), re.M | re.S):
+        if "".join(shown.split()) not in contracts:
+            tell(page, 1, "a clause is shown that stands in no contract")
+version = re.search(r"^## (\d\S*)", read("CHANGELOG.md"), re.M)[1]
+for path in glob.glob("crates/*/src/**/*.rt", recursive=True):
+    for number, line in enumerate(read(path).splitlines(), 1):
+        for other in re.findall(r"\.version\(\"([^\"]*)\"\)", line):
+            if other != version:
+                tell(path, number, f"version {other}, and CHANGELOG.md begins with {version}")
+if not WANTED:
+    print(f"{len(PAGES)} documents, {missing} names that are not there")
+sys.exit(1 if missing else 0)
+PYTHON

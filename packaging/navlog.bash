@@ -1,0 +1,15 @@
+# Completion of navlog's words in bash
+# shellcheck shell=bash
+
+_navlog() {
+  local current=${COMP_WORDS[COMP_CWORD]} before=${COMP_WORDS[COMP_CWORD - 1]} words=()
+  # "--from=ubx" comes as three words, since = divides words here
+  [ "$current" != = ] || current=
+  case $before in
+    --from | =) words=(sbf ubx) ;;
+    *) [ "$COMP_CWORD" != 1 ] || words=(--from) ;;
+  esac
+  [ "${COMP_WORDS[COMP_CWORD]}" != = ] || words=(sbf ubx)
+  mapfile -t COMPREPLY < <(compgen -W "${words[*]}" -- "$current")
+}
+complete -F _navlog navlog
