@@ -9,3 +9,5 @@ mod runs;
 mod said;
 #[cfg(test)]
 mod small;
+#[cfg(test)]
+mod sources;

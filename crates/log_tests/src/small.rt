@@ -4,7 +4,7 @@ use crate::runs::{End, Failing, Form, NOTHING_FAILS, ends, writes};
 use std::test::Fail;
 
 // A time, a page and a subframe. They end behind so many bytes.
-static LOG: [u8; 132] = [
+pub(crate) static LOG: [u8; 132] = [
     0xb5, 0x62, 0x01, 0x20, 0x10, 0x00, 0x00, 0xdd, 0x6d, 0x00, 0x00, 0x00, 0x00, 0x00, 0xf6, 0x08,
     0x12, 0x07, 0x05, 0x00, 0x00, 0x00, 0x97, 0x08, 0xb5, 0x62, 0x02, 0x13, 0x2c, 0x00, 0x02, 0x04,
     0x05, 0x00, 0x09, 0x09, 0x02, 0x00, 0x55, 0x55, 0x95, 0x00, 0x55, 0x55, 0x55, 0x55, 0x55, 0x55,
@@ -19,14 +19,14 @@ static LOG: [u8; 132] = [
 static ENDS: [usize; 3] = [24, 76, 132];
 
 // What is written of all, of the page alone and of the subframe alone.
-const ALL: &str = concat!(
+pub(crate) const ALL: &str = concat!(
     "NAVCAP 2 2293 7200\n",
     "611999 P E04 5 00955555555555555555555553dc00\n",
     "612000 P E04 5 870792f7eb1419c2572417f389d500\n",
     "612000 L G03 8b12342f49816c80000014c000003c12345606000003f7fffff56969695ffffffffd50c84190\n",
 );
 
-const PAGE: &str = concat!(
+pub(crate) const PAGE: &str = concat!(
     "NAVCAP 2 2293 7200\n",
     "611999 P E04 5 00955555555555555555555553dc00\n",
     "612000 P E04 5 870792f7eb1419c2572417f389d500\n",
