@@ -1,6 +1,7 @@
 #!/usr/bin/env bash
-# Runs every job on its example and compares output, report and status, and navlog on its log; then the scripts for archives
-# (check_archive.sh), and in a repository whether what the documents name is there (names.sh).
+# Runs every job on its example and compares output, report and status, and navlog on its log; two generated logs through both
+# programs, beside what was sent; then the scripts for archives (check_archive.sh), and in a repository whether what the documents
+# name is there (names.sh).
 #
 #   examples/check.sh [--program FILE] [--navlog FILE]
 #
@@ -66,6 +67,22 @@ if [ -f "$navlog" ] && [ -x "$navlog" ]; then
   if [ "$got" != 0 ] || ! cmp -s "$out/output" log.list || ! cmp -s "$out/report" log.report; then
     wrong=$((wrong + 1))
     echo "differs (status $got): navlog --from ubx < log.ubx | navbridge --from capture --to list"
+  fi
+  # generated: what a receiver logs of an hour, and the same subframes and page parts as a capture, become one file
+  if [ -e ../bench/feeder.py ] && command -v python3 > /dev/null; then
+    for seed in 7 8; do
+      words=(--seconds 36 --rate 100 --seed "$seed" --satellites 4 --clean --free)
+      python3 ../bench/feeder.py ubx "${words[@]}" 2> /dev/null | "$navlog" --from ubx 2> /dev/null > "$out/logged.navcap"
+      python3 ../bench/feeder.py capture "${words[@]}" 2> /dev/null > "$out/sent.navcap"
+      for capture in logged sent; do
+        "$program" --from capture --to rinex --date "20240105 000000 UTC" --leap 18 < "$out/$capture.navcap" 2> /dev/null > "$out/$capture.rnx"
+      done
+      runs=$((runs + 1))
+      if [ ! -s "$out/sent.rnx" ] || ! cmp -s "$out/logged.rnx" "$out/sent.rnx"; then
+        wrong=$((wrong + 1))
+        echo "differs: the generated log of seed $seed, through navlog and navbridge"
+      fi
+    done
   fi
 else
   echo "navlog: not tried, since it is not built ($navlog)"

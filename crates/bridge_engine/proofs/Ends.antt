@@ -1,20 +1,34 @@
 -- What a job that was asked for is known to have, and what its end says of a capture.
-use Rattle.std.proofs.Common.{◌≡◌, ◌≤◌, ℕ, List, Option, Some, None, Ok, false, true, refl, sym, subst, inl}
-use Rattle.std.specs.Prelude.{IfSome, IsSome}
+use Rattle.std.proofs.Common.{◌≡◌, ◌≤◌, ℕ, List, Option, Some, None, Result, Ok, Err, false, true, refl, sym, subst, inl}
+use Rattle.std.proofs.KnownBytes.{Appends-nil}
+use Rattle.std.specs.Prelude.{◌↔◌, IfErr, IfSome, IsSome, MatchResult, OnErr}
 use Rattle.std.specs.Io.KnownBytes.{Appends, IsAtEnd}
+use Rattle.nav_io.specs.Lines.{Line}
+use Rattle.capture_lines.specs.declared.item.LineItem.{LineItem}
+use Rattle.periods.specs.PeriodLists.{ArePeriods, items_in}
+use Rattle.periods.specs.PeriodsOf.{periods_of}
+use Rattle.periods.specs.declared.closed.Closed.{Closed}
+use Rattle.capture_log.specs.Heard.{IsPartHeard}
+use Rattle.capture_log.specs.Log.{items_of, parts_of}
 use Rattle.rinex_write.specs.Texts.{rinex_text}
 use Rattle.rinex_write.specs.declared.words.HeaderWords.{HeaderWords}
-use Rattle.one_run.specs.Ends.{EndedBy, any_count, uncounted}
-use Rattle.one_run.specs.Runs.{World}
-use Rattle.one_run.proofs.Surface.{accepted_of, done_by, end_of, text_of}
-use Rattle.captures.specs.Captures.{Capture as CaptureOf, capture_meaning, capture_of, counts_in, items, output_of}
+use Rattle.one_run.specs.Ends.{EndedBy, any_count, status_of, uncounted}
+use Rattle.one_run.specs.Runs.{Ended, World}
+use Rattle.one_run.specs.declared.fault.BridgeFault.{BridgeFault}
+use Rattle.one_run.proofs.Surface.{accepted_of, done_by, end_of, no_front, text_of}
+use Rattle.captures.specs.Captures.{Capture as CaptureOf, capture_meaning, capture_of, counts_in, output_of, periods as periods_in, target_of}
+use Rattle.captures.specs.Follows.{CaptureAhead, CaptureFront, CountsLast}
 use Rattle.captures.specs.declared.target.CaptureTo.TheVariants.{Rinex}
+use Rattle.outlets.specs.declared.target.Target.{Target}
 use Rattle.outlets.specs.declared.target.Target.TheVariants as targets
+use Rattle.bridge_engine.specs.declared.job.CaptureJob.{CaptureJob}
 use Rattle.bridge_engine.specs.declared.job.Job.{Job}
 use Rattle.bridge_engine.specs.declared.job.Job.TheVariants.{Capture}
+use Rattle.bridge_engine.specs.CaptureBytes.{IsCapture, StandFor}
 use Rattle.bridge_engine.specs.Job.{IsSatsText, Reads, IsJob, row_of}
-use Rattle.bridge_engine.specs.Meanings.{HasSats, meaning_of}
+use Rattle.bridge_engine.specs.Meanings.{HasSats, IsAhead, meaning_of}
 use Rattle.bridge_engine.proofs.Headlines.{headline_text}
+use Rattle.bridge_engine.proofs.OneJob.{one_job}
 
 -- the words of a job have 1 to 32 satellites
 in_sats : (text : Option (List ℕ)) (sats : Option ℕ) → Reads IsSatsText text sats → IfSome sats (λ n. (1 ≤ n) × (n ≤ 32))
@@ -26,24 +40,55 @@ in_sats (Some text) (Some sats) (writes, some, few) = (some, few)
 pub has_sats : (words : List (List ℕ)) (job : Job) → IsJob words job → HasSats job
 has_sats words job is = in_sats is.given.sats (row_of job).values.sats is.asks.values.sats
 
--- the capture that some bytes are, and the text of its items
+-- the laws that a reading of the bytes and of the lines of a capture is what they are, and that there are periods of what is
+-- heard
+pub record Readings : Type 0 where
+  pub capture : (week : Option ℕ) (bytes : List ℕ) (c : CaptureOf) → (capture_of week bytes ≡ Some c) ↔ IsCapture week bytes c
+  pub items : (lines : List Line) (items : List LineItem) → StandFor lines items ↔ (items ≡ items_of lines)
+  pub periods : (r window : ℕ) (lines : List Line)
+      → ArePeriods r window (IsPartHeard window (items_of lines)) (periods_of r window (parts_of window lines))
+
+pub readings : ((week : Option ℕ) (bytes : List ℕ) (c : CaptureOf) → (capture_of week bytes ≡ Some c) ↔ IsCapture week bytes c)
+    → ((lines : List Line) (items : List LineItem) → StandFor lines items ↔ (items ≡ items_of lines))
+    → ((r window : ℕ) (lines : List Line)
+    → ArePeriods r window (IsPartHeard window (items_of lines)) (periods_of r window (parts_of window lines)))
+    → Readings
+readings capture items periods = record { capture = capture; items = items; periods = periods }
+
+-- the capture that some bytes are, the periods of what is heard in it, and the text of their items
 abbrev Converts : Option ℕ → HeaderWords → List ℕ → Option (List ℕ) → Option (List ℕ) → Option (List ℕ) → Type 0
 Converts week header bytes o w w' =
-    (capture : CaptureOf) × (capture_of week bytes ≡ Some capture) × Appends w w' (rinex_text header (items capture)) × IsAtEnd o
+    (capture : CaptureOf) × (items : List LineItem) × (periods : List Closed)
+    × IsCapture week bytes capture × StandFor capture.lines items
+    × ArePeriods capture.week capture.window (IsPartHeard capture.window items) periods
+    × Appends w w' (rinex_text header (items_in periods)) × IsAtEnd o
 
-converts : (week : Option ℕ) (header : HeaderWords) (bytes : List ℕ) (o w w' : Option (List ℕ)) (c : Option CaptureOf) → capture_of week bytes ≡ c
+converts : Readings → (week : Option ℕ) (header : HeaderWords) (bytes : List ℕ) (o w w' : Option (List ℕ))
+    (c : Option CaptureOf) → capture_of week bytes ≡ c
     → IsSome c → Appends w w' (output_of (targets.Rinex header) week bytes) → IsAtEnd o → Converts week header bytes o w w'
-converts week header bytes o w w' None e some text end = absurd (let no : false ≡ true = some in cc)
-converts week header bytes o w w' (Some capture) e some text end =
-    (capture, e, subst (λ (l : List ℕ). Appends w w' l) (headline_text header week bytes capture e) text, end)
+converts laws week header bytes o w w' None e some text end = absurd (let no : false ≡ true = some in cc)
+converts laws week header bytes o w w' (Some capture) e some text end = (
+  capture,
+  items_of capture.lines,
+  periods_in capture,
+  (laws.capture week bytes capture).0 e,
+  (laws.items capture.lines (items_of capture.lines)).1 refl,
+  laws.periods capture.week capture.window capture.lines,
+  subst (λ (l : List ℕ). Appends w w' l) (headline_text header week bytes capture e) text,
+  end,
+)
 
-in_capture : (week : Option ℕ) (header : HeaderWords) (o o' w w' : Option (List ℕ))
-    → IfSome o (λ bytes. Appends w w' (output_of (targets.Rinex header) week bytes)) → IfSome o (λ bytes. IsSome (capture_of week bytes)) → IsAtEnd o'
+in_capture : Readings → (week : Option ℕ) (header : HeaderWords) (o o' w w' : Option (List ℕ))
+    → IfSome o (λ bytes. Appends w w' (output_of (targets.Rinex header) week bytes))
+    → IfSome o (λ bytes. IsSome (capture_of week bytes)) → IsAtEnd o'
     → IfSome o (λ bytes. Converts week header bytes o' w w')
-in_capture week header None o' w w' text some end = tt
-in_capture week header (Some bytes) o' w w' text some end = converts week header bytes o' w w' (capture_of week bytes) refl some text end
+in_capture laws week header None o' w w' text some end = tt
+in_capture laws week header (Some bytes) o' w w' text some end = converts laws week header bytes o' w w'
+    (capture_of week bytes) refl some text end
 
-some_capture : (o : Option (List ℕ)) (week : Option ℕ) → IfSome o (λ bytes. IsSome (any_count (counts_in (capture_of week bytes)))) → IfSome o (λ bytes. IsSome (capture_of week bytes))
+some_capture : (o : Option (List ℕ)) (week : Option ℕ)
+    → IfSome o (λ bytes. IsSome (any_count (counts_in (capture_of week bytes))))
+    → IfSome o (λ bytes. IsSome (capture_of week bytes))
 some_capture None week all = tt
 some_capture (Some bytes) week some = by_capture (capture_of week bytes) some where
   by_capture : (c : Option CaptureOf) → IsSome (any_count (counts_in c)) → IsSome c
@@ -51,10 +96,73 @@ some_capture (Some bytes) week some = by_capture (capture_of week bytes) some wh
   by_capture (Some c) some = refl
 
 -- a run over a capture to RINEX, of the status 0
-pub headline_of : {S T U : Type 0} (job : Job) (week : Option ℕ) (header : HeaderWords) (b a : World S T U) (status : ℕ)
+pub headline_of : {S T U : Type 0} → Readings
+    → (job : Job) (week : Option ℕ) (header : HeaderWords) (b a : World S T U) (status : ℕ)
     → Capture (record { week = week; to = Rinex header }) ≡ job → EndedBy (meaning_of job) b a status → status ≡ 0
     → IfSome b.left (λ bytes. Converts week header bytes a.left b.written a.written)
-headline_of job week header b a status is by zero =
+headline_of laws job week header b a status is by zero =
     let m = uncounted (capture_meaning (Rinex header) week) in
     let done = done_by m b a status (subst (λ (j : Job). EndedBy (meaning_of j) b a status) (sym is) by) zero in
-    in_capture week header b.left a.left b.written a.written (text_of m b a (Ok tt) done) (some_capture b.left week (accepted_of m b a (Ok tt) done (inl refl))) (end_of m b a (Ok tt) done)
+    in_capture laws week header b.left a.left b.written a.written (text_of m b a (Ok tt) done)
+    (some_capture b.left week (accepted_of m b a (Ok tt) done (inl refl))) (end_of m b a (Ok tt) done)
+
+-- ---- what is known of the bytes that were not taken
+
+-- a run that ended as another did knows the same
+pub ahead_as : {C : Type 0} (A : Type 0) (run : Result C BridgeFault) (result : Result (Unit {0}) BridgeFault)
+    → MatchResult run (λ counts. result ≡ Ok tt) (λ fault. result ≡ Err fault) → IfErr run (λ fault. A) → OnErr result A
+ahead_as A (Ok counts) result is ahead = subst (λ (r : Result (Unit {0}) BridgeFault). OnErr r A) (sym is) tt
+ahead_as A (Err fault) result is ahead = subst (λ (r : Result (Unit {0}) BridgeFault). OnErr r A) (sym is) ahead
+
+-- of other jobs nothing is said
+pub none_ahead : (result : Result (Unit {0}) BridgeFault) → OnErr result (Unit {0})
+none_ahead (Ok done) = tt
+none_ahead (Err fault) = tt
+
+-- a job that was not done
+pub ahead_of : (run : Result (Unit {0}) BridgeFault) (status : ℕ) (job : Job) (capture : CaptureJob)
+    (l l' w w' u u' : Option (List ℕ)) → status ≡ status_of run
+    → Capture capture ≡ job → OnErr run (IsAhead job l l' w w' u u') → (status ≡ 0 → ⊥)
+    → CaptureAhead (target_of capture.to) capture.week l l' w w' u u'
+ahead_of (Ok done) status job capture l l' w w' u u' is same ahead broke = absurd (broke is)
+ahead_of (Err fault) status job capture l l' w w' u u' is same ahead broke =
+    subst (λ (j : Job). IsAhead j l l' w w' u u') (sym same) ahead
+
+front_nothing : (to : Target) (week : Option ℕ) (l w u : Option (List ℕ)) → CaptureFront to week l w w u u
+front_nothing to week None w u = tt
+front_nothing to week (Some bytes) w u = (no_front w _, no_front u _)
+
+last_nothing : (to : Target) (week : Option ℕ) (l w : Option (List ℕ)) → CountsLast to week l l w w
+last_nothing (targets.Rinex words) week l w = tt
+last_nothing (targets.Rinex3 words) week l w = tt
+last_nothing targets.Rtcm week l w = tt
+last_nothing targets.ToList week l w = tt
+last_nothing targets.Count week l w = inl (Appends-nil w)
+
+-- nothing was touched
+pub nothing_ahead : (to : Target) (week : Option ℕ) (l w u : Option (List ℕ)) → CaptureAhead to week l l w w u u
+nothing_ahead to week l w u = (front_nothing to week l w u, last_nothing to week l w)
+
+-- ---- the call
+
+-- what the call says of a job that the words give
+pub record Calls {S T U : Type 0} (words : List (List ℕ)) (b a : World S T U) (status : ℕ) : Type 0 where
+  pub ended : (job : Job) × IsJob words job × EndedBy (meaning_of job) b a status
+  pub headline : (week : Option ℕ) (header : HeaderWords)
+      → IsJob words (Capture (record { week = week; to = Rinex header })) → status ≡ 0
+      → IfSome b.left (λ bytes. Converts week header bytes a.left b.written a.written)
+  pub also : (capture : CaptureJob) → IsJob words (Capture capture) → (status ≡ 0 → ⊥)
+      → CaptureAhead (target_of capture.to) capture.week b.left a.left b.written a.written b.reported a.reported
+
+pub calls : {S T U : Type 0} → Readings
+    → (words : List (List ℕ)) (job : Job) (b a : World S T U) (run : Result (Unit {0}) BridgeFault) (status : ℕ)
+    → IsJob words job → Ended (meaning_of job) b a run
+    → OnErr run (IsAhead job b.left a.left b.written a.written b.reported a.reported)
+    → status ≡ status_of run → Calls words b a status
+calls laws words job b a run status given ended ahead is =
+    let by : EndedBy (meaning_of job) b a status = record { result = run; ended = ended; is = is } in
+    record {
+      ended = (job, given, by);
+      headline = λ week header gives zero. headline_of laws job week header b a status (one_job words _ job gives given) by zero;
+      also = λ capture gives broke. ahead_of run status job capture _ _ _ _ _ _ is (one_job words _ job gives given) ahead broke;
+    }

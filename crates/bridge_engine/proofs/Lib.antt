@@ -14,3 +14,4 @@ mod Headlines
 mod OneJob
 mod RowJobs
 mod TableRows
+mod Told

@@ -3,4 +3,5 @@ pub mod WordsFound
 pub mod Commands
 pub mod Job
 pub mod Meanings
+pub mod CaptureBytes
 pub mod Found

@@ -1,8 +1,8 @@
 //! One job, from its input to its output and its report.
 
-ghost use Rattle.std.specs.Prelude.{◌≡◌, MatchResult, Ok, Err};
+ghost use Rattle.std.specs.Prelude.{◌≡◌, MatchResult, Ok, Err, OnErr};
 ghost use Rattle.one_run.specs.Runs.{Ran};
-ghost use Rattle.bridge_engine.specs.Meanings.{HasSats, meaning_of};
+ghost use Rattle.bridge_engine.specs.Meanings.{HasSats, IsAhead, meaning_of};
 
 use crate::job::Job;
 use captures::{run_capture, run_seed};
@@ -24,6 +24,8 @@ pub(crate) fn run_job<S: Source, T: Sink, U: Sink>(
     ensures ended { Ran (meaning_of job.now)
         S.left S.never_fails S.faults T.written T.faults U.written U.faults
         input.old input.new output.old output.new report.old report.new result }
+    ensures also { OnErr result (IsAhead job.now (S.left input.old) (S.left input.new)
+        (T.written output.old) (T.written output.new) (U.written report.old) (U.written report.new)) }
 {
     match job {
         Job::StreamToFrames => ended(run_frames(input, output)),

@@ -1,19 +1,28 @@
 //! The top call: the words of the command line, an input, an output and a report, and the status.
 
-ghost use Rattle.std.specs.Prelude.{◌≡◌, ◌⊎◌, ℕ, Option, Some, map, IfSome};
+ghost use Rattle.std.specs.Prelude.{◌≡◌, ◌⊎◌, ℕ, List, Option, Some, map, IfSome};
 ghost use Rattle.std.specs.String.{string_bytes};
 ghost use Rattle.std.specs.Io.KnownBytes.{Appends, IsAtEnd};
 ghost use Rattle.rinex_write.specs.Texts.{rinex_text};
 ghost use Rattle.rinex_write.specs.declared.words.HeaderWords.{HeaderWords};
-ghost use Rattle.one_run.specs.Ends.{RanBy, status_of as status};
-ghost use Rattle.captures.specs.Captures.{Capture, capture_of, items};
+ghost use Rattle.capture_lines.specs.declared.item.LineItem.{LineItem};
+ghost use Rattle.periods.specs.PeriodLists.{ArePeriods, items_in};
+ghost use Rattle.periods.specs.declared.closed.Closed.{Closed};
+ghost use Rattle.capture_log.specs.Heard.{IsPartHeard};
+ghost use Rattle.one_run.specs.Ends.{RanBy};
+ghost use Rattle.captures.specs.Captures.{Capture, target_of};
+ghost use Rattle.captures.specs.Follows.{CaptureAhead};
 ghost use Rattle.captures.specs.declared.target.CaptureTo.TheVariants.{Rinex};
+ghost use Rattle.bridge_engine.specs.CaptureBytes.{IsCapture, StandFor};
 ghost use Rattle.bridge_engine.specs.Job.{IsJob, GivesJob};
 ghost use Rattle.bridge_engine.specs.Meanings.{meaning_of};
+ghost use Rattle.bridge_engine.specs.declared.job.CaptureJob.{CaptureJob};
 ghost use Rattle.bridge_engine.specs.declared.job.Job.{Job};
 
 use crate::job::{Job, job_of};
+use crate::laws::captures_are_told;
 use crate::run::run_job;
+use capture_log::lines_bring_what_is_heard;
 use nav_io::{Sink, Source};
 use one_run::BridgeFault;
 use std::alloc::{AllocError, Global};
@@ -55,34 +64,39 @@ pub fn bridge<S: Source, T: Sink, U: Sink>(
         ⊎ ((((result ≡ 2) × ¬ GivesJob (map string_bytes words.now)) ⊎ (result ≡ 6))
         × (input.new ≡ input.old) × (output.new ≡ output.old) × (report.new ≡ report.old)) }
 
-    // Whatever pieces a capture is read in, a run that answers 0 has written the RINEX text of exactly the items of its
-    // periods that are whole, each once, in their order.
+    // Whatever pieces a capture is read in, a run that answers 0 has written the RINEX text of the items of exactly the
+    // periods of the parts that are heard in it, each once, in their order.
     ensures headline { (week : Option ℕ) (header : HeaderWords)
         → IsJob (map string_bytes words.now)
         (Job.Capture (record { week = week; to = Rinex header }))
-        → result ≡ 0 → IfSome (S.left input.old) (λ bytes. (capture : Capture)
-        × (capture_of week bytes ≡ Some capture)
-        × Appends (T.written output.old) (T.written output.new) (rinex_text header (items capture))
+        → result ≡ 0 → IfSome (S.left input.old) (λ bytes.
+        (capture : Capture) × (items : List LineItem) × (periods : List Closed)
+        × IsCapture week bytes capture × StandFor capture.lines items
+        × ArePeriods capture.week capture.window (IsPartHeard capture.window items) periods
+        × Appends (T.written output.old) (T.written output.new)
+        (rinex_text header (items_in periods))
         × IsAtEnd (S.left input.new)) }
+
+    // After any fault of a run over a capture a front was written and reported of what the whole input gives, whatever of it
+    // was not taken; and no count is written before the input was read to its end.
+    ensures also { (job : CaptureJob) → IsJob (map string_bytes words.now) (Job.Capture job)
+        → ¬ (result ≡ 0) → CaptureAhead (target_of job.to) job.week
+        (S.left input.old) (S.left input.new) (T.written output.old) (T.written output.new)
+        (U.written report.old) (U.written report.new) }
 {
+    lines_bring_what_is_heard();
+    captures_are_told();
     match job_of(alloc, words) {
         Err(AllocError) => 6,
         Ok(None) => 2,
-        Ok(Some(job)) => status_of(run_job(alloc, &job, input, output, report)),
-    }
-}
-
-// The status of a run that ended so.
-fn status_of(run: Result<(), BridgeFault>) -> u8
-    ensures { result ≡ status run }
-{
-    match run {
-        Ok(()) => 0,
-        Err(BridgeFault::ReadFault) => 3,
-        Err(BridgeFault::WriteFault) => 4,
-        Err(BridgeFault::NotThisForm) => 5,
-        Err(BridgeFault::NoMemory) => 6,
-        Err(BridgeFault::ReportFault) => 7,
-        Err(BridgeFault::TooLong) => 8,
+        Ok(Some(job)) => match run_job(alloc, &job, input, output, report) {
+            Ok(()) => 0,
+            Err(BridgeFault::ReadFault) => 3,
+            Err(BridgeFault::WriteFault) => 4,
+            Err(BridgeFault::NotThisForm) => 5,
+            Err(BridgeFault::NoMemory) => 6,
+            Err(BridgeFault::ReportFault) => 7,
+            Err(BridgeFault::TooLong) => 8,
+        },
     }
 }

@@ -2,6 +2,7 @@ pub mod Lists
 pub mod Accepting
 pub mod WordEvents
 pub mod Knowing
+pub mod Surface
 pub mod Bringing
 pub mod AllItems
 pub mod HeardValues
@@ -9,3 +10,5 @@ pub mod LaterParts
 pub mod Lasting
 pub mod AnyOrder
 pub mod Sendable
+pub mod HeardRanges
+pub mod HeardItems

@@ -5,6 +5,7 @@ ghost use Rattle.std.specs.Prelude.{Contains};
 ghost use Rattle.nav_eph.specs.declared.part.Part.{Part};
 ghost use Rattle.nav_eph.specs.Conditions.{IsPart};
 ghost use Rattle.nav_eph.specs.Values.{IsPartValue};
+ghost use Rattle.periods.specs.declared.closed.Closed.{Closed};
 ghost use Rattle.periods.specs.PeriodLists.{AreClosed, ArePeriods, IsPrefix, items_in};
 ghost use Rattle.periods.specs.PeriodsOf.{closed_of, periods_of};
 ghost use Rattle.nav_io.specs.Lines.{Line};
@@ -71,7 +72,8 @@ pub fn periods_are_those_heard()
 
 /// What the lines of a capture bring, in the words of a look at all of them at once: the parts are
 /// those heard, a set of values; the periods are those of that set, and those closed at the mark
-/// are the closed ones of that set.
+/// are the closed ones of that set. The set has no other list of periods, nor of those closed at a
+/// mark.
 pub fn lines_bring_what_is_heard()
     ensures parts { (window : ℕ) (lines : List Line) (part : Part)
         → Contains (parts_of window lines) part ↔ IsPartHeard window (items_of lines) part }
@@ -83,6 +85,12 @@ pub fn lines_bring_what_is_heard()
     ensures closed { (r window : ℕ) (lines : List Line)
         → AreClosed r window (IsPartHeard window (items_of lines)) (mark_after window lines)
         (closed_of r window (mark_after window lines) (parts_of window lines)) }
+    ensures only { (r window : ℕ) (lines : List Line) (some other : List Closed)
+        → ArePeriods r window (IsPartHeard window (items_of lines)) some
+        → ArePeriods r window (IsPartHeard window (items_of lines)) other → some ≡ other }
+    ensures only_closed { (r window mark : ℕ) (lines : List Line) (some other : List Closed)
+        → AreClosed r window (IsPartHeard window (items_of lines)) mark some
+        → AreClosed r window (IsPartHeard window (items_of lines)) mark other → some ≡ other }
 {
     taken_parts_are_heard();
     parts_of_lines_are_values();

@@ -21,10 +21,12 @@
 #![tactic(auto)]
 
 mod event;
+mod heard_laws;
 mod laws;
 mod reading;
 
 pub use crate::event::{Event, Refusal};
+pub use crate::heard_laws::{parts_heard_have_ranges, periods_heard};
 pub use crate::laws::{
     further_lines_are_later, further_lines_go_on, lines_bring_what_is_heard,
     order_of_items_is_nothing, order_of_lines_is_nothing, parts_heard_are_values,

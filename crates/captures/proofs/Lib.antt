@@ -13,6 +13,7 @@ mod LineCounts
 mod Logs
 mod Noting
 mod Steps
+mod SubframeEvents
 mod Takings
 mod Weighing
 mod WordsHeard

@@ -22,7 +22,7 @@ use Rattle.captures.specs.declared.accept.Accepted.{Accepted}
 use Rattle.one_run.specs.Reports.{count_line}
 use Rattle.captures.specs.Reports.{report_in, count_in, is_malformed, is_late, is_refused, is_unused}
 
--- the week of a capture: that of the words or that of the first line, where these are not two
+-- the reference week of a capture: that of the words or that of the first line; none where both name one and they differ
 abbrev pub week_for : Option ℕ → Option ℕ → Option ℕ
 week_for None named = named
 week_for (Some week) None = Some week

@@ -1,6 +1,5 @@
 -- What the runs over a generated capture write, report and count.
-use Rattle.std.specs.Prelude.{ℕ, Bool, true, false, List, [], ◌++◌, length, codes, Option, None, Some}
-use Rattle.nav_io.specs.Front.{AppendsFront}
+use Rattle.std.specs.Prelude.{ℕ, Bool, true, false, List, [], ◌++◌, length, codes, Some, None}
 use Rattle.nav_io.specs.Lines.{lines_by}
 use Rattle.one_run.specs.Runs.{Meaning, no_least}
 use Rattle.nav_vectors.specs.Capture.{lines_of}
@@ -32,11 +31,6 @@ seed_report seeds.Count seed n r =
 abbrev pub seed_counts : SeedTo → ℕ → ℕ → ℕ → SeedCounts
 seed_counts seeds.Capture seed n r = Written (length (capture_text seed n r))
 seed_counts seeds.Count seed n r = Counted (counts_of (generated seed n r))
-
--- a front was written and reported of what the seed gives
-abbrev pub SeedBroke : SeedTo → ℕ → ℕ → ℕ → Option (List ℕ) → Option (List ℕ) → Option (List ℕ) → Option (List ℕ) → Type 0
-SeedBroke to seed n r written written_new reported reported_new =
-    AppendsFront written written_new (seed_output to seed n r) × AppendsFront reported reported_new (seed_report to seed n r)
 
 -- what a run makes of no bytes at all: it reads nothing, and of the capture itself it reports nothing
 abbrev pub is_counted : SeedTo → Bool

@@ -14,7 +14,7 @@ pub(crate) struct Accepted {
     pub(crate) week: RefWeek,
 }
 
-// The week of a capture: that of the words or that of the first line, where these are not two.
+// The reference week of a capture: that of the words or that of the first line; `None` where these differ.
 fn week_of(words: Option<RefWeek>, named: Option<RefWeek>) -> Option<RefWeek>
     ensures { result ≡ week_for words named }
 {

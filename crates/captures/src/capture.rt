@@ -1,7 +1,7 @@
 //! The run over a capture.
 
 ghost use Rattle.std.specs.Prelude.{◌≡◌, IfErr};
-ghost use Rattle.one_run.specs.Runs.{Ended, world};
+ghost use Rattle.one_run.specs.Runs.{Ran};
 ghost use Rattle.captures.specs.Captures.{capture_meaning, target_of};
 ghost use Rattle.captures.specs.Follows.{CaptureAhead};
 
@@ -18,7 +18,7 @@ use std::alloc::Global;
 /// Reads a capture to its end, and writes what it is converted to while it reads.
 ///
 /// The first line is judged first: it is `NAVCAP 1`, or `NAVCAP 2 <week> <window>`, and the week
-/// near which the capture is read is that of the words or that of the line, which are not two. Then
+/// of reference is that of the words or that of the line; if both name one, they must agree. Then
 /// the text in front is written, and after each line what is closed by it: a record of RINEX or a
 /// frame of RTCM for each item, or a line for each period. A line that is refused gives a line of
 /// the report, and at the end the counts stand there.
@@ -40,13 +40,9 @@ pub fn run_capture<S: Source, T: Sink, U: Sink>(
     report: &mut U,
 ) -> Result<CaptureCounts, BridgeFault>
     // It ended as a run of its meaning does.
-    ensures ended { Ended (capture_meaning to.now week)
-        (world input.old (S.left input.old) (S.never_fails input.old) (S.faults input.old)
-        output.old (T.written output.old) (T.faults output.old)
-        report.old (U.written report.old) (U.faults report.old))
-        (world input.new (S.left input.new) (S.never_fails input.new) (S.faults input.new)
-        output.new (T.written output.new) (T.faults output.new)
-        report.new (U.written report.new) (U.faults report.new)) result }
+    ensures ended { Ran (capture_meaning to.now week)
+        S.left S.never_fails S.faults T.written T.faults U.written U.faults
+        input.old input.new output.old output.new report.old report.new result }
 
     // After any fault a front was written and reported of what the whole input gives, whatever of
     // it was not taken; and no count is written before the input was read to its end.

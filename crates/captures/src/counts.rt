@@ -29,7 +29,7 @@ pub struct CaptureCounts {
     pub contradicted: u64,
     /// The periods of Galileo without health near their end.
     pub nohealth: u64,
-    /// The periods that say again what the last complete one of their key said.
+    /// The periods that repeat the last complete one of their key.
     pub again: u64,
 }
 

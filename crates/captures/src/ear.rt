@@ -19,7 +19,7 @@ use crate::report::refused_text;
 use capture_log::{Event, Refusal, message_event, subframe_event, word_event};
 use inav_page::Joined;
 use inav_word::{WordParts, read_word};
-use lnav_subframe::read_subframe;
+use lnav_subframe::{read_subframe, subframe_function};
 use nav_bits::Bits;
 use nav_eph::Sat;
 use nav_io::{Failed, Sink};
@@ -155,6 +155,7 @@ impl Ear {
             (U.faults report.old) (U.faults report.new)
             (noted number (of_subframe (subframe_of bits.now sat stamp) ∷ [])) result }
     {
+        subframe_function();
         let event = subframe_event(read_subframe(bits, sat, stamp));
         self.event(number, &event, report)
     }

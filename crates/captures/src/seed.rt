@@ -1,7 +1,7 @@
 //! The run over a generated capture.
 
 ghost use Rattle.std.specs.Prelude.{◌≤◌, None, true};
-ghost use Rattle.one_run.specs.Runs.{Ended, world};
+ghost use Rattle.one_run.specs.Runs.{Ran};
 ghost use Rattle.captures.specs.Seeds.{seed_meaning};
 
 use crate::count::{count_text, write_text};
@@ -39,11 +39,9 @@ pub fn run_seed<T: Sink, U: Sink>(
 
     // It ended as a run of its meaning does: it reads nothing, so no read fails, and no form and no
     // length is at fault; and of the capture itself nothing is reported.
-    ensures { Ended (seed_meaning to seed sats week)
-        (world (tt {0}) None true 0 output.old (T.written output.old) (T.faults output.old)
-        report.old (U.written report.old) (U.faults report.old))
-        (world (tt {0}) None true 0 output.new (T.written output.new) (T.faults output.new)
-        report.new (U.written report.new) (U.faults report.new)) result }
+    ensures { Ran (seed_meaning to seed sats week)
+        (λ _. None) (λ _. true) (λ _. 0) T.written T.faults U.written U.faults
+        (tt {0}) (tt {0}) output.old output.new report.old report.new result }
 {
     generated_captures_are_accepted();
     captures_are_short();

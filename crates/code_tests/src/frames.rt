@@ -24,7 +24,7 @@ fn write_frames(deframer: &mut Deframer, frames: &mut Vec<u8>) -> Result<(), All
     Ok(())
 }
 
-// The frames of some bytes, one behind the other.
+// The frames of some bytes, concatenated.
 fn frames_of(rt: &impl Abort, alloc: Global, bytes: &[u8]) -> Result<Vec<u8>, AllocError> {
     let mut frames = Vec::new(alloc);
     let mut deframer = Deframer::new();

@@ -105,7 +105,7 @@ const ENDS_IN_1: &[u8; 30] = b"8000400000000000000007f6ab8000";
 // A half that is taken, and what that gives.
 type Row<'a> = (u32, Signal, &'a Half, (usize, u64, u32));
 
-// Whether these halves, one behind the other, give so.
+// Whether these page parts, in this order, give so.
 fn gives(alloc: Global, window: u32, rows: &[Row<'_>]) -> Result<bool, Fail>
     requires least { 60 ≤ window }
     requires most { window ≤ 14400 }

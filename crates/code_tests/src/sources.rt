@@ -55,7 +55,7 @@ fn reads<S: Source>(source: &mut S) -> [(Result<usize, Failed>, u8); 5] {
     answers
 }
 
-// The answers of writes of these pieces, one behind the other.
+// The answers of writes of these pieces, in their order.
 fn writes<S: Sink>(sink: &mut S, pieces: [&[u8]; 5]) -> [Result<(), Failed>; 5] {
     let mut answers = [Ok(()); 5];
     for (answer, piece) in answers.iter_mut().zip(pieces) {

@@ -2,7 +2,7 @@
 //!
 //! GPS and Galileo count time in weeks and seconds of the week, without leap seconds, from the
 //! midnight that began 1980-01-06 (IS-GPS-200, 3.3.4; Galileo OS SIS ICD, 5.1.2). Their messages
-//! cut the count of weeks to ten and twelve binary digits, and leave the week of a time out where
+//! truncate the week number to ten and twelve bits, and leave the week of a time out where
 //! the reader is to take the nearest one. Here are
 //!
 //! - [`RefWeek`], [`Week`], [`Second`] and [`Moment`], numbers within their ranges;

@@ -6,7 +6,7 @@ use std::marker::Model;
 /// The seconds of a week.
 pub const SECONDS_OF_WEEK: u32 = 604_800;
 
-/// A second of the week, 0 to 604,799, counted from its first midnight.
+/// A time of week (TOW) in seconds, 0 to 604,799, counted from its first midnight.
 #[derive(Clone, Copy, PartialEq, Eq, PartialOrd, Ord, Hash)]
 pub struct Second {
     second: u32,
@@ -52,7 +52,7 @@ impl Second {
     }
 }
 
-/// A moment: the seconds since the midnight that began 1980-01-06, in the first 16,384 weeks.
+/// A GPS time: the seconds since the midnight that began 1980-01-06, in the first 16,384 weeks.
 #[derive(Clone, Copy, PartialEq, Eq, PartialOrd, Ord, Hash)]
 pub struct Moment {
     seconds: u64,

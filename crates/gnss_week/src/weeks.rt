@@ -7,10 +7,10 @@ use crate::moment::{Moment, SECONDS_OF_WEEK, Second};
 use crate::numbers::{RefWeek, Week};
 use nav_bits::U;
 
-/// The weeks after which the week number of GPS begins again.
+/// The rollover of the week number of GPS, in weeks.
 const GPS_TURN: u32 = 1024;
 
-/// The weeks after which the week number of Galileo begins again.
+/// The rollover of the week number of Galileo, in weeks.
 const GALILEO_TURN: u32 = 4096;
 
 /// The GPS week with which the weeks of Galileo begin.

@@ -7,4 +7,5 @@ pub mod Remainders
 pub mod Partners
 pub mod Inserting
 pub mod Placing
+pub mod Holding
 pub mod Taking

@@ -12,12 +12,12 @@ use Rattle.inav_page.specs.Keeping.{IsRecent}
 use Rattle.inav_page.specs.Mirrors.{half_of, keys_in, keys_among, keys_of, recent_keys, ArePlaced, AreKeys, AreSeconds, IsKey, IsSecondOf, KeepsKeys}
 use Rattle.inav_page.proofs.Membership.{In, contains_from_In, In-from_contains}
 
-some_is : (a b : Second) → Some a ≡ Some b → a ≡ b
+pub some_is : (a b : Second) → Some a ≡ Some b → a ≡ b
 some_is a b e = ap (λ o. unwrap_or o a) e
 
 -- ---- two lists
 
-append_in : (xs ys : List (ℕ × ℕ)) (q : ℕ × ℕ) → In (xs ++ ys) q → In xs q ⊎ In ys q
+pub append_in : (xs ys : List (ℕ × ℕ)) (q : ℕ × ℕ) → In (xs ++ ys) q → In xs q ⊎ In ys q
 append_in [] ys q h = inr h
 append_in (x ∷ xs) ys q h =
     ⊎_elim
@@ -26,12 +26,12 @@ append_in (x ∷ xs) ys q h =
     ⊎_elim (λ (left : In xs q). inl (inr left)) (λ (right : In ys q). inr right) (append_in xs ys q later))
     h
 
-in_left : (xs ys : List (ℕ × ℕ)) (q : ℕ × ℕ) → In xs q → In (xs ++ ys) q
+pub in_left : (xs ys : List (ℕ × ℕ)) (q : ℕ × ℕ) → In xs q → In (xs ++ ys) q
 in_left [] ys q h = absurd h
 in_left (x ∷ xs) ys q h =
     ⊎_elim (λ (here : x ≡ q). inl here) (λ (later : In xs q). inr (in_left xs ys q later)) h
 
-in_right : (xs ys : List (ℕ × ℕ)) (q : ℕ × ℕ) → In ys q → In (xs ++ ys) q
+pub in_right : (xs ys : List (ℕ × ℕ)) (q : ℕ × ℕ) → In ys q → In (xs ++ ys) q
 in_right [] ys q h = h
 in_right (x ∷ xs) ys q h = inr (in_right xs ys q h)
 
@@ -272,11 +272,11 @@ fewer_later window greatest raised (x ∷ xs) more =
 pub of_same : (stamp : ℕ) (second : Second) → second.stamp ≡ stamp → keys_of stamp second ≡ second.keys.keys
 of_same stamp second same = cond-true (nat_eq second.stamp stamp) second.keys.keys [] (eq-eqb second.stamp stamp same)
 
-of_other : (stamp : ℕ) (second : Second) → (second.stamp ≡ stamp → ⊥) → keys_of stamp second ≡ []
+pub of_other : (stamp : ℕ) (second : Second) → (second.stamp ≡ stamp → ⊥) → keys_of stamp second ≡ []
 of_other stamp second other = cond-false (nat_eq second.stamp stamp) second.keys.keys [] (ne_eqb second.stamp stamp other)
 
 -- what a key in a second of that stamp says
-of_to : (stamp : ℕ) (second : Second) (q : ℕ × ℕ) → Contains (keys_of stamp second) q → (second.stamp ≡ stamp) × Contains second.keys.keys q
+pub of_to : (stamp : ℕ) (second : Second) (q : ℕ × ℕ) → Contains (keys_of stamp second) q → (second.stamp ≡ stamp) × Contains second.keys.keys q
 of_to stamp second q h =
     ⊎_elim
     (λ (same : second.stamp ≡ stamp). let P : List (ℕ × ℕ) → Type 0 = λ keys. Contains keys q in (same, subst P (of_same stamp second same) h))

@@ -1,4 +1,4 @@
--- The CRC of a page is the sum of what its parts bring, so the partners of a part are those of one remainder.
+-- The CRC of a page is the sum of what its parts contribute, so the partners of a part are those of one remainder.
 use Rattle.std.proofs.Common.{◌≡◌, ℕ, ◌*◌, ◌^◌, ◌<◌, Bool, true, sym, ap, subst, ◌∙◌, arith}
 use Rattle.std.proofs.lemmas.Bool.{eqb-true, eq-eqb}
 use Rattle.std.proofs.lemmas.Nat.{xor_comm, xor_lt}

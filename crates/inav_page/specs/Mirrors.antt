@@ -38,8 +38,8 @@ half_at place bits = record {
   half = bits;
 }
 
--- the CRC is linear, so that of a page is the sum of what each part brings to it. The remainder of an even part is
--- what it brings; that of an odd part is what the even part must bring.
+-- the CRC is linear, so that of a page is the sum of what each part contributes. The remainder of an even part is
+-- what it contributes; that of an odd part is what the even part must contribute.
 abbrev pub remainder_by : HalfKind → ℕ → ℕ
 remainder_by Even half = page_crc half 0
 remainder_by Odd half = bit_xor (page_crc 0 half) (digits_at half 82 24)
@@ -79,6 +79,11 @@ keys_among window greatest (second ∷ seconds) = recent_keys window greatest se
 abbrev pub keys_in : Seconds → List (ℕ × ℕ)
 keys_in seconds = keys_among seconds.window seconds.greatest seconds.places.items
 
+-- the keys in all of the seconds, those that are too old among them
+abbrev pub keys_held : List Second → List (ℕ × ℕ)
+keys_held [] = []
+keys_held (second ∷ seconds) = second.keys.keys ++ keys_held seconds
+
 -- the key may stand in a second at a place: it has its stamp, which is at most the greatest, and the place is that of the stamp
 pub record IsKeyAt (window greatest place stamp : ℕ) (key : ℕ × ℕ) : Type 0 where
   pub is_key : IsKey key
@@ -109,6 +114,12 @@ abbrev pub PutsKey : Seconds → ℕ × ℕ → Seconds → Type 0
 PutsKey old key new = ((other : ℕ × ℕ) → Contains (keys_in new) other
     ↔ ((Contains (keys_in old) other ⊎ (key ≡ other)) × IsRecent old.window new.greatest (half_of other)))
     × (length (keys_in new) ≤ length (keys_in old) + 1)
+
+-- of the keys held before and one more, no others are held, and at most one more than before
+abbrev pub HoldsKey : Seconds → ℕ × ℕ → Seconds → Type 0
+HoldsKey old key new = ((other : ℕ × ℕ) → Contains (keys_held new.places.items) other
+    → Contains (keys_held old.places.items) other ⊎ (key ≡ other))
+    × (length (keys_held new.places.items) ≤ length (keys_held old.places.items) + 1)
 
 -- the stamp of the partners of a half of that kind: none before the first second and none after the last
 abbrev pub HasPartnerStamp : HalfKind → ℕ → Option ℕ → Type 0

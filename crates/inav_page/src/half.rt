@@ -20,7 +20,7 @@ pub enum HalfKind {
     Odd,
 }
 
-/// What is kept of a part of a nominal page: the first 114 bits of an even one, the first 106 of an
+/// A page part, as what is kept of it: the first 114 bits of an even one, the first 106 of an
 /// odd one (82 and the CRC).
 #[derive(Clone, Copy, PartialEq, Eq)]
 pub struct Half {

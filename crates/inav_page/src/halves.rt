@@ -1,10 +1,11 @@
-ghost use Rattle.std.specs.Prelude.{◌≡◌, ℕ, ◌+◌, ◌≤◌, ◌↔◌, List, [], IfOk, OnOk, OnErr, length};
+ghost use Rattle.std.specs.Prelude.{◌≡◌, ℕ, ◌+◌, ◌≤◌, ◌⊎◌, ◌↔◌, List, [], IfOk, OnOk, OnErr};
+ghost use Rattle.std.specs.Prelude.{length};
 ghost use Rattle.std.specs.Prelude.{max};
 ghost use Rattle.std.specs.Prelude.{Contains};
 ghost use Rattle.nav_eph.specs.declared.sat.System.TheVariants.{Gal};
 ghost use Rattle.inav_page.specs.Pages.{kind_of};
 ghost use Rattle.inav_page.specs.Heard.{AreWordsWith, stamp_by, StampedHalf};
-ghost use Rattle.inav_page.specs.Keeping.{stamped, IsKeptWith};
+ghost use Rattle.inav_page.specs.Keeping.{stamped, HoldsOneSecond, IsKeptWith};
 
 use crate::half::Half;
 use crate::joined::Joined;
@@ -28,7 +29,7 @@ pub struct Halves {
 impl Model for Halves {
     ghost use Rattle.std.specs.Prelude.{◌≡◌, ℕ, map};
     ghost use Rattle.inav_page.specs.Keeping.{Keeping};
-    ghost use Rattle.inav_page.specs.Mirrors.{half_of, keys_in, AreSeconds};
+    ghost use Rattle.inav_page.specs.Mirrors.{half_of, keys_held, keys_in, AreSeconds};
 
     ghost Value = { Keeping };
 
@@ -36,6 +37,7 @@ impl Model for Halves {
       window = h.kept.window;
       greatest = h.kept.greatest;
       kept = map half_of (keys_in h.kept);
+      held = map half_of (keys_held h.kept.places.items);
     } };
 
     ghost invariant = { λ h. AreSeconds h.kept };
@@ -50,6 +52,7 @@ impl Halves {
         ensures window { result.window ≡ window }
         ensures greatest { result.greatest ≡ 0 }
         ensures kept { result.kept ≡ [] }
+        ensures held { result.held ≡ [] }
     {
         Halves {
             alloc,
@@ -91,6 +94,13 @@ impl Halves {
         ensures greatest { OnOk result (self.new.greatest ≡ max self.old.greatest stamp) }
         ensures window { self.new.window ≡ self.old.window }
         ensures err { OnErr result (self.new ≡ self.old) }
+
+        // What is held is no more than the kept halves need: nothing but what was held and this
+        // half, at most one more than before, and in each of `window + 2` places one second.
+        ensures held { OnOk result ((other : StampedHalf) → Contains self.new.held other →
+            Contains self.old.held other ⊎ (stamped stamp sat signal half.now ≡ other)) }
+        ensures held_room { OnOk result (length self.new.held ≤ length self.old.held + 1) }
+        ensures held_seconds { HoldsOneSecond self.new }
     {
         let number = sat.number();
         if self.kept.is_too_old(stamp) {

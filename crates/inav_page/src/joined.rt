@@ -4,7 +4,7 @@ use nav_bits::Bits;
 use std::alloc::Global;
 use std::marker::Model;
 
-/// The words that a half makes with its partners.
+/// The words that a page part makes with its partners.
 #[derive(Drop)]
 pub struct Joined {
     pub(crate) words: Vec<Bits<16>>,

@@ -1,5 +1,5 @@
 //! Halves in the order in which they are kept: by stamp, satellite, signal, the remainder that
-//! their partners have too, part, and bits. So the partners of a half stand one behind the other.
+//! their partners have too, part, and bits. So the partners of a page part are adjacent.
 
 ghost use Rattle.std.specs.Prelude.{◌≡◌, ℕ, ◌+◌, ◌*◌, ◌/◌, ◌^◌, ◌<◌, ◌≤◌, ◌↔◌, SomeIff, IfOk, OnOk};
 ghost use Rattle.std.specs.Prelude.{OnErr, List, [], length, map, max, Contains, IsTrue};
@@ -9,9 +9,9 @@ ghost use Rattle.inav_page.specs.Pages.{kind_of};
 ghost use Rattle.inav_page.specs.Heard.{AreWordsWith, stamp_by, word_by};
 ghost use Rattle.inav_page.specs.Keeping.{stamped};
 ghost use Rattle.inav_page.specs.Mirrors.{end_of_partners, first_partner, half_of, key_cmp};
-ghost use Rattle.inav_page.specs.Mirrors.{keys_in, place_of, remainder_of, slot_of};
+ghost use Rattle.inav_page.specs.Mirrors.{keys_held, keys_in, place_of, remainder_of, slot_of};
 ghost use Rattle.inav_page.specs.Mirrors.{words_in_slot, AreSeconds, HasPartnerStamp, IsKey};
-ghost use Rattle.inav_page.specs.Mirrors.{PutsKey};
+ghost use Rattle.inav_page.specs.Mirrors.{HoldsKey, PutsKey};
 
 use crate::half::{Half, HalfKind, ODD};
 use crate::joined::Joined;
@@ -207,11 +207,16 @@ pub(crate) fn keep(
     ensures kept { OnOk result ((key : ℕ × ℕ) ×
         (half_of key ≡ stamped stamp (record { system = Gal; number = number }) signal half.now) ×
         PutsKey kept.old key kept.new) }
+    ensures held { OnOk result ((key : ℕ × ℕ) ×
+        (half_of key ≡ stamped stamp (record { system = Gal; number = number }) signal half.now) ×
+        HoldsKey kept.old key kept.new) }
     ensures greatest { OnOk result (kept.new.greatest ≡ max kept.old.greatest stamp) }
     ensures window { kept.new.window ≡ kept.old.window }
     ensures seconds { AreSeconds kept.new }
     ensures err { OnErr result (kept.new.greatest ≡ kept.old.greatest) }
     ensures err_keys { OnErr result (keys_in kept.new ≡ keys_in kept.old) }
+    ensures err_held { OnErr result
+        (keys_held kept.new.places.items ≡ keys_held kept.old.places.items) }
 {
     let (key, remainder) = key_of(stamp, number, signal, half);
     if is_kept(kept, stamp, &key) {

@@ -1,7 +1,7 @@
-//! The pages of the I/NAV message of Galileo, in halves (Galileo OS SIS ICD, 4.3.2).
+//! The pages of the I/NAV message of Galileo, as even and odd page parts (Galileo OS SIS ICD, 4.3.2).
 //!
 //! A nominal page is sent in two parts of 120 bits, an even one and a second later an odd one;
-//! together they bring a word of 128 bits, protected by a CRC-24Q in the odd part. Here are
+//! together they carry a word of 128 bits, protected by a CRC-24Q in the odd part. Here are
 //!
 //! - [`read_half`] and [`write_half`], a part as the bits that are kept of it ([`Half`]);
 //! - [`join`] and [`split`], the word of two parts and the parts of a word;

@@ -39,7 +39,7 @@ pub(crate) fn belong(even: u128, odd: u128) -> bool
     crc_of(even, odd) == (odd / 0x4000 % 0x100_0000) as u64
 }
 
-// What a part and its partners have in common: the CRC that an even part brings to a page, and that
+// What a part and its partners have in common: what an even part contributes to the CRC of a page, and that
 // which an odd part leaves to be brought.
 pub(crate) fn remainder(half: &Half) -> u64
     ensures same { result ≡ remainder_of half.now }

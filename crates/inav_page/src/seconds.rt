@@ -4,8 +4,8 @@
 
 ghost use Rattle.std.specs.Prelude.{◌≡◌, ℕ, ◌+◌, ◌%◌, ◌<◌, ◌≤◌, ◌⊎◌, ◌↔◌, IfSome, IfNone, IsTrue};
 ghost use Rattle.std.specs.Prelude.{OnOk, OnErr, [], length, max, Contains};
-ghost use Rattle.inav_page.specs.Mirrors.{half_of, keys_in, keys_of, AreSeconds, IsKey};
-ghost use Rattle.inav_page.specs.Mirrors.{IsSecondOf, KeepsKeys, PutsKey};
+ghost use Rattle.inav_page.specs.Mirrors.{half_of, keys_held, keys_in, keys_of, AreSeconds, IsKey};
+ghost use Rattle.inav_page.specs.Mirrors.{HoldsKey, IsSecondOf, KeepsKeys, PutsKey};
 
 use crate::keys::Key;
 use std::alloc::{AllocError, Global};
@@ -51,6 +51,7 @@ impl Second {
 fn make_places(alloc: Global, places: &mut Vec<Second>, count: usize) -> Result<(), AllocError>
     ensures enough { OnOk result (count ≤ length places.new.items) }
     ensures same { KeepsKeys places.old.items places.new.items }
+    ensures held { keys_held places.new.items ≡ keys_held places.old.items }
 {
     for _ in places.len()..count {
         places.push(Second {
@@ -68,6 +69,7 @@ impl Seconds {
         ensures window { result.window ≡ window }
         ensures greatest { result.greatest ≡ 0 }
         ensures keys { keys_in result ≡ [] }
+        ensures held { keys_held result.places.items ≡ [] }
         ensures seconds { AreSeconds result }
     {
         Seconds {
@@ -124,6 +126,9 @@ impl Seconds {
         ensures seconds { AreSeconds self.new }
         ensures err { OnErr result (self.new.greatest ≡ self.old.greatest) }
         ensures err_keys { OnErr result (keys_in self.new ≡ keys_in self.old) }
+        ensures held { OnOk result (HoldsKey self.old key self.new) }
+        ensures err_held { OnErr result
+            (keys_held self.new.places.items ≡ keys_held self.old.places.items) }
     {
         let place = self.place(stamp);
         make_places(alloc, &mut self.places, self.window as usize + 2)?;

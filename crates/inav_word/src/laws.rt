@@ -5,7 +5,7 @@ ghost use Rattle.nav_bits.specs.Packed.{AreBytes, ZerosFrom};
 ghost use Rattle.nav_eph.specs.Bodies.{IsGalHealth, IsGalIon};
 ghost use Rattle.nav_eph.specs.Conditions.{IsPart};
 ghost use Rattle.nav_eph.specs.Ranges.{IsGalWord1, IsGalWord2, IsGalWord3, IsGalWord4};
-ghost use Rattle.nav_eph.specs.Values.{IsPartValue};
+ghost use Rattle.nav_eph.specs.Values.{HasBodyRanges, IsPartValue};
 ghost use Rattle.nav_eph.specs.Satellite.{Satellite};
 ghost use Rattle.nav_eph.specs.Steps.{IsSisa, IsStep60};
 ghost use Rattle.nav_eph.specs.declared.galileo.GalWord1.{GalWord1};
@@ -177,4 +177,7 @@ pub fn word_parts()
         All (λ part. IsPart part.sat part.body) (all_parts parts) }
     ensures values { (bits : List ℕ) (sat : Satellite) (stamp : ℕ) (parts : WordParts) →
         stamp < 2 ^ 32 → reading_of bits sat stamp ≡ Ok parts → All IsPartValue (all_parts parts) }
+    ensures ranges { (bits : List ℕ) (sat : Satellite) (stamp : ℕ) (parts : WordParts) →
+        reading_of bits sat stamp ≡ Ok parts →
+        All (λ part. HasBodyRanges part.body) (all_parts parts) }
 {}

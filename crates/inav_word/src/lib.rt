@@ -1,6 +1,6 @@
 //! The words of the I/NAV message, read and written (Galileo OS SIS ICD, 4.3.5).
 //!
-//! A word is 128 bits, of which the first six are its type. Words 1 to 4 bring an ephemeris, and
+//! A word is 128 bits, of which the first six are its type. Words 1 to 4 carry an ephemeris, and
 //! word 5 the ionosphere, the delays, the health and the time of sending. Here are
 //!
 //! - [`read_word`], the parts that a word brings, or the first fault in it ([`WordFault`]);

@@ -138,7 +138,7 @@ fn append(bytes: &mut Vec<u8>, text: &str) -> Result<(), AllocError> {
     Ok(())
 }
 
-/// The texts one behind the other, in which `{NAME}` stands for the bits of that name.
+/// The concatenated texts, in which `{NAME}` stands for the bits of that name.
 pub(crate) fn expand(alloc: Global, texts: &[&str]) -> Result<Vec<u8>, AllocError> {
     let mut bytes = Vec::new(alloc);
     for text in texts {

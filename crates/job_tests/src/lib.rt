@@ -19,6 +19,8 @@ mod file_rows;
 #[cfg(test)]
 mod health_rows;
 #[cfg(test)]
+mod large_rows;
+#[cfg(test)]
 mod over_memory;
 #[cfg(test)]
 mod rinex3_rows;

@@ -82,9 +82,20 @@ pub(crate) fn run_over(
     input: &[u8],
     failing: &Failing,
 ) -> Result<Outcome, AllocError> {
+    run_within(alloc, OUTPUT_ROOM, words, input, failing)
+}
+
+/// The same with room for so many bytes of output.
+pub(crate) fn run_within(
+    alloc: Global,
+    room: usize,
+    words: &str,
+    input: &[u8],
+    failing: &Failing,
+) -> Result<Outcome, AllocError> {
     let words = words_of(alloc, words)?;
     let mut input = source_of(alloc, input, failing)?;
-    let mut output = sink_of(alloc, OUTPUT_ROOM, failing.writes)?;
+    let mut output = sink_of(alloc, room, failing.writes)?;
     let mut report = sink_of(alloc, REPORT_ROOM, failing.reports)?;
     let status = bridge(alloc, &words, &mut input, &mut output, &mut report);
     let left = input.left().len();

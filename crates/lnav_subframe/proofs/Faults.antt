@@ -1,4 +1,4 @@
--- A subframe's data bits have the faults of data bits alone, so the first fault of its bits is that of its data bits.
+-- What is read of a subframe's data bits is of GPS.
 use Rattle.std.proofs.Common.{◌≡◌, ℕ, List, Bool, true, false, Result, Ok, Err, ◌<◌, refl, sym, subst, ◌∙◌, nat_eq, nat_le, nat_lt, ◌&&◌, if◌then◌else◌}
 use Rattle.nav_bits.specs.Laws.{number_at-lt}
 use Rattle.nav_eph.specs.Conditions.{HasGpsWeek, IsPart, system_of}
@@ -6,47 +6,18 @@ use Rattle.nav_eph.specs.Satellite.{Satellite}
 use Rattle.nav_eph.specs.declared.sat.System.TheVariants.{Gps}
 use Rattle.nav_eph.specs.declared.part.Body.{Body}
 use Rattle.lnav_subframe.specs.declared.fault.LnavFault.{LnavFault}
-use Rattle.lnav_subframe.specs.declared.fault.LnavFault.TheVariants.{Preamble, Parity, BadTow, Unused, BadTime}
 use Rattle.lnav_subframe.specs.declared.head.Head.{Head}
 use Rattle.lnav_subframe.specs.declared.clock.Subframe1.{Subframe1}
 use Rattle.lnav_subframe.specs.declared.orbit.Subframe2.{Subframe2}
 use Rattle.lnav_subframe.specs.declared.orbit.Subframe3.{Subframe3}
 use Rattle.lnav_subframe.specs.declared.page18.Page18.{Page18}
-use Rattle.lnav_subframe.specs.Reading.{content, read_by, IsFirstFault}
+use Rattle.lnav_subframe.specs.Reading.{content, read_by}
 use Rattle.lnav_subframe.specs.Subframes.{head_at, subframe1_at, subframe2_at, subframe3_at, page18_at}
 use Rattle.lnav_subframe.specs.Words.{AreGood, AreSource, HasPreamble, IsSubframe, upright}
-
--- the answer is no fault of the preamble or of a word
-abbrev OfData : Result Body LnavFault → Type 0
-OfData (Ok body) = Unit {0}
-OfData (Err Preamble) = ⊥
-OfData (Err (Parity word)) = ⊥
-OfData (Err fault) = Unit {0}
 
 either : (P : Result Body LnavFault → Type 0) (b : Bool) (x y : Result Body LnavFault) → P x → P y → P (if b then x else y)
 either P true x y p q = p
 either P false x y p q = q
-
-of_data : (h : Head) (s1 : Subframe1) (s2 : Subframe2) (s3 : Subframe3) (p : Page18) → OfData (read_by h s1 s2 s3 p)
-of_data h s1 s2 s3 p =
-    either OfData (nat_le 100800 h.count) _ _ tt
-    (either OfData (nat_eq h.number 1) _ _ (either OfData (nat_lt s1.toc 37800) _ _ tt tt)
-    (either OfData (nat_eq h.number 2) _ _ (either OfData (nat_lt s2.toe 37800) _ _ tt tt)
-    (either OfData (nat_eq h.number 3) _ _ tt
-    (either OfData (nat_eq h.number 4 && nat_eq h.page 56) _ _ tt tt))))
-
-fault_of : (bits source : List ℕ) (r : Result Body LnavFault) (fault : LnavFault) → OfData r → r ≡ Err fault → IsSubframe bits source → content source ≡ r → IsFirstFault bits fault
-fault_of bits source r Preamble ofs e is same = absurd (subst OfData e ofs)
-fault_of bits source r (Parity word) ofs e is same = absurd (subst OfData e ofs)
-fault_of bits source r BadTow ofs e is same = (source, is, same ∙ e)
-fault_of bits source r (Unused number page) ofs e is same = (source, is, same ∙ e)
-fault_of bits source r BadTime ofs e is same = (source, is, same ∙ e)
-
--- the fault of the data bits is the first one
-pub first_fault : (bits source : List ℕ) (fault : LnavFault) → IsSubframe bits source → content source ≡ Err fault → IsFirstFault bits fault
-first_fault bits source fault is e =
-    fault_of bits source (content source) fault
-    (of_data (head_at source 0) (subframe1_at source 0) (subframe2_at source 0) (subframe3_at source 0) (page18_at source 0)) e is refl
 
 -- the data bits of what is to be read are those of the subframe
 pub is_subframe : (bits new source : List ℕ) → HasPreamble bits → new ≡ upright bits → AreGood new 10 → AreSource new source 10 → IsSubframe bits source

@@ -1,5 +1,5 @@
 -- The function of the reading is the reading.
-use Rattle.std.proofs.Common.{◌≡◌, ℕ, zero, suc, ◌+◌, ◌-◌, ◌*◌, ◌<◌, ◌≤◌, IfOk, IfErr, List, Bool, true, false, ◌||◌, nat_eq, Option, None, Some, Result, Ok, Err, inl, inr, refl, sym, ap, ◌∙◌, subst, arith}
+use Rattle.std.proofs.Common.{◌≡◌, ℕ, zero, suc, ◌+◌, ◌-◌, ◌*◌, ◌<◌, ◌≤◌, List, Bool, true, false, ◌||◌, if◌then◌else◌, nat_eq, Option, None, Some, Result, Ok, Err, inl, inr, refl, sym, ap, ◌∙◌, subst, arith}
 use Rattle.std.proofs.lemmas.Bool.{cases_lt, cond_both, eqb-true, true≢false}
 use Rattle.nav_bits.specs.Bits.{number_at}
 use Rattle.nav_bits.specs.Fields.{StandFrom, table_width}
@@ -12,11 +12,13 @@ use Rattle.lnav_subframe.specs.ParityFunctions.{is_good, source_of}
 use Rattle.lnav_subframe.specs.Parity.{IsGood, IsSource}
 use Rattle.lnav_subframe.proofs.ParitySurface.{good-decides, source-is}
 use Rattle.lnav_subframe.specs.declared.fault.LnavFault.{LnavFault}
-use Rattle.lnav_subframe.specs.declared.fault.LnavFault.TheVariants.{Preamble}
-use Rattle.lnav_subframe.specs.Reading.{IsFirstFault, StandsFor, by_words, content, heard, subframe_of}
-use Rattle.lnav_subframe.specs.Words.{AreSource, HasPreamble, IsFirstBad, IsSubframe, bad_word_from, data_bits_of, data_fields, has_preamble, last_before, upright, word_of}
-use Rattle.lnav_subframe.proofs.Again.{one_answer}
-use Rattle.lnav_subframe.proofs.Faults.{first_fault}
+use Rattle.lnav_subframe.specs.declared.fault.LnavFault.TheVariants.{Preamble, Parity}
+use Rattle.lnav_subframe.specs.Reading.{StandsFor, by_words, content, heard, subframe_of}
+use Rattle.lnav_subframe.specs.Words.{AreGood, AreSource, HasPreamble, IsFirstBad, IsSubframe, bad_word_from, data_bits_of, data_fields, has_preamble, last_before, upright, word_of}
+use Rattle.lnav_subframe.specs.declared.out.SubframeOut.{SubframeOut}
+use Rattle.lnav_subframe.specs.Writing.{AllReadAs, HasTime, IsWritable, IsWritten, read_again}
+use Rattle.lnav_subframe.proofs.Agree.{good_word, preamble_sent, two_agree}
+use Rattle.lnav_subframe.proofs.Again.{as_written, content_same, good_before, preamble_held, same_word, stays}
 
 -- ---- the preamble
 
@@ -126,35 +128,96 @@ data_source bits k low =
 
 -- ---- the reading
 
--- an answer is one that a reader may give
-abbrev pub IsAnswer : List ℕ → Satellite → ℕ → Result Part LnavFault → Type 0
-IsAnswer bits sat stamp r = IfOk r (StandsFor bits sat stamp) × IfErr r (IsFirstFault bits)
-
 whole : (bits : List ℕ) → HasPreamble bits → Goods (upright bits) 0 10 → IsSubframe bits (data_bits_of (upright bits))
 whole bits begins good = record { preamble = begins; good = λ k h. good k (omega arith) h; data_bits = data_source (upright bits) }
 
-of_content : (bits source : List ℕ) (sat : Satellite) (stamp : ℕ) (r : Result Body LnavFault) → IsSubframe bits source → content source ≡ r
-    → IsAnswer bits sat stamp (heard sat stamp r)
-of_content bits source sat stamp (Ok body) is e = ((refl, refl, (source, is, e)), tt)
-of_content bits source sat stamp (Err fault) is e = (tt, first_fault bits source fault is e)
+preamble_from : (bits : List ℕ) → HasPreamble bits → has_preamble bits ≡ true
+preamble_from bits begins = told (has_preamble bits) refl
+  where
+    told : (b : Bool) → has_preamble bits ≡ b → has_preamble bits ≡ true
+    told true e = e
+    told false e = absurd (preamble_false bits e begins)
 
-of_words : (bits : List ℕ) (sat : Satellite) (stamp : ℕ) (w : Option ℕ) → HasPreamble bits → Judged (upright bits) 0 10 w
-    → IsAnswer bits sat stamp (by_words (upright bits) sat stamp w)
-of_words bits sat stamp None begins good =
-    of_content bits (data_bits_of (upright bits)) sat stamp (content (data_bits_of (upright bits))) (whole bits begins good) refl
-of_words bits sat stamp (Some word) begins bad = (tt, (begins, first_bad (upright bits) word bad))
+no_preamble_from : (bits : List ℕ) → (HasPreamble bits → ⊥) → has_preamble bits ≡ false
+no_preamble_from bits none = told (has_preamble bits) refl
+  where
+    told : (b : Bool) → has_preamble bits ≡ b → has_preamble bits ≡ false
+    told true e = absurd (none (preamble_true bits e))
+    told false e = e
 
--- the function gives an answer
-pub function_answers : (bits : List ℕ) (sat : Satellite) (stamp : ℕ) → IsAnswer bits sat stamp (subframe_of bits sat stamp)
+no_bad : (bits : List ℕ) (w : Option ℕ) → AreGood bits 10 → Judged bits 0 10 w → w ≡ None
+no_bad bits None good is = refl
+no_bad bits (Some word) good is = absurd (good_before bits word good (first_bad bits word is))
+
+one_bad : (bits : List ℕ) (word : ℕ) (w : Option ℕ) → IsFirstBad bits word → Judged bits 0 10 w → w ≡ Some word
+one_bad bits word None bad is = absurd (bad.bad (is (word - 1) (omega arith) (omega (arith, bad.low, bad.high))))
+one_bad bits word (Some v) bad is = ap Some (same_word bits v word (first_bad bits v is) bad)
+
+-- by whether the bits begin as a subframe
+abbrev by_preamble : List ℕ → Satellite → ℕ → Bool → Result Part LnavFault
+by_preamble bits sat stamp begins = if begins then by_words (upright bits) sat stamp (bad_word_from (upright bits) 0 10) else Err Preamble
+
+-- the function gives what the data bits of a subframe stand for, and refuses other bits
+pub of_subframe : (bits source : List ℕ) (sat : Satellite) (stamp : ℕ) → IsSubframe bits source → subframe_of bits sat stamp ≡ heard sat stamp (content source)
 unfolding subframe_of
-function_answers bits sat stamp =
-    cond_both (has_preamble bits) (by_words (upright bits) sat stamp (bad_word_from (upright bits) 0 10)) (Err Preamble) (IsAnswer bits sat stamp)
-    (λ begins. of_words bits sat stamp (bad_word_from (upright bits) 0 10) (preamble_true bits begins) (judged (upright bits) 0 10))
-    (λ none. (tt, preamble_false bits none))
+of_subframe bits source sat stamp is =
+    let both = two_agree (upright bits) source (data_bits_of (upright bits)) is.data_bits (data_source (upright bits)) in
+    ap (by_preamble bits sat stamp) (preamble_from bits is.preamble)
+    ∙ ap (by_words (upright bits) sat stamp) (no_bad (upright bits) (bad_word_from (upright bits) 0 10) is.good (judged (upright bits) 0 10))
+    ∙ ap (heard sat stamp) (content_same source (data_bits_of (upright bits)) both)
 
--- and each answer is the function's
-pub answer_is : (bits : List ℕ) (sat : Satellite) (stamp : ℕ) (r : Result Part LnavFault) → IfOk r (StandsFor bits sat stamp) → IfErr r (IsFirstFault bits)
-    → r ≡ subframe_of bits sat stamp
-answer_is bits sat stamp r p q =
-    let f = function_answers bits sat stamp in
-    one_answer bits sat stamp r (subframe_of bits sat stamp) p q f.0 f.1
+pub of_bad_word : (bits : List ℕ) (sat : Satellite) (stamp word : ℕ) → HasPreamble bits → IsFirstBad (upright bits) word → subframe_of bits sat stamp ≡ Err (Parity word)
+unfolding subframe_of
+of_bad_word bits sat stamp word begins bad =
+    ap (by_preamble bits sat stamp) (preamble_from bits begins)
+    ∙ ap (by_words (upright bits) sat stamp) (one_bad (upright bits) word (bad_word_from (upright bits) 0 10) bad (judged (upright bits) 0 10))
+
+pub of_no_preamble : (bits : List ℕ) (sat : Satellite) (stamp : ℕ) → (HasPreamble bits → ⊥) → subframe_of bits sat stamp ≡ Err Preamble
+unfolding subframe_of
+of_no_preamble bits sat stamp none = ap (by_preamble bits sat stamp) (no_preamble_from bits none)
+
+-- the bits stand for the part that the function gives, and the function gives the part that they stand for
+abbrev given : Part → Result Part LnavFault
+given p = Ok p
+
+given_is : (p q : Part) → given p ≡ given q → p ≡ q
+given_is p q e = cc
+
+no_ok : {X E : Type 0} {x : E} {y : X} → Err x ≡ Ok y → ⊥
+no_ok e = cc
+
+heard_is : (sat : Satellite) (stamp : ℕ) (r : Result Body LnavFault) (part : Part) → heard sat stamp r ≡ Ok part → (part.stamp ≡ stamp) × (part.sat ≡ sat) × (r ≡ Ok part.body)
+heard_is sat stamp (Ok body) part e = let f = given_is (record { stamp = stamp; sat = sat; body = body }) part e in (sym (ap (λ (p : Part). p.stamp) f), sym (ap (λ (p : Part). p.sat) f), ap (λ (p : Part). Ok p.body) f)
+heard_is sat stamp (Err fault) part e = absurd (no_ok e)
+
+stands_by : (bits : List ℕ) (sat : Satellite) (stamp : ℕ) (w : Option ℕ) (part : Part) → HasPreamble bits → Judged (upright bits) 0 10 w
+    → by_words (upright bits) sat stamp w ≡ Ok part → StandsFor bits sat stamp part
+stands_by bits sat stamp None part begins good e =
+    let h = heard_is sat stamp (content (data_bits_of (upright bits))) part e in (h.0, h.1, (data_bits_of (upright bits), whole bits begins good, h.2))
+stands_by bits sat stamp (Some word) part begins bad e = absurd (no_ok e)
+
+pub stands : (bits : List ℕ) (sat : Satellite) (stamp : ℕ) (part : Part) → subframe_of bits sat stamp ≡ Ok part → StandsFor bits sat stamp part
+unfolding subframe_of
+stands bits sat stamp part e = told (has_preamble bits) refl e
+  where
+    told : (b : Bool) → has_preamble bits ≡ b → by_preamble bits sat stamp b ≡ Ok part → StandsFor bits sat stamp part
+    told true is f = stands_by bits sat stamp (bad_word_from (upright bits) 0 10) part (preamble_true bits is) (judged (upright bits) 0 10) f
+    told false is f = absurd (no_ok f)
+
+pub stands_back : (bits : List ℕ) (sat : Satellite) (stamp : ℕ) (part : Part) → StandsFor bits sat stamp part → subframe_of bits sat stamp ≡ Ok part
+stands_back bits sat stamp part h =
+    let s = sym h.0 in
+    let t = sym h.1 in
+    of_subframe bits h.2.0 sat stamp h.2.1 ∙ ap (heard sat stamp) h.2.2 ∙ (λ i. Ok (record { stamp = s i; sat = t i; body = part.body }))
+
+-- what was written is read as it was
+pub read_as_written : (body : SubframeOut) (count : ℕ) (bits : List ℕ) → count < 100800 → IsWritable body → HasTime body → IsWritten body count bits
+    → AllReadAs bits (read_again body count)
+read_as_written body count bits low ok time written sat stamp =
+    let begins : number_at bits 0 8 ≡ 139 = preamble_sent bits written.0 written.2 ∙ preamble_held body count written.0 written.1 in
+    let up : upright bits ≡ bits = stays bits begins in
+    let good : AreGood bits 10 = λ k h. good_word k (word_of bits k) (last_before bits k) _ (written.2.words k h) in
+    let right : AreGood (upright bits) 10 = subst (λ (u : List ℕ). AreGood u 10) (sym up) good in
+    let is : IsSubframe bits (data_bits_of (upright bits)) = whole bits (inl begins) (λ k l h. right k h) in
+    of_subframe bits (data_bits_of (upright bits)) sat stamp is
+    ∙ ap (heard sat stamp) (as_written body count bits written.0 (data_bits_of (upright bits)) low ok time written.1 written.2 up is)

@@ -11,6 +11,7 @@ pub mod Agree
 pub mod Again
 pub mod Functions
 pub mod Values
+pub mod Ranges
 pub mod Bytes
 pub mod Stand
 pub mod Surface

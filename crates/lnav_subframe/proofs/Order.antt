@@ -7,7 +7,7 @@ use Rattle.nav_eph.specs.declared.part.Body.{Body}
 use Rattle.lnav_subframe.specs.declared.fault.LnavFault.{LnavFault}
 use Rattle.lnav_subframe.specs.declared.fault.LnavFault.TheVariants.{Preamble, Parity, BadTow, Unused, BadTime}
 use Rattle.lnav_subframe.specs.declared.head.Head.{Head}
-use Rattle.lnav_subframe.specs.Faults.{HasFault, IsFirstInOrder, IsUsed, head_of, order_of, source_bits}
+use Rattle.lnav_subframe.specs.Faults.{HasFault, IsFirstFault, IsUsed, head_of, order_of, source_bits}
 use Rattle.lnav_subframe.specs.Reading.{by_words, content, heard, page_of, subframe_of}
 use Rattle.lnav_subframe.specs.Subframes.{subframe1_at, subframe2_at}
 use Rattle.lnav_subframe.specs.Words.{AreGood, HasPreamble, IsFirstBad, bad_word_from, has_preamble, upright}
@@ -27,7 +27,7 @@ clear bits k begins good week used time BadTime low has = time low has
 -- the answer has its fault in the order, or the subframe has none
 abbrev Judges : List ℕ → Result Part LnavFault → Type 0
 Judges bits (Ok part) = (fault : LnavFault) → HasFault bits fault → ⊥
-Judges bits (Err fault) = IsFirstInOrder bits fault
+Judges bits (Err fault) = IsFirstFault bits fault
 
 order-lt : (fault : LnavFault) → order_of fault < 6
 order-lt Preamble = omega arith
@@ -36,13 +36,13 @@ order-lt BadTow = omega arith
 order-lt (Unused number page) = omega arith
 order-lt BadTime = omega arith
 
-no_preamble : (bits : List ℕ) → (HasPreamble bits → ⊥) → IsFirstInOrder bits Preamble
+no_preamble : (bits : List ℕ) → (HasPreamble bits → ⊥) → IsFirstFault bits Preamble
 no_preamble bits none = record {
   has = none;
   first = clear bits 1 (λ h. absurd (omega arith)) (λ h. absurd (omega arith)) (λ h. absurd (omega arith)) (λ h. absurd (omega arith)) (λ h. absurd (omega arith));
 }
 
-bad_word : (bits : List ℕ) (word : ℕ) → HasPreamble bits → IsFirstBad (upright bits) word → IsFirstInOrder bits (Parity word)
+bad_word : (bits : List ℕ) (word : ℕ) → HasPreamble bits → IsFirstBad (upright bits) word → IsFirstFault bits (Parity word)
 bad_word bits word begins bad = record {
   has = bad;
   first = clear bits 2 (λ h. begins) (λ h. absurd (omega arith)) (λ h. absurd (omega arith)) (λ h. absurd (omega arith)) (λ h. absurd (omega arith));
@@ -80,7 +80,7 @@ no_fault bits begins good week used time fault =
     clear bits 6 (λ h. begins) (λ h. good) (λ h. week) (λ h. used) (λ h. time) fault (order-lt fault)
 
 late : (bits : List ℕ) → HasPreamble bits → AreGood (upright bits) 10 → (head_of bits).count < 100800 → IsUsed (head_of bits) → HasFault bits BadTime
-    → IsFirstInOrder bits BadTime
+    → IsFirstFault bits BadTime
 late bits begins good week used has = record {
   has = has;
   first = clear bits 5 (λ h. begins) (λ h. good) (λ h. week) (λ h. used) (λ h. absurd (omega arith));
@@ -161,18 +161,18 @@ is_at bits BadTow has = refl
 is_at bits (Unused number page) has = ap (λ n. Unused n page) has.1 ∙ ap (λ g. Unused (head_of bits).number g) has.2
 is_at bits BadTime has = refl
 
-one_first : (bits : List ℕ) (a b : LnavFault) → IsFirstInOrder bits a → IsFirstInOrder bits b → a ≡ b
+one_first : (bits : List ℕ) (a b : LnavFault) → IsFirstFault bits a → IsFirstFault bits b → a ≡ b
 one_first bits a b x y =
     let not_below : order_of a < order_of b → ⊥ = λ h. y.first a h x.has in
     let not_above : order_of b < order_of a → ⊥ = λ h. x.first b h y.has in
     let same : order_of a ≡ order_of b = omega (arith, not_below, not_above) in
     is_at bits a x.has ∙ ap (fault_at bits) same ∙ sym (is_at bits b y.has)
 
-by_judge : (bits : List ℕ) (r : Result Part LnavFault) (fault : LnavFault) → Judges bits r → IsFirstInOrder bits fault → r ≡ Err fault
+by_judge : (bits : List ℕ) (r : Result Part LnavFault) (fault : LnavFault) → Judges bits r → IsFirstFault bits fault → r ≡ Err fault
 by_judge bits (Ok part) fault none is = absurd (none fault is.has)
 by_judge bits (Err other) fault first is = ap Err (one_first bits other fault first is)
 
 -- a fault is the answer exactly where it is the first
-pub first_refuses : (bits : List ℕ) (sat : Satellite) (stamp : ℕ) (fault : LnavFault) → (subframe_of bits sat stamp ≡ Err fault) ↔ IsFirstInOrder bits fault
+pub first_refuses : (bits : List ℕ) (sat : Satellite) (stamp : ℕ) (fault : LnavFault) → (subframe_of bits sat stamp ≡ Err fault) ↔ IsFirstFault bits fault
 first_refuses bits sat stamp fault =
     (λ e. subst (Judges bits) e (judges bits sat stamp), λ is. by_judge bits (subframe_of bits sat stamp) fault (judges bits sat stamp) is)

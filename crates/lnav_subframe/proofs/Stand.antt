@@ -20,9 +20,8 @@ use Rattle.lnav_subframe.specs.Bytes.{HasDigits, data_of, data_table, subframe_b
 use Rattle.lnav_subframe.specs.Reading.{heard, subframe_of}
 use Rattle.lnav_subframe.specs.Words.{IsWord, last_before, word_of}
 use Rattle.lnav_subframe.specs.Writing.{HasTime, Holds, IsWritable, IsWritten, read_again}
-use Rattle.lnav_subframe.proofs.Again.{read_as_written}
 use Rattle.lnav_subframe.proofs.Bytes.{data_fits, data_width, words_fit, words_width}
-use Rattle.lnav_subframe.proofs.Functions.{function_answers}
+use Rattle.lnav_subframe.proofs.Functions.{read_as_written}
 use Rattle.lnav_subframe.proofs.Places.{plain_word, second_word, tenth_word}
 
 -- ---- the data bits
@@ -162,6 +161,4 @@ has_time (Other number page) has = tt
 pub bytes_read : (body : SubframeOut) (count : ℕ) (sat : Satellite) (stamp : ℕ) → HasDigits body → count < 100800 → IsWritable body
     → subframe_of (subframe_bytes body count) sat stamp ≡ heard sat stamp (read_again body count)
 bytes_read body count sat stamp has low ok =
-    let answers = function_answers (subframe_bytes body count) sat stamp in
     read_as_written body count (subframe_bytes body count) low ok (has_time body has) (is_written body count has low) sat stamp
-    (subframe_of (subframe_bytes body count) sat stamp) answers.0 answers.1

@@ -1,5 +1,5 @@
 -- What is read has the satellite and the stamp with which it was heard, and its fields within their digits.
-use Rattle.std.proofs.Common.{◌≡◌, ℕ, ◌-◌, ◌*◌, ◌<◌, ◌^◌, IfOk, List, ◌&&◌, nat_eq, nat_le, nat_lt, Result, Ok, Err, lit<, refl, sym, ap, ◌∙◌, subst, arith}
+use Rattle.std.proofs.Common.{◌≡◌, ℕ, ◌-◌, ◌*◌, ◌<◌, ◌^◌, List, ◌&&◌, nat_eq, nat_le, nat_lt, Result, Ok, Err, lit<, refl, sym, ap, ◌∙◌, subst, arith}
 use Rattle.std.proofs.lemmas.Bool.{cond_both, leb-false}
 use Rattle.nav_bits.specs.Bits.{number_at, signed_at}
 use Rattle.nav_bits.specs.Laws.{number_at-lt}
@@ -18,10 +18,10 @@ use Rattle.lnav_subframe.specs.declared.clock.Subframe1.{Subframe1}
 use Rattle.lnav_subframe.specs.declared.orbit.Subframe2.{Subframe2}
 use Rattle.lnav_subframe.specs.declared.orbit.Subframe3.{Subframe3}
 use Rattle.lnav_subframe.specs.declared.page18.Page18.{Page18}
-use Rattle.lnav_subframe.specs.Reading.{StandsFor, content, ion_of, read_by, side_of, start_second, subframe_of}
+use Rattle.lnav_subframe.specs.Reading.{content, ion_of, read_by, side_of, start_second, subframe_of}
 use Rattle.lnav_subframe.specs.Subframes.{head_at, subframe1_at, subframe2_at, subframe3_at, page18_at}
 use Rattle.lnav_subframe.proofs.Faults.{is_part}
-use Rattle.lnav_subframe.proofs.Functions.{function_answers}
+use Rattle.lnav_subframe.proofs.Functions.{stands}
 
 start-lt : (count : ℕ) → count < 100800 → start_second count < 604800
 start-lt count low =
@@ -30,7 +30,7 @@ start-lt count low =
 octet : (bits : List ℕ) (at : ℕ) → IsSigned 8 (signed_at bits at 8)
 octet bits at = signed_of-fits 8 (number_at bits at 8) (omega arith) (number_at-lt bits at 8)
 
-side_fits : (bits : List ℕ) → IsGpsSide (side_of (subframe1_at bits 0))
+pub side_fits : (bits : List ℕ) → IsGpsSide (side_of (subframe1_at bits 0))
 side_fits bits = record {
   l2_code = number_at-lt bits 70 2;
   ura = number_at-lt bits 72 4;
@@ -38,7 +38,7 @@ side_fits bits = record {
   l2p = number_at-lt bits 90 1;
 }
 
-ion_fits : (bits : List ℕ) → IsGpsIon (ion_of (page18_at bits 0))
+pub ion_fits : (bits : List ℕ) → IsGpsIon (ion_of (page18_at bits 0))
 ion_fits bits = record {
   alpha0 = octet bits 68;
   alpha1 = octet bits 76;
@@ -72,9 +72,6 @@ content_values source body e =
     subst HasValue e
     (values_by (head_at source 0) (subframe1_at source 0) (subframe2_at source 0) (subframe3_at source 0) (page18_at source 0)
     refl refl (side_fits source) (number_at-lt source 60 10) (ion_fits source))
-
-stands : (bits : List ℕ) (sat : Satellite) (stamp : ℕ) (part : Part) → subframe_of bits sat stamp ≡ Ok part → StandsFor bits sat stamp part
-stands bits sat stamp part e = subst (λ r. IfOk r (StandsFor bits sat stamp)) e (function_answers bits sat stamp).0
 
 pub part_stamp : (bits : List ℕ) (sat : Satellite) (stamp : ℕ) (part : Part) → subframe_of bits sat stamp ≡ Ok part → part.stamp ≡ stamp
 part_stamp bits sat stamp part e = (stands bits sat stamp part e).0

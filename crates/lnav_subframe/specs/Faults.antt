@@ -42,6 +42,6 @@ order_of (Unused number page) = 4
 order_of BadTime = 5
 
 -- the subframe has the fault, and none before it in the order
-pub record IsFirstInOrder (bits : List ℕ) (fault : LnavFault) : Type 0 where
+pub record IsFirstFault (bits : List ℕ) (fault : LnavFault) : Type 0 where
   pub has : HasFault bits fault
   pub first : (other : LnavFault) → order_of other < order_of fault → HasFault bits other → ⊥

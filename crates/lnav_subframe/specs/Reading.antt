@@ -1,4 +1,4 @@
--- What the bits of a subframe stand for, and the first of its faults.
+-- What the bits of a subframe stand for, as a relation and as a function.
 use Rattle.std.specs.Prelude.{◌≡◌, ℕ, ◌-◌, ◌*◌, ◌&&◌, List, nat_eq, nat_le, nat_lt, if◌then◌else◌, Option, None, Some, Result, Ok, Err}
 use Rattle.nav_eph.specs.Satellite.{Satellite}
 use Rattle.nav_eph.specs.declared.gps.GpsClock.{GpsClock}
@@ -18,7 +18,7 @@ use Rattle.lnav_subframe.specs.declared.orbit.Subframe2.{Subframe2}
 use Rattle.lnav_subframe.specs.declared.orbit.Subframe3.{Subframe3}
 use Rattle.lnav_subframe.specs.declared.page18.Page18.{Page18}
 use Rattle.lnav_subframe.specs.Subframes.{head_at, subframe1_at, subframe2_at, subframe3_at, page18_at}
-use Rattle.lnav_subframe.specs.Words.{HasPreamble, IsFirstBad, IsSubframe, upright}
+use Rattle.lnav_subframe.specs.Words.{IsSubframe, upright}
 use Rattle.lnav_subframe.specs.Words.{bad_word_from, data_bits_of, has_preamble}
 
 -- the second of the week at which a subframe starts, by its count, which names the start of the next
@@ -79,13 +79,6 @@ content source = read_by (head_at source 0) (subframe1_at source 0) (subframe2_a
 abbrev pub StandsFor : List ℕ → Satellite → ℕ → Part → Type 0
 StandsFor bits sat stamp part =
     (part.stamp ≡ stamp) × (part.sat ≡ sat) × ((source : List ℕ) × IsSubframe bits source × (content source ≡ Ok part.body))
-
--- the fault is the first of the subframe: it does not begin as one, or a word is not good, or its data
--- bits have that fault
-abbrev pub IsFirstFault : List ℕ → LnavFault → Type 0
-IsFirstFault bits Preamble = HasPreamble bits → ⊥
-IsFirstFault bits (Parity word) = HasPreamble bits × IsFirstBad (upright bits) word
-IsFirstFault bits fault = (source : List ℕ) × IsSubframe bits source × (content source ≡ Err fault)
 
 -- ---- the same as a function
 

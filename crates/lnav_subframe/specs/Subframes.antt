@@ -1,5 +1,5 @@
 -- The fields of the subframes of the LNAV message (IS-GPS-200, figure 20-1). Bit n of the standard is
--- at the place at + (n - 1); a field in two ranges is one behind the other. What is no field, the parity
+-- at bit offset at + (n - 1); a field in two ranges is their concatenation. What is no field, the parity
 -- bits among it, is 0 but for the preamble and the numbers that name the subframe and the page.
 use Rattle.std.specs.Prelude.{◌≡◌, ℕ, ◌+◌, ◌*◌, ◌^◌, List}
 use Rattle.nav_bits.specs.Bits.{number_at, signed_at, SameInside}

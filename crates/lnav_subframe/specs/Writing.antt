@@ -1,9 +1,8 @@
 -- Which bits a subframe is written with.
-use Rattle.std.specs.Prelude.{◌≡◌, ℕ, ◌*◌, ◌<◌, ◌≤◌, List, Result, Ok, Err, IfOk, IfErr}
+use Rattle.std.specs.Prelude.{◌≡◌, ℕ, ◌*◌, ◌<◌, ◌≤◌, List, Result, Ok, Err}
 use Rattle.nav_bits.specs.Bits.{number_at}
 use Rattle.nav_eph.specs.Satellite.{Satellite}
 use Rattle.nav_eph.specs.Steps.{IsStep16}
-use Rattle.nav_eph.specs.declared.part.Part.{Part}
 use Rattle.nav_eph.specs.declared.gps.GpsClock.{GpsClock}
 use Rattle.nav_eph.specs.declared.gps.GpsSide.{GpsSide}
 use Rattle.nav_eph.specs.declared.gps.GpsOrbitA.{GpsOrbitA}
@@ -21,7 +20,7 @@ use Rattle.lnav_subframe.specs.declared.page18.Page18.{Page18}
 use Rattle.lnav_subframe.specs.declared.out.SubframeOut.{SubframeOut}
 use Rattle.lnav_subframe.specs.declared.out.SubframeOut.TheVariants.{Clock, OrbitA, OrbitB, Ion, Other}
 use Rattle.lnav_subframe.specs.Subframes.{head_at, head_rest, subframe1_at, subframe1_rest, subframe2_at, subframe2_rest, subframe3_at, subframe3_rest, page18_at, page18_rest}
-use Rattle.lnav_subframe.specs.Reading.{IsFirstFault, StandsFor, heard, start_second}
+use Rattle.lnav_subframe.specs.Reading.{heard, start_second, subframe_of}
 use Rattle.lnav_subframe.specs.Words.{IsWord, last_before, word_of}
 
 -- the subframe is one that is written: another page is one of subframe 4 or 5, and not page 18
@@ -119,7 +118,6 @@ read_again (OrbitB orbit) count = Ok (OrbitBBody orbit)
 read_again (Ion ion) count = Ok (IonBody ion (start_second count))
 read_again (Other number page) count = Err (Unused number page)
 
--- each answer that a reader may give to the bits, of whichever satellite and at whichever second, is that
+-- the bits are read as that, of whichever satellite and at whichever second
 abbrev pub AllReadAs : List ℕ → Result Body LnavFault → Type 0
-AllReadAs bits answer =
-    (sat : Satellite) (stamp : ℕ) (r : Result Part LnavFault) → IfOk r (StandsFor bits sat stamp) → IfErr r (IsFirstFault bits) → r ≡ heard sat stamp answer
+AllReadAs bits answer = (sat : Satellite) (stamp : ℕ) → subframe_of bits sat stamp ≡ heard sat stamp answer

@@ -12,7 +12,7 @@ pub enum LnavFault {
         /// The first such word, 1 to 10.
         word: u8,
     },
-    /// The count is 100,800 or more, and a week has no such subframe.
+    /// The TOW count is 100,800 or more, and a week has no such subframe.
     #[error("count past the week")]
     BadTow,
     /// The subframe is not 1, 2 or 3, nor page 18 of subframe 4.

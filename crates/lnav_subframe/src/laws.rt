@@ -1,6 +1,6 @@
-ghost use Rattle.std.specs.Prelude.{◌≡◌, ℕ, ◌<◌, ◌^◌, ◌↔◌, List, IfErr, IfOk, Ok, Err, Result};
+ghost use Rattle.std.specs.Prelude.{◌≡◌, ℕ, ◌<◌, ◌^◌, ◌↔◌, List, Ok, Err};
 ghost use Rattle.nav_eph.specs.Conditions.{IsPart};
-ghost use Rattle.nav_eph.specs.Values.{IsPartValue};
+ghost use Rattle.nav_eph.specs.Values.{HasBodyRanges, IsPartValue};
 ghost use Rattle.nav_eph.specs.declared.sat.System.TheVariants.{Gps};
 ghost use Rattle.nav_eph.specs.Satellite.{Satellite};
 ghost use Rattle.nav_eph.specs.declared.part.Part.{Part};
@@ -8,8 +8,8 @@ ghost use Rattle.lnav_subframe.specs.declared.fault.LnavFault.{LnavFault};
 ghost use Rattle.lnav_subframe.specs.declared.out.SubframeOut.{SubframeOut};
 ghost use Rattle.nav_bits.specs.Packed.{AreBytes};
 ghost use Rattle.lnav_subframe.specs.Bytes.{HasDigits, subframe_bytes};
-ghost use Rattle.lnav_subframe.specs.Faults.{IsFirstInOrder};
-ghost use Rattle.lnav_subframe.specs.Reading.{IsFirstFault, StandsFor, heard, subframe_of};
+ghost use Rattle.lnav_subframe.specs.Faults.{IsFirstFault};
+ghost use Rattle.lnav_subframe.specs.Reading.{StandsFor, heard, subframe_of};
 ghost use Rattle.lnav_subframe.specs.Writing.{AllReadAs, HasTime, IsWritable, IsWritten};
 ghost use Rattle.lnav_subframe.specs.Writing.{read_again};
 
@@ -21,28 +21,16 @@ pub fn written_is_read()
         IsWritten body count bits → AllReadAs bits (read_again body count) }
 {}
 
-/// There are no two answers to the same bits: a part that they stand for, or their first fault.
-pub fn one_answer()
-    ensures { (bits : List ℕ) (sat : Satellite) (stamp : ℕ) (r s : Result Part LnavFault) →
-        IfOk r (StandsFor bits sat stamp) → IfErr r (IsFirstFault bits) →
-        IfOk s (StandsFor bits sat stamp) → IfErr s (IsFirstFault bits) → r ≡ s }
-{}
-
-/// The answer to the bits is `subframe_of`: a part that they stand for, or their first fault.
+/// The answer to the bits is a part exactly where they stand for it.
 pub fn subframe_function()
-    ensures part { (bits : List ℕ) (sat : Satellite) (stamp : ℕ) →
-        IfOk (subframe_of bits sat stamp) (StandsFor bits sat stamp) }
-    ensures fault { (bits : List ℕ) (sat : Satellite) (stamp : ℕ) →
-        IfErr (subframe_of bits sat stamp) (IsFirstFault bits) }
-    ensures only { (bits : List ℕ) (sat : Satellite) (stamp : ℕ) (r : Result Part LnavFault) →
-        IfOk r (StandsFor bits sat stamp) → IfErr r (IsFirstFault bits) →
-        r ≡ subframe_of bits sat stamp }
+    ensures { (bits : List ℕ) (sat : Satellite) (stamp : ℕ) (part : Part) →
+        (subframe_of bits sat stamp ≡ Ok part) ↔ StandsFor bits sat stamp part }
 {}
 
 /// Bits are refused with a fault exactly where it is the first that the subframe has.
 pub fn refused_by_the_first_fault()
     ensures { (bits : List ℕ) (sat : Satellite) (stamp : ℕ) (fault : LnavFault) →
-        (subframe_of bits sat stamp ≡ Err fault) ↔ IsFirstInOrder bits fault }
+        (subframe_of bits sat stamp ≡ Err fault) ↔ IsFirstFault bits fault }
 {}
 
 /// A part that is read has the stamp and the satellite with which it was heard, is one that a
@@ -56,6 +44,8 @@ pub fn subframe_parts()
         sat.system ≡ Gps → subframe_of bits sat stamp ≡ Ok part → IsPart part.sat part.body }
     ensures value { (bits : List ℕ) (sat : Satellite) (stamp : ℕ) (part : Part) →
         stamp < 2 ^ 32 → subframe_of bits sat stamp ≡ Ok part → IsPartValue part }
+    ensures ranges { (bits : List ℕ) (sat : Satellite) (stamp : ℕ) (part : Part) →
+        subframe_of bits sat stamp ≡ Ok part → HasBodyRanges part.body }
 {}
 
 /// No other 38 bytes than `subframe_bytes` are those in which a subframe is written with a count.

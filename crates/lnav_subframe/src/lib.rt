@@ -1,6 +1,6 @@
 //! The subframes of the LNAV message, read and written (IS-GPS-200, 20.3 and figure 20-1).
 //!
-//! A subframe is 300 bits, ten words of 30, and brings a count of 6 s, its number and a part of
+//! A subframe is 300 bits, ten words of 30, and carries the TOW count (of 6 s), its number and a part of
 //! what the satellite broadcasts. Here are
 //!
 //! - [`read_subframe`], the part that some bits stand for, or the first fault in them
@@ -46,8 +46,8 @@ pub use crate::clock::Subframe1;
 pub use crate::fault::LnavFault;
 pub use crate::head::Head;
 pub use crate::laws::{
-    one_answer, refused_by_the_first_fault, subframe_bytes_are_written, subframe_function,
-    subframe_parts, subframes_are_the_function, written_is_read,
+    refused_by_the_first_fault, subframe_bytes_are_written, subframe_function, subframe_parts,
+    subframes_are_the_function, written_is_read,
 };
 pub use crate::orbit::{Subframe2, Subframe3};
 pub use crate::out::SubframeOut;

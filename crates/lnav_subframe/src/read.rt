@@ -1,7 +1,7 @@
 ghost use Rattle.std.specs.Prelude.{◌≡◌, IfErr, IfOk};
 ghost use Rattle.nav_eph.specs.Conditions.{IsPart};
 ghost use Rattle.nav_eph.specs.declared.sat.System.TheVariants.{Gps};
-ghost use Rattle.lnav_subframe.specs.Reading.{IsFirstFault, StandsFor, subframe_of};
+ghost use Rattle.lnav_subframe.specs.Reading.{subframe_of};
 ghost use Rattle.lnav_subframe.specs.Words.{HasPreamble, upright};
 
 use crate::content::content_of;
@@ -39,9 +39,7 @@ fn righted(bits: &Bits<38>) -> Result<Bits<38>, LnavFault>
 /// toc or toe of 37,800 steps or more.
 pub fn read_subframe(bits: &Bits<38>, sat: Sat, stamp: u32) -> Result<Part, LnavFault>
     requires { sat.system ≡ Gps }
-    ensures part { IfOk result (StandsFor bits.now sat stamp) }
     ensures whole { IfOk result (λ part. IsPart part.sat part.body) }
-    ensures fault { IfErr result (IsFirstFault bits.now) }
     ensures answer { result ≡ subframe_of bits.now sat stamp }
 {
     let upright = righted(bits)?;

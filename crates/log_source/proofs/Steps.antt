@@ -1,6 +1,6 @@
 -- Steps of a reader of logs: bytes are fed, and messages heard.
 use Rattle.std.proofs.Common.{append-nil, ◌≡◌, ℕ, ◌+◌, Bool, true, false, cond, List, [], ◌++◌}
-use Rattle.std.proofs.Common.{length, take, drop, refl, sym, ap, ◌∙◌, append_assoc}
+use Rattle.std.proofs.Common.{length, take, drop, refl, sym, ap, ◌∙◌, append_assoc, arith, length-append}
 use Rattle.std.specs.Prelude.{Option, Some, None}
 use Rattle.std.specs.Io.KnownBytes.{Keeps, Consumes}
 use Rattle.std.proofs.lemmas.List.{take-append-drop, drop-drop}
@@ -12,7 +12,7 @@ use Rattle.receiver_messages.specs.declared.said.Said.{Said}
 use Rattle.receiver_log.specs.declared.state.LogState.{LogState}
 use Rattle.receiver_log.specs.Log.{given}
 use Rattle.receiver_log.specs.Capture.{lines_from}
-use Rattle.log_source.specs.LogLeft.{left_of}
+use Rattle.log_source.specs.LogLeft.{KeepsLength, left_of}
 
 module _ (h : Heading) (said : List ℕ → Said) where
   -- bytes of a piece are fed
@@ -121,3 +121,28 @@ pub keeps_consumes : (old new : Option (List ℕ)) → Keeps old new → Consume
 keeps_consumes None new a = tt
 keeps_consumes (Some xs) None a = absurd a
 keeps_consumes (Some xs) (Some ys) a = sym a
+
+-- the log's length, where nothing was taken, where bytes were, and over two steps
+pub length_same : (taken : ℕ) (left : Option (List ℕ)) → KeepsLength taken left taken left
+length_same taken None = tt
+length_same taken (Some xs) = refl
+
+pub length_kept : (taken : ℕ) (old new : Option (List ℕ)) → Keeps old new
+    → KeepsLength taken old taken new
+length_kept taken None new keep = tt
+length_kept taken (Some xs) None keep = absurd keep
+length_kept taken (Some xs) (Some ys) keep = ap (λ zs. taken + length zs) keep
+
+pub length_taken : (taken count : ℕ) (old new : Option (List ℕ)) (bytes : List ℕ)
+    → Consumes old new bytes → count ≡ length bytes → KeepsLength taken old (taken + count) new
+length_taken taken count None new bytes takes is = tt
+length_taken taken count (Some xs) None bytes takes is = absurd takes
+length_taken taken count (Some xs) (Some ys) bytes takes is =
+    omega (arith, is, ap length takes ∙ length-append bytes ys)
+
+pub length_more : (a b c : ℕ) (old mid new : Option (List ℕ)) → KeepsLength a old b mid
+    → KeepsLength b mid c new → KeepsLength a old c new
+length_more a b c None mid new x y = tt
+length_more a b c (Some xs) None new x y = absurd x
+length_more a b c (Some xs) (Some ys) None x y = absurd y
+length_more a b c (Some xs) (Some ys) (Some zs) x y = y ∙ x

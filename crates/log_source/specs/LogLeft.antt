@@ -1,6 +1,7 @@
--- What is left of the capture of a log.
-use Rattle.std.specs.Prelude.{ℕ, ◌+◌, ◌-◌, ◌*◌, ◌^◌, nat_lt, Bool, false, if◌then◌else◌}
-use Rattle.std.specs.Prelude.{List, ◌++◌, length, Option, Some, None}
+-- What is left of the capture of a log, and why a read of it fails.
+use Rattle.std.specs.Prelude.{◌≡◌, ◌≤◌, ℕ, ◌+◌, ◌-◌, ◌*◌, ◌^◌, nat_lt, Bool, false, if◌then◌else◌}
+use Rattle.std.specs.Prelude.{List, ◌++◌, length, Option, Some, None, Result, OnOk, OnErr, ◌⊎◌, ⊤}
+use Rattle.nav_io.specs.Causes.{Rose}
 use Rattle.framing.specs.Messages.{messages}
 use Rattle.framing.specs.Headings.{Heading, format_of}
 use Rattle.framing.specs.State.{DeframerState}
@@ -33,3 +34,16 @@ is_short taken (Some bytes) = nat_lt (taken + length bytes) too_many
 abbrev pub steps_left : ℕ → ℕ → Bool → Bool → ℕ
 steps_left taken waiting finished has_lines =
     2 * (2 ^ 64 - taken) + waiting + (if finished then 0 else 1) + (if has_lines then 0 else 1)
+
+-- The log has as many bytes as before, where it is known: those that were taken of it, and those
+-- that are left.
+abbrev pub KeepsLength : ℕ → Option (List ℕ) → ℕ → Option (List ℕ) → Type 0
+KeepsLength taken None taken_new left_new = ⊤
+KeepsLength taken (Some xs) taken_new None = ⊥
+KeepsLength taken (Some xs) taken_new (Some ys) = taken_new + length ys ≡ taken + length xs
+
+-- A read that succeeds leaves the log's count of faults; one that fails has raised it, or too many
+-- bytes were taken of the log.
+pub record HasLogCause {T E : Type 0} (before now taken : ℕ) (result : Result T E) : Type 0 where
+  pub stays : OnOk result (now ≡ before)
+  pub failed : OnErr result (Rose before now ⊎ (too_many ≤ taken))

@@ -6,11 +6,13 @@ ghost use Rattle.std.specs.Prelude.{IsTrue, IsOk, IfOk, OnOk, OnErr, MatchResult
 ghost use Rattle.framing.specs.Headings.{format_of};
 ghost use Rattle.framing.specs.Messages.{messages};
 ghost use Rattle.framing.specs.State.{IsWaiting, MayFeed};
-ghost use Rattle.std.specs.Io.KnownBytes.{Consumes, IsAtEnd, Keeps};
+ghost use Rattle.std.specs.Io.{ReadsAtMost};
+ghost use Rattle.std.specs.Io.KnownBytes.{Consumes, IsAtEnd, Keeps, ReadConsumes};
 ghost use Rattle.nav_io.specs.Causes.{HasCause};
 ghost use Rattle.receiver_log.specs.Log.{Gives, given};
 ghost use Rattle.receiver_log.specs.Capture.{lines_from};
 ghost use Rattle.receiver_log.specs.declared.state.LogState.{LogState as LogStateNow};
+ghost use Rattle.log_source.specs.LogLeft.{HasLogCause, KeepsLength};
 ghost use Rattle.log_source.specs.LogLeft.{capture_left, is_short, left_of, steps_left};
 
 use arrayvec::ArrayVec;
@@ -58,6 +60,7 @@ impl<J: Receiver, S: Source> LogSource<J, S> {
         ensures faults { ⟦<LogSource<J, S> as Source>⟧.faults result ≡ S.faults source }
         ensures never { ⟦<LogSource<J, S> as Source>⟧.never_fails result
             ≡ (S.never_fails source && is_short 0 (S.left source)) }
+        ensures log { (result.source ≡ source) × (result.taken ≡ 0) }
     {
         LogSource {
             source,
@@ -91,6 +94,10 @@ impl<J: Receiver, S: Source> LogSource<J, S> {
             self.old.deframer.finished false) }
         ensures cause { HasCause (S.faults self.old.source + self.old.faults)
             (S.faults self.new.source + self.new.faults) result }
+        ensures fault { HasLogCause (S.faults self.old.source) (S.faults self.new.source)
+            self.new.taken result }
+        ensures log_length { KeepsLength self.old.taken (S.left self.old.source)
+            self.new.taken (S.left self.new.source) }
         ensures never { IsTrue (S.never_fails self.old.source)
             → IsTrue (is_short self.old.taken (S.left self.old.source))
             → IsOk result × IsTrue (S.never_fails self.new.source)
@@ -126,7 +133,29 @@ impl<J: Receiver, S: Source> Source for LogSource<J, S> {
     ghost never_fails = { λ s. S.never_fails s.source && is_short s.taken (S.left s.source) };
 
     /// Gives lines that wait, or those of the messages that are decided next.
-    fn read(&mut self, into: &mut [u8]) -> Result<usize, Failed> {
+    ///
+    /// It fails only where a read of the log failed in this call, or where
+    /// 18,446,744,073,709,535,232 bytes or more were taken of the log.
+    fn read(&mut self, into: &mut [u8]) -> Result<usize, Failed>
+        requires asks { length into.old ≤ 16384 }
+        ensures bound { ReadsAtMost result into.new }
+        ensures bytes { ReadConsumes
+            (left_of J.heading J.said self.old.state (drop self.old.given self.old.lines.items)
+            self.old.deframer (drop self.old.fed self.old.piece.items) (S.left self.old.source))
+            (left_of J.heading J.said self.new.state (drop self.new.given self.new.lines.items)
+            self.new.deframer (drop self.new.fed self.new.piece.items) (S.left self.new.source))
+            result into.new }
+        ensures cause { HasCause (S.faults self.old.source + self.old.faults)
+            (S.faults self.new.source + self.new.faults) result }
+        ensures never { IsTrue
+            (S.never_fails self.old.source && is_short self.old.taken (S.left self.old.source))
+            → IsOk result × IsTrue
+            (S.never_fails self.new.source && is_short self.new.taken (S.left self.new.source)) }
+        ensures fault { HasLogCause (S.faults self.old.source) (S.faults self.new.source)
+            self.new.taken result }
+        ensures log_length { KeepsLength self.old.taken (S.left self.old.source)
+            self.new.taken (S.left self.new.source) }
+    {
         if into.is_empty() {
             return Ok(0);
         }
@@ -208,6 +237,8 @@ fn refill<S: Source, J: Receiver>(
         < steps_left taken.old (length piece.old.items - fed.old) deframer.old.finished false) }
     ensures cause { HasCause (S.faults source.old + faults.old)
         (S.faults source.new + faults.new) result }
+    ensures fault { HasLogCause (S.faults source.old) (S.faults source.new) taken.new result }
+    ensures log_length { KeepsLength taken.old (S.left source.old) taken.new (S.left source.new) }
     ensures never { IsTrue (S.never_fails source.old)
         → IsTrue (is_short taken.old (S.left source.old))
         → IsOk result × IsTrue (S.never_fails source.new)

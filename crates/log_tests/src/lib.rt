@@ -4,6 +4,8 @@
 #[cfg(test)]
 mod logs;
 #[cfg(test)]
+mod odd;
+#[cfg(test)]
 mod runs;
 #[cfg(test)]
 mod said;

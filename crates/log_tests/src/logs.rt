@@ -4,13 +4,13 @@ use crate::runs::{End, Form, NOTHING_FAILS, ends};
 use std::test::Fail;
 
 // A log, and how a run over it ends.
-struct Log {
-    form: Form,
-    bytes: &'static [u8],
-    end: End,
+pub(crate) struct Log {
+    pub(crate) form: Form,
+    pub(crate) bytes: &'static [u8],
+    pub(crate) end: End,
 }
 
-static LOGS: [Log; 15] = [
+static LOGS: [Log; 11] = [
     // the turn of a day
     Log {
         form: Form::Ubx,
@@ -399,72 +399,6 @@ static LOGS: [Log; 15] = [
                 "message 1 untimed\nmessage 2 satellite\nmessage 3 length\n",
                 "message 5 satellite\nmessage 6 late\nmessage 7 far\nmessages 7\nskipped 0\n",
                 "times 0\nsubframes 1\npages 0\nrefused 6\nother 0\nturned 0\nparity 0\n",
-            ),
-        },
-    },
-    // an empty log
-    Log {
-        form: Form::Ubx,
-        bytes: &[],
-        end: End {
-            status: 0,
-            capture: "",
-            report: concat!(
-                "messages 0\nskipped 0\ntimes 0\nsubframes 0\npages 0\nrefused 0\nother 0\n",
-                "turned 0\nparity 0\n",
-            ),
-        },
-    },
-    // a text
-    Log {
-        form: Form::Ubx,
-        bytes: &[
-            0x6e, 0x6f, 0x20, 0x6c, 0x6f, 0x67, 0x20, 0x6f, 0x66, 0x20, 0x61, 0x20, 0x72, 0x65,
-            0x63, 0x65, 0x69, 0x76, 0x65, 0x72, 0x0a,
-        ],
-        end: End {
-            status: 0,
-            capture: "",
-            report: concat!(
-                "messages 0\nskipped 21\ntimes 0\nsubframes 0\npages 0\nrefused 0\nother 0\n",
-                "turned 0\nparity 0\n",
-            ),
-        },
-    },
-    // a file of RINEX
-    Log {
-        form: Form::Sbf,
-        bytes: &[
-            0x20, 0x20, 0x20, 0x20, 0x20, 0x33, 0x2e, 0x30, 0x34, 0x20, 0x20, 0x20, 0x20, 0x20,
-            0x20, 0x20, 0x20, 0x20, 0x20, 0x20, 0x4e, 0x3a, 0x20, 0x47, 0x4e, 0x53, 0x53, 0x20,
-            0x4e, 0x41, 0x56, 0x20, 0x44, 0x41, 0x54, 0x41, 0x20, 0x20, 0x20, 0x20, 0x47, 0x3a,
-            0x20, 0x47, 0x50, 0x53, 0x20, 0x20, 0x20, 0x20, 0x20, 0x20, 0x20, 0x20, 0x20, 0x20,
-            0x20, 0x20, 0x20, 0x20, 0x52, 0x49, 0x4e, 0x45, 0x58, 0x20, 0x56, 0x45, 0x52, 0x53,
-            0x49, 0x4f, 0x4e, 0x20, 0x2f, 0x20, 0x54, 0x59, 0x50, 0x45, 0x0a,
-        ],
-        end: End {
-            status: 0,
-            capture: "",
-            report: concat!(
-                "messages 0\nskipped 81\ntimes 0\nsubframes 0\npages 0\nrefused 0\nother 0\n",
-                "turned 0\nparity 0\n",
-            ),
-        },
-    },
-    // a file that is packed
-    Log {
-        form: Form::Sbf,
-        bytes: &[
-            0x1f, 0x8b, 0x08, 0x00, 0x00, 0x00, 0x00, 0x00, 0x00, 0x03, 0x4b, 0xcc, 0x2d, 0x28,
-            0xa9, 0x54, 0xc8, 0x4d, 0xcd, 0x4d, 0x4a, 0x2d, 0x52, 0x48, 0x2c, 0xe6, 0x02, 0x00,
-            0x34, 0x6f, 0x1e, 0x5d, 0x11, 0x00, 0x00, 0x00,
-        ],
-        end: End {
-            status: 0,
-            capture: "",
-            report: concat!(
-                "messages 0\nskipped 36\ntimes 0\nsubframes 0\npages 0\nrefused 0\nother 0\n",
-                "turned 0\nparity 0\n",
             ),
         },
     },

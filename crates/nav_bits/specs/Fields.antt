@@ -1,4 +1,4 @@
--- Tables of fields that stand one behind the other in bits, in the order of a standard.
+-- Tables of fields that stand in sequence in bits, in the order of a standard.
 use Rattle.std.specs.Prelude.{◌≡◌, ℕ, ◌+◌, ◌^◌, ◌<◌, ◌≤◌, List, [], ◌∷◌, ℤ}
 use Rattle.nav_bits.specs.Bits.{number_at, signed_at}
 

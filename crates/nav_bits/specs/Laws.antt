@@ -65,7 +65,7 @@ unfolding number_at
 number_at-lt bytes at zero = omega arith
 number_at-lt bytes at (suc w) = rw (pow-suc 2 w) (omega (arith, number_at-lt bytes at w, bit-lt bytes (at + w)))
 
--- a number rests on its own digits alone
+-- a number depends on its own bits alone
 pub number_at-same : (a b : List ℕ) (at w : ℕ) → SameInside a b at (at + w) → number_at a at w ≡ number_at b at w
 unfolding number_at
 number_at-same a b at zero same = refl
@@ -77,17 +77,17 @@ number_at-same a b at (suc w) same =
 pub signed_at-same : (a b : List ℕ) (at w : ℕ) → SameInside a b at (at + w) → signed_at a at w ≡ signed_at b at w
 signed_at-same a b at w same = ap (signed_of w) (number_at-same a b at w same)
 
--- a field of a run of bits rests on that run alone
+-- a field of a run of bits depends on that run alone
 pub number_within : (a b : List ℕ) (at bits : ℕ) → SameInside a b at (at + bits) → (from w : ℕ) → nat_le (from + w) bits ≡ true
     → number_at a (at + from) w ≡ number_at b (at + from) w
 number_within a b at bits same from w fits = number_at-same a b (at + from) w (record { same = λ i low high. same.same i (omega arith) (omega (arith, leb-true (from + w) bits fits)) })
 
--- what stands behind a change stands still
+-- the bits behind a change are unchanged
 pub number_at-after : (old new : List ℕ) (at end : ℕ) → SameOutside old new at end → (from w : ℕ) → end ≤ from
     → number_at new from w ≡ number_at old from w
 number_at-after old new at end same from w h = number_at-same new old from w (record { same = λ i low high. same.after i (omega arith) })
 
--- what stands before a change stands still
+-- the bits before a change are unchanged
 pub number_at-before : (old new : List ℕ) (at end : ℕ) → SameOutside old new at end → (from w : ℕ) → from + w ≤ at
     → number_at new from w ≡ number_at old from w
 number_at-before old new at end same from w h = number_at-same new old from w (record { same = λ i low high. same.before i (omega arith) })

@@ -5,12 +5,12 @@
 //! SIS ICD, 4.3) and of a message (RTCM 10403.3, 3.3) stand there in two's complement or without a
 //! sign, some of them in two ranges. Here are
 //!
-//! - [`U`] and [`S`], numbers of `W` digits without and with a sign;
+//! - [`U`] and [`S`], unsigned numbers of `W` bits, and signed ones in two's complement;
 //! - [`Bits`], some bytes as bits, with the numbers that stand at any places of them;
 //! - [`Layout`] and [`BitForm`], what a value that stands in bits promises: what was packed is
 //!   unpacked, and packing changes its own bits alone;
-//! - `packed` in the definitions, the bytes in which the fields of a table stand one behind the
-//!   other with what is reserved 0, and [`packed_are_the_only`], that no other bytes are such;
+//! - `packed` in the definitions, the bytes of the concatenated fields of a table, with what is
+//!   reserved 0, and [`packed_are_the_only`], that no other bytes are such;
 //! - [`put_numbers`], which writes a table of fields, and `join` and `split` of [`U`] and [`S`],
 //!   for fields in two ranges.
 //!

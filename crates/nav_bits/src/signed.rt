@@ -10,7 +10,7 @@ use crate::places::{number_of, put_number};
 use crate::unsigned::U;
 use std::marker::Model;
 
-/// A number of `W` binary digits in two's complement, from -2^(`W` - 1) up to 2^(`W` - 1) - 1.
+/// A signed number of `W` bits in two's complement, from -2^(`W` - 1) up to 2^(`W` - 1) - 1.
 #[derive(Clone, Copy, PartialEq, Eq, PartialOrd, Ord, Hash)]
 pub struct S<const W: u32> {
     raw: i64,

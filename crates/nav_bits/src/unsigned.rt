@@ -6,7 +6,7 @@ use crate::layout::Layout;
 use crate::places::{number_of, put_number};
 use std::marker::Model;
 
-/// A number of `W` binary digits, from 0 up to 2^`W` - 1.
+/// An unsigned number of `W` bits, from 0 up to 2^`W` - 1.
 #[derive(Clone, Copy, PartialEq, Eq, PartialOrd, Ord, Hash)]
 pub struct U<const W: u32> {
     raw: u64,

@@ -1,11 +1,15 @@
--- What holds of every value of a body and of a part: the numbers by which they are compared are within
--- their digits.
+-- What holds of every value of a body and of a part: its fields, and the numbers by which they are
+-- compared, are within their digits.
 use Rattle.std.specs.Prelude.{◌^◌, ◌<◌}
 use Rattle.gnss_week.specs.Weeks.{IsSecond}
 use Rattle.nav_eph.specs.Bodies.{IsGalHealth, IsGalIon, IsGpsIon, IsGpsSide, IsSentTag}
+use Rattle.nav_eph.specs.Ranges.{IsGpsClock, IsGpsOrbitA, IsGpsOrbitB}
+use Rattle.nav_eph.specs.Ranges.{IsGalWord1, IsGalWord2, IsGalWord3, IsGalWord4}
+use Rattle.nav_eph.specs.Satellite.{IsSat}
 use Rattle.nav_eph.specs.declared.part.Body.{Body}
 use Rattle.nav_eph.specs.declared.part.Body.TheVariants.{GpsClock as OfClock, GalHealth as OfHealth}
 use Rattle.nav_eph.specs.declared.part.Body.TheVariants.{GpsIon as OfGpsIon, GalIon as OfGalIon}
+use Rattle.nav_eph.specs.declared.part.Body.TheVariants.{GpsA, GpsB, GalW1, GalW2, GalW3, GalW4}
 use Rattle.nav_eph.specs.declared.part.Part.{Part}
 
 -- each number of a body by which it is compared is within its digits
@@ -20,3 +24,21 @@ IsBodyValue _ = Unit {0}
 pub record IsPartValue (p : Part) : Type 0 where
   pub stamp : p.stamp < 2 ^ 32
   pub body : IsBodyValue p.body
+
+-- each field of the content of a body is within its digits
+abbrev pub HasBodyRanges : Body → Type 0
+HasBodyRanges (OfClock clock side tag) = IsGpsClock clock × IsGpsSide side
+HasBodyRanges (GpsA orbit fit) = IsGpsOrbitA orbit × (fit < 2 ^ 1)
+HasBodyRanges (GpsB orbit) = IsGpsOrbitB orbit
+HasBodyRanges (GalW1 word) = IsGalWord1 word
+HasBodyRanges (GalW2 word) = IsGalWord2 word
+HasBodyRanges (GalW3 word) = IsGalWord3 word
+HasBodyRanges (GalW4 word) = IsGalWord4 word
+HasBodyRanges (OfHealth health tag) = IsGalHealth health
+HasBodyRanges (OfGpsIon ionosphere second) = IsGpsIon ionosphere
+HasBodyRanges (OfGalIon ionosphere wn second) = IsGalIon ionosphere
+
+-- the satellite is one of its system, and each field of the content is within its digits
+pub record HasPartRanges (p : Part) : Type 0 where
+  pub sat : IsSat p.sat.system p.sat.number
+  pub body : HasBodyRanges p.body

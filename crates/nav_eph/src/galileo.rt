@@ -84,17 +84,17 @@ pub struct GalWord4 {
 /// 5.1.9).
 #[derive(Clone, Copy, PartialEq, Eq)]
 pub struct GalHealth {
-    /// Group delay between E1 and E5a, in 2^-32 s.
+    /// BGD(E1,E5a), the broadcast group delay, in 2^-32 s.
     pub bgd_a: S<10>,
-    /// Group delay between E1 and E5b, in 2^-32 s.
+    /// BGD(E1,E5b), the broadcast group delay, in 2^-32 s.
     pub bgd_b: S<10>,
-    /// The health of the signal E5b.
+    /// The signal health status of E5b.
     pub hs_e5b: U<2>,
-    /// The health of the signal E1-B.
+    /// The signal health status of E1-B.
     pub hs_e1b: U<2>,
-    /// Whether the data of E5b are without guarantee.
+    /// The data validity status of E5b: 1 where the data are without guarantee.
     pub dvs_e5b: U<1>,
-    /// Whether the data of E1-B are without guarantee.
+    /// The data validity status of E1-B: 1 where the data are without guarantee.
     pub dvs_e1b: U<1>,
 }
 

@@ -20,7 +20,7 @@ pub struct GpsClock {
     pub tgd: S<8>,
 }
 
-/// What subframe 1 says beside the clock (IS-GPS-200, 20.3.3.3.1).
+/// SV status: what subframe 1 has beside the clock (IS-GPS-200, 20.3.3.3.1).
 #[derive(Clone, Copy, PartialEq, Eq)]
 pub struct GpsSide {
     /// The codes on L2.
@@ -33,7 +33,7 @@ pub struct GpsSide {
     pub l2p: U<1>,
 }
 
-/// The first half of the orbit of a GPS satellite, of subframe 2 (IS-GPS-200, table 20-III).
+/// The ephemeris parameters of subframe 2: the first half of the orbit of a GPS satellite (IS-GPS-200, table 20-III).
 #[derive(Clone, Copy, PartialEq, Eq)]
 pub struct GpsOrbitA {
     /// Issue of data, ephemeris.
@@ -56,7 +56,7 @@ pub struct GpsOrbitA {
     pub toe: Step16,
 }
 
-/// The second half of the orbit of a GPS satellite, of subframe 3 (IS-GPS-200, table 20-III).
+/// The ephemeris parameters of subframe 3: the second half of the orbit of a GPS satellite (IS-GPS-200, table 20-III).
 #[derive(Clone, Copy, PartialEq, Eq)]
 pub struct GpsOrbitB {
     /// Issue of data, ephemeris.

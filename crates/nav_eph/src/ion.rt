@@ -36,7 +36,7 @@ pub struct GalIon {
     pub ai1: S<11>,
     /// In 2^-15 solar flux units/degree².
     pub ai2: S<14>,
-    /// Whether a storm is in each of the five regions; region 1 is the highest bit.
+    /// The ionospheric disturbance flags SF1 to SF5 of the five regions; region 1 is the highest bit.
     pub regions: U<5>,
 }
 

@@ -11,7 +11,7 @@ use crate::sat::{Sat, System};
 use gnss_week::{Moment, Week};
 use nav_bits::U;
 
-/// When an ephemeris was sent.
+/// The transmission time of an ephemeris.
 #[derive(Clone, Copy, PartialEq, Eq)]
 pub enum SentSecond {
     /// It is not known.
@@ -27,13 +27,13 @@ pub struct GpsEph {
     pub sat: Sat,
     /// Its clock.
     pub clock: GpsClock,
-    /// What stands beside the clock.
+    /// Its SV status.
     pub side: GpsSide,
-    /// The first half of its orbit.
+    /// Its subframe 2.
     pub a: GpsOrbitA,
     /// The fit interval flag (IS-GPS-200, 20.3.3.4.3.1).
     pub fit: U<1>,
-    /// The second half of its orbit, of the same issue.
+    /// Its subframe 3, of the same issue.
     pub b: GpsOrbitB,
     /// The week of toe, counted from 1980-01-06.
     pub toe_week: Week,
@@ -46,15 +46,15 @@ pub struct GpsEph {
 pub struct GalEph {
     /// The satellite, of Galileo.
     pub sat: Sat,
-    /// The first part of its orbit.
+    /// Its I/NAV word 1.
     pub w1: GalWord1,
-    /// The second part, of the same issue.
+    /// Word 2, of the same issue.
     pub w2: GalWord2,
-    /// The third part, of the same issue.
+    /// Word 3, with the SISA, of the same issue.
     pub w3: GalWord3,
-    /// The last part and the clock, of the same issue.
+    /// Word 4, with the clock, of the same issue.
     pub w4: GalWord4,
-    /// Its delays and health.
+    /// Its group delays and health, of word 5.
     pub health: GalHealth,
     /// The week of toe, counted from 1980-01-06.
     pub toe_week: Week,

@@ -13,11 +13,11 @@ use nav_bits::U;
 /// What one subframe, word or message brings of an ephemeris or of the ionosphere.
 #[derive(Clone, Copy, PartialEq, Eq)]
 pub enum Body {
-    /// The clock of GPS, what stands beside it, and when it was sent.
+    /// The clock of GPS, its SV status, and its transmission time (subframe 1).
     GpsClock(GpsClock, GpsSide, SentTag),
-    /// The first half of the orbit of GPS, and the fit interval flag.
+    /// The first half of the orbit of GPS, and the fit interval flag (subframe 2).
     GpsA(GpsOrbitA, U<1>),
-    /// The second half of the orbit of GPS.
+    /// The second half of the orbit of GPS (subframe 3).
     GpsB(GpsOrbitB),
     /// Word 1 of Galileo.
     GalW1(GalWord1),
@@ -27,11 +27,11 @@ pub enum Body {
     GalW3(GalWord3),
     /// Word 4 of Galileo.
     GalW4(GalWord4),
-    /// Delays and health of Galileo, and when they were sent.
+    /// Group delays and health of Galileo, and their transmission time (word 5).
     GalHealth(GalHealth, SentTag),
-    /// The ionosphere of GPS, and the second of the week at which it was sent.
+    /// The ionosphere of GPS, and its transmission time as a second of the week.
     GpsIon(GpsIon, Second),
-    /// The ionosphere of Galileo, and the week number and the second at which it was sent.
+    /// The ionosphere of Galileo, and the week number and the second of its transmission time.
     GalIon(GalIon, U<12>, Second),
 }
 
@@ -79,7 +79,7 @@ fn has_gps_week(body: &Body) -> bool
 
 impl Part {
     /// The part heard at that second; `None` where the satellite is not of the body's system, or
-    /// the week number of a tag of GPS has more than ten digits.
+    /// the week number of a tag of GPS has more than ten bits.
     pub fn new(stamp: u32, sat: Sat, body: Body) -> Option<Self>
         ensures exactly { IsSome result ↔ IsPart sat body }
         ensures same { IfSome result (λ p. p ≡ record { stamp = stamp; sat = sat; body = body }) }

@@ -1,8 +1,10 @@
 ghost use Rattle.std.specs.Prelude.{◌↔◌, IsTrue};
 ghost use Rattle.nav_eph.specs.Ranges.{HasGalRanges, HasGpsRanges, HasIonRanges, HasRanges, IsItem};
 ghost use Rattle.nav_eph.specs.Items.{IsGalEph, IsGpsEph};
+ghost use Rattle.nav_eph.specs.Values.{HasPartRanges};
 
 use crate::items::{GalEph, GpsEph, IonEph, NavItem};
+use crate::part::{Body, Part};
 
 // Each field of an ephemeris of GPS is within its digits.
 fn gps_ranges(e: GpsEph)
@@ -18,6 +20,24 @@ fn gal_ranges(e: GalEph)
 fn ion_ranges(e: IonEph)
     ensures { HasIonRanges e }
 {}
+
+// The satellite is one of its system, and each field of what it brings is within its digits.
+fn part_ranges(part: Part)
+    ensures { HasPartRanges part }
+{
+    match part.body {
+        Body::GpsClock(_, _, _) => {}
+        Body::GpsA(_, _) => {}
+        Body::GpsB(_) => {}
+        Body::GalW1(_) => {}
+        Body::GalW2(_) => {}
+        Body::GalW3(_) => {}
+        Body::GalW4(_) => {}
+        Body::GalHealth(_, _) => {}
+        Body::GpsIon(_, _) => {}
+        Body::GalIon(_, _, _) => {}
+    }
+}
 
 // The parts of an ephemeris of GPS fit together.
 fn is_whole_gps(e: &GpsEph) -> bool
@@ -57,5 +77,15 @@ impl NavItem {
             NavItem::Gal(e) => is_whole_gal(e),
             NavItem::Ion(e) => IonEph::new(e.sat, e.moment, e.content).is_some(),
         }
+    }
+}
+
+impl Part {
+    /// The satellite is one of its system, and each field of what it brings is within its digits: a
+    /// fact of every part, which this says and for which it does nothing.
+    pub fn ranges(&self)
+        ensures { HasPartRanges self.now }
+    {
+        part_ranges(*self)
     }
 }

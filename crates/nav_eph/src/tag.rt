@@ -6,7 +6,7 @@ ghost use Rattle.nav_eph.specs.Numbers.{gal_sending, gps_sending, tag_number};
 use gnss_week::Second;
 use nav_bits::U;
 
-/// A time that says which week an ephemeris belongs to, its week cut to twelve digits.
+/// A time that says which week an ephemeris belongs to, its week number truncated to twelve bits.
 #[derive(Clone, Copy, PartialEq, Eq)]
 pub enum SentTag {
     /// The moment at which the data were sent.

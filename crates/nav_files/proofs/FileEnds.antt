@@ -4,13 +4,14 @@ use Rattle.std.proofs.Common.{◌≡◌, ◌⊎◌, inl, inr, ◌^◌, ℕ, Bool
 use Rattle.std.specs.Prelude.{Option, None, Some, Result, Err, IfSome, IsSome, IsTrue, IsErrOf}
 use Rattle.std.specs.List.{flat_map}
 use Rattle.std.specs.Io.KnownBytes.{Appends, Consumes, IsAtEnd}
-use Rattle.std.proofs.KnownBytes.{Consumes-trans}
+use Rattle.std.proofs.KnownBytes.{Appends-nil, Consumes-trans}
 use Rattle.std.proofs.lemmas.Grind.{flat_map-append}
 use Rattle.nav_io.specs.Causes.{Rose}
 use Rattle.nav_io.specs.Front.{AppendsFront, IsFront}
 use Rattle.rinex_read.specs.Forms.{Form}
-use Rattle.rinex_read.specs.Files.{file_reads}
-use Rattle.rinex_read.specs.States.{RecordsState, Steps, HeaderSteps, PassesHeader, IsNew, MayCome, file_by, file_to_come, records_to_come}
+use Rattle.rinex_read.specs.Files.{file_reads, whole_reads}
+use Rattle.rinex_read.specs.Lines.{told_lines}
+use Rattle.rinex_read.specs.States.{RecordsState, Steps, HeaderSteps, PassesHeader, IsNew, IsPaused, MayCome, file_by, file_to_come, records_to_come}
 use Rattle.rinex_read.specs.declared.judged.HeaderState.{HeaderState}
 use Rattle.rinex_read.specs.declared.judged.HeaderState.TheVariants.{NotRinexNav, OtherVersion}
 use Rattle.rinex_read.specs.declared.judged.HeaderFault.{HeaderFault}
@@ -23,7 +24,7 @@ use Rattle.one_run.proofs.Surface.{between, front_nil, front_within, no_front}
 use Rattle.nav_files.specs.Files.{counted_in, file_meaning, text_in}
 use Rattle.nav_files.specs.Mirrors.{HeaderFaultOf, NoHeader}
 use Rattle.nav_files.specs.Taken.{AtEnd}
-use Rattle.nav_files.proofs.FileLemmas.{Begins, ends_there, file_front, file_whole, none_left}
+use Rattle.nav_files.proofs.FileLemmas.{Begins, Opens, Wholes, ends_there, file_front, file_whole, none_left}
 
 -- ---- what failed
 
@@ -112,13 +113,13 @@ accepted : {C : Type 0} (f : Form) (count : List ItemRead → C) (left left_new 
     → PassesHeader f left left_new s0 s1 → IfSome left (λ bytes. IsSome (counted_in count (file_reads f bytes)))
 accepted f count left left_new s0 s1 begins new header =
     all_reads f left left_new s0 s1 (λ r. IsSome (counted_in count r)) begins new header.steps
-    (λ following. subst (λ (h : HeaderState). IsSome (counted_in count (file_by f h s1 following))) (sym header.header) refl)
+    (λ following. subst (λ (h : HeaderState). IsSome (counted_in count (file_by f h s1 (told_lines (s1.lines.rest ++ following))))) (sym header.header) refl)
 
 -- it is refused
 refused : {C : Type 0} (f : Form) (count : List ItemRead → C) (s : RecordsState) → (s.header ≡ NotRinexNav) ⊎ (s.header ≡ OtherVersion)
     → (following : List ℕ) → counted_in count (file_to_come f s following) ≡ None
-refused f count s (inl is) following = subst (λ (h : HeaderState). counted_in count (file_by f h s following) ≡ None) (sym is) refl
-refused f count s (inr is) following = subst (λ (h : HeaderState). counted_in count (file_by f h s following) ≡ None) (sym is) refl
+refused f count s (inl is) following = subst (λ (h : HeaderState). counted_in count (file_by f h s (told_lines (s.lines.rest ++ following))) ≡ None) (sym is) refl
+refused f count s (inr is) following = subst (λ (h : HeaderState). counted_in count (file_by f h s (told_lines (s.lines.rest ++ following))) ≡ None) (sym is) refl
 
 -- ---- the ends
 
@@ -135,60 +136,93 @@ reading m b a reads reports = record {
     never : (is : Bool) → is ≡ true → is ≡ false → ⊥
     never is some none = cc
 
-says_header : {C S T U : Type 0} (f : Form) (memory : Bool) (output report : List ItemRead → List ℕ) (count : List ItemRead → C) (b a : World S T U) (s0 s1 : RecordsState) (fault : BridgeFault)
+-- where a read failed, exactly what the records give that are whole in the bytes was written and reported
+abbrev Settled : {S T U : Type 0} → Form → (List ItemRead → List ℕ) → (List ItemRead → List ℕ) → List ℕ → World S T U → World S T U → BridgeFault → Type 0
+Settled f wrote tells taken b a fault =
+    fault ≡ ReadFault → Appends b.written a.written (text_in wrote (whole_reads f taken)) × Appends b.reported a.reported (text_in tells (whole_reads f taken))
+
+-- in the header there is none
+settled_header : {S T U : Type 0} (f : Form) (wrote tells : List ItemRead → List ℕ) (b a : World S T U) (s0 s1 : RecordsState) (fault : BridgeFault) → Opens f → IsNew s0
+    → (steps : HeaderSteps f b.left a.left s0 s1) → HeaderFaultOf fault s1 → a.written ≡ b.written → a.reported ≡ b.reported → Settled f wrote tells steps.reads.taken b a fault
+settled_header f wrote tells b a s0 s1 fault opens new steps by written reported is =
+    let broke = subst (λ (x : BridgeFault). HeaderFaultOf x s1) is by in
+    let none = opens b.left a.left s0 s1 new steps broke.0 (record { more = broke.1.0; none = broke.1.2 }) in (
+      subst (λ (w : Option (List ℕ)). Appends b.written w (text_in wrote (whole_reads f steps.reads.taken))) (sym written)
+          (subst (λ r. Appends b.written b.written (text_in wrote r)) (sym none) (Appends-nil b.written)),
+      subst (λ (u : Option (List ℕ)). Appends b.reported u (text_in tells (whole_reads f steps.reads.taken))) (sym reported)
+          (subst (λ r. Appends b.reported b.reported (text_in tells r)) (sym none) (Appends-nil b.reported)),
+    )
+
+-- behind it these records are
+settled_file : {S T U : Type 0} (f : Form) (wrote tells : List ItemRead → List ℕ) (b a : World S T U) (l1 : Option (List ℕ)) (s0 s1 s2 : RecordsState) (given : List ItemRead) (fault : BridgeFault)
+    → Wholes f → IsNew s0 → (header : PassesHeader f b.left l1 s0 s1) → (steps : Steps f l1 a.left s1 s2 given)
+    → (fault ≡ ReadFault → IsPaused s2 × Appends b.written a.written (wrote given) × Appends b.reported a.reported (tells given))
+    → Settled f wrote tells (header.steps.reads.taken ++ steps.reads.taken) b a fault
+settled_file f wrote tells b a l1 s0 s1 s2 given fault wholes new header steps exact is =
+    let all = exact is in
+    let whole = wholes b.left l1 a.left s0 s1 s2 given new header steps all.0 in (
+      subst (λ r. Appends b.written a.written (text_in wrote r)) (sym whole) all.1,
+      subst (λ r. Appends b.reported a.reported (text_in tells r)) (sym whole) all.2,
+    )
+
+says_header : {C S T U : Type 0} (f : Form) (memory : Bool) (wrote tells output report : List ItemRead → List ℕ) (count : List ItemRead → C) (b a : World S T U) (s0 s1 : RecordsState) (fault : BridgeFault)
     → Begins f → IsNew s0 → (steps : HeaderSteps f b.left a.left s0 s1) → HeaderFaultOf fault s1
     → (fault ≡ ReadFault → Rose b.reads_failed a.reads_failed) → (IsTrue b.never_fails → fault ≡ ReadFault → ⊥) → a.output ≡ b.output → a.report ≡ b.report
-    → Says (file_meaning f memory output report count) steps.reads.taken b a fault
-says_header f memory output report count b a s0 s1 ReadFault begins new steps by rose never out told = (refl, rose refl, (λ quiet. never quiet refl), tt)
-says_header f memory output report count b a s0 s1 NotThisForm begins new steps by rose never out told = (
+    → Settled f wrote tells steps.reads.taken b a fault
+    → Says (file_meaning f memory wrote tells output report count) steps.reads.taken b a fault
+says_header f memory wrote tells output report count b a s0 s1 ReadFault begins new steps by rose never out told settled = (refl, rose refl, (λ quiet. never quiet refl), settled refl)
+says_header f memory wrote tells output report count b a s0 s1 NotThisForm begins new steps by rose never out told settled = (
   taken_reads f b.left a.left s0 s1 (λ r. counted_in count r ≡ None) begins new steps (refused f count s1 by),
   all_reads f b.left a.left s0 s1 (λ r. counted_in count r ≡ None) begins new steps (refused f count s1 by),
   out,
   told,
 )
-says_header f memory output report count b a s0 s1 TooLong begins new steps by rose never out told = omega (arith, new.taken, steps.reads.count, by)
-says_header f memory output report count b a s0 s1 WriteFault begins new steps by rose never out told = absurd by
-says_header f memory output report count b a s0 s1 ReportFault begins new steps by rose never out told = absurd by
-says_header f memory output report count b a s0 s1 NoMemory begins new steps by rose never out told = absurd by
+says_header f memory wrote tells output report count b a s0 s1 TooLong begins new steps by rose never out told settled = omega (arith, new.taken, steps.reads.count, by.1)
+says_header f memory wrote tells output report count b a s0 s1 WriteFault begins new steps by rose never out told settled = absurd by
+says_header f memory wrote tells output report count b a s0 s1 ReportFault begins new steps by rose never out told settled = absurd by
+says_header f memory wrote tells output report count b a s0 s1 NoMemory begins new steps by rose never out told settled = absurd by
 
 -- the header is refused, or the input breaks off in it
-pub broke_header : {C S T U : Type 0} (f : Form) (memory : Bool) (output report : List ItemRead → List ℕ) (count : List ItemRead → C) (b a : World S T U) (s0 s1 : RecordsState) (fault : BridgeFault)
-    → Begins f → IsNew s0 → NoHeader f b.left a.left s0 s1 fault
+pub broke_header : {C S T U : Type 0} (f : Form) (memory : Bool) (wrote tells output report : List ItemRead → List ℕ) (count : List ItemRead → C) (b a : World S T U) (s0 s1 : RecordsState) (fault : BridgeFault)
+    → Begins f → Opens f → IsNew s0 → NoHeader f b.left a.left s0 s1 fault
     → (fault ≡ ReadFault → Rose b.reads_failed a.reads_failed) → (IsTrue b.never_fails → fault ≡ ReadFault → ⊥)
     → a.output ≡ b.output → a.report ≡ b.report → a.written ≡ b.written → a.reported ≡ b.reported
-    → Broke (file_meaning f memory output report count) b a fault
-broke_header f memory output report count b a s0 s1 fault begins new broken rose never out told written reported =
+    → Broke (file_meaning f memory wrote tells output report count) b a fault
+broke_header f memory wrote tells output report count b a s0 s1 fault begins opens new broken rose never out told written reported =
     let taken = broken.steps.reads.taken in
-    let m = file_meaning f memory output report count in record {
+    let m = file_meaning f memory wrote tells output report count in record {
       taken = taken;
       consumes = broken.steps.reads.consumes;
       text = subst (λ (w : Option (List ℕ)). AppendsBetween b.written w [] (text_in output (file_reads f taken))) (sym written) (between b.written b.written _ (no_front b.written _));
       told = subst (λ (u : Option (List ℕ)). AppendsFront b.reported u (text_in report (file_reads f taken))) (sym reported) (no_front b.reported _);
       leaves = reading m b a refl refl;
-      says = says_header f memory output report count b a s0 s1 fault begins new broken.steps broken.by rose never out told;
+      says = says_header f memory wrote tells output report count b a s0 s1 fault begins new broken.steps broken.by rose never out told
+          (settled_header f wrote tells b a s0 s1 fault opens new broken.steps broken.by written reported);
     }
 
-says_behind : {C S T U : Type 0} (f : Form) (memory : Bool) (output report : List ItemRead → List ℕ) (count : List ItemRead → C) (b a : World S T U) (taken : List ℕ) (fault : BridgeFault)
+says_behind : {C S T U : Type 0} (f : Form) (memory : Bool) (wrote tells output report : List ItemRead → List ℕ) (count : List ItemRead → C) (b a : World S T U) (taken : List ℕ) (fault : BridgeFault)
     → IfSome b.left (λ bytes. IsSome (counted_in count (file_reads f bytes)))
     → Fails b a fault → (fault ≡ TooLong → length taken ≡ 2 ^ 32) → (fault ≡ NoMemory → memory ≡ true)
-    → Says (file_meaning f memory output report count) taken b a fault
-says_behind f memory output report count b a taken ReadFault some fails long wants = (refl, fails.read refl, fails.never refl, tt)
-says_behind f memory output report count b a taken WriteFault some fails long wants = (fails.write refl, some)
-says_behind f memory output report count b a taken ReportFault some fails long wants = (refl, fails.report refl, some)
-says_behind f memory output report count b a taken NotThisForm some fails long wants = absurd (fails.form refl)
-says_behind f memory output report count b a taken TooLong some fails long wants = long refl
-says_behind f memory output report count b a taken NoMemory some fails long wants = (wants refl, some)
+    → Settled f wrote tells taken b a fault
+    → Says (file_meaning f memory wrote tells output report count) taken b a fault
+says_behind f memory wrote tells output report count b a taken ReadFault some fails long wants settled = (refl, fails.read refl, fails.never refl, settled refl)
+says_behind f memory wrote tells output report count b a taken WriteFault some fails long wants settled = (fails.write refl, some)
+says_behind f memory wrote tells output report count b a taken ReportFault some fails long wants settled = (refl, fails.report refl, some)
+says_behind f memory wrote tells output report count b a taken NotThisForm some fails long wants settled = absurd (fails.form refl)
+says_behind f memory wrote tells output report count b a taken TooLong some fails long wants settled = long refl
+says_behind f memory wrote tells output report count b a taken NoMemory some fails long wants settled = (wants refl, some)
 
 -- the run breaks off behind the header, once these records were given: a front was written and reported of what these give
-pub broke_file : {C S T U : Type 0} (f : Form) (memory : Bool) (output report : List ItemRead → List ℕ) (count : List ItemRead → C) (b a : World S T U) (l1 : Option (List ℕ)) (s0 s1 s2 : RecordsState)
+pub broke_file : {C S T U : Type 0} (f : Form) (memory : Bool) (wrote tells output report : List ItemRead → List ℕ) (count : List ItemRead → C) (b a : World S T U) (l1 : Option (List ℕ)) (s0 s1 s2 : RecordsState)
     (given : List ItemRead) (text told : List ℕ) (fault : BridgeFault)
-    → Begins f → IsNew s0 → PassesHeader f b.left l1 s0 s1 → Steps f l1 a.left s1 s2 given
+    → Begins f → IsNew s0 → (header : PassesHeader f b.left l1 s0 s1) → (steps : Steps f l1 a.left s1 s2 given)
     → AppendsFront b.written a.written text → IsFront text (output (given ++ records_to_come f s2 []))
     → AppendsFront b.reported a.reported told → IsFront told (report (given ++ records_to_come f s2 []))
     → Fails b a fault → (fault ≡ TooLong → s2.lines.taken ≡ 2 ^ 32) → (fault ≡ NoMemory → memory ≡ true)
-    → Broke (file_meaning f memory output report count) b a fault
-broke_file f memory output report count b a l1 s0 s1 s2 given text told fault begins new header steps written text_is reported told_is fails long wants =
-    let m = file_meaning f memory output report count in
+    → Settled f wrote tells (header.steps.reads.taken ++ steps.reads.taken) b a fault
+    → Broke (file_meaning f memory wrote tells output report count) b a fault
+broke_file f memory wrote tells output report count b a l1 s0 s1 s2 given text told fault begins new header steps written text_is reported told_is fails long wants settled =
+    let m = file_meaning f memory wrote tells output report count in
     let is = file_front f b.left l1 a.left s0 s1 s2 given begins new header steps in
     let taken = header.steps.reads.taken ++ steps.reads.taken in record {
       taken = taken;
@@ -196,41 +230,54 @@ broke_file f memory output report count b a l1 s0 s1 s2 given text told fault be
       text = between b.written a.written _ (front_within b.written a.written text _ (subst (λ r. IsFront text (text_in output r)) (sym is) text_is) written);
       told = front_within b.reported a.reported told _ (subst (λ r. IsFront told (text_in report r)) (sym is) told_is) reported;
       leaves = reading m b a refl refl;
-      says = says_behind f memory output report count b a taken fault (accepted f count b.left l1 s0 s1 begins new header) fails
-          (λ is_long. omega (arith, length-append header.steps.reads.taken steps.reads.taken, new.taken, header.steps.reads.count, steps.reads.count, long is_long)) wants;
+      says = says_behind f memory wrote tells output report count b a taken fault (accepted f count b.left l1 s0 s1 begins new header) fails
+          (λ is_long. omega (arith, length-append header.steps.reads.taken steps.reads.taken, new.taken, header.steps.reads.count, steps.reads.count, long is_long)) wants settled;
     }
 
+-- the same, where a read failed with all of it written and reported
+pub broke_taken : {C S T U : Type 0} (f : Form) (memory : Bool) (wrote tells output report : List ItemRead → List ℕ) (count : List ItemRead → C) (b a : World S T U) (l1 : Option (List ℕ)) (s0 s1 s2 : RecordsState)
+    (given : List ItemRead) (text told : List ℕ) (fault : BridgeFault)
+    → Begins f → Wholes f → IsNew s0 → PassesHeader f b.left l1 s0 s1 → Steps f l1 a.left s1 s2 given
+    → AppendsFront b.written a.written text → IsFront text (output (given ++ records_to_come f s2 []))
+    → AppendsFront b.reported a.reported told → IsFront told (report (given ++ records_to_come f s2 []))
+    → Fails b a fault → (fault ≡ TooLong → s2.lines.taken ≡ 2 ^ 32) → (fault ≡ NoMemory → memory ≡ true)
+    → (fault ≡ ReadFault → IsPaused s2 × Appends b.written a.written (wrote given) × Appends b.reported a.reported (tells given))
+    → Broke (file_meaning f memory wrote tells output report count) b a fault
+broke_taken f memory wrote tells output report count b a l1 s0 s1 s2 given text told fault begins wholes new header steps written text_is reported told_is fails long wants exact =
+    broke_file f memory wrote tells output report count b a l1 s0 s1 s2 given text told fault begins new header steps written text_is reported told_is fails long wants
+    (settled_file f wrote tells b a l1 s0 s1 s2 given fault wholes new header steps exact)
+
 -- the text in front is not written to its end
-pub broke_begin : {C S T U : Type 0} (f : Form) (memory : Bool) (output report : List ItemRead → List ℕ) (count : List ItemRead → C) (b a : World S T U) (s0 s1 : RecordsState) (front : List ℕ)
+pub broke_begin : {C S T U : Type 0} (f : Form) (memory : Bool) (wrote tells output report : List ItemRead → List ℕ) (count : List ItemRead → C) (b a : World S T U) (s0 s1 : RecordsState) (front : List ℕ)
     → Begins f → IsNew s0 → PassesHeader f b.left a.left s0 s1 → Steps f a.left a.left s1 s1 []
     → AppendsFront b.written a.written front → IsFront front (output (records_to_come f s1 [])) → a.reported ≡ b.reported → Fails b a WriteFault
-    → Broke (file_meaning f memory output report count) b a WriteFault
-broke_begin f memory output report count b a s0 s1 front begins new header none written front_is same fails =
-    broke_file f memory output report count b a a.left s0 s1 s1 [] front [] WriteFault begins new header none written front_is
-    (subst (λ (u : Option (List ℕ)). AppendsFront b.reported u []) (sym same) (no_front b.reported [])) (front_nil _) fails (λ long. cc) (λ wants. cc)
+    → Broke (file_meaning f memory wrote tells output report count) b a WriteFault
+broke_begin f memory wrote tells output report count b a s0 s1 front begins new header none written front_is same fails =
+    broke_file f memory wrote tells output report count b a a.left s0 s1 s1 [] front [] WriteFault begins new header none written front_is
+    (subst (λ (u : Option (List ℕ)). AppendsFront b.reported u []) (sym same) (no_front b.reported [])) (front_nil _) fails (λ long. cc) (λ wants. cc) (λ is. absurd (let none : WriteFault ≡ ReadFault = is in cc))
 
 -- the same where all records were given
-pub broke_end : {C S T U : Type 0} (f : Form) (memory : Bool) (output report : List ItemRead → List ℕ) (count : List ItemRead → C) (b a : World S T U) (l1 : Option (List ℕ)) (s0 s1 s2 : RecordsState)
+pub broke_end : {C S T U : Type 0} (f : Form) (memory : Bool) (wrote tells output report : List ItemRead → List ℕ) (count : List ItemRead → C) (b a : World S T U) (l1 : Option (List ℕ)) (s0 s1 s2 : RecordsState)
     (given : List ItemRead) (text told : List ℕ) (fault : BridgeFault)
     → Begins f → IsNew s0 → PassesHeader f b.left l1 s0 s1 → Steps f l1 a.left s1 s2 given → AtEnd s2
     → AppendsFront b.written a.written text → IsFront text (output given) → AppendsFront b.reported a.reported told → IsFront told (report given)
-    → Fails b a fault → (fault ≡ TooLong → ⊥) → (fault ≡ NoMemory → memory ≡ true)
-    → Broke (file_meaning f memory output report count) b a fault
-broke_end f memory output report count b a l1 s0 s1 s2 given text told fault begins new header steps end written text_is reported told_is fails short wants =
+    → Fails b a fault → (fault ≡ TooLong → ⊥) → (fault ≡ NoMemory → memory ≡ true) → (fault ≡ ReadFault → ⊥)
+    → Broke (file_meaning f memory wrote tells output report count) b a fault
+broke_end f memory wrote tells output report count b a l1 s0 s1 s2 given text told fault begins new header steps end written text_is reported told_is fails short wants over =
     let all : given ≡ given ++ records_to_come f s2 [] = sym (ap (λ (l : List ItemRead). given ++ l) (none_left f s2 end.kept end.rest) ∙ append-nil given) in
-    broke_file f memory output report count b a l1 s0 s1 s2 given text told fault begins new header steps
+    broke_file f memory wrote tells output report count b a l1 s0 s1 s2 given text told fault begins new header steps
     written (subst (λ (l : List ItemRead). IsFront text (output l)) all text_is) reported (subst (λ (l : List ItemRead). IsFront told (report l)) all told_is)
-    fails (λ is. absurd (short is)) wants
+    fails (λ is. absurd (short is)) wants (λ is. absurd (over is))
 
 -- the run is done
-pub done_file : {C S T U : Type 0} (f : Form) (memory : Bool) (output report : List ItemRead → List ℕ) (count : List ItemRead → C) (b a : World S T U) (l1 : Option (List ℕ)) (s0 s1 s2 : RecordsState)
+pub done_file : {C S T U : Type 0} (f : Form) (memory : Bool) (wrote tells output report : List ItemRead → List ℕ) (count : List ItemRead → C) (b a : World S T U) (l1 : Option (List ℕ)) (s0 s1 s2 : RecordsState)
     (given : List ItemRead) (counts : C)
     → Begins f → IsNew s0 → PassesHeader f b.left l1 s0 s1 → Steps f l1 a.left s1 s2 given → AtEnd s2
     → Appends b.written a.written (output given) → Appends b.reported a.reported (report given) → counts ≡ count given
     → a.reads_failed ≡ b.reads_failed → a.writes_failed ≡ b.writes_failed → a.reports_failed ≡ b.reports_failed
-    → Done (file_meaning f memory output report count) b a counts
-done_file f memory output report count b a l1 s0 s1 s2 given counts begins new header steps end written reported counted reads writes reports =
-    let m = file_meaning f memory output report count in
+    → Done (file_meaning f memory wrote tells output report count) b a counts
+done_file f memory wrote tells output report count b a l1 s0 s1 s2 given counts begins new header steps end written reported counted reads writes reports =
+    let m = file_meaning f memory wrote tells output report count in
     let is = file_whole f b.left l1 a.left s0 s1 s2 given begins new header steps end.kept end.rest in
     record {
       taken = header.steps.reads.taken ++ steps.reads.taken;

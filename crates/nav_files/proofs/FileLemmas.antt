@@ -3,15 +3,26 @@ use Rattle.std.proofs.Common.{◌≡◌, ◌⊎◌, inl, inr, ℕ, true, false, 
 use Rattle.std.specs.Prelude.{Option, Result, Ok, Err}
 use Rattle.std.specs.Io.KnownBytes.{IsAtEnd}
 use Rattle.rinex_read.specs.Forms.{Form}
-use Rattle.rinex_read.specs.Files.{file_reads}
-use Rattle.rinex_read.specs.States.{RecordsState, Steps, PassesHeader, IsNew, MayCome, file_to_come, records_to_come}
+use Rattle.rinex_read.specs.Files.{file_reads, whole_reads}
+use Rattle.rinex_read.specs.States.{HeaderSteps, IsPaused, RecordsState, Steps, PassesHeader, IsNew, MayCome, file_to_come, is_waiting, records_to_come}
 use Rattle.rinex_read.specs.declared.judged.HeaderState.TheVariants.{Passed}
+use Rattle.rinex_read.specs.declared.judged.HeaderFault.TheVariants.{NotRinexNav}
 use Rattle.rinex_read.specs.declared.judged.ItemRead.{ItemRead}
 use Rattle.one_run.specs.declared.fault.BridgeFault.{BridgeFault}
 
 -- at first what is to come is what the file says
 abbrev pub Begins : Form → Type 0
 Begins f = (s : RecordsState) (bytes : List ℕ) → IsNew s → file_to_come f s bytes ≡ file_reads f bytes
+
+-- where the reader has paused, the records that are whole in the bytes were given, and in the header there are none
+abbrev pub Wholes : Form → Type 0
+Wholes f = (left middle left_new : Option (List ℕ)) (old now new : RecordsState) (given : List ItemRead) → IsNew old
+    → (header : PassesHeader f left middle old now) → (steps : Steps f middle left_new now new given) → IsPaused new
+    → whole_reads f (header.steps.reads.taken ++ steps.reads.taken) ≡ Ok given
+
+abbrev pub Opens : Form → Type 0
+Opens f = (left left_new : Option (List ℕ)) (old new : RecordsState) → IsNew old → (steps : HeaderSteps f left left_new old new)
+    → is_waiting new.header ≡ true → IsPaused new → whole_reads f steps.reads.taken ≡ Err NotRinexNav
 
 -- behind the header its records are to come
 pub passed_file : (f : Form) (s : RecordsState) (bytes : List ℕ) → s.header ≡ Passed → file_to_come f s bytes ≡ Ok (records_to_come f s bytes)

@@ -4,7 +4,6 @@ use Rattle.std.specs.Prelude.{Option, Result, Ok, Err, MatchResult}
 use Rattle.std.specs.List.{flat_map}
 use Rattle.std.specs.Io.KnownBytes.{Appends}
 use Rattle.std.proofs.KnownBytes.{Appends-nil, Appends-trans}
-use Rattle.std.proofs.lemmas.Grind.{flat_map-append}
 use Rattle.std.proofs.lemmas.List.Elements.{Contains-append_left, Contains-push, Contains-push_cases}
 use Rattle.nav_io.specs.Causes.{HasCause}
 use Rattle.nav_io.specs.Front.{AppendsFront}
@@ -14,11 +13,13 @@ use Rattle.nav_eph.specs.declared.items.NavItem.{NavItem}
 use Rattle.nav_lists.specs.declared.range.CoverRange.{CoverRange}
 use Rattle.nav_lists.specs.Covering.{AreCovering, AreCovers, AreRanges, CoversSecond, IsIn}
 use Rattle.rinex_read.specs.declared.judged.ItemRead.{ItemRead}
+use Rattle.rinex_read.specs.declared.judged.ItemRead.TheVariants.{Item, Refused, PassedOver, End}
 use Rattle.one_run.proofs.Surface.{front_behind}
 use Rattle.nav_files.specs.declared.counts.RinexCounts.{RinexCounts}
 use Rattle.nav_files.specs.Files.{counts_of_reads}
 use Rattle.nav_files.specs.Mirrors.{AreCounted}
-use Rattle.nav_files.specs.Archives.{item_of, items_of}
+use Rattle.rinex_read.specs.Files.{items_of}
+use Rattle.nav_files.specs.Archives.{item_of}
 use Rattle.nav_files.specs.Kept.{WroteSome}
 
 -- ---- written one after another
@@ -71,7 +72,14 @@ cover_kept item old new form both items h = record {
 -- ---- the items with a record more
 
 pub items_more : (reads : List ItemRead) (read : ItemRead) → items_of (reads ++ read ∷ []) ≡ items_of reads ++ item_of read
-items_more reads read = flat_map-append item_of reads (read ∷ []) ∙ ap (λ (l : List NavItem). items_of reads ++ l) (append-nil (item_of read))
+items_more [] (Item line item) = refl
+items_more [] (Refused line reason) = refl
+items_more [] (PassedOver line) = refl
+items_more [] End = refl
+items_more (Item line item ∷ rs) read = ap (λ (l : List NavItem). item ∷ l) (items_more rs read)
+items_more (Refused line reason ∷ rs) read = items_more rs read
+items_more (PassedOver line ∷ rs) read = items_more rs read
+items_more (End ∷ rs) read = items_more rs read
 
 -- nothing was counted
 pub nothing_counted : (c : RinexCounts) → c ≡ counts_of_reads [] → AreCounted c

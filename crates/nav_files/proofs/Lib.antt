@@ -6,5 +6,5 @@ pub mod FileLemmas
 pub mod FileEnds
 pub mod ConvertLemmas
 mod TakenLemmas
-pub mod WholeLemmas
 pub mod Surface
+mod ListTexts

@@ -4,7 +4,7 @@ use Rattle.std.specs.Prelude.{Option}
 use Rattle.std.specs.Io.KnownBytes.{Appends}
 use Rattle.nav_io.specs.Front.{AppendsFront}
 use Rattle.rinex_read.specs.Forms.{Form}
-use Rattle.rinex_read.specs.States.{RecordsState, Steps, GivesRecord, GivesNone}
+use Rattle.rinex_read.specs.States.{IsPaused, RecordsState, Steps, GivesRecord, GivesNone}
 use Rattle.rinex_read.specs.declared.judged.ItemRead.{ItemRead}
 use Rattle.one_run.specs.declared.fault.BridgeFault.{BridgeFault}
 use Rattle.one_run.specs.declared.fault.BridgeFault.TheVariants.{ReadFault, WriteFault, ReportFault, NotThisForm, TooLong, NoMemory}
@@ -61,12 +61,18 @@ part_of_take f text told holds memory left l1 l2 w w1 w2 u u1 u2 s0 s1 s2 read f
   form = λ is. no_form kind is;
   too_long = λ is. absurd (no_length kind is);
   wants = λ is. wants kind is;
+  exact = λ is. absurd (no_read kind is);
 }
   where
     no_form : (fault ≡ WriteFault) ⊎ ((fault ≡ ReportFault) ⊎ ((fault ≡ NoMemory) × (memory ≡ true))) → fault ≡ NotThisForm → ⊥
     no_form (inl w) is = cc
     no_form (inr (inl u)) is = cc
     no_form (inr (inr (m, t))) is = cc
+
+    no_read : (fault ≡ WriteFault) ⊎ ((fault ≡ ReportFault) ⊎ ((fault ≡ NoMemory) × (memory ≡ true))) → fault ≡ ReadFault → ⊥
+    no_read (inl w) is = cc
+    no_read (inr (inl u)) is = cc
+    no_read (inr (inr (m, t))) is = cc
 
     no_length : (fault ≡ WriteFault) ⊎ ((fault ≡ ReportFault) ⊎ ((fault ≡ NoMemory) × (memory ≡ true))) → fault ≡ TooLong → ⊥
     no_length (inl w) is = cc
@@ -83,9 +89,9 @@ pub part_of_break : (f : Form) (text told : List ItemRead → List ℕ) (holds :
     → Follow f → TakenReads f text told holds left l1 s0 s1 w w1 u u1 → BreaksRead f l1 l2 s1 s2 fault
     → TakesPart f text told memory left l2 s0 s2 w w1 u u1 fault
 part_of_break f text told holds memory left l1 l2 w w1 u u1 s0 s1 s2 fault follow far breaks = by fault breaks where
-  part : (fault : BridgeFault) → Steps f l1 l2 s1 s2 [] → (fault ≡ NotThisForm → ⊥) → (fault ≡ TooLong → s2.lines.taken ≡ 2 ^ 32) → (fault ≡ NoMemory → ⊥)
+  part : (fault : BridgeFault) → Steps f l1 l2 s1 s2 [] → (fault ≡ NotThisForm → ⊥) → (fault ≡ TooLong → s2.lines.taken ≡ 2 ^ 32) → (fault ≡ NoMemory → ⊥) → (fault ≡ ReadFault → IsPaused s2)
       → TakesPart f text told memory left l2 s0 s2 w w1 u u1 fault
-  part fault steps form long short = record {
+  part fault steps form long short paused = record {
     given = far.given;
     steps = subst (Steps f left l2 s0 s2) (append-nil far.given) (follow left l1 l2 s0 s1 s2 far.given [] far.steps steps);
     output = λ start begun. whole_front start w1 _ (far.output start begun);
@@ -93,11 +99,14 @@ part_of_break f text told holds memory left l1 l2 w w1 u u1 s0 s1 s2 fault follo
     form = form;
     too_long = long;
     wants = λ is. absurd (short is);
+    exact = λ is. (paused is, far.output, far.report);
   }
 
   by : (fault : BridgeFault) → BreaksRead f l1 l2 s1 s2 fault → TakesPart f text told memory left l2 s0 s2 w w1 u u1 fault
   by ReadFault breaks = part ReadFault breaks.steps (λ is. cc) (λ is. absurd (let none : ReadFault ≡ TooLong = is in cc)) (λ is. cc)
+      (λ is. record { more = breaks.by.0; none = breaks.by.2 })
   by TooLong breaks = part TooLong breaks.steps (λ is. cc) (λ is. breaks.by) (λ is. cc)
+      (λ is. absurd (let none : TooLong ≡ ReadFault = is in cc))
   by WriteFault breaks = absurd breaks
   by ReportFault breaks = absurd breaks
   by NotThisForm breaks = absurd breaks

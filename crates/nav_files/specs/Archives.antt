@@ -5,7 +5,7 @@ use Rattle.nav_eph.specs.declared.items.NavItem.{NavItem}
 use Rattle.nav_lists.specs.Merging.{merged_of}
 use Rattle.nav_lists.specs.Covering.{covers_of}
 use Rattle.nav_lists.specs.declared.range.CoverRange.{CoverRange}
-use Rattle.rinex_read.specs.Files.{file_reads}
+use Rattle.rinex_read.specs.Files.{items_of}
 use Rattle.rinex_read.specs.Forms.{rinex4}
 use Rattle.rinex_read.specs.declared.judged.ItemRead.{ItemRead}
 use Rattle.rinex_read.specs.declared.judged.ItemRead.TheVariants.{Item, Refused, PassedOver, End}
@@ -15,18 +15,15 @@ use Rattle.outlets.specs.ItemTexts.{rinex_item, satellite_text}
 use Rattle.one_run.specs.Reports.{count_line}
 use Rattle.nav_files.specs.declared.counts.RinexCounts.{RinexCounts}
 use Rattle.one_run.specs.Runs.{Meaning}
-use Rattle.nav_files.specs.Files.{counts_of_reads, file_counts_text, file_meaning, read_report, text_in}
+use Rattle.nav_files.specs.Files.{counts_of_reads, file_counts_text, file_meaning, refusals_text}
 use Rattle.nav_files.specs.declared.merge_counts.MergeCounts.{MergeCounts}
 
--- the items of the records of a file, repeats included
+-- the item of a record of a file, where it has one
 abbrev pub item_of : ItemRead → List NavItem
 item_of (Item line item) = item ∷ []
 item_of (Refused line reason) = []
 item_of (PassedOver line) = []
 item_of End = []
-
-abbrev pub items_of : List ItemRead → List NavItem
-items_of reads = flat_map item_of reads
 
 -- the records of the merged list
 abbrev pub merge_text : List NavItem → List ℕ
@@ -65,23 +62,10 @@ cover_counts_text reads = file_counts_text (counts_of_reads reads)
 -- the report for each record that is refused, and the text of the counts.
 abbrev pub archive_meaning : {C : Type 0} → List ℕ → (List NavItem → List ℕ) → (List ItemRead → List ℕ) → (List ItemRead → C) → Meaning C
 archive_meaning front text after count =
-    file_meaning rinex4 true (λ reads. front ++ text (items_of reads)) (λ reads. flat_map read_report reads ++ after reads) count
+    file_meaning rinex4 true (λ reads. front) refusals_text (λ reads. front ++ text (items_of reads)) (λ reads. refusals_text reads ++ after reads) count
 
 abbrev pub merge_meaning : HeaderWords → Meaning MergeCounts
 merge_meaning words = archive_meaning (text_of (header_lines words)) merge_text merge_counts_text merge_counts
 
 abbrev pub cover_meaning : Meaning RinexCounts
 cover_meaning = archive_meaning [] cover_text cover_counts_text counts_of_reads
-
--- the output and the report of the bytes
-abbrev pub merge_output : HeaderWords → List ℕ → List ℕ
-merge_output words = (merge_meaning words).whole.output
-
-abbrev pub merge_report : List ℕ → List ℕ
-merge_report bytes = text_in (λ reads. flat_map read_report reads ++ merge_counts_text reads) (file_reads rinex4 bytes)
-
-abbrev pub cover_output : List ℕ → List ℕ
-cover_output = cover_meaning.whole.output
-
-abbrev pub cover_report : List ℕ → List ℕ
-cover_report = cover_meaning.whole.report

@@ -2,7 +2,7 @@
 use Rattle.std.specs.Prelude.{ℕ, Bool, true, false, List, [], ◌++◌, length, codes, map, sum, Option, None, Some, Result, Ok, Err}
 use Rattle.std.specs.List.{flat_map}
 use Rattle.nav_eph.specs.declared.items.NavItem.{NavItem}
-use Rattle.rinex_read.specs.Files.{file_reads}
+use Rattle.rinex_read.specs.Files.{file_reads, whole_reads}
 use Rattle.rinex_read.specs.Forms.{Form}
 use Rattle.rinex_read.specs.declared.judged.HeaderFault.{HeaderFault}
 use Rattle.rinex_read.specs.declared.judged.ItemRead.{ItemRead}
@@ -13,9 +13,7 @@ use Rattle.outlets.specs.Targets.{front_text, item_text}
 use Rattle.outlets.specs.declared.target.Target.{Target}
 use Rattle.one_run.specs.Reports.{report_line, count_line}
 use Rattle.one_run.specs.Runs.{Meaning, no_least}
-use Rattle.nav_files.specs.declared.target.RinexTo.{RinexTo}
 use Rattle.nav_files.specs.declared.counts.RinexCounts.{RinexCounts}
-use Rattle.nav_files.specs.Targets.{target_of_file}
 
 -- why a record is refused
 abbrev pub reason_text : Reason → List ℕ
@@ -87,32 +85,30 @@ abbrev pub text_in : (List ItemRead → List ℕ) → Result (List ItemRead) Hea
 text_in text (Ok reads) = text reads
 text_in text (Err fault) = []
 
--- a run over a file of a form: whether it takes memory, what it writes and reports of the records, and what it counts of them
-abbrev pub file_meaning : {C : Type 0} → Form → Bool → (List ItemRead → List ℕ) → (List ItemRead → List ℕ) → (List ItemRead → C) → Meaning C
-file_meaning f memory output report count = record {
+-- A run over a file of a form: whether it takes memory, what it has written and reported once it took records, what it writes and
+-- reports of all of them, and what it counts. Where a read fails it has taken the records that are whole in the bytes.
+abbrev pub file_meaning : {C : Type 0} → Form → Bool → (List ItemRead → List ℕ) → (List ItemRead → List ℕ) → (List ItemRead → List ℕ) → (List ItemRead → List ℕ)
+    → (List ItemRead → C) → Meaning C
+file_meaning f memory text told output report count = record {
   reads = true;
   reports = true;
   memory = memory;
   counts = λ bytes. counted_in count (file_reads f bytes);
   whole = record { output = λ bytes. text_in output (file_reads f bytes); report = λ bytes. text_in report (file_reads f bytes) };
   least = no_least;
-  settled = None;
+  settled = Some (record { output = λ bytes. text_in text (whole_reads f bytes); report = λ bytes. text_in told (whole_reads f bytes) });
 }
 
 -- what is written of the records of a file that is converted: a text in front, and one for each item
 abbrev pub convert_text : Target → List ItemRead → List ℕ
 convert_text to reads = front_text to ++ flat_map (read_text (item_text to)) reads
 
--- what is reported of them: a line for each record that is refused, and the counts
+-- what is reported of them: a line for each record that is refused; and at the end the counts
+abbrev pub refusals_text : List ItemRead → List ℕ
+refusals_text reads = flat_map read_report reads
+
 abbrev pub convert_report : List ItemRead → List ℕ
-convert_report reads = flat_map read_report reads ++ file_counts_text (counts_of_reads reads)
+convert_report reads = refusals_text reads ++ file_counts_text (counts_of_reads reads)
 
 abbrev pub convert_meaning : Form → Target → Meaning RinexCounts
-convert_meaning f to = file_meaning f false (convert_text to) convert_report counts_of_reads
-
--- the output and the report of the bytes of a file of a form
-abbrev pub file_output : Form → RinexTo → List ℕ → List ℕ
-file_output f to bytes = text_in (convert_text (target_of_file to)) (file_reads f bytes)
-
-abbrev pub file_report : Form → List ℕ → List ℕ
-file_report f bytes = text_in convert_report (file_reads f bytes)
+convert_meaning f to = file_meaning f false (convert_text to) refusals_text (convert_text to) convert_report counts_of_reads

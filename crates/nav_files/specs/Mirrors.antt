@@ -1,8 +1,8 @@
 -- A file while it is read. Private functions cite these.
-use Rattle.std.specs.Prelude.{◌≡◌, ◌+◌, ◌-◌, ◌^◌, ◌⊎◌, ℕ, List, Option}
+use Rattle.std.specs.Prelude.{◌≡◌, ◌+◌, ◌-◌, ◌^◌, ◌⊎◌, ℕ, List, Option, true}
 use Rattle.rinex_read.specs.Forms.{Form}
 use Rattle.nav_io.specs.declared.lines.LineFault.TheVariants as lines
-use Rattle.rinex_read.specs.States.{RecordsState, HeaderSteps, BreaksRecord}
+use Rattle.rinex_read.specs.States.{RecordsState, HeaderSteps, BreaksRecord, BrokeBy, is_waiting}
 use Rattle.rinex_read.specs.declared.judged.HeaderState.TheVariants.{NotRinexNav, OtherVersion}
 use Rattle.rinex_read.specs.declared.judged.ItemRead.{ItemRead}
 use Rattle.rinex_read.specs.declared.judged.ItemRead.TheVariants.{Item, Refused, PassedOver, End}
@@ -33,8 +33,8 @@ AreCounted c = c.refused + c.passed + c.items ≡ c.records
 
 -- how the header was left at a fault
 abbrev pub HeaderFaultOf : BridgeFault → RecordsState → Type 0
-HeaderFaultOf ReadFault new = Unit {0}
-HeaderFaultOf TooLong new = new.lines.taken ≡ 2 ^ 32
+HeaderFaultOf ReadFault new = (is_waiting new.header ≡ true) × BrokeBy lines.ReadFault new
+HeaderFaultOf TooLong new = (is_waiting new.header ≡ true) × BrokeBy lines.TooLong new
 HeaderFaultOf NotThisForm new = (new.header ≡ NotRinexNav) ⊎ (new.header ≡ OtherVersion)
 HeaderFaultOf _ new = ⊥
 

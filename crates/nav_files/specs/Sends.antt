@@ -14,7 +14,7 @@ use Rattle.nav_files.specs.Files.{file_counts_text, file_meaning, reason_text}
 use Rattle.page_send.specs.declared.fault.SendFault.{SendFault}
 use Rattle.page_send.specs.declared.fault.SendFault.TheVariants as faults
 use Rattle.page_send.specs.Slots.{slot_text}
-use Rattle.page_send.specs.Sendable.{is_ephemeris, send_fault, sent_text}
+use Rattle.page_send.specs.Sendable.{is_ephemeris, send_fault, sent_head, sent_text}
 use Rattle.nav_files.specs.declared.told.Told.{Told}
 use Rattle.nav_files.specs.declared.told.Told.TheVariants.{Sent, NotSent, Withheld, Refused, PassedOver}
 
@@ -106,18 +106,18 @@ counts_of_tolds all = record {
 abbrev pub sends_text : ℕ → List ItemRead → List ℕ
 sends_text r reads = sent_text r (items_of reads)
 
+-- the same, a record after another
+abbrev pub sends_text_so_far : ℕ → List ItemRead → List ℕ
+sends_text_so_far r reads = sent_head ++ flat_map told_text (tolds r 0 reads)
+
 -- what is reported of them: a line for each record that is refused and for each ephemeris that may not be sent, in the order of
--- the records, and the counts
+-- the records; and at the end the counts
+abbrev pub withheld_text : ℕ → List ItemRead → List ℕ
+withheld_text r reads = flat_map told_report (tolds r 0 reads)
+
 abbrev pub sends_report : ℕ → List ItemRead → List ℕ
-sends_report r reads = flat_map told_report (tolds r 0 reads) ++ file_counts_text (counts_of_tolds (tolds r 0 reads))
+sends_report r reads = withheld_text r reads ++ file_counts_text (counts_of_tolds (tolds r 0 reads))
 
 -- what a run makes of a file of a form
 abbrev pub send_meaning : Form → ℕ → Meaning RinexCounts
-send_meaning f r = file_meaning f false (sends_text r) (sends_report r) (λ reads. counts_of_tolds (tolds r 0 reads))
-
--- the output and the report of the bytes of a file of a form
-abbrev pub send_output : Form → ℕ → List ℕ → List ℕ
-send_output f r = (send_meaning f r).whole.output
-
-abbrev pub send_report : Form → ℕ → List ℕ → List ℕ
-send_report f r = (send_meaning f r).whole.report
+send_meaning f r = file_meaning f false (sends_text_so_far r) (withheld_text r) (sends_text r) (sends_report r) (λ reads. counts_of_tolds (tolds r 0 reads))

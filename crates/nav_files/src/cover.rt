@@ -8,7 +8,8 @@ ghost use Rattle.nav_lists.specs.Covering.{AreCovering, AreCovers};
 ghost use Rattle.nav_files.specs.Files.{counts_of_reads, read_report};
 ghost use Rattle.nav_files.specs.Mirrors.{AreCounted};
 ghost use Rattle.nav_files.specs.Archives.{cover_counts_text, cover_line, cover_text};
-ghost use Rattle.nav_files.specs.Archives.{item_of, items_of};
+ghost use Rattle.rinex_read.specs.Files.{items_of};
+ghost use Rattle.nav_files.specs.Archives.{item_of};
 
 use crate::counts::{RinexCounts, file_counts_text};
 use crate::merge_records::report_read;

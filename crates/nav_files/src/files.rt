@@ -2,7 +2,7 @@
 
 ghost use Rattle.rinex_read.specs.Forms.{rinex4};
 ghost use Rattle.rinex_read.specs.Form3.{rinex3};
-ghost use Rattle.one_run.specs.Runs.{Ended, world};
+ghost use Rattle.one_run.specs.Runs.{Ran};
 ghost use Rattle.nav_files.specs.Files.{convert_meaning};
 ghost use Rattle.nav_files.specs.Targets.{target_of_file};
 
@@ -24,7 +24,8 @@ use rinex_read::{Rinex3, Rinex4};
 ///
 /// - `NotThisForm` exactly where the header is refused; nothing is written then.
 /// - `ReadFault`, `WriteFault`, `ReportFault` only where the count of faults of the input, the output or the report rose, or
-///   stands at its last value.
+///   stands at its last value. After a failed read exactly what the records give that are whole in the bytes taken was written
+///   and reported: those behind which another one begins, in a line that has ended.
 /// - `TooLong` only where 4,294,967,295 bytes were taken and one more was there.
 ///
 /// It takes no memory.
@@ -34,13 +35,9 @@ pub fn run_rinex<S: Source, T: Sink, U: Sink>(
     output: &mut T,
     report: &mut U,
 ) -> Result<RinexCounts, BridgeFault>
-    ensures { Ended (convert_meaning rinex4 (target_of_file to.now))
-        (world input.old (S.left input.old) (S.never_fails input.old) (S.faults input.old)
-        output.old (T.written output.old) (T.faults output.old)
-        report.old (U.written report.old) (U.faults report.old))
-        (world input.new (S.left input.new) (S.never_fails input.new) (S.faults input.new)
-        output.new (T.written output.new) (T.faults output.new)
-        report.new (U.written report.new) (U.faults report.new)) result }
+    ensures { Ran (convert_meaning rinex4 (target_of_file to.now))
+        S.left S.never_fails S.faults T.written T.faults U.written U.faults
+        input.old input.new output.old output.new report.old report.new result }
 {
     let mut counts = RinexCounts::new();
     run_file::<Rinex4, Target, S, T, U>(&to.target(), &mut counts, input, output, report)
@@ -58,13 +55,9 @@ pub fn run_rinex3<S: Source, T: Sink, U: Sink>(
     output: &mut T,
     report: &mut U,
 ) -> Result<RinexCounts, BridgeFault>
-    ensures { Ended (convert_meaning rinex3 (target_of_file to.now))
-        (world input.old (S.left input.old) (S.never_fails input.old) (S.faults input.old)
-        output.old (T.written output.old) (T.faults output.old)
-        report.old (U.written report.old) (U.faults report.old))
-        (world input.new (S.left input.new) (S.never_fails input.new) (S.faults input.new)
-        output.new (T.written output.new) (T.faults output.new)
-        report.new (U.written report.new) (U.faults report.new)) result }
+    ensures { Ran (convert_meaning rinex3 (target_of_file to.now))
+        S.left S.never_fails S.faults T.written T.faults U.written U.faults
+        input.old input.new output.old output.new report.old report.new result }
 {
     let mut counts = RinexCounts::new();
     run_file::<Rinex3, Target, S, T, U>(&to.target(), &mut counts, input, output, report)

@@ -9,7 +9,8 @@ ghost use Rattle.rinex_write.specs.Texts.{header_lines, text_of};
 ghost use Rattle.outlets.specs.ItemTexts.{rinex_item};
 ghost use Rattle.nav_files.specs.Files.{counts_of_reads, read_report};
 ghost use Rattle.nav_files.specs.Mirrors.{AreCounted};
-ghost use Rattle.nav_files.specs.Archives.{item_of, items_of, kept_counts_text};
+ghost use Rattle.rinex_read.specs.Files.{items_of};
+ghost use Rattle.nav_files.specs.Archives.{item_of, kept_counts_text};
 ghost use Rattle.nav_files.specs.Archives.{merge_counts, merge_counts_text, merge_text};
 
 use crate::counts::RinexCounts;

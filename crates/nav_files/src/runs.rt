@@ -1,6 +1,6 @@
 //! The runs.
 
-ghost use Rattle.one_run.specs.Runs.{Ended, world};
+ghost use Rattle.one_run.specs.Runs.{Ran};
 ghost use Rattle.nav_files.specs.Archives.{cover_meaning, merge_meaning};
 
 use crate::counts::RinexCounts;
@@ -26,7 +26,8 @@ use std::alloc::Global;
 ///
 /// - `NotThisForm` exactly where the header is refused; nothing is written then.
 /// - `ReadFault`, `WriteFault`, `ReportFault` only where the count of faults of the input, the output or the report rose,
-///   or stands at its last value.
+///   or stands at its last value. After a failed read the header alone was written, and exactly the refusals reported of
+///   the records that are whole in the bytes taken.
 /// - `TooLong` only where 4,294,967,295 bytes were taken and one more was there.
 /// - `NoMemory` where no memory is to be had for the items.
 pub fn run_merge<S: Source, T: Sink, U: Sink>(
@@ -36,13 +37,9 @@ pub fn run_merge<S: Source, T: Sink, U: Sink>(
     output: &mut T,
     report: &mut U,
 ) -> Result<MergeCounts, BridgeFault>
-    ensures { Ended (merge_meaning words.now)
-        (world input.old (S.left input.old) (S.never_fails input.old) (S.faults input.old)
-        output.old (T.written output.old) (T.faults output.old)
-        report.old (U.written report.old) (U.faults report.old))
-        (world input.new (S.left input.new) (S.never_fails input.new) (S.faults input.new)
-        output.new (T.written output.new) (T.faults output.new)
-        report.new (U.written report.new) (U.faults report.new)) result }
+    ensures { Ran (merge_meaning words.now)
+        S.left S.never_fails S.faults T.written T.faults U.written U.faults
+        input.old input.new output.old output.new report.old report.new result }
 {
     let mut state = Merged {
         merge: Merge::new(alloc),
@@ -66,13 +63,9 @@ pub fn run_cover<S: Source, T: Sink, U: Sink>(
     output: &mut T,
     report: &mut U,
 ) -> Result<RinexCounts, BridgeFault>
-    ensures { Ended cover_meaning
-        (world input.old (S.left input.old) (S.never_fails input.old) (S.faults input.old)
-        output.old (T.written output.old) (T.faults output.old)
-        report.old (U.written report.old) (U.faults report.old))
-        (world input.new (S.left input.new) (S.never_fails input.new) (S.faults input.new)
-        output.new (T.written output.new) (T.faults output.new)
-        report.new (U.written report.new) (U.faults report.new)) result }
+    ensures { Ran cover_meaning
+        S.left S.never_fails S.faults T.written T.faults U.written U.faults
+        input.old input.new output.old output.new report.old report.new result }
 {
     let mut state = Covered {
         cover: Cover::new(alloc),

@@ -2,7 +2,7 @@
 
 ghost use Rattle.rinex_read.specs.Forms.{rinex4};
 ghost use Rattle.rinex_read.specs.Form3.{rinex3};
-ghost use Rattle.one_run.specs.Runs.{Ended, world};
+ghost use Rattle.one_run.specs.Runs.{Ran};
 ghost use Rattle.nav_files.specs.Sends.{send_meaning};
 
 use crate::counts::RinexCounts;
@@ -27,7 +27,8 @@ use rinex_read::{Rinex3, Rinex4};
 ///
 /// - `NotThisForm` exactly where the header is refused; nothing is written then.
 /// - `ReadFault`, `WriteFault`, `ReportFault` only where the count of faults of the input, the
-///   output or the report rose, or stands at its last value.
+///   output or the report rose, or stands at its last value. After a failed read exactly what the
+///   records give that are whole in the bytes taken was written and reported.
 /// - `TooLong` only where 4,294,967,295 bytes were taken and one more was there.
 ///
 /// It takes no memory.
@@ -37,13 +38,9 @@ pub fn send_rinex<S: Source, T: Sink, U: Sink>(
     output: &mut T,
     report: &mut U,
 ) -> Result<RinexCounts, BridgeFault>
-    ensures { Ended (send_meaning rinex4 r)
-        (world input.old (S.left input.old) (S.never_fails input.old) (S.faults input.old)
-        output.old (T.written output.old) (T.faults output.old)
-        report.old (U.written report.old) (U.faults report.old))
-        (world input.new (S.left input.new) (S.never_fails input.new) (S.faults input.new)
-        output.new (T.written output.new) (T.faults output.new)
-        report.new (U.written report.new) (U.faults report.new)) result }
+    ensures { Ran (send_meaning rinex4 r)
+        S.left S.never_fails S.faults T.written T.faults U.written U.faults
+        input.old input.new output.old output.new report.old report.new result }
 {
     let mut state = SoFar {
         counts: no_counts(),
@@ -63,13 +60,9 @@ pub fn send_rinex3<S: Source, T: Sink, U: Sink>(
     output: &mut T,
     report: &mut U,
 ) -> Result<RinexCounts, BridgeFault>
-    ensures { Ended (send_meaning rinex3 r)
-        (world input.old (S.left input.old) (S.never_fails input.old) (S.faults input.old)
-        output.old (T.written output.old) (T.faults output.old)
-        report.old (U.written report.old) (U.faults report.old))
-        (world input.new (S.left input.new) (S.never_fails input.new) (S.faults input.new)
-        output.new (T.written output.new) (T.faults output.new)
-        report.new (U.written report.new) (U.faults report.new)) result }
+    ensures { Ran (send_meaning rinex3 r)
+        S.left S.never_fails S.faults T.written T.faults U.written U.faults
+        input.old input.new output.old output.new report.old report.new result }
 {
     let mut state = SoFar {
         counts: no_counts(),

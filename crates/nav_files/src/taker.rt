@@ -10,7 +10,7 @@ ghost use Rattle.rinex_read.specs.RoundTrip.{IsWholeRead};
 ghost use Rattle.rinex_read.specs.declared.judged.HeaderState.TheVariants.{Passed};
 ghost use Rattle.rinex_read.specs.declared.judged.ItemRead.{ItemRead};
 ghost use Rattle.one_run.specs.Causes.{HasItsCause, faults_of};
-ghost use Rattle.one_run.specs.Runs.{Ended, world};
+ghost use Rattle.one_run.specs.Runs.{Ran};
 ghost use Rattle.nav_files.specs.Files.{file_meaning};
 ghost use Rattle.nav_files.specs.Mirrors.{IsRecord};
 ghost use Rattle.nav_files.specs.Taken.{TakesAll, TakesPart};
@@ -21,6 +21,7 @@ use nav_io::{Failed, Sink, Source};
 use one_run::{BridgeFault, Text};
 use rinex_read::{
     FileForm, ItemRead, RecordReader, readers_begin_with_the_file, steps_follow_one_another,
+    whole_records_are_given,
 };
 
 /// What a run does with the records of a file, one after another. Its settings stay as they are; what it holds of the records
@@ -161,17 +162,14 @@ pub fn run_file<F: FileForm, K: Taker, S: Source, T: Sink, U: Sink>(
     report: &mut U,
 ) -> Result<K::Counts, BridgeFault>
     requires nothing { K.holds taker.now state.old [] }
-    ensures { Ended (file_meaning F.form K.memory (K.whole taker.now) (K.reported taker.now)
-        (K.count taker.now))
-        (world input.old (S.left input.old) (S.never_fails input.old) (S.faults input.old)
-        output.old (T.written output.old) (T.faults output.old)
-        report.old (U.written report.old) (U.faults report.old))
-        (world input.new (S.left input.new) (S.never_fails input.new) (S.faults input.new)
-        output.new (T.written output.new) (T.faults output.new)
-        report.new (U.written report.new) (U.faults report.new)) result }
+    ensures { Ran (file_meaning F.form K.memory (K.text taker.now) (K.told taker.now)
+        (K.whole taker.now) (K.reported taker.now) (K.count taker.now))
+        S.left S.never_fails S.faults T.written T.faults U.written U.faults
+        input.old input.new output.old output.new report.old report.new result }
 {
     readers_begin_with_the_file::<F>();
     steps_follow_one_another::<F>();
+    whole_records_are_given::<F>();
     taker.begins();
     let mut records: RecordReader<F> = RecordReader::new();
     pass_header::<F, S>(&mut records, input)?;

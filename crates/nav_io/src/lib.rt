@@ -26,7 +26,7 @@
 //! ```
 #![tactic(auto)]
 
-ghost use Rattle.std.specs.Prelude.{ℕ, List, Option, Bool, IsTrue, IsOk, MatchResult};
+ghost use Rattle.std.specs.Prelude.{ℕ, ◌≤◌, List, length, Option, Bool, IsTrue, IsOk, MatchResult};
 ghost use Rattle.std.specs.Io.{ReadsAtMost};
 ghost use Rattle.std.specs.Io.KnownBytes.{Appends, ReadConsumes};
 ghost use Rattle.nav_io.specs.Causes.{HasCause};
@@ -66,8 +66,10 @@ pub trait Source {
     /// Reads into the front of `into`, and gives how many bytes.
     ///
     /// No byte for an `into` that has room is the end. A read fails only where the count of faults
-    /// rose in this call, or stands at its last value; the bytes that are left stay.
+    /// rose in this call, or stands at its last value; the bytes that are left stay. No more than
+    /// 16,384 bytes are asked for at once.
     fn read(&mut self, into: &mut [u8]) -> Result<usize, Failed>
+        requires asks { length into.old ≤ 16384 }
         ensures bound { ReadsAtMost result into.new }
         ensures bytes { ReadConsumes (left self.old) (left self.new) result into.new }
         ensures cause { HasCause (faults self.old) (faults self.new) result }

@@ -13,7 +13,8 @@ pub const MOST_TAKEN: u64 = 4_294_967_295;
 /// Reads a piece of a source of which so many bytes were taken, and tells how many bytes it has.
 ///
 /// The piece fills the front of the slice. At most 4,294,967,296 bytes are taken in all: one more
-/// than [`MOST_TAKEN`], so that its presence shows. 0 only where the source is at its end.
+/// than [`MOST_TAKEN`], so that its presence shows. 0 only where the source is at its end. The slice
+/// has room for 1 to 16,384 bytes.
 ///
 /// # Errors
 ///
@@ -22,6 +23,7 @@ pub const MOST_TAKEN: u64 = 4_294_967_295;
 pub fn read_piece<S: Source>(source: &mut S, taken: u64, piece: &mut [u8]) -> Result<usize, Failed>
     requires low { taken < 2 ^ 32 }
     requires some { 0 < length piece.old }
+    requires asks { length piece.old ≤ 16384 }
     ensures within { IfOk result (λ count. count ≤ length piece.old) }
     ensures most { IfOk result (λ count. taken + count ≤ 2 ^ 32) }
     ensures count { IfOk result (λ count. length (take count piece.new) ≡ count) }

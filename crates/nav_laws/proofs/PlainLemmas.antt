@@ -111,12 +111,7 @@ stands_at s new at mark n last h none by ep ew em el et en = record {
   none_by = subst (λ (m : ℕ). m ≤ mark) (sym en) by;
 }
 
--- after None it stands for the mark
-pub stands_reached : (s new : PlainState) (at : Standing) (mark : ℕ) → PlainStandsFor s at → at.mark ≤ mark → new.parts ≡ s.parts → new.window ≡ s.window → new.mark ≡ mark → new.last ≡ s.last → new.least ≡ s.least → new.none_at ≡ s.none_at
-    → PlainStandsFor new (reaching mark at)
-stands_reached s new at mark h l ep ew em el et en = stands_at s new at mark s.none_at at.last h h.none_due (omega (arith, h.none_by)) ep ew em (el ∙ h.at_last) et en
-
--- and notes it, where all parts were searched
+-- after None, which all parts show, it stands for the mark and notes it
 pub stands_searched : (s new : PlainState) (at : Standing) (mark : ℕ) → PlainStandsFor s at → NoneDue s.window (Contains at.parts) mark at.last → new.parts ≡ s.parts → new.window ≡ s.window → new.mark ≡ mark → new.last ≡ s.last → new.least ≡ s.least
     → new.none_at ≡ mark → PlainStandsFor new (reaching mark at)
 stands_searched s new at mark h none ep ew em el et en = stands_at s new at mark mark at.last h none (omega arith) ep ew em (el ∙ h.at_last) et en

@@ -13,7 +13,6 @@ use Rattle.nav_eph.specs.declared.ion.IonContent.TheVariants.{Gal as OfGal}
 use Rattle.nav_eph.specs.declared.tag.SentTag.{SentTag}
 use Rattle.nav_eph.specs.declared.tag.SentTag.TheVariants.{Sent}
 use Rattle.nav_eph.specs.declared.part.Part.{Part}
-use Rattle.nav_eph.specs.declared.part.Body.{Body}
 use Rattle.nav_eph.specs.declared.part.Body.TheVariants.{GpsClock as OfClock, GpsA as OfOrbitA, GpsB as OfOrbitB, GalW1 as OfWord1, GalW2 as OfWord2, GalW3 as OfWord3, GalW4 as OfWord4, GalHealth as OfHealth, GalIon as OfGalIon}
 use Rattle.nav_eph.specs.declared.items.SentSecond.TheVariants.{At}
 use Rattle.nav_eph.specs.declared.items.GpsEph.{GpsEph}
@@ -25,13 +24,14 @@ use Rattle.periods.specs.declared.key.Key.{Key}
 use Rattle.periods.specs.declared.key.Key.TheVariants.{Gps, Gal, GalIon}
 use Rattle.periods.specs.declared.key.Place.{Place}
 use Rattle.periods.specs.declared.closed.Finding.TheVariants.{Complete}
-use Rattle.periods.specs.Values.{HasValue, IsBelow, IsEarlier, IsLater, IsFirstBy, IsOnly}
+use Rattle.periods.specs.Values.{IsBelow, IsEarlier, IsLater, IsFirstBy, IsOnly}
 use Rattle.periods.specs.declared.key.Sending.{Sending}
-use Rattle.periods.specs.Parts.{side_numbers, fit_numbers, tag_numbers, health_numbers, sending_numbers, health_in, health_of, key_of, sending_of, clock_of, orbit_a_of, orbit_b_of, side_of, fit_of, sent_tag_of, word1_of, word2_of, word3_of, word4_of}
+use Rattle.periods.specs.Parts.{Kind, Clock, OrbitA, OrbitB, Word1, Word2, Word3, Word4, Side, FitFlag, SendingTag, IonSending, HealthOf, Value, HasValue, key_of, side_numbers, fit_numbers, tag_numbers, health_numbers, sending_numbers}
+use Rattle.periods.specs.Readings.{reading}
 use Rattle.periods.specs.Periods.{IsHeardAt, IsMember, IsPeriod}
 use Rattle.periods.specs.PeriodsOf.{end_place}
 use Rattle.periods.specs.Verdicts.{IsFound}
-use Rattle.periods.proofs.Surface.{is-same_sat, none_some, some_is}
+use Rattle.periods.proofs.Surface.{is-same_sat, none_some, some_is, said_of, reading_of}
 use Rattle.page_send.specs.Slots.{galileo_second, galileo_week_number, gps_second, gps_sending, gps_week_number, no_ionosphere}
 use Rattle.page_send.specs.SentItems.{as_sent}
 use Rattle.nav_laws.specs.SlotParts.{galileo_parts, gps_parts, part}
@@ -58,23 +58,23 @@ sent_is week sent = let e : pos sent ≡ pos (604800 * week + sent) -ℤ pos (60
 
 -- ---- values
 
--- the element gives no other value
-abbrev Gives : {X : Type 0} → (Part → Option X) → X → Part → Type 0
-Gives {X} read v p = (w : X) → read p ≡ Some w → w ≡ v
+-- the part says no other value
+abbrev Gives : (k : Kind) → Value k → Part → Type 0
+Gives k v p = (w : Value k) → reading k p ≡ Some w → w ≡ v
 
--- all elements of a list give one value
-abbrev AllGive : {X : Type 0} → (Part → Option X) → X → List Part → Type 0
-AllGive read v [] = Unit {0}
-AllGive read v (p ∷ ps) = Gives read v p × AllGive read v ps
+-- all parts of a list say one value
+abbrev AllGive : (k : Kind) → Value k → List Part → Type 0
+AllGive k v [] = Unit {0}
+AllGive k v (p ∷ ps) = Gives k v p × AllGive k v ps
 
-gives_in : {X : Type 0} (read : Part → Option X) (v : X) (ps : List Part) (p : Part) → AllGive read v ps → In ps p → Gives read v p
-gives_in read v [] p all i = absurd i
-gives_in read v (q ∷ qs) p all (inl e) = subst (λ (z : Part). Gives read v z) e all.0
-gives_in read v (q ∷ qs) p all (inr i) = gives_in read v qs p all.1 i
+gives_in : (k : Kind) (v : Value k) (ps : List Part) (p : Part) → AllGive k v ps → In ps p → Gives k v p
+gives_in k v [] p all i = absurd i
+gives_in k v (q ∷ qs) p all (inl e) = subst (λ (z : Part). Gives k v z) e all.0
+gives_in k v (q ∷ qs) p all (inr i) = gives_in k v qs p all.1 i
 
-gives_value : {X : Type 0} (read : Part → Option X) (v : X) (ps : List Part) (members : Part → Type 0) (w : X)
-    → ((p : Part) → members p → In ps p) → AllGive read v ps → HasValue read members w → w ≡ v
-gives_value read v ps members w within all h = gives_in read v ps h.element all (within h.element h.here) w h.is
+gives_value : (k : Kind) (v : Value k) (ps : List Part) (members : Part → Type 0) (w : Value k)
+    → ((p : Part) → members p → In ps p) → AllGive k v ps → HasValue k members w → w ≡ v
+gives_value k v ps members w within all h = gives_in k v ps h.part all (within h.part h.here) w (reading_of k h.part w h.says)
 
 one : {X : Type 0} (v w : X) → Some v ≡ Some w → w ≡ v
 one v w e = sym (some_is v w e)
@@ -82,18 +82,18 @@ one v w e = sym (some_is v w e)
 none : {X : Type 0} (v w : X) → None ≡ Some w → w ≡ v
 none v w e = absurd (none_some w e)
 
-only_is : {X : Type 0} (read : Part → Option X) (v : X) (ps : List Part) (members : Part → Type 0) (p : Part)
-    → ((q : Part) → members q → In ps q) → AllGive read v ps → members p → read p ≡ Some v → IsOnly (HasValue read members) v
-only_is read v ps members p within all here is = record {
-  here = record { element = p; here = here; is = is };
-  only = λ w h. gives_value read v ps members w within all h;
+only_is : (k : Kind) (v : Value k) (ps : List Part) (members : Part → Type 0) (p : Part)
+    → ((q : Part) → members q → In ps q) → AllGive k v ps → members p → reading k p ≡ Some v → IsOnly (HasValue k members) v
+only_is k v ps members p within all here is = record {
+  here = record { part = p; here = here; says = said_of k p v is };
+  only = λ w h. gives_value k v ps members w within all h;
 }
 
-first_is : {X : Type 0} (R : X → X → Type 0) (read : Part → Option X) (v : X) (ps : List Part) (members : Part → Type 0) (p : Part)
-    → (R v v → ⊥) → ((q : Part) → members q → In ps q) → AllGive read v ps → members p → read p ≡ Some v → IsFirstBy R (HasValue read members) v
-first_is R read v ps members p irr within all here is = record {
-  here = record { element = p; here = here; is = is };
-  first = λ w h rel. irr (subst (λ z. R z v) (gives_value read v ps members w within all h) rel);
+first_is : (k : Kind) (R : Value k → Value k → Type 0) (v : Value k) (ps : List Part) (members : Part → Type 0) (p : Part)
+    → (R v v → ⊥) → ((q : Part) → members q → In ps q) → AllGive k v ps → members p → reading k p ≡ Some v → IsFirstBy R (HasValue k members) v
+first_is k R v ps members p irr within all here is = record {
+  here = record { part = p; here = here; says = said_of k p v is };
+  first = λ w h rel. irr (subst (λ z. R z v) (gives_value k v ps members w within all h) rel);
 }
 
 -- ---- GPS
@@ -185,17 +185,17 @@ gps_found r s e h =
     let means : e.toe_week ≡ gps_week_to r (gps_week_number e) = sym (gps_number-means r e.toe_week h.near) in
     record {
       sat = refl;
-      clock = only_is clock_of e.clock parts members a within (one e.clock, (none e.clock, (none e.clock, tt))) ma refl;
-      a = only_is orbit_a_of e.a parts members b within (none e.a, (one e.a, (none e.a, tt))) mb refl;
-      b = only_is orbit_b_of e.b parts members c within (none e.b, (none e.b, (one e.b, tt))) mc refl;
+      clock = only_is Clock e.clock parts members a within (one e.clock, (none e.clock, (none e.clock, tt))) ma refl;
+      a = only_is OrbitA e.a parts members b within (none e.a, (one e.a, (none e.a, tt))) mb refl;
+      b = only_is OrbitB e.b parts members c within (none e.b, (none e.b, (one e.b, tt))) mc refl;
       side_stamp = s;
-      side = first_is (IsLater side_numbers) side_of (s, e.side) parts members a (irreflexive (side_numbers (s, e.side))) within
+      side = first_is Side (IsLater side_numbers) (s, e.side) parts members a (irreflexive (side_numbers (s, e.side))) within
           (one (s, e.side), (none (s, e.side), (none (s, e.side), tt))) ma refl;
       fit_stamp = s + 6;
-      fit = first_is (IsLater fit_numbers) fit_of (s + 6, e.fit) parts members b (irreflexive (fit_numbers (s + 6, e.fit))) within
+      fit = first_is FitFlag (IsLater fit_numbers) (s + 6, e.fit) parts members b (irreflexive (fit_numbers (s + 6, e.fit))) within
           (none (s + 6, e.fit), (one (s + 6, e.fit), (none (s + 6, e.fit), tt))) mb refl;
       tag = (s, tag);
-      tag_is = inl (first_is (IsEarlier tag_numbers) sent_tag_of (s, tag) parts members a (irreflexive (tag_numbers (s, tag))) within
+      tag_is = inl (first_is SendingTag (IsEarlier tag_numbers) (s, tag) parts members a (irreflexive (tag_numbers (s, tag))) within
           (one (s, tag), (none (s, tag), (none (s, tag), tt))) ma refl);
       toe_week = toe_week_is e.toe_week (gps_sending e) (gps_second e) small low high
           ∙ ap (λ z. week_of (moment_near (604800 * z + gps_sending e) (gps_second e))) means;
@@ -351,39 +351,20 @@ ion_member r s e h = record {
   };
 }
 
-health_reads : (s : ℕ) (sat : Satellite) (body : Body) → health_of sat (part s sat body) ≡ health_in s body
-health_reads s sat body = ap (λ (t : Bool). if t then health_in s body else None) (is-same_sat sat)
-
-health_none : (s : ℕ) (sat : Satellite) (body : Body) (v : ℕ × GalHealth × SentTag) → health_in s body ≡ None → Gives (health_of sat) v (part s sat body)
-health_none s sat body v is w h = none v w (sym is ∙ sym (health_reads s sat body) ∙ h)
-
-health_one : (s : ℕ) (sat : Satellite) (body : Body) (v : ℕ × GalHealth × SentTag) → health_in s body ≡ Some v → Gives (health_of sat) v (part s sat body)
-health_one s sat body v is w h = one v w (sym is ∙ sym (health_reads s sat body) ∙ h)
+health_one : (s : ℕ) (sat : Satellite) (health : GalHealth) (tag : SentTag) → reading (HealthOf sat) (part s sat (OfHealth health tag)) ≡ Some (s, health, tag)
+health_one s sat health tag = ap (λ (t : Bool). if t then Some (s, health, tag) else None) (is-same_sat sat)
 
 -- the health that is sent
 abbrev said_health : ℕ → GalEph → ℕ × GalHealth × SentTag
 said_health s e = (s + 9, e.health, Sent (galileo_week_number e) (galileo_second e))
 
-healths_give : (s : ℕ) (e : GalEph) → AllGive (health_of e.sat) (said_health s e) (galileo_parts s e)
-healths_give s e = (
-  health_none (s + 1) e.sat (OfWord1 e.w1) (said_health s e) refl,
-  (
-    health_none (s + 3) e.sat (OfWord2 e.w2) (said_health s e) refl,
-    (
-      health_none (s + 5) e.sat (OfWord3 e.w3) (said_health s e) refl,
-      (
-        health_none (s + 7) e.sat (OfWord4 e.w4) (said_health s e) refl,
-        (
-          health_one (s + 9) e.sat (OfHealth e.health (Sent (galileo_week_number e) (galileo_second e))) (said_health s e) refl,
-          (health_none (s + 9) e.sat (OfGalIon no_ionosphere (galileo_week_number e) (galileo_second e)) (said_health s e) refl, tt),
-        ),
-      ),
-    ),
-  ),
-)
+healths_give : (s : ℕ) (e : GalEph) → AllGive (HealthOf e.sat) (said_health s e) (galileo_parts s e)
+healths_give s e =
+    let v = said_health s e in
+    (none v, (none v, (none v, (none v, ((λ w h. one v w (sym (health_one (s + 9) e.sat e.health (Sent (galileo_week_number e) (galileo_second e))) ∙ h)), (none v, tt))))))
 
-health_is : (s : ℕ) (e : GalEph) (w : ℕ × GalHealth × SentTag) → HasValue (health_of e.sat) (GalSet s e) w → w ≡ said_health s e
-health_is s e w h = gives_value (health_of e.sat) (said_health s e) (galileo_parts s e) (GalSet s e) w
+health_is : (s : ℕ) (e : GalEph) (w : ℕ × GalHealth × SentTag) → HasValue (HealthOf e.sat) (GalSet s e) w → w ≡ said_health s e
+health_is s e w h = gives_value (HealthOf e.sat) (said_health s e) (galileo_parts s e) (GalSet s e) w
     (λ p i. In-from_contains (galileo_parts s e) p i) (healths_give s e) h
 
 pub gal_found : (r s : ℕ) (e : GalEph) → IsSentGal r e
@@ -406,19 +387,19 @@ gal_found r s e h =
     let means : e.toe_week ≡ galileo_week_to r (galileo_week_number e) = sym (galileo_number-means r e.toe_week h.near) in
     record {
       sat = refl;
-      w1 = only_is word1_of e.w1 parts members p1 within (one e.w1, (none e.w1, (none e.w1, (none e.w1, (none e.w1, (none e.w1, tt)))))) m1 refl;
-      w2 = only_is word2_of e.w2 parts members p2 within (none e.w2, (one e.w2, (none e.w2, (none e.w2, (none e.w2, (none e.w2, tt)))))) m2 refl;
-      w3 = only_is word3_of e.w3 parts members p3 within (none e.w3, (none e.w3, (one e.w3, (none e.w3, (none e.w3, (none e.w3, tt)))))) m3 refl;
-      w4 = only_is word4_of e.w4 parts members p4 within (none e.w4, (none e.w4, (none e.w4, (one e.w4, (none e.w4, (none e.w4, tt)))))) m4 refl;
+      w1 = only_is Word1 e.w1 parts members p1 within (one e.w1, (none e.w1, (none e.w1, (none e.w1, (none e.w1, (none e.w1, tt)))))) m1 refl;
+      w2 = only_is Word2 e.w2 parts members p2 within (none e.w2, (one e.w2, (none e.w2, (none e.w2, (none e.w2, (none e.w2, tt)))))) m2 refl;
+      w3 = only_is Word3 e.w3 parts members p3 within (none e.w3, (none e.w3, (one e.w3, (none e.w3, (none e.w3, (none e.w3, tt)))))) m3 refl;
+      w4 = only_is Word4 e.w4 parts members p4 within (none e.w4, (none e.w4, (none e.w4, (one e.w4, (none e.w4, (none e.w4, tt)))))) m4 refl;
       heard = v;
       heard_is = inr (
         λ w b. let same = ap (λ (x : ℕ × GalHealth × SentTag). x.0) (health_is s e w b.heard) in omega (arith, same, b.by_end),
         record {
           here = record {
             heard = record {
-              element = health_part e s;
+              part = health_part e s;
               here = contains_from_In parts (health_part e s) (inr (inr (inr (inr (inl refl)))));
-              is = health_reads (s + 9) e.sat (OfHealth e.health (Sent (galileo_week_number e) (galileo_second e)));
+              says = (refl, refl, refl);
             };
             behind = omega arith;
             near = omega arith;
@@ -445,7 +426,7 @@ ion_found r s e h =
     record {
       content = refl;
       sending = v;
-      first = first_is (IsEarlier sending_numbers) sending_of v parts members (ion_part e s) (irreflexive (sending_numbers v)) within
+      first = first_is IonSending (IsEarlier sending_numbers) v parts members (ion_part e s) (irreflexive (sending_numbers v)) within
           (none v, (none v, (none v, (none v, (none v, (one v, tt)))))) (ion_member r s e h) refl;
       sat = refl;
       moment = ap (λ z. 604800 * z + galileo_second e) means;

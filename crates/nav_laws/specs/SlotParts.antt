@@ -21,7 +21,7 @@ gps_parts s e =
     part s e.sat (GpsClock e.clock e.side (Sent (gps_week_number e) (gps_sending e)))
     ∷ part (s + 6) e.sat (GpsA e.a e.fit) ∷ part (s + 12) e.sat (GpsB e.b) ∷ []
 
--- those of an ephemeris of Galileo: its four words, its health with the time of sending, and an ionosphere that says nothing
+-- those of an ephemeris of Galileo: its four words, its health with the time of sending, and an ionosphere of zeros
 abbrev pub galileo_parts : ℕ → GalEph → List Part
 galileo_parts s e =
     part (s + 1) e.sat (GalW1 e.w1) ∷ part (s + 3) e.sat (GalW2 e.w2)

@@ -15,7 +15,8 @@ use std::marker::Model;
 /// own program.
 ///
 /// A contract sees the week `reference` near which it listens, the `window` in seconds, the `parts`
-/// that it keeps, the greatest `mark` given and the `last` period given.
+/// that it keeps, the greatest `mark` given, the `last` period given, and the greatest mark
+/// `none_at` at which there was none to give.
 #[derive(Drop)]
 pub struct PlainAssembly {
     parts: Vec<Part>,
@@ -25,7 +26,7 @@ pub struct PlainAssembly {
     last: Option<Place>,
     // no kept part has an earlier stamp
     least: u32,
-    // the last mark at which there was none to give
+    // the greatest mark at which there was none to give
     none_at: u64,
 }
 
@@ -56,6 +57,7 @@ impl PlainAssembly {
         ensures reference { result.reference ≡ r }
         ensures window { result.window ≡ window }
         ensures stands { PlainStandsFor result nothing_yet }
+        ensures none_at { result.none_at ≡ 0 }
     {
         PlainAssembly {
             parts: Vec::new(alloc),
@@ -81,6 +83,8 @@ impl Assembly for PlainAssembly {
 
     ghost left = { plain_left };
 
+    ghost none_at = { λ s. s.none_at };
+
     fn take(&mut self, part: &Part) -> Result<(), AllocError> {
         note_value(part);
         keep(&mut self.parts, part)?;
@@ -93,6 +97,7 @@ impl Assembly for PlainAssembly {
         // is old enough.
         if mark <= self.none_at || mark <= self.least as u64 + self.window as u64 {
             self.mark = mark;
+            self.none_at = mark;
             return Ok(None);
         }
         match first_due(&self.parts, self.window, mark, &self.last) {

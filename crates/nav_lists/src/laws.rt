@@ -4,7 +4,7 @@ ghost use Rattle.nav_eph.specs.declared.items.NavItem.{NavItem};
 ghost use Rattle.nav_lists.specs.Merging.{IsMerged, merged_of};
 
 /// `merged_of` is the one merged list of some items. It depends on the set of the items alone: their
-/// order is nothing, nor is repeating, nor is merging some of them before.
+/// order and repetition do not matter, and some of them may have been merged before.
 pub fn merging()
     ensures are { (items : List NavItem) → IsMerged (Contains items) (merged_of items) }
     ensures only { (items xs : List NavItem) →

@@ -1,7 +1,7 @@
 //! Lists of broadcast navigation data: the items of several files merged, and the times they cover.
 //!
-//! The merged list ([`Merge`]) has, of all items that are alike (equal in every field but the second
-//! of sending), the one that was sent first, and stands in the order of rank: the time of ephemeris
+//! The merged list ([`Merge`]) has, of all items that are alike (equal in every field but the transmission
+//! time), the one that was sent first, and is sorted by rank: the time of ephemeris
 //! (IS-GPS-200, 20.3.3.4.3.1; Galileo OS SIS ICD, 5.1.1) or of sending, the class, and the fields.
 //!
 //! An ephemeris covers the seconds around its toe: three hours before and behind it where the fit

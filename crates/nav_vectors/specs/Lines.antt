@@ -29,7 +29,7 @@ gps_sat number = record { system = Gps; number = number }
 abbrev pub gal_sat : ℕ → Satellite
 gal_sat number = record { system = Gal; number = number }
 
--- Subframes go round in frames of five, and pages in 25 frames. Subframe 4 is page 18 in frame 17, counted from 0, and page
+-- Subframes repeat in frames of five, and pages every 25 frames. Subframe 4 is page 18 in frame 17, counted from 0, and page
 -- 1 in the others; subframe 5 is page 1. Subframe k of the hour, in the week r:
 unfoldable pub subframe_of : GpsValues → GpsIon → ℕ → ℕ → SubframeOut
 subframe_of v ion r k =
@@ -46,8 +46,8 @@ pub record IsSubframeLine (seed n r stamp number : ℕ) (line : List ℕ) : Type
   pub written : IsWritten (subframe_of (gps_of seed number) (gps_ion_of seed n) r (stamp / 6)) (stamp / 6 + 1) bits
   pub line_is : line ≡ lnav_text stamp (gps_sat number) bits
 
--- Pages go round in 15. The first five, counted from 0, are words 1 to 5, word 5 with the week wn and the second at which it
--- is sent, and in the others all bits of the word are 0.
+-- Pages repeat every 15. The first five, counted from 0, are words 1 to 5, word 5 with the week wn and its transmission
+-- time, and in the others all bits of the word are 0.
 abbrev pub IsWordOf : GalValues → GalIon → ℕ → ℕ → ℕ → ℕ → List ℕ → Type 0
 IsWordOf v ion number wn second zero word =
     StandFrom word 0 0 (fields_word1 (written_word1 v.w1)) × (number_at word 126 2 ≡ 0)

@@ -141,32 +141,3 @@ Ran m left never_fails reads_failed written writes_failed reported reports_faile
     (world input (left input) (never_fails input) (reads_failed input) output (written output) (writes_failed output) report (reported report) (reports_failed report))
     (world input_new (left input_new) (never_fails input_new) (reads_failed input_new) output_new (written output_new) (writes_failed output_new)
     report_new (reported report_new) (reports_failed report_new)) result
-
--- the input was read to its end: these bytes were taken, and what they give was written and reported
-pub record RunsWhole (output report : List ℕ → List ℕ) (left left_new written written_new reported reported_new : Option (List ℕ)) : Type 0 where
-  pub taken : List ℕ
-  pub consumes : Consumes left left_new taken
-  pub end : IsAtEnd left_new
-  pub fits : length taken < 2 ^ 32
-  pub text : Appends written written_new (output taken)
-  pub report_text : Appends reported reported_new (report taken)
-
--- the run broke off: these bytes were taken, and of what they would give a front was written, no less than the least, and a front reported
-pub record RunsPart (output least report : List ℕ → List ℕ) (left left_new written written_new reported reported_new : Option (List ℕ)) : Type 0 where
-  pub taken : List ℕ
-  pub consumes : Consumes left left_new taken
-  pub text : AppendsBetween written written_new (least taken) (output taken)
-  pub report_text : AppendsFront reported reported_new (report taken)
-
--- a read failed: these bytes were taken, and exactly what they settle was written and reported
-pub record RunsSettled (output report : List ℕ → List ℕ) (left left_new written written_new reported reported_new : Option (List ℕ)) : Type 0 where
-  pub taken : List ℕ
-  pub consumes : Consumes left left_new taken
-  pub text : Appends written written_new (output taken)
-  pub report_text : Appends reported reported_new (report taken)
-
--- more bytes than a run takes were there
-pub record TakesTooMany (left left_new : Option (List ℕ)) : Type 0 where
-  pub taken : List ℕ
-  pub consumes : Consumes left left_new taken
-  pub too_many : length taken ≡ 2 ^ 32

@@ -28,7 +28,7 @@ gps_second e = 16 * e.a.toe
 abbrev pub galileo_second : GalEph → ℕ
 galileo_second e = 60 * e.w1.toe
 
--- the second of the week at which GPS sends: that of toe, less its rest by the 6 s of a subframe
+-- the second of the week at which GPS sends: that of toe, rounded down to a multiple of the 6 s of a subframe
 abbrev pub gps_sending : GpsEph → ℕ
 gps_sending e = gps_second e - gps_second e % 6
 
@@ -43,7 +43,7 @@ gps_week_number e = e.toe_week % 1024
 abbrev pub galileo_week_number : GalEph → ℕ
 galileo_week_number e = (e.toe_week + 3072) % 4096
 
--- an ionosphere that says nothing
+-- an ionosphere whose parameters and disturbance flags are all 0
 abbrev pub no_ionosphere : GalIon
 no_ionosphere = record { ai0 = 0; ai1 = pos 0; ai2 = pos 0; regions = 0 }
 

@@ -64,7 +64,7 @@ fn push_gps(stamp: u32, e: &GpsEph, text: &mut SlotText)
     push_subframe(stamp + 12, e.sat, &b, count(e, 3), text);
 }
 
-// An ionosphere that says nothing.
+// An ionosphere whose parameters and disturbance flags are all 0.
 fn nothing_said() -> GalIon
     ensures { result ≡ no_ionosphere }
 {
@@ -123,9 +123,9 @@ fn slot_lines(stamp: u32, item: &NavItem) -> SlotText
 /// Writes the lines of an ephemeris in its slot, by one write; the slot `slot` begins at the stamp
 /// 21,600 times its number.
 ///
-/// GPS: subframes 1, 2 and 3, one every six seconds, the first with the count that names the start
-/// of the second one, at the second of toe less its rest by six (IS-GPS-200, 20.3.3.2). Galileo:
-/// the even and the odd halves of words 1 to 5, one every second; word 5 says the health, the week
+/// GPS: subframes 1, 2 and 3, one every six seconds, the first with the TOW count that names the start
+/// of the second one, at toe rounded down to a multiple of 6 s (IS-GPS-200, 20.3.3.2). Galileo:
+/// the even and the odd page parts of words 1 to 5, one every second; word 5 has the health, the week
 /// and the second of toe, and an ionosphere whose numbers are 0 (OS SIS ICD, 4.3.5). Spelling and
 /// digits are those of [`write_lnav`](capture_lines::write_lnav) and
 /// [`write_half_line`](capture_lines::write_half_line).

@@ -1,6 +1,7 @@
 //! A source whose bytes are counted.
 
-ghost use Rattle.std.specs.Prelude.{◌≡◌, ◌+◌, ◌-◌, ◌^◌, min, IsTrue, IsOk, IfOk, OnErr};
+ghost use Rattle.std.specs.Prelude.{◌≡◌, ◌+◌, ◌-◌, ◌^◌, ◌≤◌, min, length, IsTrue, IsOk, IfOk};
+ghost use Rattle.std.specs.Prelude.{OnErr};
 ghost use Rattle.std.specs.Io.{ReadsAtMost};
 ghost use Rattle.std.specs.Io.KnownBytes.{ReadConsumes};
 ghost use Rattle.nav_io.specs.Causes.{HasCause};
@@ -73,6 +74,7 @@ impl<S: Source, P: Progress> Source for Counted<S, P> {
 
     /// One `read` of the source inside.
     fn read(&mut self, into: &mut [u8]) -> Result<usize, Failed>
+        requires asks { length into.old ≤ 16384 }
         ensures bound { ReadsAtMost result into.new }
         ensures bytes { ReadConsumes (S.left self.old.source) (S.left self.new.source)
             result into.new }

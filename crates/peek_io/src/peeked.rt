@@ -137,6 +137,7 @@ fn fill<S: Source>(source: &mut S, front: &mut Vec<u8>, most: usize) -> Result<(
 fn read_part<S: Source>(source: &mut S, piece: &mut [u8], most: usize) -> Result<usize, Failed>
     requires some { 0 < most }
     requires room { 0 < length piece.old }
+    requires asks { length piece.old ≤ 16384 }
     ensures within { IfOk result (λ count. count ≤ length piece.old) }
     ensures most { IfOk result (λ count. count ≤ most) }
     ensures bytes { MatchResult result

@@ -3,21 +3,15 @@ use Rattle.std.proofs.Common.{ℕ, ◌+◌, ◌<◌, ◌≤◌, ◌⊎◌, inl, 
 use Rattle.std.proofs.lemmas.List.Elements.{All-contains, Contains-append_left, Contains-append_right, Contains-append_cases}
 use Rattle.periods.specs.Ends.{IsEndOf}
 use Rattle.periods.proofs.EndSurface.{Same, turned, covered, AreApart, left_end, right_end, end_cases, left_end_of, end_of_left, right_end_of, end_of_right, none_across}
-use Rattle.nav_eph.specs.Satellite.{Satellite}
-use Rattle.nav_eph.specs.declared.galileo.GalHealth.{GalHealth}
-use Rattle.nav_eph.specs.declared.tag.SentTag.{SentTag}
 use Rattle.nav_eph.specs.declared.items.NavItem.{NavItem}
 use Rattle.nav_eph.specs.declared.part.Part.{Part}
 use Rattle.periods.specs.declared.key.Key.{Key}
-use Rattle.periods.specs.declared.key.Key.TheVariants.{Gps, Gal, GpsIon, GalIon}
 use Rattle.periods.specs.declared.key.Place.{Place}
 use Rattle.periods.specs.declared.closed.Finding.TheVariants.{Complete}
 use Rattle.periods.specs.PeriodsOf.{end_place}
-use Rattle.periods.specs.Values.{HasValue}
-use Rattle.periods.specs.Parts.{health_of}
 use Rattle.periods.specs.Periods.{IsHeardAt, IsPeriod, IsMember}
-use Rattle.periods.specs.Verdicts.{IsComplete, IsFound, IsHealthBefore, IsHealthBehind}
-use Rattle.periods.proofs.PeriodLemmas.{heard_to, IsUpToEnd-to, IsBehindEnd-to, none_same, health_stamp}
+use Rattle.periods.specs.Verdicts.{IsComplete, IsFound, IsUpToEnd, IsBehindEnd}
+use Rattle.periods.proofs.PeriodLemmas.{heard_to, up_to, behind_to}
 use Rattle.periods.proofs.ValueFindings.{IsFoundIn-same}
 use Rattle.periods.proofs.TouchLemmas.{known_parts}
 
@@ -128,62 +122,34 @@ right_members w mark first second all q h hq =
       };
     }
 
--- a health that lies below the mark is one of the first set, and one from there less a window on is one of the second
-health_left : (w mark : ℕ) (first second all : Part → Type 0) (sat : Satellite) (v : ℕ × GalHealth × SentTag) → Splits w mark first second all
-    → v.0 < mark → HasValue (health_of sat) all v → HasValue (health_of sat) first v
-health_left w mark first second all sat v h l x = record {
-  element = x.element;
-  here = elim (h.cases x.element x.here) [ inl a ↦ a | inr b ↦ absurd (omega (arith, h.high x.element b, health_stamp sat x.element v x.is)) ];
-  is = x.is;
-}
-
-health_right : (w mark : ℕ) (first second all : Part → Type 0) (sat : Satellite) (v : ℕ × GalHealth × SentTag) → Splits w mark first second all
-    → mark ≤ v.0 + w → HasValue (health_of sat) all v → HasValue (health_of sat) second v
-health_right w mark first second all sat v h l x = record {
-  element = x.element;
-  here = elim (h.cases x.element x.here) [ inl a ↦ absurd (omega (arith, h.low x.element a, health_stamp sat x.element v x.is)) | inr b ↦ b ];
-  is = x.is;
-}
-
+-- with the same health near their ends
 left_before : (w mark : ℕ) (first second all : Part → Type 0) (key : Key) (e : ℕ) → Splits w mark first second all → e + w < mark
-    → Same (IsHealthBefore w first key e) (IsHealthBefore w all key e)
-left_before w mark first second all (Gps sat i) e h l = none_same
-left_before w mark first second all (Gal sat i) e h l = record {
-  to = λ x v. IsUpToEnd-to w first all sat e x h.left v;
-  from = λ x v. record { heard = health_left w mark first second all sat x h (omega (arith, v.by_end)) v.heard; by_end = v.by_end; near = v.near };
+    → Same (IsUpToEnd w first key e) (IsUpToEnd w all key e)
+left_before w mark first second all key e h l = record {
+  to = λ x v. up_to w first all key e x (λ p k n. h.left p) v;
+  from = λ x v. up_to w all first key e x (λ p k n i. elim (h.cases p i) [ inl a ↦ a | inr b ↦ absurd (omega (arith, h.high p b, k)) ]) v;
 }
-left_before w mark first second all (GpsIon c) e h l = none_same
-left_before w mark first second all (GalIon c) e h l = none_same
 
 left_behind : (w mark : ℕ) (first second all : Part → Type 0) (key : Key) (e : ℕ) → Splits w mark first second all → e + w < mark
-    → Same (IsHealthBehind w first key e) (IsHealthBehind w all key e)
-left_behind w mark first second all (Gps sat i) e h l = none_same
-left_behind w mark first second all (Gal sat i) e h l = record {
-  to = λ x v. IsBehindEnd-to w first all sat e x h.left v;
-  from = λ x v. record { heard = health_left w mark first second all sat x h (omega (arith, v.near)) v.heard; behind = v.behind; near = v.near };
+    → Same (IsBehindEnd w first key e) (IsBehindEnd w all key e)
+left_behind w mark first second all key e h l = record {
+  to = λ x v. behind_to w first all key e x (λ p k n. h.left p) v;
+  from = λ x v. behind_to w all first key e x (λ p k n i. elim (h.cases p i) [ inl a ↦ a | inr b ↦ absurd (omega (arith, h.high p b, n)) ]) v;
 }
-left_behind w mark first second all (GpsIon c) e h l = none_same
-left_behind w mark first second all (GalIon c) e h l = none_same
 
 right_before : (w mark : ℕ) (first second all : Part → Type 0) (key : Key) (e : ℕ) → Splits w mark first second all → mark ≤ e
-    → Same (IsHealthBefore w second key e) (IsHealthBefore w all key e)
-right_before w mark first second all (Gps sat i) e h l = none_same
-right_before w mark first second all (Gal sat i) e h l = record {
-  to = λ x v. IsUpToEnd-to w second all sat e x h.right v;
-  from = λ x v. record { heard = health_right w mark first second all sat x h (omega (arith, v.near)) v.heard; by_end = v.by_end; near = v.near };
+    → Same (IsUpToEnd w second key e) (IsUpToEnd w all key e)
+right_before w mark first second all key e h l = record {
+  to = λ x v. up_to w second all key e x (λ p k n. h.right p) v;
+  from = λ x v. up_to w all second key e x (λ p k n i. elim (h.cases p i) [ inl a ↦ absurd (omega (arith, h.low p a, n)) | inr b ↦ b ]) v;
 }
-right_before w mark first second all (GpsIon c) e h l = none_same
-right_before w mark first second all (GalIon c) e h l = none_same
 
 right_behind : (w mark : ℕ) (first second all : Part → Type 0) (key : Key) (e : ℕ) → Splits w mark first second all → mark ≤ e
-    → Same (IsHealthBehind w second key e) (IsHealthBehind w all key e)
-right_behind w mark first second all (Gps sat i) e h l = none_same
-right_behind w mark first second all (Gal sat i) e h l = record {
-  to = λ x v. IsBehindEnd-to w second all sat e x h.right v;
-  from = λ x v. record { heard = health_right w mark first second all sat x h (omega (arith, v.behind)) v.heard; behind = v.behind; near = v.near };
+    → Same (IsBehindEnd w second key e) (IsBehindEnd w all key e)
+right_behind w mark first second all key e h l = record {
+  to = λ x v. behind_to w second all key e x (λ p k n. h.right p) v;
+  from = λ x v. behind_to w all second key e x (λ p k n i. elim (h.cases p i) [ inl a ↦ absurd (omega (arith, h.low p a, k)) | inr b ↦ b ]) v;
 }
-right_behind w mark first second all (GpsIon c) e h l = none_same
-right_behind w mark first second all (GalIon c) e h l = none_same
 
 -- and so they come to the same
 pub found_left : (r w mark : ℕ) (first second all : Part → Type 0) (q : Place) → Splits w mark first second all → IsPeriod w first q
@@ -194,11 +160,11 @@ found_left r w mark first second all q h hq =
     let b = left_before w mark first second all q.key q.end h low in
     let a = left_behind w mark first second all q.key q.end h low in
     record {
-      to = λ f x. IsFoundIn-same r q.key (IsMember w first q) (IsMember w all q) (IsHealthBefore w first q.key q.end) (IsHealthBehind w first q.key q.end)
-          (IsHealthBefore w all q.key q.end) (IsHealthBehind w all q.key q.end) f m b a x;
-      from = λ f x. IsFoundIn-same r q.key (IsMember w all q) (IsMember w first q) (IsHealthBefore w all q.key q.end) (IsHealthBehind w all q.key q.end)
-          (IsHealthBefore w first q.key q.end) (IsHealthBehind w first q.key q.end) f (turned (IsMember w first q) (IsMember w all q) m)
-          (turned (IsHealthBefore w first q.key q.end) (IsHealthBefore w all q.key q.end) b) (turned (IsHealthBehind w first q.key q.end) (IsHealthBehind w all q.key q.end) a) x;
+      to = λ f x. IsFoundIn-same r q.key (IsMember w first q) (IsMember w all q) (IsUpToEnd w first q.key q.end) (IsBehindEnd w first q.key q.end)
+          (IsUpToEnd w all q.key q.end) (IsBehindEnd w all q.key q.end) f m b a x;
+      from = λ f x. IsFoundIn-same r q.key (IsMember w all q) (IsMember w first q) (IsUpToEnd w all q.key q.end) (IsBehindEnd w all q.key q.end)
+          (IsUpToEnd w first q.key q.end) (IsBehindEnd w first q.key q.end) f (turned (IsMember w first q) (IsMember w all q) m)
+          (turned (IsUpToEnd w first q.key q.end) (IsUpToEnd w all q.key q.end) b) (turned (IsBehindEnd w first q.key q.end) (IsBehindEnd w all q.key q.end) a) x;
     }
 
 pub found_right : (r w mark : ℕ) (first second all : Part → Type 0) (q : Place) → Splits w mark first second all → IsPeriod w second q
@@ -209,11 +175,11 @@ found_right r w mark first second all q h hq =
     let b = right_before w mark first second all q.key q.end h high in
     let a = right_behind w mark first second all q.key q.end h high in
     record {
-      to = λ f x. IsFoundIn-same r q.key (IsMember w second q) (IsMember w all q) (IsHealthBefore w second q.key q.end) (IsHealthBehind w second q.key q.end)
-          (IsHealthBefore w all q.key q.end) (IsHealthBehind w all q.key q.end) f m b a x;
-      from = λ f x. IsFoundIn-same r q.key (IsMember w all q) (IsMember w second q) (IsHealthBefore w all q.key q.end) (IsHealthBehind w all q.key q.end)
-          (IsHealthBefore w second q.key q.end) (IsHealthBehind w second q.key q.end) f (turned (IsMember w second q) (IsMember w all q) m)
-          (turned (IsHealthBefore w second q.key q.end) (IsHealthBefore w all q.key q.end) b) (turned (IsHealthBehind w second q.key q.end) (IsHealthBehind w all q.key q.end) a) x;
+      to = λ f x. IsFoundIn-same r q.key (IsMember w second q) (IsMember w all q) (IsUpToEnd w second q.key q.end) (IsBehindEnd w second q.key q.end)
+          (IsUpToEnd w all q.key q.end) (IsBehindEnd w all q.key q.end) f m b a x;
+      from = λ f x. IsFoundIn-same r q.key (IsMember w all q) (IsMember w second q) (IsUpToEnd w all q.key q.end) (IsBehindEnd w all q.key q.end)
+          (IsUpToEnd w second q.key q.end) (IsBehindEnd w second q.key q.end) f (turned (IsMember w second q) (IsMember w all q) m)
+          (turned (IsUpToEnd w second q.key q.end) (IsUpToEnd w all q.key q.end) b) (turned (IsBehindEnd w second q.key q.end) (IsBehindEnd w all q.key q.end) a) x;
     }
 
 -- complete periods are those of either

@@ -1,5 +1,6 @@
 -- Digests: that of one part, that of two sets of parts together, and that of the same set.
 use Rattle.std.proofs.Common.{◌≡◌, ℕ, inl, inr, Bool, true, false, if◌then◌else◌, List, Option, None, Some, refl, sym, ap, subst, ◌∙◌, rules}
+use Rattle.std.specs.Bool.{Decides}
 use Rattle.std.proofs.lemmas.Bool.{both_ways}
 use Rattle.nav_eph.proofs.Surface.{clock_decided, orbit_a_decided, orbit_b_decided, word2_decided, word3_decided, word4_decided}
 use Rattle.nav_eph.specs.Satellite.{Satellite}
@@ -23,54 +24,37 @@ use Rattle.periods.specs.declared.digest.GpsDigest.{GpsDigest}
 use Rattle.periods.specs.declared.digest.GalDigest.{GalDigest}
 use Rattle.periods.specs.declared.digest.Digest.{Digest}
 use Rattle.periods.specs.declared.digest.Digest.TheVariants.{Gps as GpsForm, Gal as GalForm, Ion as IonForm}
-use Rattle.periods.specs.Values.{HasValue, IsOnly, IsFirstBy, IsBest, IsEarlier, IsLater}
-use Rattle.periods.specs.Parts.{key_in, key_of, clock_of, orbit_a_of, orbit_b_of, word1_of, word2_of, word3_of, word4_of, side_of, fit_of, sent_tag_of, toe_tag_of, sending_of, side_numbers, fit_numbers, tag_numbers, sending_numbers}
+use Rattle.periods.specs.Values.{IsOnly, IsFirstBy, IsBest, IsEarlier, IsLater}
+use Rattle.periods.specs.Parts.{Kind, Clock, OrbitA, OrbitB, Word1, Word2, Word3, Word4, Side, FitFlag, SendingTag, ToeTag, IonSending, Value, HasValue, key_in, key_of, side_numbers, fit_numbers, tag_numbers, sending_numbers}
+use Rattle.periods.specs.Readings.{reading}
 use Rattle.periods.specs.Digests.{IsSeen, IsGpsDigest, IsGalDigest, IsDigest}
 use Rattle.periods.specs.DigestsOf.{gps_digest, gal_digest, ion_digest, digest_for, digest_of, gps_join, gal_join, digest_join}
-use Rattle.periods.specs.Mirrors.{earlier, later, seen_of, seen_join}
+use Rattle.periods.specs.Mirrors.{earlier, later, best_join, seen_of, seen_join}
 use Rattle.periods.proofs.Orders.{earlier_decides, later_decides}
 use Rattle.periods.proofs.Folds.{some_is, none_some, IsBest-same, Grows, best_join-is}
-use Rattle.periods.proofs.ValueLemmas.{IsUnion, same_values, union_values, IsEmpty-same, IsOnly-same, Differ-same, IsFirstBy-same}
+use Rattle.periods.proofs.ReadingLemmas.{part_of, said_of, reading_of}
+use Rattle.periods.proofs.ValueLemmas.{IsUnion, same_values, union_values, IsEmpty-same, IsOnly-same, Differ-same, first_same}
 
 -- the test says yes exactly of values that are the same
-record IsExact {T : Type 0} (eq : T → T → Bool) : Type 0 where
-  pub same : (x y : T) → eq x y ≡ true → x ≡ y
-  pub test : (x y : T) → x ≡ y → eq x y ≡ true
+abbrev IsExact : {T : Type 0} → (T → T → Bool) → Type 0
+IsExact {T} eq = (x y : T) → Decides (eq x y) (x ≡ y)
 
-clock_exact : IsExact clock_eq.it
-clock_exact = record { same = λ x y e. (clock_decided x y).0 e; test = λ x y e. (clock_decided x y).1 e }
-
-orbit_a_exact : IsExact orbit_a_eq.it
-orbit_a_exact = record { same = λ x y e. (orbit_a_decided x y).0 e; test = λ x y e. (orbit_a_decided x y).1 e }
-
-orbit_b_exact : IsExact orbit_b_eq.it
-orbit_b_exact = record { same = λ x y e. (orbit_b_decided x y).0 e; test = λ x y e. (orbit_b_decided x y).1 e }
-
-word1_exact : IsExact word1_eq.it
-word1_exact = record { same = λ x y e. search rules; test = λ x y e. search rules }
-
-word2_exact : IsExact word2_eq.it
-word2_exact = record { same = λ x y e. (word2_decided x y).0 e; test = λ x y e. (word2_decided x y).1 e }
-
-word3_exact : IsExact word3_eq.it
-word3_exact = record { same = λ x y e. (word3_decided x y).0 e; test = λ x y e. (word3_decided x y).1 e }
-
-word4_exact : IsExact word4_eq.it
-word4_exact = record { same = λ x y e. (word4_decided x y).0 e; test = λ x y e. (word4_decided x y).1 e }
+word1_decided : IsExact word1_eq.it
+word1_decided = λ x y. search rules
 
 -- contents of two sets together
 one_and_one : {X : Type 0} (eq : X → X → Bool) (exact : IsExact eq) (a b c : X → Type 0) (x y : X) → Grows a c b → IsOnly a x → IsOnly b y
     → (t : Bool) → eq x y ≡ t → IsSeen c (if t then One x else Different)
 one_and_one eq exact a b c x y g h k true e = record {
   here = g.keeps x h.here;
-  only = λ w hw. elim (g.only w hw) [ inl o ↦ h.only w o | inr o ↦ k.only w o ∙ sym (exact.same x y e) ];
+  only = λ w hw. elim (g.only w hw) [ inl o ↦ h.only w o | inr o ↦ k.only w o ∙ sym ((exact x y).0 e) ];
 }
 one_and_one eq exact a b c x y g h k false e = record {
   one = x;
   other = y;
   one_here = g.keeps x h.here;
   other_here = g.has y k.here;
-  differ = λ same. both_ways (eq x y) e (exact.test x y same);
+  differ = λ same. both_ways (eq x y) e ((exact x y).1 same);
 }
 
 seen_join-is : {X : Type 0} (eq : X → X → Bool) (exact : IsExact eq) (a b c : X → Type 0) (x y : Seen X) → Grows a c b
@@ -98,50 +82,50 @@ IsSeen-same a b (One x) s h = IsOnly-same a b x s h
 IsSeen-same a b Different s h = Differ-same a b s h
 
 -- of one part: what its reading gives
-reads : {X : Type 0} (read : Part → Option X) (p : Part) (o : Option X) (v : X) → read p ≡ o → HasValue read (λ q. q ≡ p) v → o ≡ Some v
-reads read p o v e h = sym e ∙ sym (ap read h.here) ∙ h.is
+reads : (k : Kind) (p : Part) (v : Value k) → HasValue k (λ q. q ≡ p) v → reading k p ≡ Some v
+reads k p v h = sym (ap (reading k) h.here) ∙ reading_of k h.part v h.says
 
-just_seen : {X : Type 0} (read : Part → Option X) (p : Part) (o : Option X) → read p ≡ o → IsSeen (HasValue read (λ q. q ≡ p)) (seen_of o)
-just_seen read p None e = λ v h. none_some v (reads read p None v e h)
-just_seen read p (Some x) e = record {
-  here = record { element = p; here = refl; is = e };
-  only = λ w h. sym (some_is x w (reads read p (Some x) w e h));
-}
+one_part : (k : Kind) (p : Part) (v : Value k) → reading k p ≡ Some v → HasValue k (λ q. q ≡ p) v
+one_part k p v e = record { part = p; here = refl; says = said_of k p v e }
 
-just_best : {X : Type 0} (R : X → X → Type 0) (irr : (v : X) → R v v → ⊥) (read : Part → Option X) (p : Part) (o : Option X) → read p ≡ o → IsBest R (HasValue read (λ q. q ≡ p)) o
-just_best R irr read p None e = λ v h. none_some v (reads read p None v e h)
-just_best R irr read p (Some x) e = record {
-  here = record { element = p; here = refl; is = e };
-  first = λ w h r. irr x (subst (λ (z : _). R z x) (sym (some_is x w (reads read p (Some x) w e h))) r);
+just_seen : (k : Kind) (p : Part) (o : Option (Value k)) → reading k p ≡ o → IsSeen (HasValue k (λ q. q ≡ p)) (seen_of o)
+just_seen k p None e = λ v h. none_some v (sym e ∙ reads k p v h)
+just_seen k p (Some x) e = record { here = one_part k p x e; only = λ w h. sym (some_is x w (sym e ∙ reads k p w h)) }
+
+just_best : (k : Kind) (R : Value k → Value k → Type 0) (irr : (v : Value k) → R v v → ⊥) (p : Part) (o : Option (Value k)) → reading k p ≡ o → IsBest R (HasValue k (λ q. q ≡ p)) o
+just_best k R irr p None e = λ v h. none_some v (sym e ∙ reads k p v h)
+just_best k R irr p (Some x) e = record {
+  here = one_part k p x e;
+  first = λ w h r. irr x (subst (λ (z : Value k). R z x) (sym (some_is x w (sym e ∙ reads k p w h))) r);
 }
 
 gps_digest-is : (p : Part) → IsGpsDigest (λ q. q ≡ p) (gps_digest p)
 gps_digest-is p = record {
-  clock = just_seen clock_of p (clock_of p) refl;
-  a = just_seen orbit_a_of p (orbit_a_of p) refl;
-  b = just_seen orbit_b_of p (orbit_b_of p) refl;
-  side = just_best (IsLater side_numbers) (later_decides side_numbers).irr side_of p (side_of p) refl;
-  fit = just_best (IsLater fit_numbers) (later_decides fit_numbers).irr fit_of p (fit_of p) refl;
-  sent = just_best (IsEarlier tag_numbers) (earlier_decides tag_numbers).irr sent_tag_of p (sent_tag_of p) refl;
-  toe = just_best (IsEarlier tag_numbers) (earlier_decides tag_numbers).irr toe_tag_of p (toe_tag_of p) refl;
+  clock = just_seen Clock p (reading Clock p) refl;
+  a = just_seen OrbitA p (reading OrbitA p) refl;
+  b = just_seen OrbitB p (reading OrbitB p) refl;
+  side = just_best Side (IsLater side_numbers) (later_decides side_numbers).irr p (reading Side p) refl;
+  fit = just_best FitFlag (IsLater fit_numbers) (later_decides fit_numbers).irr p (reading FitFlag p) refl;
+  sent = just_best SendingTag (IsEarlier tag_numbers) (earlier_decides tag_numbers).irr p (reading SendingTag p) refl;
+  toe = just_best ToeTag (IsEarlier tag_numbers) (earlier_decides tag_numbers).irr p (reading ToeTag p) refl;
 }
 
 gal_digest-is : (p : Part) → IsGalDigest (λ q. q ≡ p) (gal_digest p)
 gal_digest-is p = record {
-  w1 = just_seen word1_of p (word1_of p) refl;
-  w2 = just_seen word2_of p (word2_of p) refl;
-  w3 = just_seen word3_of p (word3_of p) refl;
-  w4 = just_seen word4_of p (word4_of p) refl;
+  w1 = just_seen Word1 p (reading Word1 p) refl;
+  w2 = just_seen Word2 p (reading Word2 p) refl;
+  w3 = just_seen Word3 p (reading Word3 p) refl;
+  w4 = just_seen Word4 p (reading Word4 p) refl;
 }
 
 -- the digest of a part of a key is that of the key's form
 digest_is : (p : Part) (key : Key) (d : Digest) → key_of p ≡ Some key → digest_of p ≡ Some d → digest_for (Some key) p ≡ Some d
 digest_is p key d kk dd = sym (ap (λ (o : Option Key). digest_for o p) kk) ∙ dd
 
-ion_form : (p : Part) (o : Option Sending) (d : Digest) → sending_of p ≡ o → ion_digest o ≡ Some d
-    → (s : Sending) × (IonForm s ≡ d) × IsFirstBy (IsEarlier sending_numbers) (HasValue sending_of (λ q. q ≡ p)) s
+ion_form : (p : Part) (o : Option Sending) (d : Digest) → reading IonSending p ≡ o → ion_digest o ≡ Some d
+    → (s : Sending) × (IonForm s ≡ d) × IsFirstBy (IsEarlier sending_numbers) (HasValue IonSending (λ q. q ≡ p)) s
 ion_form p None d e h = absurd (none_some d h)
-ion_form p (Some s) d e h = (s, some_is (IonForm s) d h, just_best (IsEarlier sending_numbers) (earlier_decides sending_numbers).irr sending_of p (Some s) e)
+ion_form p (Some s) d e h = (s, some_is (IonForm s) d h, just_best IonSending (IsEarlier sending_numbers) (earlier_decides sending_numbers).irr p (Some s) e)
 
 pub digest_of-is : (p : Part) (key : Key) (d : Digest) → key_of p ≡ Some key → digest_of p ≡ Some d → IsDigest key (λ q. q ≡ p) d
 digest_of-is p (Gps sat issue) d kk dd =
@@ -149,16 +133,13 @@ digest_of-is p (Gps sat issue) d kk dd =
 digest_of-is p (Gal sat issue) d kk dd =
     subst (λ (x : Digest). IsDigest (Gal sat issue) (λ q. q ≡ p) x) (some_is (GalForm (gal_digest p)) d (digest_is p (Gal sat issue) d kk dd)) (gal_digest-is p)
 digest_of-is p (GpsIon content) d kk dd =
-    let f = ion_form p (sending_of p) d refl (digest_is p (GpsIon content) d kk dd) in
+    let f = ion_form p (reading IonSending p) d refl (digest_is p (GpsIon content) d kk dd) in
     subst (λ (x : Digest). IsDigest (GpsIon content) (λ q. q ≡ p) x) f.1 f.2
 digest_of-is p (GalIon content) d kk dd =
-    let f = ion_form p (sending_of p) d refl (digest_is p (GalIon content) d kk dd) in
+    let f = ion_form p (reading IonSending p) d refl (digest_is p (GalIon content) d kk dd) in
     subst (λ (x : Digest). IsDigest (GalIon content) (λ q. q ≡ p) x) f.1 f.2
 
 -- a part of a key has a digest
-abbrev part_of : ℕ → Satellite → Body → Part
-part_of stamp sat body = record { stamp = stamp; sat = sat; body = body }
-
 some_digest : (stamp : ℕ) (sat : Satellite) (body : Body) (key : Key) → key_in sat body ≡ Some key → (d : Digest) × (digest_of (part_of stamp sat body) ≡ Some d)
 some_digest stamp sat (OfClock c s t) key e = (GpsForm (gps_digest (part_of stamp sat (OfClock c s t))), refl)
 some_digest stamp sat (OfOrbitA o f) key e = (GpsForm (gps_digest (part_of stamp sat (OfOrbitA o f))), refl)
@@ -178,23 +159,38 @@ digest_some p key e = some_digest p.stamp p.sat p.body key e
 pub digest_none : (p : Part) → key_of p ≡ None → digest_of p ≡ None
 digest_none p e = ap (λ (o : Option Key). digest_for o p) e
 
+-- of two sets together
+seen_union : (k : Kind) (eq : Value k → Value k → Bool) (exact : IsExact eq) (a b c : Part → Type 0) (x y : Seen (Value k)) → IsUnion a b c
+    → IsSeen (HasValue k a) x → IsSeen (HasValue k b) y → IsSeen (HasValue k c) (seen_join eq x y)
+seen_union k eq exact a b c x y u h i = seen_join-is eq exact (HasValue k a) (HasValue k b) (HasValue k c) x y (union_values k a b c u) h i
+
+earliest_union : (k : Kind) (numbers : Value k → List ℕ) (a b c : Part → Type 0) (x y : Option (Value k)) → IsUnion a b c
+    → IsBest (IsEarlier numbers) (HasValue k a) x → IsBest (IsEarlier numbers) (HasValue k b) y → IsBest (IsEarlier numbers) (HasValue k c) (best_join (earlier numbers) x y)
+earliest_union k numbers a b c x y u h i =
+    best_join-is (earlier numbers) (IsEarlier numbers) (earlier_decides numbers) (HasValue k a) (HasValue k b) (HasValue k c) x y (union_values k a b c u) h i
+
+latest_union : (k : Kind) (numbers : Value k → List ℕ) (a b c : Part → Type 0) (x y : Option (Value k)) → IsUnion a b c
+    → IsBest (IsLater numbers) (HasValue k a) x → IsBest (IsLater numbers) (HasValue k b) y → IsBest (IsLater numbers) (HasValue k c) (best_join (later numbers) x y)
+latest_union k numbers a b c x y u h i =
+    best_join-is (later numbers) (IsLater numbers) (later_decides numbers) (HasValue k a) (HasValue k b) (HasValue k c) x y (union_values k a b c u) h i
+
 gps_join-is : (a b c : Part → Type 0) (x y : GpsDigest) → IsUnion a b c → IsGpsDigest a x → IsGpsDigest b y → IsGpsDigest c (gps_join x y)
 gps_join-is a b c x y u h k = record {
-  clock = seen_join-is clock_eq.it clock_exact (HasValue clock_of a) (HasValue clock_of b) (HasValue clock_of c) x.clock y.clock (union_values clock_of a b c u) h.clock k.clock;
-  a = seen_join-is orbit_a_eq.it orbit_a_exact (HasValue orbit_a_of a) (HasValue orbit_a_of b) (HasValue orbit_a_of c) x.a y.a (union_values orbit_a_of a b c u) h.a k.a;
-  b = seen_join-is orbit_b_eq.it orbit_b_exact (HasValue orbit_b_of a) (HasValue orbit_b_of b) (HasValue orbit_b_of c) x.b y.b (union_values orbit_b_of a b c u) h.b k.b;
-  side = best_join-is (later side_numbers) (IsLater side_numbers) (later_decides side_numbers) (HasValue side_of a) (HasValue side_of b) (HasValue side_of c) x.side y.side (union_values side_of a b c u) h.side k.side;
-  fit = best_join-is (later fit_numbers) (IsLater fit_numbers) (later_decides fit_numbers) (HasValue fit_of a) (HasValue fit_of b) (HasValue fit_of c) x.fit y.fit (union_values fit_of a b c u) h.fit k.fit;
-  sent = best_join-is (earlier tag_numbers) (IsEarlier tag_numbers) (earlier_decides tag_numbers) (HasValue sent_tag_of a) (HasValue sent_tag_of b) (HasValue sent_tag_of c) x.sent y.sent (union_values sent_tag_of a b c u) h.sent k.sent;
-  toe = best_join-is (earlier tag_numbers) (IsEarlier tag_numbers) (earlier_decides tag_numbers) (HasValue toe_tag_of a) (HasValue toe_tag_of b) (HasValue toe_tag_of c) x.toe y.toe (union_values toe_tag_of a b c u) h.toe k.toe;
+  clock = seen_union Clock clock_eq.it clock_decided a b c x.clock y.clock u h.clock k.clock;
+  a = seen_union OrbitA orbit_a_eq.it orbit_a_decided a b c x.a y.a u h.a k.a;
+  b = seen_union OrbitB orbit_b_eq.it orbit_b_decided a b c x.b y.b u h.b k.b;
+  side = latest_union Side side_numbers a b c x.side y.side u h.side k.side;
+  fit = latest_union FitFlag fit_numbers a b c x.fit y.fit u h.fit k.fit;
+  sent = earliest_union SendingTag tag_numbers a b c x.sent y.sent u h.sent k.sent;
+  toe = earliest_union ToeTag tag_numbers a b c x.toe y.toe u h.toe k.toe;
 }
 
 gal_join-is : (a b c : Part → Type 0) (x y : GalDigest) → IsUnion a b c → IsGalDigest a x → IsGalDigest b y → IsGalDigest c (gal_join x y)
 gal_join-is a b c x y u h k = record {
-  w1 = seen_join-is word1_eq.it word1_exact (HasValue word1_of a) (HasValue word1_of b) (HasValue word1_of c) x.w1 y.w1 (union_values word1_of a b c u) h.w1 k.w1;
-  w2 = seen_join-is word2_eq.it word2_exact (HasValue word2_of a) (HasValue word2_of b) (HasValue word2_of c) x.w2 y.w2 (union_values word2_of a b c u) h.w2 k.w2;
-  w3 = seen_join-is word3_eq.it word3_exact (HasValue word3_of a) (HasValue word3_of b) (HasValue word3_of c) x.w3 y.w3 (union_values word3_of a b c u) h.w3 k.w3;
-  w4 = seen_join-is word4_eq.it word4_exact (HasValue word4_of a) (HasValue word4_of b) (HasValue word4_of c) x.w4 y.w4 (union_values word4_of a b c u) h.w4 k.w4;
+  w1 = seen_union Word1 word1_eq.it word1_decided a b c x.w1 y.w1 u h.w1 k.w1;
+  w2 = seen_union Word2 word2_eq.it word2_decided a b c x.w2 y.w2 u h.w2 k.w2;
+  w3 = seen_union Word3 word3_eq.it word3_decided a b c x.w3 y.w3 u h.w3 k.w3;
+  w4 = seen_union Word4 word4_eq.it word4_decided a b c x.w4 y.w4 u h.w4 k.w4;
 }
 
 -- the choice between two, inside and outside of Some
@@ -202,60 +198,45 @@ chosen : {V : Type 0} (R : V → V → Type 0) (c : V → Type 0) (x y : V) (t :
 chosen R c x y true h = h
 chosen R c x y false h = h
 
-first_join : {V : Type 0} (numbers : V → List ℕ) (a b c : V → Type 0) (x y : V) → Grows a c b
-    → IsFirstBy (IsEarlier numbers) a x → IsFirstBy (IsEarlier numbers) b y → IsFirstBy (IsEarlier numbers) c (if earlier numbers y x then y else x)
-first_join numbers a b c x y g h k =
-    chosen (IsEarlier numbers) c x y (earlier numbers y x) (best_join-is (earlier numbers) (IsEarlier numbers) (earlier_decides numbers) a b c (Some x) (Some y) g h k)
+first_join : (numbers : Sending → List ℕ) (a b c : Part → Type 0) (x y : Sending) → IsUnion a b c → IsFirstBy (IsEarlier numbers) (HasValue IonSending a) x
+    → IsFirstBy (IsEarlier numbers) (HasValue IonSending b) y → IsFirstBy (IsEarlier numbers) (HasValue IonSending c) (if earlier numbers y x then y else x)
+first_join numbers a b c x y u h k =
+    chosen (IsEarlier numbers) (HasValue IonSending c) x y (earlier numbers y x) (earliest_union IonSending numbers a b c (Some x) (Some y) u h k)
 
 pub digest_join-is : (key : Key) (a b c : Part → Type 0) (x y : Digest) → IsUnion a b c → IsDigest key a x → IsDigest key b y → IsDigest key c (digest_join x y)
 digest_join-is (Gps s i) a b c (GpsForm x) (GpsForm y) u h k = gps_join-is a b c x y u h k
-digest_join-is (Gps s i) a b c (GpsForm x) (GalForm y) u h k = absurd k
-digest_join-is (Gps s i) a b c (GpsForm x) (IonForm y) u h k = absurd k
-digest_join-is (Gps s i) a b c (GalForm x) y u h k = absurd h
-digest_join-is (Gps s i) a b c (IonForm x) y u h k = absurd h
 digest_join-is (Gal s i) a b c (GalForm x) (GalForm y) u h k = gal_join-is a b c x y u h k
-digest_join-is (Gal s i) a b c (GalForm x) (GpsForm y) u h k = absurd k
-digest_join-is (Gal s i) a b c (GalForm x) (IonForm y) u h k = absurd k
-digest_join-is (Gal s i) a b c (GpsForm x) y u h k = absurd h
-digest_join-is (Gal s i) a b c (IonForm x) y u h k = absurd h
-digest_join-is (GpsIon n) a b c (IonForm x) (IonForm y) u h k =
-    first_join sending_numbers (HasValue sending_of a) (HasValue sending_of b) (HasValue sending_of c) x y (union_values sending_of a b c u) h k
-digest_join-is (GpsIon n) a b c (IonForm x) (GpsForm y) u h k = absurd k
-digest_join-is (GpsIon n) a b c (IonForm x) (GalForm y) u h k = absurd k
-digest_join-is (GpsIon n) a b c (GpsForm x) y u h k = absurd h
-digest_join-is (GpsIon n) a b c (GalForm x) y u h k = absurd h
-digest_join-is (GalIon n) a b c (IonForm x) (IonForm y) u h k =
-    first_join sending_numbers (HasValue sending_of a) (HasValue sending_of b) (HasValue sending_of c) x y (union_values sending_of a b c u) h k
-digest_join-is (GalIon n) a b c (IonForm x) (GpsForm y) u h k = absurd k
-digest_join-is (GalIon n) a b c (IonForm x) (GalForm y) u h k = absurd k
-digest_join-is (GalIon n) a b c (GpsForm x) y u h k = absurd h
-digest_join-is (GalIon n) a b c (GalForm x) y u h k = absurd h
+digest_join-is (GpsIon n) a b c (IonForm x) (IonForm y) u h k = first_join sending_numbers a b c x y u h k
+digest_join-is (GalIon n) a b c (IonForm x) (IonForm y) u h k = first_join sending_numbers a b c x y u h k
+digest_join-is (Gps s i) a b c (GpsForm x) y u h k = absurd k
+digest_join-is (Gal s i) a b c (GalForm x) y u h k = absurd k
+digest_join-is (GpsIon n) a b c (IonForm x) y u h k = absurd k
+digest_join-is (GalIon n) a b c (IonForm x) y u h k = absurd k
+digest_join-is key a b c x y u h k = absurd h
 
 -- the same set has the same digest
-seen_same : {X : Type 0} (read : Part → Option X) (a b : Part → Type 0) (x : Seen X) → Same a b → IsSeen (HasValue read a) x → IsSeen (HasValue read b) x
-seen_same read a b x s h = IsSeen-same (HasValue read a) (HasValue read b) x (same_values read a b s) h
+seen_same : (k : Kind) (a b : Part → Type 0) (x : Seen (Value k)) → Same a b → IsSeen (HasValue k a) x → IsSeen (HasValue k b) x
+seen_same k a b x s h = IsSeen-same (HasValue k a) (HasValue k b) x (same_values k a b s) h
 
-best_same : {X : Type 0} (R : X → X → Type 0) (read : Part → Option X) (a b : Part → Type 0) (x : Option X) → Same a b → IsBest R (HasValue read a) x → IsBest R (HasValue read b) x
-best_same R read a b x s h =
-    let v = same_values read a b s in
-    IsBest-same R (HasValue read a) (HasValue read b) x v.to v.from h
+best_same : (k : Kind) (R : Value k → Value k → Type 0) (a b : Part → Type 0) (x : Option (Value k)) → Same a b → IsBest R (HasValue k a) x → IsBest R (HasValue k b) x
+best_same k R a b x s h = let v = same_values k a b s in IsBest-same R (HasValue k a) (HasValue k b) x v.to v.from h
 
 pub IsDigest-same : (key : Key) (a b : Part → Type 0) (d : Digest) → Same a b → IsDigest key a d → IsDigest key b d
 IsDigest-same (Gps sat issue) a b (GpsForm d) s h = record {
-  clock = seen_same clock_of a b d.clock s h.clock;
-  a = seen_same orbit_a_of a b d.a s h.a;
-  b = seen_same orbit_b_of a b d.b s h.b;
-  side = best_same (IsLater side_numbers) side_of a b d.side s h.side;
-  fit = best_same (IsLater fit_numbers) fit_of a b d.fit s h.fit;
-  sent = best_same (IsEarlier tag_numbers) sent_tag_of a b d.sent s h.sent;
-  toe = best_same (IsEarlier tag_numbers) toe_tag_of a b d.toe s h.toe;
+  clock = seen_same Clock a b d.clock s h.clock;
+  a = seen_same OrbitA a b d.a s h.a;
+  b = seen_same OrbitB a b d.b s h.b;
+  side = best_same Side (IsLater side_numbers) a b d.side s h.side;
+  fit = best_same FitFlag (IsLater fit_numbers) a b d.fit s h.fit;
+  sent = best_same SendingTag (IsEarlier tag_numbers) a b d.sent s h.sent;
+  toe = best_same ToeTag (IsEarlier tag_numbers) a b d.toe s h.toe;
 }
 IsDigest-same (Gal sat issue) a b (GalForm d) s h = record {
-  w1 = seen_same word1_of a b d.w1 s h.w1;
-  w2 = seen_same word2_of a b d.w2 s h.w2;
-  w3 = seen_same word3_of a b d.w3 s h.w3;
-  w4 = seen_same word4_of a b d.w4 s h.w4;
+  w1 = seen_same Word1 a b d.w1 s h.w1;
+  w2 = seen_same Word2 a b d.w2 s h.w2;
+  w3 = seen_same Word3 a b d.w3 s h.w3;
+  w4 = seen_same Word4 a b d.w4 s h.w4;
 }
-IsDigest-same (GpsIon content) a b (IonForm d) s h = IsFirstBy-same (IsEarlier sending_numbers) (HasValue sending_of a) (HasValue sending_of b) d (same_values sending_of a b s) h
-IsDigest-same (GalIon content) a b (IonForm d) s h = IsFirstBy-same (IsEarlier sending_numbers) (HasValue sending_of a) (HasValue sending_of b) d (same_values sending_of a b s) h
+IsDigest-same (GpsIon content) a b (IonForm d) s h = first_same IonSending (IsEarlier sending_numbers) a b d s h
+IsDigest-same (GalIon content) a b (IonForm d) s h = first_same IonSending (IsEarlier sending_numbers) a b d s h
 IsDigest-same key a b d s h = absurd h

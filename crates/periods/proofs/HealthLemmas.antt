@@ -10,47 +10,49 @@ use Rattle.periods.proofs.EndSurface.{In-from_contains, contains_from_In}
 use Rattle.periods.specs.declared.key.Key.{Key}
 use Rattle.periods.specs.declared.key.Key.TheVariants.{Gps, Gal, GpsIon, GalIon}
 use Rattle.periods.specs.Values.{IsBest, IsEarlier, IsLater}
-use Rattle.periods.specs.Parts.{health_of, health_numbers}
-use Rattle.periods.specs.Verdicts.{IsUpToEnd, IsBehindEnd, IsHealthBefore, IsHealthBehind}
+use Rattle.periods.specs.Parts.{HealthOf, health_numbers}
+use Rattle.periods.specs.Readings.{reading}
+use Rattle.periods.specs.Verdicts.{HasHealth, IsUpToEnd, IsBehindEnd}
 use Rattle.periods.specs.Digests.{IsBestHealth}
-use Rattle.periods.specs.DigestsOf.{satellite_health, health_at}
+use Rattle.periods.specs.DigestsOf.{health_at}
 use Rattle.periods.specs.Mirrors.{earlier, later, best_among, or_else, up_to_end, behind_end}
+use Rattle.periods.proofs.ReadingLemmas.{said_of, reading_of}
 use Rattle.periods.proofs.Orders.{earlier_decides, later_decides}
 use Rattle.periods.proofs.Folds.{IsBest-same, Passing, best_among-is}
 
 -- what passes the test up to the end, and behind it
-up_to_end_set : (window : ℕ) (parts : List Part) (sat : Satellite) (e : ℕ)
-    → Same (Passing (health_of sat) (up_to_end window e) parts) (IsUpToEnd window (Contains parts) sat e)
-up_to_end_set window parts sat e = record {
+up_to_end_set : (window : ℕ) (parts : List Part) (sat : Satellite) (issue e : ℕ)
+    → Same (Passing (reading (HealthOf sat)) (up_to_end window e) parts) (IsUpToEnd window (Contains parts) (Gal sat issue) e)
+up_to_end_set window parts sat issue e = record {
   to = λ h p.
       let t = and_parts (nat_le h.0 e) (nat_le e (h.0 + window)) p.passes in
       record {
-        heard = record { element = p.element; here = contains_from_In parts p.element p.here; is = p.is };
+        heard = record { part = p.element; here = contains_from_In parts p.element p.here; says = said_of (HealthOf sat) p.element h p.is };
         by_end = leb-true h.0 e t.0;
         near = leb-true e (h.0 + window) t.1;
       };
   from = λ h p. record {
-    element = p.heard.element;
-    here = In-from_contains parts p.heard.element p.heard.here;
-    is = p.heard.is;
+    element = p.heard.part;
+    here = In-from_contains parts p.heard.part p.heard.here;
+    is = reading_of (HealthOf sat) p.heard.part h p.heard.says;
     passes = and_from (nat_le h.0 e) (nat_le e (h.0 + window)) (le-leb h.0 e p.by_end) (le-leb e (h.0 + window) p.near);
   };
 }
 
-behind_end_set : (window : ℕ) (parts : List Part) (sat : Satellite) (e : ℕ)
-    → Same (Passing (health_of sat) (behind_end window e) parts) (IsBehindEnd window (Contains parts) sat e)
-behind_end_set window parts sat e = record {
+behind_end_set : (window : ℕ) (parts : List Part) (sat : Satellite) (issue e : ℕ)
+    → Same (Passing (reading (HealthOf sat)) (behind_end window e) parts) (IsBehindEnd window (Contains parts) (Gal sat issue) e)
+behind_end_set window parts sat issue e = record {
   to = λ h p.
       let t = and_parts (nat_lt e h.0) (nat_le h.0 (e + window)) p.passes in
       record {
-        heard = record { element = p.element; here = contains_from_In parts p.element p.here; is = p.is };
+        heard = record { part = p.element; here = contains_from_In parts p.element p.here; says = said_of (HealthOf sat) p.element h p.is };
         behind = ltb-true e h.0 t.0;
         near = leb-true h.0 (e + window) t.1;
       };
   from = λ h p. record {
-    element = p.heard.element;
-    here = In-from_contains parts p.heard.element p.heard.here;
-    is = p.heard.is;
+    element = p.heard.part;
+    here = In-from_contains parts p.heard.part p.heard.here;
+    is = reading_of (HealthOf sat) p.heard.part h p.heard.says;
     passes = and_from (nat_lt e h.0) (nat_le h.0 (e + window)) (lt-ltb e h.0 p.behind) (le-leb h.0 (e + window) p.near);
   };
 }
@@ -61,23 +63,25 @@ best_health before behind None None h k = (h, k)
 best_health before behind None (Some y) h k = inr (h, k)
 best_health before behind (Some x) y h k = inl h
 
-satellite_health-is : (window : ℕ) (parts : List Part) (sat : Satellite) (e : ℕ)
-    → IsBestHealth (IsUpToEnd window (Contains parts) sat e) (IsBehindEnd window (Contains parts) sat e) (satellite_health window parts sat e)
-satellite_health-is window parts sat e =
-    let s = up_to_end_set window parts sat e in
-    let t = behind_end_set window parts sat e in
-    best_health (IsUpToEnd window (Contains parts) sat e) (IsBehindEnd window (Contains parts) sat e)
-    (best_among (health_of sat) (up_to_end window e) (later health_numbers) parts None) (best_among (health_of sat) (behind_end window e) (earlier health_numbers) parts None)
-    (IsBest-same (IsLater health_numbers) (Passing (health_of sat) (up_to_end window e) parts) (IsUpToEnd window (Contains parts) sat e)
-    (best_among (health_of sat) (up_to_end window e) (later health_numbers) parts None) s.to s.from
-    (best_among-is (health_of sat) (up_to_end window e) (later health_numbers) (IsLater health_numbers) (later_decides health_numbers) parts))
-    (IsBest-same (IsEarlier health_numbers) (Passing (health_of sat) (behind_end window e) parts) (IsBehindEnd window (Contains parts) sat e)
-    (best_among (health_of sat) (behind_end window e) (earlier health_numbers) parts None) t.to t.from
-    (best_among-is (health_of sat) (behind_end window e) (earlier health_numbers) (IsEarlier health_numbers) (earlier_decides health_numbers) parts))
+-- no health counts for other keys
+pub no_health : (w : ℕ) (parts : Part → Type 0) (key : Key) (e : ℕ) → ((h : ℕ × GalHealth × SentTag) → HasHealth key parts h → ⊥)
+    → IsBestHealth (IsUpToEnd w parts key e) (IsBehindEnd w parts key e) None
+no_health w parts key e none = (λ v h. none v h.heard, λ v h. none v h.heard)
 
 pub health_at-is : (window : ℕ) (parts : List Part) (key : Key) (e : ℕ)
-    → IsBestHealth (IsHealthBefore window (Contains parts) key e) (IsHealthBehind window (Contains parts) key e) (health_at window parts key e)
-health_at-is window parts (Gal sat issue) e = satellite_health-is window parts sat e
-health_at-is window parts (Gps sat issue) e = (λ v h. h, λ v h. h)
-health_at-is window parts (GpsIon content) e = (λ v h. h, λ v h. h)
-health_at-is window parts (GalIon content) e = (λ v h. h, λ v h. h)
+    → IsBestHealth (IsUpToEnd window (Contains parts) key e) (IsBehindEnd window (Contains parts) key e) (health_at window parts key e)
+health_at-is window parts (Gal sat issue) e =
+    let s = up_to_end_set window parts sat issue e in
+    let t = behind_end_set window parts sat issue e in
+    best_health (IsUpToEnd window (Contains parts) (Gal sat issue) e) (IsBehindEnd window (Contains parts) (Gal sat issue) e)
+    (best_among (reading (HealthOf sat)) (up_to_end window e) (later health_numbers) parts None)
+    (best_among (reading (HealthOf sat)) (behind_end window e) (earlier health_numbers) parts None)
+    (IsBest-same (IsLater health_numbers) (Passing (reading (HealthOf sat)) (up_to_end window e) parts) (IsUpToEnd window (Contains parts) (Gal sat issue) e)
+    (best_among (reading (HealthOf sat)) (up_to_end window e) (later health_numbers) parts None) s.to s.from
+    (best_among-is (reading (HealthOf sat)) (up_to_end window e) (later health_numbers) (IsLater health_numbers) (later_decides health_numbers) parts))
+    (IsBest-same (IsEarlier health_numbers) (Passing (reading (HealthOf sat)) (behind_end window e) parts) (IsBehindEnd window (Contains parts) (Gal sat issue) e)
+    (best_among (reading (HealthOf sat)) (behind_end window e) (earlier health_numbers) parts None) t.to t.from
+    (best_among-is (reading (HealthOf sat)) (behind_end window e) (earlier health_numbers) (IsEarlier health_numbers) (earlier_decides health_numbers) parts))
+health_at-is window parts (Gps sat issue) e = no_health window (Contains parts) (Gps sat issue) e (λ h x. x)
+health_at-is window parts (GpsIon content) e = no_health window (Contains parts) (GpsIon content) e (λ h x. x)
+health_at-is window parts (GalIon content) e = no_health window (Contains parts) (GalIon content) e (λ h x. x)

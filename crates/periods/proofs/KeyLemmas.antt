@@ -18,7 +18,8 @@ use Rattle.periods.specs.declared.key.Key.{Key}
 use Rattle.periods.specs.declared.key.Key.TheVariants.{Gps, Gal, GpsIon, GalIon}
 use Rattle.periods.specs.declared.key.Place.{Place}
 use Rattle.nav_eph.specs.Values.{IsPartValue}
-use Rattle.periods.specs.Parts.{key_in, key_of, same_sat}
+use Rattle.periods.specs.Parts.{key_in, key_of}
+use Rattle.periods.specs.Readings.{same_sat}
 use Rattle.nav_eph.specs.Values.{IsBodyValue}
 use Rattle.periods.specs.Periods.{key_numbers, place_numbers, IsBefore}
 use Rattle.periods.specs.KeyTests.{same_key, is_key, is_of}
@@ -66,22 +67,11 @@ false_true e = absurd (both_ways false refl e)
 pub same_key-is : (a b : Key) → same_key a b ≡ true → a ≡ b
 same_key-is (Gps s i) (Gps t j) h =
     let p = and_parts (same_sat s t) (i == j) h in let e = same_sat-is s t p.0 in let f = eqb-true i j p.1 in λ k. Gps (e k) (f k)
-same_key-is (Gps s i) (Gal t j) h = false_true h
-same_key-is (Gps s i) (GpsIon b) h = false_true h
-same_key-is (Gps s i) (GalIon b) h = false_true h
-same_key-is (Gal s i) (Gps t j) h = false_true h
 same_key-is (Gal s i) (Gal t j) h =
     let p = and_parts (same_sat s t) (i == j) h in let e = same_sat-is s t p.0 in let f = eqb-true i j p.1 in λ k. Gal (e k) (f k)
-same_key-is (Gal s i) (GpsIon b) h = false_true h
-same_key-is (Gal s i) (GalIon b) h = false_true h
-same_key-is (GpsIon a) (Gps t j) h = false_true h
-same_key-is (GpsIon a) (Gal t j) h = false_true h
 same_key-is (GpsIon a) (GpsIon b) h = ap GpsIon (same_gps_ion a b h)
-same_key-is (GpsIon a) (GalIon b) h = false_true h
-same_key-is (GalIon a) (Gps t j) h = false_true h
-same_key-is (GalIon a) (Gal t j) h = false_true h
-same_key-is (GalIon a) (GpsIon b) h = false_true h
 same_key-is (GalIon a) (GalIon b) h = ap GalIon (same_gal_ion a b h)
+same_key-is a b h = false_true h
 
 pub is-same_key : (a : Key) → same_key a a ≡ true
 is-same_key (Gps s i) = and_from (same_sat s s) (i == i) (is-same_sat s) (eq-eqb i i refl)
@@ -134,22 +124,11 @@ key_value p key v e = key_value_in p.sat p.body key v.body e
 same_numbers_key : (a b : Key) → IsKeyValue a → IsKeyValue b → key_numbers a ≡ key_numbers b → a ≡ b
 same_numbers_key (Gps s i) (Gps t j) v w h =
     let e = satellite_is s t (same_system s.system t.system (heads (tails h))) (heads (tails (tails h))) in let f = heads (tails (tails (tails h))) in λ k. Gps (e k) (f k)
-same_numbers_key (Gps s i) (Gal t j) v w h = absurd (let z = heads h in omega arith)
-same_numbers_key (Gps s i) (GpsIon b) v w h = absurd (let z = heads h in omega arith)
-same_numbers_key (Gps s i) (GalIon b) v w h = absurd (let z = heads h in omega arith)
-same_numbers_key (Gal s i) (Gps t j) v w h = absurd (let z = heads h in omega arith)
 same_numbers_key (Gal s i) (Gal t j) v w h =
     let e = satellite_is s t (same_system s.system t.system (heads (tails h))) (heads (tails (tails h))) in let f = heads (tails (tails (tails h))) in λ k. Gal (e k) (f k)
-same_numbers_key (Gal s i) (GpsIon b) v w h = absurd (let z = heads h in omega arith)
-same_numbers_key (Gal s i) (GalIon b) v w h = absurd (let z = heads h in omega arith)
-same_numbers_key (GpsIon a) (Gps t j) v w h = absurd (let z = heads h in omega arith)
-same_numbers_key (GpsIon a) (Gal t j) v w h = absurd (let z = heads h in omega arith)
 same_numbers_key (GpsIon a) (GpsIon b) v w h = ap GpsIon (one_gps_ionosphere a b v w (heads (tails (tails (tails h)))))
-same_numbers_key (GpsIon a) (GalIon b) v w h = absurd (let z = heads h in omega arith)
-same_numbers_key (GalIon a) (Gps t j) v w h = absurd (let z = heads h in omega arith)
-same_numbers_key (GalIon a) (Gal t j) v w h = absurd (let z = heads h in omega arith)
-same_numbers_key (GalIon a) (GpsIon b) v w h = absurd (let z = heads h in omega arith)
 same_numbers_key (GalIon a) (GalIon b) v w h = ap GalIon (one_galileo_ionosphere a b v w (heads (tails (tails (tails h)))))
+same_numbers_key a b v w h = absurd (let z = heads h in omega arith)
 
 -- of two places one is before the other, or they are the same
 pub cases_place : (a b : Place) → IsKeyValue a.key → IsKeyValue b.key → IsBefore a b ⊎ ((a ≡ b) ⊎ IsBefore b a)

@@ -7,6 +7,7 @@ pub mod EndSurface
 mod Orders
 mod Folds
 mod KeyLemmas
+mod ReadingLemmas
 mod ValueLemmas
 mod ValueFindings
 mod ValueItems
@@ -16,6 +17,7 @@ mod HealthLemmas
 mod PeriodLemmas
 mod AgainLemmas
 mod VerdictLemmas
+mod RangeLemmas
 mod ListLemmas
 mod SearchLemmas
 mod LastLemmas

@@ -13,7 +13,7 @@ use Rattle.periods.specs.Values.{IsBest}
 use Rattle.periods.specs.Parts.{key_of}
 use Rattle.periods.specs.Periods.{IsHeardAt, IsPeriod, IsMember}
 use Rattle.periods.specs.Digests.{IsDigest}
-use Rattle.periods.specs.Verdicts.{IsFound, IsHealthBefore, IsHealthBehind}
+use Rattle.periods.specs.Verdicts.{IsFound, IsUpToEnd, IsBehindEnd}
 use Rattle.periods.specs.DigestsOf.{digest_of, health_at}
 use Rattle.periods.specs.KeyTests.{is_of}
 use Rattle.periods.specs.PeriodsOf.{quiet_at, quiet, stamp_of, end_below, end_before, is_above, is_member, join_some, members_digest, finding_with, finding_at}
@@ -213,7 +213,7 @@ finding_with-is r w parts q None hq h =
     let p = hq.heard in
     absurd (h p.part (record { here = p.here; of_key = p.of_key; ends = subst (λ (s : ℕ). IsEndOf w (IsHeardAt (Contains parts) q.key) q.end s) (sym p.at_stamp) (own_end w (IsHeardAt (Contains parts) q.key) q.end hq) }))
 finding_with-is r w parts q (Some d) hq h =
-    digest_finding-is r q.key (IsMember w (Contains parts) q) (IsHealthBefore w (Contains parts) q.key q.end) (IsHealthBehind w (Contains parts) q.key q.end) d (health_at w parts q.key q.end) h
+    digest_finding-is r q.key (IsMember w (Contains parts) q) (IsUpToEnd w (Contains parts) q.key q.end) (IsBehindEnd w (Contains parts) q.key q.end) d (health_at w parts q.key q.end) h
     (health_at-is w parts q.key q.end)
 
 pub finding_at-is : (r w : ℕ) (parts : List Part) (q : Place) → IsPeriod w (Contains parts) q → IsFound r w (Contains parts) q (finding_at r w parts q)

@@ -1,5 +1,6 @@
 -- What members and the health near an end come to: one finding at most, and the same of the same sets.
-use Rattle.std.proofs.Common.{◌≡◌, ℕ, ◌*◌, inl, inr, Bool, true, false, ◌==◌, if◌then◌else◌, List, ◌∷◌, None, Some, refl, sym, ap, subst, ◌∙◌, eq-eqb}
+use Rattle.std.proofs.Common.{◌≡◌, ℕ, ◌*◌, inl, inr, ◌==◌, List, ◌∷◌, sym, ap, subst, refl, ◌∙◌, eq-eqb}
+use Rattle.std.specs.List.{AllByRecursion}
 use Rattle.std.proofs.lemmas.Bool.{and_from}
 use Rattle.gnss_week.specs.Weeks.{IsSecond}
 use Rattle.nav_eph.specs.Satellite.{Satellite, place_of}
@@ -7,7 +8,6 @@ use Rattle.nav_eph.specs.Bodies.{IsGpsSide, IsSentTag, IsGalHealth}
 use Rattle.nav_eph.specs.declared.gps.GpsSide.{GpsSide}
 use Rattle.nav_eph.specs.declared.galileo.GalHealth.{GalHealth}
 use Rattle.nav_eph.specs.declared.tag.SentTag.{SentTag}
-use Rattle.nav_eph.specs.declared.tag.SentTag.TheVariants.{Sent, Toe}
 use Rattle.nav_eph.specs.declared.ion.IonContent.{IonContent}
 use Rattle.nav_eph.specs.declared.ion.IonContent.TheVariants.{Gps as OfGps, Gal as OfGal}
 use Rattle.nav_eph.specs.declared.items.GpsEph.{GpsEph}
@@ -16,8 +16,6 @@ use Rattle.nav_eph.specs.declared.items.IonEph.{IonEph}
 use Rattle.nav_eph.specs.declared.items.NavItem.{NavItem}
 use Rattle.nav_eph.specs.declared.items.NavItem.TheVariants.{Gps as GpsItem, Gal as GalItem, Ion as IonItem}
 use Rattle.nav_eph.specs.declared.part.Part.{Part}
-use Rattle.nav_eph.specs.declared.part.Body.{Body}
-use Rattle.nav_eph.specs.declared.part.Body.TheVariants.{GpsClock as OfClock, GalHealth as OfHealth, GpsIon as OfGpsIon, GalIon as OfGalIon}
 use Rattle.nav_eph.proofs.Surface.{one_side, one_tag, one_health, one_sending}
 use Rattle.periods.proofs.EndSurface.{Same, turned}
 use Rattle.periods.specs.declared.key.Key.{Key}
@@ -25,16 +23,15 @@ use Rattle.periods.specs.declared.key.Key.TheVariants.{Gps, Gal, GpsIon, GalIon}
 use Rattle.periods.specs.declared.key.Sending.{Sending}
 use Rattle.periods.specs.declared.closed.Finding.{Finding}
 use Rattle.periods.specs.declared.closed.Finding.TheVariants.{Differs, Misses, LacksHealth, Complete}
-use Rattle.periods.specs.Values.{HasValue, IsEmpty, IsOnly, IsFirstBy, IsEarlier, IsLater}
+use Rattle.periods.specs.Values.{IsEmpty, IsOnly, IsFirstBy, IsEarlier, IsLater}
 use Rattle.nav_eph.specs.Values.{IsPartValue}
-use Rattle.periods.specs.Parts.{clock_of, orbit_a_of, orbit_b_of, word1_of, word2_of, word3_of, word4_of, side_in, side_of, fit_of, sent_tag_in, sent_tag_of, toe_tag_in, toe_tag_of, sending_in, sending_of, health_in, health_of, same_sat, side_numbers, fit_numbers, tag_numbers, health_numbers, sending_numbers}
+use Rattle.periods.specs.Parts.{Clock, OrbitA, OrbitB, Word1, Word2, Word3, Word4, Side, FitFlag, SendingTag, ToeTag, IonSending, HealthOf, Value, Says, HasValue, kinds_of, side_numbers, fit_numbers, tag_numbers, health_numbers, sending_numbers}
 use Rattle.nav_eph.specs.Values.{IsBodyValue}
 use Rattle.periods.specs.Items.{toe_week_of, gps_moment, gal_moment, sent_second, gps_ion_moment, gal_ion_moment, IsHealth, IsGpsTag, IsGpsItemOf, IsGalItemOf, IsIonItemOf}
 use Rattle.periods.specs.Verdicts.{IsContradicted, IsPartial, IsWithoutHealth, IsItemOf, IsFoundIn}
 use Rattle.periods.proofs.Orders.{same_numbers}
-use Rattle.periods.proofs.Folds.{some_is, none_some}
 use Rattle.periods.proofs.KeyLemmas.{same_sat-is}
-use Rattle.periods.proofs.ValueLemmas.{same_values, IsEmpty-same, IsOnly-same, Differ-same, IsFirstBy-same, IsFirstOrElse-same, only_agrees, only_there}
+use Rattle.periods.proofs.ValueLemmas.{same_values, IsEmpty-same, only_same, Differ-same, first_same, IsFirstOrElse-same, only_agrees, only_there, any_same, none_any}
 
 heads : {x y : ℕ} {xs ys : List ℕ} → x ∷ xs ≡ y ∷ ys → x ≡ y
 heads e = cc
@@ -48,38 +45,26 @@ pub record IsHealthValue (h : ℕ × GalHealth × SentTag) : Type 0 where
   pub tag : IsSentTag h.2
 
 -- what the parts say is within its digits
-side_value : (stamp : ℕ) (body : Body) (v : ℕ × GpsSide) → IsBodyValue body → side_in stamp body ≡ Some v → IsGpsSide v.1
-side_value stamp (OfClock c s t) v b e = subst (λ (x : ℕ × GpsSide). IsGpsSide x.1) (some_is (stamp, s) v e) b.0
-side_value stamp _ v b e = absurd (none_some v e)
+sending_value-in : (p : Part) (v : Sending) → IsBodyValue p.body → Says IonSending p v → IsSecond v.second
+sending_value-in p v b h = elim h.2 [
+  | inl g ↦ (subst IsBodyValue g.1 b).1
+  | inr g ↦ (subst IsBodyValue g.1 b).1
+]
 
-sent_value : (stamp : ℕ) (body : Body) (v : ℕ × SentTag) → IsBodyValue body → sent_tag_in stamp body ≡ Some v → IsSentTag v.1
-sent_value stamp (OfClock c s (Sent w n)) v b e = subst (λ (x : ℕ × SentTag). IsSentTag x.1) (some_is (stamp, Sent w n) v e) b.1
-sent_value stamp (OfClock c s (Toe w n)) v b e = absurd (none_some v e)
-sent_value stamp _ v b e = absurd (none_some v e)
+pub sending_value : (members : Part → Type 0) (v : Sending) → ((p : Part) → members p → IsPartValue p) → HasValue IonSending members v → IsSecond v.second
+sending_value members v are h = sending_value-in h.part v (are h.part h.here).body h.says
 
-toe_value : (stamp : ℕ) (body : Body) (v : ℕ × SentTag) → IsBodyValue body → toe_tag_in stamp body ≡ Some v → IsSentTag v.1
-toe_value stamp (OfClock c s (Sent w n)) v b e = absurd (none_some v e)
-toe_value stamp (OfClock c s (Toe w n)) v b e = subst (λ (x : ℕ × SentTag). IsSentTag x.1) (some_is (stamp, Toe w n) v e) b.1
-toe_value stamp _ v b e = absurd (none_some v e)
+side_value : (members : Part → Type 0) (v : ℕ × GpsSide) → ((p : Part) → members p → IsPartValue p) → HasValue Side members v → IsGpsSide v.1
+side_value members v are h = (subst IsBodyValue h.says.2 (are h.part h.here).body).0
 
-pub sending_value : (stamp : ℕ) (sat : Satellite) (body : Body) (v : Sending) → IsBodyValue body → sending_in stamp sat body ≡ Some v → IsSecond v.second
-sending_value stamp sat (OfGpsIon i s) v b e =
-    subst (λ (x : Sending). IsSecond x.second) (some_is (record { stamp = stamp; sat = sat; wn = 0; second = s }) v e) b.1
-sending_value stamp sat (OfGalIon i w s) v b e =
-    subst (λ (x : Sending). IsSecond x.second) (some_is (record { stamp = stamp; sat = sat; wn = w; second = s }) v e) b.1
-sending_value stamp sat _ v b e = absurd (none_some v e)
+pub sent_value : (members : Part → Type 0) (v : ℕ × SentTag) → ((p : Part) → members p → IsPartValue p) → HasValue SendingTag members v → IsSentTag v.1
+sent_value members v are h = subst (λ (x : ℕ × SentTag). IsSentTag x.1) (sym h.says.5) (subst IsBodyValue h.says.4 (are h.part h.here).body).1
 
-health_value_in : (stamp : ℕ) (body : Body) (h : ℕ × GalHealth × SentTag) → IsBodyValue body → health_in stamp body ≡ Some h → IsHealthValue h
-health_value_in stamp (OfHealth health tag) h b e =
-    subst IsHealthValue (some_is (stamp, health, tag) h e) (record { health = b.0; tag = b.1 })
-health_value_in stamp _ h b e = absurd (none_some h e)
+pub toe_value : (members : Part → Type 0) (v : ℕ × SentTag) → ((p : Part) → members p → IsPartValue p) → HasValue ToeTag members v → IsSentTag v.1
+toe_value members v are h = subst (λ (x : ℕ × SentTag). IsSentTag x.1) (sym h.says.5) (subst IsBodyValue h.says.4 (are h.part h.here).body).1
 
-health_value_if : (t : Bool) (stamp : ℕ) (body : Body) (h : ℕ × GalHealth × SentTag) → IsBodyValue body → (if t then health_in stamp body else None) ≡ Some h → IsHealthValue h
-health_value_if true stamp body h b e = health_value_in stamp body h b e
-health_value_if false stamp body h b e = absurd (none_some h e)
-
-pub health_value : (sat : Satellite) (p : Part) (h : ℕ × GalHealth × SentTag) → IsPartValue p → health_of sat p ≡ Some h → IsHealthValue h
-health_value sat p h v e = health_value_if (same_sat p.sat sat) p.stamp p.body h v.body e
+pub health_value : (sat : Satellite) (p : Part) (h : ℕ × GalHealth × SentTag) → IsPartValue p → Says (HealthOf sat) p h → IsHealthValue h
+health_value sat p h v says = let b = subst IsBodyValue says.1 v.body in record { health = b.0; tag = b.1 }
 
 -- two that are the only one, and two that are first, are one
 one_only : {X : Type 0} (values : X → Type 0) (v w : X) → IsOnly values v → IsOnly values w → v ≡ w
@@ -94,33 +79,21 @@ last_numbers : {X : Type 0} (numbers : X → List ℕ) (values : X → Type 0) (
 last_numbers numbers values v w h k = same_numbers numbers v w (λ r. h.first w k.here r) (λ r. k.first v h.here r)
 
 one_side_of : (members : Part → Type 0) (v w : ℕ × GpsSide) → ((p : Part) → members p → IsPartValue p)
-    → IsFirstBy (IsLater side_numbers) (HasValue side_of members) v → IsFirstBy (IsLater side_numbers) (HasValue side_of members) w → v.1 ≡ w.1
+    → IsFirstBy (IsLater side_numbers) (HasValue Side members) v → IsFirstBy (IsLater side_numbers) (HasValue Side members) w → v.1 ≡ w.1
 one_side_of members v w are h k =
-    let e = last_numbers side_numbers (HasValue side_of members) v w h k in
-    one_side v.1 w.1
-    (side_value h.here.element.stamp h.here.element.body v (are h.here.element h.here.here).body h.here.is)
-    (side_value k.here.element.stamp k.here.element.body w (are k.here.element k.here.here).body k.here.is)
-    (heads (tails e))
+    one_side v.1 w.1 (side_value members v are h.here) (side_value members w are k.here) (heads (tails (last_numbers side_numbers (HasValue Side members) v w h k)))
 
 one_fit_of : (members : Part → Type 0) (v w : ℕ × ℕ)
-    → IsFirstBy (IsLater fit_numbers) (HasValue fit_of members) v → IsFirstBy (IsLater fit_numbers) (HasValue fit_of members) w → v.1 ≡ w.1
-one_fit_of members v w h k = heads (tails (last_numbers fit_numbers (HasValue fit_of members) v w h k))
+    → IsFirstBy (IsLater fit_numbers) (HasValue FitFlag members) v → IsFirstBy (IsLater fit_numbers) (HasValue FitFlag members) w → v.1 ≡ w.1
+one_fit_of members v w h k = heads (tails (last_numbers fit_numbers (HasValue FitFlag members) v w h k))
 
 one_tag_of : (members : Part → Type 0) (v w : ℕ × SentTag) → ((p : Part) → members p → IsPartValue p) → IsGpsTag members v → IsGpsTag members w → v.1 ≡ w.1
 one_tag_of members v w are (inl h) (inl k) =
-    let e = first_numbers tag_numbers (HasValue sent_tag_of members) v w h k in
-    one_tag v.1 w.1
-    (sent_value h.here.element.stamp h.here.element.body v (are h.here.element h.here.here).body h.here.is)
-    (sent_value k.here.element.stamp k.here.element.body w (are k.here.element k.here.here).body k.here.is)
-    (heads (tails e))
+    one_tag v.1 w.1 (sent_value members v are h.here) (sent_value members w are k.here) (heads (tails (first_numbers tag_numbers (HasValue SendingTag members) v w h k)))
 one_tag_of members v w are (inl h) (inr k) = absurd (k.0 v h.here)
 one_tag_of members v w are (inr h) (inl k) = absurd (h.0 w k.here)
 one_tag_of members v w are (inr h) (inr k) =
-    let e = first_numbers tag_numbers (HasValue toe_tag_of members) v w h.1 k.1 in
-    one_tag v.1 w.1
-    (toe_value h.1.here.element.stamp h.1.here.element.body v (are h.1.here.element h.1.here.here).body h.1.here.is)
-    (toe_value k.1.here.element.stamp k.1.here.element.body w (are k.1.here.element k.1.here.here).body k.1.here.is)
-    (heads (tails e))
+    one_tag v.1 w.1 (toe_value members v are h.1.here) (toe_value members w are k.1.here) (heads (tails (first_numbers tag_numbers (HasValue ToeTag members) v w h.1 k.1)))
 
 same_healths : (v w : ℕ × GalHealth × SentTag) → IsHealthValue v → IsHealthValue w → health_numbers v ≡ health_numbers w → (v.1 ≡ w.1) × (v.2 ≡ w.2)
 same_healths v w a b e = one_health v.1 w.1 v.2 w.2 a.health b.health a.tag b.tag (heads (tails e))
@@ -138,15 +111,12 @@ one_satellite s t e f =
     same_sat-is s t (and_from (place_of s.system == place_of t.system) (s.number == t.number) (eq-eqb (place_of s.system) (place_of t.system) e) (eq-eqb s.number t.number f))
 
 one_sending_of : (members : Part → Type 0) (v w : Sending) → ((p : Part) → members p → IsPartValue p)
-    → IsFirstBy (IsEarlier sending_numbers) (HasValue sending_of members) v → IsFirstBy (IsEarlier sending_numbers) (HasValue sending_of members) w → v ≡ w
+    → IsFirstBy (IsEarlier sending_numbers) (HasValue IonSending members) v → IsFirstBy (IsEarlier sending_numbers) (HasValue IonSending members) w → v ≡ w
 one_sending_of members v w are h k =
-    let e : sending_numbers v ≡ sending_numbers w = first_numbers sending_numbers (HasValue sending_of members) v w h k in
+    let e : sending_numbers v ≡ sending_numbers w = first_numbers sending_numbers (HasValue IonSending members) v w h k in
     let stamp : v.stamp ≡ w.stamp = heads e in
     let sat : v.sat ≡ w.sat = one_satellite v.sat w.sat (heads (tails e)) (heads (tails (tails e))) in
-    let time = one_sending v.wn w.wn v.second w.second
-    (sending_value h.here.element.stamp h.here.element.sat h.here.element.body v (are h.here.element h.here.here).body h.here.is)
-    (sending_value k.here.element.stamp k.here.element.sat k.here.element.body w (are k.here.element k.here.here).body k.here.is)
-    (heads (tails (tails (tails e)))) in
+    let time = one_sending v.wn w.wn v.second w.second (sending_value members v are h.here) (sending_value members w are k.here) (heads (tails (tails (tails e)))) in
     λ i. record { stamp = stamp i; sat = sat i; wn = time.0 i; second = time.1 i }
 
 -- the items are one
@@ -154,9 +124,9 @@ one_gps_item : (r : ℕ) (sat : Satellite) (members : Part → Type 0) (e f : Gp
     → IsGpsItemOf r sat members e → IsGpsItemOf r sat members f → e ≡ f
 one_gps_item r sat members e f are h k =
     let same : e.sat ≡ f.sat = h.sat ∙ sym k.sat in
-    let clock : e.clock ≡ f.clock = one_only (HasValue clock_of members) e.clock f.clock h.clock k.clock in
-    let a : e.a ≡ f.a = one_only (HasValue orbit_a_of members) e.a f.a h.a k.a in
-    let b : e.b ≡ f.b = one_only (HasValue orbit_b_of members) e.b f.b h.b k.b in
+    let clock : e.clock ≡ f.clock = one_only (HasValue Clock members) e.clock f.clock h.clock k.clock in
+    let a : e.a ≡ f.a = one_only (HasValue OrbitA members) e.a f.a h.a k.a in
+    let b : e.b ≡ f.b = one_only (HasValue OrbitB members) e.b f.b h.b k.b in
     let side : e.side ≡ f.side = one_side_of members (h.side_stamp, e.side) (k.side_stamp, f.side) are h.side k.side in
     let fit : e.fit ≡ f.fit = one_fit_of members (h.fit_stamp, e.fit) (k.fit_stamp, f.fit) h.fit k.fit in
     let tag : h.tag.1 ≡ k.tag.1 = one_tag_of members h.tag k.tag are h.tag_is k.tag_is in
@@ -169,10 +139,10 @@ one_gal_item : (r : ℕ) (sat : Satellite) (members : Part → Type 0) (before b
     → IsGalItemOf r sat members before behind e → IsGalItemOf r sat members before behind f → e ≡ f
 one_gal_item r sat members before behind e f x y h k =
     let same : e.sat ≡ f.sat = h.sat ∙ sym k.sat in
-    let w1 : e.w1 ≡ f.w1 = one_only (HasValue word1_of members) e.w1 f.w1 h.w1 k.w1 in
-    let w2 : e.w2 ≡ f.w2 = one_only (HasValue word2_of members) e.w2 f.w2 h.w2 k.w2 in
-    let w3 : e.w3 ≡ f.w3 = one_only (HasValue word3_of members) e.w3 f.w3 h.w3 k.w3 in
-    let w4 : e.w4 ≡ f.w4 = one_only (HasValue word4_of members) e.w4 f.w4 h.w4 k.w4 in
+    let w1 : e.w1 ≡ f.w1 = one_only (HasValue Word1 members) e.w1 f.w1 h.w1 k.w1 in
+    let w2 : e.w2 ≡ f.w2 = one_only (HasValue Word2 members) e.w2 f.w2 h.w2 k.w2 in
+    let w3 : e.w3 ≡ f.w3 = one_only (HasValue Word3 members) e.w3 f.w3 h.w3 k.w3 in
+    let w4 : e.w4 ≡ f.w4 = one_only (HasValue Word4 members) e.w4 f.w4 h.w4 k.w4 in
     let heard = one_health_of before behind h.heard k.heard x y h.heard_is k.heard_is in
     let tag : h.heard.2 ≡ k.heard.2 = heard.1 in
     let health : e.health ≡ f.health = h.health ∙ heard.0 ∙ sym k.health in
@@ -193,45 +163,33 @@ one_item : (r : ℕ) (key : Key) (members : Part → Type 0) (before behind : �
     → ((p : Part) → members p → IsPartValue p) → ((h : ℕ × GalHealth × SentTag) → before h → IsHealthValue h) → ((h : ℕ × GalHealth × SentTag) → behind h → IsHealthValue h)
     → IsItemOf r key members before behind e → IsItemOf r key members before behind f → e ≡ f
 one_item r (Gps sat issue) members before behind (GpsItem e) (GpsItem f) are x y h k = ap GpsItem (one_gps_item r sat members e f are h k)
-one_item r (Gps sat issue) members before behind (GpsItem e) (GalItem f) are x y h k = absurd k
-one_item r (Gps sat issue) members before behind (GpsItem e) (IonItem f) are x y h k = absurd k
 one_item r (Gal sat issue) members before behind (GalItem e) (GalItem f) are x y h k = ap GalItem (one_gal_item r sat members before behind e f x y h k)
-one_item r (Gal sat issue) members before behind (GalItem e) (GpsItem f) are x y h k = absurd k
-one_item r (Gal sat issue) members before behind (GalItem e) (IonItem f) are x y h k = absurd k
 one_item r (GpsIon content) members before behind (IonItem e) (IonItem f) are x y h k = ap IonItem (one_ion_item (gps_ion_moment r) (OfGps content) members e f are h k)
-one_item r (GpsIon content) members before behind (IonItem e) (GpsItem f) are x y h k = absurd k
-one_item r (GpsIon content) members before behind (IonItem e) (GalItem f) are x y h k = absurd k
 one_item r (GalIon content) members before behind (IonItem e) (IonItem f) are x y h k = ap IonItem (one_ion_item (gal_ion_moment r) (OfGal content) members e f are h k)
-one_item r (GalIon content) members before behind (IonItem e) (GpsItem f) are x y h k = absurd k
-one_item r (GalIon content) members before behind (IonItem e) (GalItem f) are x y h k = absurd k
+one_item r (Gps sat issue) members before behind (GpsItem e) f are x y h k = absurd k
+one_item r (Gal sat issue) members before behind (GalItem e) f are x y h k = absurd k
+one_item r (GpsIon content) members before behind (IonItem e) f are x y h k = absurd k
+one_item r (GalIon content) members before behind (IonItem e) f are x y h k = absurd k
 one_item r key members before behind e f are x y h k = absurd h
 
 -- where there is an item, the members agree, each kind is there, and so is health
+only_each : (r : ℕ) (key : Key) (members : Part → Type 0) (before behind : ℕ × GalHealth × SentTag → Type 0) (e : NavItem)
+    → IsItemOf r key members before behind e → AllByRecursion (λ k. (v : Value k) × IsOnly (HasValue k members) v) (kinds_of key)
+only_each r (Gps sat issue) members before behind (GpsItem e) h = ((e.clock, h.clock), ((e.a, h.a), ((e.b, h.b), tt)))
+only_each r (Gal sat issue) members before behind (GalItem e) h = ((e.w1, h.w1), ((e.w2, h.w2), ((e.w3, h.w3), ((e.w4, h.w4), tt))))
+only_each r (GpsIon content) members before behind e h = tt
+only_each r (GalIon content) members before behind e h = tt
+only_each r key members before behind e h = absurd h
+
 item_agrees : (r : ℕ) (key : Key) (members : Part → Type 0) (before behind : ℕ × GalHealth × SentTag → Type 0) (e : NavItem)
     → IsItemOf r key members before behind e → IsContradicted key members → ⊥
-item_agrees r (Gps sat issue) members before behind (GpsItem e) h (inl d) = only_agrees (HasValue clock_of members) e.clock h.clock d
-item_agrees r (Gps sat issue) members before behind (GpsItem e) h (inr (inl d)) = only_agrees (HasValue orbit_a_of members) e.a h.a d
-item_agrees r (Gps sat issue) members before behind (GpsItem e) h (inr (inr d)) = only_agrees (HasValue orbit_b_of members) e.b h.b d
-item_agrees r (Gal sat issue) members before behind (GalItem e) h (inl d) = only_agrees (HasValue word1_of members) e.w1 h.w1 d
-item_agrees r (Gal sat issue) members before behind (GalItem e) h (inr (inl d)) = only_agrees (HasValue word2_of members) e.w2 h.w2 d
-item_agrees r (Gal sat issue) members before behind (GalItem e) h (inr (inr (inl d))) = only_agrees (HasValue word3_of members) e.w3 h.w3 d
-item_agrees r (Gal sat issue) members before behind (GalItem e) h (inr (inr (inr d))) = only_agrees (HasValue word4_of members) e.w4 h.w4 d
-item_agrees r (GpsIon content) members before behind e h d = d
-item_agrees r (GalIon content) members before behind e h d = d
-item_agrees r key members before behind e h d = absurd h
+item_agrees r key members before behind e h =
+    none_any _ _ (kinds_of key) (λ k o d. only_agrees (HasValue k members) o.0 o.1 d) (only_each r key members before behind e h)
 
 item_whole : (r : ℕ) (key : Key) (members : Part → Type 0) (before behind : ℕ × GalHealth × SentTag → Type 0) (e : NavItem)
     → IsItemOf r key members before behind e → IsPartial key members → ⊥
-item_whole r (Gps sat issue) members before behind (GpsItem e) h (inl d) = only_there (HasValue clock_of members) e.clock h.clock d
-item_whole r (Gps sat issue) members before behind (GpsItem e) h (inr (inl d)) = only_there (HasValue orbit_a_of members) e.a h.a d
-item_whole r (Gps sat issue) members before behind (GpsItem e) h (inr (inr d)) = only_there (HasValue orbit_b_of members) e.b h.b d
-item_whole r (Gal sat issue) members before behind (GalItem e) h (inl d) = only_there (HasValue word1_of members) e.w1 h.w1 d
-item_whole r (Gal sat issue) members before behind (GalItem e) h (inr (inl d)) = only_there (HasValue word2_of members) e.w2 h.w2 d
-item_whole r (Gal sat issue) members before behind (GalItem e) h (inr (inr (inl d))) = only_there (HasValue word3_of members) e.w3 h.w3 d
-item_whole r (Gal sat issue) members before behind (GalItem e) h (inr (inr (inr d))) = only_there (HasValue word4_of members) e.w4 h.w4 d
-item_whole r (GpsIon content) members before behind e h d = d
-item_whole r (GalIon content) members before behind e h d = d
-item_whole r key members before behind e h d = absurd h
+item_whole r key members before behind e h =
+    none_any _ _ (kinds_of key) (λ k o d. only_there (HasValue k members) o.0 o.1 d) (only_each r key members before behind e h)
 
 health_there : (before behind : ℕ × GalHealth × SentTag → Type 0) (v : ℕ × GalHealth × SentTag) → IsHealth before behind v → IsEmpty before × IsEmpty behind → ⊥
 health_there before behind v (inl h) none = none.0 v h.here
@@ -267,26 +225,10 @@ IsFoundIn-one r key members before behind (Complete i) (Complete j) are x y h k 
 
 -- of the same sets
 contradicted_same : (key : Key) (a b : Part → Type 0) → Same a b → IsContradicted key a → IsContradicted key b
-contradicted_same (Gps sat issue) a b s (inl d) = inl (Differ-same (HasValue clock_of a) (HasValue clock_of b) (same_values clock_of a b s) d)
-contradicted_same (Gps sat issue) a b s (inr (inl d)) = inr (inl (Differ-same (HasValue orbit_a_of a) (HasValue orbit_a_of b) (same_values orbit_a_of a b s) d))
-contradicted_same (Gps sat issue) a b s (inr (inr d)) = inr (inr (Differ-same (HasValue orbit_b_of a) (HasValue orbit_b_of b) (same_values orbit_b_of a b s) d))
-contradicted_same (Gal sat issue) a b s (inl d) = inl (Differ-same (HasValue word1_of a) (HasValue word1_of b) (same_values word1_of a b s) d)
-contradicted_same (Gal sat issue) a b s (inr (inl d)) = inr (inl (Differ-same (HasValue word2_of a) (HasValue word2_of b) (same_values word2_of a b s) d))
-contradicted_same (Gal sat issue) a b s (inr (inr (inl d))) = inr (inr (inl (Differ-same (HasValue word3_of a) (HasValue word3_of b) (same_values word3_of a b s) d)))
-contradicted_same (Gal sat issue) a b s (inr (inr (inr d))) = inr (inr (inr (Differ-same (HasValue word4_of a) (HasValue word4_of b) (same_values word4_of a b s) d)))
-contradicted_same (GpsIon content) a b s d = d
-contradicted_same (GalIon content) a b s d = d
+contradicted_same key a b s = any_same _ _ (kinds_of key) (λ k. Differ-same (HasValue k a) (HasValue k b) (same_values k a b s))
 
 partial_same : (key : Key) (a b : Part → Type 0) → Same a b → IsPartial key a → IsPartial key b
-partial_same (Gps sat issue) a b s (inl d) = inl (IsEmpty-same (HasValue clock_of a) (HasValue clock_of b) (same_values clock_of a b s) d)
-partial_same (Gps sat issue) a b s (inr (inl d)) = inr (inl (IsEmpty-same (HasValue orbit_a_of a) (HasValue orbit_a_of b) (same_values orbit_a_of a b s) d))
-partial_same (Gps sat issue) a b s (inr (inr d)) = inr (inr (IsEmpty-same (HasValue orbit_b_of a) (HasValue orbit_b_of b) (same_values orbit_b_of a b s) d))
-partial_same (Gal sat issue) a b s (inl d) = inl (IsEmpty-same (HasValue word1_of a) (HasValue word1_of b) (same_values word1_of a b s) d)
-partial_same (Gal sat issue) a b s (inr (inl d)) = inr (inl (IsEmpty-same (HasValue word2_of a) (HasValue word2_of b) (same_values word2_of a b s) d))
-partial_same (Gal sat issue) a b s (inr (inr (inl d))) = inr (inr (inl (IsEmpty-same (HasValue word3_of a) (HasValue word3_of b) (same_values word3_of a b s) d)))
-partial_same (Gal sat issue) a b s (inr (inr (inr d))) = inr (inr (inr (IsEmpty-same (HasValue word4_of a) (HasValue word4_of b) (same_values word4_of a b s) d)))
-partial_same (GpsIon content) a b s d = d
-partial_same (GalIon content) a b s d = d
+partial_same key a b s = any_same _ _ (kinds_of key) (λ k. IsEmpty-same (HasValue k a) (HasValue k b) (same_values k a b s))
 
 without_same : (key : Key) (before behind before' behind' : ℕ × GalHealth × SentTag → Type 0) → Same before before' → Same behind behind'
     → IsWithoutHealth key before behind → IsWithoutHealth key before' behind'
@@ -295,49 +237,41 @@ without_same (Gal sat issue) before behind before' behind' s t d = (IsEmpty-same
 without_same (GpsIon content) before behind before' behind' s t d = d
 without_same (GalIon content) before behind before' behind' s t d = d
 
+ion_same : (moment_of : Sending → ℕ) (said : IonContent) (a b : Part → Type 0) (e : IonEph) → Same a b → IsIonItemOf moment_of said a e → IsIonItemOf moment_of said b e
+ion_same moment_of said a b e s h =
+    record { content = h.content; sending = h.sending; first = first_same IonSending (IsEarlier sending_numbers) a b h.sending s h.first; sat = h.sat; moment = h.moment }
+
 item_same : (r : ℕ) (key : Key) (a b : Part → Type 0) (before behind before' behind' : ℕ × GalHealth × SentTag → Type 0) (e : NavItem)
     → Same a b → Same before before' → Same behind behind' → IsItemOf r key a before behind e → IsItemOf r key b before' behind' e
 item_same r (Gps sat issue) a b before behind before' behind' (GpsItem e) s t u h = record {
   sat = h.sat;
-  clock = IsOnly-same (HasValue clock_of a) (HasValue clock_of b) e.clock (same_values clock_of a b s) h.clock;
-  a = IsOnly-same (HasValue orbit_a_of a) (HasValue orbit_a_of b) e.a (same_values orbit_a_of a b s) h.a;
-  b = IsOnly-same (HasValue orbit_b_of a) (HasValue orbit_b_of b) e.b (same_values orbit_b_of a b s) h.b;
+  clock = only_same Clock a b e.clock s h.clock;
+  a = only_same OrbitA a b e.a s h.a;
+  b = only_same OrbitB a b e.b s h.b;
   side_stamp = h.side_stamp;
-  side = IsFirstBy-same (IsLater side_numbers) (HasValue side_of a) (HasValue side_of b) (h.side_stamp, e.side) (same_values side_of a b s) h.side;
+  side = first_same Side (IsLater side_numbers) a b (h.side_stamp, e.side) s h.side;
   fit_stamp = h.fit_stamp;
-  fit = IsFirstBy-same (IsLater fit_numbers) (HasValue fit_of a) (HasValue fit_of b) (h.fit_stamp, e.fit) (same_values fit_of a b s) h.fit;
+  fit = first_same FitFlag (IsLater fit_numbers) a b (h.fit_stamp, e.fit) s h.fit;
   tag = h.tag;
-  tag_is = IsFirstOrElse-same (IsEarlier tag_numbers) (IsEarlier tag_numbers) (HasValue sent_tag_of a) (HasValue sent_tag_of b) (HasValue toe_tag_of a) (HasValue toe_tag_of b) h.tag
-      (same_values sent_tag_of a b s) (same_values toe_tag_of a b s) h.tag_is;
+  tag_is = IsFirstOrElse-same (IsEarlier tag_numbers) (IsEarlier tag_numbers) (HasValue SendingTag a) (HasValue SendingTag b) (HasValue ToeTag a) (HasValue ToeTag b) h.tag
+      (same_values SendingTag a b s) (same_values ToeTag a b s) h.tag_is;
   toe_week = h.toe_week;
   sent = h.sent;
 }
 item_same r (Gal sat issue) a b before behind before' behind' (GalItem e) s t u h = record {
   sat = h.sat;
-  w1 = IsOnly-same (HasValue word1_of a) (HasValue word1_of b) e.w1 (same_values word1_of a b s) h.w1;
-  w2 = IsOnly-same (HasValue word2_of a) (HasValue word2_of b) e.w2 (same_values word2_of a b s) h.w2;
-  w3 = IsOnly-same (HasValue word3_of a) (HasValue word3_of b) e.w3 (same_values word3_of a b s) h.w3;
-  w4 = IsOnly-same (HasValue word4_of a) (HasValue word4_of b) e.w4 (same_values word4_of a b s) h.w4;
+  w1 = only_same Word1 a b e.w1 s h.w1;
+  w2 = only_same Word2 a b e.w2 s h.w2;
+  w3 = only_same Word3 a b e.w3 s h.w3;
+  w4 = only_same Word4 a b e.w4 s h.w4;
   heard = h.heard;
   heard_is = IsFirstOrElse-same (IsLater health_numbers) (IsEarlier health_numbers) before before' behind behind' h.heard t u h.heard_is;
   health = h.health;
   toe_week = h.toe_week;
   sent = h.sent;
 }
-item_same r (GpsIon content) a b before behind before' behind' (IonItem e) s t u h = record {
-  content = h.content;
-  sending = h.sending;
-  first = IsFirstBy-same (IsEarlier sending_numbers) (HasValue sending_of a) (HasValue sending_of b) h.sending (same_values sending_of a b s) h.first;
-  sat = h.sat;
-  moment = h.moment;
-}
-item_same r (GalIon content) a b before behind before' behind' (IonItem e) s t u h = record {
-  content = h.content;
-  sending = h.sending;
-  first = IsFirstBy-same (IsEarlier sending_numbers) (HasValue sending_of a) (HasValue sending_of b) h.sending (same_values sending_of a b s) h.first;
-  sat = h.sat;
-  moment = h.moment;
-}
+item_same r (GpsIon content) a b before behind before' behind' (IonItem e) s t u h = ion_same (gps_ion_moment r) (OfGps content) a b e s h
+item_same r (GalIon content) a b before behind before' behind' (IonItem e) s t u h = ion_same (gal_ion_moment r) (OfGal content) a b e s h
 item_same r key a b before behind before' behind' e s t u h = absurd h
 
 pub IsFoundIn-same : (r : ℕ) (key : Key) (a b : Part → Type 0) (before behind before' behind' : ℕ × GalHealth × SentTag → Type 0) (f : Finding)

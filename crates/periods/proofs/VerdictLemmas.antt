@@ -14,7 +14,7 @@ use Rattle.periods.specs.declared.closed.Verdict.TheVariants.{Whole, Partial, Co
 use Rattle.periods.specs.declared.closed.Closed.{Closed}
 use Rattle.nav_eph.specs.Values.{IsPartValue}
 use Rattle.periods.specs.Periods.{IsMember}
-use Rattle.periods.specs.Verdicts.{IsFound, IsHealthBefore, IsHealthBehind, Repeats, IsJudged, IsVerdict, IsClosed, closed_place}
+use Rattle.periods.specs.Verdicts.{IsFound, IsUpToEnd, IsBehindEnd, Repeats, IsJudged, IsVerdict, IsClosed, closed_place}
 use Rattle.periods.proofs.ValueItems.{item_fits}
 use Rattle.periods.proofs.PeriodLemmas.{AreLater, IsPeriod-same, IsPeriod-keeps, IsFound-same, IsFound-keeps, IsFound-one}
 use Rattle.periods.proofs.AgainLemmas.{Repeats-same, Repeats-keeps, Repeats-was, IsJudged-same, IsJudged-one}
@@ -87,6 +87,6 @@ pub item_fits_period : (r w : ℕ) (parts : Part → Type 0) (c : Closed) (item 
 item_fits_period r w parts c item reference values are ranges h e =
     let q = closed_place c in
     let f = whole_item (Repeats r w parts q) h.verdict.finding item c.verdict h.verdict.judged e in
-    item_fits r q.key (IsMember w parts q) (IsHealthBefore w parts q.key q.end) (IsHealthBehind w parts q.key q.end) item reference
+    item_fits r q.key (IsMember w parts q) (IsUpToEnd w parts q.key q.end) (IsBehindEnd w parts q.key q.end) item reference
     (record { of_key = λ p m. m.of_key; is_part = λ p m. are p m.here; is_value = λ p m. values p m.here }) ranges
     (subst (λ (x : Finding). IsFound r w parts q x) f h.verdict.found)

@@ -12,8 +12,8 @@ use Rattle.periods.specs.declared.digest.GalDigest.{GalDigest}
 use Rattle.periods.specs.declared.digest.Digest.{Digest}
 use Rattle.periods.specs.declared.digest.Digest.TheVariants.{Gps as GpsForm, Gal as GalForm, Ion as IonForm}
 use Rattle.periods.specs.Items.{IsHealth}
-use Rattle.periods.specs.Values.{HasValue, IsEmpty, IsOnly, Differ, IsBest, IsFirstBy, IsEarlier, IsLater}
-use Rattle.periods.specs.Parts.{clock_of, orbit_a_of, orbit_b_of, word1_of, word2_of, word3_of, word4_of, side_of, fit_of, sent_tag_of, toe_tag_of, sending_of, side_numbers, fit_numbers, tag_numbers, sending_numbers}
+use Rattle.periods.specs.Values.{IsEmpty, IsOnly, Differ, IsBest, IsFirstBy, IsEarlier, IsLater}
+use Rattle.periods.specs.Parts.{HasValue, Clock, OrbitA, OrbitB, Word1, Word2, Word3, Word4, Side, FitFlag, SendingTag, ToeTag, IonSending, side_numbers, fit_numbers, tag_numbers, sending_numbers}
 
 -- there is no value, one value, or there are two that differ
 abbrev pub IsSeen : {X : Type 0} → (X → Type 0) → Seen X → Type 0
@@ -22,26 +22,26 @@ IsSeen values (One x) = IsOnly values x
 IsSeen values Different = Differ values
 
 pub record IsGpsDigest (members : Part → Type 0) (d : GpsDigest) : Type 0 where
-  pub clock : IsSeen (HasValue clock_of members) d.clock
-  pub a : IsSeen (HasValue orbit_a_of members) d.a
-  pub b : IsSeen (HasValue orbit_b_of members) d.b
-  pub side : IsBest (IsLater side_numbers) (HasValue side_of members) d.side
-  pub fit : IsBest (IsLater fit_numbers) (HasValue fit_of members) d.fit
-  pub sent : IsBest (IsEarlier tag_numbers) (HasValue sent_tag_of members) d.sent
-  pub toe : IsBest (IsEarlier tag_numbers) (HasValue toe_tag_of members) d.toe
+  pub clock : IsSeen (HasValue Clock members) d.clock
+  pub a : IsSeen (HasValue OrbitA members) d.a
+  pub b : IsSeen (HasValue OrbitB members) d.b
+  pub side : IsBest (IsLater side_numbers) (HasValue Side members) d.side
+  pub fit : IsBest (IsLater fit_numbers) (HasValue FitFlag members) d.fit
+  pub sent : IsBest (IsEarlier tag_numbers) (HasValue SendingTag members) d.sent
+  pub toe : IsBest (IsEarlier tag_numbers) (HasValue ToeTag members) d.toe
 
 pub record IsGalDigest (members : Part → Type 0) (d : GalDigest) : Type 0 where
-  pub w1 : IsSeen (HasValue word1_of members) d.w1
-  pub w2 : IsSeen (HasValue word2_of members) d.w2
-  pub w3 : IsSeen (HasValue word3_of members) d.w3
-  pub w4 : IsSeen (HasValue word4_of members) d.w4
+  pub w1 : IsSeen (HasValue Word1 members) d.w1
+  pub w2 : IsSeen (HasValue Word2 members) d.w2
+  pub w3 : IsSeen (HasValue Word3 members) d.w3
+  pub w4 : IsSeen (HasValue Word4 members) d.w4
 
 -- what the members of a key come to, in the key's form
 abbrev pub IsDigest : Key → (Part → Type 0) → Digest → Type 0
 IsDigest (Gps sat issue) members (GpsForm d) = IsGpsDigest members d
 IsDigest (Gal sat issue) members (GalForm d) = IsGalDigest members d
-IsDigest (GpsIon content) members (IonForm s) = IsFirstBy (IsEarlier sending_numbers) (HasValue sending_of members) s
-IsDigest (GalIon content) members (IonForm s) = IsFirstBy (IsEarlier sending_numbers) (HasValue sending_of members) s
+IsDigest (GpsIon content) members (IonForm s) = IsFirstBy (IsEarlier sending_numbers) (HasValue IonSending members) s
+IsDigest (GalIon content) members (IonForm s) = IsFirstBy (IsEarlier sending_numbers) (HasValue IonSending members) s
 IsDigest key members digest = ⊥
 
 -- the health that counts, or that there is none up to the end and behind it

@@ -35,24 +35,25 @@ use Rattle.periods.specs.declared.digest.GalDigest.{GalDigest}
 use Rattle.periods.specs.declared.digest.Digest.{Digest}
 use Rattle.periods.specs.declared.digest.Digest.TheVariants.{Gps as GpsForm, Gal as GalForm, Ion as IonForm}
 use Rattle.nav_eph.specs.Items.{is_alike}
-use Rattle.periods.specs.Parts.{key_of, clock_of, orbit_a_of, orbit_b_of, word1_of, word2_of, word3_of, word4_of, side_of, fit_of, sent_tag_of, toe_tag_of, sending_of, side_numbers, fit_numbers, tag_numbers, sending_numbers, health_of, health_numbers}
+use Rattle.periods.specs.Parts.{key_of, Clock, OrbitA, OrbitB, Word1, Word2, Word3, Word4, Side, FitFlag, SendingTag, ToeTag, IonSending, HealthOf, side_numbers, fit_numbers, tag_numbers, sending_numbers, health_numbers}
+use Rattle.periods.specs.Readings.{reading}
 use Rattle.periods.specs.Items.{gps_moment, gal_moment, toe_week_of, sent_second, gps_ion_moment, gal_ion_moment}
 use Rattle.periods.specs.Mirrors.{earlier, later, best_among, best_join, or_else, seen_of, seen_join, seen_differs, seen_only, up_to_end, behind_end}
 
 -- the digest of one part
 abbrev pub gps_digest : Part → GpsDigest
 gps_digest p = record {
-  clock = seen_of (clock_of p);
-  a = seen_of (orbit_a_of p);
-  b = seen_of (orbit_b_of p);
-  side = side_of p;
-  fit = fit_of p;
-  sent = sent_tag_of p;
-  toe = toe_tag_of p;
+  clock = seen_of (reading Clock p);
+  a = seen_of (reading OrbitA p);
+  b = seen_of (reading OrbitB p);
+  side = reading Side p;
+  fit = reading FitFlag p;
+  sent = reading SendingTag p;
+  toe = reading ToeTag p;
 }
 
 abbrev pub gal_digest : Part → GalDigest
-gal_digest p = record { w1 = seen_of (word1_of p); w2 = seen_of (word2_of p); w3 = seen_of (word3_of p); w4 = seen_of (word4_of p) }
+gal_digest p = record { w1 = seen_of (reading Word1 p); w2 = seen_of (reading Word2 p); w3 = seen_of (reading Word3 p); w4 = seen_of (reading Word4 p) }
 
 abbrev pub ion_digest : Option Sending → Option Digest
 ion_digest None = None
@@ -62,8 +63,8 @@ abbrev pub digest_for : Option Key → Part → Option Digest
 digest_for None p = None
 digest_for (Some (Gps sat issue)) p = Some (GpsForm (gps_digest p))
 digest_for (Some (Gal sat issue)) p = Some (GalForm (gal_digest p))
-digest_for (Some (GpsIon content)) p = ion_digest (sending_of p)
-digest_for (Some (GalIon content)) p = ion_digest (sending_of p)
+digest_for (Some (GpsIon content)) p = ion_digest (reading IonSending p)
+digest_for (Some (GalIon content)) p = ion_digest (reading IonSending p)
 
 abbrev pub digest_of : Part → Option Digest
 digest_of p = digest_for (key_of p) p
@@ -111,12 +112,12 @@ gal_item r satellite x y z u h = Misses
 -- what a digest and the health near the end come to
 abbrev pub gps_finding : ℕ → Satellite → GpsDigest → Finding
 gps_finding r satellite d =
-    if (seen_differs d.clock || seen_differs d.a) || seen_differs d.b then Differs
+    if seen_differs d.clock || (seen_differs d.a || seen_differs d.b) then Differs
     else gps_item r satellite (seen_only d.clock) (seen_only d.a) (seen_only d.b) d.side d.fit (or_else d.sent d.toe)
 
 abbrev pub gal_finding : ℕ → Satellite → GalDigest → Option (ℕ × GalHealth × SentTag) → Finding
 gal_finding r satellite d health =
-    if ((seen_differs d.w1 || seen_differs d.w2) || seen_differs d.w3) || seen_differs d.w4 then Differs
+    if seen_differs d.w1 || (seen_differs d.w2 || (seen_differs d.w3 || seen_differs d.w4)) then Differs
     else gal_item r satellite (seen_only d.w1) (seen_only d.w2) (seen_only d.w3) (seen_only d.w4) health
 
 abbrev pub digest_finding : ℕ → Key → Digest → Option (ℕ × GalHealth × SentTag) → Finding
@@ -154,8 +155,8 @@ verdict_of before (Complete item) = verdict_on_item before item
 -- the satellite's health near an end
 abbrev pub satellite_health : ℕ → List Part → Satellite → ℕ → Option (ℕ × GalHealth × SentTag)
 satellite_health window parts satellite e =
-    or_else (best_among (health_of satellite) (up_to_end window e) (later health_numbers) parts None)
-    (best_among (health_of satellite) (behind_end window e) (earlier health_numbers) parts None)
+    or_else (best_among (reading (HealthOf satellite)) (up_to_end window e) (later health_numbers) parts None)
+    (best_among (reading (HealthOf satellite)) (behind_end window e) (earlier health_numbers) parts None)
 
 -- the health that counts for a period
 abbrev pub health_at : ℕ → List Part → Key → ℕ → Option (ℕ × GalHealth × SentTag)

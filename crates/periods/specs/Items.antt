@@ -15,8 +15,8 @@ use Rattle.nav_eph.specs.declared.items.GalEph.{GalEph}
 use Rattle.nav_eph.specs.declared.items.IonEph.{IonEph}
 use Rattle.nav_eph.specs.declared.part.Part.{Part}
 use Rattle.periods.specs.declared.key.Sending.{Sending}
-use Rattle.periods.specs.Values.{HasValue, IsOnly, IsFirstBy, IsFirstOrElse, IsEarlier, IsLater}
-use Rattle.periods.specs.Parts.{clock_of, orbit_a_of, orbit_b_of, word1_of, word2_of, word3_of, word4_of, side_of, fit_of, sent_tag_of, toe_tag_of, sending_of, side_numbers, fit_numbers, tag_numbers, health_numbers, sending_numbers}
+use Rattle.periods.specs.Values.{IsOnly, IsFirstBy, IsFirstOrElse, IsEarlier, IsLater}
+use Rattle.periods.specs.Parts.{HasValue, Clock, OrbitA, OrbitB, Word1, Word2, Word3, Word4, Side, FitFlag, SendingTag, ToeTag, IonSending, side_numbers, fit_numbers, tag_numbers, health_numbers, sending_numbers}
 
 -- the second of the week that a tag names
 abbrev pub tag_second : SentTag → ℕ
@@ -46,19 +46,19 @@ IsHealth before behind health = IsFirstOrElse (IsLater health_numbers) (IsEarlie
 
 -- the tag of GPS: the earliest that names the moment of sending or, where there is none, the earliest that names a toe
 abbrev pub IsGpsTag : (Part → Type 0) → ℕ × SentTag → Type 0
-IsGpsTag members tag = IsFirstOrElse (IsEarlier tag_numbers) (IsEarlier tag_numbers) (HasValue sent_tag_of members) (HasValue toe_tag_of members) tag
+IsGpsTag members tag = IsFirstOrElse (IsEarlier tag_numbers) (IsEarlier tag_numbers) (HasValue SendingTag members) (HasValue ToeTag members) tag
 
 -- an ephemeris of GPS: the contents of the members, the side and the fit flag that came last, and the week of toe and the second of
 -- sending by the tag
 pub record IsGpsItemOf (r : ℕ) (satellite : Satellite) (members : Part → Type 0) (e : GpsEph) : Type 0 where
   pub sat : e.sat ≡ satellite
-  pub clock : IsOnly (HasValue clock_of members) e.clock
-  pub a : IsOnly (HasValue orbit_a_of members) e.a
-  pub b : IsOnly (HasValue orbit_b_of members) e.b
+  pub clock : IsOnly (HasValue Clock members) e.clock
+  pub a : IsOnly (HasValue OrbitA members) e.a
+  pub b : IsOnly (HasValue OrbitB members) e.b
   pub side_stamp : ℕ
-  pub side : IsFirstBy (IsLater side_numbers) (HasValue side_of members) (side_stamp, e.side)
+  pub side : IsFirstBy (IsLater side_numbers) (HasValue Side members) (side_stamp, e.side)
   pub fit_stamp : ℕ
-  pub fit : IsFirstBy (IsLater fit_numbers) (HasValue fit_of members) (fit_stamp, e.fit)
+  pub fit : IsFirstBy (IsLater fit_numbers) (HasValue FitFlag members) (fit_stamp, e.fit)
   pub tag : ℕ × SentTag
   pub tag_is : IsGpsTag members tag
   pub toe_week : e.toe_week ≡ toe_week_of (gps_moment r tag.1) (16 * e.a.toe)
@@ -67,10 +67,10 @@ pub record IsGpsItemOf (r : ℕ) (satellite : Satellite) (members : Part → Typ
 -- an ephemeris of Galileo: the contents of the members, and health, week of toe and second of sending by the health part
 pub record IsGalItemOf (r : ℕ) (satellite : Satellite) (members : Part → Type 0) (before behind : ℕ × GalHealth × SentTag → Type 0) (e : GalEph) : Type 0 where
   pub sat : e.sat ≡ satellite
-  pub w1 : IsOnly (HasValue word1_of members) e.w1
-  pub w2 : IsOnly (HasValue word2_of members) e.w2
-  pub w3 : IsOnly (HasValue word3_of members) e.w3
-  pub w4 : IsOnly (HasValue word4_of members) e.w4
+  pub w1 : IsOnly (HasValue Word1 members) e.w1
+  pub w2 : IsOnly (HasValue Word2 members) e.w2
+  pub w3 : IsOnly (HasValue Word3 members) e.w3
+  pub w4 : IsOnly (HasValue Word4 members) e.w4
   pub heard : ℕ × GalHealth × SentTag
   pub heard_is : IsHealth before behind heard
   pub health : e.health ≡ heard.1
@@ -89,6 +89,6 @@ gal_ion_moment r s = 604800 * galileo_week_to r s.wn + s.second
 pub record IsIonItemOf (moment_of : Sending → ℕ) (said : IonContent) (members : Part → Type 0) (e : IonEph) : Type 0 where
   pub content : e.content ≡ said
   pub sending : Sending
-  pub first : IsFirstBy (IsEarlier sending_numbers) (HasValue sending_of members) sending
+  pub first : IsFirstBy (IsEarlier sending_numbers) (HasValue IonSending members) sending
   pub sat : e.sat ≡ sending.sat
   pub moment : e.moment ≡ moment_of sending

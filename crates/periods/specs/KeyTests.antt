@@ -5,7 +5,8 @@ use Rattle.nav_eph.specs.contracts.ion.GpsIonPartialEq.TheImpl.{eq-value as gps_
 use Rattle.nav_eph.specs.contracts.ion.GalIonPartialEq.TheImpl.{eq-value as gal_ion_eq}
 use Rattle.periods.specs.declared.key.Key.{Key}
 use Rattle.periods.specs.declared.key.Key.TheVariants.{Gps, Gal, GpsIon, GalIon}
-use Rattle.periods.specs.Parts.{key_of, same_sat}
+use Rattle.periods.specs.Parts.{key_of}
+use Rattle.periods.specs.Readings.{same_sat}
 
 -- the two keys are one
 abbrev pub same_key : Key → Key → Bool

@@ -2,6 +2,7 @@ pub mod Ends
 pub mod Joining
 pub mod Values
 pub mod Parts
+pub mod Readings
 pub mod Periods
 pub mod Items
 pub mod Verdicts

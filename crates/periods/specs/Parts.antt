@@ -1,5 +1,5 @@
 -- What parts are parts of: keys, contents, and what stands beside the contents.
-use Rattle.std.specs.Prelude.{ℕ, ◌%◌, List, [], ◌∷◌, Option, None, Some, Bool, if◌then◌else◌, ◌==◌, ◌&&◌}
+use Rattle.std.specs.Prelude.{◌≡◌, ℕ, ◌%◌, ◌⊎◌, List, [], ◌∷◌, Option, None, Some}
 use Rattle.nav_eph.specs.Satellite.{Satellite, place_of}
 use Rattle.nav_eph.specs.Numbers.{side_number, tag_number, health_number, gal_sending}
 use Rattle.nav_eph.specs.declared.gps.GpsClock.{GpsClock}
@@ -11,6 +11,8 @@ use Rattle.nav_eph.specs.declared.galileo.GalWord2.{GalWord2}
 use Rattle.nav_eph.specs.declared.galileo.GalWord3.{GalWord3}
 use Rattle.nav_eph.specs.declared.galileo.GalWord4.{GalWord4}
 use Rattle.nav_eph.specs.declared.galileo.GalHealth.{GalHealth}
+use Rattle.nav_eph.specs.declared.ion.GpsIon.{GpsIon as GpsIonosphere}
+use Rattle.nav_eph.specs.declared.ion.GalIon.{GalIon as GalIonosphere}
 use Rattle.nav_eph.specs.declared.tag.SentTag.{SentTag}
 use Rattle.nav_eph.specs.declared.tag.SentTag.TheVariants.{Sent, Toe}
 use Rattle.nav_eph.specs.declared.part.Part.{Part}
@@ -38,115 +40,74 @@ key_in sat (OfGalIon ionosphere wn second) = Some (GalIon ionosphere)
 abbrev pub key_of : Part → Option Key
 key_of p = key_in p.sat p.body
 
--- the contents of each kind of part
-abbrev pub clock_in : Body → Option GpsClock
-clock_in (OfClock clock side tag) = Some clock
-clock_in _ = None
+-- the kinds of values that parts say: the contents, and what stands beside these
+pub data Kind : Type 0 where
+  Clock : Kind
+  OrbitA : Kind
+  OrbitB : Kind
+  Word1 : Kind
+  Word2 : Kind
+  Word3 : Kind
+  Word4 : Kind
+  Side : Kind
+  FitFlag : Kind
+  SendingTag : Kind
+  ToeTag : Kind
+  IonSending : Kind
+  HealthOf : Satellite → Kind
 
-abbrev pub orbit_a_in : Body → Option GpsOrbitA
-orbit_a_in (OfOrbitA orbit fit) = Some orbit
-orbit_a_in _ = None
+-- the values of a kind; with what stands beside a content goes the stamp of its part
+abbrev pub Value : Kind → Type 0
+Value Clock = GpsClock
+Value OrbitA = GpsOrbitA
+Value OrbitB = GpsOrbitB
+Value Word1 = GalWord1
+Value Word2 = GalWord2
+Value Word3 = GalWord3
+Value Word4 = GalWord4
+Value Side = ℕ × GpsSide
+Value FitFlag = ℕ × ℕ
+Value SendingTag = ℕ × SentTag
+Value ToeTag = ℕ × SentTag
+Value IonSending = Sending
+Value (HealthOf sat) = ℕ × GalHealth × SentTag
 
-abbrev pub orbit_b_in : Body → Option GpsOrbitB
-orbit_b_in (OfOrbitB orbit) = Some orbit
-orbit_b_in _ = None
+-- The part says the value. A tag of GPS names the moment of sending or a toe; GPS names no week with an ionosphere, and 0 stands in its
+-- place; health is said of the part's own satellite.
+abbrev pub Says : (k : Kind) → Part → Value k → Type 0
+Says Clock p clock = (side : GpsSide) × (tag : SentTag) × (p.body ≡ OfClock clock side tag)
+Says OrbitA p orbit = (fit : ℕ) × (p.body ≡ OfOrbitA orbit fit)
+Says OrbitB p orbit = p.body ≡ OfOrbitB orbit
+Says Word1 p word = p.body ≡ OfWord1 word
+Says Word2 p word = p.body ≡ OfWord2 word
+Says Word3 p word = p.body ≡ OfWord3 word
+Says Word4 p word = p.body ≡ OfWord4 word
+Says Side p v = (clock : GpsClock) × (tag : SentTag) × (p.body ≡ OfClock clock v.1 tag) × (p.stamp ≡ v.0)
+Says FitFlag p v = (orbit : GpsOrbitA) × (p.body ≡ OfOrbitA orbit v.1) × (p.stamp ≡ v.0)
+Says SendingTag p v = (clock : GpsClock) × (side : GpsSide) × (wn : ℕ) × (second : ℕ) × (p.body ≡ OfClock clock side (Sent wn second)) × (v ≡ (p.stamp, Sent wn second))
+Says ToeTag p v = (clock : GpsClock) × (side : GpsSide) × (wn : ℕ) × (second : ℕ) × (p.body ≡ OfClock clock side (Toe wn second)) × (v ≡ (p.stamp, Toe wn second))
+Says IonSending p s = (p.stamp ≡ s.stamp) × (p.sat ≡ s.sat)
+    × (((ion : GpsIonosphere) × (p.body ≡ OfGpsIon ion s.second) × (s.wn ≡ 0)) ⊎ ((ion : GalIonosphere) × (p.body ≡ OfGalIon ion s.wn s.second)))
+Says (HealthOf sat) p v = (p.sat ≡ sat) × (p.body ≡ OfHealth v.1 v.2) × (p.stamp ≡ v.0)
 
-abbrev pub word1_in : Body → Option GalWord1
-word1_in (OfWord1 word) = Some word
-word1_in _ = None
+-- some part of a set says the value
+pub record HasValue (k : Kind) (set : Part → Type 0) (v : Value k) : Type 0 where
+  pub part : Part
+  pub here : set part
+  pub says : Says k part v
 
-abbrev pub word2_in : Body → Option GalWord2
-word2_in (OfWord2 word) = Some word
-word2_in _ = None
+-- the kinds of contents that an item of the key is made of; an ionosphere's content is its key
+abbrev pub kinds_of : Key → List Kind
+kinds_of (Gps sat issue) = Clock ∷ OrbitA ∷ OrbitB ∷ []
+kinds_of (Gal sat issue) = Word1 ∷ Word2 ∷ Word3 ∷ Word4 ∷ []
+kinds_of (GpsIon content) = []
+kinds_of (GalIon content) = []
 
-abbrev pub word3_in : Body → Option GalWord3
-word3_in (OfWord3 word) = Some word
-word3_in _ = None
-
-abbrev pub word4_in : Body → Option GalWord4
-word4_in (OfWord4 word) = Some word
-word4_in _ = None
-
-abbrev pub clock_of : Part → Option GpsClock
-clock_of p = clock_in p.body
-
-abbrev pub orbit_a_of : Part → Option GpsOrbitA
-orbit_a_of p = orbit_a_in p.body
-
-abbrev pub orbit_b_of : Part → Option GpsOrbitB
-orbit_b_of p = orbit_b_in p.body
-
-abbrev pub word1_of : Part → Option GalWord1
-word1_of p = word1_in p.body
-
-abbrev pub word2_of : Part → Option GalWord2
-word2_of p = word2_in p.body
-
-abbrev pub word3_of : Part → Option GalWord3
-word3_of p = word3_in p.body
-
-abbrev pub word4_of : Part → Option GalWord4
-word4_of p = word4_in p.body
-
--- what stands beside a clock, with the stamp of its part
-abbrev pub side_in : ℕ → Body → Option (ℕ × GpsSide)
-side_in stamp (OfClock clock side tag) = Some (stamp, side)
-side_in stamp _ = None
-
--- the fit interval flag, which stands beside the first half of an orbit
-abbrev pub fit_in : ℕ → Body → Option (ℕ × ℕ)
-fit_in stamp (OfOrbitA orbit fit) = Some (stamp, fit)
-fit_in stamp _ = None
-
--- a tag, where it names the moment of sending, and where it names a toe
-abbrev pub sent_in : ℕ → SentTag → Option (ℕ × SentTag)
-sent_in stamp (Sent wn second) = Some (stamp, Sent wn second)
-sent_in stamp (Toe wn second) = None
-
-abbrev pub toe_in : ℕ → SentTag → Option (ℕ × SentTag)
-toe_in stamp (Sent wn second) = None
-toe_in stamp (Toe wn second) = Some (stamp, Toe wn second)
-
-abbrev pub sent_tag_in : ℕ → Body → Option (ℕ × SentTag)
-sent_tag_in stamp (OfClock clock side tag) = sent_in stamp tag
-sent_tag_in stamp _ = None
-
-abbrev pub toe_tag_in : ℕ → Body → Option (ℕ × SentTag)
-toe_tag_in stamp (OfClock clock side tag) = toe_in stamp tag
-toe_tag_in stamp _ = None
-
--- who sent an ionosphere and when; GPS names no week, and 0 stands in its place
-abbrev pub sending_in : ℕ → Satellite → Body → Option Sending
-sending_in stamp sat (OfGpsIon ionosphere second) = Some (record { stamp = stamp; sat = sat; wn = 0; second = second })
-sending_in stamp sat (OfGalIon ionosphere wn second) = Some (record { stamp = stamp; sat = sat; wn = wn; second = second })
-sending_in stamp sat _ = None
-
-abbrev pub side_of : Part → Option (ℕ × GpsSide)
-side_of p = side_in p.stamp p.body
-
-abbrev pub fit_of : Part → Option (ℕ × ℕ)
-fit_of p = fit_in p.stamp p.body
-
-abbrev pub sent_tag_of : Part → Option (ℕ × SentTag)
-sent_tag_of p = sent_tag_in p.stamp p.body
-
-abbrev pub toe_tag_of : Part → Option (ℕ × SentTag)
-toe_tag_of p = toe_tag_in p.stamp p.body
-
-abbrev pub sending_of : Part → Option Sending
-sending_of p = sending_in p.stamp p.sat p.body
-
--- the two are one satellite
-abbrev pub same_sat : Satellite → Satellite → Bool
-same_sat s t = (place_of s.system == place_of t.system) && (s.number == t.number)
-
--- the health that a part says of a satellite, with the stamp
-abbrev pub health_in : ℕ → Body → Option (ℕ × GalHealth × SentTag)
-health_in stamp (OfHealth health tag) = Some (stamp, health, tag)
-health_in stamp _ = None
-
-abbrev pub health_of : Satellite → Part → Option (ℕ × GalHealth × SentTag)
-health_of sat p = if same_sat p.sat sat then health_in p.stamp p.body else None
+-- it holds of one of the kinds
+abbrev pub AnyOf : (Kind → Type 0) → List Kind → Type 0
+AnyOf P [] = ⊥
+AnyOf P (k ∷ []) = P k
+AnyOf P (k ∷ l ∷ ks) = P k ⊎ AnyOf P (l ∷ ks)
 
 -- the numbers by which these are compared: the stamp, and then the number that the binary digits give
 abbrev pub side_numbers : ℕ × GpsSide → List ℕ

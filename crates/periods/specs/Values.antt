@@ -1,12 +1,6 @@
 -- Values that some of a set have: the only one, and the first in an order.
 use Rattle.std.specs.Prelude.{◌≡◌, ◌≢◌, ℕ, ◌<◌, ◌⊎◌, List, [], ◌∷◌, Option, None, Some}
 
--- the reading gives the value for some element of the set
-pub record HasValue {P X : Type 0} (read : P → Option X) (set : P → Type 0) (v : X) : Type 0 where
-  pub element : P
-  pub here : set element
-  pub is : read element ≡ Some v
-
 -- the set has no value
 abbrev pub IsEmpty : {X : Type 0} → (X → Type 0) → Type 0
 IsEmpty {X} values = (v : X) → values v → ⊥

@@ -1,7 +1,6 @@
 -- What a period comes to by itself, and what is said of it.
 use Rattle.std.specs.Prelude.{◌≡◌, ℕ, ◌+◌, ◌<◌, ◌≤◌, ◌⊎◌}
 use Rattle.nav_eph.specs.Items.{IsAlike}
-use Rattle.nav_eph.specs.Satellite.{Satellite}
 use Rattle.nav_eph.specs.declared.galileo.GalHealth.{GalHealth}
 use Rattle.nav_eph.specs.declared.tag.SentTag.{SentTag}
 use Rattle.nav_eph.specs.declared.ion.IonContent.TheVariants.{Gps as OfGps, Gal as OfGal}
@@ -16,24 +15,18 @@ use Rattle.periods.specs.declared.closed.Finding.TheVariants.{Differs, Misses, L
 use Rattle.periods.specs.declared.closed.Verdict.{Verdict}
 use Rattle.periods.specs.declared.closed.Verdict.TheVariants.{Whole, Partial, Contradicted, NoHealth, Again}
 use Rattle.periods.specs.declared.closed.Closed.{Closed}
-use Rattle.periods.specs.Values.{HasValue, IsEmpty, Differ}
-use Rattle.periods.specs.Parts.{clock_of, orbit_a_of, orbit_b_of, word1_of, word2_of, word3_of, word4_of, health_of}
+use Rattle.periods.specs.Values.{IsEmpty, Differ}
+use Rattle.periods.specs.Parts.{HealthOf, HasValue, kinds_of, AnyOf}
 use Rattle.periods.specs.Periods.{IsPeriod, IsMember}
 use Rattle.periods.specs.Items.{IsGpsItemOf, IsGalItemOf, IsIonItemOf, gps_ion_moment, gal_ion_moment}
 
--- two members of one kind differ in content; an ionosphere's content is its key
+-- two members of one kind differ in content
 abbrev pub IsContradicted : Key → (Part → Type 0) → Type 0
-IsContradicted (Gps sat issue) members = Differ (HasValue clock_of members) ⊎ (Differ (HasValue orbit_a_of members) ⊎ Differ (HasValue orbit_b_of members))
-IsContradicted (Gal sat issue) members = Differ (HasValue word1_of members) ⊎ (Differ (HasValue word2_of members) ⊎ (Differ (HasValue word3_of members) ⊎ Differ (HasValue word4_of members)))
-IsContradicted (GpsIon content) members = ⊥
-IsContradicted (GalIon content) members = ⊥
+IsContradicted key members = AnyOf (λ k. Differ (HasValue k members)) (kinds_of key)
 
 -- a kind has no member: of GPS the clock or a half of the orbit, of Galileo one of the four words
 abbrev pub IsPartial : Key → (Part → Type 0) → Type 0
-IsPartial (Gps sat issue) members = IsEmpty (HasValue clock_of members) ⊎ (IsEmpty (HasValue orbit_a_of members) ⊎ IsEmpty (HasValue orbit_b_of members))
-IsPartial (Gal sat issue) members = IsEmpty (HasValue word1_of members) ⊎ (IsEmpty (HasValue word2_of members) ⊎ (IsEmpty (HasValue word3_of members) ⊎ IsEmpty (HasValue word4_of members)))
-IsPartial (GpsIon content) members = ⊥
-IsPartial (GalIon content) members = ⊥
+IsPartial key members = AnyOf (λ k. IsEmpty (HasValue k members)) (kinds_of key)
 
 -- a key of Galileo ephemerides has no health of its satellite
 abbrev pub IsWithoutHealth : Key → (ℕ × GalHealth × SentTag → Type 0) → (ℕ × GalHealth × SentTag → Type 0) → Type 0
@@ -57,35 +50,27 @@ IsFoundIn r key members before behind Misses = (IsContradicted key members → �
 IsFoundIn r key members before behind LacksHealth = (IsContradicted key members → ⊥) × (IsPartial key members → ⊥) × IsWithoutHealth key before behind
 IsFoundIn r key members before behind (Complete item) = IsItemOf r key members before behind item
 
--- the satellite's health was heard up to the end, within the window before it
-pub record IsUpToEnd (window : ℕ) (parts : Part → Type 0) (satellite : Satellite) (e : ℕ) (h : ℕ × GalHealth × SentTag) : Type 0 where
-  pub heard : HasValue (health_of satellite) parts h
+-- a part says this health of the satellite of a key of Galileo ephemerides
+abbrev pub HasHealth : Key → (Part → Type 0) → ℕ × GalHealth × SentTag → Type 0
+HasHealth (Gal sat issue) parts h = HasValue (HealthOf sat) parts h
+HasHealth key parts h = ⊥
+
+-- health that counts for a key was heard up to the end, within the window before it
+pub record IsUpToEnd (window : ℕ) (parts : Part → Type 0) (key : Key) (e : ℕ) (h : ℕ × GalHealth × SentTag) : Type 0 where
+  pub heard : HasHealth key parts h
   pub by_end : h.0 ≤ e
   pub near : e ≤ h.0 + window
 
--- the satellite's health was heard behind the end, within the window
-pub record IsBehindEnd (window : ℕ) (parts : Part → Type 0) (satellite : Satellite) (e : ℕ) (h : ℕ × GalHealth × SentTag) : Type 0 where
-  pub heard : HasValue (health_of satellite) parts h
+-- health that counts for a key was heard behind the end, within the window
+pub record IsBehindEnd (window : ℕ) (parts : Part → Type 0) (key : Key) (e : ℕ) (h : ℕ × GalHealth × SentTag) : Type 0 where
+  pub heard : HasHealth key parts h
   pub behind : e < h.0
   pub near : h.0 ≤ e + window
-
--- the health that counts for a period, up to its end and behind it: that of a Galileo key's satellite
-abbrev pub IsHealthBefore : ℕ → (Part → Type 0) → Key → ℕ → ℕ × GalHealth × SentTag → Type 0
-IsHealthBefore window parts (Gal sat issue) e = IsUpToEnd window parts sat e
-IsHealthBefore window parts (Gps sat issue) e = λ h. ⊥
-IsHealthBefore window parts (GpsIon content) e = λ h. ⊥
-IsHealthBefore window parts (GalIon content) e = λ h. ⊥
-
-abbrev pub IsHealthBehind : ℕ → (Part → Type 0) → Key → ℕ → ℕ × GalHealth × SentTag → Type 0
-IsHealthBehind window parts (Gal sat issue) e = IsBehindEnd window parts sat e
-IsHealthBehind window parts (Gps sat issue) e = λ h. ⊥
-IsHealthBehind window parts (GpsIon content) e = λ h. ⊥
-IsHealthBehind window parts (GalIon content) e = λ h. ⊥
 
 -- what a period comes to by itself
 abbrev pub IsFound : ℕ → ℕ → (Part → Type 0) → Place → Finding → Type 0
 IsFound r window parts place finding =
-    IsFoundIn r place.key (IsMember window parts place) (IsHealthBefore window parts place.key place.end) (IsHealthBehind window parts place.key place.end) finding
+    IsFoundIn r place.key (IsMember window parts place) (IsUpToEnd window parts place.key place.end) (IsBehindEnd window parts place.key place.end) finding
 
 -- the key is that of an ephemeris, and not that of an ionosphere
 abbrev pub IsOfEphemeris : Key → Type 0
@@ -113,7 +98,7 @@ pub record Repeats (r window : ℕ) (parts : Part → Type 0) (place : Place) (i
   pub is_before : IsLastBefore r window parts place.key place.end before
   pub alike : IsAlike before item
 
--- what is said of what was found, where some items say again what was said before
+-- the verdict on what was found, where some items may repeat those before
 abbrev pub IsJudged : (NavItem → Type 0) → Finding → Verdict → Type 0
 IsJudged repeats Differs verdict = verdict ≡ Contradicted
 IsJudged repeats Misses verdict = verdict ≡ Partial

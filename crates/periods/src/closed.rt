@@ -17,7 +17,7 @@ pub enum Finding {
 /// What is said of a period.
 #[derive(Clone, Copy, PartialEq, Eq)]
 pub enum Verdict {
-    /// All of its parts were heard and agree, and they bring something new; this is its item.
+    /// All of its parts were heard and agree, and make a new item, which this is.
     Whole(NavItem),
     /// A kind of part was not heard.
     Partial,
@@ -25,8 +25,8 @@ pub enum Verdict {
     Contradicted,
     /// No health of the Galileo satellite was heard within the window of the end.
     NoHealth,
-    /// All of its parts were heard and agree, and in all but the second of sending they say again
-    /// what the last complete period of the same ephemeris said.
+    /// All of its parts were heard and agree, and in all but the transmission time they repeat
+    /// the last complete period of the same ephemeris.
     Again,
 }
 

@@ -195,7 +195,7 @@ fn complete_gal(
 fn find_gps(r: RefWeek, sat: Sat, d: GpsDigest) -> Finding
     ensures { result ≡ gps_finding r sat d }
 {
-    if d.clock.differs() || d.a.differs() || d.b.differs() {
+    if d.clock.differs() || (d.a.differs() || d.b.differs()) {
         return Finding::Differs;
     }
     let tag = either(d.sent, d.toe);
@@ -216,7 +216,7 @@ fn find_gal(
 ) -> Finding
     ensures { result ≡ gal_finding r sat d health }
 {
-    if d.w1.differs() || d.w2.differs() || d.w3.differs() || d.w4.differs() {
+    if d.w1.differs() || (d.w2.differs() || (d.w3.differs() || d.w4.differs())) {
         return Finding::Differs;
     }
     match (d.w1.only(), d.w2.only(), d.w3.only(), d.w4.only(), health) {

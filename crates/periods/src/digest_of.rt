@@ -1,5 +1,5 @@
 ghost use Rattle.std.specs.Prelude.{◌≡◌};
-ghost use Rattle.periods.specs.Parts.{sent_in, toe_in};
+ghost use Rattle.periods.specs.Readings.{sent_in, toe_in};
 ghost use Rattle.periods.specs.DigestsOf.{digest_of};
 
 use crate::digest::{Digest, GalDigest, GpsDigest, Seen};

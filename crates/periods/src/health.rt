@@ -1,5 +1,6 @@
 ghost use Rattle.std.specs.Prelude.{◌≡◌, None};
-ghost use Rattle.periods.specs.Parts.{health_numbers, health_of};
+ghost use Rattle.periods.specs.Parts.{HealthOf, health_numbers};
+ghost use Rattle.periods.specs.Readings.{reading};
 ghost use Rattle.periods.specs.DigestsOf.{health_at};
 ghost use Rattle.periods.specs.Mirrors.{behind_end, best_among, best_with, earlier};
 ghost use Rattle.periods.specs.DigestsOf.{satellite_health};
@@ -11,13 +12,16 @@ use nav_eph::{Body, GalHealth, Part, Sat, SentTag};
 
 // The health that a part says of a satellite, with its stamp.
 fn read_health(part: &Part, sat: Sat) -> Option<(u32, GalHealth, SentTag)>
-    ensures { result ≡ health_of sat part.now }
+    ensures { result ≡ reading (HealthOf sat) part.now }
 {
-    if !is_same_sat(&part.sat, &sat) {
-        return None;
-    }
     match part.body {
-        Body::GalHealth(health, tag) => Some((part.stamp, health, tag)),
+        Body::GalHealth(health, tag) => {
+            if is_same_sat(&part.sat, &sat) {
+                Some((part.stamp, health, tag))
+            } else {
+                None
+            }
+        }
         _ => None,
     }
 }
@@ -98,7 +102,7 @@ fn first_with(
 // The satellite's last health up to the end, within the window.
 fn last_up_to(parts: &[Part], window: u32, sat: Sat, end: u32) -> Option<(u32, GalHealth, SentTag)>
     ensures { result
-        ≡ best_among (health_of sat) (up_to_end window end)
+        ≡ best_among (reading (HealthOf sat)) (up_to_end window end)
         (later health_numbers) parts.now None }
 {
     let mut best: Option<(u32, GalHealth, SentTag)> = None;
@@ -115,7 +119,7 @@ pub(crate) fn first_behind(
     sat: Sat,
     end: u32,
 ) -> Option<(u32, GalHealth, SentTag)>
-    ensures { result ≡ best_among (health_of sat) (behind_end window end)
+    ensures { result ≡ best_among (reading (HealthOf sat)) (behind_end window end)
         (earlier health_numbers) parts.now None }
 {
     let mut best: Option<(u32, GalHealth, SentTag)> = None;

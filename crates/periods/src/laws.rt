@@ -5,7 +5,7 @@ ghost use Rattle.std.specs.Prelude.{◌∷◌, ◌++◌, ◌↔◌, ◌⊎◌, �
 ghost use Rattle.std.specs.Prelude.{Option, Some, true, All, Contains};
 ghost use Rattle.gnss_week.specs.Weeks.{IsReference};
 ghost use Rattle.nav_eph.specs.Conditions.{IsPart};
-ghost use Rattle.nav_eph.specs.Ranges.{HasRanges, IsItem};
+ghost use Rattle.nav_eph.specs.Ranges.{IsItem};
 ghost use Rattle.nav_eph.specs.declared.items.NavItem.{NavItem};
 ghost use Rattle.nav_eph.specs.declared.part.Part.{Part};
 ghost use Rattle.periods.specs.declared.key.Key.{Key};
@@ -14,7 +14,7 @@ ghost use Rattle.periods.specs.declared.closed.Closed.{Closed};
 ghost use Rattle.periods.specs.declared.closed.Verdict.TheVariants.{Whole, Again};
 ghost use Rattle.periods.specs.declared.closed.Finding.{Finding};
 ghost use Rattle.periods.specs.Verdicts.{IsClosed, IsFound, IsOfEphemeris};
-ghost use Rattle.nav_eph.specs.Values.{IsPartValue};
+ghost use Rattle.nav_eph.specs.Values.{HasPartRanges, IsPartValue};
 ghost use Rattle.periods.specs.Parts.{key_of};
 ghost use Rattle.periods.specs.Periods.{IsMember, IsPeriod};
 ghost use Rattle.periods.specs.declared.digest.Digest.{Digest};
@@ -39,7 +39,7 @@ pub fn periods_are()
         → xs ≡ closed_of r window mark parts }
 {}
 
-/// Order and repetition of the parts are nothing.
+/// Order and repetition of the parts do not matter.
 pub fn order_is_nothing()
     ensures { (r window : ℕ) (some other : List Part) → All IsPartValue some
         → ((p : Part) → Contains some p ↔ Contains other p)
@@ -78,7 +78,7 @@ pub fn one_more_part()
 
 /// Parts that lie more than a window before others change none of their periods, nor the others
 /// theirs: the periods of both together are those of either, and each comes to the same by itself.
-/// What is said of one may differ, since it may say again what an earlier one said.
+/// The verdict of one may differ, since it may repeat an earlier one.
 pub fn parts_far_apart()
     ensures periods { (window mark : ℕ) (some more : List Part) (place : Place)
         → All (λ p. p.stamp + window < mark) some → All (λ p. mark ≤ p.stamp) more
@@ -119,7 +119,7 @@ pub fn keys_are_told()
         → (is_of key part ≡ true) ↔ (key_of part ≡ Some key) }
 {}
 
-/// Only an ephemeris is said again, and never an ionosphere.
+/// Only an ephemeris can repeat an earlier one, and never an ionosphere.
 pub fn only_ephemerides_are_said_again()
     ensures { (r window : ℕ) (parts : List Part) (c : Closed)
         → IsClosed r window (Contains parts) c → c.verdict ≡ Again → IsOfEphemeris c.key }
@@ -132,10 +132,10 @@ pub fn items_follow()
 {}
 
 /// The item of a period fits together, as the constructors of items demand, where each part is of a
-/// satellite that sends such: its ranges, the satellite's system, the issues of its halves or
-/// words, the second of sending, the week of an ionosphere.
+/// satellite that sends such and has its fields within their digits: its ranges, the satellite's
+/// system, the issues of its halves or words, the second of sending, the week of an ionosphere.
 pub fn items_fit_together()
     ensures { (r window : ℕ) (parts : List Part) (c : Closed) (item : NavItem) → IsReference r
-        → All IsPartValue parts → All (λ p. IsPart p.sat p.body) parts → HasRanges item
+        → All IsPartValue parts → All (λ p. IsPart p.sat p.body) parts → All HasPartRanges parts
         → IsClosed r window (Contains parts) c → c.verdict ≡ Whole item → IsItem item }
 {}

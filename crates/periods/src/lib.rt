@@ -8,11 +8,11 @@
 //! item; every other one is said to be partial, contradicted or, for Galileo, without health
 //! ([`Verdict`]). The ionosphere is its own issue: its content is its key.
 //!
-//! An ephemeris that is heard again after a longer silence, equal in all but the second of sending
-//! to what the last complete period of its key said, is said to be heard again.
+//! An ephemeris whose parts come again after a longer silence, equal in all but the transmission time
+//! to that of the last complete period of its key, has the verdict `Again`: it yields no further item.
 //!
 //! The definitions look at the set of the parts alone, and the list of the periods is a function of
-//! any list of them (`periods_of`); the laws say that order and repetition are nothing, and what
+//! any list of them (`periods_of`); the laws say that order and repetition do not matter, and what
 //! later parts leave as it is. The calls are what an assembly of parts is built from: what members
 //! come to ([`Digest`]), and the search of the verdict among parts that are kept ([`verdict_on`]).
 //!

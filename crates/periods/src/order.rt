@@ -1,6 +1,7 @@
 ghost use Rattle.std.specs.Prelude.{◌≡◌, ◌∷◌, [], ◌==◌, ◌&&◌};
 ghost use Rattle.nav_eph.specs.Satellite.{place_of};
-ghost use Rattle.periods.specs.Parts.{key_of, same_sat};
+ghost use Rattle.periods.specs.Parts.{key_of};
+ghost use Rattle.periods.specs.Readings.{same_sat};
 ghost use Rattle.periods.specs.Periods.{key_numbers};
 ghost use Rattle.periods.specs.KeyTests.{is_of, same_key};
 ghost use Rattle.periods.specs.PeriodsOf.{is_before, place_at, stamp_of};

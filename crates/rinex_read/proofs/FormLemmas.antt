@@ -3,9 +3,9 @@ use Rattle.std.proofs.Common.{◌≡◌, ℕ, zero, suc, ◌+◌, ◌<◌, ◌�
 use Rattle.std.proofs.lemmas.Bool.{cases_lt, lt-ltb, le-ltb}
 use Rattle.std.proofs.lemmas.List.{get_or-take}
 use Rattle.scaled_decimal.specs.NumberReading.{trim_start, trim_end}
-use Rattle.nav_io.specs.Lines.{line_of, pieces, without_cr}
+use Rattle.nav_io.specs.Lines.{line_of, lines_by, pieces, without_cr}
 use Rattle.rinex_read.specs.declared.judged.HeaderFault.TheVariants.{NotRinexNav, Version}
-use Rattle.rinex_read.specs.Lines.{stands_at, lines_of, text_of_line, told_lines}
+use Rattle.rinex_read.specs.Lines.{stands_at, ended_lines, lines_of, text_of_line, told_lines}
 use Rattle.rinex_read.specs.Kept.{padded, kept_with}
 use Rattle.rinex_read.specs.Forms.{Form, LooksAtKept, is_version, begins}
 use Rattle.rinex_read.specs.Files.{is_navigation, ends_header, header_passed, header_of, up_to_next, read_at, reads, reads_behind}
@@ -134,3 +134,7 @@ told_cut (p ∷ ps) = ap (λ t. cut (without_cr p) ∷ t) (told_cut ps)
 -- what is read of the lines that a reader of lines gives is what is read of the file
 pub file_told : (f : Form) → LooksAtKept f → (n : ℕ) (bytes : List ℕ) → reads_behind f (header_of f n (told_lines bytes)) ≡ reads_behind f (header_of f n (lines_of bytes))
 file_told f law n bytes = ap (λ ls. reads_behind f (header_of f n ls)) (told_cut (pieces false bytes)) ∙ header_cut f law n (lines_of bytes)
+
+-- the same of the lines that have ended
+pub ended_told : (f : Form) → LooksAtKept f → (n : ℕ) (bytes : List ℕ) → reads_behind f (header_of f n (map text_of_line (lines_by true bytes))) ≡ reads_behind f (header_of f n (ended_lines bytes))
+ended_told f law n bytes = ap (λ ls. reads_behind f (header_of f n ls)) (told_cut (pieces true bytes)) ∙ header_cut f law n (ended_lines bytes)

@@ -15,7 +15,7 @@ use Rattle.rinex_read.specs.declared.judged.HeaderFault.TheVariants as faults
 use Rattle.rinex_read.specs.Lines.{text_of_line, told_lines}
 use Rattle.rinex_read.specs.Forms.{Form, is_version}
 use Rattle.rinex_read.specs.Files.{is_navigation, ends_header, header_passed, header_of, reads, reads_behind}
-use Rattle.rinex_read.specs.States.{RecordsState, file_to_come, is_waiting, ReadLow, HeaderSteps, PassesHeader, BreaksHeader, RefusedBy}
+use Rattle.rinex_read.specs.States.{RecordsState, file_by, file_to_come, is_waiting, ReadLow, HeaderSteps, PassesHeader, BreaksHeader, RefusedBy}
 use Rattle.rinex_read.proofs.StepLemmas.{header_steps_none, header_steps_more}
 use Rattle.rinex_read.specs.Mirrors.{state_of, header_after, HeaderRefused}
 use Rattle.rinex_read.proofs.RecordSteps.{HasLine}
@@ -28,12 +28,15 @@ answers_by f Passed n ls = Ok (reads f n ls)
 answers_by f NotRinexNav n ls = Err faults.NotRinexNav
 answers_by f OtherVersion n ls = Err faults.Version
 
+by_lines : (f : Form) (header : HeaderState) (first : ℕ) (s : LinesState) (ls : List (List ℕ)) → file_by f header (state_of header [] first s) ls ≡ answers_by f header s.number ls
+by_lines f New first s ls = refl
+by_lines f Open first s ls = refl
+by_lines f Passed first s ls = refl
+by_lines f NotRinexNav first s ls = refl
+by_lines f OtherVersion first s ls = refl
+
 by_is : (f : Form) (header : HeaderState) (first : ℕ) (s : LinesState) (following : List ℕ) → file_to_come f (state_of header [] first s) following ≡ answers_by f header s.number (told_lines (s.rest ++ following))
-by_is f New first s following = refl
-by_is f Open first s following = refl
-by_is f Passed first s following = refl
-by_is f NotRinexNav first s following = refl
-by_is f OtherVersion first s following = refl
+by_is f header first s following = by_lines f header first s (told_lines (s.rest ++ following))
 
 one_more : (f : Form) (header : HeaderState) (n : ℕ) (l : List ℕ) (ls : List (List ℕ)) → is_waiting header ≡ true → answers_by f header n (l ∷ ls) ≡ answers_by f (header_after f header l) (n + 1) ls
 one_more f New n l ls h = go (is_navigation l) (is_version f l)
@@ -71,6 +74,11 @@ header_line f p q header first s t h waits = record {
       ∙ one_more f header s.number t.text (told_lines (t.rest ++ following)) waits
       ∙ ap (λ (n : ℕ). answers_by f (header_after f header t.text) n (told_lines (t.rest ++ following))) (sym h.gives.number)
       ∙ sym (by_is f (header_after f header t.text) first t following);
+  told = λ next may.
+      by_lines f header first s (t.text ∷ next)
+      ∙ one_more f header s.number t.text next waits
+      ∙ ap (λ (n : ℕ). answers_by f (header_after f header t.text) n next) (sym h.gives.number)
+      ∙ sym (by_lines f (header_after f header t.text) first t next);
 }
 
 -- the end of the bytes in the header
@@ -85,6 +93,8 @@ header_end f p q header first s t g waits = record {
       ∙ ap (λ (ls : List Line). answers_by f header s.number (map text_of_line ls)) (g.reads.stream false following (λ e. (refl, may e)))
       ∙ ap (λ (bytes : List ℕ). answers_by f header s.number (told_lines bytes)) nothing
       ∙ no_more f header s.number waits;
+  told = λ next may.
+      by_lines f header first s next ∙ ap (answers_by f header s.number) (may g.ended g.rest) ∙ no_more f header s.number waits;
 }
 
 -- a read in the header that gave no line
@@ -98,13 +108,15 @@ header_read f p q header first s t r number = record {
       ∙ ap (λ (ls : List Line). answers_by f header s.number (map text_of_line ls)) (r.stream false following (λ e. (refl, may e)))
       ∙ ap (λ (n : ℕ). answers_by f header n (told_lines (t.rest ++ following))) (sym number)
       ∙ sym (by_is f header first t following);
+  told = λ next may.
+      by_lines f header first s next ∙ ap (λ (n : ℕ). answers_by f header n next) (sym number) ∙ sym (by_lines f header first t next);
 }
 
 -- what is kept does not matter while lines of the header are to come
 pub header_start : (f : Form) (o : Option (List ℕ)) (header : HeaderState) (kept : List (List ℕ)) (first : ℕ) (s : LinesState) → is_waiting header ≡ true
     → HeaderSteps f o o (state_of header kept first s) (state_of header [] first s)
-header_start f o New kept first s h = record { lines = []; reads = reads_none o s; stream = λ following may. refl }
-header_start f o Open kept first s h = record { lines = []; reads = reads_none o s; stream = λ following may. refl }
+header_start f o New kept first s h = record { lines = []; reads = reads_none o s; stream = λ following may. refl; told = λ next may. refl }
+header_start f o Open kept first s h = record { lines = []; reads = reads_none o s; stream = λ following may. refl; told = λ next may. refl }
 header_start f o Passed kept first s h = absurd (cc)
 header_start f o NotRinexNav kept first s h = absurd (cc)
 header_start f o OtherVersion kept first s h = absurd (cc)

@@ -8,6 +8,7 @@ pub mod DateLemmas
 pub mod FieldLemmas
 pub mod FileLemmas
 pub mod FormLemmas
+pub mod GivenLemmas
 pub mod HeaderLemmas
 pub mod ItemLemmas
 pub mod LineLemmas

@@ -14,9 +14,10 @@ use Rattle.rinex_read.specs.declared.judged.Judged.{Judged}
 use Rattle.rinex_read.specs.declared.judged.Judged.TheVariants as judgments
 use Rattle.rinex_read.specs.Lines.{text_of_line, told_lines}
 use Rattle.rinex_read.specs.Forms.{Form}
-use Rattle.rinex_read.specs.Files.{read_at}
+use Rattle.rinex_read.specs.Files.{but_last, read_at}
 use Rattle.rinex_read.specs.States.{RecordsState, held_reads, Steps, held_count, lines_left, GivesRecord, GivesRead, BreaksRecord}
 use Rattle.rinex_read.proofs.StepLemmas.{steps_more}
+use Rattle.rinex_read.proofs.TakeLemmas.{line_whole}
 use Rattle.rinex_read.specs.Mirrors.{TakesLine, TakesEnd, EndsWith, IsRecord}
 
 -- a line that was given, of whatever kind
@@ -41,6 +42,7 @@ line_step f p q s t given h takes header = record {
   stream = λ following may.
       ap (λ (ls : List Line). held_reads f s.kept s.first s.lines.number (map text_of_line ls)) (h.gives.reads.stream false following (λ e. (refl, may e)))
       ∙ takes.answers s.lines.number (told_lines (t.lines.rest ++ following)) h.gives.number;
+  whole = λ over next. line_whole f s.kept s.first t.kept t.first t.lines.text t.lines.number given takes s.lines.number next h.gives.number;
 }
 
 end_step : (f : Form) (p q : Option (List ℕ)) (s t : RecordsState) (given : List ItemRead) (g : GivesEnd p q s.lines t.lines) → TakesEnd f s.kept s.first given → t.kept ≡ [] → t.header ≡ s.header → Steps f p q s t given
@@ -56,6 +58,7 @@ end_step f p q s t given g takes none header = record {
       ∙ sym (append-nil given)
       ∙ ap (λ (bytes : List ℕ). given ++ held_reads f [] t.first t.lines.number (told_lines bytes)) (sym nothing)
       ∙ ap (λ (ks : List (List ℕ)). given ++ held_reads f ks t.first t.lines.number (told_lines (t.lines.rest ++ following))) (sym none);
+  whole = λ over next. absurd (over (record { kept = none; rest = g.rest; ended = g.ended }));
 }
 
 read_step : (f : Form) (p q : Option (List ℕ)) (s t : RecordsState) → Reads p q s.lines t.lines [] → t.kept ≡ s.kept → t.first ≡ s.first → t.lines.number ≡ s.lines.number → t.header ≡ s.header → Steps f p q s t []
@@ -68,6 +71,10 @@ read_step f p q s t r kept first number header = record {
       ∙ ap (λ (ks : List (List ℕ)). held_reads f ks s.first s.lines.number (told_lines (t.lines.rest ++ following))) (sym kept)
       ∙ ap (λ (k : ℕ). held_reads f t.kept k s.lines.number (told_lines (t.lines.rest ++ following))) (sym first)
       ∙ ap (λ (n : ℕ). held_reads f t.kept t.first n (told_lines (t.lines.rest ++ following))) (sym number);
+  whole = λ over next.
+      ap (λ (ks : List (List ℕ)). but_last (held_reads f ks s.first s.lines.number next)) (sym kept)
+      ∙ ap (λ (k : ℕ). but_last (held_reads f t.kept k s.lines.number next)) (sym first)
+      ∙ ap (λ (n : ℕ). but_last (held_reads f t.kept t.first n next)) (sym number);
 }
 
 held_few : (ks : List (List ℕ)) → held_count ks ≤ 1
@@ -137,7 +144,7 @@ pub breaks : (f : Form) (fault : LineFault) (o p q : Option (List ℕ)) (old now
     → new.kept ≡ now.kept → new.first ≡ now.first → new.header ≡ now.header → BreaksRecord f o q old new fault
 breaks f ReadFault o p q old now new steps b kept first header = record {
   steps = steps_more f o p q old now new [] [] steps (read_step f p q now new b.reads kept first b.number header);
-  by = (b.more, b.low);
+  by = (b.more, b.low, b.none);
 }
 breaks f TooLong o p q old now new steps b kept first header = record {
   steps = steps_more f o p q old now new [] [] steps (read_step f p q now new b.reads kept first b.number header);

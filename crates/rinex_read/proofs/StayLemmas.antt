@@ -12,19 +12,14 @@ use Rattle.rinex_read.specs.Forms.{Form, LooksAtKept}
 use Rattle.rinex_read.specs.Files.{header_of, reads, reads_behind, file_reads}
 use Rattle.rinex_read.specs.States.{RecordsState, held_reads, records_to_come, file_by, file_to_come, is_waiting, IsNew, GivesRecord, GivesRead, BreaksRecord, PassesHeader, BreaksHeader}
 use Rattle.rinex_read.proofs.FormLemmas.{file_told}
+use Rattle.rinex_read.proofs.StepLemmas.{nothing_to_come}
 
 pub begins_with_file : (f : Form) → LooksAtKept f → (s : RecordsState) (bytes : List ℕ) → IsNew s → file_to_come f s bytes ≡ file_reads f bytes
 begins_with_file f law s bytes is =
-    ap (λ h. file_by f h s bytes) is.header
+    ap (λ h. file_by f h s (told_lines (s.lines.rest ++ bytes))) is.header
     ∙ ap (λ n. reads_behind f (header_of f n (told_lines (s.lines.rest ++ bytes)))) is.number
     ∙ ap (λ (rest : List ℕ). reads_behind f (header_of f 0 (told_lines (rest ++ bytes)))) is.rest
     ∙ file_told f law 0 bytes
-
-nothing_to_come : (f : Form) (s : RecordsState) (taken : List ℕ) → s.kept ≡ [] → s.lines.rest ≡ [] → taken ≡ [] → records_to_come f s (taken ++ []) ≡ []
-nothing_to_come f s taken kept rest none =
-    ap (λ (ks : List (List ℕ)). held_reads f ks s.first s.lines.number (told_lines (s.lines.rest ++ (taken ++ [])))) kept
-    ∙ ap (λ (r : List ℕ). reads f s.lines.number (told_lines (r ++ (taken ++ [])))) rest
-    ∙ ap (λ (t : List ℕ). reads f s.lines.number (told_lines (t ++ []))) none
 
 no_record : (f : Form) (read : ItemRead) (o q : Option (List ℕ)) (s t : RecordsState) → s.kept ≡ [] → s.lines.rest ≡ [] → s.lines.ended ≡ true → GivesRecord f o q s t read → ⊥
 no_record f read o q s t kept rest ended g =
@@ -64,5 +59,5 @@ many_unpassed f o q s t many waits p = absurd (omega (arith, p.low waits, p.step
 pub many_refused : (f : Form) (fault : HeaderFault) (o q : Option (List ℕ)) (s t : RecordsState) → s.lines.taken ≡ 2 ^ 32 → is_waiting s.header ≡ true → BreaksHeader f o q s t fault → fault ≡ faults.Line TooLong
 many_refused f faults.NotRinexNav o q s t many waits b = absurd (omega (arith, b.by.1 waits, b.steps.reads.count))
 many_refused f faults.Version o q s t many waits b = absurd (omega (arith, b.by.1 waits, b.steps.reads.count))
-many_refused f (faults.Line ReadFault) o q s t many waits b = absurd (omega (arith, b.by.1, b.steps.reads.count))
+many_refused f (faults.Line ReadFault) o q s t many waits b = absurd (omega (arith, b.by.1.1, b.steps.reads.count))
 many_refused f (faults.Line TooLong) o q s t many waits b = refl

@@ -3,7 +3,7 @@ use Rattle.std.proofs.Common.{◌≡◌, ℕ, ◌+◌, ◌<◌, nat_lt, Bool, tr
 use Rattle.rinex_read.specs.declared.judged.ItemRead.{ItemRead}
 use Rattle.rinex_read.specs.Forms.{Form, LooksAtKept, begins}
 use Rattle.rinex_read.specs.Kept.{padded, kept_with}
-use Rattle.rinex_read.specs.Files.{up_to_next, read_at, reads}
+use Rattle.rinex_read.specs.Files.{but_last, up_to_next, read_at, reads}
 use Rattle.rinex_read.specs.States.{held_reads}
 use Rattle.rinex_read.specs.Mirrors.{TakesLine}
 use Rattle.rinex_read.proofs.FormLemmas.{form_kept}
@@ -24,6 +24,7 @@ pub line_passed : (f : Form) (kept new : List (List ℕ)) (first number : ℕ) (
 line_passed f [] [] first number line e same h = record {
   answers = λ n more is.
       ap (λ b. if b then read_at (n + 1) (f.judged (line ∷ up_to_next f more)) ∷ reads f (n + 1) more else reads f (n + 1) more) h ∙ ap (λ m. reads f m more) (sym is);
+  begun = λ none. refl;
 }
 line_passed f [] (x ∷ xs) first number line e same h = absurd (cc)
 line_passed f (k ∷ ks) new first number line e same h = absurd (cc)
@@ -38,6 +39,7 @@ line_more f law (k ∷ ks) new first number line some e h = record {
       ∙ ap (λ j. read_at first j ∷ reads f number more) (sym (form_kept f law (k ∷ ks) line (up_to_next f more)))
       ∙ sym (held_some f (kept_with (k ∷ ks) line) first number more (some_kept k ks line))
       ∙ ap (λ xs. held_reads f xs first number more) (sym e);
+  begun = λ none. refl;
 }
 
 begun : (f : Form) → LooksAtKept f → (line : List ℕ) (n number : ℕ) (more new : List (List ℕ)) → new ≡ kept_with [] line → begins f line ≡ true → number ≡ n + 1 → reads f n (line ∷ more) ≡ held_reads f new number number more
@@ -49,7 +51,10 @@ begun f law line n number more new e h is =
 
 -- the first line of the first record
 pub line_begins : (f : Form) → LooksAtKept f → (kept new : List (List ℕ)) (first number : ℕ) (line : List ℕ) → kept ≡ [] → new ≡ kept_with kept line → begins f line ≡ true → TakesLine f kept first new number line number []
-line_begins f law [] new first number line e same h = record { answers = λ n more is. begun f law line n number more new same h is }
+line_begins f law [] new first number line e same h = record {
+  answers = λ n more is. begun f law line n number more new same h is;
+  begun = λ none. refl;
+}
 line_begins f law (k ∷ ks) new first number line e same h = absurd (cc)
 
 -- the first line of another record
@@ -62,4 +67,31 @@ line_next f law (k ∷ ks) new first number line read some e h is_read = record 
       ∙ ap (λ t. read_at first (f.judged t) ∷ reads f n (line ∷ more)) (append-nil (k ∷ ks))
       ∙ ap (λ r. r ∷ reads f n (line ∷ more)) (sym is_read)
       ∙ ap (λ rs. read ∷ rs) (begun f law line n number more new e h is);
+  begun = λ none. absurd (let kept : padded line ∷ [] ≡ [] = sym e ∙ none in cc);
 }
+
+-- ---- the records that are whole
+
+-- what is held is a record
+pub held_nil : (f : Form) (ks : List (List ℕ)) (first n : ℕ) (more : List (List ℕ)) → held_reads f ks first n more ≡ [] → ks ≡ []
+held_nil f [] first n more e = refl
+held_nil f (k ∷ ks) first n more e = absurd (cc)
+
+-- with no line behind it, that is not known to be whole
+pub none_whole : (f : Form) (ks : List (List ℕ)) (first n : ℕ) → but_last (held_reads f ks first n []) ≡ []
+none_whole f [] first n = refl
+none_whole f (k ∷ ks) first n = refl
+
+-- all but the last of two lists one behind the other
+last_behind : (xs ys : List ItemRead) → (ys ≡ [] → xs ≡ []) → but_last (xs ++ ys) ≡ xs ++ but_last ys
+last_behind [] ys some = refl
+last_behind (x ∷ xs) [] some = absurd (let none : x ∷ xs ≡ [] = some refl in cc)
+last_behind (x ∷ []) (y ∷ ys) some = refl
+last_behind (x ∷ z ∷ zs) (y ∷ ys) some = ap (λ (l : List ItemRead). x ∷ l) (last_behind (z ∷ zs) (y ∷ ys) (λ none. absurd cc))
+
+-- with a line more
+pub line_whole : (f : Form) (kept : List (List ℕ)) (first : ℕ) (new : List (List ℕ)) (first_new : ℕ) (line : List ℕ) (number : ℕ) (given : List ItemRead) → TakesLine f kept first new first_new line number given
+    → (n : ℕ) (more : List (List ℕ)) → number ≡ n + 1 → but_last (held_reads f kept first n (line ∷ more)) ≡ given ++ but_last (held_reads f new first_new number more)
+line_whole f kept first new first_new line number given takes n more is =
+    ap but_last (takes.answers n more is)
+    ∙ last_behind given (held_reads f new first_new number more) (λ none. takes.begun (held_nil f new first_new number more none))

@@ -8,7 +8,7 @@ use Rattle.rinex_read.specs.declared.judged.ItemRead.{ItemRead}
 use Rattle.rinex_read.specs.declared.judged.ItemRead.TheVariants.{Item, Refused, PassedOver, End}
 use Rattle.rinex_read.specs.declared.judged.HeaderFault.{HeaderFault}
 use Rattle.rinex_read.specs.declared.judged.HeaderFault.TheVariants.{NotRinexNav, Version}
-use Rattle.rinex_read.specs.Lines.{stands_at, lines_of}
+use Rattle.rinex_read.specs.Lines.{stands_at, lines_of, ended_lines}
 use Rattle.rinex_read.specs.Forms.{Form, is_version, begins, rinex4}
 
 -- the first line says that this is a navigation file: the label in columns 61-80, and `N` in column 21
@@ -61,6 +61,25 @@ reads_behind f (Err fault) = Err fault
 -- what is read of the bytes of a file
 abbrev pub file_reads : Form → List ℕ → Result (List ItemRead) HeaderFault
 file_reads f bytes = reads_behind f (header_of f 0 (lines_of bytes))
+
+-- all but the last
+abbrev pub but_last : {X : Type 0} → List X → List X
+but_last [] = []
+but_last (x ∷ []) = []
+but_last (x ∷ y ∷ ys) = x ∷ but_last (y ∷ ys)
+
+-- what is read of the records that are whole, whatever lines follow: of those behind which another one begins
+abbrev pub whole_behind : Result (List ItemRead) HeaderFault → Result (List ItemRead) HeaderFault
+whole_behind (Ok rs) = Ok (but_last rs)
+whole_behind (Err fault) = Err fault
+
+-- of the lines with which a file begins
+abbrev pub whole_in : Form → List (List ℕ) → Result (List ItemRead) HeaderFault
+whole_in f lines = whole_behind (reads_behind f (header_of f 0 lines))
+
+-- of the bytes with which it begins
+abbrev pub whole_reads : Form → List ℕ → Result (List ItemRead) HeaderFault
+whole_reads f bytes = whole_in f (ended_lines bytes)
 
 -- the items among what is read
 abbrev pub items_of : List ItemRead → List NavItem

@@ -16,7 +16,11 @@ stands_at a (c ∷ cs) line = (get_or line a 32 == c) && stands_at (a + 1) cs li
 abbrev pub lines_of : List ℕ → List (List ℕ)
 lines_of bytes = map without_cr (pieces false bytes)
 
--- the same as a reader of lines gives them, of each its first 2,200 characters
+-- those that have ended in them, where more bytes may come
+abbrev pub ended_lines : List ℕ → List (List ℕ)
+ended_lines bytes = map without_cr (pieces true bytes)
+
+-- the lines of a file as a reader of lines gives them, of each its first 2,200 characters
 abbrev pub text_of_line : Line → List ℕ
 text_of_line line = line.text
 

@@ -183,9 +183,11 @@ pub record AreGalileoIonosphereFields (zs : List ℤ) : Type 0 where
   pub ai2 : IsSignedAt 14 zs 2
   pub regions : IsUnsignedAt 5 zs 3
 
--- A line was taken: what is held with it and any lines behind it gives these records, and then what is held now gives.
+-- A line was taken: what is held with it and any lines behind it gives these records, and then what is held now gives; behind a record
+-- that was given another one is held.
 pub record TakesLine (f : Form) (kept : List (List ℕ)) (first : ℕ) (kept_new : List (List ℕ)) (first_new : ℕ) (line : List ℕ) (number : ℕ) (given : List ItemRead) : Type 0 where
   pub answers : (n : ℕ) (more : List (List ℕ)) → number ≡ n + 1 → held_reads f kept first n (line ∷ more) ≡ given ++ held_reads f kept_new first_new number more
+  pub begun : kept_new ≡ [] → given ≡ []
 
 -- No line is left: what is held gives these records.
 pub record TakesEnd (f : Form) (kept : List (List ℕ)) (first : ℕ) (given : List ItemRead) : Type 0 where

@@ -2,14 +2,14 @@
 //! is the law.
 
 ghost use Rattle.std.specs.Prelude.{◌≡◌, ℕ, ◌+◌, ◌^◌, ◌<◌, ◌++◌, [], List};
-ghost use Rattle.std.specs.Prelude.{Option, Ok, true, length, map, take};
+ghost use Rattle.std.specs.Prelude.{Option, Err, Ok, true, length, map, take};
 ghost use Rattle.nav_io.specs.declared.lines.LineFault.{LineFault};
 ghost use Rattle.nav_io.specs.declared.lines.LineFault.TheVariants.{ReadFault, TooLong};
 ghost use Rattle.rinex_read.specs.declared.judged.ItemRead.{ItemRead};
 ghost use Rattle.rinex_read.specs.declared.judged.ItemRead.TheVariants.{End};
 ghost use Rattle.rinex_read.specs.Kept.{padded};
 ghost use Rattle.rinex_read.specs.States.{BreaksHeader, BreaksRecord, GivesRead};
-ghost use Rattle.rinex_read.specs.States.{HeaderSteps, IsNew, PassesHeader, RecordsState};
+ghost use Rattle.rinex_read.specs.States.{HeaderSteps, IsNew, IsPaused, PassesHeader, RecordsState};
 ghost use Rattle.rinex_read.specs.States.{Steps, file_to_come, is_waiting, records_to_come};
 ghost use Rattle.rinex_read.specs.Forms.{rinex4};
 ghost use Rattle.rinex_read.specs.declared.judged.HeaderFault.{HeaderFault};
@@ -21,7 +21,7 @@ ghost use Rattle.rinex_write.specs.declared.words.HeaderWords.{HeaderWords};
 ghost use Rattle.rinex_write.specs.Texts.{IsHeader, header_lines, item_lines, rinex_text, text_of};
 ghost use Rattle.rinex_read.specs.declared.judged.Judged.TheVariants as judgments;
 ghost use Rattle.rinex_read.specs.Judging.{judged};
-ghost use Rattle.rinex_read.specs.Files.{file_reads, items_of, list_by, reads, rinex_list};
+ghost use Rattle.rinex_read.specs.Files.{file_reads, items_of, list_by, reads, rinex_list, whole_reads};
 ghost use Rattle.rinex_read.specs.RoundTrip.{AllStand, AreHeaderLines, AreItems};
 ghost use Rattle.rinex_read.specs.RoundTrip.{StandFor, numbered, numbered_by};
 
@@ -119,6 +119,20 @@ pub fn steps_follow_one_another<F: FileForm>()
         → HeaderSteps F.form left middle old now → HeaderSteps F.form middle left_new now new
         → HeaderSteps F.form left left_new old new }
 {}
+
+/// A reader that has paused, as after a failed read, has given exactly the records that are whole in the bytes taken: those
+/// behind which another one begins, in a line that has ended.
+pub fn whole_records_are_given<F: FileForm>()
+    ensures records { (left middle left_new : Option (List ℕ)) (old now new : RecordsState)
+        (given : List ItemRead) → IsNew old → (header : PassesHeader F.form left middle old now)
+        → (steps : Steps F.form middle left_new now new given) → IsPaused new
+        → whole_reads F.form (header.steps.reads.taken ++ steps.reads.taken) ≡ Ok given }
+    ensures header { (left left_new : Option (List ℕ)) (old new : RecordsState) → IsNew old
+        → (steps : HeaderSteps F.form left left_new old new) → is_waiting new.header ≡ true
+        → IsPaused new → whole_reads F.form steps.reads.taken ≡ Err faults.NotRinexNav }
+{
+    F::looks_at_kept();
+}
 
 /// After the end no further call answers anything else.
 pub fn the_end_stays<F: FileForm>()

@@ -28,7 +28,7 @@ pub enum Reason {
     /// The fit interval is 2 or 3 hours, which no flag means.
     #[error("fit")]
     Fit,
-    /// The second of the week of the clock's date is no whole number of steps of toc.
+    /// The second of the week of the clock's epoch is not a multiple of the step of toc (16 s for GPS, 60 s for Galileo).
     #[error("step")]
     EpochStep,
     /// The clock's date is not within half a week of toe.

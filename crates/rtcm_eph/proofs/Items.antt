@@ -14,7 +14,7 @@ use Rattle.nav_eph.specs.Conditions.{IsPart}
 use Rattle.nav_eph.specs.Ranges.{IsItem, IsGpsClock, IsGpsOrbitA, IsGpsOrbitB, IsGalWord1, IsGalWord2, IsGalWord3, IsGalWord4}
 use Rattle.nav_eph.specs.Satellite.{IsSat}
 use Rattle.nav_eph.specs.Steps.{IsSisa, IsStep16, IsStep60}
-use Rattle.nav_eph.specs.Values.{IsPartValue}
+use Rattle.nav_eph.specs.Values.{HasPartRanges, IsPartValue}
 use Rattle.nav_eph.specs.declared.sat.System.TheVariants.{Gps as GpsSystem, Gal as GalSystem}
 use Rattle.nav_eph.specs.declared.items.NavItem.{NavItem}
 use Rattle.nav_eph.specs.declared.items.NavItem.TheVariants.{Gps as GpsItem, Gal as GalItem, Ion as IonItem}
@@ -200,6 +200,7 @@ record IsHeardPart (stamp : ℕ) (p : Part) : Type 0 where
   at : p.stamp ≡ stamp
   part : IsPart p.sat p.body
   value : stamp < 2 ^ 32 → IsPartValue p
+  ranges : HasPartRanges p
 
 abbrev AreHeard : ℕ → Result MessageParts MessageFault → Type 0
 AreHeard stamp (Ok parts) = All (IsHeardPart stamp) (all_parts parts)
@@ -211,24 +212,24 @@ heard_by stamp (Ok (OfGps c)) has =
     let wn : c.week < 4096 = omega (arith, has.week) in
     let ten : c.week < 1024 = has.week in
     let each : AllByRecursion (IsHeardPart stamp) (all_parts (gps_parts stamp c)) = (
-      record { at = refl; part = record { system = has.system; week = ten }; value = λ low. record { stamp = low; body = (has.side, (wn, second)) } },
+      record { at = refl; part = record { system = has.system; week = ten }; value = λ low. record { stamp = low; body = (has.side, (wn, second)) }; ranges = record { sat = has.sat; body = (has.clock, has.side) } },
       (
-        record { at = refl; part = record { system = has.system; week = tt }; value = λ low. record { stamp = low; body = tt } },
-        (record { at = refl; part = record { system = has.system; week = tt }; value = λ low. record { stamp = low; body = tt } }, tt),
+        record { at = refl; part = record { system = has.system; week = tt }; value = λ low. record { stamp = low; body = tt }; ranges = record { sat = has.sat; body = (has.a, has.fit) } },
+        (record { at = refl; part = record { system = has.system; week = tt }; value = λ low. record { stamp = low; body = tt }; ranges = record { sat = has.sat; body = has.b } }, tt),
       ),
     ) in
     All-from_recursion (IsHeardPart stamp) (all_parts (gps_parts stamp c)) each
 heard_by stamp (Ok (OfGal c)) has =
     let second : 60 * c.w1.toe < 604800 = omega (arith, has.w1.toe) in
     let each : AllByRecursion (IsHeardPart stamp) (all_parts (gal_parts stamp c)) = (
-      record { at = refl; part = record { system = has.system; week = tt }; value = λ low. record { stamp = low; body = tt } },
+      record { at = refl; part = record { system = has.system; week = tt }; value = λ low. record { stamp = low; body = tt }; ranges = record { sat = has.sat; body = has.w1 } },
       (
-        record { at = refl; part = record { system = has.system; week = tt }; value = λ low. record { stamp = low; body = tt } },
+        record { at = refl; part = record { system = has.system; week = tt }; value = λ low. record { stamp = low; body = tt }; ranges = record { sat = has.sat; body = has.w2 } },
         (
-          record { at = refl; part = record { system = has.system; week = tt }; value = λ low. record { stamp = low; body = tt } },
+          record { at = refl; part = record { system = has.system; week = tt }; value = λ low. record { stamp = low; body = tt }; ranges = record { sat = has.sat; body = has.w3 } },
           (
-            record { at = refl; part = record { system = has.system; week = tt }; value = λ low. record { stamp = low; body = tt } },
-            (record { at = refl; part = record { system = has.system; week = tt }; value = λ low. record { stamp = low; body = (has.health, (has.week, second)) } }, tt),
+            record { at = refl; part = record { system = has.system; week = tt }; value = λ low. record { stamp = low; body = tt }; ranges = record { sat = has.sat; body = has.w4 } },
+            (record { at = refl; part = record { system = has.system; week = tt }; value = λ low. record { stamp = low; body = (has.health, (has.week, second)) }; ranges = record { sat = has.sat; body = has.health } }, tt),
           ),
         ),
       ),
@@ -248,3 +249,6 @@ parts_sendable payload stamp parts e = All-weaker (IsHeardPart stamp) (λ part. 
 
 pub parts_value : (payload : List ℕ) (stamp : ℕ) (parts : MessageParts) → stamp < 2 ^ 32 → parts_of stamp (content_of payload) ≡ Ok parts → All IsPartValue (all_parts parts)
 parts_value payload stamp parts low e = All-weaker (IsHeardPart stamp) IsPartValue (λ p h. h.value low) (all_parts parts) (heard payload stamp parts e)
+
+pub parts_ranges : (payload : List ℕ) (stamp : ℕ) (parts : MessageParts) → parts_of stamp (content_of payload) ≡ Ok parts → All HasPartRanges (all_parts parts)
+parts_ranges payload stamp parts e = All-weaker (IsHeardPart stamp) HasPartRanges (λ p h. h.ranges) (all_parts parts) (heard payload stamp parts e)

@@ -5,7 +5,7 @@ ghost use Rattle.nav_bits.specs.Fields.{StandFrom};
 ghost use Rattle.nav_bits.specs.Packed.{AreBytes as AreSoManyBytes, ZerosFrom};
 ghost use Rattle.nav_eph.specs.Conditions.{IsPart};
 ghost use Rattle.nav_eph.specs.Ranges.{HasGalRanges, HasGpsRanges, IsItem};
-ghost use Rattle.nav_eph.specs.Values.{IsPartValue};
+ghost use Rattle.nav_eph.specs.Values.{HasPartRanges, IsPartValue};
 ghost use Rattle.nav_eph.specs.declared.items.GpsEph.{GpsEph};
 ghost use Rattle.nav_eph.specs.declared.items.GalEph.{GalEph};
 ghost use Rattle.nav_eph.specs.declared.items.NavItem.{NavItem};
@@ -102,7 +102,7 @@ pub fn item_function()
 {}
 
 /// The parts that a message brings have the stamp with which it was heard, are such as their
-/// satellite can send, and have their fields within their digits.
+/// satellite can send, and have their fields within their digits; it is a satellite of its system.
 pub fn message_parts()
     ensures stamps { (payload : List ℕ) (stamp : ℕ) (parts : MessageParts) →
         parts_of stamp (content_of payload) ≡ Ok parts →
@@ -112,6 +112,8 @@ pub fn message_parts()
         All (λ part. IsPart part.sat part.body) (all_parts parts) }
     ensures values { (payload : List ℕ) (stamp : ℕ) (parts : MessageParts) → stamp < 2 ^ 32 →
         parts_of stamp (content_of payload) ≡ Ok parts → All IsPartValue (all_parts parts) }
+    ensures ranges { (payload : List ℕ) (stamp : ℕ) (parts : MessageParts) →
+        parts_of stamp (content_of payload) ≡ Ok parts → All HasPartRanges (all_parts parts) }
 {}
 
 /// A payload is refused with a fault exactly where it is the first that the payload has.

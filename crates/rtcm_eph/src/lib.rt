@@ -1,8 +1,8 @@
 //! The ephemeris messages of RTCM, read and written (RTCM 10403.3, 3.5).
 //!
-//! The payload of a frame begins with a message number of twelve bits. Message 1019 brings an
-//! ephemeris of GPS, and message 1046 the I/NAV ephemeris of Galileo, in their fields one behind
-//! the other. Here are
+//! The payload of a frame begins with a message number of twelve bits. Message 1019 carries an
+//! ephemeris of GPS, and message 1046 the I/NAV ephemeris of Galileo, as concatenated fields.
+//! Here are
 //!
 //! - [`read_message`], the parts that a payload brings, or the first fault in it
 //!   ([`MessageFault`]);

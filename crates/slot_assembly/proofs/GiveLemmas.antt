@@ -10,7 +10,7 @@ use Rattle.periods.specs.declared.key.Place.{Place}
 use Rattle.periods.specs.declared.closed.Finding.{Finding}
 use Rattle.periods.specs.DigestsOf.{digest_finding, verdict_of}
 use Rattle.periods.specs.Periods.{IsPeriod, IsMember, IsBefore}
-use Rattle.periods.specs.Verdicts.{IsFound, IsHealthBefore, IsHealthBehind, Repeats}
+use Rattle.periods.specs.Verdicts.{IsFound, IsUpToEnd, IsBehindEnd, Repeats}
 use Rattle.periods.proofs.Surface.{some_is, IsKeyValue, cases_place, period_key, all_values, before_irr, digest_finding-is, judged_by}
 use Rattle.slot_assembly.specs.Standing.{Standing, IsAfter, IsNext, NoneDue, giving}
 use Rattle.slot_assembly.proofs.Surface.{after_trans, NoneDue-give}
@@ -55,7 +55,7 @@ found_is s at mark slot health h f c =
     let k = h.slots.each slot f.0.here in
     let parts = Contains at.parts in
     let near = reaches s.window s.none_at parts at.last (slot_place slot) h.none_due k.period k.after in
-    digest_finding-is s.reference slot.key (IsMember s.window parts (slot_place slot)) (IsHealthBefore s.window parts slot.key slot.end) (IsHealthBehind s.window parts slot.key slot.end) slot.digest health k.digest
+    digest_finding-is s.reference slot.key (IsMember s.window parts (slot_place slot)) (IsUpToEnd s.window parts slot.key slot.end) (IsBehindEnd s.window parts slot.key slot.end) slot.digest health k.digest
     (chosen_best s.window s.none_at parts s.heard slot.key slot.end health h.kept near c)
 
 pub next_is : (s : SlotsState) (at : Standing) (mark : ℕ) (slot : Slot) (health : Option Health) → SlotsStandFor s at → IsFirstDue s.slots s.window mark (Some slot) → IsChosen s.heard s.window slot.key slot.end health

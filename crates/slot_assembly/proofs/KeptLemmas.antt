@@ -13,14 +13,14 @@ use Rattle.nav_eph.proofs.Surface.{one_health}
 use Rattle.periods.specs.declared.key.Key.{Key}
 use Rattle.periods.specs.declared.key.Key.TheVariants.{Gps, Gal, GpsIon, GalIon}
 use Rattle.periods.specs.Digests.{IsBestHealth}
-use Rattle.periods.specs.Parts.{key_in, key_of, health_in, health_of, health_numbers, same_sat}
-use Rattle.periods.specs.Values.{HasValue, IsBest, IsEarlier, IsLater}
-use Rattle.periods.specs.Verdicts.{IsUpToEnd, IsBehindEnd, IsHealthBefore, IsHealthBehind}
-use Rattle.periods.proofs.Surface.{some_is, none_some, same_sat-is, is-same_sat, health_stamp, IsHealthValue, health_value, best_health, IsWithPart}
+use Rattle.periods.specs.Parts.{key_in, key_of, HealthOf, Says, HasValue, health_numbers}
+use Rattle.periods.specs.Values.{IsBest, IsEarlier, IsLater}
+use Rattle.periods.specs.Verdicts.{HasHealth, IsUpToEnd, IsBehindEnd}
+use Rattle.periods.proofs.Surface.{some_is, none_some, same_sat-is, HasValue-to, IsHealthValue, health_value, best_health, no_health, IsWithPart}
 use Rattle.slot_assembly.specs.declared.order.BySat.{BySat}
 use Rattle.slot_assembly.specs.contracts.order.BySatOrd.TheImpl.{cmp-value as sat_cmp}
 use Rattle.slot_assembly.specs.Order.{by_sat, place_of_health, is_of_sat}
-use Rattle.slot_assembly.specs.Healths.{heard_at, IsSameHealth, IsHeardChanged, IsSaid, IsForgotten, IsLastBelow, IsFirstAbove, near_up, near_behind, IsLooked, IsChosen}
+use Rattle.slot_assembly.specs.Healths.{health_in, heard_at, IsSameHealth, IsHeardChanged, IsSaid, IsForgotten, IsLastBelow, IsFirstAbove, near_up, near_behind, IsLooked, IsChosen}
 use Rattle.slot_assembly.specs.SlotStanding.{AreKept}
 use Rattle.slot_assembly.proofs.SatOrder.{heard_is, is_heard_own, sat_squeezed, stamps_le, stamps_ge, below_next, next_below, next_above, above_next, lt_le, not_lt_le, le_not_below}
 use Rattle.slot_assembly.proofs.HealthChanges.{Health, HeardList}
@@ -30,31 +30,28 @@ keyed_none : (stamp : ℕ) (sat : Satellite) (body : Body) (key : Key) (h : Heal
 keyed_none stamp sat (OfHealth x t) key h e f = none_some key e
 keyed_none stamp sat _ key h e f = none_some h f
 
-health_if : (b : Bool) (stamp : ℕ) (body : Body) (h : Health) → (if b then health_in stamp body else None) ≡ Some h → (b ≡ true) × (health_in stamp body ≡ Some h)
-health_if true stamp body h e = (refl, e)
-health_if false stamp body h e = absurd (none_some h e)
+health_part : (sat : Satellite) (p : Part) (h : Health) → Says (HealthOf sat) p h → health_in p.stamp p.body ≡ Some h
+health_part sat p h says = λ i. health_in (says.2 i) (says.1 i)
 
-health_part : (sat : Satellite) (p : Part) (h : Health) → health_of sat p ≡ Some h → (p.sat ≡ sat) × (health_in p.stamp p.body ≡ Some h)
-health_part sat p h e = let f = health_if (same_sat p.sat sat) p.stamp p.body h e in (same_sat-is p.sat sat f.0, f.1)
+part_health-in : (stamp : ℕ) (sat : Satellite) (body : Body) (h : Health) → health_in stamp body ≡ Some h → Says (HealthOf sat) (record { stamp = stamp; sat = sat; body = body }) h
+part_health-in stamp sat (OfHealth x t) h e = let f = some_is (stamp, x, t) h e in (refl, λ i. OfHealth (f i).1 (f i).2, λ i. (f i).0)
+part_health-in stamp sat _ h e = absurd (none_some h e)
 
-part_health : (p : Part) (h : Health) → health_in p.stamp p.body ≡ Some h → health_of p.sat p ≡ Some h
-part_health p h e = ap (λ (b : Bool). if b then health_in p.stamp p.body else None) (is-same_sat p.sat) ∙ e
+part_health : (p : Part) (h : Health) → health_in p.stamp p.body ≡ Some h → Says (HealthOf p.sat) p h
+part_health p h e = part_health-in p.stamp p.sat p.body h e
 
-value_keeps : (old new : Part → Type 0) (p : Part) (sat : Satellite) (v : Health) → IsWithPart old new p → HasValue (health_of sat) old v → HasValue (health_of sat) new v
-value_keeps old new p sat v m h = record { element = h.element; here = m.keeps h.element h.here; is = h.is }
-
-value_was : (old new : Part → Type 0) (p : Part) (sat : Satellite) (v : Health) → IsWithPart old new p → HasValue (health_of sat) new v
-    → HasValue (health_of sat) old v ⊎ ((p.sat ≡ sat) × (health_in p.stamp p.body ≡ Some v))
-value_was old new p sat v m h = elim (m.only h.element h.here) [
-  | inl o ↦ inl (record { element = h.element; here = o; is = h.is })
-  | inr e ↦ inr (health_part sat p v (ap (health_of sat) e ∙ h.is))
+value_was : (old new : Part → Type 0) (p : Part) (sat : Satellite) (v : Health) → IsWithPart old new p → HasValue (HealthOf sat) new v
+    → HasValue (HealthOf sat) old v ⊎ ((p.sat ≡ sat) × (health_in p.stamp p.body ≡ Some v))
+value_was old new p sat v m h = elim (m.only h.part h.here) [
+  | inl o ↦ inl (record { part = h.part; here = o; says = h.says })
+  | inr e ↦ let said = subst (λ (q : Part). Says (HealthOf sat) q v) (sym e) h.says in inr (said.0, health_part sat p v said)
 ]
 
 -- a part that says nothing of health
 kept_none : (w n : ℕ) (old new : Part → Type 0) (p : Part) (heard heard' : HeardList) → IsWithPart old new p → ((h : Health) → health_in p.stamp p.body ≡ Some h → ⊥) → IsSameHealth heard heard'
     → AreKept w n old heard → AreKept w n new heard'
 kept_none w n old new p heard heard' m none same k = record {
-  was_heard = λ x h i. let f = k.was_heard x h (sym (same x) ∙ i) in (f.0, value_keeps old new p f.0 h m f.1, f.2);
+  was_heard = λ x h i. let f = k.was_heard x h (sym (same x) ∙ i) in (f.0, HasValue-to (HealthOf f.0) old new h m.keeps f.1, f.2);
   recent = λ x i. k.recent x (subst IsSome (same x) i);
   every = λ sat h v l. same (place_of_health sat h) ∙ k.every sat h (elim (value_was old new p sat h m v) [ inl o ↦ o | inr e ↦ absurd (none h e.1) ]) l;
 }
@@ -77,13 +74,13 @@ kept_some : (w n : ℕ) (old new : Part → Type 0) (p : Part) (h : Health) (hea
     → IsHeardChanged heard (place_of_health p.sat h) (Some h) heard' → AreKept w n old heard → AreKept w n new heard'
 kept_some w n old new p h heard heard' m values said l c k =
     let place = place_of_health p.sat h in
-    let own : HasValue (health_of p.sat) new h = record { element = p; here = m.has; is = part_health p h said } in
-    let stamp = health_stamp p.sat p h own.is in
+    let own : HasValue (HealthOf p.sat) new h = record { part = p; here = m.has; says = part_health p h said } in
+    let stamp = own.says.2 in
     record {
       was_heard = λ x v i. heard_by x v i (is_at (sat_cmp.it place) x) refl;
       recent = λ x i. recent_by x i (is_at (sat_cmp.it place) x) refl;
       every = λ sat v u g. at_one (is_at (sat_cmp.it place) (place_of_health sat v)) (heard_at heard (place_of_health sat v)) (heard_at heard' (place_of_health sat v)) h v (c (place_of_health sat v))
-          (λ e. one_at p.sat sat h v (health_value p.sat p h (values p m.has) own.is) (health_value sat u.element v (values u.element u.here) u.is) (heard_is place (place_of_health sat v) e))
+          (λ e. one_at p.sat sat h v (health_value p.sat p h (values p m.has) own.says) (health_value sat u.part v (values u.part u.here) u.says) (heard_is place (place_of_health sat v) e))
           (λ e. elim (value_was old new p sat v m u) [
             | inl o ↦ k.every sat v o g
             | inr f ↦ absurd (both_ways (is_at (sat_cmp.it place) (place_of_health sat v)) e
@@ -91,19 +88,19 @@ kept_some w n old new p h heard heard' m values said l c k =
           ]);
     }
   where
-    heard_by : (x : BySat) (v : Health) → heard_at heard' x ≡ Some v → (b : Bool) → is_at (sat_cmp.it (place_of_health p.sat h)) x ≡ b → (sat : Satellite) × HasValue (health_of sat) new v × (x ≡ place_of_health sat v)
+    heard_by : (x : BySat) (v : Health) → heard_at heard' x ≡ Some v → (b : Bool) → is_at (sat_cmp.it (place_of_health p.sat h)) x ≡ b → (sat : Satellite) × HasValue (HealthOf sat) new v × (x ≡ place_of_health sat v)
     heard_by x v i true e =
         let same : h ≡ v = some_is h v (sym (c x ∙ ap (λ (b : Bool). cond b (Some h) (heard_at heard x)) e) ∙ i) in (
           p.sat,
-          record { element = p; here = m.has; is = part_health p v (said ∙ ap Some same) },
+          record { part = p; here = m.has; says = part_health p v (said ∙ ap Some same) },
           sym (heard_is (place_of_health p.sat h) x e) ∙ ap (place_of_health p.sat) same,
         )
     heard_by x v i false e =
         let f = k.was_heard x v (sym (c x ∙ ap (λ (b : Bool). cond b (Some h) (heard_at heard x)) e) ∙ i) in
-        (f.0, value_keeps old new p f.0 v m f.1, f.2)
+        (f.0, HasValue-to (HealthOf f.0) old new v m.keeps f.1, f.2)
 
     recent_by : (x : BySat) → IsSome (heard_at heard' x) → (b : Bool) → is_at (sat_cmp.it (place_of_health p.sat h)) x ≡ b → n ≤ x.stamp + 2 * w
-    recent_by x i true e = omega (arith, ap (λ (y : BySat). y.stamp) (heard_is (place_of_health p.sat h) x e), health_stamp p.sat p h (part_health p h said))
+    recent_by x i true e = omega (arith, ap (λ (y : BySat). y.stamp) (heard_is (place_of_health p.sat h) x e), (part_health p h said).2)
     recent_by x i false e = k.recent x (subst IsSome (c x ∙ ap (λ (b : Bool). cond b (Some h) (heard_at heard x)) e) i)
 
 pub kept_said : (w n : ℕ) (old new : Part → Type 0) (p : Part) (o : Option Health) (heard heard' : HeardList) → health_in p.stamp p.body ≡ o → IsWithPart old new p → ((q : Part) → new q → IsPartValue q) → n ≤ p.stamp
@@ -125,28 +122,28 @@ kept_forgotten w n mark parts heard heard' l f k =
     }
 
 -- what is found below an end is the last up to it
-module _ (w n : ℕ) (parts : Part → Type 0) (heard : HeardList) (sat : Satellite) (e : ℕ) where
-  there_up : AreKept w n parts heard → n ≤ e + w → (v : Health) → IsUpToEnd w parts sat e v → heard_at heard (place_of_health sat v) ≡ Some v
+module _ (w n : ℕ) (parts : Part → Type 0) (heard : HeardList) (sat : Satellite) (issue e : ℕ) where
+  there_up : AreKept w n parts heard → n ≤ e + w → (v : Health) → IsUpToEnd w parts (Gal sat issue) e v → heard_at heard (place_of_health sat v) ≡ Some v
   there_up k l v u = k.every sat v u.heard (omega (arith, u.near))
 
-  there_behind : AreKept w n parts heard → n ≤ e + w → (v : Health) → IsBehindEnd w parts sat e v → heard_at heard (place_of_health sat v) ≡ Some v
+  there_behind : AreKept w n parts heard → n ≤ e + w → (v : Health) → IsBehindEnd w parts (Gal sat issue) e v → heard_at heard (place_of_health sat v) ≡ Some v
   there_behind k l v u = k.every sat v u.heard (omega (arith, u.behind))
 
   some_there : (v : Health) → heard_at heard (place_of_health sat v) ≡ Some v → IsSome (heard_at heard (place_of_health sat v))
   some_there v i = subst IsSome (sym i) refl
 
   -- what stands at a place of the satellite
-  at_sat : AreKept w n parts heard → (x : BySat) (h : Health) → heard_at heard x ≡ Some h → is_of_sat sat x ≡ true → HasValue (health_of sat) parts h × (x ≡ place_of_health sat h)
+  at_sat : AreKept w n parts heard → (x : BySat) (h : Health) → heard_at heard x ≡ Some h → is_of_sat sat x ≡ true → HasValue (HealthOf sat) parts h × (x ≡ place_of_health sat h)
   at_sat k x h i o =
       let f = k.was_heard x h i in
       let same : f.0 ≡ sat = same_sat-is f.0 sat (subst (λ (y : BySat). is_of_sat sat y ≡ true) f.2 o) in
-      (subst (λ (t : Satellite). HasValue (health_of t) parts h) same f.1, f.2 ∙ ap (λ (t : Satellite). place_of_health t h) same)
+      (subst (λ (t : Satellite). HasValue (HealthOf t) parts h) same f.1, f.2 ∙ ap (λ (t : Satellite). place_of_health t h) same)
 
   stamp_of_place : AreKept w n parts heard → (x : BySat) (h : Health) → heard_at heard x ≡ Some h → x.stamp ≡ h.0
   stamp_of_place k x h i = ap (λ (y : BySat). y.stamp) (k.was_heard x h i).2
 
   up_by : AreKept w n parts heard → n ≤ e + w → (x : BySat × Health) → IsLastBelow heard (by_sat sat (e + 1) 0) (Some x) → (t : Bool) → is_of_sat sat x.0 && nat_le e (x.1.0 + w) ≡ t
-      → IsBest (IsLater health_numbers) (IsUpToEnd w parts sat e) (if t then Some x.1 else None)
+      → IsBest (IsLater health_numbers) (IsUpToEnd w parts (Gal sat issue) e) (if t then Some x.1 else None)
   up_by k l x h true o =
       let a = and_parts (is_of_sat sat x.0) (nat_le e (x.1.0 + w)) o in
       let f = at_sat k x.0 x.1 h.0 a.0 in
@@ -168,12 +165,12 @@ module _ (w n : ℕ) (parts : Part → Type 0) (heard : HeardList) (sat : Satell
       let up = stamps_le sat v.0 (health_number v.1 v.2) x.0 le of in
       both_ways (is_of_sat sat x.0 && nat_le e (x.1.0 + w)) o (and_from (is_of_sat sat x.0) (nat_le e (x.1.0 + w)) of (le-leb e (x.1.0 + w) (omega (arith, u.near, up, stamp_of_place k x.0 x.1 h.0))))
 
-  up_is : AreKept w n parts heard → n ≤ e + w → (o : Option (BySat × Health)) → IsLastBelow heard (by_sat sat (e + 1) 0) o → IsBest (IsLater health_numbers) (IsUpToEnd w parts sat e) (near_up sat w e o)
+  up_is : AreKept w n parts heard → n ≤ e + w → (o : Option (BySat × Health)) → IsLastBelow heard (by_sat sat (e + 1) 0) o → IsBest (IsLater health_numbers) (IsUpToEnd w parts (Gal sat issue) e) (near_up sat w e o)
   up_is k l None h = λ v u. h (place_of_health sat v) (below_next sat v.0 (health_number v.1 v.2) e u.by_end) (some_there v (there_up k l v u))
   up_is k l (Some x) h = up_by k l x h (is_of_sat sat x.0 && nat_le e (x.1.0 + w)) refl
 
   behind_by : AreKept w n parts heard → n ≤ e + w → (x : BySat × Health) → IsFirstAbove heard (by_sat sat (e + 1) 0) (Some x) → (t : Bool) → is_of_sat sat x.0 && nat_le x.1.0 (e + w) ≡ t
-      → IsBest (IsEarlier health_numbers) (IsBehindEnd w parts sat e) (if t then Some x.1 else None)
+      → IsBest (IsEarlier health_numbers) (IsBehindEnd w parts (Gal sat issue) e) (if t then Some x.1 else None)
   behind_by k l x h true o =
       let a = and_parts (is_of_sat sat x.0) (nat_le x.1.0 (e + w)) o in
       let f = at_sat k x.0 x.1 h.0 a.0 in
@@ -195,19 +192,23 @@ module _ (w n : ℕ) (parts : Part → Type 0) (heard : HeardList) (sat : Satell
       let up = stamps_ge sat v.0 (health_number v.1 v.2) x.0 le of in
       both_ways (is_of_sat sat x.0 && nat_le x.1.0 (e + w)) o (and_from (is_of_sat sat x.0) (nat_le x.1.0 (e + w)) of (le-leb x.1.0 (e + w) (omega (arith, u.near, up, stamp_of_place k x.0 x.1 h.0))))
 
-  behind_is : AreKept w n parts heard → n ≤ e + w → (o : Option (BySat × Health)) → IsFirstAbove heard (by_sat sat (e + 1) 0) o → IsBest (IsEarlier health_numbers) (IsBehindEnd w parts sat e) (near_behind sat w e o)
+  behind_is : AreKept w n parts heard → n ≤ e + w → (o : Option (BySat × Health)) → IsFirstAbove heard (by_sat sat (e + 1) 0) o → IsBest (IsEarlier health_numbers) (IsBehindEnd w parts (Gal sat issue) e) (near_behind sat w e o)
   behind_is k l None h = λ v u. h (place_of_health sat v) (next_above sat v.0 (health_number v.1 v.2) e u.behind) (some_there v (there_behind k l v u))
   behind_is k l (Some x) h = behind_by k l x h (is_of_sat sat x.0 && nat_le x.1.0 (e + w)) refl
 
-  looked_best : AreKept w n parts heard → n ≤ e + w → (result : Option Health) → IsLooked heard sat w e result → IsBestHealth (IsUpToEnd w parts sat e) (IsBehindEnd w parts sat e) result
+  looked_best : AreKept w n parts heard → n ≤ e + w → (result : Option Health) → IsLooked heard sat w e result → IsBestHealth (IsUpToEnd w parts (Gal sat issue) e) (IsBehindEnd w parts (Gal sat issue) e) result
   looked_best k l result h =
-      subst (IsBestHealth (IsUpToEnd w parts sat e) (IsBehindEnd w parts sat e)) (sym h.is)
-      (best_health (IsUpToEnd w parts sat e) (IsBehindEnd w parts sat e) (near_up sat w e h.below) (near_behind sat w e h.above) (up_is k l h.below h.is_below) (behind_is k l h.above h.is_above))
+      subst (IsBestHealth (IsUpToEnd w parts (Gal sat issue) e) (IsBehindEnd w parts (Gal sat issue) e)) (sym h.is)
+      (best_health (IsUpToEnd w parts (Gal sat issue) e) (IsBehindEnd w parts (Gal sat issue) e) (near_up sat w e h.below) (near_behind sat w e h.above) (up_is k l h.below h.is_below) (behind_is k l h.above h.is_above))
 
 -- what is kept gives the health that counts
+none_chosen : (w : ℕ) (parts : Part → Type 0) (key : Key) (e : ℕ) (result : Option Health) → ((h : Health) → HasHealth key parts h → ⊥) → result ≡ None
+    → IsBestHealth (IsUpToEnd w parts key e) (IsBehindEnd w parts key e) result
+none_chosen w parts key e result none h = subst (IsBestHealth (IsUpToEnd w parts key e) (IsBehindEnd w parts key e)) (sym h) (no_health w parts key e none)
+
 pub chosen_best : (w n : ℕ) (parts : Part → Type 0) (heard : HeardList) (key : Key) (e : ℕ) (result : Option Health) → AreKept w n parts heard → n ≤ e + w → IsChosen heard w key e result
-    → IsBestHealth (IsHealthBefore w parts key e) (IsHealthBehind w parts key e) result
-chosen_best w n parts heard (Gal sat i) e result k l h = looked_best w n parts heard sat e k l result h
-chosen_best w n parts heard (Gps sat i) e result k l h = subst (IsBestHealth (λ v. ⊥) (λ v. ⊥)) (sym h) (λ v x. x, λ v x. x)
-chosen_best w n parts heard (GpsIon c) e result k l h = subst (IsBestHealth (λ v. ⊥) (λ v. ⊥)) (sym h) (λ v x. x, λ v x. x)
-chosen_best w n parts heard (GalIon c) e result k l h = subst (IsBestHealth (λ v. ⊥) (λ v. ⊥)) (sym h) (λ v x. x, λ v x. x)
+    → IsBestHealth (IsUpToEnd w parts key e) (IsBehindEnd w parts key e) result
+chosen_best w n parts heard (Gal sat i) e result k l h = looked_best w n parts heard sat i e k l result h
+chosen_best w n parts heard (Gps sat i) e result k l h = none_chosen w parts (Gps sat i) e result (λ x y. y) h
+chosen_best w n parts heard (GpsIon c) e result k l h = none_chosen w parts (GpsIon c) e result (λ x y. y) h
+chosen_best w n parts heard (GalIon c) e result k l h = none_chosen w parts (GalIon c) e result (λ x y. y) h

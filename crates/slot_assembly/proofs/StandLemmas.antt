@@ -9,7 +9,7 @@ use Rattle.nav_eph.specs.declared.part.Part.{Part}
 use Rattle.periods.proofs.EndSurface.{Same, IsEnd-same, IsEndOf-same}
 use Rattle.periods.specs.declared.key.Key.{Key}
 use Rattle.periods.specs.declared.key.Place.{Place}
-use Rattle.periods.specs.Parts.{key_of, health_in}
+use Rattle.periods.specs.Parts.{key_of}
 use Rattle.periods.specs.Periods.{IsHeardAt, IsMember}
 use Rattle.periods.proofs.Surface.{none_some, key_value, period_key, all_values, IsDigest-same, known_parts, with_part, joined_part, later_part, IsWithPart}
 use Rattle.slot_assembly.specs.Standing.{Standing, NoneDue, taking, reaching}
@@ -22,7 +22,7 @@ use Rattle.slot_assembly.specs.declared.slot.Slot.{Slot}
 use Rattle.slot_assembly.specs.declared.slot.PackedSlot.{PackedSlot}
 use Rattle.slot_assembly.specs.contracts.order.RankOrd.TheImpl.{cmp-value as rank_cmp}
 use Rattle.slot_assembly.specs.Slots.{at_of, slot_place, AreIndexed, IsOneSlot, IsTaken, AreSameSlots, IsFirstDue}
-use Rattle.slot_assembly.specs.Healths.{AreStamped, IsSameHealth, IsHeard, IsForgotten}
+use Rattle.slot_assembly.specs.Healths.{AreStamped, IsSameHealth, IsHeard, IsForgotten, health_in}
 use Rattle.slot_assembly.specs.SlotStanding.{SlotsState, SlotsStandFor, AreSlots, AreKept, AreKnown, AreSameItems}
 use Rattle.slot_assembly.proofs.StepLemmas.{slots_taken}
 use Rattle.slot_assembly.proofs.KeptLemmas.{kept_keyed, kept_said, kept_forgotten}

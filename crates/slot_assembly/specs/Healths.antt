@@ -10,9 +10,10 @@ use Rattle.nav_eph.specs.Satellite.{Satellite}
 use Rattle.nav_eph.specs.declared.galileo.GalHealth.{GalHealth}
 use Rattle.nav_eph.specs.declared.tag.SentTag.{SentTag}
 use Rattle.nav_eph.specs.declared.part.Part.{Part}
+use Rattle.nav_eph.specs.declared.part.Body.{Body}
+use Rattle.nav_eph.specs.declared.part.Body.TheVariants.{GalHealth as OfHealth}
 use Rattle.periods.specs.declared.key.Key.{Key}
 use Rattle.periods.specs.declared.key.Key.TheVariants.{Gps, Gal, GpsIon, GalIon}
-use Rattle.periods.specs.Parts.{health_in}
 use Rattle.periods.specs.Mirrors.{or_else}
 use Rattle.slot_assembly.specs.declared.order.BySat.{BySat}
 use Rattle.slot_assembly.specs.declared.order.ByStamp.{ByStamp}
@@ -42,6 +43,11 @@ IsHeardChanged old x w new = (q : BySat) → heard_at new q ≡ cond (is_at (sat
 
 abbrev pub IsSameHealth : List (BySat × (ℕ × GalHealth × SentTag)) → List (BySat × (ℕ × GalHealth × SentTag)) → Type 0
 IsSameHealth old new = (q : BySat) → heard_at new q ≡ heard_at old q
+
+-- the health that a part says of its satellite, with the stamp
+abbrev pub health_in : ℕ → Body → Option (ℕ × GalHealth × SentTag)
+health_in stamp (OfHealth health tag) = Some (stamp, health, tag)
+health_in stamp _ = None
 
 -- what a part says of health is kept
 abbrev pub IsSaid : List (BySat × (ℕ × GalHealth × SentTag)) → Satellite → Option (ℕ × GalHealth × SentTag) → List (BySat × (ℕ × GalHealth × SentTag)) → Type 0

@@ -8,8 +8,8 @@ use Rattle.nav_eph.specs.Values.{IsPartValue}
 use Rattle.periods.proofs.EndSurface.{Same, turned}
 use Rattle.periods.specs.declared.key.Key.{Key}
 use Rattle.periods.specs.declared.key.Place.{Place}
-use Rattle.periods.proofs.Surface.{IsPeriod-same, members_same, IsDigest-same, IsComplete-same, HasValue-same}
-use Rattle.periods.specs.Parts.{health_of}
+use Rattle.periods.proofs.Surface.{IsPeriod-same, members_same, IsDigest-same, IsComplete-same, HasValue-to}
+use Rattle.periods.specs.Parts.{HealthOf}
 use Rattle.slot_assembly.specs.Standing.{Standing, with_parts}
 use Rattle.slot_assembly.specs.declared.slot.Slot.{Slot}
 use Rattle.slot_assembly.specs.Order.{rank_of}
@@ -54,9 +54,9 @@ parts_are_a_set s at other h same =
       };
       indexed = h.indexed;
       kept = record {
-        was_heard = λ x v i. let f = h.kept.was_heard x v i in (f.0, HasValue-same (health_of f.0) a b v e f.1, f.2);
+        was_heard = λ x v i. let f = h.kept.was_heard x v i in (f.0, HasValue-to (HealthOf f.0) a b v e.to f.1, f.2);
         recent = h.kept.recent;
-        every = λ sat v i l. h.kept.every sat v (HasValue-same (health_of sat) b a v back i) l;
+        every = λ sat v i l. h.kept.every sat v (HasValue-to (HealthOf sat) b a v e.from i) l;
       };
       stamped = h.stamped;
       known = record {

@@ -15,10 +15,9 @@ use Rattle.periods.specs.declared.key.Place.{Place}
 use Rattle.periods.specs.declared.closed.Finding.{Finding}
 use Rattle.periods.specs.Digests.{IsDigest}
 use Rattle.periods.specs.DigestsOf.{item_of}
-use Rattle.periods.specs.Parts.{health_of}
+use Rattle.periods.specs.Parts.{HealthOf, HasValue}
 use Rattle.periods.specs.Periods.{IsPeriod, IsMember}
 use Rattle.periods.specs.PeriodsOf.{end_place}
-use Rattle.periods.specs.Values.{HasValue}
 use Rattle.periods.specs.Verdicts.{IsOfEphemeris, IsComplete}
 use Rattle.slot_assembly.specs.Given.{GivenBelow}
 use Rattle.slot_assembly.specs.Standing.{Standing, IsAfter, NoneDue}
@@ -79,9 +78,9 @@ pub record AreSlots (window : ℕ) (parts : Part → Type 0) (last : Option Plac
 
 -- exactly the health whose stamp and two windows reach the mark
 pub record AreKept (window mark : ℕ) (parts : Part → Type 0) (heard : List (BySat × (ℕ × GalHealth × SentTag))) : Type 0 where
-  pub was_heard : (x : BySat) (h : ℕ × GalHealth × SentTag) → heard_at heard x ≡ Some h → (sat : Satellite) × HasValue (health_of sat) parts h × (x ≡ place_of_health sat h)
+  pub was_heard : (x : BySat) (h : ℕ × GalHealth × SentTag) → heard_at heard x ≡ Some h → (sat : Satellite) × HasValue (HealthOf sat) parts h × (x ≡ place_of_health sat h)
   pub recent : (x : BySat) → IsSome (heard_at heard x) → mark ≤ x.stamp + 2 * window
-  pub every : (sat : Satellite) (h : ℕ × GalHealth × SentTag) → HasValue (health_of sat) parts h → mark ≤ h.0 + 2 * window → heard_at heard (place_of_health sat h) ≡ Some h
+  pub every : (sat : Satellite) (h : ℕ × GalHealth × SentTag) → HasValue (HealthOf sat) parts h → mark ≤ h.0 + 2 * window → heard_at heard (place_of_health sat h) ≡ Some h
 
 -- the item that is kept for a key
 abbrev pub known_at : List (Rank × NavItem) → Rank → Option NavItem

@@ -28,6 +28,10 @@ pub trait Assembly {
     // How many periods it may still give before it takes a part again.
     ghost left: { Self → ℕ };
 
+    // The greatest mark at which it answered that there is none to give. What it keeps of what no
+    // longer counts is told by this mark.
+    ghost none_at: { Self → ℕ };
+
     /// Takes a part, whose stamp is at least the greatest mark given so far. A part that was taken
     /// already changes no period. Where memory is wanting all is unchanged.
     fn take(&mut self, part: &Part) -> Result<(), AllocError>
@@ -37,7 +41,8 @@ pub trait Assembly {
         ensures ok { OnOk result
             (Carries (stands_for self.old) (stands_for self.new) (taking part.now)) }
         ensures err { OnErr result
-            (Carries (stands_for self.old) (stands_for self.new) unchanged) };
+            (Carries (stands_for self.old) (stands_for self.new) unchanged) }
+        ensures none_at { none_at self.new ≡ none_at self.old };
 
     /// The first period whose end and the window after it are below the mark and that was not given
     /// yet, with its verdict; `None` exactly where there is none. The mark is at least the greatest
@@ -65,7 +70,13 @@ pub trait Assembly {
 
         // Fewer may still be given, so asking until there is none ends.
         ensures fewer { IfOk result (λ answer. IfSome answer
-            (λ _. left self.new < left self.old)) };
+            (λ _. left self.new < left self.old)) }
+
+        // The mark is noted where there is none, and there alone.
+        ensures none_there { IfOk result (λ answer. IfNone answer (none_at self.new ≡ mark)) }
+        ensures none_stays { IfOk result (λ answer. IfSome answer
+            (λ _. none_at self.new ≡ none_at self.old)) }
+        ensures none_kept { OnErr result (none_at self.new ≡ none_at self.old) };
 
     // Each part that it stands for is a value of its type.
     ghost parts_are_values: { (assembly : Self) (at : Standing)

@@ -64,6 +64,7 @@ impl SlotAssembly {
         ensures reference { result.reference ≡ r }
         ensures window { result.window ≡ window }
         ensures stands { SlotsStandFor result nothing_yet }
+        ensures none_at { result.none_at ≡ 0 }
     {
         SlotAssembly {
             held: OpenSlots {
@@ -96,6 +97,8 @@ impl Assembly for SlotAssembly {
     ghost stands_for = { SlotsStandFor };
 
     ghost left = { slots_left };
+
+    ghost none_at = { λ s. s.none_at };
 
     fn take(&mut self, part: &Part) -> Result<(), AllocError> {
         note_value(part);

@@ -1,4 +1,4 @@
--- Laws of writes that failed, and of what a run has written when it ends.
+-- Laws of writes that failed.
 use Rattle.std.proofs.Common.{ℕ, Bool, true, false, List, [], ◌++◌, refl, sym, ap, ◌∙◌, subst, append_assoc, append-nil}
 use Rattle.std.specs.Prelude.{Option}
 use Rattle.std.specs.List.{flat_map}
@@ -7,7 +7,6 @@ use Rattle.std.proofs.lemmas.Grind.{flat_map-append}
 use Rattle.nav_io.specs.Front.{AppendsFront}
 use Rattle.rtcm_frame.specs.Frames.{frames}
 use Rattle.streams.specs.FrameRuns.{output_of, Goes, Breaks}
-use Rattle.streams.proofs.Goings.{goes_fed}
 
 -- lines were written, and then a write failed
 pub breaks_on : (line : List ℕ → List ℕ) (more : Bool) (a b : List ℕ) (u v w : Option (List ℕ)) (k n : ℕ)
@@ -32,36 +31,3 @@ breaks_fed line a c v w breaks = record {
   text = λ following last.
       subst (λ (l : List ℕ). AppendsFront v w (flat_map line (frames l))) (sym (append_assoc a c following)) (breaks.text (c ++ following) (λ never. cc));
 }
-
--- what was written where the run ends after its bytes
-pub front_after : (line : List ℕ → List ℕ) (bytes rest : List ℕ) (v w : Option (List ℕ)) (k n : ℕ) → Goes line true bytes rest v w k n → AppendsFront v w (output_of line bytes)
-front_after line bytes rest v w k n goes = (
-  flat_map line goes.given,
-  (
-    flat_map line (frames rest),
-    ap (λ (l : List ℕ). flat_map line (frames l)) (sym (append-nil bytes)) ∙ ap (flat_map line) (goes.stream [] (λ never. refl))
-        ∙ flat_map-append line goes.given (frames (rest ++ []))
-        ∙ ap (λ (l : List ℕ). flat_map line goes.given ++ flat_map line (frames l)) (append-nil rest),
-  ),
-  goes.text,
-)
-
--- what was written where a write fails in the last piece
-pub front_of_break : (line : List ℕ → List ℕ) (bytes rest piece : List ℕ) (u v w : Option (List ℕ)) (k n : ℕ)
-    → Goes line true bytes rest u v k n → Breaks line true (rest ++ piece) v w → AppendsFront u w (output_of line (bytes ++ piece))
-front_of_break line bytes rest piece u v w k n goes breaks =
-    subst (λ (l : List ℕ). AppendsFront u w (flat_map line (frames l))) (append-nil (bytes ++ piece))
-    ((breaks_on line true (bytes ++ piece) (rest ++ piece) u v w k n (goes_fed line bytes rest piece u v k n goes) breaks).text [] (λ never. refl))
-
--- what was written where a write fails after the last byte
-pub front_of_last : (line : List ℕ → List ℕ) (bytes rest : List ℕ) (u v w : Option (List ℕ)) (k n : ℕ)
-    → Goes line true bytes rest u v k n → Breaks line false rest v w → AppendsFront u w (output_of line bytes)
-front_of_last line bytes rest u v w k n goes breaks =
-    let ends : Goes line false bytes rest u v k n = record {
-      given = goes.given;
-      stream = λ following last. goes.stream following (λ never. cc);
-      text = goes.text;
-      counts = goes.counts;
-    } in
-    subst (λ (l : List ℕ). AppendsFront u w (flat_map line (frames l))) (append-nil bytes)
-    ((breaks_on line false bytes rest u v w k n ends breaks).text [] (λ never. refl))

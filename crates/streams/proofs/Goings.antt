@@ -4,7 +4,7 @@ use Rattle.std.specs.Prelude.{Option}
 use Rattle.std.specs.Io.KnownBytes.{Appends}
 use Rattle.std.proofs.KnownBytes.{Appends-nil, Appends-trans}
 use Rattle.std.proofs.lemmas.Grind.{flat_map-append}
-use Rattle.rtcm_frame.specs.Frames.{frames}
+use Rattle.rtcm_frame.specs.Frames.{decided, frames}
 use Rattle.streams.specs.FrameRuns.{Goes}
 
 -- nothing was given
@@ -12,6 +12,7 @@ pub goes_nowhere : (line : List ℕ → List ℕ) (more : Bool) (rest : List ℕ
 goes_nowhere line more rest w n = record {
   given = [];
   stream = λ following last. refl;
+  decides = λ following unfinished. refl;
   text = Appends-nil w;
   counts = omega arith;
 }
@@ -24,6 +25,9 @@ goes_on line more a b c u v w k m n first second = record {
   stream = λ following last.
       first.stream following last ∙ ap (λ (l : List (List ℕ)). first.given ++ l) (second.stream following last)
       ∙ sym (append_assoc first.given second.given (frames (c ++ following)));
+  decides = λ following unfinished.
+      first.decides following unfinished ∙ ap (λ (l : List (List ℕ)). first.given ++ l) (second.decides following unfinished)
+      ∙ sym (append_assoc first.given second.given (decided (c ++ following)));
   text = subst (λ (l : List ℕ). Appends u w l) (sym (flat_map-append line first.given second.given)) (Appends-trans u v w _ _ first.text second.text);
   counts = omega (arith, first.counts, second.counts, length-append first.given second.given);
 }
@@ -35,6 +39,9 @@ goes_fed line a b c v w k n goes = record {
   stream = λ following last.
       ap frames (append_assoc a c following) ∙ goes.stream (c ++ following) (λ never. cc)
       ∙ ap (λ (l : List ℕ). goes.given ++ frames l) (sym (append_assoc b c following));
+  decides = λ following unfinished.
+      ap decided (append_assoc a c following) ∙ goes.decides (c ++ following) unfinished
+      ∙ ap (λ (l : List ℕ). goes.given ++ decided l) (sym (append_assoc b c following));
   text = goes.text;
   counts = goes.counts;
 }

@@ -6,15 +6,17 @@ use Rattle.std.specs.Io.KnownBytes.{Appends}
 use Rattle.std.proofs.KnownBytes.{Appends-nil, Appends-trans}
 use Rattle.std.proofs.lemmas.Grind.{flat_map-append}
 use Rattle.nav_io.specs.Front.{AppendsFront}
-use Rattle.rtcm_frame.specs.Frames.{frames}
+use Rattle.rtcm_frame.specs.Frames.{decided, frames}
 use Rattle.rtcm_frame.specs.State.{TakesFrame, TakesNone}
 use Rattle.streams.specs.FrameRuns.{Goes, Breaks, Gathers, Holds, text_of}
+use Rattle.streams.proofs.DecidedLemmas.{decided_frame, decided_none}
 
 -- nothing was given, and nothing is held
 pub holds_nothing : (line : List ℕ → List ℕ) (more : Bool) (rest : List ℕ) (w : Option (List ℕ)) (n : ℕ) → Holds line more rest rest w w [] n n
 holds_nothing line more rest w n = record {
   given = [];
   stream = λ following last. refl;
+  decides = λ following unfinished. refl;
   out = [];
   text = Appends-nil w;
   same = refl;
@@ -29,6 +31,10 @@ holds_frame line more a b frame c u v w held kept k m holds takes gathers = reco
   stream = λ following last.
       holds.stream following last ∙ ap (λ (l : List (List ℕ)). holds.given ++ l) (takes.stream following last)
       ∙ sym (append_assoc holds.given (frame ∷ []) (frames (c ++ following)));
+  decides = λ following unfinished.
+      holds.decides following unfinished
+      ∙ ap (λ (l : List (List ℕ)). holds.given ++ l) (decided_frame b frame c (subst (λ m. TakesFrame m b frame c) unfinished takes) following)
+      ∙ sym (append_assoc holds.given (frame ∷ []) (decided (c ++ following)));
   out = holds.out ++ gathers.out;
   text = Appends-trans u v w _ _ holds.text gathers.text;
   same =
@@ -47,6 +53,9 @@ pub holds_none : (line : List ℕ → List ℕ) (more : Bool) (a b c : List ℕ)
 holds_none line more a b c u v held k n holds takes = record {
   given = holds.given;
   stream = λ following last. holds.stream following last ∙ ap (λ (l : List (List ℕ)). holds.given ++ l) (takes.stream following last);
+  decides = λ following unfinished.
+      holds.decides following unfinished
+      ∙ ap (λ (l : List (List ℕ)). holds.given ++ l) (decided_none b c (subst (λ m. TakesNone m b c) unfinished takes) following);
   out = holds.out;
   text = holds.text;
   same = holds.same;
@@ -59,6 +68,7 @@ pub holds_goes : (line : List ℕ → List ℕ) (more : Bool) (a b : List ℕ) (
 holds_goes line more a b u v w held k n holds text = record {
   given = holds.given;
   stream = holds.stream;
+  decides = holds.decides;
   text = subst (λ (l : List ℕ). Appends u w l) (sym holds.same) (Appends-trans u v w _ _ holds.text text);
   counts = holds.counts;
 }

@@ -14,3 +14,4 @@ mod Goings
 mod Holding
 mod Numbers
 mod SoFar
+mod ListTexts

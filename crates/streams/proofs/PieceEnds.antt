@@ -65,20 +65,20 @@ stops_of_moves r front text more a b w w1 u u1 g g1 c c1 moves = record {
 }
 
 -- exactly the decided frames were taken
-settled_frames : (bytes rest : List ℕ) (them : List (List ℕ)) → decided (bytes ++ []) ≡ them ++ decided (rest ++ []) → IsWaiting rest → them ≡ decided bytes
+pub settled_frames : (bytes rest : List ℕ) (them : List (List ℕ)) → decided (bytes ++ []) ≡ them ++ decided (rest ++ []) → IsWaiting rest → them ≡ decided bytes
 settled_frames bytes rest them is waits =
     sym (ap decided (sym (append-nil bytes)) ∙ is ∙ ap (λ (l : List ℕ). them ++ decided l) (append-nil rest)
     ∙ ap (λ (l : List (List ℕ)). them ++ l) (decided_waiting rest waits) ∙ append-nil them)
 
 -- what is decided by the first bytes is decided by all
-decided_front : (k : ℕ) (bytes : List ℕ) → (rest : List (List ℕ)) × (decided bytes ≡ decided (take k bytes) ++ rest)
+pub decided_front : (k : ℕ) (bytes : List ℕ) → (rest : List (List ℕ)) × (decided bytes ≡ decided (take k bytes) ++ rest)
 decided_front k bytes = (
   decided (undecided (take k bytes) ++ drop k bytes),
   ap decided (sym (take-append-drop k bytes)) ∙ decided_behind (take k bytes) (drop k bytes),
 )
 
 -- the bytes but the last piece stand in those that were taken before it
-before_last : (bytes piece : List ℕ) → length piece ≤ 16384 → take (length (bytes ++ piece) - 16384) (bytes ++ piece) ≡ take (length (bytes ++ piece) - 16384) bytes
+pub before_last : (bytes piece : List ℕ) → length piece ≤ 16384 → take (length (bytes ++ piece) - 16384) (bytes ++ piece) ≡ take (length (bytes ++ piece) - 16384) bytes
 before_last bytes piece few = take-append-le (length (bytes ++ piece) - 16384) bytes piece (omega (arith, length-append bytes piece, few))
 
 -- frames that begin with those that were decided before the last piece

@@ -2,9 +2,9 @@
 use Rattle.std.specs.Prelude.{ℕ, ◌+◌, ◌*◌, ◌/◌, true, false, List, [], ◌∷◌, ◌++◌, length, Option, None, Some, codes, decimal}
 use Rattle.rtcm_frame.specs.Frames.{frames}
 use Rattle.rtcm_frame.specs.State.{payload_of}
-use Rattle.one_run.specs.Runs.{Meaning, no_least}
+use Rattle.one_run.specs.Runs.{Meaning}
 use Rattle.streams.specs.declared.frame_run.FrameCounts.{FrameCounts}
-use Rattle.streams.specs.FrameRuns.{output_of}
+use Rattle.streams.specs.FrameRuns.{least_of, output_of, settled_of}
 
 -- the number that the payload's first twelve bits give; a dash where there are fewer than two bytes
 unfoldable pub number_text : List ℕ → List ℕ
@@ -15,7 +15,7 @@ number_text few = codes "-"
 unfoldable pub line_of : List ℕ → List ℕ
 line_of frame = number_text (payload_of frame) ++ codes " " ++ decimal (length (payload_of frame)) ++ codes "\n"
 
--- a run writes a line for each frame, counts them, and reports nothing
+-- a run writes a line for each frame before it reads on, counts them, and reports nothing
 abbrev pub frames_meaning : Meaning FrameCounts
 frames_meaning = record {
   reads = true;
@@ -23,6 +23,6 @@ frames_meaning = record {
   memory = false;
   counts = λ bytes. Some (record { frames = length (frames bytes) });
   whole = record { output = output_of line_of; report = λ bytes. [] };
-  least = no_least;
-  settled = None;
+  least = least_of line_of;
+  settled = Some (record { output = settled_of line_of; report = λ bytes. [] });
 }

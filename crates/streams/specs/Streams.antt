@@ -110,9 +110,6 @@ readings_output front text rs = front ++ flat_map text (first_places (items_in r
 abbrev pub stream_output_by : List ℕ → (NavItem → List ℕ) → ℕ → List ℕ → List ℕ
 stream_output_by front text r bytes = readings_output front text (stream_readings r bytes)
 
-abbrev pub stream_output : StreamTo → ℕ → List ℕ → List ℕ
-stream_output to r bytes = stream_output_by (front_text (target_of_stream to)) (item_text (target_of_stream to) 0) r bytes
-
 abbrev pub stream_report : ℕ → List ℕ → List ℕ
 stream_report r bytes =
     readings_report 1 (stream_readings r bytes) ++ stream_counts_text (stream_counts r bytes)
@@ -125,20 +122,11 @@ settled_readings r bytes = readings r (decided bytes)
 abbrev pub settled_output_by : List ℕ → (NavItem → List ℕ) → ℕ → List ℕ → List ℕ
 settled_output_by front text r bytes = readings_output front text (settled_readings r bytes)
 
-abbrev pub settled_stream_output : StreamTo → ℕ → List ℕ → List ℕ
-settled_stream_output to r bytes = settled_output_by (front_text (target_of_stream to)) (item_text (target_of_stream to) 0) r bytes
-
-abbrev pub settled_stream_report : ℕ → List ℕ → List ℕ
-settled_stream_report r bytes = readings_report 1 (settled_readings r bytes)
-
 -- the least that is written once the bytes were taken, whatever fails: what all of them but the last 16,384 settle, which are taken at
 -- once; nothing where no byte was taken
 abbrev pub least_output_by : List ℕ → (NavItem → List ℕ) → ℕ → List ℕ → List ℕ
 least_output_by front text r [] = []
 least_output_by front text r (b ∷ bs) = settled_output_by front text r (take (length (b ∷ bs) - 16384) (b ∷ bs))
-
-abbrev pub least_stream_output : StreamTo → ℕ → List ℕ → List ℕ
-least_stream_output to r bytes = least_output_by (front_text (target_of_stream to)) (item_text (target_of_stream to) 0) r bytes
 
 -- what a run makes of a stream, with a text in front and one for each item
 abbrev pub stream_meaning_by : List ℕ → (NavItem → List ℕ) → ℕ → Meaning StreamCounts
@@ -149,7 +137,7 @@ stream_meaning_by front text r = record {
   counts = λ bytes. Some (stream_counts r bytes);
   whole = record { output = stream_output_by front text r; report = stream_report r };
   least = least_output_by front text r;
-  settled = Some (record { output = settled_output_by front text r; report = settled_stream_report r });
+  settled = Some (record { output = settled_output_by front text r; report = λ bytes. readings_report 1 (settled_readings r bytes) });
 }
 
 abbrev pub stream_meaning : StreamTo → ℕ → Meaning StreamCounts

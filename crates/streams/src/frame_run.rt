@@ -33,7 +33,9 @@ pub struct FrameCounts {
 ///
 /// The frames are those of RTCM 10403.3, section 4, whatever bytes stand between them. The answer is
 /// one of the faults `ReadFault`, `WriteFault` and `TooLong`, or the count of the frames. After a
-/// fault the output has a front of the lines of the bytes that were taken.
+/// fault the output has a front of the lines of the bytes that were taken: after a failed read
+/// exactly those of the frames that are decided by these bytes, whatever bytes follow, and after any
+/// fault no less than those that all of the bytes but the last 16,384 decide.
 pub fn run_frames<S: Source, T: Sink>(
     input: &mut S,
     output: &mut T,

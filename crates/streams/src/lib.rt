@@ -21,6 +21,7 @@ mod counts;
 mod frame_run;
 mod frames;
 mod given;
+mod laws;
 mod line;
 mod messages;
 mod pieces;
@@ -32,5 +33,6 @@ mod target;
 
 pub use crate::counts::StreamCounts;
 pub use crate::frame_run::{FrameCounts, run_frames};
+pub use crate::laws::what_is_written_of_a_stream_is_the_text_of_its_list;
 pub use crate::streams::run_stream;
 pub use crate::target::StreamTo;

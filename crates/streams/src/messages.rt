@@ -36,8 +36,8 @@ fn mix<const N: usize>(message: &Bits<N>) -> u64
     mixed(mix, message, 424)
 }
 
-// Messages of `N` bytes, each once. A tree of numbers is small and quickly searched, and the
-// messages stand in a list; so many as have a mix that another has stand in a tree of their own.
+// Messages of `N` bytes, each once. They stand in a list, and an ordered map from the hash of a message to its
+// place in the list finds it quickly. On a hash collision the later message goes to an ordered set.
 #[derive(Drop)]
 pub(crate) struct Messages<const N: usize> {
     // the place in the list of the first message with a mix

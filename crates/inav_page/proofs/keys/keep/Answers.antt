@@ -4,6 +4,7 @@ use Rattle.nav_eph.specs.Satellite.{Satellite}
 use Rattle.nav_eph.specs.declared.sat.System.TheVariants.{Gal}
 use Rattle.inav_page.specs.Keeping.{stamped}
 use Rattle.inav_page.specs.Mirrors.{half_of, keys_in}
+use Rattle.inav_page.proofs.Holding.{holds_again}
 use Rattle.inav_page.proofs.Partners.{half_of_place}
 use Rattle.inav_page.proofs.Placing.{are_keys, in_window}
 use Rattle.inav_page.proofs.Taking.{in_key, key_in, puts_again}
@@ -27,6 +28,15 @@ returns-then-is_kept-clause-kept c =
     half_of_place c.args.stamp c.args.number c.args.signal key c.requires.number c.key_of-remainder.ensures.place
     ∙ ap (stamped c.args.stamp sat c.args.signal) c.key_of-remainder.ensures.bits in
     (key, is, puts_again c.args.kept.now key c.requires.seconds (c.is_kept.ensures.0 c.if-is_kept.true))
+
+pub returns-then-is_kept-clause-held : goal.returns-then-is_kept-clause-held
+returns-then-is_kept-clause-held c =
+    let sat : Satellite = record { system = Gal; number = c.args.number } in
+    let key = c.key_of-remainder.result.0 in
+    let is : half_of key ≡ stamped c.args.stamp sat c.args.signal c.args.half.now =
+    half_of_place c.args.stamp c.args.number c.args.signal key c.requires.number c.key_of-remainder.ensures.place
+    ∙ ap (stamped c.args.stamp sat c.args.signal) c.key_of-remainder.ensures.bits in
+    (key, is, holds_again c.args.kept.now key)
 
 pub returns-then-is_kept-clause-greatest : goal.returns-then-is_kept-clause-greatest
 returns-then-is_kept-clause-greatest c =

@@ -1,4 +1,4 @@
-use Rattle.inav_word.proofs.Values.{parts_sat, parts_sendable, parts_stamp, parts_value}
+use Rattle.inav_word.proofs.Values.{parts_ranges, parts_sat, parts_sendable, parts_stamp, parts_value}
 use Rattle.inav_word.proofs.laws.word_parts.Goals as goal
 
 pub returns-clause-stamps : goal.returns-clause-stamps
@@ -12,3 +12,6 @@ returns-clause-sendable c = parts_sendable
 
 pub returns-clause-values : goal.returns-clause-values
 returns-clause-values c = parts_value
+
+pub returns-clause-ranges : goal.returns-clause-ranges
+returns-clause-ranges c = parts_ranges

@@ -1,5 +1,5 @@
 use Rattle.lnav_subframe.specs.Writing.{IsWritten}
-use Rattle.lnav_subframe.proofs.Again.{read_as_written}
+use Rattle.lnav_subframe.proofs.Functions.{read_as_written}
 use Rattle.lnav_subframe.proofs.Bytes.{written_is}
 use Rattle.lnav_subframe.proofs.write.write_subframe.Goals as goal
 

@@ -3,7 +3,7 @@ use Rattle.std.proofs.lemmas.List.Elements.{Contains-append_left, Contains-appen
 use Rattle.nav_eph.specs.declared.part.Part.{Part}
 use Rattle.periods.proofs.EndSurface.{In-from_contains, contains_from_In}
 use Rattle.periods.specs.Periods.{IsMember}
-use Rattle.periods.specs.Verdicts.{IsHealthBefore, IsHealthBehind}
+use Rattle.periods.specs.Verdicts.{IsUpToEnd, IsBehindEnd}
 use Rattle.periods.specs.DigestsOf.{health_at}
 use Rattle.periods.proofs.ValueLemmas.{IsUnion}
 use Rattle.periods.proofs.DigestLemmas.{digest_of-is, digest_join-is, IsDigest-same}
@@ -26,6 +26,6 @@ returns c = record {
   }) (digest_of-is p key d k e);
   joined = λ key some more x y a b. digest_join-is key (Contains some) (Contains more) (Contains (some ++ more)) x y (union_of some more) a b;
   finding = λ r w parts q d h. digest_finding-is r q.key (IsMember w (Contains parts) q)
-      (IsHealthBefore w (Contains parts) q.key q.end) (IsHealthBehind w (Contains parts) q.key q.end) d (health_at w parts q.key q.end) h
+      (IsUpToEnd w (Contains parts) q.key q.end) (IsBehindEnd w (Contains parts) q.key q.end) d (health_at w parts q.key q.end) h
       (health_at-is w parts q.key q.end);
 }

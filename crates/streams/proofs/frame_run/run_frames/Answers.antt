@@ -48,7 +48,8 @@ loop-taken-preserved g c = record {
 pub returns-in-Err-take_piece : goal.returns-in-Err-take_piece
 returns-in-Err-take_piece g c = record {
   ended =
-      broke_piece _ _ _ _ _ _ _ _ (record { report = refl; told = refl; failed = refl }) c.loop-taken.invariant.so_far c.in-Ok.ensures.bytes.0 c.in-Err-take_piece.ensures.breaks
+      broke_piece _ _ _ _ _ _ _ _ (record { report = refl; told = refl; failed = refl }) c.loop-taken.invariant.so_far c.in-Ok.ensures.bytes.0
+      (omega (arith, c.in-Ok.ensures.count, c.in-Ok.ensures.within)) c.in-Err-take_piece.ensures.breaks
       (subst (λ (n : ℕ). Rose n (g.T.Sink.faults c.take_piece.new.output)) c.loop-taken.invariant.write c.in-Err-take_piece.ensures.cause.failed);
 }
 

@@ -1,9 +1,10 @@
 use Rattle.std.proofs.Common.{ℕ, Bool, List, not, refl, subst, ◌∙◌, arith}
 use Rattle.std.proofs.lemmas.Result.{err_from_is_err_and, on_err_weaker}
-use Rattle.rtcm_frame.specs.State.{TakesFrame}
+use Rattle.rtcm_frame.specs.State.{TakesFrame, TakesNone}
 use Rattle.streams.specs.FrameLines.{line_of}
 use Rattle.streams.specs.FrameRuns.{Gathers}
-use Rattle.streams.proofs.Holding.{holds_nothing, holds_frame, holds_breaks}
+use Rattle.streams.proofs.Holding.{holds_nothing, holds_frame, holds_none, holds_breaks, holds_goes}
+use Rattle.streams.proofs.StreamLemmas.{on_ok2}
 use Rattle.streams.proofs.frame_run.take_frames.Goals as goal
 
 pub returns-in_err-gather-clause-breaks : goal.returns-in_err-gather-clause-breaks
@@ -33,3 +34,9 @@ loop-frame-init g c = record {
 pub returns-clause-breaks : goal.returns-clause-breaks
 returns-clause-breaks g c =
     on_err_weaker c.write_gathered.result (holds_breaks line_of _ _ _ _ _ _ _ _ _ c.loop-frame.invariant.holds) c.write_gathered.ensures.part
+
+pub returns-clause-goes : goal.returns-clause-goes
+returns-clause-goes g c =
+    let none = subst (λ (b : Bool). TakesNone (not b) c.loop-frame.deframer.rest c.next_frame.new.self.rest) c.loop-frame.invariant.finished c.in_default.ensures.none in
+    let held = holds_none line_of _ _ _ _ _ _ _ _ _ c.loop-frame.invariant.holds none in
+    on_ok2 c.write_gathered.result c.write_gathered.ensures.text c.write_gathered.ensures.text (λ text same. holds_goes line_of _ _ _ _ _ _ _ _ _ held text)

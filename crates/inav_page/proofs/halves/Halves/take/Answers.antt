@@ -1,9 +1,10 @@
-use Rattle.std.proofs.Common.{◌↔◌, map, ap, subst, ◌∙◌}
+use Rattle.std.proofs.Common.{◌≡◌, ◌+◌, ◌≤◌, ◌⊎◌, ◌↔◌, inl, length, map, ap, subst, ◌∙◌, arith}
 use Rattle.std.specs.Prelude.{Contains, IfOk, OnOk}
 use Rattle.nav_eph.specs.Satellite.{Satellite}
 use Rattle.inav_page.specs.Heard.{StampedHalf, AreWordsWith}
-use Rattle.inav_page.specs.Keeping.{Keeping, stamped, IsKeptWith}
-use Rattle.inav_page.specs.Mirrors.{half_of, keys_in}
+use Rattle.inav_page.specs.Keeping.{Keeping, stamped, HoldsOneSecond, IsKeptWith}
+use Rattle.inav_page.specs.Mirrors.{half_of, keys_held, keys_in}
+use Rattle.inav_page.proofs.Holding.{fewer_halves, held_after, one_second}
 use Rattle.inav_page.proofs.Taking.{if_ok, kept_after, kept_without, not_among, on_ok, on_ok_then, satellite_is}
 use Rattle.inav_page.proofs.halves.Halves.take.Goals as goal
 
@@ -45,3 +46,35 @@ returns-clause-kept c =
     (λ got. kept_after (keys_in c.self.inside.kept) (keys_in new) got.0 taken c.self.inside.kept.window new.greatest
     (got.1 ∙ ap (λ (s : Satellite). stamped c.args.stamp s c.args.signal c.args.half.now) sat_is) got.2.0)
     c.keep.ensures.kept)
+
+pub returns-then-is_too_old-clause-held : goal.returns-then-is_too_old-clause-held
+returns-then-is_too_old-clause-held c = on_ok c.join_with_kept.result _ (λ other there. inl there)
+
+pub returns-then-is_too_old-clause-held_room : goal.returns-then-is_too_old-clause-held_room
+returns-then-is_too_old-clause-held_room c = on_ok c.join_with_kept.result _ (omega arith)
+
+pub returns-then-is_too_old-clause-held_seconds : goal.returns-then-is_too_old-clause-held_seconds
+returns-then-is_too_old-clause-held_seconds c = subst HoldsOneSecond c.self.view_is (one_second c.self.inside.kept c.self.invariant)
+
+pub returns-clause-held : goal.returns-clause-held
+returns-clause-held c =
+    let taken = stamped c.args.stamp c.args.sat c.args.signal c.args.half.now in
+    let old = keys_held c.self.inside.kept.places.items in
+    let new = keys_held c.keep.new.kept.places.items in
+    let Holds : Keeping → Type 0 = λ v. OnOk c.keep.result
+    ((other : StampedHalf) → Contains (map half_of new) other → Contains v.held other ⊎ (taken ≡ other)) in
+    let sat_is = satellite_is c.args.sat c.number-number.result c.requires c.number-number.ensures.same in
+    subst Holds c.self.view_is
+    (on_ok_then c.keep.result _ _
+    (λ got. held_after old new got.0 taken (got.1 ∙ ap (λ (s : Satellite). stamped c.args.stamp s c.args.signal c.args.half.now) sat_is) got.2.0)
+    c.keep.ensures.held)
+
+pub returns-clause-held_room : goal.returns-clause-held_room
+returns-clause-held_room c =
+    let old = keys_held c.self.inside.kept.places.items in
+    let new = keys_held c.keep.new.kept.places.items in
+    let Fewer : Keeping → Type 0 = λ v. OnOk c.keep.result (length (map half_of new) ≤ length v.held + 1) in
+    subst Fewer c.self.view_is (on_ok_then c.keep.result _ _ (λ got. fewer_halves old new got.2.1) c.keep.ensures.held)
+
+pub returns-clause-held_seconds : goal.returns-clause-held_seconds
+returns-clause-held_seconds c = one_second c.keep.new.kept c.keep.ensures.seconds

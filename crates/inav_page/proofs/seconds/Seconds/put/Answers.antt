@@ -5,7 +5,8 @@ use Rattle.std.specs.Prelude.{Contains}
 use Rattle.std.specs.List.{slice_get, slice_set}
 use Rattle.inav_page.specs.declared.seconds.Second.{Second}
 use Rattle.inav_page.specs.Keeping.{IsRecent}
-use Rattle.inav_page.specs.Mirrors.{half_of, keys_among, ArePlaced}
+use Rattle.inav_page.specs.Mirrors.{half_of, keys_among, keys_held, ArePlaced}
+use Rattle.inav_page.proofs.Holding.{on_err, put_held}
 use Rattle.inav_page.proofs.Placing.{HasPut, put_kept, put_placed, put_room}
 use Rattle.inav_page.proofs.seconds.Seconds.put.Goals as goal
 
@@ -81,3 +82,29 @@ returns-clause-seconds c =
           (put_placed window greatest stamp place all was second key (kept.1 c.requires.seconds.placed) at c.place-place.ensures.same put c.requires.stamp
           c.requires.recent c.requires.key);
     }
+
+pub returns-clause-held : goal.returns-clause-held
+returns-clause-held c =
+    let stamp = c.args.stamp in
+    let key = c.args.key in
+    let all = c.make_places.new.places.items in
+    let place = c.place-place.result in
+    let was = c.index_mut.result.now in
+    let second = c.put.new.self in
+    let put : HasPut stamp was key second =
+    record { stamp_is = c.in_ok-put.ensures.stamp; keys = c.in_ok-put.ensures.keys; room = c.in_ok-put.ensures.room } in
+    let enough = c.in_ok-make_places.ensures.enough in
+    let fits = c.place-place.ensures.fits in
+    let at : slice_get all place ≡ Some was = slice_get_read all (length all) place was refl (omega (arith, enough, fits)) c.index_mut.ensures.value in
+    let P : List (ℕ × ℕ) → Type 0 = λ old.
+    ((q : ℕ × ℕ) → Contains (keys_held (slice_set all place second)) q → Contains old q ⊎ (key ≡ q))
+    × (length (keys_held (slice_set all place second)) ≤ length old + 1) in
+    subst P c.make_places.ensures.held (put_held stamp place all was second key at put)
+
+pub returns-in_err-put-clause-err_held : goal.returns-in_err-put-clause-err_held
+returns-in_err-put-clause-err_held c =
+    let all = c.make_places.new.places.items in
+    let place = c.place-place.result in
+    let was = c.index_mut.result.now in
+    let same : slice_set all place c.put.new.self ≡ all = ap (slice_set all place) (c.in_err-put.ensures.err ∙ c.index_mut.ensures.value) ∙ set-get_or all place was in
+    on_err c.from_residual-in_err-put.result _ (ap keys_held same ∙ c.make_places.ensures.held)

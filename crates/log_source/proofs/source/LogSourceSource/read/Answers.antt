@@ -2,7 +2,7 @@ use Rattle.std.proofs.Common.{◌≡◌, [], drop, subst, ◌∙◌, arith}
 use Rattle.std.proofs.lemmas.List.{drop_all}
 use Rattle.std.specs.Io.KnownBytes.{Keeps}
 use Rattle.log_source.specs.LogLeft.{left_of}
-use Rattle.log_source.proofs.Steps.{given_consumes, keeps_more}
+use Rattle.log_source.proofs.Steps.{given_consumes, keeps_more, length_more}
 use Rattle.log_source.proofs.source.LogSourceSource.read.Goals as goal
 
 pub loop-self-preserved : goal.loop-self-preserved
@@ -22,6 +22,8 @@ loop-self-preserved g c =
     record {
       left = keeps_more _ _ _ before c.in_ok-step.ensures.left;
       faults = c.in_ok-step.ensures.cause.stays ∙ so_far.faults;
+      log_faults = c.in_ok-step.ensures.fault.stays ∙ so_far.log_faults;
+      length_is = length_more _ _ _ _ _ _ so_far.length_is c.in_ok-step.ensures.log_length;
       quiet = λ quiet short.
           let both = so_far.quiet quiet short in
           let next = c.in_ok-step.ensures.never both.0 both.1 in (next.1, next.2);

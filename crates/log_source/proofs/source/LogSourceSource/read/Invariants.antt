@@ -1,7 +1,7 @@
 use Rattle.std.proofs.Common.{◌≡◌, ◌+◌, ◌-◌, nat_lt, drop, length}
 use Rattle.std.specs.Prelude.{IsTrue}
 use Rattle.std.specs.Io.KnownBytes.{Keeps}
-use Rattle.log_source.specs.LogLeft.{is_short, left_of, steps_left}
+use Rattle.log_source.specs.LogLeft.{KeepsLength, is_short, left_of, steps_left}
 use Rattle.log_source.proofs.source.LogSourceSource.read.Given as goal
 
 abbrev pub invariant-loop-self : goal.invariant-loop-self
@@ -15,6 +15,9 @@ invariant-loop-self g l = record {
       (drop l.self.fed l.self.piece.items) (g.S.Source.left l.self.source));
   faults : g.S.Source.faults l.self.source + l.self.faults
       ≡ g.S.Source.faults l.fn.self.source + l.fn.self.faults;
+  log_faults : g.S.Source.faults l.self.source ≡ g.S.Source.faults l.fn.self.source;
+  length_is : KeepsLength l.fn.self.taken (g.S.Source.left l.fn.self.source) l.self.taken
+      (g.S.Source.left l.self.source);
   quiet : IsTrue (g.S.Source.never_fails l.fn.self.source)
       → IsTrue (is_short l.fn.self.taken (g.S.Source.left l.fn.self.source))
       → IsTrue (g.S.Source.never_fails l.self.source)

@@ -1,6 +1,7 @@
 use Rattle.std.proofs.Common.{[], ap}
 use Rattle.std.specs.List.{flat_map}
-use Rattle.nav_files.specs.Archives.{cover_line, items_of}
+use Rattle.rinex_read.specs.Files.{items_of}
+use Rattle.nav_files.specs.Archives.{cover_line}
 use Rattle.nav_files.proofs.KeptLemmas.{finish_as}
 use Rattle.nav_files.proofs.cover.CoversTaker.finish.Goals as goal
 

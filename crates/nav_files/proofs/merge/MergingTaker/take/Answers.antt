@@ -5,7 +5,7 @@ use Rattle.one_run.proofs.Surface.{whole_front}
 use Rattle.nav_files.specs.Files.{read_report}
 use Rattle.nav_files.specs.Mirrors.{counted}
 use Rattle.nav_files.proofs.Surface.{counts_more, grew_front, grew_more}
-use Rattle.nav_files.specs.Archives.{items_of}
+use Rattle.rinex_read.specs.Files.{items_of}
 use Rattle.nav_files.proofs.KeptLemmas.{items_more}
 use Rattle.nav_files.proofs.merge.MergingTaker.take.Goals as goal
 

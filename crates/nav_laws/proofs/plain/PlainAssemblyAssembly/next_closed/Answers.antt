@@ -6,7 +6,7 @@ use Rattle.slot_assembly.specs.Standing.{IsNext, NoneDue}
 use Rattle.periods.specs.Mirrors.{best_among}
 use Rattle.periods.specs.PeriodsOf.{place_at, is_before, verdict_at}
 use Rattle.nav_laws.specs.Plain.{PlainState, PlainStandsFor, due, plain_left}
-use Rattle.nav_laws.proofs.PlainLemmas.{next_is, none_is, none_again, none_old, stands_reached, stands_searched, stands_given, fewer_left, given_after}
+use Rattle.nav_laws.proofs.PlainLemmas.{next_is, none_is, none_again, none_old, stands_searched, stands_given, fewer_left, given_after}
 use Rattle.nav_laws.proofs.plain.PlainAssemblyAssembly.next_closed.Goals as goal
 use Rattle.nav_laws.proofs.plain.PlainAssemblyAssembly.next_closed.Goals.{then-mark-self-via-then-mark-self, then-mark-self-via-else-mark-self+then-mark-self-2}
 
@@ -20,8 +20,13 @@ returns-then-mark-self-clause-none c = λ at h.
 
 pub returns-then-mark-self-clause-reached : goal.returns-then-mark-self-clause-reached
 returns-then-mark-self-clause-reached c = λ at h.
-    let l = subst (λ (m : ℕ). m ≤ c.args.mark) (sym c.requires.1.at_mark ∙ h.at_mark) c.requires.2 in
-    stands_reached (the_view c.self.inside) _ at c.args.mark (subst (λ (s : PlainState). PlainStandsFor s at) (sym c.self.view_is) h) l refl refl refl refl refl refl
+    let s = the_view c.self.inside in
+    let k = subst (λ (x : PlainState). PlainStandsFor x at) (sym c.self.view_is) h in
+    let none : NoneDue s.window (Contains at.parts) c.args.mark at.last = elim c.then-mark-self.branch [
+      | then-mark-self-via-then-mark-self w ↦ none_again s at c.args.mark k w.if-mark-self.true
+      | then-mark-self-via-else-mark-self+then-mark-self-2 w ↦ none_old s at c.args.mark k w.if-mark-self-2.true
+    ] in
+    stands_searched s _ at c.args.mark k none refl refl refl refl refl refl
 
 pub returns-in-None-clause-none : goal.returns-in-None-clause-none
 returns-in-None-clause-none c = λ at h.

@@ -1,0 +1,7 @@
+mod Brought
+mod Marks
+mod Sums
+mod Partners
+mod PairLists
+mod Steps
+mod Counts

@@ -1,0 +1,49 @@
+//! Laws of the periods of what is heard: each function does nothing, and its contract is the law.
+
+ghost use Rattle.std.specs.Prelude.{◌≡◌, ℕ, List, All};
+ghost use Rattle.gnss_week.specs.Weeks.{IsReference};
+ghost use Rattle.nav_eph.specs.Ranges.{IsItem};
+ghost use Rattle.nav_eph.specs.Values.{HasPartRanges};
+ghost use Rattle.nav_eph.specs.declared.part.Part.{Part};
+ghost use Rattle.periods.specs.declared.closed.Closed.{Closed};
+ghost use Rattle.periods.specs.PeriodLists.{ArePeriods, items_in};
+ghost use Rattle.periods.specs.PeriodsOf.{periods_of};
+ghost use Rattle.nav_io.specs.Lines.{Line};
+ghost use Rattle.capture_log.specs.Log.{items_of, parts_of};
+ghost use Rattle.capture_log.specs.Heard.{IsPartHeard};
+
+use crate::laws::{
+    lines_bring_what_is_heard, parts_of_lines_are_sendable, parts_of_lines_are_values,
+};
+
+/// Each part heard has a satellite of its system, and each field of what it brings is within its
+/// digits, since the bits of a line are no more.
+pub fn parts_heard_have_ranges()
+    ensures { (window : ℕ) (lines : List Line) (part : Part)
+        → IsPartHeard window (items_of lines) part → HasPartRanges part }
+{
+    lnav_subframe::subframe_parts();
+    inav_word::word_parts();
+    rtcm_eph::message_parts();
+    capture_lines::each_line_stands_for_one_thing();
+}
+
+/// The set of the parts heard has exactly one list of periods, and near a reference week each of
+/// its items fits together.
+pub fn periods_heard()
+    ensures some { (r window : ℕ) (lines : List Line)
+        → ArePeriods r window (IsPartHeard window (items_of lines))
+        (periods_of r window (parts_of window lines)) }
+    ensures only { (r window : ℕ) (lines : List Line) (some other : List Closed)
+        → ArePeriods r window (IsPartHeard window (items_of lines)) some
+        → ArePeriods r window (IsPartHeard window (items_of lines)) other → some ≡ other }
+    ensures items { (r window : ℕ) (lines : List Line) (periods : List Closed) → IsReference r
+        → ArePeriods r window (IsPartHeard window (items_of lines)) periods
+        → All IsItem (items_in periods) }
+{
+    periods::items_fit_together();
+    parts_of_lines_are_values();
+    parts_of_lines_are_sendable();
+    parts_heard_have_ranges();
+    lines_bring_what_is_heard();
+}

@@ -1,0 +1,7 @@
+mod References
+mod CaptureTexts
+mod Messages
+mod Conversions
+mod SameTexts
+mod Headers
+mod Jobs

@@ -1,0 +1,61 @@
+-- What is written of a capture: the items of the periods of the parts heard, which come back.
+use Rattle.std.specs.Prelude.{◌≡◌, ℕ, List, map, Contains, Ok}
+use Rattle.std.specs.List.{flat_map}
+use Rattle.gnss_week.specs.Weeks.{IsNearGalileo, IsNearGps, IsReference}
+use Rattle.nav_eph.specs.Items.{unsent}
+use Rattle.nav_eph.specs.declared.items.NavItem.{NavItem}
+use Rattle.nav_eph.specs.declared.items.NavItem.TheVariants.{Gps, Gal, Ion}
+use Rattle.periods.specs.PeriodLists.{ArePeriods, items_in}
+use Rattle.periods.specs.declared.closed.Closed.{Closed}
+use Rattle.rinex_write.specs.Texts.{rinex_text}
+use Rattle.rinex_write.specs.Texts3.{ephemerides, rinex3_text}
+use Rattle.rinex_write.specs.declared.words.HeaderWords.{HeaderWords}
+use Rattle.rinex_read.specs.Files.{rinex_list}
+use Rattle.rinex_read.specs.Form3.{rinex3_list}
+use Rattle.rtcm_frame.specs.Frames.{frames}
+use Rattle.rtcm_frame.specs.State.{payload_of}
+use Rattle.rtcm_eph.specs.Reading.{item_in}
+use Rattle.outlets.specs.ItemTexts.{rtcm_item}
+use Rattle.capture_log.specs.Heard.{IsPartHeard}
+use Rattle.capture_log.specs.Log.{items_of}
+use Rattle.captures.specs.Captures.{Capture}
+
+-- the list of the periods of the parts that are heard in the capture
+abbrev pub ArePeriodsHeard : Capture → List Closed → Type 0
+ArePeriodsHeard c periods = ArePeriods c.week c.window (IsPartHeard c.window (items_of c.lines)) periods
+
+-- the week of an ephemeris is one of those that its message tells apart near the week r
+abbrev pub IsNear : ℕ → NavItem → Type 0
+IsNear r (Gps e) = IsNearGps r e.toe_week
+IsNear r (Gal e) = IsNearGalileo r e.toe_week
+IsNear r (Ion e) = ⊥
+
+-- the message of each ephemeris is read near such a week as it, but for when it was sent
+abbrev pub AreSent : List NavItem → Type 0
+AreSent items =
+    (r : ℕ) (item : NavItem) → IsReference r → Contains items item → IsNear r item
+    → item_in r (payload_of (rtcm_item item)) ≡ Ok (unsent item)
+
+-- the text is that of the items of the periods heard; it reads back as these, and the message of each ephemeris as it
+pub record IsConverted (c : Capture) (header : HeaderWords) (text : List ℕ) : Type 0 where
+  pub periods : List Closed
+  pub are : ArePeriodsHeard c periods
+  pub text_is : text ≡ rinex_text header (items_in periods)
+  pub back : rinex_list text ≡ items_in periods
+  pub messages : AreSent (items_in periods)
+
+-- the same in RINEX 3, which has no ionospheres
+pub record IsConverted3 (c : Capture) (header : HeaderWords) (text : List ℕ) : Type 0 where
+  pub periods : List Closed
+  pub are : ArePeriodsHeard c periods
+  pub text_is : text ≡ rinex3_text header (items_in periods)
+  pub back : rinex3_list text ≡ ephemerides (items_in periods)
+
+-- the text is the frames of the ephemerides of the periods heard, and no others stand in it; each message is read as its
+-- ephemeris
+pub record IsFramed (c : Capture) (text : List ℕ) : Type 0 where
+  pub periods : List Closed
+  pub are : ArePeriodsHeard c periods
+  pub text_is : text ≡ flat_map rtcm_item (items_in periods)
+  pub frames_are : frames text ≡ map rtcm_item (ephemerides (items_in periods))
+  pub messages : AreSent (items_in periods)

@@ -1,0 +1,20 @@
+-- The counts of a capture, by a look at all of its lines and at each word heard.
+use Rattle.std.specs.Prelude.{◌≡◌, ℕ, ◌+◌, List, [], length}
+use Rattle.capture_log.specs.Log.{items_of}
+use Rattle.capture_log.specs.declared.event.Event.{Event}
+use Rattle.capture_laws.specs.Counted.{Pair, own_weight, pairs_weight}
+use Rattle.captures.specs.Captures.{Capture}
+use Rattle.captures.specs.Reports.{is_late, is_malformed, is_refused, is_unused}
+use Rattle.captures.specs.declared.counts.CaptureCounts.{CaptureCounts}
+
+-- how many events of a kind the lines bring by themselves and the words of these pairs bring
+abbrev pub of_kind : (Event → ℕ) → Capture → List Pair → ℕ
+of_kind kind c pairs = own_weight kind c.window [] (items_of c.lines) + pairs_weight kind pairs
+
+-- each count is of so many events; the first line counts too
+pub record CountLines (c : Capture) (pairs : List Pair) (counts : CaptureCounts) : Type 0 where
+  pub lines : counts.lines ≡ length c.lines + 1
+  pub malformed : counts.malformed ≡ of_kind is_malformed c pairs
+  pub late : counts.late ≡ of_kind is_late c pairs
+  pub refused : counts.refused ≡ of_kind is_refused c pairs
+  pub unused : counts.unused ≡ of_kind is_unused c pairs

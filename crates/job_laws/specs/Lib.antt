@@ -1,0 +1,4 @@
+pub mod Converted
+pub mod SayTheSame
+pub mod CountedLines
+pub mod Written

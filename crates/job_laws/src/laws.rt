@@ -1,0 +1,87 @@
+//! The laws: each function does nothing, and its contract is the law.
+
+ghost use Rattle.std.specs.Prelude.{◌≡◌, ℕ, List, Option, Some, IfSome};
+ghost use Rattle.gnss_week.specs.Weeks.{IsReference};
+ghost use Rattle.rinex_write.specs.Texts.{IsHeader};
+ghost use Rattle.rinex_write.specs.declared.words.HeaderWords.{HeaderWords};
+ghost use Rattle.outlets.specs.declared.target.Target.TheVariants as targets;
+ghost use Rattle.capture_log.specs.Log.{items_of};
+ghost use Rattle.capture_laws.specs.Counted.{ArePairsHeard, Pair};
+ghost use Rattle.captures.specs.Captures.{Capture, capture_meaning, capture_of, counts_of};
+ghost use Rattle.captures.specs.Captures.{output_of};
+ghost use Rattle.captures.specs.declared.target.CaptureTo.{CaptureTo};
+ghost use Rattle.captures.specs.declared.target.CaptureTo.TheVariants.{Rinex, Rinex3, Rtcm};
+ghost use Rattle.job_laws.specs.Converted.{IsConverted, IsConverted3, IsFramed};
+ghost use Rattle.job_laws.specs.CountedLines.{CountLines};
+ghost use Rattle.job_laws.specs.SayTheSame.{IsOfPeriods, SayTheSame};
+ghost use Rattle.job_laws.specs.Written.{ConvertCapture, IsWritten};
+
+/// Of two captures of one week and one window with the same lines, in whatever order and however
+/// often, none of them late, the same is written, in every form but that of the counts.
+pub fn order_of_lines_changes_no_text()
+    ensures captures { (to : CaptureTo) (week named : Option ℕ) (bytes other : List ℕ)
+        (c d : Capture) → IsOfPeriods to → capture_of week bytes ≡ Some c
+        → capture_of named other ≡ Some d → SayTheSame c d
+        → (capture_meaning to week).whole.output bytes
+        ≡ (capture_meaning to named).whole.output other }
+    ensures jobs { (words others : List (List ℕ)) (to : CaptureTo) (week named : Option ℕ)
+        (bytes other text another : List ℕ) (c d : Capture) → IsOfPeriods to
+        → ConvertCapture words to week → ConvertCapture others to named
+        → capture_of week bytes ≡ Some c → capture_of named other ≡ Some d → SayTheSame c d
+        → IsWritten words bytes text → IsWritten others other another → text ≡ another }
+{
+    capture_log::order_of_lines_is_nothing();
+    bridge_engine::words_give_one_job();
+}
+
+/// Each count of a capture's report is of so many events: of those that each line brings by itself,
+/// and of those that each word heard brings, once, however its pairs of halves are listed.
+pub fn counts_are_of_lines_and_words()
+    ensures { (c : Capture) (pairs : List Pair) → ArePairsHeard c.window (items_of c.lines) pairs
+        → CountLines c pairs (counts_of c) }
+{
+    capture_laws::events_are_counted();
+}
+
+/// What is written of a capture is the text of the items of the periods of the parts heard, and it
+/// is read as these items; each ephemeris's message is read as it, but for when it was sent, near a
+/// week in whose span its own lies.
+pub fn converted_captures_come_back()
+    ensures rinex { (week : Option ℕ) (header : HeaderWords) (bytes : List ℕ) (c : Capture)
+        → IfSome week IsReference → IsHeader header → capture_of week bytes ≡ Some c
+        → IsConverted c header (output_of (targets.Rinex header) week bytes) }
+    ensures rinex3 { (week : Option ℕ) (header : HeaderWords) (bytes : List ℕ) (c : Capture)
+        → IfSome week IsReference → IsHeader header → capture_of week bytes ≡ Some c
+        → IsConverted3 c header (output_of (targets.Rinex3 header) week bytes) }
+    ensures rtcm { (week : Option ℕ) (bytes : List ℕ) (c : Capture)
+        → IfSome week IsReference → capture_of week bytes ≡ Some c
+        → IsFramed c (output_of targets.Rtcm week bytes) }
+{
+    capture_log::periods_heard();
+    capture_lines::each_first_line_is_one_head();
+    rtcm_frame::written_frames_are_whole();
+    rtcm_frame::frames_behind_a_written_frame();
+    rtcm_eph::item_function();
+    rtcm_eph::message_bytes();
+    rtcm_eph::sent_1019_is_read();
+    rtcm_eph::sent_1046_is_read();
+    rinex_read::files_are_read();
+    rinex_read::files3_are_read();
+}
+
+/// The same over the words of the command line: whatever text their job writes of a capture.
+pub fn what_is_converted_comes_back()
+    ensures rinex { (words : List (List ℕ)) (week : Option ℕ) (header : HeaderWords)
+        (bytes text : List ℕ) (c : Capture) → ConvertCapture words (Rinex header) week
+        → capture_of week bytes ≡ Some c → IsWritten words bytes text → IsConverted c header text }
+    ensures rinex3 { (words : List (List ℕ)) (week : Option ℕ) (header : HeaderWords)
+        (bytes text : List ℕ) (c : Capture) → ConvertCapture words (Rinex3 header) week
+        → capture_of week bytes ≡ Some c → IsWritten words bytes text
+        → IsConverted3 c header text }
+    ensures rtcm { (words : List (List ℕ)) (week : Option ℕ) (bytes text : List ℕ) (c : Capture)
+        → ConvertCapture words Rtcm week
+        → capture_of week bytes ≡ Some c → IsWritten words bytes text → IsFramed c text }
+{
+    bridge_engine::words_give_one_job();
+    converted_captures_come_back();
+}
