@@ -32,7 +32,7 @@ pub enum FileFault {
 }
 
 /// What an error of this kind says.
-pub(crate) fn fault_of(kind: ErrorKind) -> FileFault {
+pub fn fault_of(kind: ErrorKind) -> FileFault {
     match kind {
         ErrorKind::NotFound => FileFault::NotFound,
         ErrorKind::AlreadyExists => FileFault::AlreadyThere,

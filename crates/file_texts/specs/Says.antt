@@ -1,7 +1,7 @@
 -- The status with which the program ends.
 use Rattle.std.specs.Prelude.{ℕ}
 use Rattle.file_texts.specs.declared.says.Refusal.{Refusal}
-use Rattle.file_texts.specs.declared.says.Refusal.TheVariants.{NoSuchConversion, NoConversion, Date, Week, NoName, NotOpened, ReadFault, OutputThere, PartThere, SameFile, WriteFault, NotAccepted, NoMemory, ReportFault, TooLong, Word}
+use Rattle.file_texts.specs.declared.says.Refusal.TheVariants.{NoSuchConversion, NoConversion, Date, Week, NoName, SeveralFiles, NotOpened, ReadFault, OutputThere, PartThere, SameFile, WriteFault, NotAccepted, NoMemory, ReportFault, TooLong, Word}
 
 -- 2 for what was asked, 3 for the input, 4 for the output, 5 for a header, 6 for memory, 7 for the report, 8 for an input that
 -- is too long, 9 for a word
@@ -11,6 +11,7 @@ status_of (NoConversion kind) = 2
 status_of (Date text) = 2
 status_of (Week text) = 2
 status_of NoName = 2
+status_of (SeveralFiles name) = 2
 status_of (NotOpened fault) = 3
 status_of (ReadFault count fault) = 3
 status_of (OutputThere name) = 4

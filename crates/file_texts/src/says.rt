@@ -20,6 +20,8 @@ pub enum Refusal<'a> {
     Week(&'a str),
     /// The input has no name of a file, so that its output has none.
     NoName,
+    /// Several files would go to one.
+    SeveralFiles(&'a str),
     /// The input was not opened.
     NotOpened(FileFault),
     /// Reading failed after so many bytes.
@@ -54,7 +56,8 @@ impl Refusal<'_> {
             | Refusal::NoConversion(_)
             | Refusal::Date(_)
             | Refusal::Week(_)
-            | Refusal::NoName => 2,
+            | Refusal::NoName
+            | Refusal::SeveralFiles(_) => 2,
             Refusal::NotOpened(_) | Refusal::ReadFault(_, _) => 3,
             Refusal::OutputThere(_)
             | Refusal::PartThere(_)
@@ -102,8 +105,7 @@ pub fn targets_of(kind: Kind) -> &'static str {
         Kind::Stream => "that converts to rinex, rinex3, rtcm, frames",
         Kind::Rinex2 => "only versions 3 and 4 are read",
         Kind::Observations | Kind::Hatanaka | Kind::OtherRinex => "it has no orbits to convert",
-        Kind::Ubx => "navlog --from ubx makes a capture of it; --from stream reads its frames",
-        Kind::Sbf => "navlog --from sbf makes a capture of it; --from stream reads its frames",
+        Kind::Ubx | Kind::Sbf => "that converts to rinex, rinex3, rtcm, list, count, capture",
         Kind::Nmea => "it has no orbits to convert",
         Kind::Gzip | Kind::Compress => "unpack it: gzip -dc FILE | navconvert -o OUT -",
         Kind::Zip => "unpack it: unzip -p FILE | navconvert -o OUT -",
@@ -142,6 +144,12 @@ impl fmt::Display for Refusal<'_> {
             }
             Refusal::Week(week) => write!(f, "--week {week}: 1024 to 8191"),
             Refusal::NoName => write!(f, "it has no name of a file; name the output by -o"),
+            Refusal::SeveralFiles(name) => {
+                write!(
+                    f,
+                    "{name} is one file; for several name a folder that is there"
+                )
+            }
             Refusal::NotOpened(fault) => write!(f, "{}", fault_text(fault)),
             Refusal::ReadFault(count, fault) => {
                 write!(
@@ -172,6 +180,12 @@ impl fmt::Display for Refusal<'_> {
             }
             Refusal::NotAccepted(Kind::Capture2) => {
                 write!(f, "its first line names another week than --week")
+            }
+            Refusal::NotAccepted(Kind::Ubx | Kind::Sbf) => {
+                write!(
+                    f,
+                    "it has no subframe and no page that a time stands before"
+                )
             }
             Refusal::NotAccepted(_) => write!(f, "its header is not accepted"),
             Refusal::NoMemory => write!(f, "there was no memory"),

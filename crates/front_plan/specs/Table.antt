@@ -32,13 +32,15 @@ ending_of Merged = codes "merged.rnx"
 ending_of Cover = codes "cover"
 ending_of Capture = codes "navcap"
 
--- the word of `--from`, of the forms that a conversion takes
+-- the word of `--from`, of the forms that a conversion takes: a log is converted as its capture
 abbrev pub from_word : Kind → List ℕ
 from_word kinds.Capture1 = codes "capture"
 from_word kinds.Capture2 = codes "capture"
 from_word kinds.Stream = codes "stream"
 from_word kinds.Rinex4 = codes "rinex"
 from_word kinds.Rinex3 = codes "rinex3"
+from_word kinds.Ubx = codes "capture"
+from_word kinds.Sbf = codes "capture"
 from_word _ = []
 
 -- the form that a word of `--from` names, of captures that which takes a week where none is named
@@ -48,6 +50,8 @@ kind_named word =
     else if bytes_eq word (codes "stream") then Some kinds.Stream
     else if bytes_eq word (codes "rinex") then Some kinds.Rinex4
     else if bytes_eq word (codes "rinex3") then Some kinds.Rinex3
+    else if bytes_eq word (codes "ubx") then Some kinds.Ubx
+    else if bytes_eq word (codes "sbf") then Some kinds.Sbf
     else None
 
 -- a row
@@ -87,11 +91,13 @@ file4_row Cover = row Never false
 file4_row target = file_row target
 
 -- The values that the conversion of a file takes, where there is one: a capture that names no week takes one always, and one
--- that names it only where it is named again.
+-- that names it, as that of a log does, only where it is named again.
 abbrev pub row_of : Kind → Target → Option Row
 row_of kinds.Capture1 target = capture_row Always target
 row_of kinds.Capture2 target = capture_row IfNamed target
 row_of kinds.Stream target = stream_row target
 row_of kinds.Rinex4 target = file4_row target
 row_of kinds.Rinex3 target = file_row target
+row_of kinds.Ubx target = capture_row IfNamed target
+row_of kinds.Sbf target = capture_row IfNamed target
 row_of _ target = None

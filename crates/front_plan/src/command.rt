@@ -6,7 +6,7 @@ use file_form::Kind;
 use std::alloc::{AllocError, Global};
 
 // The words of `--from`.
-static FROM: [&str; 5] = ["auto", "capture", "stream", "rinex", "rinex3"];
+static FROM: [&str; 7] = ["auto", "capture", "stream", "rinex", "rinex3", "ubx", "sbf"];
 
 // The words of `--to`.
 static TO: [&str; 9] = [
@@ -58,9 +58,9 @@ impl<'a> Asked<'a> {
         self.matches.get_str("date")
     }
 
-    /// The site of a name by the convention of RINEX.
-    pub fn long_name(&self) -> Option<&'a str> {
-        self.matches.get_str("long-name")
+    /// The file for the reports.
+    pub fn report(&self) -> Option<&'a str> {
+        self.matches.get_str("report")
     }
 
     /// Whether a file that has the name of an output is replaced.
@@ -158,9 +158,9 @@ fn with_options<'a>(alloc: Global, command: Command<'a>) -> Result<Command<'a>, 
         ))?
         .arg(option(
             alloc,
-            "long-name",
-            "SITE",
-            "Name the output by the convention of RINEX 3, as BRDC00XXX",
+            "report",
+            "FILE",
+            "A file for the reports of navbridge: what was refused, and counts",
         ))
 }
 

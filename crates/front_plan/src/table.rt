@@ -85,7 +85,8 @@ pub struct Row {
     pub header: bool,
 }
 
-/// The values that the conversion of a file of this form takes, where there is one.
+/// The values that the conversion of a file of this form takes, where there is one. A receiver's log
+/// is converted as its capture, which names its week.
 pub fn row_of(kind: Kind, target: Target) -> Option<Row>
     ensures { result ≡ row_of kind target }
 {
@@ -95,6 +96,7 @@ pub fn row_of(kind: Kind, target: Target) -> Option<Row>
         Kind::Stream => stream_row(target),
         Kind::Rinex4 => file4_row(target),
         Kind::Rinex3 => file_row(target),
+        Kind::Ubx | Kind::Sbf => capture_row(WeekRule::IfNamed, target),
         _ => None,
     }
 }
@@ -152,12 +154,13 @@ fn file4_row(target: Target) -> Option<Row>
     }
 }
 
-/// The word of a form in `--from`; nothing for a form that no conversion takes.
+/// The word of a form in `--from` of `navbridge`, that of a log's capture for a log; nothing for a
+/// form that no conversion takes.
 pub fn from_word(kind: Kind) -> &'static str
     ensures { result.now ≡ from_word kind }
 {
     match kind {
-        Kind::Capture1 | Kind::Capture2 => "capture",
+        Kind::Capture1 | Kind::Capture2 | Kind::Ubx | Kind::Sbf => "capture",
         Kind::Stream => "stream",
         Kind::Rinex4 => "rinex",
         Kind::Rinex3 => "rinex3",
@@ -193,6 +196,8 @@ pub fn kind_named(word: &str) -> Option<Kind>
         "stream" => Some(Kind::Stream),
         "rinex" => Some(Kind::Rinex4),
         "rinex3" => Some(Kind::Rinex3),
+        "ubx" => Some(Kind::Ubx),
+        "sbf" => Some(Kind::Sbf),
         _ => None,
     }
 }

@@ -75,6 +75,24 @@ impl<J: Receiver, S: Source> LogSource<J, S> {
         }
     }
 
+    /// The source of the log's bytes.
+    pub fn into_source(self) -> S
+        ensures { result ≡ self.source }
+    {
+        let LogSource {
+            source,
+            deframer: _,
+            state: _,
+            lines: _,
+            given: _,
+            piece: _,
+            fed: _,
+            taken: _,
+            faults: _,
+        } = self;
+        source
+    }
+
     // One step, where no line waits: hears the messages that are decided, or else feeds bytes or
     // reads some; whether anything may follow.
     fn step(&mut self) -> Result<bool, Failed>

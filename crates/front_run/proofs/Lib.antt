@@ -1,0 +1,4 @@
+pub mod Seen
+pub mod Ended
+pub mod Captured
+pub mod Asking

@@ -1,0 +1,8 @@
+use Rattle.front_run.proofs.Asking.{on_ended, on_failed}
+use Rattle.front_run.proofs.convert.run_named.Goals as goal
+
+pub returns-clause-put : goal.returns-clause-put
+returns-clause-put g c = on_ended _ _ _ c.ended.ensures c.run_prepared-left.ensures.put
+
+pub returns-clause-stays : goal.returns-clause-stays
+returns-clause-stays g c = on_failed _ _ _ c.ended.ensures c.run_prepared-left.ensures.stays

@@ -1,0 +1,19 @@
+use Rattle.std.proofs.Common.{Some, ap, sym, ◌∙◌}
+use Rattle.std.specs.Io.KnownBytes.{Appends}
+use Rattle.front_run.proofs.Asking.{on_ok}
+use Rattle.front_run.proofs.Captured.{moved}
+use Rattle.front_run.proofs.logs.run_as.Goals as goal
+
+pub returns-in-None : goal.returns-in-None
+returns-in-None g c =
+    rw (sym c.log_of.ensures ∙ c.in-None.is)
+    (on_ok _ _ _ c.run-done.ensures.text
+    (λ text. moved _ _
+    (λ bytes. Appends (g.T.Sink.written c.args.output.now) (g.T.Sink.written c.run-done.new.output) (g.C.Conversion.makes c.args.conversion.now bytes))
+    c.new-input.ensures.left text))
+
+pub returns-in-Some-Ubx : goal.returns-in-Some-Ubx
+returns-in-Some-Ubx g c = rw (sym c.log_of.ensures ∙ c.in-Some-Ubx.is ∙ ap Some c.in-Some-Ubx.field-0-is) c.run_log.ensures
+
+pub returns-in-Some-Sbf : goal.returns-in-Some-Sbf
+returns-in-Some-Sbf g c = rw (sym c.log_of.ensures ∙ c.in-Some-Sbf.is ∙ ap Some c.in-Some-Sbf.field-0-is) c.run_log-in-Some-Sbf.ensures
