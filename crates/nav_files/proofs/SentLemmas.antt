@@ -6,9 +6,10 @@ use Rattle.std.specs.Io.KnownBytes.{Appends}
 use Rattle.std.proofs.lemmas.Grind.{flat_map-append}
 use Rattle.nav_io.specs.Front.{AppendsFront, IsFront}
 use Rattle.rinex_read.specs.declared.judged.ItemRead.{ItemRead}
+use Rattle.one_run.specs.Runs.{AppendsBetween}
 use Rattle.one_run.proofs.Surface.{front_after}
 use Rattle.nav_files.specs.declared.counts.RinexCounts.{RinexCounts}
-use Rattle.nav_files.proofs.Surface.{grew_front, grew_more}
+use Rattle.nav_files.proofs.Surface.{grew_between, grew_front, grew_more}
 use Rattle.page_send.specs.Sendable.{sent_head, sent_text}
 use Rattle.nav_files.specs.declared.told.Told.{Told}
 use Rattle.nav_files.specs.Following.{counted}
@@ -49,6 +50,12 @@ pub told_front : (front : List ℕ) (text : Told → List ℕ) (r slot : ℕ) (g
     → Appends start w (front ++ flat_map text (tolds r 0 given)) → AppendsFront w w1 (text x) → AppendsFront start w1 (front ++ flat_map text (tolds r 0 (given ++ read ∷ [])))
 told_front front text r slot given read x start w w1 is told_is so_far more =
     subst (λ ts. AppendsFront start w1 (front ++ flat_map text ts)) (tolds_with r slot given read x is told_is) (grew_front front text (tolds r 0 given) x start w w1 so_far more)
+
+pub told_between : (front : List ℕ) (text : Told → List ℕ) (r slot : ℕ) (given : List ItemRead) (read : ItemRead) (x : Told) (start w w1 : Option (List ℕ)) → slot ≡ slots_behind r 0 given → x ≡ told r slot read
+    → Appends start w (front ++ flat_map text (tolds r 0 given)) → AppendsFront w w1 (text x)
+    → AppendsBetween start w1 (front ++ flat_map text (tolds r 0 given)) (front ++ flat_map text (tolds r 0 (given ++ read ∷ [])))
+told_between front text r slot given read x start w w1 is told_is so_far more =
+    subst (λ ts. AppendsBetween start w1 (front ++ flat_map text (tolds r 0 given)) (front ++ flat_map text ts)) (tolds_with r slot given read x is told_is) (grew_between front text (tolds r 0 given) x start w w1 so_far more)
 
 pub counts_with : (r slot : ℕ) (given : List ItemRead) (read : ItemRead) (x : Told) (c : RinexCounts) → slot ≡ slots_behind r 0 given → x ≡ told r slot read → c ≡ counts_of_tolds (tolds r 0 given)
     → counted c x ≡ counts_of_tolds (tolds r 0 (given ++ read ∷ []))

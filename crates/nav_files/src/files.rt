@@ -25,7 +25,8 @@ use rinex_read::{Rinex3, Rinex4};
 /// - `NotThisForm` exactly where the header is refused; nothing is written then.
 /// - `ReadFault`, `WriteFault`, `ReportFault` only where the count of faults of the input, the output or the report rose, or
 ///   stands at its last value. After a failed read exactly what the records give that are whole in the bytes taken was written
-///   and reported: those behind which another one begins, in a line that has ended.
+///   and reported: those behind which another one begins, in a line that has ended. After any other fault at least what
+///   stands before the last of the records that are whole in all bytes taken but the last 4,096.
 /// - `TooLong` only where 4,294,967,295 bytes were taken and one more was there.
 ///
 /// It takes no memory.

@@ -11,3 +11,6 @@ returns-clause-text c = λ some more. front_after (front_text c.args.self.now) _
 
 pub returns-clause-told : goal.returns-clause-told
 returns-clause-told c = λ some more. front_trans _ _ _ (texts_front read_report some more) (front_more (flat_map read_report (some ++ more)) _)
+
+pub returns-clause-grows : goal.returns-clause-grows
+returns-clause-grows c = λ some more. front_after (front_text c.args.self.now) _ _ (texts_front (read_text (item_text c.args.self.now)) some more)

@@ -1,7 +1,8 @@
 use Rattle.std.proofs.Common.{◌++◌}
 use Rattle.std.specs.List.{flat_map}
-use Rattle.one_run.proofs.Surface.{front_more, front_trans}
-use Rattle.nav_files.specs.Sends.{told_report, tolds}
+use Rattle.one_run.proofs.Surface.{front_after, front_more, front_trans}
+use Rattle.nav_files.specs.Sends.{told_report, told_text, tolds}
+use Rattle.page_send.specs.Sendable.{sent_head}
 use Rattle.nav_files.proofs.SentLemmas.{sent_front, text_front}
 use Rattle.nav_files.proofs.sending.SendingTaker.begins.Goals as goal
 
@@ -11,3 +12,6 @@ returns-clause-text c = λ some more. sent_front c.args.self.now.r some more
 pub returns-clause-told : goal.returns-clause-told
 returns-clause-told c = λ some more.
     front_trans _ _ _ (text_front c.args.self.now.r told_report some more) (front_more (flat_map told_report (tolds c.args.self.now.r 0 (some ++ more))) _)
+
+pub returns-clause-grows : goal.returns-clause-grows
+returns-clause-grows c = λ some more. front_after sent_head _ _ (text_front c.args.self.now.r told_text some more)
