@@ -1,20 +1,20 @@
--- A run that is given no report, or no input, beside one that it leaves as it was.
+-- A run that is given no report, or no input, seen as one whose report or input stays unchanged.
 use Rattle.std.proofs.Common.{◌≡◌, ℕ, Bool, false, true, List, [], ◌++◌, Option, None, Some, Result, Ok, Err, refl, sym, ap, subst, ◌∙◌}
 use Rattle.std.specs.Prelude.{IfSome, IsSome, if◌then◌else◌}
 use Rattle.std.specs.Io.KnownBytes.{Appends, Consumes, IsAtEnd}
 use Rattle.std.proofs.KnownBytes.{Appends-nil}
-use Rattle.nav_io.specs.Front.{AppendsFront}
+use Rattle.nav_io.specs.Prefix.{AppendsPrefix}
 use Rattle.one_run.specs.declared.fault.BridgeFault.{BridgeFault}
 use Rattle.one_run.specs.declared.fault.BridgeFault.TheVariants.{ReadFault, WriteFault, ReportFault, NotThisForm, TooLong, NoMemory}
-use Rattle.one_run.specs.Runs.{Ended, Meaning, Says, Settles, Texts, World, bytes_for, world}
-use Rattle.one_run.proofs.Surface.{no_front}
+use Rattle.one_run.specs.Runs.{Ended, Meaning, Says, Flushes, Texts, World, bytes_for, world}
+use Rattle.one_run.proofs.Surface.{no_prefix}
 
 no_such : (b : Bool) → b ≡ true → b ≡ false → ⊥
 no_such b is not = cc
 
 -- ---- a report
 
--- the same input and output beside a report
+-- the same input and output together with a report
 abbrev pub with_report : {S T U V : Type 0} → World S T V → U → Option (List ℕ) → ℕ → World S T U
 with_report w report reported failed = world w.input w.left w.never_fails w.reads_failed w.output w.written w.writes_failed report reported failed
 
@@ -22,21 +22,21 @@ with_report w report reported failed = world w.input w.left w.never_fails w.read
 abbrev pub IsSilent : {S T V : Type 0} → World S T V → Type 0
 IsSilent w = w.reported ≡ Some []
 
--- so nothing is
+-- so nothing is reported
 nothing_told : (o o' : Option (List ℕ)) (text : List ℕ) → o ≡ Some [] → o' ≡ Some [] → Appends o o' text → text ≡ []
 nothing_told o o' text is is' grew = sym (subst (λ (x : Option (List ℕ)). Appends (Some []) x text) is' (subst (λ (x : Option (List ℕ)). Appends x o' text) is grew))
 
 told_none : (o o' : Option (List ℕ)) (text : List ℕ) (u : Option (List ℕ)) → o ≡ Some [] → o' ≡ Some [] → Appends o o' text → Appends u u text
 told_none o o' text u is is' grew = subst (Appends u u) (sym (nothing_told o o' text is is' grew)) (Appends-nil u)
 
-settles_beside : {S T U V : Type 0} (o : Option Texts) (taken : List ℕ) (b a : World S T V) (report : U) (u : Option (List ℕ)) (failed : ℕ) → IsSilent b → IsSilent a
-    → Settles o taken b a → Settles o taken (with_report b report u failed) (with_report a report u failed)
-settles_beside None taken b a report u failed before after says = tt
-settles_beside (Some texts) taken b a report u failed before after says = (says.0, told_none b.reported a.reported (texts.report taken) u before after says.1)
+flushes_beside : {S T U V : Type 0} (o : Option Texts) (taken : List ℕ) (b a : World S T V) (report : U) (u : Option (List ℕ)) (failed : ℕ) → IsSilent b → IsSilent a
+    → Flushes o taken b a → Flushes o taken (with_report b report u failed) (with_report a report u failed)
+flushes_beside None taken b a report u failed before after says = tt
+flushes_beside (Some texts) taken b a report u failed before after says = (says.0, told_none b.reported a.reported (texts.report taken) u before after says.1)
 
 says_beside : {C S T U V : Type 0} (m : Meaning C) (taken : List ℕ) (b a : World S T V) (report : U) (u : Option (List ℕ)) (failed : ℕ) (fault : BridgeFault)
     → m.reports ≡ false → IsSilent b → IsSilent a → Says m taken b a fault → Says m taken (with_report b report u failed) (with_report a report u failed) fault
-says_beside m taken b a report u failed ReadFault none before after says = (says.0, says.1, says.2, settles_beside m.settled taken b a report u failed before after says.3)
+says_beside m taken b a report u failed ReadFault none before after says = (says.0, says.1, says.2, flushes_beside m.flushed taken b a report u failed before after says.3)
 says_beside m taken b a report u failed WriteFault none before after says = says
 says_beside m taken b a report u failed ReportFault none before after says = absurd (no_such m.reports says.0 none)
 says_beside m taken b a report u failed NotThisForm none before after says = (says.0, says.1, says.2, refl)
@@ -62,14 +62,14 @@ beside_report m b a report u failed (Err fault) none before after broke = record
   taken = broke.taken;
   consumes = broke.consumes;
   text = broke.text;
-  told = no_front u (m.whole.report broke.taken);
+  told = no_prefix u (m.whole.report broke.taken);
   leaves = record { unread = broke.leaves.unread; silent = λ same. refl };
   says = says_beside m broke.taken b a report u failed fault none before after broke.says;
 }
 
 -- ---- an input
 
--- the same output and report beside an input
+-- the same output and report together with an input
 abbrev pub with_input : {R S T U : Type 0} → World R T U → S → Option (List ℕ) → Bool → ℕ → World S T U
 with_input w input left never failed = world input left never failed w.output w.written w.writes_failed w.report w.reported w.reports_failed
 

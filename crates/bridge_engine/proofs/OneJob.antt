@@ -1,8 +1,8 @@
--- Words give one job at most.
+-- Words ask for at most one job.
 use Rattle.std.proofs.Common.{◌≡◌, ℕ, List, Option, Some, None, refl, sym, ap, ◌∙◌, subst}
 use Rattle.bridge_engine.specs.declared.job.Job.{Job}
 use Rattle.bridge_engine.specs.declared.values.Values.{Values}
-use Rattle.bridge_engine.specs.Options.{Given}
+use Rattle.bridge_engine.specs.Options.{OptionsGiven}
 use Rattle.bridge_engine.proofs.Surface.{same_given}
 use Rattle.bridge_engine.specs.Job.{IsWeekText, IsLeapText, IsDateText, IsSeedText, IsSatsText, Reads, ReadsAs, Row, Asks, IsJob, row_of}
 use Rattle.bridge_engine.proofs.RowJobs.{same_job}
@@ -28,7 +28,7 @@ same_values v w week leap date seed sats =
     ∙ ap (λ (x : Option ℕ). values_of w.week w.leap w.date x v.sats) seed
     ∙ ap (λ (x : Option ℕ). values_of w.week w.leap w.date w.seed x) sats
 
-pub reads_same : (g : Given) (v w : Values) → ReadsAs g v → ReadsAs g w → v ≡ w
+pub reads_same : (g : OptionsGiven) (v w : Values) → ReadsAs g v → ReadsAs g w → v ≡ w
 reads_same g v w a b =
     same_values v w (reads_once IsWeekText (λ t x y p q. sym p.0.value ∙ q.0.value) g.week v.week w.week a.week b.week)
     (reads_once IsLeapText (λ t x y p q. sym p.0.value ∙ q.0.value) g.leap v.leap w.leap a.leap b.leap)
@@ -47,7 +47,7 @@ same_row : (r s : Row) → r.from ≡ s.from → r.to ≡ s.to → r.values ≡ 
 same_row r s from to values =
     ap (λ (x : List ℕ). row_with x r.to r.values) from ∙ ap (λ (x : List ℕ). row_with s.from x r.values) to ∙ ap (row_with s.from s.to) values
 
-same_asked : (g : Given) (a b : Job) → Asks g a → Asks g b → a ≡ b
+same_asked : (g : OptionsGiven) (a b : Job) → Asks g a → Asks g b → a ≡ b
 same_asked g a b x y =
     same_job a b
     (same_row (row_of a) (row_of b) (inside _ _ (sym x.from ∙ y.from)) (inside _ _ (sym x.to ∙ y.to))
@@ -55,4 +55,4 @@ same_asked g a b x y =
 
 pub one_job : (words : List (List ℕ)) (job other : Job) → IsJob words job → IsJob words other → job ≡ other
 one_job words job other a b =
-    same_asked b.given job other (subst (λ (g : Given). Asks g job) (same_given words a.given b.given a.options b.options) a.asks) b.asks
+    same_asked b.given job other (subst (λ (g : OptionsGiven). Asks g job) (same_given words a.given b.given a.options b.options) a.asks) b.asks

@@ -15,7 +15,7 @@ use Rattle.clap.specs.Values.{kind_of}
 use Rattle.clap.proofs.FaultLemmas.{leaf_fault}
 use Rattle.clap.proofs.WalkLemmas.{first_value-rows}
 use Rattle.bridge_engine.specs.Commands.{is_only_dashes, option_names, options_command, values_in}
-use Rattle.bridge_engine.specs.Options.{Choice, BeginsWithDash, Given, GiveValues, AreNamed, Spells}
+use Rattle.bridge_engine.specs.Options.{Choice, BeginsWithDash, OptionsGiven, GiveValues, AreNamed, Spells}
 use Rattle.bridge_engine.proofs.Listings.{first_held, known_of, name_known, named_of, new_of, once_of}
 use Rattle.bridge_engine.proofs.Readings.{AreFit, faults, last_rows, passing, spelled_passes, walked_to}
 use Rattle.bridge_engine.proofs.Rules.{app_built, app_is_simple, as_app, full_rules, full_shape, is_known}
@@ -68,7 +68,7 @@ app_faults xs words =
     ∙ ap (λ (k : Kinds). or_else w (or_else s k)) last
     ∙ ap (or_else w) (nothing_after s)
 
--- and so are its rows
+-- the table's rows are those of the words
 app_rows : (xs words : List Text) → matches_of (options_command xs) words ≡ last_rows xs (stand [] None idle) words
 app_rows xs words =
     let end = walked_to xs (stand [] None idle) words in
@@ -108,7 +108,7 @@ found_values words f fit none rows =
     )
 
 -- and words that give values have no fault
-pub no_faults : (words : List Text) (given : Given) → AreFit words → GiveValues words given → fault_of (options_command option_names) words ≡ []
+pub no_faults : (words : List Text) (given : OptionsGiven) → AreFit words → GiveValues words given → fault_of (options_command option_names) words ≡ []
 no_faults words given fit gives =
     let all = gives.0 in
     app_faults option_names words
@@ -149,13 +149,13 @@ no_dashes (o ∷ os) words spelled named =
     dashless o words spelled.0 (name_known o.name named.0) (spelling_of words o spelled.0 spelled.1) (no_dashes os spelled.0 spelled.2 named.1)
 
 -- no words with a word of dashes give values
-pub dashes_give_none : (words : List Text) → list_any is_only_dashes words ≡ true → (given : Given) → GiveValues words given → ⊥
+pub dashes_give_none : (words : List Text) → list_any is_only_dashes words ≡ true → (given : OptionsGiven) → GiveValues words given → ⊥
 dashes_give_none words some given gives = no_true (sym (no_dashes gives.0.options words gives.0.spelled gives.0.named) ∙ some)
 
 -- ---- the two outcomes of a parse
 
 -- matches give the values of what the words spell
-pub matched : (a : App) (words : List (String Global)) (f : Found) (X : Type 0) (given : Given) → a ≡ options_command option_names
+pub matched : (a : App) (words : List (String Global)) (f : Found) (X : Type 0) (given : OptionsGiven) → a ≡ options_command option_names
     → list_any is_only_dashes (map string_bytes words) ≡ false → (is_simple_and_free a ≡ true → fault_of a (map string_bytes words) ≡ [])
     → (is_simple a ≡ true → (rows_of f ≡ matches_of a (map string_bytes words)) × X) → given ≡ values_in (first_value f) → GiveValues (map string_bytes words) given
 matched a words f X given app fit none rows are =
@@ -168,7 +168,7 @@ matched a words f X given app fit none rows are =
 -- an error that isn't of memory comes only where they give none
 pub refused : (a : App) (words : List (String Global)) (e : Error) → a ≡ options_command option_names
     → list_any is_only_dashes (map string_bytes words) ≡ false → (is_simple_and_free a ≡ true → HasKind (fault_of a (map string_bytes words)) e)
-    → (kind_of e ≡ OutOfMemory → ⊥) → (given : Given) → GiveValues (map string_bytes words) given → ⊥
+    → (kind_of e ≡ OutOfMemory → ⊥) → (given : OptionsGiven) → GiveValues (map string_bytes words) given → ⊥
 refused a words e app fit kinds other given gives =
     let free : is_simple_and_free a ≡ true = ap is_simple_and_free app ∙ app_is_simple in
     let none : fault_of a (map string_bytes words) ≡ [] =

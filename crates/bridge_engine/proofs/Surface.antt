@@ -1,15 +1,15 @@
 -- What other crates cite of the words: they give one list of values.
 use Rattle.std.proofs.Common.{◌≡◌, ◌∙◌, ℕ, List, Option, sym, ap, subst}
-use Rattle.bridge_engine.specs.Options.{Choice, Given, GiveValues, HaveValues}
+use Rattle.bridge_engine.specs.Options.{Choice, OptionsGiven, GiveValues, HaveValues}
 use Rattle.bridge_engine.proofs.Spellings.{spells_once}
 use Rattle.bridge_engine.proofs.Listings.{holds_once}
 
 -- words give one list of values
-abbrev given : Option (List ℕ) → Option (List ℕ) → Option (List ℕ) → Option (List ℕ) → Option (List ℕ) → Option (List ℕ) → Option (List ℕ) → Given
+abbrev given : Option (List ℕ) → Option (List ℕ) → Option (List ℕ) → Option (List ℕ) → Option (List ℕ) → Option (List ℕ) → Option (List ℕ) → OptionsGiven
 given from to week leap date seed sats =
     record { from = from; to = to; week = week; leap = leap; date = date; seed = seed; sats = sats }
 
-pub same_given : (words : List (List ℕ)) (g h : Given) → GiveValues words g → GiveValues words h → g ≡ h
+pub same_given : (words : List (List ℕ)) (g h : OptionsGiven) → GiveValues words g → GiveValues words h → g ≡ h
 same_given words g h (s, v) (t, w) =
     let one = spells_once words s.options t.options s.spelled t.spelled in
     let w : HaveValues s.options h = subst (λ (os : List Choice). HaveValues os h) (sym one) w in

@@ -1,4 +1,4 @@
--- Bytes are read as the capture that they are, and its lines as what they stand for.
+-- `capture_of` reads bytes as the capture that they are, and `line_items_of` its lines as the items that they stand for.
 use Rattle.std.proofs.Common.{◌≡◌, inl, inr, ◌∷◌, ℕ, Bool, true, false, List, [], Option, None, Some, refl, sym, ap, subst, ◌∙◌}
 use Rattle.std.specs.Prelude.{◌↔◌, if◌then◌else◌}
 use Rattle.nav_io.specs.Lines.{Line, lines_by}
@@ -9,7 +9,7 @@ use Rattle.capture_lines.specs.declared.head.CaptureHead.{CaptureHead}
 use Rattle.capture_lines.specs.declared.item.LineItem.{LineItem}
 use Rattle.capture_lines.specs.declared.item.LineItem.TheVariants.{Malformed}
 use Rattle.capture_log.specs.Events.{item_line}
-use Rattle.capture_log.specs.Log.{items_of}
+use Rattle.capture_log.specs.Log.{line_items_of}
 use Rattle.bridge_engine.specs.CaptureBytes.{IsCapture, IsItemOf, StandFor}
 use Rattle.captures.specs.Captures.{Capture, accepted_head, accepted_line, accepted_with, capture_in, capture_of, capture_with, week_for}
 
@@ -59,7 +59,7 @@ told_in heads week bytes c (line ∷ lines) are is = by line.long refl (head_of 
           week_is = some ∙ ap (λ (x : Capture). Some x.week) one;
         }
 
--- and one that is a head is accepted
+-- a first line that is a head is accepted
 read_as : Heads → (week : Option ℕ) (bytes : List ℕ) (c : Capture) → IsCapture week bytes c → capture_of week bytes ≡ Some c
 read_as heads week bytes c is =
     ap (capture_in week) is.lines
@@ -97,7 +97,7 @@ some_item stands line = by line.long refl where
         (stands line.text),
   )
 
-items_told_by : Only → (lines : List Line) (items : List LineItem) → StandFor lines items → items ≡ items_of lines
+items_told_by : Only → (lines : List Line) (items : List LineItem) → StandFor lines items → items ≡ line_items_of lines
 items_told_by only [] [] stand = refl
 items_told_by only [] (item ∷ items) stand = absurd stand
 items_told_by only (line ∷ lines) [] stand = absurd stand
@@ -105,10 +105,10 @@ items_told_by only (line ∷ lines) (item ∷ items) (is, stand) =
     ap (λ (i : LineItem). i ∷ items) (one_item only line item is)
     ∙ ap (λ (l : List LineItem). item_line line ∷ l) (items_told_by only lines items stand)
 
-pub stand_for : Stands → (lines : List Line) → StandFor lines (items_of lines)
+pub stand_for : Stands → (lines : List Line) → StandFor lines (line_items_of lines)
 stand_for stands [] = tt
 stand_for stands (line ∷ lines) = (some_item stands line, stand_for stands lines)
 
-pub items_told : Stands → Only → (lines : List Line) (items : List LineItem) → StandFor lines items ↔ (items ≡ items_of lines)
+pub items_told : Stands → Only → (lines : List Line) (items : List LineItem) → StandFor lines items ↔ (items ≡ line_items_of lines)
 items_told stands only lines items =
     (items_told_by only lines items, λ is. subst (λ (l : List LineItem). StandFor lines l) (sym is) (stand_for stands lines))

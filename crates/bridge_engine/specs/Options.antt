@@ -1,4 +1,4 @@
--- The options that the words of the command line spell, and their values.
+-- The options that the words of a command line spell, and their values.
 use Rattle.std.specs.Prelude.{◌≡◌, ◌⊎◌, ℕ, List, [], ◌∷◌, ◌++◌, codes, Contains, Option, None, Some}
 
 -- an option: its name and its value
@@ -23,35 +23,35 @@ IsSpelling words option =
 
 -- the words begin with a spelling of the option, and these are the words after it
 abbrev pub Begins : List (List ℕ) → Choice → List (List ℕ) → Type 0
-Begins words option rest = (front : List (List ℕ)) × (words ≡ front ++ rest) × IsSpelling front option
+Begins words option rest = (prefix : List (List ℕ)) × (words ≡ prefix ++ rest) × IsSpelling prefix option
 
 -- the words spell these options, one after another
 abbrev pub Spells : List (List ℕ) → List Choice → Type 0
 Spells words [] = words ≡ []
 Spells words (option ∷ options) = (rest : List (List ℕ)) × Begins words option rest × Spells rest options
 
--- the options have this value under the name, or none under it
+-- the option of this name has this value, or is absent
 abbrev pub Holds : List Choice → List ℕ → Option (List ℕ) → Type 0
 Holds options name (Some value) = Contains options (choice name value)
 Holds options name None = (value : List ℕ) → ¬ Contains options (choice name value)
 
--- each name stands at most once
+-- each name occurs at most once
 abbrev pub AreOnce : List Choice → Type 0
 AreOnce [] = Unit {0}
 AreOnce (option ∷ options) = Holds options option.name None × AreOnce options
 
--- the name is one of those that options have
+-- the name is one of the seven option names
 abbrev pub IsName : List ℕ → Type 0
 IsName name = (name ≡ codes "from") ⊎ ((name ≡ codes "to") ⊎ ((name ≡ codes "week") ⊎ ((name ≡ codes "leap")
     ⊎ ((name ≡ codes "date") ⊎ ((name ≡ codes "seed") ⊎ (name ≡ codes "sats"))))))
 
--- each option has one of the names
+-- every option has one of these names
 abbrev pub AreNamed : List Choice → Type 0
 AreNamed [] = Unit {0}
 AreNamed (option ∷ options) = IsName option.name × AreNamed options
 
--- the values of the options, by their names
-pub record Given : Type 0 where
+-- the option values, by name
+pub record OptionsGiven : Type 0 where
   pub from : Option (List ℕ)
   pub to : Option (List ℕ)
   pub week : Option (List ℕ)
@@ -60,7 +60,7 @@ pub record Given : Type 0 where
   pub seed : Option (List ℕ)
   pub sats : Option (List ℕ)
 
--- the words spell options, in any order, each of its name at most once
+-- the words spell options in any order, each name at most once
 pub record AreOptions (words : List (List ℕ)) : Type 0 where
   pub options : List Choice
   pub spelled : Spells words options
@@ -68,7 +68,7 @@ pub record AreOptions (words : List (List ℕ)) : Type 0 where
   pub once : AreOnce options
 
 -- the options have these values
-pub record HaveValues (options : List Choice) (given : Given) : Type 0 where
+pub record HaveValues (options : List Choice) (given : OptionsGiven) : Type 0 where
   pub from : Holds options (codes "from") given.from
   pub to : Holds options (codes "to") given.to
   pub week : Holds options (codes "week") given.week
@@ -78,5 +78,5 @@ pub record HaveValues (options : List Choice) (given : Given) : Type 0 where
   pub sats : Holds options (codes "sats") given.sats
 
 -- the words spell options that have these values
-abbrev pub GiveValues : List (List ℕ) → Given → Type 0
+abbrev pub GiveValues : List (List ℕ) → OptionsGiven → Type 0
 GiveValues words given = (spelling : AreOptions words) × HaveValues spelling.options given

@@ -3,25 +3,25 @@
 ghost use Rattle.std.specs.Prelude.{◌≡◌, ◌↔◌, ℕ, List, Option, Some};
 ghost use Rattle.nav_io.specs.Lines.{Line};
 ghost use Rattle.capture_lines.specs.declared.item.LineItem.{LineItem};
-ghost use Rattle.capture_log.specs.Log.{items_of};
+ghost use Rattle.capture_log.specs.Log.{line_items_of};
 ghost use Rattle.captures.specs.Captures.{Capture, capture_of};
 ghost use Rattle.bridge_engine.specs.CaptureBytes.{IsCapture, StandFor};
 ghost use Rattle.bridge_engine.specs.declared.job.Job.{Job};
 ghost use Rattle.bridge_engine.specs.Job.{IsJob};
 
-/// Words give one job at most.
+/// A command line asks for at most one job.
 pub fn words_give_one_job()
     ensures { (words : List (List ℕ)) (job other : Job)
         → IsJob words job → IsJob words other → job ≡ other }
 {}
 
-/// Bytes are a capture exactly where they are read as it, and its lines stand for what they are read
-/// as: so bytes are one capture at most, and its lines stand for one list of items.
+/// `capture_of` finds a capture exactly where the bytes are one, and each line is read as the item that it
+/// stands for: bytes are at most one capture, and its lines stand for one list of items.
 pub fn captures_are_told()
     ensures capture { (week : Option ℕ) (bytes : List ℕ) (c : Capture)
         → (capture_of week bytes ≡ Some c) ↔ IsCapture week bytes c }
     ensures items { (lines : List Line) (items : List LineItem)
-        → StandFor lines items ↔ (items ≡ items_of lines) }
+        → StandFor lines items ↔ (items ≡ line_items_of lines) }
 {
     capture_lines::each_first_line_is_one_head();
     capture_lines::each_line_stands_for_one_thing();

@@ -1,10 +1,10 @@
-//! The options that the words spell, and their values.
+//! The options that the command-line words spell, and their values.
 
 ghost use Rattle.std.specs.Prelude.{◌≡◌, MatchOption, IfOk, map, option_map, codes};
 ghost use Rattle.std.specs.List.{list_any};
 ghost use Rattle.std.specs.String.{string_bytes};
 ghost use Rattle.clap.specs.Words.{first_value, found_of};
-ghost use Rattle.bridge_engine.specs.Options.{Given, GiveValues};
+ghost use Rattle.bridge_engine.specs.Options.{OptionsGiven, GiveValues};
 ghost use Rattle.bridge_engine.specs.Commands.{values_in, is_only_dashes};
 ghost use Rattle.bridge_engine.specs.WordsFound.{given_of};
 
@@ -13,14 +13,14 @@ use clap::ArgMatches;
 use clap::error::ErrorKind;
 use std::alloc::{AllocError, Global};
 
-/// The values of the options, by their names.
+/// The texts of the option values, by option name; `None` where the option is absent.
 #[derive(Clone, Copy, PartialEq, Eq)]
 pub struct Found<'a> {
-    /// What is read.
+    /// The form that is read.
     pub from: Option<&'a str>,
-    /// What is written.
+    /// The form that is written.
     pub to: Option<&'a str>,
-    /// A GPS week near which it is read.
+    /// The GPS reference week.
     pub week: Option<&'a str>,
     /// The leap seconds of a header.
     pub leap: Option<&'a str>,
@@ -28,18 +28,18 @@ pub struct Found<'a> {
     pub date: Option<&'a str>,
     /// The seed of a generated capture.
     pub seed: Option<&'a str>,
-    /// How many satellites a generated capture has.
+    /// The number of satellites of each system in a generated capture.
     pub sats: Option<&'a str>,
 }
 
-/// The values of the options that the words spell, where they are options, each of its name once.
+/// The values of the options that the words spell; `None` where they spell no options or repeat a name.
 ///
 /// # Errors
 ///
-/// There was no memory to read the words.
+/// `AllocError` when there is no memory to parse the words.
 pub fn options_of<'a>(alloc: Global, words: &'a [String]) -> Result<Option<Found<'a>>, AllocError>
     ensures { IfOk result (λ r. MatchOption r
-        ((given : Given) → ¬ GiveValues (map string_bytes words.now) given)
+        ((given : OptionsGiven) → ¬ GiveValues (map string_bytes words.now) given)
         (λ found. GiveValues (map string_bytes words.now) (given_of found))) }
 {
     if has_only_dashes(words) {
@@ -53,7 +53,7 @@ pub fn options_of<'a>(alloc: Global, words: &'a [String]) -> Result<Option<Found
     }
 }
 
-// Whether one of the words is `-` or `--`, which are no option and which a command would take.
+// Whether one of the words is `-` or `--`: neither is an option, but `clap` accepts both.
 fn has_only_dashes(words: &[String]) -> bool
     ensures { result ≡ list_any is_only_dashes (map string_bytes words.now) }
 {

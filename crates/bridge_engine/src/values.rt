@@ -10,22 +10,22 @@ ghost use Rattle.bridge_engine.specs.WordsFound.{given_of};
 use crate::Found;
 use gnss_week::RefWeek;
 
-/// What the options say beside the forms: of each its value, where it is there.
+/// The values of the options other than `--from` and `--to`; `None` where the option is absent.
 #[derive(Clone, Copy)]
 pub struct Values {
-    /// The week near which times are read.
+    /// The reference week, against which truncated week numbers are resolved.
     pub week: Option<RefWeek>,
     /// The leap seconds between UTC and GPS time, 0 to 99.
     pub leap: Option<u8>,
     /// The date of a header, in 19 characters as `20240101 000000 UTC`.
     pub date: Option<[u8; 19]>,
-    /// The seed of a capture that is made.
+    /// The seed of a generated capture.
     pub seed: Option<u32>,
-    /// The number of its satellites, 1 to 32.
+    /// Its number of satellites of each system, 1 to 32.
     pub sats: Option<u8>,
 }
 
-// The values of the options, where each is in its range.
+// The values of the options, where each is in its range; `None` otherwise.
 pub(crate) fn values_of(found: &Found) -> Option<Values>
     ensures { MatchOption result ((values : Values) → ¬ ReadsAs (given_of found.now) values)
         (ReadsAs (given_of found.now)) }
@@ -47,7 +47,7 @@ pub(crate) fn values_of(found: &Found) -> Option<Values>
     })
 }
 
-// The week that the option says, where it is there.
+// The week of the option, where the option is present.
 fn week_of(text: Option<&str>) -> Option<Option<RefWeek>>
     ensures { MatchOption result
         ((week : Option ℕ) → ¬ Reads IsWeekText (option_map (λ t. t.now) text.entry) week)
@@ -55,14 +55,14 @@ fn week_of(text: Option<&str>) -> Option<Option<RefWeek>>
 {
     match text {
         None => Some(None),
-        Some(text) => match RefWeek::new(number_of(text)?) {
+        Some(text) => match RefWeek::new(number_of_text(text)?) {
             None => None,
             Some(week) => Some(Some(week)),
         },
     }
 }
 
-// The leap seconds that the option says.
+// The leap seconds of the option.
 fn leap_of(text: Option<&str>) -> Option<Option<u8>>
     ensures { MatchOption result
         ((leap : Option ℕ) → ¬ Reads IsLeapText (option_map (λ t. t.now) text.entry) leap)
@@ -71,7 +71,7 @@ fn leap_of(text: Option<&str>) -> Option<Option<u8>>
     match text {
         None => Some(None),
         Some(text) => {
-            let leap = number_of(text)?;
+            let leap = number_of_text(text)?;
             if leap > 99 {
                 None
             } else {
@@ -81,7 +81,7 @@ fn leap_of(text: Option<&str>) -> Option<Option<u8>>
     }
 }
 
-// The date that the option says.
+// The date of the option.
 fn date_of(text: Option<&str>) -> Option<Option<[u8; 19]>>
     ensures { MatchOption result
         ((date : Option (List ℕ)) → ¬ Reads IsDateText (option_map (λ t. t.now) text.entry) date)
@@ -101,7 +101,7 @@ fn date_of(text: Option<&str>) -> Option<Option<[u8; 19]>>
     }
 }
 
-// The seed that the option says.
+// The seed of the option.
 fn seed_of(text: Option<&str>) -> Option<Option<u32>>
     ensures { MatchOption result
         ((seed : Option ℕ) → ¬ Reads IsSeedText (option_map (λ t. t.now) text.entry) seed)
@@ -109,11 +109,11 @@ fn seed_of(text: Option<&str>) -> Option<Option<u32>>
 {
     match text {
         None => Some(None),
-        Some(text) => Some(Some(number_of(text)?)),
+        Some(text) => Some(Some(number_of_text(text)?)),
     }
 }
 
-// The number of satellites that the option says.
+// The number of satellites of the option.
 fn sats_of(text: Option<&str>) -> Option<Option<u8>>
     ensures { MatchOption result
         ((sats : Option ℕ) → ¬ Reads IsSatsText (option_map (λ t. t.now) text.entry) sats)
@@ -122,7 +122,7 @@ fn sats_of(text: Option<&str>) -> Option<Option<u8>>
     match text {
         None => Some(None),
         Some(text) => {
-            let sats = number_of(text)?;
+            let sats = number_of_text(text)?;
             if sats < 1 || sats > 32 {
                 None
             } else {
@@ -133,7 +133,7 @@ fn sats_of(text: Option<&str>) -> Option<Option<u8>>
 }
 
 // The number below 2^32 that one to ten decimal digits write.
-fn number_of(text: &str) -> Option<u32>
+fn number_of_text(text: &str) -> Option<u32>
     ensures { MatchOption result ((number : ℕ) → Writes text.now number → 2 ^ 32 ≤ number)
         (Writes text.now) }
 {
@@ -148,14 +148,14 @@ fn number_of(text: &str) -> Option<u32>
     Some(value as u32)
 }
 
-// Whether the text has digits alone.
+// Whether all characters are digits.
 fn are_digits(text: &[u8]) -> bool
     ensures { result ≡ list_all is_ascii_digit text.now }
 {
     text.iter().all(|byte| byte.is_ascii_digit())
 }
 
-// The number that ten digits write at most.
+// The value of at most ten digits.
 fn value_of_digits(text: &[u8]) -> u64
     requires digits { IsTrue (list_all is_ascii_digit text.now) }
     requires few { length text.now ≤ 10 }

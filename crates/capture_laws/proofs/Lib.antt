@@ -1,5 +1,5 @@
-mod Brought
-mod Marks
+mod Yielded
+mod Watermarks
 mod Sums
 mod Partners
 mod PairLists

@@ -1,4 +1,4 @@
--- The pairs of a half with its partners: each once, and their words bring what the words of the half bring.
+-- The pairs of a page part with its partners: each once, and their words yield what the words of the page part yield.
 use Rattle.std.proofs.Common.{◌≡◌, ℕ, ◌+◌, List, [], ◌∷◌, map, inl, inr, refl, sym, ap, ◌∙◌, ⊎_elim, arith}
 use Rattle.nav_eph.specs.Satellite.{Satellite}
 use Rattle.inav_page.specs.declared.half.HalfKind.{HalfKind}
@@ -13,7 +13,7 @@ use Rattle.capture_log.proofs.Surface.{taken_even, taken_odd}
 use Rattle.capture_laws.specs.Counted.{IsOnce, Pair, pair_events, pairs_weight, weight_of}
 use Rattle.capture_laws.proofs.Sums.{sum_first, sum_mapped, once_first}
 
--- the two halves as a pair, the first of that kind
+-- the two page parts as a pair, where the first is of this kind
 abbrev pair_by : HalfKind → StampedHalf → StampedHalf → Pair
 pair_by Even one other = record { even = one; odd = other }
 pair_by Odd one other = record { even = other; odd = one }
@@ -48,17 +48,17 @@ partners_once one (x ∷ xs) ascending =
     above_in x.half xs ascending.0 y.0 y.1 (ap (λ (s : StampedHalf). s.half) (by_other (kind_of one.half) one x y.0 (sym y.2))))
     (partners_once one xs ascending.1)
 
--- ---- what their words bring
+-- ---- what their words yield
 
 abbrev word_events : List ℕ → Satellite → ℕ → List Event
 word_events word sat stamp = of_word (reading_of word sat stamp)
 
--- what the word of a half and another brings
+-- the events of the word of a page part and another
 abbrev with_other : StampedHalf → StampedHalf → List Event
 with_other one other = word_events (word_with one other) one.sat (stamp_by (kind_of one.half) one.stamp)
 
-pair_brings : (one other : StampedHalf) → ArePartners one other → with_other one other ≡ pair_events (pair_with one other)
-pair_brings one other partners =
+pair_yields : (one other : StampedHalf) → ArePartners one other → with_other one other ≡ pair_events (pair_with one other)
+pair_yields one other partners =
     ⊎_elim
     (λ (make : MakeWord one other). taken_even word_events one other make ∙ ap pair_events (sym (with_even one other make)))
     (λ (make : MakeWord other one). taken_odd word_events one other make ∙ ap pair_events (sym (with_odd one other make)))
@@ -71,12 +71,12 @@ module _ (kind : Event → ℕ) (one : StampedHalf) where
   words_weight (x ∷ xs) partners =
       sum_mapped kind (with_other one x) (of_words one (map (word_with one) xs))
       ∙ ap (λ (es : List Event). weight_of kind es + weight_of kind (of_words one (map (word_with one) xs)))
-      (pair_brings one x (partners x (inl refl)))
+      (pair_yields one x (partners x (inl refl)))
       ∙ ap (λ (n : ℕ). weight_of kind (pair_events (pair_with one x)) + n) (words_weight xs (λ y h. partners y (inr h)))
       ∙ sym (sum_first (weight_of kind (pair_events (pair_with one x)))
       (map (λ p. weight_of kind (pair_events p)) (map (pair_with one) xs)))
 
--- the events of the words of a half weigh what its pairs do
+-- the events of the words of a page part have the total of its pairs
 pub taken_weight : (kind : Event → ℕ) (among : StampedHalf → Type 0) (one : StampedHalf) (words : List (List ℕ))
     (are : AreWordsWith among one words) → ((x : StampedHalf) → In are.partners x → ArePartners one x)
     → weight_of kind (of_words one words) ≡ pairs_weight kind (map (pair_with one) are.partners)

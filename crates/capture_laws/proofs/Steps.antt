@@ -1,4 +1,4 @@
--- One item more: what it brings by itself, and the pairs that its half makes.
+-- One item more: its events alone, and the pairs that its page part completes.
 use Rattle.std.proofs.Common.{◌≡◌, ℕ, ◌+◌, inl, true, false, if◌then◌else◌, List, [], ◌∷◌, ◌++◌, map, Contains, refl}
 use Rattle.std.proofs.Common.{sym, ap, subst, ◌∙◌, arith}
 use Rattle.std.specs.Prelude.{Bool, nat_lt}
@@ -21,14 +21,14 @@ use Rattle.capture_laws.specs.Counted.{ArePairsHeard, Pair, own_events, pairs_we
 use Rattle.capture_laws.proofs.Partners.{taken_weight}
 use Rattle.capture_laws.proofs.PairLists.{new_pairs, pairs_more, pairs_stay}
 
--- the pairs heard with the item, and what it brings
+-- the pairs received with the item, and what it yields
 pub record IsStep (w : ℕ) (items : List LineItem) (known : Known) (item : LineItem) (pairs : List Pair) : Type 0 where
   pub more : List Pair
   pub are : ArePairsHeard w (items ++ item ∷ []) (more ++ pairs)
   pub weighs : (kind : Event → ℕ) → weight_of kind (events_of w known item)
       ≡ weight_of kind (own_events w items item) + pairs_weight kind more
 
--- it brings what it brings by itself, and no pair is new
+-- it yields what it yields by itself, and no pair is new
 quiet : (w : ℕ) (items : List LineItem) (known : Known) (item : LineItem) (pairs : List Pair) → ArePairsHeard w items pairs
     → ((half : StampedHalf) → IsNewHalf w items item half → IsHalfHeard w items half)
     → events_of w known item ≡ own_events w items item → IsStep w items known item pairs
@@ -38,7 +38,7 @@ quiet w items known item pairs are none same = record {
   weighs = λ kind. ap (weight_of kind) same ∙ omega arith;
 }
 
--- ---- the events of a half, by what is known of it
+-- ---- the events of a page part, by what is known of it
 
 abbrev events_by : Bool → Bool → Bool → StampedHalf → List (List ℕ) → List Event
 events_by late alert there own words =
@@ -51,7 +51,7 @@ no_members : {X : Type 0} (xs : List X) → ((x : X) → In xs x → ⊥) → xs
 no_members [] none = refl
 no_members (x ∷ xs) none = absurd (none x (inl refl))
 
--- a half makes no word with none
+-- a page part without a partner makes no word
 no_words : (laws : HalfLaws) (own : StampedHalf) → words_of [] own ≡ []
 no_words laws own =
     let are = laws.words [] own in
@@ -78,14 +78,14 @@ module _ (laws : HalfLaws) (w : ℕ) (items : List LineItem) (known : Known) (kn
     abbrev own : StampedHalf
     own = half_of stamp sat signal bits
 
-    abbrev brought : Bool → Bool → Bool → List Event
-    brought late alert there = events_by late alert there own (words_of known.halves own)
+    abbrev yielded : Bool → Bool → Bool → List Event
+    yielded late alert there = events_by late alert there own (words_of known.halves own)
 
     half_events : (late alert there : Bool) → is_late w known stamp ≡ late → is_alert bits ≡ alert
         → has_half known.halves own ≡ there
-        → events_of w known item ≡ brought late alert there
+        → events_of w known item ≡ yielded late alert there
     unfolding events_of
-    half_events late alert there l a t = λ i. brought (l i) (a i) (t i)
+    half_events late alert there l a t = λ i. yielded (l i) (a i) (t i)
 
     half_itself : (late alert : Bool) → is_late w known stamp ≡ late → is_alert bits ≡ alert
         → own_events w items item ≡ by_itself late alert

@@ -1,4 +1,4 @@
--- A first line and the head that is read of it: each determines whether the other fits.
+-- The first line and the head read from it: a line is read as a head exactly where it is a spelling of it.
 use Rattle.std.proofs.Common.{◌≡◌, ℕ, ◌+◌, ◌≤◌, ◌==◌, ◌&&◌, nat_eq, nat_le, Bool, true, false, List, [], ◌∷◌, ◌++◌, length, take, drop, Option, Some, None, cond, refl, sym, ap, subst, ◌∙◌, arith}
 use Rattle.std.proofs.lemmas.Bool.{eqb-true}
 use Rattle.std.proofs.lemmas.List.{take-append-drop}
@@ -16,9 +16,9 @@ use Rattle.capture_lines.specs.Reading.{number_in}
 use Rattle.capture_lines.specs.Spellings.{IsNumberText}
 use Rattle.capture_lines.specs.declared.head.CaptureHead.{CaptureHead}
 use Rattle.capture_lines.proofs.Bodies.{begun}
-use Rattle.capture_lines.proofs.NumberTexts.{digit_passes, passes_digit, digits_in_front, front_digits, number_of_text, text_of_number}
+use Rattle.capture_lines.proofs.NumberTexts.{digit_passes, passes_digit, digits_in_front, prefix_digits, number_of_text, text_of_number}
 
--- a text of digits alone has nothing but its digits in front
+-- a text of digits only consists of the digits at its start
 all_digits : (text : List ℕ) → AllDigits 10 text → digit_count text ≡ length text
 all_digits [] all = refl
 all_digits (x ∷ xs) all =
@@ -36,7 +36,7 @@ digits_alone (x ∷ xs) h = by (is_ascii_digit x) refl (λ e. digits_alone xs e)
     by true e rest h = (passes_digit x e, rest (omega arith))
     by false e rest h = absurd (omega arith)
 
--- a text of a number is read as it
+-- a text of a number is read as the number
 whole_of_text : (n : ℕ) (text : List ℕ) → IsNumberText n text → whole_number_in text ≡ Some n
 unfolding whole_number_in
 whole_of_text n text h =
@@ -52,7 +52,7 @@ text_of_whole n text read = by (digit_count text == length text) refl read
     by true e h = text_of_number n text (digits_alone text (eqb-true (digit_count text) (length text) e)) h
     by false e h = cc h
 
--- a number that was read behind a space is the number of what stands there
+-- a number read after a space is the number of the text there
 text_behind : (n : ℕ) (rest : List ℕ) → number_behind rest ≡ Some n
     → (text : List ℕ) × (rest ≡ codes " " ++ text) × IsNumberText n text
 unfolding number_behind
@@ -95,18 +95,18 @@ were_in_ranges week window head read =
     by true true false d ea eb ec ed e = cc e
     by true true true false ea eb ec ed e = cc e
 
--- the words behind `NAVCAP 2 ` are read as the week and the window
+-- the words after `NAVCAP 2 ` are read as the week and the window
 own_head_of_texts : (week window : ℕ) (line : List ℕ) (h : NamesWeek week window line)
     → own_head (h.week_text ++ 32 ∷ h.window_text) ≡ Some (record { window = window; week = Some week })
 unfolding own_head number_behind
 own_head_of_texts week window line h =
-    let front = h.week_text in
-    let count = digits_in_front front h.window_text 32 h.week_is.numeral.1 refl in
+    let prefix = h.week_text in
+    let count = digits_in_front prefix h.window_text 32 h.week_is.numeral.1 refl in
     rw (
       count,
-      take-append_seam front (32 ∷ h.window_text),
-      drop-append_seam front (32 ∷ h.window_text),
-      number_of_text week front h.week_is,
+      take-append_seam prefix (32 ∷ h.window_text),
+      drop-append_seam prefix (32 ∷ h.window_text),
+      number_of_text week prefix h.week_is,
       whole_of_text window h.window_text h.window_is,
     ) (in_ranges week window h.week_range h.window_range)
 
@@ -120,7 +120,7 @@ head_of_spelling line head h = by head.window head.week h
     by window None h = rw (h.0, h.1) refl
     by window (Some week) h = rw h.line_is (own_head_of_texts week window line h)
 
--- what was read behind `NAVCAP 2 ` has such words
+-- the text read after `NAVCAP 2 ` has such words
 spelling_of_texts : (line rest : List ℕ) (head : CaptureHead) → line ≡ codes "NAVCAP 2 " ++ rest → own_head rest ≡ Some head
     → IsHead head line
 unfolding own_head
@@ -140,7 +140,7 @@ spelling_of_texts line rest head split read =
               ∙ ap (λ (xs : List ℕ). codes "NAVCAP 2 " ++ xs)
               (sym (take-append-drop (digit_count rest) rest)
               ∙ ap (λ (xs : List ℕ). take (digit_count rest) rest ++ xs) behind.1);
-          week_is = text_of_number week (take (digit_count rest) rest) (front_digits rest) ew;
+          week_is = text_of_number week (take (digit_count rest) rest) (prefix_digits rest) ew;
           window_is = behind.2;
           week_range = told.1;
           window_range = told.2;
@@ -148,7 +148,7 @@ spelling_of_texts line rest head split read =
     by (Some week) None ew en e = cc e
     by None window ew en e = cc e
 
--- a head that was read has the line as a spelling
+-- a line is a spelling of the head read from it
 pub spelling_of_head : (line : List ℕ) (head : CaptureHead) → head_of line ≡ Some head → IsHead head line
 unfolding head_of
 spelling_of_head line head read =
@@ -169,7 +169,7 @@ window_of_spelling : (line : List ℕ) (window : ℕ) (week : Option ℕ) → Na
 window_of_spelling line window None h = let is = h.1 in (omega arith, omega arith)
 window_of_spelling line window (Some week) h = h.window_range
 
--- the answer for a first line: there is one exactly for a spelling of a head, and its window is in its range
+-- a head is read exactly for its spellings, and its window is in range
 pub answered : (line : List ℕ) (o : Option CaptureHead) → o ≡ head_of line
     → (IsSome o ↔ ((head : CaptureHead) × IsHead head line)) × IfSome o (λ head. (60 ≤ head.window) × (head.window ≤ 14400))
 answered line (Some head) is =

@@ -8,3 +8,4 @@ pub mod Lateness
 pub mod Decimals
 pub mod Written
 pub mod Printed
+pub mod Surface

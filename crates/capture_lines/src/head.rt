@@ -6,24 +6,23 @@ ghost use Rattle.capture_lines.specs.Heads.{IsHead, head_of, number_behind, own_
 ghost use Rattle.capture_lines.specs.Heads.{whole_number_in};
 ghost use Rattle.capture_lines.specs.declared.head.CaptureHead.{CaptureHead};
 
-use crate::numbers::{digit_count, number_of};
+use crate::numbers::{decimal_number, digit_count};
 use gnss_week::RefWeek;
 
-/// What the first line of a capture says.
+/// The content of the first line of a capture.
 #[derive(Clone, Copy, PartialEq, Eq)]
 pub struct CaptureHead {
-    /// How many seconds a line may come behind a later one, and how long parts of one issue belong
-    /// together.
+    /// The window in seconds: how far a line's stamp may be below a later one's, and the longest gap
+    /// between parts of one period.
     pub window: u32,
-    /// The week near which the capture was heard, counted from 1980-01-06; `None` where the line
-    /// names none.
+    /// The reference week, counted from 1980-01-06; `None` where the line has none.
     pub week: Option<RefWeek>,
 }
 
-/// What the first line says, without its end: `NAVCAP 1`, which has a window of 7,200 seconds and
-/// no week, or `NAVCAP 2 <week> <window>`, with the week 1024 to 8191 and the window 60 to 14,400
-/// seconds, each in one to ten decimal digits. One space stands between the words, and nothing
-/// before the first or behind the last. `None` exactly for every other line.
+/// Reads the first line, without its line end: `NAVCAP 1`, with a window of 7,200 seconds and no week,
+/// or `NAVCAP 2 <week> <window>`, with a week of 1024 to 8191 and a window of 60 to 14,400 seconds, each
+/// in one to ten decimal digits. Words are separated by one space; there is no space at either end.
+/// `None` for every other line.
 #[tactic(auto, unfolding(crate::specs::Heads::head_of))]
 pub fn read_first(line: &[u8]) -> Option<CaptureHead>
     ensures head { result ≡ head_of line.now }
@@ -42,18 +41,18 @@ pub fn read_first(line: &[u8]) -> Option<CaptureHead>
     week_and_window(&line[9..])
 }
 
-// The head behind `NAVCAP 2 `.
+// The head after `NAVCAP 2 `.
 #[tactic(auto, unfolding(crate::specs::Heads::own_head))]
 fn week_and_window(rest: &[u8]) -> Option<CaptureHead>
     ensures { result ≡ own_head rest.now }
 {
     let count = digit_count(rest);
-    let week = number_of(rest, count)?;
+    let week = decimal_number(rest, count)?;
     let window = number_behind_a_space(&rest[count..])?;
     in_range(week, window)
 }
 
-// The number behind one space.
+// The number after one space, up to the end of the text.
 #[tactic(auto, unfolding(crate::specs::Heads::number_behind, crate::specs::Heads::whole_number_in))]
 fn number_behind_a_space(rest: &[u8]) -> Option<u32>
     ensures { result ≡ number_behind rest.now }
@@ -66,10 +65,10 @@ fn number_behind_a_space(rest: &[u8]) -> Option<u32>
     if count != text.len() {
         return None;
     }
-    number_of(text, count)
+    decimal_number(text, count)
 }
 
-// The head of a week and a window, where both are in their ranges.
+// The head of a week and a window; `None` where one is out of range.
 #[tactic(auto, unfolding(crate::specs::Heads::ranged))]
 fn in_range(week: u32, window: u32) -> Option<CaptureHead>
     ensures { result ≡ ranged week window }

@@ -1,41 +1,41 @@
-//! What a line stands for.
+//! The content of a line.
 
 use arrayvec::ArrayVec;
 use nav_bits::Bits;
 use nav_eph::{Sat, Signal};
 
-/// The most bytes of an RTCM frame (RTCM 10403.3, the transport layer).
+/// The greatest length of an RTCM frame in bytes (RTCM 10403.3, transport layer).
 pub(crate) const LONGEST_FRAME: usize = 1029;
 
-/// What a line of a capture stands for.
+/// The content of a line of a capture.
 #[derive(PartialEq, Eq, Drop)]
 pub enum LineItem {
-    /// A line that is passed: one of at most 2,200 bytes that begins with `#`, is empty, or has
-    /// blanks alone.
+    /// A skipped line: it has at most 2,200 bytes, and begins with `#`, is empty or has only
+    /// spaces.
     Pass,
-    /// A subframe of the LNAV message of GPS.
+    /// A subframe of the GPS LNAV message.
     Lnav {
-        /// The second at which it was heard, as the logger counts.
+        /// The stamp at which it was received, in seconds of the logger's clock.
         stamp: u32,
-        /// The satellite, of GPS.
+        /// The GPS satellite.
         sat: Sat,
-        /// The 300 bits, and behind them four that are not looked at.
+        /// The 300 bits, followed by four that are ignored.
         bits: Bits<38>,
     },
-    /// A half of a page of the I/NAV message of Galileo.
+    /// A page part of the Galileo I/NAV message.
     Half {
-        /// The second at which it was heard, as the logger counts.
+        /// The stamp at which it was received, in seconds of the logger's clock.
         stamp: u32,
-        /// The satellite, of Galileo.
+        /// The Galileo satellite.
         sat: Sat,
-        /// The signal on which it was heard.
+        /// The signal on which it was received.
         signal: Signal,
         /// The 120 bits.
         bits: Bits<15>,
     },
-    /// Bytes that stand where an RTCM frame should.
+    /// The bytes of an RTCM frame, not checked.
     Frame {
-        /// The second at which it was heard, as the logger counts.
+        /// The stamp at which it was received, in seconds of the logger's clock.
         stamp: u32,
         /// The bytes, 6 to 1,029.
         bytes: ArrayVec<u8, LONGEST_FRAME>,

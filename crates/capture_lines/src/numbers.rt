@@ -1,5 +1,5 @@
-//! Numbers in decimal digits: stamps, which are seconds of the logger, and the week and the window
-//! of a head.
+//! Decimal numbers: stamps in seconds of the logger's clock, and the week and window of the first
+//! line.
 
 ghost use Rattle.std.specs.Prelude.{◌≡◌, ◌+◌, ◌^◌, ◌<◌, ◌≤◌, ◌++◌, length, take, decimal};
 ghost use Rattle.std.specs.List.{prefix_len};
@@ -10,22 +10,23 @@ ghost use Rattle.capture_lines.specs.Reading.{number_in};
 
 use crate::LineText;
 
-// The most digits of a number.
+// The greatest number of digits.
 const MOST_DIGITS: usize = 10;
 
 // The greatest number.
 const GREATEST: u64 = 4_294_967_295;
 
-// How many digits the line begins with.
+// The number of decimal digits at the start of the line.
 pub(crate) fn digit_count(line: &[u8]) -> usize
     ensures { result ≡ prefix_len is_ascii_digit line.now }
 {
     line.iter().take_while(|byte| byte.is_ascii_digit()).count()
 }
 
-// The number of the digits that the line begins with.
+// The number of the digits at the start of the line; `None` for no digit, more than ten, or a value
+// of 2^32 or more.
 #[tactic(auto, unfolding(crate::specs::Reading::number_in))]
-pub(crate) fn number_of(line: &[u8], count: usize) -> Option<u32>
+pub(crate) fn decimal_number(line: &[u8], count: usize) -> Option<u32>
     requires { count ≡ prefix_len is_ascii_digit line.now }
     ensures { result ≡ number_in (take count line.now) }
 {
@@ -39,7 +40,7 @@ pub(crate) fn number_of(line: &[u8], count: usize) -> Option<u32>
     Some(value as u32)
 }
 
-// The number of the digits that the line begins with, ten at most.
+// The value of the digits at the start of the line, at most ten.
 fn value_of(line: &[u8], count: usize) -> u64
     requires digits { count ≡ prefix_len is_ascii_digit line.now }
     requires short { count ≤ 10 }

@@ -1,4 +1,4 @@
--- The parts in the log of all items are those heard of them.
+-- The parts in the log of all items are those received in them.
 use Rattle.std.proofs.Common.{◌≡◌, ℕ, ◌+◌, ◌⊎◌, ◌↔◌, inl, inr, List, [], ◌∷◌, ◌++◌, Contains, refl}
 use Rattle.std.proofs.Common.{sym, ap, subst, ⊎_elim, append_assoc, append-nil}
 use Rattle.std.proofs.lemmas.List.Concat.{flat_map-append}
@@ -13,11 +13,11 @@ use Rattle.capture_log.specs.Log.{noted, log_from, parts_of_event, parts_in}
 use Rattle.capture_log.specs.Heard.{IsOfSubframe, IsOfFrame, IsOfWord, IsPartHeard}
 use Rattle.capture_log.proofs.Lists.{In, in_from_contains, contains_from_in, in_left, in_right}
 use Rattle.capture_log.proofs.Lists.{in_append, in_middle}
-use Rattle.capture_log.proofs.Accepting.{front_accepted, part_keeps}
+use Rattle.capture_log.proofs.Accepting.{prefix_accepted, part_keeps}
 use Rattle.capture_log.proofs.Knowing.{HalfLaws, Knows, knows_more}
-use Rattle.capture_log.proofs.Bringing.{brought_heard, heard_cases}
+use Rattle.capture_log.proofs.Bringing.{yielded_heard, heard_cases}
 
--- ---- the parts of noted events
+-- ---- the parts of logged events
 
 event_to : (event : Event) (part : Part) → In (parts_of_event event) part → event ≡ Heard part
 event_to (Heard p) part (inl e) = ap Heard e
@@ -97,7 +97,7 @@ module _ (laws : HalfLaws) (w : ℕ) (part : Part) where
       let at : IsPartHeard w (one ++ items) part =
       ⊎_elim
       (λ (first : In (events_of w known item) (Heard part)).
-      part_keeps w one (one ++ items) (front_accepted w one items) part (brought_heard laws w before known knows part item first))
+      part_keeps w one (one ++ items) (prefix_accepted w one items) part (yielded_heard laws w before known knows part item first))
       (λ (rest : In (parts_in (log_from w (known_with w known item) (number + 1) items)) part).
       log_heard one items (known_with w known item) (number + 1) (knows_more laws w before known knows item) rest)
       (first_or_later w known number item items part h) in
@@ -117,8 +117,8 @@ module _ (laws : HalfLaws) (w : ℕ) (part : Part) where
       (λ (heard : IsPartHeard w one part).
       ⊎_elim
       (λ (was : IsPartHeard w before part). inl was)
-      (λ (brought : In (events_of w known item) (Heard part)).
-      inr (to_log (in_left first rest part (noted_from number (events_of w known item) part brought))))
+      (λ (yielded : In (events_of w known item) (Heard part)).
+      inr (to_log (in_left first rest part (noted_from number (events_of w known item) part yielded))))
       (heard_cases laws w before known knows part item heard))
       (λ (later : In rest part). inr (to_log (in_right first rest part later)))
       (heard_log one items (known_with w known item) (number + 1) (knows_more laws w before known knows item)

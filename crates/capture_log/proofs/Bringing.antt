@@ -1,4 +1,4 @@
--- What one more item brings is what is heard with it and was not heard before.
+-- The events of one more item are what is received with it and was not before.
 use Rattle.std.proofs.Common.{◌≡◌, ℕ, ◌⊎◌, inl, inr, true, false, if◌then◌else◌, List, [], ◌∷◌}
 use Rattle.std.proofs.Common.{◌++◌, Contains, Some, refl, sym, ap, subst, ◌∙◌, ⊎_elim}
 use Rattle.std.proofs.lemmas.Bool.{cond_both, both_ways}
@@ -22,7 +22,7 @@ use Rattle.capture_log.specs.Heard.{IsOfSubframe, IsOfFrame, IsHalfHeard, IsOfWo
 use Rattle.capture_log.proofs.Lists.{In, in_from_contains, contains_from_in}
 use Rattle.capture_log.proofs.Accepting.{still_accepted, last_accepted, accepted_cases, half_keeps}
 use Rattle.capture_log.proofs.Accepting.{IsNewHalf, half_cases, new_half_one}
-use Rattle.capture_log.proofs.WordEvents.{words_bring, pair_brings}
+use Rattle.capture_log.proofs.WordEvents.{words_yield, pair_yields}
 use Rattle.capture_log.proofs.Knowing.{HalfLaws, Knows, in_time, not_late, half_heard}
 
 -- the events of a word
@@ -51,7 +51,7 @@ stamp_is : (a b : ℕ) → Some a ≡ Some b → a ≡ b
 stamp_is a b e = cc
 
 module _ (laws : HalfLaws) (w : ℕ) (items : List LineItem) (known : Known) (knows : Knows w items known) (part : Part) where
-  -- a word of a half and of those before it is heard
+  -- a word of a page part and an earlier one is received
   pair_heard : (item : LineItem) (taken even odd : StampedHalf)
       → IsHalfHeard w (items ++ item ∷ []) taken
       → IsHeardWith (Contains known.halves) taken even odd
@@ -67,12 +67,12 @@ module _ (laws : HalfLaws) (w : ℕ) (items : List LineItem) (known : Known) (kn
       record { even_among = still even second.0; odd_among = subst (IsHalfHeard w more) second.1 own; make = h.0 })
       h.1
 
-  -- what the words of a half bring is heard
+  -- the words of a page part give what is received
   words_heard : (item : LineItem) (taken : StampedHalf) → IsHalfHeard w (items ++ item ∷ []) taken
       → In (of_words taken (words_of known.halves taken)) (Heard part)
       → IsPartHeard w (items ++ item ∷ []) part
   words_heard item taken own h =
-      let pair = words_bring word_events (Contains known.halves) taken (words_of known.halves taken) (Heard part)
+      let pair = words_yield word_events (Contains known.halves) taken (words_of known.halves taken) (Heard part)
       (laws.words known.halves taken) h in
       inr (inr (record {
         even = pair.0;
@@ -81,13 +81,13 @@ module _ (laws : HalfLaws) (w : ℕ) (items : List LineItem) (known : Known) (kn
         is = contains_from_in (word_events (word_of pair.0.half pair.1.half) pair.1.sat pair.1.stamp) (Heard part) pair.3;
       }))
 
-  -- what the item brings is heard with it
-  pub brought_heard : (item : LineItem) → In (events_of w known item) (Heard part)
+  -- the item gives what is received with it
+  pub yielded_heard : (item : LineItem) → In (events_of w known item) (Heard part)
       → IsPartHeard w (items ++ item ∷ []) part
   unfolding events_of
-  brought_heard Pass h = absurd h
-  brought_heard MalformedItem h = absurd (none_heard Malformed part (no_malformed part) h)
-  brought_heard (Lnav stamp sat bits) h =
+  yielded_heard Pass h = absurd h
+  yielded_heard MalformedItem h = absurd (none_heard Malformed part (no_malformed part) h)
+  yielded_heard (Lnav stamp sat bits) h =
       let item = Lnav stamp sat bits in
       cond_both (is_late w known stamp) (Late ∷ []) (of_subframe (subframe_of bits sat stamp) ∷ [])
       (λ es. In es (Heard part) → IsPartHeard w (items ++ item ∷ []) part)
@@ -100,7 +100,7 @@ module _ (laws : HalfLaws) (w : ℕ) (items : List LineItem) (known : Known) (kn
         is = only_one (of_subframe (subframe_of bits sat stamp)) part k;
       }))
       h
-  brought_heard (Frame stamp bytes) h =
+  yielded_heard (Frame stamp bytes) h =
       let item = Frame stamp bytes in
       cond_both (is_late w known stamp) (Late ∷ []) (of_frame stamp bytes.items)
       (λ es. In es (Heard part) → IsPartHeard w (items ++ item ∷ []) part)
@@ -114,7 +114,7 @@ module _ (laws : HalfLaws) (w : ℕ) (items : List LineItem) (known : Known) (kn
         is = contains_from_in (of_frame stamp bytes.items) (Heard part) k;
       })))
       h
-  brought_heard (Half stamp sat signal bits) h =
+  yielded_heard (Half stamp sat signal bits) h =
       let item = Half stamp sat signal bits in
       let own = half_of stamp sat signal bits in
       let Is : List Event → Type 0 = λ es. In es (Heard part) → IsPartHeard w (items ++ item ∷ []) part in
@@ -129,7 +129,7 @@ module _ (laws : HalfLaws) (w : ℕ) (items : List LineItem) (known : Known) (kn
       (λ new k. words_heard item own (half_heard laws w items known knows stamp sat signal bits timely nominal) k)))
       h
 
-  -- ---- and what is heard with it was heard, or it brings it
+  -- ---- what is received with it was received before, or it gives it
 
   in_late : (stamp : ℕ) (events : List Event) → (IsLate w items stamp → ⊥) → In events (Heard part)
       → In (if is_late w known stamp then Late ∷ [] else events) (Heard part)
@@ -138,11 +138,11 @@ module _ (laws : HalfLaws) (w : ℕ) (items : List LineItem) (known : Known) (kn
       (λ late. absurd (both_ways (is_late w known stamp) (not_late laws w items known knows.greatest stamp timely) late))
       (λ t. h)
 
-  brings_subframe : (stamp : ℕ) (sat : Satellite) (bits : List ℕ) → (IsLate w items stamp → ⊥)
+  yields_subframe : (stamp : ℕ) (sat : Satellite) (bits : List ℕ) → (IsLate w items stamp → ⊥)
       → of_subframe (subframe_of bits sat stamp) ≡ Heard part
       → In (events_of w known (Lnav stamp sat bits)) (Heard part)
   unfolding events_of
-  brings_subframe stamp sat bits timely e = in_late stamp (of_subframe (subframe_of bits sat stamp) ∷ []) timely (inl e)
+  yields_subframe stamp sat bits timely e = in_late stamp (of_subframe (subframe_of bits sat stamp) ∷ []) timely (inl e)
 
   subframe_new : (item : LineItem) → IsOfSubframe w (items ++ item ∷ []) part
       → IsPartHeard w items part ⊎ In (events_of w known item) (Heard part)
@@ -151,14 +151,14 @@ module _ (laws : HalfLaws) (w : ℕ) (items : List LineItem) (known : Known) (kn
     | inr new ↦
         let timely : IsLate w items h.stamp → ⊥ =
         λ late. new.in_time (subst (IsLate w items) (stamp_is h.stamp new.stamp new.stamp_is) late) in
-        inr (subst (λ i. In (events_of w known i) (Heard part)) (sym new.is) (brings_subframe h.stamp h.sat h.bits timely h.is))
+        inr (subst (λ i. In (events_of w known i) (Heard part)) (sym new.is) (yields_subframe h.stamp h.sat h.bits timely h.is))
   ]
 
-  brings_frame : (stamp : ℕ) (bytes : List ℕ) → (IsLate w items stamp → ⊥)
+  yields_frame : (stamp : ℕ) (bytes : List ℕ) → (IsLate w items stamp → ⊥)
       → Contains (of_frame stamp bytes) (Heard part)
       → In (events_of w known (Frame stamp (record { items = bytes }))) (Heard part)
   unfolding events_of
-  brings_frame stamp bytes timely h = in_late stamp (of_frame stamp bytes) timely (in_from_contains (of_frame stamp bytes) (Heard part) h)
+  yields_frame stamp bytes timely h = in_late stamp (of_frame stamp bytes) timely (in_from_contains (of_frame stamp bytes) (Heard part) h)
 
   frame_new : (item : LineItem) → IsOfFrame w (items ++ item ∷ []) part
       → IsPartHeard w items part ⊎ In (events_of w known item) (Heard part)
@@ -167,17 +167,17 @@ module _ (laws : HalfLaws) (w : ℕ) (items : List LineItem) (known : Known) (kn
     | inr new ↦
         let own : Some h.stamp ≡ Some new.stamp = ap stamp_of (sym h.item_is) ∙ new.stamp_is in
         let timely : IsLate w items h.stamp → ⊥ = λ late. new.in_time (subst (IsLate w items) (stamp_is h.stamp new.stamp own) late) in
-        inr (subst (λ i. In (events_of w known i) (Heard part)) (sym (new.is ∙ h.item_is)) (brings_frame h.stamp h.bytes timely h.is))
+        inr (subst (λ i. In (events_of w known i) (Heard part)) (sym (new.is ∙ h.item_is)) (yields_frame h.stamp h.bytes timely h.is))
   ]
 
-  -- a half that is new brings the words that it makes with those before it
-  brings_words : (stamp : ℕ) (sat : Satellite) (signal : Signal) (bits : List ℕ)
+  -- a new page part gives the words that it completes with earlier ones
+  yields_words : (stamp : ℕ) (sat : Satellite) (signal : Signal) (bits : List ℕ)
       → (IsLate w items stamp → ⊥) → is_alert bits ≡ false
       → has_half known.halves (half_of stamp sat signal bits) ≡ false
       → In (of_words (half_of stamp sat signal bits) (words_of known.halves (half_of stamp sat signal bits))) (Heard part)
       → In (events_of w known (Half stamp sat signal bits)) (Heard part)
   unfolding events_of
-  brings_words stamp sat signal bits timely nominal new h =
+  yields_words stamp sat signal bits timely nominal new h =
       let own = half_of stamp sat signal bits in
       let words = of_words own (new_words known.halves own) in
       let Is : List Event → Type 0 = λ es. In es (Heard part) in
@@ -188,7 +188,7 @@ module _ (laws : HalfLaws) (w : ℕ) (items : List LineItem) (known : Known) (kn
       (λ there. absurd (both_ways (has_half known.halves own) new there))
       (λ m. h)))
 
-  -- the pair of a half that was heard was heard
+  -- the pair of a page part that was received before was received
   pair_was : (taken even odd : StampedHalf) → IsHalfHeard w items taken
       → IsHeardWith (IsHalfHeard w items) taken even odd
       → IsHeard (IsHalfHeard w items) even odd
@@ -200,7 +200,7 @@ module _ (laws : HalfLaws) (w : ℕ) (items : List LineItem) (known : Known) (kn
       record { even_among = second.0; odd_among = subst (IsHalfHeard w items) second.1 there; make = h.0 })
       h.1
 
-  -- among the halves that are known
+  -- among the page parts in the state
   pair_known : (taken even odd : StampedHalf) → IsHeardWith (IsHalfHeard w items) taken even odd
       → IsHeardWith (Contains known.halves) taken even odd
   pair_known taken even odd h = (
@@ -211,12 +211,12 @@ module _ (laws : HalfLaws) (w : ℕ) (items : List LineItem) (known : Known) (kn
         h.1,
   )
 
-  -- a word of the item's half and an earlier one
+  -- a word of the item's page part and an earlier one
   pair_new : (item : LineItem) (taken even odd : StampedHalf) → IsNewHalf w items item taken
       → IsHeardWith (IsHalfHeard w items) taken even odd
       → Contains (word_events (word_of even.half odd.half) odd.sat odd.stamp) (Heard part)
       → IsPartHeard w items part ⊎ In (events_of w known item) (Heard part)
-  pair_new item taken even odd new pair brings =
+  pair_new item taken even odd new pair yields =
       let own = half_of new.stamp new.sat new.signal new.bits in
       let Goal : Type 0 = IsPartHeard w items part ⊎ In (events_of w known item) (Heard part) in
       cond_both (has_half known.halves taken) true false (λ b. Goal)
@@ -224,20 +224,20 @@ module _ (laws : HalfLaws) (w : ℕ) (items : List LineItem) (known : Known) (kn
         even = even;
         odd = odd;
         heard = pair_was taken even odd (knows.halves_to taken ((laws.among known.halves taken).0 there)) pair;
-        is = brings;
+        is = yields;
       }))))
       (λ fresh.
       let words : In (of_words taken (words_of known.halves taken)) (Heard part) =
-      pair_brings word_events (Contains known.halves) taken (words_of known.halves taken) (Heard part) even odd
+      pair_yields word_events (Contains known.halves) taken (words_of known.halves taken) (Heard part) even odd
       (laws.words known.halves taken) (pair_known taken even odd pair)
-      (in_from_contains (word_events (word_of even.half odd.half) odd.sat odd.stamp) (Heard part) brings) in
+      (in_from_contains (word_events (word_of even.half odd.half) odd.sat odd.stamp) (Heard part) yields) in
       let fresh_own : has_half known.halves own ≡ false = subst (λ t. has_half known.halves t ≡ false) new.half_is fresh in
       let own_words : In (of_words own (words_of known.halves own)) (Heard part) =
       subst (λ t. In (of_words t (words_of known.halves t)) (Heard part)) new.half_is words in
       inr (subst (λ i. In (events_of w known i) (Heard part)) (sym new.is)
-      (brings_words new.stamp new.sat new.signal new.bits new.in_time new.nominal fresh_own own_words)))
+      (yields_words new.stamp new.sat new.signal new.bits new.in_time new.nominal fresh_own own_words)))
 
-  -- a word of which one half is the item's
+  -- a word of which one page part is the item's
   word_of_new : (item : LineItem) (taken : StampedHalf) → IsNewHalf w items item taken
       → IsOfWord w (items ++ item ∷ []) part
       → IsPartHeard w items part ⊎ In (events_of w known item) (Heard part)
@@ -272,7 +272,7 @@ module _ (laws : HalfLaws) (w : ℕ) (items : List LineItem) (known : Known) (kn
       (λ (new : IsNewHalf w items item h.even). word_of_new item h.even new h)
       (half_cases w items item h.even h.heard.even_among)
 
-  -- what is heard with one more item was heard before, or the item brings it
+  -- what is received with one more item was received before, or the item gives it
   pub heard_cases : (item : LineItem) → IsPartHeard w (items ++ item ∷ []) part
       → IsPartHeard w items part ⊎ In (events_of w known item) (Heard part)
   heard_cases item h =

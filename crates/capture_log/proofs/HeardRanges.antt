@@ -1,4 +1,4 @@
--- Each part heard has its fields within their digits, and its satellite is one of its system.
+-- Each received part has its fields within their widths, and a satellite of its system.
 use Rattle.std.proofs.Common.{◌≡◌, ℕ, ◌⊎◌, List, All, Ok, sym, ap, subst, ◌∙◌, ⊎_elim}
 use Rattle.std.proofs.lemmas.Bool.{cond_both}
 use Rattle.std.proofs.lemmas.List.Elements.{All-contains}
@@ -24,7 +24,7 @@ use Rattle.capture_lines.specs.declared.item.LineItem.TheVariants.{Malformed as 
 use Rattle.capture_log.specs.declared.event.Event.TheVariants.{Heard}
 use Rattle.capture_log.specs.Events.{of_frame, of_word, item_line}
 use Rattle.capture_log.specs.Heard.{IsOfSubframe, IsOfFrame, IsOfWord, IsPartHeard}
-use Rattle.capture_log.specs.Log.{items_of}
+use Rattle.capture_log.specs.Log.{line_items_of}
 use Rattle.capture_log.proofs.Lists.{contains_from_in, in_from_contains, in_map, in_middle}
 use Rattle.capture_log.proofs.HeardValues.{subframe_read, word_read, frame_read}
 
@@ -49,7 +49,7 @@ line_sat : ((line : List ℕ) → StandsFor (item_of line) line) → (line : Lin
 line_sat stands line =
     cond_both line.long MalformedItem (item_of line.text) HasSat (λ long. tt) (λ short. item_sat line.text (item_of line.text) (stands line.text))
 
--- what is read has each field of its content within its digits, and the satellite of which it was heard; a message's is one of its system
+-- what is read has each field within its width and the sender's satellite; that of a message is one of its system
 pub record ReadsRanges : Type 0 where
   pub subframes : (bits : List ℕ) (sat : Satellite) (stamp : ℕ) (part : Part) → subframe_of bits sat stamp ≡ Ok part → HasBodyRanges part.body
   pub subframe_sats : (bits : List ℕ) (sat : Satellite) (stamp : ℕ) (part : Part) → subframe_of bits sat stamp ≡ Ok part → part.sat ≡ sat
@@ -61,12 +61,12 @@ pub record ReadsRanges : Type 0 where
       → All HasPartRanges (message_parts parts)
 
 module _ (laws : ReadsRanges) (stands : (line : List ℕ) → StandsFor (item_of line) line) (w : ℕ) (lines : List Line) (part : Part) where
-  accepted_sat : (item : LineItem) → IsAccepted w (items_of lines) item → HasSat item
+  accepted_sat : (item : LineItem) → IsAccepted w (line_items_of lines) item → HasSat item
   accepted_sat item h =
-      let line = in_map item_line lines item (in_middle h.before h.after (items_of lines) item h.place) in
+      let line = in_map item_line lines item (in_middle h.before h.after (line_items_of lines) item h.place) in
       subst HasSat line.2 (line_sat stands line.0)
 
-  subframe_ranges : IsOfSubframe w (items_of lines) part → HasPartRanges part
+  subframe_ranges : IsOfSubframe w (line_items_of lines) part → HasPartRanges part
   subframe_ranges h =
       let read = subframe_read (subframe_of h.bits h.sat h.stamp) part h.is in
       record {
@@ -74,13 +74,13 @@ module _ (laws : ReadsRanges) (stands : (line : List ℕ) → StandsFor (item_of
         body = laws.subframes h.bits h.sat h.stamp part read;
       }
 
-  frame_ranges : IsOfFrame w (items_of lines) part → HasPartRanges part
+  frame_ranges : IsOfFrame w (line_items_of lines) part → HasPartRanges part
   frame_ranges h =
       let own = frame_read h.stamp h.bytes part (in_from_contains (of_frame h.stamp h.bytes) (Heard part) h.is) in
       All-contains HasPartRanges (message_parts own.parts) part (laws.messages (payload_of h.bytes) h.stamp own.parts own.read)
       (contains_from_in (message_parts own.parts) part own.here)
 
-  word_ranges : IsOfWord w (items_of lines) part → HasPartRanges part
+  word_ranges : IsOfWord w (line_items_of lines) part → HasPartRanges part
   word_ranges h =
       let bits = word_of h.even.half h.odd.half in
       let read = reading_of bits h.odd.sat h.odd.stamp in
@@ -95,10 +95,10 @@ module _ (laws : ReadsRanges) (stands : (line : List ℕ) → StandsFor (item_of
         body = All-contains (λ p. HasBodyRanges p.body) (word_parts own.parts) part (laws.words bits h.odd.sat h.odd.stamp own.parts own.read) here;
       }
 
-  pub heard_ranges : IsPartHeard w (items_of lines) part → HasPartRanges part
+  pub heard_ranges : IsPartHeard w (line_items_of lines) part → HasPartRanges part
   heard_ranges h =
       ⊎_elim
-      (λ (one : IsOfSubframe w (items_of lines) part). subframe_ranges one)
-      (λ (rest : IsOfFrame w (items_of lines) part ⊎ IsOfWord w (items_of lines) part).
-      ⊎_elim (λ (one : IsOfFrame w (items_of lines) part). frame_ranges one) (λ (one : IsOfWord w (items_of lines) part). word_ranges one) rest)
+      (λ (one : IsOfSubframe w (line_items_of lines) part). subframe_ranges one)
+      (λ (rest : IsOfFrame w (line_items_of lines) part ⊎ IsOfWord w (line_items_of lines) part).
+      ⊎_elim (λ (one : IsOfFrame w (line_items_of lines) part). frame_ranges one) (λ (one : IsOfWord w (line_items_of lines) part). word_ranges one) rest)
       h

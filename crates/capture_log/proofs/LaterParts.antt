@@ -1,4 +1,4 @@
--- No part comes from before the mark, so what further lines bring is later.
+-- No part comes from before the watermark, so what further lines give is later.
 use Rattle.std.proofs.Common.{◌≡◌, ℕ, ◌+◌, ◌-◌, ◌≤◌, inl, inr, false, if◌then◌else◌, List, [], ◌∷◌}
 use Rattle.std.proofs.Common.{sym, subst, ⊎_elim, arith, ltb-false}
 use Rattle.std.proofs.lemmas.Bool.{cond_both}
@@ -28,7 +28,7 @@ Always stamp = Unit {0}
 abbrev pub HasStamp : ℕ → Part → Type 0
 HasStamp stamp part = part.stamp ≡ stamp
 
--- what is read at a stamp has it
+-- what is read at a stamp has this stamp
 abbrev pub ReadsStamps : Type 0
 ReadsStamps = HoldsOfRead Always HasStamp
 
@@ -47,9 +47,9 @@ single event part (inr h) = absurd h
 
 module _ (laws : ReadsStamps) (w : ℕ) (known : Known) (part : Part) where
   -- in time, and at the stamp or later
-  from_mark : (stamp : ℕ) → is_late w known stamp ≡ false → stamp ≤ part.stamp
+  from_watermark : (stamp : ℕ) → is_late w known stamp ≡ false → stamp ≤ part.stamp
       → known.greatest - w ≤ part.stamp
-  from_mark stamp timely at = let low = ltb-false (stamp + w) known.greatest timely in omega arith
+  from_watermark stamp timely at = let low = ltb-false (stamp + w) known.greatest timely in omega arith
 
   words_later : (taken : StampedHalf) (words : List (List ℕ))
       → In (of_words taken words) (Heard part) → taken.stamp ≤ part.stamp
@@ -60,7 +60,7 @@ module _ (laws : ReadsStamps) (w : ℕ) (known : Known) (part : Part) where
       let low : taken.stamp ≤ stamp = stamp_by-le (kind_of taken.half) taken.stamp in
       subst (λ n. taken.stamp ≤ n) (sym same) low
 
-  -- no part of an item comes from before the mark
+  -- no part of an item comes from before the watermark
   pub events_later : (item : LineItem) → In (events_of w known item) (Heard part)
       → known.greatest - w ≤ part.stamp
   unfolding events_of
@@ -73,7 +73,7 @@ module _ (laws : ReadsStamps) (w : ℕ) (known : Known) (part : Part) where
       (λ timely k.
       let own : part.stamp ≡ stamp =
       of_subframe_part Always HasStamp laws bits sat stamp part tt (single (of_subframe (subframe_of bits sat stamp)) part k) in
-      from_mark stamp timely (omega (arith, own)))
+      from_watermark stamp timely (omega (arith, own)))
       h
   events_later (Frame stamp bytes) h =
       cond_both (is_late w known stamp) (Late ∷ []) (of_frame stamp bytes.items)
@@ -81,7 +81,7 @@ module _ (laws : ReadsStamps) (w : ℕ) (known : Known) (part : Part) where
       (λ late k. absurd (no_part Late part (λ e. (cc)) k))
       (λ timely k.
       let own : part.stamp ≡ stamp = of_frame_part Always HasStamp laws stamp bytes.items part tt k in
-      from_mark stamp timely (omega (arith, own)))
+      from_watermark stamp timely (omega (arith, own)))
       h
   events_later (Half stamp sat signal bits) h =
       let own = half_of stamp sat signal bits in
@@ -91,7 +91,7 @@ module _ (laws : ReadsStamps) (w : ℕ) (known : Known) (part : Part) where
       (λ late k. absurd (no_part Late part (λ e. (cc)) k))
       (λ timely. cond_both (is_alert bits) (Unused ∷ []) words Is
       (λ alert k. absurd (no_part Unused part (λ e. (cc)) k))
-      (λ nominal k. from_mark stamp timely (words_later own (new_words known.halves own) k)))
+      (λ nominal k. from_watermark stamp timely (words_later own (new_words known.halves own) k)))
       h
 
 -- the greatest stamp rises
@@ -109,7 +109,7 @@ greatest_from w known (item ∷ items) =
     greatest_from w (known_with w known item) items in
     omega (arith, first, rest)
 
--- no part of items comes from before the mark
+-- no part of items comes from before the watermark
 pub log_later : (laws : ReadsStamps) (w : ℕ) (known : Known) (number : ℕ) (items : List LineItem) (part : Part)
     → In (parts_in (log_from w known number items)) part → known.greatest - w ≤ part.stamp
 log_later laws w known number [] part h = absurd h

@@ -26,13 +26,13 @@ use Rattle.capture_log.specs.declared.event.Event.TheVariants.{Heard, Malformed,
 use Rattle.capture_log.specs.Events.{Known, nothing_known, of_subframe, of_frame, of_word, half_of}
 use Rattle.capture_log.specs.Events.{is_alert, is_late, of_words, new_words, events_of, known_with}
 use Rattle.capture_log.specs.Events.{item_line}
-use Rattle.capture_log.specs.Log.{items_of, log_from, parts_in, parts_of}
+use Rattle.capture_log.specs.Log.{line_items_of, log_from, parts_in, parts_of}
 use Rattle.capture_log.proofs.Lists.{In, all_in, contains_from_in, in_flat_map, in_map}
 use Rattle.capture_log.proofs.HeardValues.{subframe_read, word_read, frame_read}
 use Rattle.capture_log.proofs.LaterParts.{no_part, single}
 use Rattle.capture_log.proofs.AllItems.{first_or_later}
 
--- subframes are of GPS, and page halves of Galileo
+-- subframes are of GPS, and page parts of Galileo
 abbrev pub HasSystem : LineItem → Type 0
 HasSystem (Lnav stamp sat bits) = sat.system ≡ Gps
 HasSystem (Half stamp sat signal bits) = sat.system ≡ Gal
@@ -125,5 +125,5 @@ pub lines_sendable : (laws : ReadsSendable) → ((line : List ℕ) → StandsFor
     → All IsSendable (parts_of w lines)
 lines_sendable laws stands w lines =
     all_in IsSendable (parts_of w lines)
-    (λ part h. log_sendable laws w nothing_known 2 (items_of lines) part
+    (λ part h. log_sendable laws w nothing_known 2 (line_items_of lines) part
     (λ item there. let line = in_map item_line lines item there in subst HasSystem line.2 (line_system stands line.0)) h)

@@ -1,5 +1,4 @@
--- What one more line brings, when it is known what came before: that it is malformed or late, or
--- what a reader makes of it.
+-- The events of one more line, given the state after those before it: malformed, late, or what a reader gives.
 use Rattle.std.specs.Prelude.{ℕ, ◌+◌, ◌&&◌, Bool, nat_eq, nat_lt, max, if◌then◌else◌, List, [], ◌∷◌}
 use Rattle.std.specs.Prelude.{length, Option, None, Some, unwrap_or, Result, Ok, Err}
 use Rattle.std.specs.List.{flat_map}
@@ -35,8 +34,7 @@ use Rattle.capture_log.specs.declared.event.Event.{Event}
 use Rattle.capture_log.specs.declared.event.Event.TheVariants.{Heard, Malformed, Late, Refused}
 use Rattle.capture_log.specs.declared.event.Event.TheVariants.{Unused}
 
--- what the reading of a subframe brings: its part, or why it is refused; another subframe or page
--- is not used
+-- the event of a subframe: its part, or why it is refused; other subframes and pages are not used
 abbrev pub of_subframe : Result Part LnavFault → Event
 of_subframe (Ok part) = Heard part
 of_subframe (Err subframes.Preamble) = Refused refusals.Preamble
@@ -45,7 +43,7 @@ of_subframe (Err subframes.BadTow) = Refused refusals.Tow
 of_subframe (Err (subframes.Unused number page)) = Unused
 of_subframe (Err subframes.BadTime) = Refused refusals.Time
 
--- how a word is refused, or that it is not used
+-- the event of a word that is refused or not used
 abbrev pub of_word_fault : WordFault → Event
 of_word_fault (words.OtherWord number) = Unused
 of_word_fault words.WrongSat = Refused refusals.Satellite
@@ -57,12 +55,12 @@ abbrev pub of_second : Option Part → List Event
 of_second None = []
 of_second (Some part) = Heard part ∷ []
 
--- what the reading of a word brings: its one part or its two, in their order
+-- the events of a word: its one or two parts, in order
 abbrev pub of_word : Result WordParts WordFault → List Event
 of_word (Ok parts) = Heard parts.first ∷ of_second parts.second
 of_word (Err fault) = of_word_fault fault ∷ []
 
--- how a message is refused, or that it is not used
+-- the event of a message that is refused or not used
 abbrev pub of_message_fault : MessageFault → Event
 of_message_fault messages.NoNumber = Unused
 of_message_fault (messages.OtherMessage number) = Unused
@@ -71,62 +69,61 @@ of_message_fault messages.BadSat = Refused refusals.Satellite
 of_message_fault messages.BadTime = Refused refusals.Time
 of_message_fault messages.SpareSisa = Refused refusals.Sisa
 
--- what the reading of a message brings: the parts of its ephemeris
+-- the events of a message: the parts of its ephemeris, or its fault
 abbrev pub of_message : Result MessageParts MessageFault → List Event
 of_message (Ok (GpsParts clock a b)) = Heard clock ∷ Heard a ∷ Heard b ∷ []
 of_message (Ok (GalParts w1 w2 w3 w4 health)) =
     Heard w1 ∷ Heard w2 ∷ Heard w3 ∷ Heard w4 ∷ Heard health ∷ []
 of_message (Err fault) = of_message_fault fault ∷ []
 
--- the bytes are one whole frame of right checksum and nothing else
+-- the bytes are exactly one whole frame with a right checksum
 abbrev pub is_frame : List ℕ → Bool
 is_frame bytes = nat_lt 0 (length bytes) && nat_eq (frame_size bytes) (length bytes)
 
--- what the bytes of a frame bring
+-- the events of the bytes of a frame
 unfoldable pub of_frame : ℕ → List ℕ → List Event
 of_frame stamp bytes =
     if is_frame bytes then of_message (parts_of stamp (content_of (payload_of bytes)))
     else Refused refusals.Frame ∷ []
 
--- a page half as it was received: its kept bits, with its stamp, satellite and signal
+-- a page part as received: its kept bits, with stamp, satellite and signal
 abbrev pub half_of : ℕ → Satellite → Signal → List ℕ → StampedHalf
 half_of stamp sat signal bits = stamped stamp sat signal (kept_of (number_at bits 0 120))
 
--- its page type says alert
+-- the page type bit is 1: an alert page
 abbrev pub is_alert : List ℕ → Bool
 is_alert bits = nat_eq (number_at bits 1 1) 1
 
--- what the words of a half bring, each heard at the second of its odd part
+-- the events of the words that a page part completes, each with the stamp of the odd part
 abbrev pub of_words : StampedHalf → List (List ℕ) → List Event
 of_words half words =
     flat_map (λ word. of_word (reading_of word half.sat (stamp_by (kind_of half.half) half.stamp)))
     words
 
--- the words that a half makes with those that came before it; none where it came already
+-- the words that a page part completes with earlier ones; none where it was received before
 abbrev pub new_words : List StampedHalf → StampedHalf → List (List ℕ)
 new_words before half = if has_half before half then [] else words_of before half
 
--- what a half brings: an alert is not used
+-- the events of a page part; an alert page is not used
 abbrev pub of_half : List StampedHalf → ℕ → Satellite → Signal → List ℕ → List Event
 of_half before stamp sat signal bits =
     if is_alert bits then Unused ∷ []
     else of_words (half_of stamp sat signal bits) (new_words before (half_of stamp sat signal bits))
 
--- what the lines so far let one know: their greatest stamp, and the halves that were accepted, each
--- once
+-- the state after some lines: their greatest stamp, and the accepted page parts, each once
 pub record Known : Type 0 where
   pub greatest : ℕ
   pub halves : List StampedHalf
 
--- before the first line
+-- the state before the first line
 abbrev pub nothing_known : Known
 nothing_known = record { greatest = 0; halves = [] }
 
--- the stamp lies behind the greatest by more than the window
+-- the stamp is before the greatest one by more than the window
 abbrev pub is_late : ℕ → Known → ℕ → Bool
 is_late window known stamp = nat_lt (stamp + window) known.greatest
 
--- what one more item brings
+-- the events of one more item
 unfoldable pub events_of : ℕ → Known → LineItem → List Event
 events_of window known Pass = []
 events_of window known MalformedItem = Malformed ∷ []
@@ -137,11 +134,11 @@ events_of window known (Half stamp sat signal bits) =
 events_of window known (Frame stamp bytes) =
     if is_late window known stamp then Late ∷ [] else of_frame stamp bytes.items
 
--- a half more, each once
+-- one more page part, each kept once
 abbrev pub with_half : List StampedHalf → StampedHalf → List StampedHalf
 with_half halves half = if has_half halves half then halves else half ∷ halves
 
--- the accepted halves with one more item
+-- the accepted page parts after one more item
 abbrev pub halves_with : ℕ → Known → LineItem → List StampedHalf
 halves_with window known (Half stamp sat signal bits) =
     if is_late window known stamp then known.halves
@@ -149,7 +146,7 @@ halves_with window known (Half stamp sat signal bits) =
     else with_half known.halves (half_of stamp sat signal bits))
 halves_with window known _ = known.halves
 
--- what is known with one more item
+-- the state after one more item
 unfoldable pub known_with : ℕ → Known → LineItem → Known
 known_with window known item = record {
   greatest = max known.greatest (unwrap_or (stamp_of item) 0);

@@ -1,5 +1,4 @@
--- The log of a capture: what its lines bring, one after another, each event with the number of its
--- line.
+-- The log of a capture: the events of its lines in order, each with its line number.
 use Rattle.std.specs.Prelude.{ℕ, ◌+◌, ◌-◌, List, [], ◌∷◌, ◌++◌, map}
 use Rattle.std.specs.List.{flat_map}
 use Rattle.nav_io.specs.Lines.{Line}
@@ -9,25 +8,25 @@ use Rattle.capture_log.specs.Events.{Known, nothing_known, known_with, events_of
 use Rattle.capture_log.specs.declared.event.Event.{Event}
 use Rattle.capture_log.specs.declared.event.Event.TheVariants.{Heard}
 
--- an event, with the number of the line that brought it
+-- an event, with the number of its line
 pub record Noted : Type 0 where
   pub line : ℕ
   pub event : Event
 
--- the events of one line
+-- the events of one line, with its number
 abbrev pub noted : ℕ → List Event → List Noted
 noted number events = map (λ event. record { line = number; event = event }) events
 
 -- the items of the lines
-abbrev pub items_of : List Line → List LineItem
-items_of lines = map item_line lines
+abbrev pub line_items_of : List Line → List LineItem
+line_items_of lines = map item_line lines
 
--- what is known after the items
+-- the state after the items
 abbrev pub known_from : ℕ → Known → List LineItem → Known
 known_from window known [] = known
 known_from window known (item ∷ items) = known_from window (known_with window known item) items
 
--- what the items bring, of which the first has this number
+-- the log of the items, the first having this line number
 abbrev pub log_from : ℕ → Known → ℕ → List LineItem → List Noted
 log_from window known number [] = []
 log_from window known number (item ∷ items) =
@@ -42,15 +41,14 @@ parts_of_event _ = []
 abbrev pub parts_in : List Noted → List Part
 parts_in log = flat_map (λ n. parts_of_event n.event) log
 
--- the log of a capture's lines behind the first, which has the number 1
+-- the log of the lines of a capture after the first, numbered from 2
 abbrev pub log_of : ℕ → List Line → List Noted
-log_of window lines = log_from window nothing_known 2 (items_of lines)
+log_of window lines = log_from window nothing_known 2 (line_items_of lines)
 
--- the parts heard in them
+-- the received parts in the log
 abbrev pub parts_of : ℕ → List Line → List Part
 parts_of window lines = parts_in (log_of window lines)
 
--- the mark after the lines, below which no accepted line comes: the greatest stamp less the window,
--- and not below 0
-abbrev pub mark_after : ℕ → List Line → ℕ
-mark_after window lines = (known_from window nothing_known (items_of lines)).greatest - window
+-- the watermark after the lines, the greatest stamp less the window, at least 0; no accepted line comes from before it
+abbrev pub watermark_after : ℕ → List Line → ℕ
+watermark_after window lines = (known_from window nothing_known (line_items_of lines)).greatest - window

@@ -1,9 +1,9 @@
 use nav_eph::Part;
 
-/// Why something that was heard is not used.
+/// Why something that was received is not used.
 #[derive(Clone, Copy, PartialEq, Eq)]
 pub enum Refusal {
-    /// The bytes are not one whole frame of right checksum.
+    /// The bytes are not one whole frame with a right checksum.
     Frame,
     /// A subframe begins neither with the preamble nor with its complement.
     Preamble,
@@ -12,29 +12,29 @@ pub enum Refusal {
         /// The first such word, 1 to 10.
         word: u8,
     },
-    /// The count of a subframe is past the week.
+    /// The TOW count of a subframe is past the end of the week.
     Tow,
-    /// A time is past the week.
+    /// A time is past the end of the week.
     Time,
-    /// The satellite is another one than the sender, or none of its system.
+    /// The satellite number differs from the sender's, or is none of its system.
     Satellite,
-    /// The accuracy index of a Galileo ephemeris is a spare one.
+    /// The SISA index of a Galileo ephemeris is spare.
     Sisa,
-    /// A message has fewer bytes than its number takes.
+    /// A message has fewer bytes than its type takes.
     Short,
 }
 
-/// What a line brings, once or more often, or not at all.
+/// What a line gives; a line may give several events, or none.
 #[derive(Clone, Copy, PartialEq, Eq)]
 pub enum Event {
-    /// A part of an ephemeris or of the ionosphere was heard.
+    /// A part of an ephemeris or of the ionosphere parameters.
     Heard(Part),
-    /// The line has none of the forms of a line.
+    /// The line has none of the line formats.
     Malformed,
-    /// The line comes too late: its stamp lies behind the greatest one by more than the window.
+    /// The line is late: its stamp is before the greatest one by more than the window.
     Late,
-    /// What the line says is refused.
+    /// The content of the line is refused.
     Refused(Refusal),
-    /// It is of a kind that is passed over: an alert, or another subframe, word or message.
+    /// The content is valid but not used: an alert page, or another subframe, word type or message.
     Unused,
 }

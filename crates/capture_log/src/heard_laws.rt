@@ -1,4 +1,4 @@
-//! Laws of the periods of what is heard: each function does nothing, and its contract is the law.
+//! Laws of the periods of the received parts. Each function does nothing; its contract is the law.
 
 ghost use Rattle.std.specs.Prelude.{◌≡◌, ℕ, List, All};
 ghost use Rattle.gnss_week.specs.Weeks.{IsReference};
@@ -9,18 +9,17 @@ ghost use Rattle.periods.specs.declared.closed.Closed.{Closed};
 ghost use Rattle.periods.specs.PeriodLists.{ArePeriods, items_in};
 ghost use Rattle.periods.specs.PeriodsOf.{periods_of};
 ghost use Rattle.nav_io.specs.Lines.{Line};
-ghost use Rattle.capture_log.specs.Log.{items_of, parts_of};
+ghost use Rattle.capture_log.specs.Log.{line_items_of, parts_of};
 ghost use Rattle.capture_log.specs.Heard.{IsPartHeard};
 
 use crate::laws::{
-    lines_bring_what_is_heard, parts_of_lines_are_sendable, parts_of_lines_are_values,
+    lines_yield_what_is_heard, parts_of_lines_are_sendable, parts_of_lines_are_values,
 };
 
-/// Each part heard has a satellite of its system, and each field of what it brings is within its
-/// digits, since the bits of a line are no more.
+/// Each received part has a satellite of its system and each field within its width.
 pub fn parts_heard_have_ranges()
     ensures { (window : ℕ) (lines : List Line) (part : Part)
-        → IsPartHeard window (items_of lines) part → HasPartRanges part }
+        → IsPartHeard window (line_items_of lines) part → HasPartRanges part }
 {
     lnav_subframe::subframe_parts();
     inav_word::word_parts();
@@ -28,22 +27,22 @@ pub fn parts_heard_have_ranges()
     capture_lines::each_line_stands_for_one_thing();
 }
 
-/// The set of the parts heard has exactly one list of periods, and near a reference week each of
-/// its items fits together.
+/// The set of received parts has exactly one list of periods, and near a reference week each of its
+/// items is consistent.
 pub fn periods_heard()
     ensures some { (r window : ℕ) (lines : List Line)
-        → ArePeriods r window (IsPartHeard window (items_of lines))
+        → ArePeriods r window (IsPartHeard window (line_items_of lines))
         (periods_of r window (parts_of window lines)) }
     ensures only { (r window : ℕ) (lines : List Line) (some other : List Closed)
-        → ArePeriods r window (IsPartHeard window (items_of lines)) some
-        → ArePeriods r window (IsPartHeard window (items_of lines)) other → some ≡ other }
+        → ArePeriods r window (IsPartHeard window (line_items_of lines)) some
+        → ArePeriods r window (IsPartHeard window (line_items_of lines)) other → some ≡ other }
     ensures items { (r window : ℕ) (lines : List Line) (periods : List Closed) → IsReference r
-        → ArePeriods r window (IsPartHeard window (items_of lines)) periods
+        → ArePeriods r window (IsPartHeard window (line_items_of lines)) periods
         → All IsItem (items_in periods) }
 {
     periods::items_fit_together();
     parts_of_lines_are_values();
     parts_of_lines_are_sendable();
     parts_heard_have_ranges();
-    lines_bring_what_is_heard();
+    lines_yield_what_is_heard();
 }

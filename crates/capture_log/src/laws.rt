@@ -1,4 +1,4 @@
-//! Laws of what is heard: each function does nothing, and its contract is the law.
+//! Laws of what is received. Each function does nothing; its contract is the law.
 
 ghost use Rattle.std.specs.Prelude.{◌≡◌, ℕ, ◌+◌, ◌^◌, ◌<◌, ◌≤◌, ◌++◌, ◌↔◌, List, length, Some, All};
 ghost use Rattle.std.specs.Prelude.{Contains};
@@ -6,17 +6,17 @@ ghost use Rattle.nav_eph.specs.declared.part.Part.{Part};
 ghost use Rattle.nav_eph.specs.Conditions.{IsPart};
 ghost use Rattle.nav_eph.specs.Values.{IsPartValue};
 ghost use Rattle.periods.specs.declared.closed.Closed.{Closed};
-ghost use Rattle.periods.specs.PeriodLists.{AreClosed, ArePeriods, IsPrefix, items_in};
+ghost use Rattle.periods.specs.PeriodLists.{AreClosed, ArePeriods, IsPeriodPrefix, items_in};
 ghost use Rattle.periods.specs.PeriodsOf.{closed_of, periods_of};
 ghost use Rattle.nav_io.specs.Lines.{Line};
 ghost use Rattle.capture_lines.specs.Late.{stamp_of};
 ghost use Rattle.capture_lines.specs.declared.item.LineItem.{LineItem};
 ghost use Rattle.capture_log.specs.Events.{nothing_known};
-ghost use Rattle.capture_log.specs.Log.{items_of, known_from, log_from, log_of, mark_after};
+ghost use Rattle.capture_log.specs.Log.{line_items_of, known_from, log_from, log_of, watermark_after};
 ghost use Rattle.capture_log.specs.Log.{parts_in, parts_of};
 ghost use Rattle.capture_log.specs.Heard.{IsPartHeard, NoneLate, SameItems};
 
-/// The parts that are taken item by item are those that are heard of all items.
+/// The parts in the log of the items are those received in all items.
 pub fn taken_parts_are_heard()
     ensures { (window number : ℕ) (items : List LineItem) (part : Part)
         → Contains (parts_in (log_from window nothing_known number items)) part
@@ -27,8 +27,8 @@ pub fn taken_parts_are_heard()
     capture_lines::late_is_behind_the_greatest_stamp();
 }
 
-/// Each part heard is a value: its stamp has 32 bits where those of the items have, and its fields
-/// are within their digits.
+/// Each received part is a value: its stamp has 32 bits if those of the items have, and each field
+/// is within its width.
 pub fn parts_heard_are_values()
     ensures { (window number : ℕ) (items : List LineItem)
         → All (λ item. (s : ℕ) → stamp_of item ≡ Some s → s < 2 ^ 32) items
@@ -40,7 +40,7 @@ pub fn parts_heard_are_values()
     taken_parts_are_heard();
 }
 
-/// So are those of the lines of a capture.
+/// The same of the lines of a capture.
 pub fn parts_of_lines_are_values()
     ensures { (window : ℕ) (lines : List Line) → All IsPartValue (parts_of window lines) }
 {
@@ -48,7 +48,7 @@ pub fn parts_of_lines_are_values()
     parts_heard_are_values();
 }
 
-/// Each part of the lines of a capture is such as its satellite can send.
+/// Each part of the lines of a capture can be sent by its satellite.
 pub fn parts_of_lines_are_sendable()
     ensures { (window : ℕ) (lines : List Line)
         → All (λ part. IsPart part.sat part.body) (parts_of window lines) }
@@ -59,7 +59,7 @@ pub fn parts_of_lines_are_sendable()
     capture_lines::each_line_stands_for_one_thing();
 }
 
-/// The periods of the parts that are taken item by item are those of the parts heard of all items.
+/// The periods of the parts in the log of the items are those of the parts received in all items.
 pub fn periods_are_those_heard()
     ensures { (r window number : ℕ) (items : List LineItem)
         → All IsPartValue (parts_in (log_from window nothing_known number items))
@@ -70,36 +70,36 @@ pub fn periods_are_those_heard()
     taken_parts_are_heard();
 }
 
-/// What the lines of a capture bring, in the words of a look at all of them at once: the parts are
-/// those heard, a set of values; the periods are those of that set, and those closed at the mark
-/// are the closed ones of that set. The set has no other list of periods, nor of those closed at a
-/// mark.
-pub fn lines_bring_what_is_heard()
+/// What the lines of a capture give, stated over all of them at once. The parts are those received,
+/// a set of values; the periods are those of that set, and those closed at the watermark are the
+/// closed ones of that set. The set has no other list of periods, and none of periods closed at a
+/// watermark.
+pub fn lines_yield_what_is_heard()
     ensures parts { (window : ℕ) (lines : List Line) (part : Part)
-        → Contains (parts_of window lines) part ↔ IsPartHeard window (items_of lines) part }
+        → Contains (parts_of window lines) part ↔ IsPartHeard window (line_items_of lines) part }
     ensures values { (window : ℕ) (lines : List Line) (part : Part)
-        → IsPartHeard window (items_of lines) part → IsPartValue part }
+        → IsPartHeard window (line_items_of lines) part → IsPartValue part }
     ensures periods { (r window : ℕ) (lines : List Line)
-        → ArePeriods r window (IsPartHeard window (items_of lines))
+        → ArePeriods r window (IsPartHeard window (line_items_of lines))
         (periods_of r window (parts_of window lines)) }
     ensures closed { (r window : ℕ) (lines : List Line)
-        → AreClosed r window (IsPartHeard window (items_of lines)) (mark_after window lines)
-        (closed_of r window (mark_after window lines) (parts_of window lines)) }
+        → AreClosed r window (IsPartHeard window (line_items_of lines)) (watermark_after window lines)
+        (closed_of r window (watermark_after window lines) (parts_of window lines)) }
     ensures only { (r window : ℕ) (lines : List Line) (some other : List Closed)
-        → ArePeriods r window (IsPartHeard window (items_of lines)) some
-        → ArePeriods r window (IsPartHeard window (items_of lines)) other → some ≡ other }
-    ensures only_closed { (r window mark : ℕ) (lines : List Line) (some other : List Closed)
-        → AreClosed r window (IsPartHeard window (items_of lines)) mark some
-        → AreClosed r window (IsPartHeard window (items_of lines)) mark other → some ≡ other }
+        → ArePeriods r window (IsPartHeard window (line_items_of lines)) some
+        → ArePeriods r window (IsPartHeard window (line_items_of lines)) other → some ≡ other }
+    ensures only_closed { (r window watermark : ℕ) (lines : List Line) (some other : List Closed)
+        → AreClosed r window (IsPartHeard window (line_items_of lines)) watermark some
+        → AreClosed r window (IsPartHeard window (line_items_of lines)) watermark other → some ≡ other }
 {
     taken_parts_are_heard();
     parts_of_lines_are_values();
     periods_are_those_heard();
 }
 
-/// Where none is late, only which items come decides the periods, and so the ephemerides and
-/// ionospheres in them: neither their order nor their repetition.
-pub fn order_of_items_is_nothing()
+/// Where no item is late, the set of items alone determines the periods, and so the ephemerides and
+/// ionosphere parameters in them; order and repetition do not matter.
+pub fn order_of_items_does_not_matter()
     ensures periods { (r window m n : ℕ) (some other : List LineItem) → SameItems some other
         → NoneLate window some → NoneLate window other
         → All IsPartValue (parts_in (log_from window nothing_known m some))
@@ -111,65 +111,64 @@ pub fn order_of_items_is_nothing()
         → items_in (periods_of r window (parts_in (log_from window nothing_known m some)))
         ≡ items_in (periods_of r window (parts_in (log_from window nothing_known n other))) }
 {
-    periods::order_is_nothing();
+    periods::order_does_not_matter();
     taken_parts_are_heard();
 }
 
 /// The same of the lines of two captures with one window: where no line is late and the same items
-/// stand in them, the periods are the same, and so are the ephemerides and ionospheres in them.
-pub fn order_of_lines_is_nothing()
+/// are in them, the periods, ephemerides and ionosphere parameters are the same.
+pub fn order_of_lines_does_not_matter()
     ensures periods { (r window : ℕ) (some other : List Line)
-        → SameItems (items_of some) (items_of other)
-        → NoneLate window (items_of some) → NoneLate window (items_of other)
+        → SameItems (line_items_of some) (line_items_of other)
+        → NoneLate window (line_items_of some) → NoneLate window (line_items_of other)
         → periods_of r window (parts_of window some) ≡ periods_of r window (parts_of window other) }
     ensures items { (r window : ℕ) (some other : List Line)
-        → SameItems (items_of some) (items_of other)
-        → NoneLate window (items_of some) → NoneLate window (items_of other)
+        → SameItems (line_items_of some) (line_items_of other)
+        → NoneLate window (line_items_of some) → NoneLate window (line_items_of other)
         → items_in (periods_of r window (parts_of window some))
         ≡ items_in (periods_of r window (parts_of window other)) }
 {
     parts_of_lines_are_values();
-    order_of_items_is_nothing();
+    order_of_items_does_not_matter();
 }
 
-/// What some lines bring stays as more come, which bring theirs behind it; so does what is known
-/// of them, and the mark never falls.
+/// What some lines give stays as more come, and what those give follows it. The same holds of the
+/// state after them, and the watermark never falls.
 pub fn further_lines_go_on()
     ensures log { (window : ℕ) (lines more : List Line) → log_of window (lines ++ more)
         ≡ log_of window lines
-        ++ log_from window (known_from window nothing_known (items_of lines))
-        (2 + length lines) (items_of more) }
+        ++ log_from window (known_from window nothing_known (line_items_of lines))
+        (2 + length lines) (line_items_of more) }
     ensures known { (window : ℕ) (lines more : List Line)
-        → known_from window nothing_known (items_of (lines ++ more))
-        ≡ known_from window (known_from window nothing_known (items_of lines)) (items_of more) }
-    ensures mark { (window : ℕ) (lines more : List Line)
-        → mark_after window lines ≤ mark_after window (lines ++ more) }
+        → known_from window nothing_known (line_items_of (lines ++ more))
+        ≡ known_from window (known_from window nothing_known (line_items_of lines)) (line_items_of more) }
+    ensures watermark { (window : ℕ) (lines more : List Line)
+        → watermark_after window lines ≤ watermark_after window (lines ++ more) }
 {}
 
-/// The parts of some lines stay as more come, and those that the further lines bring come behind
-/// them, none with a stamp before the mark.
+/// The parts of some lines stay as more come. The parts of the further lines follow them, none with
+/// a stamp before the watermark.
 pub fn further_lines_are_later()
     ensures { (window : ℕ) (lines more : List Line) → (later : List Part)
         × (parts_of window (lines ++ more) ≡ parts_of window lines ++ later)
-        × All (λ p. mark_after window lines ≤ p.stamp) later }
+        × All (λ p. watermark_after window lines ≤ p.stamp) later }
 {
     lnav_subframe::subframe_parts();
     inav_word::word_parts();
     rtcm_eph::message_parts();
 }
 
-/// What is closed by some lines stays as more come, and stands in front of what is closed then and
-/// of all periods.
+/// The periods closed by some lines stay as more come, as a prefix of those closed then and of all.
 pub fn what_is_closed_stays()
     ensures later { (r window : ℕ) (lines more : List Line)
-        → closed_of r window (mark_after window lines) (parts_of window (lines ++ more))
-        ≡ closed_of r window (mark_after window lines) (parts_of window lines) }
+        → closed_of r window (watermark_after window lines) (parts_of window (lines ++ more))
+        ≡ closed_of r window (watermark_after window lines) (parts_of window lines) }
     ensures rise { (r window : ℕ) (lines more : List Line)
-        → IsPrefix (closed_of r window (mark_after window lines) (parts_of window lines))
-        (closed_of r window (mark_after window (lines ++ more))
+        → IsPeriodPrefix (closed_of r window (watermark_after window lines) (parts_of window lines))
+        (closed_of r window (watermark_after window (lines ++ more))
         (parts_of window (lines ++ more))) }
-    ensures front { (r window : ℕ) (lines more : List Line)
-        → IsPrefix (closed_of r window (mark_after window lines) (parts_of window lines))
+    ensures prefix { (r window : ℕ) (lines more : List Line)
+        → IsPeriodPrefix (closed_of r window (watermark_after window lines) (parts_of window lines))
         (periods_of r window (parts_of window (lines ++ more))) }
 {
     periods::closed_stays();

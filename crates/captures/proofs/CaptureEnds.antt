@@ -1,4 +1,4 @@
--- How a run over a capture ends: in its first line, in the text in front, in the lines behind, in what stands behind these, or done.
+-- How a run over a capture ends: in its first line, the leading text, the further lines, the trailing text, or done.
 use Rattle.std.proofs.Common.{◌≡◌, ℕ, ◌+◌, ◌-◌, ◌<◌, ◌≤◌, ◌^◌, true, false, List, [], ◌∷◌, ◌++◌, length, take, drop, length-drop, refl, sym, ap, subst, ◌∙◌, arith, ⊎_elim, append_assoc, append-nil}
 use Rattle.std.specs.Prelude.{Option, None, Some, Err, IsTrue, ◌⊎◌}
 use Rattle.std.proofs.lemmas.Bool.{true≢false}
@@ -6,12 +6,12 @@ use Rattle.std.proofs.lemmas.List.{take-append-drop}
 use Rattle.std.specs.Io.KnownBytes.{Appends, Consumes, IsAtEnd}
 use Rattle.std.proofs.KnownBytes.{Appends-nil, Appends-trans, Consumes-all}
 use Rattle.nav_io.specs.Causes.{Rose}
-use Rattle.nav_io.specs.Front.{AppendsFront, IsFront}
+use Rattle.nav_io.specs.Prefix.{AppendsPrefix, IsPrefix}
 use Rattle.nav_io.specs.Lines.{Line, lines_by}
 use Rattle.nav_io.specs.LinesState.{LinesState, Reads, GivesLine, GivesEnd}
 use Rattle.nav_io.proofs.Surface.{reads_more}
 use Rattle.periods.specs.PeriodsOf.{closed_of, periods_of}
-use Rattle.capture_log.specs.Log.{log_of, mark_after, parts_of}
+use Rattle.capture_log.specs.Log.{log_of, watermark_after, parts_of}
 use Rattle.captures.specs.declared.accept.Accepted.{Accepted}
 use Rattle.outlets.specs.declared.target.Target.{Target}
 use Rattle.captures.specs.declared.target.CaptureTo.{CaptureTo}
@@ -20,19 +20,19 @@ use Rattle.captures.specs.declared.counts.Tally.{Tally}
 use Rattle.captures.specs.declared.counts.Said.{Said}
 use Rattle.one_run.specs.declared.fault.BridgeFault.{BridgeFault}
 use Rattle.one_run.specs.declared.fault.BridgeFault.TheVariants.{ReadFault, WriteFault, ReportFault, TooLong, NoMemory, NotThisForm}
-use Rattle.outlets.specs.Targets.{back_text, front_text}
-use Rattle.captures.specs.Captures.{accepted_line, capture_in, capture_meaning, capture_of, capture_with, counts_in, counts_of, counts_text, least_output, output_of, periods, refusals_text, report_of_capture, settled_output, settled_report, settled_text, target_meaning, target_of, texts_of}
-use Rattle.captures.specs.Follows.{Accepts, CaptureAhead, CaptureFront, FollowsAll, FollowsBroke, FollowsSays, GivesHead, GivesNoHead, Stop, StopSays, closed_texts, no_tally}
+use Rattle.outlets.specs.Targets.{back_text, prefix_text}
+use Rattle.captures.specs.Captures.{accepted_line, capture_in, capture_meaning, capture_of, capture_with, counts_in, counts_of, counts_text, least_output, output_of, periods, refusals_text, report_of_capture, flushed_output, flushed_report, flushed_text, target_meaning, target_of, texts_of}
+use Rattle.captures.specs.Converts.{AcceptsHead, CaptureAhead, CapturePrefix, ConvertsAll, ConversionBroke, ConversionSays, GivesHead, GivesNoHead, Stop, StopSays, closed_texts, no_tally}
 use Rattle.captures.specs.Notes.{line_report, tallied}
-use Rattle.captures.specs.Reports.{count_in, is_late, is_malformed, is_refused, is_unused}
+use Rattle.captures.specs.Reports.{count_in, is_late, is_malformed, is_refused_event, is_unused}
 use Rattle.one_run.specs.Causes.{Faults, HasItsCause, faults_of}
 use Rattle.one_run.specs.Runs.{AppendsBetween, Broke, Done, Leaves, Says, World}
-use Rattle.captures.specs.Settled.{said_of, with_counts}
-use Rattle.captures.proofs.CaptureFronts.{Follow, accepts_first, capture_by, capture_lines, front_all, front_head, fronts_of, known_lines, last_all, last_front, last_texts, least_front, least_none, lines_follow, nothing_part, output_is, refuses_first, refuses_none, report_front, report_is, settled_is, settled_report_is}
-use Rattle.captures.proofs.Following.{all_lines, ended_lines}
-use Rattle.captures.proofs.Fronts.{LogLaws, appends_behind, appends_longer, front_behind, front_more, front_nil, front_trans}
+use Rattle.captures.specs.Flushed.{said_of, with_counts}
+use Rattle.captures.proofs.CapturePrefixes.{Follow, accepts_first, capture_by, capture_lines, prefix_all, prefix_head, prefixes_of, known_lines, last_all, last_prefix, last_texts, least_prefix, least_none, lines_follow, nothing_part, output_is, refuses_first, refuses_none, report_prefix, report_is, flushed_is, flushed_report_is}
+use Rattle.captures.proofs.Converting.{all_lines, ended_lines}
+use Rattle.captures.proofs.Prefixes.{LogLaws, appends_behind, appends_longer, prefix_behind, prefix_more, prefix_nil, prefix_trans}
 use Rattle.captures.proofs.LineCounts.{ended_before, lines_length, no_pieces, sum_pieces, recent_ended, recent_lines, recent_within}
-use Rattle.captures.proofs.Writing.{texts_front}
+use Rattle.captures.proofs.Writing.{texts_prefix}
 
 -- lines of which none was read
 pub record IsFresh (state : LinesState) : Type 0 where
@@ -58,7 +58,7 @@ no_head_line to week left left1 written reported old new line fresh gives refuse
     let whole = held_none old.rest gives.reads.taken fresh.rest ∙ gives.split in
     let lines = fresh_lines left left1 old new (line ∷ []) gives.reads fresh in
     nothing_part to week left left1 written reported gives.reads.taken NotThisForm gives.reads.consumes
-    (recent_lines gives.reads.taken gives.front new.rest (line ∷ []) whole (gives.short few) lines)
+    (recent_lines gives.reads.taken gives.prefix new.rest (line ∷ []) whole (gives.short few) lines)
     (ap counts_in (ap (capture_in week) lines ∙ ap (capture_with (lines_by false new.rest)) refused), refuses_first week line left refused (known_lines left left1 old new (line ∷ []) gives.reads fresh.rest fresh.ended))
 
 no_head_end : (to : Target) (week : Option ℕ) (left left1 written reported : Option (List ℕ)) (old new : LinesState) → IsFresh old → GivesEnd left left1 old new
@@ -80,19 +80,19 @@ head_stops to week left left1 written reported old new ReadFault fresh h =
     let none : lines_by true t ≡ [] = ap (lines_by true) (held_none old.rest t fresh.rest) ∙ ended_lines left left1 old new [] h.reads h.more h.none in
     let few = recent_ended t [] none in
     nothing_part to week left left1 written reported t ReadFault h.reads.consumes (omega (arith, few))
-    (subst (Appends written written) (sym (settled_is to week t [] none)) (Appends-nil written), subst (Appends reported reported) (sym (settled_report_is week t [] none)) (Appends-nil reported))
+    (subst (Appends written written) (sym (flushed_is to week t [] none)) (Appends-nil written), subst (Appends reported reported) (sym (flushed_report_is week t [] none)) (Appends-nil reported))
 head_stops to week left left1 written reported old new TooLong fresh h =
     let t = h.reads.taken in
     let whole = held_none old.rest t fresh.rest ∙ h.split in
-    let few = recent_within t h.front h.last 0 whole (h.few (omega (arith, fresh.taken))) (omega (arith, ap length (no_pieces h.front h.none))) in
+    let few = recent_within t h.prefix h.last 0 whole (h.few (omega (arith, fresh.taken))) (omega (arith, ap length (no_pieces h.prefix h.none))) in
     nothing_part to week left left1 written reported t TooLong h.reads.consumes (omega (arith, few)) (omega (arith, h.too_many, h.reads.count, fresh.taken))
 head_stops to week left left1 written reported old new WriteFault fresh h = absurd h
 head_stops to week left left1 written reported old new ReportFault fresh h = absurd h
 head_stops to week left left1 written reported old new NoMemory fresh h = absurd h
 
--- ---- behind a first line that is accepted
+-- ---- after an accepted first line
 
-pub head_accepts : (week : Option ℕ) (left left1 : Option (List ℕ)) (old new : LinesState) (head : Accepted) → IsFresh old → GivesHead week left left1 old new head → Accepts week left
+pub head_accepts : (week : Option ℕ) (left left1 : Option (List ℕ)) (old new : LinesState) (head : Accepted) → IsFresh old → GivesHead week left left1 old new head → AcceptsHead week left
 head_accepts week left left1 old new head fresh h =
     accepts_first week head h.line left h.accepted (known_lines left left1 old new (h.line ∷ []) h.gives.reads fresh.rest fresh.ended)
 
@@ -103,14 +103,14 @@ head_capture week left left1 left2 old middle new head given fresh h reads =
     ap (capture_in week) (fresh_lines left left2 old new (h.line ∷ given) (reads_more left left1 left2 old middle new (h.line ∷ []) given h.gives.reads reads) fresh)
     ∙ capture_lines week head h.line (given ++ lines_by false new.rest) h.accepted
 
--- the text in front was not written whole
+-- the leading text was not written whole
 pub head_part : (to : Target) (week : Option ℕ) (left left1 written written_new reported : Option (List ℕ)) (old new : LinesState) (head : Accepted) → IsFresh old → GivesHead week left left1 old new head
-    → AppendsFront written written_new (front_text to) → Stop to week left left1 written written_new reported reported WriteFault
-head_part to week left left1 written written_new reported old new head fresh h (front, within, text) =
+    → AppendsPrefix written written_new (prefix_text to) → Stop to week left left1 written written_new reported reported WriteFault
+head_part to week left left1 written written_new reported old new head fresh h (prefix, within, text) =
     let t = h.gives.reads.taken in
     let few : length old.rest ≤ 4096 = omega (arith, ap length fresh.rest) in
     let whole = held_none old.rest t fresh.rest ∙ h.gives.split in
-    let recent = recent_lines t h.gives.front new.rest (h.line ∷ []) whole (h.gives.short few) (fresh_lines left left1 old new (h.line ∷ []) h.gives.reads fresh) in
+    let recent = recent_lines t h.gives.prefix new.rest (h.line ∷ []) whole (h.gives.short few) (fresh_lines left left1 old new (h.line ∷ []) h.gives.reads fresh) in
     let c = capture_by head (lines_by false new.rest) in
     let capture : capture_of week t ≡ Some c =
     ap (capture_in week) (fresh_lines left left1 old new (h.line ∷ []) h.gives.reads fresh) ∙ capture_lines week head h.line (lines_by false new.rest) h.accepted in
@@ -119,72 +119,72 @@ head_part to week left left1 written written_new reported old new head fresh h (
       taken = t;
       consumes = h.gives.reads.consumes;
       text = record {
-        front = front;
-        within = subst (IsFront front) (sym (output_is to week t c capture)) (front_trans front (front_text to) (front_text to ++ behind) within (front_more (front_text to) behind));
-        no_less = subst (λ (l : List ℕ). IsFront l front) (sym (least_none to week t recent)) (front_nil front);
+        prefix = prefix;
+        within = subst (IsPrefix prefix) (sym (output_is to week t c capture)) (prefix_trans prefix (prefix_text to) (prefix_text to ++ behind) within (prefix_more (prefix_text to) behind));
+        no_less = subst (λ (l : List ℕ). IsPrefix l prefix) (sym (least_none to week t recent)) (prefix_nil prefix);
         grew = text;
       };
-      report = ([], front_nil (report_of_capture week t), Appends-nil reported);
+      report = ([], prefix_nil (report_of_capture week t), Appends-nil reported);
       ahead = (
-        front_head to week head h.line left written written_new reported h.accepted (known_lines left left1 old new (h.line ∷ []) h.gives.reads fresh.rest fresh.ended) (front, within, text),
-        last_front to week left left1 written written_new (front, within, text),
+        prefix_head to week head h.line left written written_new reported h.accepted (known_lines left left1 old new (h.line ∷ []) h.gives.reads fresh.rest fresh.ended) (prefix, within, text),
+        last_prefix to week left left1 written written_new (prefix, within, text),
       );
       says = head_accepts week left left1 old new head fresh h;
     }
 
--- no more lines have ended before the last 4,096 bytes than behind the first and that one
-recent_head : (line : Line) (a b front rest : List ℕ) (n : ℕ) → a ≡ front ++ rest → length rest ≤ 4096 → lines_by false a ≡ (line ∷ []) ++ lines_by false rest
+-- of all bytes, no more lines have ended before the last 4,096 than the first line and the n after it
+recent_head : (line : Line) (a b prefix rest : List ℕ) (n : ℕ) → a ≡ prefix ++ rest → length rest ≤ 4096 → lines_by false a ≡ (line ∷ []) ++ lines_by false rest
     → length (lines_by true (take (length (rest ++ b) - 4096) (rest ++ b))) ≤ n
     → length (lines_by true (take (length (a ++ b) - 4096) (a ++ b))) ≤ n + 1
-recent_head line a b front rest n e few all recent =
+recent_head line a b prefix rest n e few all recent =
     let s = rest ++ b in
     let k = length s - 4096 in
-    let whole : a ++ b ≡ (front ++ take k s) ++ drop k s =
-    ap (λ (l : List ℕ). l ++ b) e ∙ append_assoc front rest b ∙ ap (λ (l : List ℕ). front ++ l) (sym (take-append-drop k s)) ∙ sym (append_assoc front (take k s) (drop k s)) in
-    recent_within (a ++ b) (front ++ take k s) (drop k s) (n + 1) whole (omega (arith, length-drop k s))
-    (omega (arith, sum_pieces front (take k s), ended_before front rest (line ∷ []) (ap (lines_by false) (sym e) ∙ all), lines_length true (take k s), recent))
+    let whole : a ++ b ≡ (prefix ++ take k s) ++ drop k s =
+    ap (λ (l : List ℕ). l ++ b) e ∙ append_assoc prefix rest b ∙ ap (λ (l : List ℕ). prefix ++ l) (sym (take-append-drop k s)) ∙ sym (append_assoc prefix (take k s) (drop k s)) in
+    recent_within (a ++ b) (prefix ++ take k s) (drop k s) (n + 1) whole (omega (arith, length-drop k s))
+    (omega (arith, sum_pieces prefix (take k s), ended_before prefix rest (line ∷ []) (ap (lines_by false) (sym e) ∙ all), lines_length true (take k s), recent))
 
--- a front of what all bytes give
-follow_front : (to : Target) (week : Option ℕ) (left left1 left2 written written1 written2 reported reported2 : Option (List ℕ)) (middle new : LinesState) (head : Accepted) (line : Line) (fault : BridgeFault) → accepted_line week line ≡ Some head
-    → Appends written written1 (front_text to) → (p : FollowsBroke to head left1 left2 middle new written1 written2 reported reported2 fault)
-    → Follow left new (line ∷ (p.given ++ p.last)) → CaptureFront to week left written written2 reported reported2
-follow_front to week None left1 left2 written written1 written2 reported reported2 middle new head line fault accepted begun p k = tt
-follow_front to week (Some bytes) left1 left2 written written1 written2 reported reported2 middle new head line fault accepted begun p k =
+-- a prefix of what all bytes give
+convert_prefix : (to : Target) (week : Option ℕ) (left left1 left2 written written1 written2 reported reported2 : Option (List ℕ)) (middle new : LinesState) (head : Accepted) (line : Line) (fault : BridgeFault) → accepted_line week line ≡ Some head
+    → Appends written written1 (prefix_text to) → (p : ConversionBroke to head left1 left2 middle new written1 written2 reported reported2 fault)
+    → Follow left new (line ∷ (p.given ++ p.last)) → CapturePrefix to week left written written2 reported reported2
+convert_prefix to week None left1 left2 written written1 written2 reported reported2 middle new head line fault accepted begun p k = tt
+convert_prefix to week (Some bytes) left1 left2 written written1 written2 reported reported2 middle new head line fault accepted begun p k =
     let text = p.text k.0 k.2 in
-    fronts_of to week head line (p.given ++ p.last) k.0 bytes written written1 written2 reported reported2 accepted k.1 begun (text.front, text.within, text.grew) p.report
+    prefixes_of to week head line (p.given ++ p.last) k.0 bytes written written1 written2 reported reported2 accepted k.1 begun (text.prefix, text.within, text.grew) p.report
 
 -- what the fault says besides
-follow_says : (to : Target) (week : Option ℕ) (left left1 left2 written written1 written2 reported reported2 : Option (List ℕ)) (old middle new : LinesState) (head : Accepted) (given last : List Line) (fault : BridgeFault) → IsFresh old
-    → (h : GivesHead week left left1 old middle head) → Appends written written1 (front_text to) → (reads : Reads left1 left2 middle new (given ++ last))
-    → FollowsSays to head given last new written1 written2 reported reported2 fault
+convert_says : (to : Target) (week : Option ℕ) (left left1 left2 written written1 written2 reported reported2 : Option (List ℕ)) (old middle new : LinesState) (head : Accepted) (given last : List Line) (fault : BridgeFault) → IsFresh old
+    → (h : GivesHead week left left1 old middle head) → Appends written written1 (prefix_text to) → (reads : Reads left1 left2 middle new (given ++ last))
+    → ConversionSays to head given last new written1 written2 reported reported2 fault
     → StopSays to week left (h.gives.reads.taken ++ reads.taken) written written2 reported reported2 fault
-follow_says to week left left1 left2 written written1 written2 reported reported2 old middle new head given last ReadFault fresh h begun reads says =
+convert_says to week left left1 left2 written written1 written2 reported reported2 old middle new head given last ReadFault fresh h begun reads says =
     let t = h.gives.reads.taken ++ reads.taken in
     let all = reads_more left left1 left2 old middle new (h.line ∷ []) (given ++ last) h.gives.reads reads in
     let ended : lines_by true t ≡ h.line ∷ given =
     ap (lines_by true) (held_none old.rest t fresh.rest) ∙ ended_lines left left2 old new (h.line ∷ (given ++ last)) all says.1 says.2
     ∙ ap (λ (l : List Line). h.line ∷ (given ++ l)) says.0 ∙ ap (λ (l : List Line). h.line ∷ l) (append-nil given) in
     let closed = closed_texts to head given in
-    let text : settled_output to week t ≡ front_text to ++ closed =
-    settled_is to week t (h.line ∷ given) ended ∙ ap (settled_text to) (capture_lines week head h.line given h.accepted) in
-    let report : settled_report week t ≡ line_report (log_of head.window given) =
-    settled_report_is week t (h.line ∷ given) ended ∙ ap refusals_text (capture_lines week head h.line given h.accepted) in (
-      subst (Appends written written2) (sym text) (Appends-trans written written1 written2 (front_text to) closed begun says.3),
+    let text : flushed_output to week t ≡ prefix_text to ++ closed =
+    flushed_is to week t (h.line ∷ given) ended ∙ ap (flushed_text to) (capture_lines week head h.line given h.accepted) in
+    let report : flushed_report week t ≡ line_report (log_of head.window given) =
+    flushed_report_is week t (h.line ∷ given) ended ∙ ap refusals_text (capture_lines week head h.line given h.accepted) in (
+      subst (Appends written written2) (sym text) (Appends-trans written written1 written2 (prefix_text to) closed begun says.3),
       subst (Appends reported reported2) (sym report) says.4,
     )
-follow_says to week left left1 left2 written written1 written2 reported reported2 old middle new head given last TooLong fresh h begun reads says =
+convert_says to week left left1 left2 written written1 written2 reported reported2 old middle new head given last TooLong fresh h begun reads says =
     omega (arith, says, (reads_more left left1 left2 old middle new (h.line ∷ []) (given ++ last) h.gives.reads reads).count, fresh.taken)
-follow_says to week left left1 left2 written written1 written2 reported reported2 old middle new head given last NotThisForm fresh h begun reads says = absurd says
-follow_says to week left left1 left2 written written1 written2 reported reported2 old middle new head given last WriteFault fresh h begun reads says = head_accepts week left left1 old middle head fresh h
-follow_says to week left left1 left2 written written1 written2 reported reported2 old middle new head given last ReportFault fresh h begun reads says = head_accepts week left left1 old middle head fresh h
-follow_says to week left left1 left2 written written1 written2 reported reported2 old middle new head given last NoMemory fresh h begun reads says = head_accepts week left left1 old middle head fresh h
+convert_says to week left left1 left2 written written1 written2 reported reported2 old middle new head given last NotThisForm fresh h begun reads says = absurd says
+convert_says to week left left1 left2 written written1 written2 reported reported2 old middle new head given last WriteFault fresh h begun reads says = head_accepts week left left1 old middle head fresh h
+convert_says to week left left1 left2 written written1 written2 reported reported2 old middle new head given last ReportFault fresh h begun reads says = head_accepts week left left1 old middle head fresh h
+convert_says to week left left1 left2 written written1 written2 reported reported2 old middle new head given last NoMemory fresh h begun reads says = head_accepts week left left1 old middle head fresh h
 
--- a front of the output of the lines
-pub follow_stops : (laws : LogLaws) (to : Target) (week : Option ℕ) (left left1 left2 written written1 written2 reported reported2 : Option (List ℕ)) (old middle new : LinesState) (head : Accepted) (fault : BridgeFault) → IsFresh old
-    → GivesHead week left left1 old middle head → Appends written written1 (front_text to)
-    → FollowsBroke to head left1 left2 middle new written1 written2 reported reported2 fault
+-- a prefix of the output of the lines
+pub convert_stops : (laws : LogLaws) (to : Target) (week : Option ℕ) (left left1 left2 written written1 written2 reported reported2 : Option (List ℕ)) (old middle new : LinesState) (head : Accepted) (fault : BridgeFault) → IsFresh old
+    → GivesHead week left left1 old middle head → Appends written written1 (prefix_text to)
+    → ConversionBroke to head left1 left2 middle new written1 written2 reported reported2 fault
     → Stop to week left left2 written written2 reported reported2 fault
-follow_stops laws to week left left1 left2 written written1 written2 reported reported2 old middle new head fault fresh h begun p =
+convert_stops laws to week left left1 left2 written written1 written2 reported reported2 old middle new head fault fresh h begun p =
     let a = h.gives.reads.taken in
     let t = a ++ p.reads.taken in
     let reads = reads_more left left1 left2 old middle new (h.line ∷ []) (p.given ++ p.last) h.gives.reads p.reads in
@@ -197,29 +197,29 @@ follow_stops laws to week left left1 left2 written written1 written2 reported re
     let closed = closed_texts to head p.given in
     let texts = texts_of to (periods c) in
     let back = back_text to (counts_text (counts_of c)) in
-    let recent = recent_head h.line a p.reads.taken h.gives.front middle.rest (length (p.given ++ p.last)) (held_none old.rest a fresh.rest ∙ h.gives.split) (h.gives.short few)
+    let recent = recent_head h.line a p.reads.taken h.gives.prefix middle.rest (length (p.given ++ p.last)) (held_none old.rest a fresh.rest ∙ h.gives.split) (h.gives.short few)
     (fresh_lines left left1 old middle (h.line ∷ []) h.gives.reads fresh) p.recent in
-    let least = least_front laws to week head h.line p.given p.last more t h.accepted p.few (fresh_lines left left2 old new (h.line ∷ (p.given ++ p.last)) reads fresh) (omega (arith, recent)) in
+    let least = least_prefix laws to week head h.line p.given p.last more t h.accepted p.few (fresh_lines left left2 old new (h.line ∷ (p.given ++ p.last)) reads fresh) (omega (arith, recent)) in
     record {
       taken = t;
       consumes = reads.consumes;
       text = record {
-        front = front_text to ++ text.front;
-        within = subst (IsFront (front_text to ++ text.front)) (sym (output_is to week t c capture))
-            (front_behind (front_text to) text.front (texts ++ back) (front_trans text.front texts (texts ++ back) text.within (front_more texts back)));
-        no_less = front_trans (least_output to week t) (front_text to ++ closed) (front_text to ++ text.front) least (front_behind (front_text to) closed text.front text.no_less);
-        grew = Appends-trans written written1 written2 (front_text to) text.front begun text.grew;
+        prefix = prefix_text to ++ text.prefix;
+        within = subst (IsPrefix (prefix_text to ++ text.prefix)) (sym (output_is to week t c capture))
+            (prefix_behind (prefix_text to) text.prefix (texts ++ back) (prefix_trans text.prefix texts (texts ++ back) text.within (prefix_more texts back)));
+        no_less = prefix_trans (least_output to week t) (prefix_text to ++ closed) (prefix_text to ++ text.prefix) least (prefix_behind (prefix_text to) closed text.prefix text.no_less);
+        grew = Appends-trans written written1 written2 (prefix_text to) text.prefix begun text.grew;
       };
-      report = subst (AppendsFront reported reported2) (sym (report_is week t c capture))
+      report = subst (AppendsPrefix reported reported2) (sym (report_is week t c capture))
           (appends_longer reported reported2 (line_report (log_of head.window (p.given ++ p.last))) (line_report (log_of head.window c.lines) ++ counts_text (counts_of c))
-          (front_trans (line_report (log_of head.window (p.given ++ p.last))) (line_report (log_of head.window c.lines)) (line_report (log_of head.window c.lines) ++ counts_text (counts_of c))
-          (report_front head.window (p.given ++ p.last) more) (front_more (line_report (log_of head.window c.lines)) (counts_text (counts_of c)))) p.report);
+          (prefix_trans (line_report (log_of head.window (p.given ++ p.last))) (line_report (log_of head.window c.lines)) (line_report (log_of head.window c.lines) ++ counts_text (counts_of c))
+          (report_prefix head.window (p.given ++ p.last) more) (prefix_more (line_report (log_of head.window c.lines)) (counts_text (counts_of c)))) p.report);
       ahead = (
-        follow_front to week left left1 left2 written written1 written2 reported reported2 middle new head h.line fault h.accepted begun p
+        convert_prefix to week left left1 left2 written written1 written2 reported reported2 middle new head h.line fault h.accepted begun p
             (lines_follow left left2 old new (h.line ∷ (p.given ++ p.last)) reads fresh.rest fresh.ended),
-        last_texts to week left left2 written written1 written2 (periods c) begun (text.front, text.within, text.grew),
+        last_texts to week left left2 written written1 written2 (periods c) begun (text.prefix, text.within, text.grew),
       );
-      says = follow_says to week left left1 left2 written written1 written2 reported reported2 old middle new head p.given p.last fault fresh h begun p.reads p.says;
+      says = convert_says to week left left1 left2 written written1 written2 reported reported2 old middle new head p.given p.last fault fresh h begun p.reads p.says;
     }
 
 -- ---- all lines were taken
@@ -238,8 +238,8 @@ pub counts_are : (head : Accepted) (given : List Line) (lines : ℕ) (tally : Ta
 counts_are head given lines tally said number counts verdicts =
     let log = log_of head.window given in
     ap (λ (t : Tally). with_counts lines t said) counts
-    ∙ same_counts lines (0 + count_in is_malformed log) (0 + count_in is_late log) (0 + count_in is_refused log) (0 + count_in is_unused log) (length given + 1)
-    (count_in is_malformed log) (count_in is_late log) (count_in is_refused log) (count_in is_unused log) said
+    ∙ same_counts lines (0 + count_in is_malformed log) (0 + count_in is_late log) (0 + count_in is_refused_event log) (0 + count_in is_unused log) (length given + 1)
+    (count_in is_malformed log) (count_in is_late log) (count_in is_refused_event log) (count_in is_unused log) said
     (said_of (periods_of head.week head.window (parts_of head.window given))) number (zero_more _) (zero_more _) (zero_more _) (zero_more _) verdicts
 
 -- all that was taken of a capture
@@ -252,14 +252,14 @@ pub record IsTaken (to : Target) (week : Option ℕ) (left left2 written written
   pub fits : length taken < 2 ^ 32
   pub accepted : accepted_line week line ≡ Some head
   pub lines : lines_by false taken ≡ line ∷ given
-  pub text : Appends written written2 (front_text to ++ texts_of to (periods (capture_by head given)))
+  pub text : Appends written written2 (prefix_text to ++ texts_of to (periods (capture_by head given)))
   pub report : Appends reported reported2 (line_report (log_of head.window given))
   pub counted : counts ≡ counts_of (capture_by head given)
-  pub accepts : Accepts week left
+  pub accepts : AcceptsHead week left
 
 pub all_taken : (to : Target) (week : Option ℕ) (left left1 left2 written written1 written2 reported reported2 : Option (List ℕ)) (old middle new : LinesState) (head : Accepted) (tally : Tally) (said : Said) (counts : CaptureCounts)
-    → IsFresh old → GivesHead week left left1 old middle head → Appends written written1 (front_text to)
-    → FollowsAll to head left1 left2 middle new written1 written2 reported reported2 tally said → counts ≡ with_counts new.number tally said
+    → IsFresh old → GivesHead week left left1 old middle head → Appends written written1 (prefix_text to)
+    → ConvertsAll to head left1 left2 middle new written1 written2 reported reported2 tally said → counts ≡ with_counts new.number tally said
     → IsTaken to week left left2 written written2 reported reported2 head counts
 all_taken to week left left1 left2 written written1 written2 reported reported2 old middle new head tally said counts fresh h begun p counted =
     let reads = reads_more left left1 left2 old middle new (h.line ∷ []) p.given h.gives.reads p.reads in
@@ -272,15 +272,15 @@ all_taken to week left left1 left2 written written1 written2 reported reported2 
       fits = omega (arith, p.low, reads.count, fresh.taken);
       accepted = h.accepted;
       lines = fresh_lines left left2 old new (h.line ∷ p.given) reads fresh ∙ ap (λ (l : List ℕ). (h.line ∷ p.given) ++ lines_by false l) p.rest ∙ append-nil (h.line ∷ p.given);
-      text = Appends-trans written written1 written2 (front_text to) _ begun p.text;
+      text = Appends-trans written written1 written2 (prefix_text to) _ begun p.text;
       report = p.report;
       counted = counted ∙ counts_are head p.given new.number tally said (omega (arith, p.number, h.gives.number, fresh.number)) p.counts p.verdicts;
       accepts = head_accepts week left left1 old middle head fresh h;
     }
 
--- what stands behind the periods was not written whole, or the counts were not reported whole
+-- the trailing text was not written whole, or the counts were not reported whole
 end_stops : (laws : LogLaws) (to : Target) (week : Option ℕ) (left left2 written written2 written3 reported reported2 reported3 : Option (List ℕ)) (head : Accepted) (counts : CaptureCounts) (fault : BridgeFault)
-    (t : IsTaken to week left left2 written written2 reported reported2 head counts) → AppendsFront written2 written3 (back_text to (counts_text counts)) → AppendsFront reported2 reported3 (counts_text counts)
+    (t : IsTaken to week left left2 written written2 reported reported2 head counts) → AppendsPrefix written2 written3 (back_text to (counts_text counts)) → AppendsPrefix reported2 reported3 (counts_text counts)
     → StopSays to week left t.taken written written3 reported reported3 fault → Stop to week left left2 written written3 reported reported3 fault
 end_stops laws to week left left2 written written2 written3 reported reported2 reported3 head counts fault t back report says =
     let c = capture_by head t.given in
@@ -290,35 +290,35 @@ end_stops laws to week left left2 written written2 written3 reported reported2 r
     let nil = append-nil t.given in
     let lines : lines_by false t.taken ≡ (t.line ∷ (t.given ++ [])) ++ [] = t.lines ∙ ap (λ (l : List Line). t.line ∷ l) (sym nil) ∙ sym (append-nil (t.line ∷ (t.given ++ []))) in
     let recent = recent_lines t.taken t.taken [] (t.line ∷ (t.given ++ [])) (sym (append-nil t.taken)) (omega arith) lines in
-    let least = least_front laws to week head t.line t.given [] [] t.taken t.accepted (omega arith) lines recent in
-    let front = texts_front to (closed_of head.week head.window (mark_after head.window t.given) (parts_of head.window t.given)) (periods_of head.week head.window (parts_of head.window (t.given ++ [])))
-    (laws.front head.week head.window t.given []) in
-    let below : IsFront closed texts = subst (λ (l : List Line). IsFront closed (texts_of to (periods_of head.week head.window (parts_of head.window l)))) nil front in
-    let behind = subst (λ (x : CaptureCounts). AppendsFront written2 written3 (back_text to (counts_text x))) t.counted back in
-    let told = subst (λ (x : CaptureCounts). AppendsFront reported2 reported3 (counts_text x)) t.counted report in
+    let least = least_prefix laws to week head t.line t.given [] [] t.taken t.accepted (omega arith) lines recent in
+    let prefix = texts_prefix to (closed_of head.week head.window (watermark_after head.window t.given) (parts_of head.window t.given)) (periods_of head.week head.window (parts_of head.window (t.given ++ [])))
+    (laws.prefix head.week head.window t.given []) in
+    let below : IsPrefix closed texts = subst (λ (l : List Line). IsPrefix closed (texts_of to (periods_of head.week head.window (parts_of head.window l)))) nil prefix in
+    let behind = subst (λ (x : CaptureCounts). AppendsPrefix written2 written3 (back_text to (counts_text x))) t.counted back in
+    let told = subst (λ (x : CaptureCounts). AppendsPrefix reported2 reported3 (counts_text x)) t.counted report in
     let text : AppendsBetween written written3 (least_output to week t.taken) (output_of to week t.taken) = record {
-      front = (front_text to ++ texts) ++ behind.0;
-      within = subst (IsFront ((front_text to ++ texts) ++ behind.0)) (append_assoc (front_text to) texts (back_text to (counts_text (counts_of c))) ∙ sym (output_is to week t.taken c capture))
-          (front_behind (front_text to ++ texts) behind.0 (back_text to (counts_text (counts_of c))) behind.1);
-      no_less = front_trans (least_output to week t.taken) (front_text to ++ closed) ((front_text to ++ texts) ++ behind.0) least
-          (front_trans (front_text to ++ closed) (front_text to ++ texts) ((front_text to ++ texts) ++ behind.0) (front_behind (front_text to) closed texts below) (front_more (front_text to ++ texts) behind.0));
-      grew = Appends-trans written written2 written3 (front_text to ++ texts) behind.0 t.text behind.2;
+      prefix = (prefix_text to ++ texts) ++ behind.0;
+      within = subst (IsPrefix ((prefix_text to ++ texts) ++ behind.0)) (append_assoc (prefix_text to) texts (back_text to (counts_text (counts_of c))) ∙ sym (output_is to week t.taken c capture))
+          (prefix_behind (prefix_text to ++ texts) behind.0 (back_text to (counts_text (counts_of c))) behind.1);
+      no_less = prefix_trans (least_output to week t.taken) (prefix_text to ++ closed) ((prefix_text to ++ texts) ++ behind.0) least
+          (prefix_trans (prefix_text to ++ closed) (prefix_text to ++ texts) ((prefix_text to ++ texts) ++ behind.0) (prefix_behind (prefix_text to) closed texts below) (prefix_more (prefix_text to ++ texts) behind.0));
+      grew = Appends-trans written written2 written3 (prefix_text to ++ texts) behind.0 t.text behind.2;
     } in
-    let report_text : AppendsFront reported reported3 (report_of_capture week t.taken) = subst (AppendsFront reported reported3) (sym (report_is week t.taken c capture))
+    let report_text : AppendsPrefix reported reported3 (report_of_capture week t.taken) = subst (AppendsPrefix reported reported3) (sym (report_is week t.taken c capture))
     (appends_behind reported reported2 reported3 (line_report (log_of head.window t.given)) (counts_text (counts_of c)) t.report told) in
-    let wrote : AppendsFront written written3 (output_of to week t.taken) = (text.front, text.within, text.grew) in
+    let wrote : AppendsPrefix written written3 (output_of to week t.taken) = (text.prefix, text.within, text.grew) in
     let same = Consumes-all left left2 t.taken [] t.taken t.consumes t.end refl in
     record {
       taken = t.taken;
       consumes = t.consumes;
       text = text;
       report = report_text;
-      ahead = (front_all to week left written written3 reported reported3 t.taken same wrote report_text, last_all to week left left2 written written3 t.taken t.consumes t.end wrote);
+      ahead = (prefix_all to week left written written3 reported reported3 t.taken same wrote report_text, last_all to week left left2 written written3 t.taken t.consumes t.end wrote);
       says = says;
     }
 
 pub end_stopped : (laws : LogLaws) (to : Target) (week : Option ℕ) (left left2 written written2 written3 reported reported2 reported3 : Option (List ℕ)) (head : Accepted) (counts : CaptureCounts) (fault : BridgeFault)
-    → IsTaken to week left left2 written written2 reported reported2 head counts → AppendsFront written2 written3 (back_text to (counts_text counts)) → AppendsFront reported2 reported3 (counts_text counts)
+    → IsTaken to week left left2 written written2 reported reported2 head counts → AppendsPrefix written2 written3 (back_text to (counts_text counts)) → AppendsPrefix reported2 reported3 (counts_text counts)
     → (fault ≡ WriteFault) ⊎ (fault ≡ ReportFault) → Stop to week left left2 written written3 reported reported3 fault
 end_stopped laws to week left left2 written written2 written3 reported reported2 reported3 head counts fault t back report kind =
     ⊎_elim (λ (e : fault ≡ WriteFault). subst (Stop to week left left2 written written3 reported reported3) (sym e) (end_stops laws to week left left2 written written2 written3 reported reported2 reported3 head counts WriteFault t back report t.accepts))
@@ -342,18 +342,18 @@ head_cause week left left_new old new reads reads_new writes reports WriteFault 
 head_cause week left left_new old new reads reads_new writes reports ReportFault h rose = absurd h
 head_cause week left left_new old new reads reads_new writes reports NoMemory h rose = tt
 
-pub follow_cause : (reads reads1 writes writes1 reports : ℕ) (now : Faults) (fault : BridgeFault) → HasItsCause {T = Unit {0}} (faults_of reads1 writes1 reports) now (Err fault) → reads1 ≡ reads → writes1 ≡ writes
+pub convert_cause : (reads reads1 writes writes1 reports : ℕ) (now : Faults) (fault : BridgeFault) → HasItsCause {T = Unit {0}} (faults_of reads1 writes1 reports) now (Err fault) → reads1 ≡ reads → writes1 ≡ writes
     → HasItsCause {T = Unit {0}} (faults_of reads writes reports) now (Err fault)
-follow_cause reads reads1 writes writes1 reports now fault h e f =
+convert_cause reads reads1 writes writes1 reports now fault h e f =
     subst (λ (n : ℕ). HasItsCause {T = Unit {0}} (faults_of reads n reports) now (Err fault)) f (subst (λ (n : ℕ). HasItsCause {T = Unit {0}} (faults_of n writes1 reports) now (Err fault)) e h)
 
-follow_form : (to : Target) (head : Accepted) (given last : List Line) (new : LinesState) (start written told reported : Option (List ℕ)) (fault : BridgeFault)
-    → FollowsSays to head given last new start written told reported fault → fault ≡ NotThisForm → ⊥
-follow_form to head given last new start written told reported fault says e = subst (FollowsSays to head given last new start written told reported) e says
+convert_form : (to : Target) (head : Accepted) (given last : List Line) (new : LinesState) (start written told reported : Option (List ℕ)) (fault : BridgeFault)
+    → ConversionSays to head given last new start written told reported fault → fault ≡ NotThisForm → ⊥
+convert_form to head given last new start written told reported fault says e = subst (ConversionSays to head given last new start written told reported) e says
 
-pub followed_form : (to : Target) (head : Accepted) (left left_new : Option (List ℕ)) (old new : LinesState) (start written told reported : Option (List ℕ)) (fault : BridgeFault)
-    → FollowsBroke to head left left_new old new start written told reported fault → fault ≡ NotThisForm → ⊥
-followed_form to head left left_new old new start written told reported fault p e = follow_form to head p.given p.last new start written told reported fault p.says e
+pub converted_form : (to : Target) (head : Accepted) (left left_new : Option (List ℕ)) (old new : LinesState) (start written told reported : Option (List ℕ)) (fault : BridgeFault)
+    → ConversionBroke to head left left_new old new start written told reported fault → fault ≡ NotThisForm → ⊥
+converted_form to head left left_new old new start written told reported fault p e = convert_form to head p.given p.last new start written told reported fault p.says e
 
 written_fault : (fault other : BridgeFault) → (WriteFault ≡ other → ⊥) → (ReportFault ≡ other → ⊥) → (fault ≡ WriteFault) ⊎ (fault ≡ ReportFault) → fault ≡ other → ⊥
 written_fault fault other write report kind e =
@@ -435,8 +435,8 @@ all_done to target week b a written2 reported2 head counts same t back report qu
       end = t.end;
       fits = t.fits;
       counted = ap counts_in capture ∙ ap Some (sym t.counted);
-      text = subst (Appends b.written a.written) (append_assoc (front_text target) texts (back_text target (counts_text (counts_of c))) ∙ sym (output_is target week t.taken c capture))
-          (Appends-trans b.written written2 a.written (front_text target ++ texts) (back_text target (counts_text (counts_of c))) t.text behind);
+      text = subst (Appends b.written a.written) (append_assoc (prefix_text target) texts (back_text target (counts_text (counts_of c))) ∙ sym (output_is target week t.taken c capture))
+          (Appends-trans b.written written2 a.written (prefix_text target ++ texts) (back_text target (counts_text (counts_of c))) t.text behind);
       told = subst (Appends b.reported a.reported) (sym (report_is week t.taken c capture))
           (Appends-trans b.reported reported2 a.reported (line_report (log_of head.window t.given)) (counts_text (counts_of c)) t.report told);
       leaves = leaves_nothing target week b a;

@@ -3,7 +3,7 @@ use Rattle.std.proofs.Common.{◌≡◌, ◌<◌, ◌^◌, ℕ, List, length, le
 use Rattle.std.specs.Prelude.{Option, None, Some, IfSome, IsSome, IsTrue, Ok}
 use Rattle.std.proofs.lemmas.Bool.{true≢false}
 use Rattle.std.specs.Io.KnownBytes.{Appends, Consumes}
-use Rattle.nav_io.specs.Front.{AppendsFront}
+use Rattle.nav_io.specs.Prefix.{AppendsPrefix}
 use Rattle.one_run.specs.Causes.{faults_of}
 use Rattle.one_run.specs.Runs.{Broke, Done, World}
 use Rattle.one_run.specs.declared.fault.BridgeFault.{BridgeFault}
@@ -12,7 +12,7 @@ use Rattle.one_run.proofs.Surface.{counts_of, told_of, text_of}
 use Rattle.outlets.specs.declared.target.Target.TheVariants.{Count}
 use Rattle.captures.specs.declared.counts.CaptureCounts.{CaptureCounts}
 use Rattle.captures.specs.Captures.{Capture, capture_of, counts_in, output_of, report_of_capture, target_meaning}
-use Rattle.captures.specs.Follows.{CaptureAhead}
+use Rattle.captures.specs.Converts.{CaptureAhead}
 use Rattle.captures.specs.declared.seed_target.SeedCounts.TheVariants.{Counted}
 use Rattle.captures.specs.Counting.{CountBroke, CountDone, IsSeedFault}
 
@@ -52,9 +52,9 @@ cause_of r text b a NotThisForm known low some never h = none_there (capture_of 
 cause_of r text b a TooLong known low some never h = not_too_many text h.taken a.left low (subst (λ (o : Option (List ℕ)). Consumes o a.left h.taken) known h.consumes) h.says
 cause_of r text b a NoMemory known low some never h = tt
 
-front_of : (r : ℕ) (text : List ℕ) (left left_new written written_new reported reported_new : Option (List ℕ)) → left ≡ Some text
+prefix_of : (r : ℕ) (text : List ℕ) (left left_new written written_new reported reported_new : Option (List ℕ)) → left ≡ Some text
     → CaptureAhead Count (Some r) left left_new written written_new reported reported_new → CountBroke r text written written_new reported reported_new
-front_of r text left left_new written written_new reported reported_new known h =
+prefix_of r text left left_new written written_new reported reported_new known h =
     (subst (λ (o : Option (List ℕ)). CaptureAhead Count (Some r) o left_new written written_new reported reported_new) known h).0
 
 pub count_broke : {S T U : Type 0} (r : ℕ) (text left : List ℕ) (b a : World S T U) (fault : BridgeFault) → left ≡ text → b.left ≡ Some left → length text < 2 ^ 32 → IsSome (capture_of (Some r) text) → IsTrue b.never_fails
@@ -62,4 +62,4 @@ pub count_broke : {S T U : Type 0} (r : ℕ) (text left : List ℕ) (b a : World
     → CountBroke r text b.written a.written b.reported a.reported × IsSeedFault (faults_of 0 b.writes_failed b.reports_failed) (faults_of 0 a.writes_failed a.reports_failed) fault
 count_broke r text left b a fault same known low some never broke ahead =
     let all : b.left ≡ Some text = known ∙ ap Some same in
-    (front_of r text b.left a.left b.written a.written b.reported a.reported all ahead, cause_of r text b a fault all low some never broke)
+    (prefix_of r text b.left a.left b.written a.written b.reported a.reported all ahead, cause_of r text b a fault all low some never broke)

@@ -23,11 +23,11 @@ use Rattle.captures.specs.declared.counts.Tally.{Tally}
 use Rattle.captures.specs.declared.ear.Ear.{Ear}
 use Rattle.one_run.specs.declared.fault.BridgeFault.{BridgeFault}
 use Rattle.one_run.specs.declared.fault.BridgeFault.TheVariants.{ReadFault, WriteFault, ReportFault, TooLong, NoMemory, NotThisForm}
-use Rattle.captures.specs.Reports.{count_in, is_late, is_malformed, is_refused, is_unused}
+use Rattle.captures.specs.Reports.{count_in, is_late, is_malformed, is_refused_event, is_unused}
 use Rattle.captures.specs.Notes.{AreFrom, of_heard, tallied, total, weight, weights}
 use Rattle.captures.specs.Hearings.{Heard, Hears, IsOpenAt, IsOpenFor, Unheard}
 use Rattle.captures.proofs.Weighing.{weights-append}
-use Rattle.captures.proofs.Noting.{count_in-append, front_longer, front_more, notes_more, notes_none}
+use Rattle.captures.proofs.Noting.{count_in-append, prefix_longer, prefix_more, notes_more, notes_none}
 
 -- ---- logs after logs
 
@@ -41,25 +41,25 @@ hears_more a b c u v w xs ys first second = record {
   notes = notes_more (SlotsStandFor a.assembly) (SlotsStandFor b.assembly) (SlotsStandFor c.assembly) u v w a.tally b.tally c.tally xs ys first.notes second.notes;
 }
 
--- what was heard, and then a front of what comes next
+-- events that were processed, and then a prefix of the report of the next
 pub unheard_more : (a b : Ear) (u v w : Option (List ℕ)) (before now : ℕ) (xs ys : List Noted) (fault : BridgeFault) → Hears a b u v xs → Unheard v w before now ys fault
     → Unheard u w before now (xs ++ ys) fault
-unheard_more a b u v w before now xs ys ReportFault first h = (front_more u v w xs ys first.notes.text h.0, h.1)
-unheard_more a b u v w before now xs ys NoMemory first h = (front_more u v w xs ys first.notes.text h.0, h.1)
+unheard_more a b u v w before now xs ys ReportFault first h = (prefix_more u v w xs ys first.notes.text h.0, h.1)
+unheard_more a b u v w before now xs ys NoMemory first h = (prefix_more u v w xs ys first.notes.text h.0, h.1)
 unheard_more a b u v w before now xs ys ReadFault first h = h
 unheard_more a b u v w before now xs ys WriteFault first h = h
 unheard_more a b u v w before now xs ys TooLong first h = h
 unheard_more a b u v w before now xs ys NotThisForm first h = h
 
 pub unheard_longer : (u w : Option (List ℕ)) (before now : ℕ) (xs ys : List Noted) (fault : BridgeFault) → Unheard u w before now xs fault → Unheard u w before now (xs ++ ys) fault
-unheard_longer u w before now xs ys ReportFault h = (front_longer u w xs ys h.0, h.1)
-unheard_longer u w before now xs ys NoMemory h = (front_longer u w xs ys h.0, h.1)
+unheard_longer u w before now xs ys ReportFault h = (prefix_longer u w xs ys h.0, h.1)
+unheard_longer u w before now xs ys NoMemory h = (prefix_longer u w xs ys h.0, h.1)
 unheard_longer u w before now xs ys ReadFault h = h
 unheard_longer u w before now xs ys WriteFault h = h
 unheard_longer u w before now xs ys TooLong h = h
 unheard_longer u w before now xs ys NotThisForm h = h
 
--- what broke off in the midst, behind what was heard and in front of what would have been
+-- a report that broke off: it continues what was reported, and is a prefix of what would have been
 pub unheard_within : (a b : Ear) (u v w : Option (List ℕ)) (before middle now : ℕ) (xs ys zs all : List Noted) (fault : BridgeFault)
     → all ≡ (xs ++ ys) ++ zs → Hears a b u v xs → middle ≡ before → Unheard v w middle now ys fault → Unheard u w before now all fault
 unheard_within a b u v w before middle now xs ys zs all fault split first same h =
@@ -71,15 +71,15 @@ pub heard_as : {T : Type 0} (old new : Ear) (v w : Option (List ℕ)) (before no
     → Heard old new v w before now xs result → Heard old new v w before now ys result
 heard_as old new v w before now xs ys result e h = rw (sym e) h
 
--- ---- what is heard leaves the mark
+-- ---- adding parts does not change the watermark
 
-pub open_after : (a b : Ear) (u v : Option (List ℕ)) (log : List Noted) (P : ℕ → Type 0) → Hears a b u v log → Stood (SlotsStandFor a.assembly) (λ at. P at.mark)
-    → Stood (SlotsStandFor b.assembly) (λ at. P at.mark)
+pub open_after : (a b : Ear) (u v : Option (List ℕ)) (log : List Noted) (P : ℕ → Type 0) → Hears a b u v log → Stood (SlotsStandFor a.assembly) (λ at. P at.watermark)
+    → Stood (SlotsStandFor b.assembly) (λ at. P at.watermark)
 open_after a b u v log P h s = (adding (parts_in log) s.0, h.notes.parts s.0 s.1, s.2)
 
--- where the mark is not above the stamp of the parts, it is open for them
+-- where the watermark is not above the stamp of the parts, it is open for them
 pub open_for : (ear : Ear) (stamp : ℕ) (events : List Event) → IsOpenAt ear stamp → ((least : ℕ) → least ≤ stamp → AreFrom least events) → IsOpenFor ear events
-open_for ear stamp events s from = (s.0, s.1, from s.0.mark s.2)
+open_for ear stamp events s from = (s.0, s.1, from s.0.watermark s.2)
 
 -- ---- how much was counted
 
@@ -90,7 +90,7 @@ count_more kind number event events =
     let same : (0 + kind event) + rest ≡ kind event + rest = omega arith in
     count_in-append kind (first ∷ []) (noted number events) ∙ same
 
-one_kind : (event : Event) → is_malformed event + is_late event + is_refused event + is_unused event ≡ weight event
+one_kind : (event : Event) → is_malformed event + is_late event + is_refused_event event + is_unused event ≡ weight event
 one_kind (HeardPart part) = omega arith
 one_kind Malformed = omega arith
 one_kind Late = omega arith
@@ -100,7 +100,7 @@ one_kind Unused = omega arith
 total_tallied : (t : Tally) (number : ℕ) (events : List Event) → total (tallied t (noted number events)) ≡ total t + weights events
 total_tallied t number [] = omega arith
 total_tallied t number (e ∷ es) =
-    omega (arith, total_tallied t number es, one_kind e, count_more is_malformed number e es, count_more is_late number e es, count_more is_refused number e es, count_more is_unused number e es)
+    omega (arith, total_tallied t number es, one_kind e, count_more is_malformed number e es, count_more is_late number e es, count_more is_refused_event number e es, count_more is_unused number e es)
 
 pub total_heard : (a b : Ear) (u v : Option (List ℕ)) (number : ℕ) (events : List Event) → Hears a b u v (noted number events) → total b.tally ≡ total a.tally + weights events
 total_heard a b u v number events h = ap total h.notes.counts ∙ total_tallied a.tally number events

@@ -1,4 +1,4 @@
--- What the bytes of a frame bring.
+-- What the bytes of a frame yield.
 use Rattle.std.proofs.Common.{◌≡◌, ℕ, ◌<◌, ◌≤◌, true, false, nat_lt, nat_eq, List, [], ◌∷◌, length, map, All, Result, sym, ap, ◌∙◌, arith}
 use Rattle.std.proofs.lemmas.Bool.{and_from, and_parts, cond-true, cond-false, eq-eqb, eqb-true, false_from_ne_true, lt-ltb, ltb-true}
 use Rattle.std.proofs.lemmas.List.Elements.{All-head, All-tail}
@@ -32,14 +32,14 @@ unfolding of_frame
 frame_refused stamp bytes never =
     sym (cond-false (is_frame bytes) (of_message (parts_of stamp (content_of (payload_of bytes)))) (Refused refusals.Frame ∷ []) (no_frame bytes never))
 
-pub frame_brings : (stamp : ℕ) (bytes frame payload : List ℕ) (answer : Result MessageParts MessageFault) → IsWhole bytes → frame ≡ bytes → payload ≡ payload_of frame
+pub frame_yields : (stamp : ℕ) (bytes frame payload : List ℕ) (answer : Result MessageParts MessageFault) → IsWhole bytes → frame ≡ bytes → payload ≡ payload_of frame
     → answer ≡ parts_of stamp (content_of payload) → of_message answer ≡ of_frame stamp bytes
 unfolding of_frame
-frame_brings stamp bytes frame payload answer whole same part read =
+frame_yields stamp bytes frame payload answer whole same part read =
     ap of_message read ∙ ap (λ (p : List ℕ). of_message (parts_of stamp (content_of p))) (part ∙ ap payload_of same)
     ∙ sym (cond-true (is_frame bytes) (of_message (parts_of stamp (content_of (payload_of bytes)))) (Refused refusals.Frame ∷ []) (whole_frame bytes whole))
 
--- parts with a stamp that is not before another one
+-- parts with a stamp that is not before another stamp
 pub heard_from : (least stamp : ℕ) (parts : List Part) → least ≤ stamp → All (λ (part : Part). part.stamp ≡ stamp) parts → AreFrom least (map Heard parts)
 heard_from least stamp [] later all = tt
 heard_from least stamp (p ∷ ps) later all =

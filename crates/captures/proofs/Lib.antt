@@ -2,11 +2,11 @@ mod Generated
 mod SeedEnds
 mod CountEnds
 mod CaptureEnds
-mod CaptureFronts
+mod CapturePrefixes
 mod Ears
-mod Following
+mod Converting
 mod FrameEvents
-mod Fronts
+mod Prefixes
 mod ItemEvents
 mod Keeping
 mod LineCounts

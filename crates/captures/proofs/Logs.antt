@@ -1,4 +1,4 @@
--- The log of one more line, and how many parts lines bring.
+-- The log of one more line, and how many parts lines yield.
 use Rattle.std.proofs.Common.{◌≡◌, ℕ, ◌+◌, ◌*◌, ◌≤◌, Bool, true, false, List, [], ◌∷◌, ◌++◌, length, refl, sym, ap, ◌∙◌, arith, append_assoc, append-nil, length-append}
 use Rattle.std.specs.Prelude.{nat_lt, if◌then◌else◌, Option, None, Some, Result, Ok, Err}
 use Rattle.std.specs.List.{flat_map, sum_by}
@@ -24,12 +24,12 @@ use Rattle.capture_lines.specs.declared.item.LineItem.{LineItem}
 use Rattle.capture_lines.specs.declared.item.LineItem.TheVariants.{Pass, Lnav, Half, Frame, Malformed as MalformedItem}
 use Rattle.capture_log.specs.declared.event.Refusal.TheVariants as refusals
 use Rattle.capture_log.specs.Events.{is_frame, Known, nothing_known, events_of, known_with, item_line, is_late, is_alert, half_of, of_word, of_second, of_frame, of_half, of_words, new_words, with_half, of_message, of_subframe}
-use Rattle.capture_log.specs.Log.{Noted, noted, items_of, known_from, log_from, log_of, parts_in, parts_of, parts_of_event}
+use Rattle.capture_log.specs.Log.{Noted, noted, line_items_of, known_from, log_from, log_of, parts_in, parts_of, parts_of_event}
 use Rattle.capture_log.specs.declared.event.Event.{Event}
 use Rattle.capture_log.specs.declared.event.Event.TheVariants.{Heard, Malformed, Late, Refused, Unused}
 use Rattle.captures.specs.declared.counts.Tally.{Tally}
 use Rattle.captures.specs.Notes.{line_report, tallied}
-use Rattle.captures.specs.Reports.{count_in, is_malformed, is_late as is_late_event, is_refused, is_unused}
+use Rattle.captures.specs.Reports.{count_in, is_malformed, is_late as is_late_event, is_refused_event, is_unused}
 
 -- ---- one more line
 
@@ -50,17 +50,17 @@ log_append window known n m (x ∷ items) more e =
 
 -- what is known of the lines
 abbrev pub known_of : ℕ → List Line → Known
-known_of window lines = known_from window nothing_known (items_of lines)
+known_of window lines = known_from window nothing_known (line_items_of lines)
 
 pub known_line : (window : ℕ) (lines : List Line) (line : Line) → known_of window (lines ++ line ∷ []) ≡ known_with window (known_of window lines) (item_line line)
-known_line window lines line = ap (known_from window nothing_known) (map-append item_line lines (line ∷ [])) ∙ known_more window nothing_known (items_of lines) (item_line line)
+known_line window lines line = ap (known_from window nothing_known) (map-append item_line lines (line ∷ [])) ∙ known_more window nothing_known (line_items_of lines) (item_line line)
 
 -- the log of lines begins with that of the first of them
 pub log_more : (window : ℕ) (lines more : List Line)
-    → log_of window (lines ++ more) ≡ log_of window lines ++ log_from window (known_of window lines) (2 + length lines) (items_of more)
+    → log_of window (lines ++ more) ≡ log_of window lines ++ log_from window (known_of window lines) (2 + length lines) (line_items_of more)
 log_more window lines more =
     ap (log_from window nothing_known 2) (map-append item_line lines more)
-    ∙ log_append window nothing_known 2 (2 + length lines) (items_of lines) (items_of more) (omega (arith, length-map lines item_line))
+    ∙ log_append window nothing_known 2 (2 + length lines) (line_items_of lines) (line_items_of more) (omega (arith, length-map lines item_line))
 
 -- one more line is the next one
 pub log_line : (window m : ℕ) (lines : List Line) (line : Line) → m ≡ 2 + length lines
@@ -70,7 +70,7 @@ log_line window m lines line e =
     ∙ ap (λ (k : ℕ). log_of window lines ++ log_from window (known_of window lines) k (item_line line ∷ [])) (sym e)
     ∙ ap (λ (l : List Noted). log_of window lines ++ l) (append-nil (noted m (events_of window (known_of window lines) (item_line line))))
 
--- ---- parts, reports and counts of a log and more behind it
+-- ---- parts, reports and counts of concatenated logs
 
 pub parts_append : (log more : List Noted) → parts_in (log ++ more) ≡ parts_in log ++ parts_in more
 parts_append log more = flat_map-append (λ (n : Noted). parts_of_event n.event) log more
@@ -96,7 +96,7 @@ add_count t k l n e = omega (arith, e)
 pub tally_append : (t : Tally) (log more : List Noted) → tallied t (log ++ more) ≡ tallied (tallied t log) more
 tally_append t log more =
     same_tally _ _ _ _ _ _ _ _ (add_count t.malformed _ _ _ (count_append is_malformed log more)) (add_count t.late _ _ _ (count_append is_late_event log more))
-    (add_count t.refused _ _ _ (count_append is_refused log more)) (add_count t.unused _ _ _ (count_append is_unused log more))
+    (add_count t.refused _ _ _ (count_append is_refused_event log more)) (add_count t.unused _ _ _ (count_append is_unused log more))
 
 -- ---- how many parts
 
@@ -239,7 +239,7 @@ square_next n k m e =
     sum_next : (p n k : ℕ) → p + n + (n + k) + 1 ≡ p + 2 * n + k + 1
     sum_next p n k = omega arith
 
--- one more line: its parts, and the halves that are known
+-- one more line: its parts, and the page parts that are known
 pub parts_line : (window : ℕ) (lines : List Line) (line : Line) → length (known_of window lines).halves ≤ length lines
     → length (parts_of window lines) ≤ length lines * (length lines + 4)
     → length (parts_of window (lines ++ line ∷ [])) ≤ length (lines ++ line ∷ []) * (length (lines ++ line ∷ []) + 4)

@@ -6,7 +6,7 @@ use Rattle.std.specs.Io.KnownBytes.{Appends}
 use Rattle.std.proofs.KnownBytes.{Appends-nil, Appends-trans}
 use Rattle.std.proofs.lemmas.Grind.{flat_map-append}
 use Rattle.std.proofs.lemmas.List.Sums.{sum-map, sum_by-append}
-use Rattle.nav_io.specs.Front.{AppendsFront}
+use Rattle.nav_io.specs.Prefix.{AppendsPrefix}
 use Rattle.nav_eph.specs.declared.part.Part.{Part}
 use Rattle.slot_assembly.specs.Standing.{Standing, Carries, adding}
 use Rattle.slot_assembly.proofs.Surface.{adding_none, adding_more}
@@ -14,7 +14,7 @@ use Rattle.capture_log.specs.Log.{Noted, parts_in, parts_of_event}
 use Rattle.capture_log.specs.declared.event.Event.{Event}
 use Rattle.captures.specs.declared.counts.Tally.{Tally}
 use Rattle.one_run.specs.declared.fault.BridgeFault.{BridgeFault}
-use Rattle.captures.specs.Reports.{count_in, is_malformed, is_late, is_refused, is_unused}
+use Rattle.captures.specs.Reports.{count_in, is_malformed, is_late, is_refused_event, is_unused}
 use Rattle.captures.specs.Notes.{Notes, Takes, line_report, tallied}
 
 -- ---- logs after logs
@@ -41,7 +41,7 @@ pub tallied-append : (t : Tally) (xs ys : List Noted) → tallied (tallied t xs)
 tallied-append t xs ys =
     tally_is (tallied (tallied t xs) ys) _ _ _ _
     (omega (arith, count_in-append is_malformed xs ys)) (omega (arith, count_in-append is_late xs ys))
-    (omega (arith, count_in-append is_refused xs ys)) (omega (arith, count_in-append is_unused xs ys))
+    (omega (arith, count_in-append is_refused_event xs ys)) (omega (arith, count_in-append is_unused xs ys))
 
 -- ---- notes
 
@@ -60,30 +60,30 @@ notes_more a b c u v w r s t xs ys first second = record {
   counts = second.counts ∙ ap (λ (x : Tally). tallied x ys) first.counts ∙ tallied-append r xs ys;
 }
 
--- a report that broke off, behind what was reported, and in front of what would have been
-pub front_more : (u v w : Option (List ℕ)) (xs ys : List Noted) → Appends u v (line_report xs) → AppendsFront v w (line_report ys) → AppendsFront u w (line_report (xs ++ ys))
-front_more u v w xs ys out (front, whole, more) = (
-  line_report xs ++ front,
+-- a report that broke off: it continues what was reported, and is a prefix of what would have been
+pub prefix_more : (u v w : Option (List ℕ)) (xs ys : List Noted) → Appends u v (line_report xs) → AppendsPrefix v w (line_report ys) → AppendsPrefix u w (line_report (xs ++ ys))
+prefix_more u v w xs ys out (prefix, whole, more) = (
+  line_report xs ++ prefix,
   (
     whole.0,
-    line_report-append xs ys ∙ ap (λ (l : List ℕ). line_report xs ++ l) whole.1 ∙ sym (append_assoc (line_report xs) front whole.0),
+    line_report-append xs ys ∙ ap (λ (l : List ℕ). line_report xs ++ l) whole.1 ∙ sym (append_assoc (line_report xs) prefix whole.0),
   ),
-  Appends-trans u v w (line_report xs) front out more,
+  Appends-trans u v w (line_report xs) prefix out more,
 )
 
-pub front_longer : (u w : Option (List ℕ)) (xs ys : List Noted) → AppendsFront u w (line_report xs) → AppendsFront u w (line_report (xs ++ ys))
-front_longer u w xs ys (front, whole, out) = (
-  front,
+pub prefix_longer : (u w : Option (List ℕ)) (xs ys : List Noted) → AppendsPrefix u w (line_report xs) → AppendsPrefix u w (line_report (xs ++ ys))
+prefix_longer u w xs ys (prefix, whole, out) = (
+  prefix,
   (
     whole.0 ++ line_report ys,
-    line_report-append xs ys ∙ ap (λ (l : List ℕ). l ++ line_report ys) whole.1 ∙ append_assoc front whole.0 (line_report ys),
+    line_report-append xs ys ∙ ap (λ (l : List ℕ). l ++ line_report ys) whole.1 ∙ append_assoc prefix whole.0 (line_report ys),
   ),
   out,
 )
 
 -- nothing was reported
-pub front_none : (w : Option (List ℕ)) (xs : List Noted) → AppendsFront w w (line_report xs)
-front_none w xs = ([], (line_report xs, refl), Appends-nil w)
+pub prefix_none : (w : Option (List ℕ)) (xs : List Noted) → AppendsPrefix w w (line_report xs)
+prefix_none w xs = ([], (line_report xs, refl), Appends-nil w)
 
 -- the same log in other words
 pub takes_of : {T : Type 0} (old new : Standing → Type 0) (v w : Option (List ℕ)) (s t : Tally) (xs ys : List Noted) (result : Result T BridgeFault) → xs ≡ ys

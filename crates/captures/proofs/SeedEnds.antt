@@ -1,10 +1,10 @@
--- How a run over a generated capture ends, from how its half ends.
+-- How a run over a generated capture ends, from how its branch ends.
 use Rattle.std.proofs.Common.{◌≡◌, ℕ, Bool, true, false, List, [], length, refl, sym, ap, subst, ◌∙◌, arith}
 use Rattle.std.specs.Prelude.{Option, None, Some, IsSome, Result, Ok, Err}
 use Rattle.std.proofs.lemmas.Bool.{true≢false}
 use Rattle.std.specs.Io.KnownBytes.{Appends}
 use Rattle.std.proofs.KnownBytes.{Appends-nil}
-use Rattle.nav_io.specs.Front.{AppendsFront}
+use Rattle.nav_io.specs.Prefix.{AppendsPrefix}
 use Rattle.nav_vectors.specs.Text.{capture_text}
 use Rattle.one_run.specs.Causes.{Faults, faults_of}
 use Rattle.one_run.specs.Runs.{Broke, Done, Ended, Says, World}
@@ -49,12 +49,12 @@ seed_says to seed n r b a TooLong reports h = absurd h
 seed_says to seed n r b a NoMemory reports h = (refl, refl)
 
 broke_by : {S T U : Type 0} (to : SeedTo) (seed n r : ℕ) (b a : World S T U) (fault : BridgeFault) → a.input ≡ b.input → (is_counted to ≡ false → a.report ≡ b.report) → (fault ≡ ReportFault → is_counted to ≡ true)
-    → AppendsFront b.written a.written (seed_output to seed n r) → AppendsFront b.reported a.reported (seed_report to seed n r)
+    → AppendsPrefix b.written a.written (seed_output to seed n r) → AppendsPrefix b.reported a.reported (seed_report to seed n r)
     → IsSeedFault (faults_of 0 b.writes_failed b.reports_failed) (faults_of 0 a.writes_failed a.reports_failed) fault → Broke (seed_meaning to seed n r) b a fault
 broke_by to seed n r b a fault unread silent reports text told cause = record {
   taken = [];
   consumes = refl;
-  text = record { front = text.0; within = text.1; no_less = (text.0, refl); grew = text.2 };
+  text = record { prefix = text.0; within = text.1; no_less = (text.0, refl); grew = text.2 };
   told = told;
   leaves = record { unread = λ e. unread; silent = silent };
   says = seed_says to seed n r b a fault reports cause;
@@ -74,7 +74,7 @@ written_by seed n r text b a (Ok counts) same unread unsaid reads reports told h
     done_by seeds.Capture seed n r b a counts unread (λ e. unsaid) (subst (Appends b.written a.written) same h.0) told (h.1 ∙ ap (λ (l : List ℕ). Written (length l)) same) reads
     (ap (λ (f : Faults). f.output) h.2) reports
 written_by seed n r text b a (Err WriteFault) same unread unsaid reads reports told h =
-    broke_by seeds.Capture seed n r b a WriteFault unread (λ e. unsaid) (λ e. absurd cc) (subst (AppendsFront b.written a.written) same h.0) ([], ([], refl), told) h.1
+    broke_by seeds.Capture seed n r b a WriteFault unread (λ e. unsaid) (λ e. absurd cc) (subst (AppendsPrefix b.written a.written) same h.0) ([], ([], refl), told) h.1
 written_by seed n r text b a (Err ReadFault) same unread unsaid reads reports told h = absurd h
 written_by seed n r text b a (Err ReportFault) same unread unsaid reads reports told h = absurd h
 written_by seed n r text b a (Err NotThisForm) same unread unsaid reads reports told h = absurd h
@@ -109,7 +109,7 @@ counted_by seed n r b a (Ok counts) capture output report unread reads h =
     done_by seeds.Count seed n r b a counts unread (λ e. absurd (true≢false e)) (subst (Appends b.written a.written) output h.wrote) (subst (Appends b.reported a.reported) report h.told)
     (known_counts counts (capture_of (Some r) (capture_text seed n r)) (generated seed n r) h.of capture h.of_is h.counted) reads (ap (λ (f : Faults). f.output) h.quiet) (ap (λ (f : Faults). f.report) h.quiet)
 counted_by seed n r b a (Err fault) capture output report unread reads h =
-    broke_by seeds.Count seed n r b a fault unread (λ e. absurd (true≢false e)) (λ e. refl) (subst (AppendsFront b.written a.written) output h.0.0) (subst (AppendsFront b.reported a.reported) report h.0.1) h.1
+    broke_by seeds.Count seed n r b a fault unread (λ e. absurd (true≢false e)) (λ e. refl) (subst (AppendsPrefix b.written a.written) output h.0.0) (subst (AppendsPrefix b.reported a.reported) report h.0.1) h.1
 
 pub ended_count : {S T U : Type 0} (to : SeedTo) (seed n r : ℕ) (text : List ℕ) (b a : World S T U) (result : Result SeedCounts BridgeFault) → to ≡ seeds.Count → text ≡ capture_text seed n r
     → capture_of (Some r) (capture_text seed n r) ≡ Some (generated seed n r)

@@ -1,4 +1,4 @@
--- What a subframe brings is not before the stamp of its line.
+-- What a subframe yields is not before the stamp of its line.
 use Rattle.std.proofs.Common.{◌≡◌, ℕ, ◌≤◌, Result, Ok, Err, refl}
 use Rattle.nav_eph.specs.declared.part.Part.{Part}
 use Rattle.lnav_subframe.specs.declared.fault.LnavFault.{LnavFault}

@@ -15,17 +15,17 @@ pub weights-append : (es fs : List Event) → weights (es ++ fs) ≡ weights es 
 weights-append [] fs = omega arith
 weights-append (e ∷ es) fs = omega (arith, weights-append es fs)
 
-weights_front : (es : List Event) (i : ℕ) → weights (take i es) ≤ weights es
-weights_front [] zero = omega arith
-weights_front [] (suc i) = omega arith
-weights_front (e ∷ es) zero = omega arith
-weights_front (e ∷ es) (suc i) = omega (arith, weights_front es i)
+weights_prefix : (es : List Event) (i : ℕ) → weights (take i es) ≤ weights es
+weights_prefix [] zero = omega arith
+weights_prefix [] (suc i) = omega arith
+weights_prefix (e ∷ es) zero = omega arith
+weights_prefix (e ∷ es) (suc i) = omega (arith, weights_prefix es i)
 
--- what was weighed and the next one are no more than all
+-- the weight so far and that of the next event are no more than the whole weight
 pub weights_one : (es : List Event) (i : ℕ) (e : Event) → i < length es → e ≡ get_or es i e → weights (take i es) + weight e ≤ weights es
 weights_one es i e within is =
     let more = ap weights (take_one es i e within is) in
-    omega (arith, more, weights_front es (i + 1), weights-append (take i es) (e ∷ []))
+    omega (arith, more, weights_prefix es (i + 1), weights-append (take i es) (e ∷ []))
 
 pub weights_more : (es : List Event) (i : ℕ) (e : Event) → i < length es → e ≡ get_or es i e → weights (take (i + 1) es) ≡ weights (take i es) + weight e
 weights_more es i e within is = omega (arith, ap weights (take_one es i e within is), weights-append (take i es) (e ∷ []))
@@ -41,7 +41,7 @@ from_one stamp es i e within is from = subst (λ (x : Event). IfHeard x (λ part
 pub noted-append : (number : ℕ) (es fs : List Event) → noted number (es ++ fs) ≡ noted number es ++ noted number fs
 noted-append number es fs = map-append (λ (e : Event). record { line = number; event = e }) es fs
 
--- all events are those before one, that one, and those behind it
+-- a list of events is those before one, that one, and those after it
 pub noted_split : (number : ℕ) (es : List Event) (i : ℕ) (e : Event) → i < length es → e ≡ get_or es i e
     → noted number es ≡ (noted number (take i es) ++ noted number (e ∷ [])) ++ noted number (drop (i + 1) es)
 noted_split number es i e within is =

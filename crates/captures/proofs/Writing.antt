@@ -7,28 +7,28 @@ use Rattle.std.proofs.lemmas.Grind.{flat_map-append}
 use Rattle.std.proofs.lemmas.List.Sums.{sum-map, sum_by-cons}
 use Rattle.std.specs.List.{sum_by}
 use Rattle.nav_eph.specs.declared.part.Part.{Part}
-use Rattle.nav_io.specs.Front.{AppendsFront, IsFront}
-use Rattle.periods.specs.PeriodLists.{IsPrefix}
+use Rattle.nav_io.specs.Prefix.{AppendsPrefix, IsPrefix}
+use Rattle.periods.specs.PeriodLists.{IsPeriodPrefix}
 use Rattle.periods.specs.PeriodsOf.{closed_of, periods_of}
 use Rattle.periods.specs.Verdicts.{closed_place}
 use Rattle.periods.specs.declared.closed.Closed.{Closed}
 use Rattle.periods.specs.declared.closed.Verdict.{Verdict}
 use Rattle.periods.specs.declared.closed.Verdict.TheVariants.{Whole, Partial, Contradicted, NoHealth, Again}
-use Rattle.periods.proofs.Surface.{closed_of-front}
+use Rattle.periods.proofs.Surface.{closed_of-prefix}
 use Rattle.slot_assembly.specs.Standing.{Standing, Tells, Carries, IsNext, NoneDue, giving, reaching}
-use Rattle.slot_assembly.proofs.Surface.{Gives, HasValues, gives_start, gives_more, gives_all, gives_front}
+use Rattle.slot_assembly.proofs.Surface.{Gives, HasValues, gives_start, gives_more, gives_all, gives_prefix}
 use Rattle.outlets.specs.declared.target.Target.{Target}
 use Rattle.captures.specs.declared.counts.Said.{Said}
 use Rattle.outlets.specs.Targets.{period_text}
 use Rattle.captures.specs.Captures.{texts_of, verdicts, is_whole, is_partial, is_contradicted, is_nohealth, is_again}
 use Rattle.one_run.specs.Runs.{AppendsBetween}
-use Rattle.captures.specs.Settled.{HasRoom, Settled, said, said_of, total_said}
+use Rattle.captures.specs.Flushed.{HasRoom, Flushed, said, said_of, total_said}
 
 -- ---- texts of periods
 
--- the texts of some periods are a front of those of more
-pub texts_front : (to : Target) (xs ys : List Closed) → IsPrefix xs ys → IsFront (texts_of to xs) (texts_of to ys)
-texts_front to xs ys (rest, e) = (texts_of to rest, ap (texts_of to) e ∙ flat_map-append (period_text to) xs rest)
+-- the texts of some periods are a prefix of those of more
+pub texts_prefix : (to : Target) (xs ys : List Closed) → IsPeriodPrefix xs ys → IsPrefix (texts_of to xs) (texts_of to ys)
+texts_prefix to xs ys (rest, e) = (texts_of to rest, ap (texts_of to) e ∙ flat_map-append (period_text to) xs rest)
 
 -- ---- counts of periods
 
@@ -83,74 +83,75 @@ all_said (c ∷ cs) =
 
 -- ---- the periods given so far
 
--- Of the parts all was given that is closed at the first mark, and behind it some of what is closed at the second; the texts of these were written, and they were counted.
-pub record Writes (now : Standing → Type 0) (r w : ℕ) (to : Target) (before mark : ℕ) (parts : List Part) (start written : Option (List ℕ)) (counted : Said) : Type 0 where
+-- Of the parts all periods closed at the first watermark were given, and then some of those closed at the second; the texts of
+-- these were written, and they were counted.
+pub record Writes (now : Standing → Type 0) (r w : ℕ) (to : Target) (before watermark : ℕ) (parts : List Part) (start written : Option (List ℕ)) (counted : Said) : Type 0 where
   pub given : List Closed
-  pub gives : Gives now r w before mark parts given
+  pub gives : Gives now r w before watermark parts given
   pub text : Appends start written (texts_of to given)
   pub counts : counted ≡ said_of given
 
-pub writes_start : (now : Standing → Type 0) (r w : ℕ) (to : Target) (before mark : ℕ) (parts : List Part) (start written : Option (List ℕ)) (counted : Said)
-    → HasValues now → before ≤ mark → Settled now r w to parts before start written counted → Writes now r w to before mark parts start written counted
-writes_start now r w to before mark parts start written counted values l s = record {
+pub writes_start : (now : Standing → Type 0) (r w : ℕ) (to : Target) (before watermark : ℕ) (parts : List Part) (start written : Option (List ℕ)) (counted : Said)
+    → HasValues now → before ≤ watermark → Flushed now r w to parts before start written counted → Writes now r w to before watermark parts start written counted
+writes_start now r w to before watermark parts start written counted values l s = record {
   given = closed_of r w before parts;
-  gives = gives_start now r w before mark parts values l s.stands;
+  gives = gives_start now r w before watermark parts values l s.stands;
   text = s.text;
   counts = s.counts;
 }
 
 -- a period was given, written and counted
-pub writes_more : (now new : Standing → Type 0) (r w : ℕ) (to : Target) (before mark : ℕ) (parts : List Part) (start written written_new : Option (List ℕ)) (counted counted_new : Said) (c : Closed)
-    → HasValues now → Tells now (λ at. IsNext r w (Contains at.parts) mark at.last c) → Carries now new (giving mark (closed_place c))
+pub writes_more : (now new : Standing → Type 0) (r w : ℕ) (to : Target) (before watermark : ℕ) (parts : List Part) (start written written_new : Option (List ℕ)) (counted counted_new : Said) (c : Closed)
+    → HasValues now → Tells now (λ at. IsNext r w (Contains at.parts) watermark at.last c) → Carries now new (giving watermark (closed_place c))
     → Appends written written_new (period_text to c) → counted_new ≡ said counted c.verdict
-    → Writes now r w to before mark parts start written counted → Writes new r w to before mark parts start written_new counted_new
-writes_more now new r w to before mark parts start written written_new counted counted_new c values next carries out one h = record {
+    → Writes now r w to before watermark parts start written counted → Writes new r w to before watermark parts start written_new counted_new
+writes_more now new r w to before watermark parts start written written_new counted counted_new c values next carries out one h = record {
   given = h.given ++ c ∷ [];
-  gives = gives_more now new r w before mark parts h.given c values next carries h.gives;
+  gives = gives_more now new r w before watermark parts h.given c values next carries h.gives;
   text = subst (Appends start written_new) (ap (λ l. texts_of to h.given ++ l) (sym (append-nil (period_text to c))) ∙ sym (flat_map-append (period_text to) h.given (c ∷ [])))
       (Appends-trans start written written_new (texts_of to h.given) (period_text to c) h.text out);
   counts = one ∙ ap (λ s. said s c.verdict) h.counts ∙ sym (said_more h.given c);
 }
 
 -- what was written so far
-pub writes_some : (now : Standing → Type 0) (r w : ℕ) (to : Target) (before mark : ℕ) (parts : List Part) (start written : Option (List ℕ)) (counted : Said)
-    → HasValues now → Writes now r w to before mark parts start written counted
-    → AppendsBetween start written (texts_of to (closed_of r w before parts)) (texts_of to (closed_of r w mark parts))
-writes_some now r w to before mark parts start written counted values h = record {
-  front = texts_of to h.given;
-  within = texts_front to h.given (closed_of r w mark parts) (gives_front now r w before mark parts h.given values h.gives);
-  no_less = texts_front to (closed_of r w before parts) h.given h.gives.no_less;
+pub writes_some : (now : Standing → Type 0) (r w : ℕ) (to : Target) (before watermark : ℕ) (parts : List Part) (start written : Option (List ℕ)) (counted : Said)
+    → HasValues now → Writes now r w to before watermark parts start written counted
+    → AppendsBetween start written (texts_of to (closed_of r w before parts)) (texts_of to (closed_of r w watermark parts))
+writes_some now r w to before watermark parts start written counted values h = record {
+  prefix = texts_of to h.given;
+  within = texts_prefix to h.given (closed_of r w watermark parts) (gives_prefix now r w before watermark parts h.given values h.gives);
+  no_less = texts_prefix to (closed_of r w before parts) h.given h.gives.no_less;
   grew = h.text;
 }
 
 -- a write failed at the text of a period
-pub writes_part : (now new : Standing → Type 0) (r w : ℕ) (to : Target) (before mark : ℕ) (parts : List Part) (start written written_new : Option (List ℕ)) (counted : Said) (c : Closed)
-    → HasValues now → HasValues new → Tells now (λ at. IsNext r w (Contains at.parts) mark at.last c) → Carries now new (giving mark (closed_place c))
-    → AppendsFront written written_new (period_text to c) → Writes now r w to before mark parts start written counted
-    → AppendsBetween start written_new (texts_of to (closed_of r w before parts)) (texts_of to (closed_of r w mark parts))
-writes_part now new r w to before mark parts start written written_new counted c values values_new next carries (front, (behind, whole), out) h =
-    let more = gives_more now new r w before mark parts h.given c values next carries h.gives in
-    let within = texts_front to (h.given ++ c ∷ []) (closed_of r w mark parts) (gives_front new r w before mark parts (h.given ++ c ∷ []) values_new more) in
-    let less = texts_front to (closed_of r w before parts) h.given h.gives.no_less in
+pub writes_part : (now new : Standing → Type 0) (r w : ℕ) (to : Target) (before watermark : ℕ) (parts : List Part) (start written written_new : Option (List ℕ)) (counted : Said) (c : Closed)
+    → HasValues now → HasValues new → Tells now (λ at. IsNext r w (Contains at.parts) watermark at.last c) → Carries now new (giving watermark (closed_place c))
+    → AppendsPrefix written written_new (period_text to c) → Writes now r w to before watermark parts start written counted
+    → AppendsBetween start written_new (texts_of to (closed_of r w before parts)) (texts_of to (closed_of r w watermark parts))
+writes_part now new r w to before watermark parts start written written_new counted c values values_new next carries (prefix, (behind, whole), out) h =
+    let more = gives_more now new r w before watermark parts h.given c values next carries h.gives in
+    let within = texts_prefix to (h.given ++ c ∷ []) (closed_of r w watermark parts) (gives_prefix new r w before watermark parts (h.given ++ c ∷ []) values_new more) in
+    let less = texts_prefix to (closed_of r w before parts) h.given h.gives.no_less in
     record {
-      front = texts_of to h.given ++ front;
+      prefix = texts_of to h.given ++ prefix;
       within = (
         behind ++ within.0,
         within.1
             ∙ ap (λ (l : List ℕ). l ++ within.0) (flat_map-append (period_text to) h.given (c ∷ []) ∙ ap (λ (l : List ℕ). texts_of to h.given ++ l) (append-nil (period_text to c) ∙ whole))
-            ∙ ap (λ (l : List ℕ). l ++ within.0) (sym (append_assoc (texts_of to h.given) front behind))
-            ∙ append_assoc (texts_of to h.given ++ front) behind within.0,
+            ∙ ap (λ (l : List ℕ). l ++ within.0) (sym (append_assoc (texts_of to h.given) prefix behind))
+            ∙ append_assoc (texts_of to h.given ++ prefix) behind within.0,
       );
-      no_less = (less.0 ++ front, ap (λ (l : List ℕ). l ++ front) less.1 ∙ append_assoc (texts_of to (closed_of r w before parts)) less.0 front);
-      grew = Appends-trans start written written_new (texts_of to h.given) front h.text out;
+      no_less = (less.0 ++ prefix, ap (λ (l : List ℕ). l ++ prefix) less.1 ∙ append_assoc (texts_of to (closed_of r w before parts)) less.0 prefix);
+      grew = Appends-trans start written written_new (texts_of to h.given) prefix h.text out;
     }
 
 -- nothing more is closed
-pub writes_all : (now new : Standing → Type 0) (r w : ℕ) (to : Target) (before mark : ℕ) (parts : List Part) (start written : Option (List ℕ)) (counted : Said)
-    → HasValues now → Tells now (λ at. NoneDue w (Contains at.parts) mark at.last) → Carries now new (reaching mark)
-    → Writes now r w to before mark parts start written counted → Settled new r w to parts mark start written counted
-writes_all now new r w to before mark parts start written counted values none carries h =
-    let all = gives_all now new r w before mark parts h.given values none carries h.gives in
+pub writes_all : (now new : Standing → Type 0) (r w : ℕ) (to : Target) (before watermark : ℕ) (parts : List Part) (start written : Option (List ℕ)) (counted : Said)
+    → HasValues now → Tells now (λ at. NoneDue w (Contains at.parts) watermark at.last) → Carries now new (reaching watermark)
+    → Writes now r w to before watermark parts start written counted → Flushed new r w to parts watermark start written counted
+writes_all now new r w to before watermark parts start written counted values none carries h =
+    let all = gives_all now new r w before watermark parts h.given values none carries h.gives in
     record {
       stands = all.0;
       text = subst (λ (cs : List Closed). Appends start written (texts_of to cs)) all.1 h.text;
@@ -159,46 +160,46 @@ writes_all now new r w to before mark parts start written counted values none ca
 
 -- ---- the counts have room
 
--- some parts of fewer than 2^64 periods, of which those given so far were counted
-pub record Counts (now : Standing → Type 0) (r w mark : ℕ) (counted : Said) : Type 0 where
+-- parts of fewer than 2^64 periods, of which those given so far were counted
+pub record Counts (now : Standing → Type 0) (r w watermark : ℕ) (counted : Said) : Type 0 where
   pub parts : List Part
   pub before : ℕ
   pub few : length (periods_of r w parts) < 2 ^ 64
   pub given : List Closed
-  pub gives : Gives now r w before mark parts given
+  pub gives : Gives now r w before watermark parts given
   pub counts : counted ≡ said_of given
 
-pub counts_start : (now : Standing → Type 0) (r w mark : ℕ) (counted : Said) → HasValues now → HasRoom now r w mark counted → Counts now r w mark counted
-counts_start now r w mark counted values room = record {
+pub counts_start : (now : Standing → Type 0) (r w watermark : ℕ) (counted : Said) → HasValues now → HasRoom now r w watermark counted → Counts now r w watermark counted
+counts_start now r w watermark counted values room = record {
   parts = room.parts;
   before = room.before;
   few = room.few;
   given = closed_of r w room.before room.parts;
-  gives = gives_start now r w room.before mark room.parts values room.low room.stands;
+  gives = gives_start now r w room.before watermark room.parts values room.low room.stands;
   counts = room.counts;
 }
 
-pub counts_more : (now new : Standing → Type 0) (r w mark : ℕ) (counted counted_new : Said) (c : Closed) → HasValues now
-    → Tells now (λ at. IsNext r w (Contains at.parts) mark at.last c) → Carries now new (giving mark (closed_place c)) → counted_new ≡ said counted c.verdict
-    → Counts now r w mark counted → Counts new r w mark counted_new
-counts_more now new r w mark counted counted_new c values next carries one h = record {
+pub counts_more : (now new : Standing → Type 0) (r w watermark : ℕ) (counted counted_new : Said) (c : Closed) → HasValues now
+    → Tells now (λ at. IsNext r w (Contains at.parts) watermark at.last c) → Carries now new (giving watermark (closed_place c)) → counted_new ≡ said counted c.verdict
+    → Counts now r w watermark counted → Counts new r w watermark counted_new
+counts_more now new r w watermark counted counted_new c values next carries one h = record {
   parts = h.parts;
   before = h.before;
   few = h.few;
   given = h.given ++ c ∷ [];
-  gives = gives_more now new r w h.before mark h.parts h.given c values next carries h.gives;
+  gives = gives_more now new r w h.before watermark h.parts h.given c values next carries h.gives;
   counts = one ∙ ap (λ s. said s c.verdict) h.counts ∙ sym (said_more h.given c);
 }
 
-prefix_length : (xs ys : List Closed) → IsPrefix xs ys → length xs ≤ length ys
+prefix_length : (xs ys : List Closed) → IsPeriodPrefix xs ys → length xs ≤ length ys
 prefix_length xs ys (rest, e) = omega (arith, ap length e, length-append xs rest)
 
 -- a period that is given can be counted
-pub counts_one : (now new : Standing → Type 0) (r w mark : ℕ) (counted : Said) (c : Closed) → HasValues now → HasValues new
-    → Tells now (λ at. IsNext r w (Contains at.parts) mark at.last c) → Carries now new (giving mark (closed_place c))
-    → Counts now r w mark counted → total_said counted + 1 < 2 ^ 64
-counts_one now new r w mark counted c values values_new next carries h =
-    let more = gives_more now new r w h.before mark h.parts h.given c values next carries h.gives in
-    let closed = prefix_length (h.given ++ c ∷ []) (closed_of r w mark h.parts) (gives_front new r w h.before mark h.parts (h.given ++ c ∷ []) values_new more) in
-    let all = prefix_length (closed_of r w mark h.parts) (periods_of r w h.parts) (closed_of-front r w mark h.parts) in
+pub counts_one : (now new : Standing → Type 0) (r w watermark : ℕ) (counted : Said) (c : Closed) → HasValues now → HasValues new
+    → Tells now (λ at. IsNext r w (Contains at.parts) watermark at.last c) → Carries now new (giving watermark (closed_place c))
+    → Counts now r w watermark counted → total_said counted + 1 < 2 ^ 64
+counts_one now new r w watermark counted c values values_new next carries h =
+    let more = gives_more now new r w h.before watermark h.parts h.given c values next carries h.gives in
+    let closed = prefix_length (h.given ++ c ∷ []) (closed_of r w watermark h.parts) (gives_prefix new r w h.before watermark h.parts (h.given ++ c ∷ []) values_new more) in
+    let all = prefix_length (closed_of r w watermark h.parts) (periods_of r w h.parts) (closed_of-prefix r w watermark h.parts) in
     omega (arith, closed, all, h.few, all_said h.given, ap total_said h.counts, length-append h.given (c ∷ []))

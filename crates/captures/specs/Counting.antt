@@ -1,8 +1,8 @@
--- How the two halves of a run end. Private functions cite these.
+-- How the two branches of a run from a seed end: the capture is written, or counted. Private functions cite these.
 use Rattle.std.specs.Prelude.{◌≡◌, ℕ, List, length, Option, Some, Result, Ok, Err}
 use Rattle.std.specs.Io.KnownBytes.{Appends}
 use Rattle.nav_io.specs.Causes.{Rose}
-use Rattle.nav_io.specs.Front.{AppendsFront}
+use Rattle.nav_io.specs.Prefix.{AppendsPrefix}
 use Rattle.one_run.specs.Causes.{Faults}
 use Rattle.one_run.specs.declared.fault.BridgeFault.{BridgeFault}
 use Rattle.one_run.specs.declared.fault.BridgeFault.TheVariants.{ReadFault, WriteFault, ReportFault, TooLong, NoMemory, NotThisForm}
@@ -12,7 +12,7 @@ use Rattle.captures.specs.Captures.{capture_of, counts_in, output_of, report_of_
 use Rattle.captures.specs.declared.seed_target.SeedCounts.{SeedCounts}
 use Rattle.captures.specs.declared.seed_target.SeedCounts.TheVariants.{Written, Counted}
 
--- the counts of an object that failed rose, and neither the input nor its form nor its length is at fault
+-- the fault count of the output or report that failed rose; the input, its form and its length are never at fault
 abbrev pub IsSeedFault : Faults → Faults → BridgeFault → Type 0
 IsSeedFault before now ReadFault = ⊥
 IsSeedFault before now WriteFault = Rose before.output now.output
@@ -21,12 +21,12 @@ IsSeedFault before now NotThisForm = ⊥
 IsSeedFault before now TooLong = ⊥
 IsSeedFault before now NoMemory = Unit {0}
 
--- the text was written, or a front of it
+-- the text was written, or a prefix of it
 abbrev pub WritesText : List ℕ → Option (List ℕ) → Option (List ℕ) → Faults → Faults → Result SeedCounts BridgeFault → Type 0
 WritesText text written written_new before now (Ok counts) =
     Appends written written_new text × (counts ≡ Written (length text)) × (now ≡ before)
 WritesText text written written_new before now (Err WriteFault) =
-    AppendsFront written written_new text × Rose before.output now.output
+    AppendsPrefix written written_new text × Rose before.output now.output
 WritesText text written written_new before now (Err fault) = ⊥
 
 -- the capture was counted, and its counts written and reported
@@ -38,12 +38,12 @@ pub record CountDone (r : ℕ) (text : List ℕ) (written written_new reported r
   pub counted : counts ≡ Counted of
   pub quiet : now ≡ before
 
--- a front was written and reported of what the text gives
+-- prefixes of what the text gives were written and reported
 abbrev pub CountBroke : ℕ → List ℕ → Option (List ℕ) → Option (List ℕ) → Option (List ℕ) → Option (List ℕ) → Type 0
 CountBroke r text written written_new reported reported_new =
-    AppendsFront written written_new (output_of Count (Some r) text) × AppendsFront reported reported_new (report_of_capture (Some r) text)
+    AppendsPrefix written written_new (output_of Count (Some r) text) × AppendsPrefix reported reported_new (report_of_capture (Some r) text)
 
--- how it ends
+-- how counting the capture of a text ends
 abbrev pub CountsText : ℕ → List ℕ → Option (List ℕ) → Option (List ℕ) → Option (List ℕ) → Option (List ℕ) → Faults → Faults → Result SeedCounts BridgeFault → Type 0
 CountsText r text written written_new reported reported_new before now (Ok counts) =
     CountDone r text written written_new reported reported_new before now counts

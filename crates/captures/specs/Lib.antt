@@ -4,6 +4,6 @@ pub mod Reports
 pub mod Captures
 pub mod Runs
 pub mod Notes
-pub mod Settled
-pub mod Follows
+pub mod Flushed
+pub mod Converts
 pub mod Hearings

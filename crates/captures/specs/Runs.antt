@@ -1,14 +1,14 @@
--- What is written at the end of a run alone.
+-- Output that is written only at the end of a run.
 use Rattle.std.specs.Prelude.{◌⊎◌, ℕ, List, [], Option}
 use Rattle.std.specs.Io.KnownBytes.{Appends, Consumes, IsAtEnd}
-use Rattle.nav_io.specs.Front.{AppendsFront}
+use Rattle.nav_io.specs.Prefix.{AppendsPrefix}
 
--- the input was read to its end: these bytes were taken, and a front was written of what they give
+-- the input was read to its end: these are its bytes, and a prefix of their output was written
 pub record ReadsAll (output : List ℕ → List ℕ) (left left_new written written_new : Option (List ℕ)) : Type 0 where
   pub taken : List ℕ
   pub consumes : Consumes left left_new taken
   pub end : IsAtEnd left_new
-  pub text : AppendsFront written written_new (output taken)
+  pub text : AppendsPrefix written written_new (output taken)
 
 -- nothing is written before the input was read to its end
 abbrev pub WritesLast : (List ℕ → List ℕ) → Option (List ℕ) → Option (List ℕ) → Option (List ℕ) → Option (List ℕ) → Type 0

@@ -1,9 +1,9 @@
-//! What the lines of a capture bring: parts go to the assembly, refusals to the report, and the
+//! What the lines of a capture yield: parts go to the assembly, refusals to the report, and the
 //! rest is counted.
 
 ghost use Rattle.std.specs.Prelude.{◌≡◌, ◌+◌, ◌^◌, ◌<◌, ◌≤◌, ◌∷◌, [], codes, length, OnOk, OnErr};
 ghost use Rattle.std.specs.Io.KnownBytes.{Appends};
-ghost use Rattle.nav_io.specs.Front.{AppendsFront};
+ghost use Rattle.nav_io.specs.Prefix.{AppendsPrefix};
 ghost use Rattle.nav_eph.specs.declared.sat.System.TheVariants.{Gps, Gal};
 ghost use Rattle.inav_word.specs.Reading.{reading_of};
 ghost use Rattle.lnav_subframe.specs.Reading.{subframe_of};
@@ -33,7 +33,7 @@ fn write_line<U: Sink>(line: &[u8], report: &mut U) -> Result<(), BridgeFault>
     ensures text { OnOk result
         (Appends (U.written report.old) (U.written report.new) line.now) }
     ensures part { OnErr result
-        (AppendsFront (U.written report.old) (U.written report.new) line.now) }
+        (AppendsPrefix (U.written report.old) (U.written report.new) line.now) }
     ensures cause { IsReporting (U.faults report.old) (U.faults report.new) result }
 {
     match report.write(line) {
@@ -42,20 +42,20 @@ fn write_line<U: Sink>(line: &[u8], report: &mut U) -> Result<(), BridgeFault>
     }
 }
 
-// Reports in a word why the line with this number is not taken. The room for the text is made here,
-// and not where a part is taken.
+// Reports why the line with this number is not used. The buffer of the text is here, so that the
+// path of a part does not make it.
 fn report_reason<U: Sink>(number: u64, reason: &[u8], report: &mut U) -> Result<(), BridgeFault>
     requires { length reason.now ≤ 32 }
     ensures text { OnOk result (Appends (U.written report.old) (U.written report.new)
         (report_line (codes "line") number reason.now)) }
-    ensures part { OnErr result (AppendsFront (U.written report.old) (U.written report.new)
+    ensures part { OnErr result (AppendsPrefix (U.written report.old) (U.written report.new)
         (report_line (codes "line") number reason.now)) }
     ensures cause { IsReporting (U.faults report.old) (U.faults report.new) result }
 {
     write_line(report_text(b"line", number, reason).as_slice(), report)
 }
 
-// Reports why what the line with this number says is refused.
+// Reports why the content of the line with this number is refused.
 fn report_refusal<U: Sink>(
     number: u64,
     refusal: &Refusal,
@@ -63,14 +63,14 @@ fn report_refusal<U: Sink>(
 ) -> Result<(), BridgeFault>
     ensures text { OnOk result (Appends (U.written report.old) (U.written report.new)
         (report_line (codes "line") number (refusal_text refusal.now))) }
-    ensures part { OnErr result (AppendsFront (U.written report.old) (U.written report.new)
+    ensures part { OnErr result (AppendsPrefix (U.written report.old) (U.written report.new)
         (report_line (codes "line") number (refusal_text refusal.now))) }
     ensures cause { IsReporting (U.faults report.old) (U.faults report.new) result }
 {
     write_line(refused_text(b"line", number, refusal).as_slice(), report)
 }
 
-// What an event goes to: the assembly of the periods, and the counts of what is not a part.
+// Where events go: the assembly of the periods, and the counts of events other than parts.
 #[derive(Drop)]
 pub(crate) struct Ear {
     pub(crate) assembly: SlotAssembly,
@@ -78,7 +78,7 @@ pub(crate) struct Ear {
 }
 
 impl Ear {
-    // Takes an event that the line with this number brings.
+    // Processes an event of the line with this number.
     pub(crate) fn event<U: Sink>(
         &mut self,
         number: u32,
@@ -118,7 +118,7 @@ impl Ear {
         }
     }
 
-    // Takes events that the line with this number brings, one after another.
+    // Processes the events of the line with this number, in order.
     pub(crate) fn events<U: Sink>(
         &mut self,
         number: u32,
@@ -139,7 +139,7 @@ impl Ear {
         Ok(())
     }
 
-    // Takes what a subframe brings.
+    // Processes the events of a subframe.
     pub(crate) fn subframe<U: Sink>(
         &mut self,
         number: u32,
@@ -160,7 +160,7 @@ impl Ear {
         self.event(number, &event, report)
     }
 
-    // Takes what the bytes of a frame bring.
+    // Processes the events of the bytes of a frame.
     pub(crate) fn frame<U: Sink>(
         &mut self,
         number: u32,
@@ -208,7 +208,7 @@ impl Ear {
         }
     }
 
-    // Takes what a word brings.
+    // Processes the events of an I/NAV word.
     fn word<U: Sink>(
         &mut self,
         number: u32,
@@ -242,7 +242,7 @@ impl Ear {
         }
     }
 
-    // Takes what the words of a half bring, in their order.
+    // Processes the events of the words that a page part completes, in order.
     pub(crate) fn words<U: Sink>(
         &mut self,
         number: u32,

@@ -2,11 +2,11 @@
 
 ghost use Rattle.std.specs.Prelude.{◌≡◌, ◌+◌, ◌<◌, ◌≤◌, ◌++◌, codes, length};
 ghost use Rattle.arrayvec.specs.ArrayVec.{array_vec_len};
-ghost use Rattle.one_run.specs.Reports.{report_front as front_of, report_line};
+ghost use Rattle.one_run.specs.Reports.{report_prefix as prefix_of, report_line};
 ghost use Rattle.captures.specs.Reports.{refusal_text};
 
 use capture_log::Refusal;
-use one_run::{Text, append, append_decimal, report_front};
+use one_run::{Text, append, append_decimal, report_prefix};
 
 // Appends why something is refused.
 fn append_refusal(text: &mut Text, refusal: &Refusal)
@@ -35,7 +35,7 @@ pub(crate) fn refused_text(subject: &[u8], number: u64, refusal: &Refusal) -> Te
     requires { length subject.now ≤ 16 }
     ensures { result.items ≡ report_line subject.now number (refusal_text refusal.now) }
 {
-    let mut text = report_front(subject, number);
+    let mut text = report_prefix(subject, number);
     append_refusal(&mut text, refusal);
     append(&mut text, b"\n");
     text

@@ -19,12 +19,14 @@ fn numbers_at_places(rt: HostRuntime) {
 fn numbers_of_digits(rt: HostRuntime) -> Result<(), Fail> {
     let greatest = U::<10>::new(1023).ok_or("fits")?;
     let least = S::<4>::new(-8).ok_or("fits")?;
-    let fit = greatest.value() == 1023 && U::<64>::new(u64::MAX).is_some() && least.digits() == 8;
+    let fit = greatest.value() == 1023
+        && U::<64>::new(u64::MAX).is_some()
+        && least.bit_pattern() == 8;
     let none = U::<10>::new(1024).is_none()
         && S::<4>::new(-9).is_none()
         && S::<4>::new(8).is_none();
-    let whole: S<32> = S::join(U::<8>::from_digits(0xFF), U::<24>::from_digits(0xFF_FFFE));
-    let signed = S::<4>::from_digits(9).value() == -7 && whole.value() == -2;
+    let whole: S<32> = S::join(U::<8>::from_bits(0xFF), U::<24>::from_bits(0xFF_FFFE));
+    let signed = S::<4>::from_bits(9).value() == -7 && whole.value() == -2;
     let (high, low) = whole.split::<8, 24>();
     let parts: U<32> = U::join(high, low);
     assert!(rt; fit && none && signed && parts.value() == 0xFFFF_FFFE);
@@ -44,8 +46,8 @@ fn again<F: BitForm<8> + Copy>(form: F, at: usize) -> F
 
 #[test]
 fn packed_is_unpacked(rt: HostRuntime) {
-    let unsigned = again(U::<14>::from_digits(9000), 3).value() == 9000;
-    assert!(rt; unsigned && again(S::<14>::from_digits(9000), 50).value() == 9000 - 16384);
+    let unsigned = again(U::<14>::from_bits(9000), 3).value() == 9000;
+    assert!(rt; unsigned && again(S::<14>::from_bits(9000), 50).value() == 9000 - 16384);
 }
 
 #[test]

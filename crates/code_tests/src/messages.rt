@@ -97,7 +97,7 @@ fn gal_of(payload: &[u8]) -> Result<GalEph, Fail> {
     }
 }
 
-// Whether the payload has these numbers and no second of sending, and is written of them.
+// Whether the payload has these numbers and no transmission time, and is written of them.
 fn is_1019(payload: &[u8], numbers: &[i64; 30]) -> Result<bool, Fail> {
     let eph = gps_of(payload)?;
     let read = gps_numbers(&eph) == *numbers && eph.sent == SentSecond::Unknown;

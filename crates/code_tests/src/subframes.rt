@@ -31,7 +31,7 @@ fn agrees(text: &[u8; 76], out: &SubframeOut, count: u64, body: Body) -> bool
     requires page { IsWritable out.now }
 {
     let bits = bits_of(text);
-    write_subframe(out, U::from_digits(count)) == bits && read(&bits) == heard(body)
+    write_subframe(out, U::from_bits(count)) == bits && read(&bits) == heard(body)
 }
 
 // A clock, what stands beside it, its week number, the count that it is written with, and its
@@ -304,10 +304,10 @@ fn faults(rt: HostRuntime) {
         all = all && fault_of(&bits_of(*text)) == Some(*fault);
     }
     let other = SubframeOut::Other {
-        number: U::from_digits(5),
-        page: U::from_digits(1),
+        number: U::from_bits(5),
+        page: U::from_bits(1),
     };
-    let bits = write_subframe(&other, U::from_digits(7));
+    let bits = write_subframe(&other, U::from_bits(7));
     let unused = fault_of(&bits) == Some(LnavFault::Unused { number: 5, page: 1 });
     assert!(rt; all && unused && last_second_is_read() == Some(true));
 }
@@ -317,7 +317,7 @@ fn last_second_is_read() -> Option<bool> {
     let (clock, side) = clock_of(&CLOCKS[0])?;
     let wn = U::new(247)?;
     let out = SubframeOut::Clock { clock, side, wn };
-    let bits = write_subframe(&out, U::from_digits(0));
+    let bits = write_subframe(&out, U::from_bits(0));
     let (clock, side) = clock_of(&CLOCKS[0])?;
     let wn = U::new(247)?;
     let second = Second::new(604_794)?;

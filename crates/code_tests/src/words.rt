@@ -94,7 +94,7 @@ fn text_5(
     )
 }
 
-// The ionosphere of a part, where it names that time of sending.
+// The ionosphere of a part, where it names that transmission time.
 fn ionosphere(part: &Part, wn: U<12>, second: Second) -> Option<GalIon> {
     match &part.body {
         Body::GalIon(ion, ion_wn, ion_second) => {

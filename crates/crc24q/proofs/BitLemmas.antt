@@ -6,7 +6,7 @@ use Rattle.std.specs.Int.Bits.{bit_xor}
 use Rattle.nav_bits.specs.Bits.{bit, number_at}
 use Rattle.nav_bits.specs.Laws.{bit-lt, number_at-append}
 use Rattle.crc24q.specs.Division.{times_generator, IsCrc}
-use Rattle.crc24q.specs.Register.{turned}
+use Rattle.crc24q.specs.Register.{stepped}
 use Rattle.crc24q.specs.BitLists.{number_from, number_of_bits, crc_with_bits, crc_of_bits, bits_at}
 use Rattle.crc24q.proofs.SumLaws.{regroup, xor-mul_pow}
 use Rattle.crc24q.proofs.DivisionLemmas.{with_digit, zero_is, one_remainder, sum_of, times_sum}
@@ -15,7 +15,7 @@ more_bits : (p r : ℕ) (bits : List ℕ) → IsCrc p r → IsCrc (number_from p
 unfolding number_from crc_with_bits
 more_bits p r [] is = is
 more_bits p r (b ∷ bits) is =
-    more_bits (p * 2 + b % 2) (turned (bit_xor r (b % 2 * 2 ^ 23))) bits (with_digit p r (b % 2) (omega arith) is)
+    more_bits (p * 2 + b % 2) (stepped (bit_xor r (b % 2 * 2 ^ 23))) bits (with_digit p r (b % 2) (omega arith) is)
 
 pub bits_have_crc : (bits : List ℕ) → IsCrc (number_of_bits bits) (crc_of_bits bits)
 bits_have_crc bits = more_bits 0 0 bits zero_is
@@ -39,7 +39,7 @@ number_more bytes from (suc count) n =
 pub bits_of_run : (bytes : List ℕ) (from count : ℕ) → number_of_bits (bits_at bytes from count) ≡ number_at bytes from count
 bits_of_run bytes from count = let all = number_more bytes from count 0 in omega arith
 
--- the CRC of a run of bits is the function's
+-- the CRC of a run of bits is what `crc_of_bits` gives
 pub run_has_crc : (bytes : List ℕ) (from count r : ℕ) → IsCrc (number_at bytes from count) r → r ≡ crc_of_bits (bits_at bytes from count)
 run_has_crc bytes from count r is =
     let bits = bits_at bytes from count in

@@ -1,12 +1,12 @@
--- What stands in the tables, by tests that compute: each table against the one before it.
+-- The entries of the tables, by tests that compute: each table against the one before it.
 use Rattle.std.proofs.Common.{◌≡◌, ℕ, zero, suc, ◌+◌, ◌*◌, ◌^◌, ◌<◌, true, get_or, refl, sym, ap, ◌∙◌, arith, zero-add}
-use Rattle.crc24q.specs.Register.{turned, shift}
+use Rattle.crc24q.specs.Register.{stepped, shift}
 use Rattle.crc24q.specs.declared.tables.TheConstants.{MOVED_8, MOVED_16, MOVED_24, MOVED_32}
 use Rattle.crc24q.specs.declared.powers.TheConstants.{POWERS}
 use Rattle.crc24q.proofs.TableLemmas.{are_entries, are_images, are_steps, entry_is, image_is, step_is}
 use Rattle.crc24q.proofs.RegisterLaws.{shift-add}
 
--- eight places on, and a byte at the head of the register eight places on
+-- advanced by eight bits; and a byte at the head of the register, advanced by eight bits
 unfoldable pub eight_on : ℕ → ℕ
 eight_on r = shift 8 r
 
@@ -14,19 +14,19 @@ unfoldable pub moved : ℕ → ℕ
 moved byte = shift 8 (byte * 2 ^ 16)
 
 test_8 : are_entries moved 0 MOVED_8 ≡ true
-unfolding moved shift turned
+unfolding moved shift stepped
 test_8 = refl
 
 test_16 : are_images eight_on MOVED_8 MOVED_16 ≡ true
-unfolding eight_on shift turned
+unfolding eight_on shift stepped
 test_16 = refl
 
 test_24 : are_images eight_on MOVED_16 MOVED_24 ≡ true
-unfolding eight_on shift turned
+unfolding eight_on shift stepped
 test_24 = refl
 
 test_32 : are_images eight_on MOVED_24 MOVED_32 ≡ true
-unfolding eight_on shift turned
+unfolding eight_on shift stepped
 test_32 = refl
 
 pub moved_8_is : (byte : ℕ) → byte < 256 → get_or MOVED_8 byte 0 ≡ shift 8 (byte * 2 ^ 16)
@@ -49,7 +49,7 @@ moved_32_is byte h =
     image_is eight_on MOVED_24 MOVED_32 test_32 byte h ∙ ap (shift 8) (moved_24_is byte h) ∙ sym (shift-add 8 24 (byte * 2 ^ 16))
 
 test_powers : are_steps eight_on POWERS ≡ true
-unfolding eight_on shift turned
+unfolding eight_on shift stepped
 test_powers = refl
 
 first_power : get_or POWERS 0 0 ≡ shift 0 1

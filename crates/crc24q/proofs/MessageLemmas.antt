@@ -1,4 +1,4 @@
--- The register over the bytes of a message holds its CRC, and the same for runs of bits.
+-- The register over the bytes of a message holds its CRC; the same for runs of bits.
 use Rattle.std.proofs.Common.{◌≡◌, ℕ, zero, suc, ◌+◌, ◌-◌, ◌*◌, ◌/◌, ◌%◌, ◌^◌, ◌<◌, ◌≤◌, List, [], ◌∷◌, ◌++◌, length, take, get_or, slice_index, sym, ap, subst, ◌∙◌, arith}
 use Rattle.std.proofs.lemmas.List.{take_more, take_all}
 use Rattle.std.proofs.Math.Nat.{mod-eq_of_lt, pow-suc, mul_assoc}
@@ -49,7 +49,7 @@ pub same_bits : (bytes run : List ℕ) (from r : ℕ) → number_at run from (8 
 same_bits bytes run from r same is =
     one_remainder (number_at bytes 0 (8 * length bytes)) r (crc_from 0 bytes) (subst (λ n. IsCrc n r) same is) (crc_of_bytes bytes)
 
--- ---- eight digits across two bytes
+-- ---- eight bits across two bytes
 
 pub aligned_byte : (bytes : List ℕ) (byte skip : ℕ) → slice_index bytes byte < 256 → 0 ≡ skip → slice_index bytes byte ≡ number_at bytes (8 * byte + skip) 8
 aligned_byte bytes byte skip fits none =
@@ -99,24 +99,24 @@ byte_more bytes from i state byte next is byte_is next_is =
     subst (λ n. IsCrc n next) number
     (subst (λ n. IsCrc (number_at bytes from (8 * i) * 256 + byte % 256) n) (sym next_is) (with_byte_grows (number_at bytes from (8 * i)) state byte is))
 
--- one digit more behind the digits that are in
-pub digit_more : (bytes : List ℕ) (p at k bit' next : ℕ) → bit' ≡ bit bytes (at + k)
+-- one more bit after those taken
+pub bit_more : (bytes : List ℕ) (p at k bit' next : ℕ) → bit' ≡ bit bytes (at + k)
     → IsCrc ((p * 2 ^ k + number_at bytes at k) * 2 + bit') next → IsCrc (p * 2 ^ (k + 1) + number_at bytes at (k + 1)) next
 unfolding number_at
-digit_more bytes p at k bit' next bit_is is =
+bit_more bytes p at k bit' next bit_is is =
     let count : k + 1 ≡ suc k = omega arith in
     let product : p * 2 ^ suc k ≡ p * 2 ^ k * 2 = ap (λ n. p * n) (pow-suc 2 k) ∙ sym (mul_assoc p (2 ^ k) 2) in
     let number : (p * 2 ^ k + number_at bytes at k) * 2 + bit' ≡ p * 2 ^ suc k + number_at bytes at (suc k) = omega (arith, product, bit_is) in
     subst (λ n. IsCrc (p * 2 ^ n + number_at bytes at n) next) (sym count) (subst (λ n. IsCrc n next) number is)
 
--- no digits
-pub no_digits : (bytes : List ℕ) (p at state : ℕ) → IsCrc p state → IsCrc (p * 2 ^ 0 + number_at bytes at 0) state
+-- no bits
+pub no_bits : (bytes : List ℕ) (p at state : ℕ) → IsCrc p state → IsCrc (p * 2 ^ 0 + number_at bytes at 0) state
 unfolding number_at
-no_digits bytes p at state is =
+no_bits bytes p at state is =
     let number : p ≡ p * 2 ^ 0 + 0 = omega arith in
     subst (λ n. IsCrc n state) number is
 
--- a digit of a run, by a shift of its byte
+-- a bit of a run, by a shift of its byte
 pub digit_is : (bytes : List ℕ) (byte skip k : ℕ) → bit_and (slice_index bytes (byte + (skip + k) / 8) / 2 ^ (7 - (skip + k) % 8)) 1 ≡ bit bytes (8 * byte + skip + k)
 unfolding bit
 digit_is bytes byte skip k =
@@ -126,7 +126,7 @@ digit_is bytes byte skip k =
     ∙ ap (λ n. bit_at (slice_index bytes n) (7 - (skip + k) % 8)) quotient
     ∙ ap (λ n. bit_at (slice_index bytes ((8 * byte + skip + k) / 8)) (7 - n)) rest
 
--- whole bytes and then the last digits
+-- whole bytes and then the last bits
 pub whole_run : (bytes : List ℕ) (from count state : ℕ)
     → IsCrc (number_at bytes from (8 * (count / 8)) * 2 ^ (count % 8) + number_at bytes (8 * (from / 8 + count / 8) + from % 8) (count % 8)) state
     → IsCrc (number_at bytes from count) state

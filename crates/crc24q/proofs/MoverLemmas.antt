@@ -1,4 +1,4 @@
--- The tables of a mover: two entries more, the tables of the bytes further ahead, and the register by three look-ups.
+-- The tables of a mover: two more entries, the tables of the higher bytes, and the register by three look-ups.
 use Rattle.std.proofs.Common.{◌≡◌, ℕ, ◌+◌, ◌*◌, ◌/◌, ◌%◌, ◌^◌, ◌<◌, ◌≤◌, List, length, get_or, refl, sym, ap, subst, ◌∙◌, arith, ◌⊎◌, inl, inr}
 use Rattle.std.proofs.Math.ListN.{set}
 use Rattle.std.proofs.lemmas.Bool.{cases_lt}
@@ -7,11 +7,11 @@ use Rattle.std.proofs.lemmas.List.{get_or-set_other, length-set}
 use Rattle.std.proofs.lemmas.Nat.{and_mask}
 use Rattle.std.specs.Int.Bits.{bit_and, bit_xor, xor_zero_r}
 use lib.Bits.{xor_shifted}
-use Rattle.crc24q.specs.Register.{turned, shift, with_byte_of}
+use Rattle.crc24q.specs.Register.{stepped, shift, with_byte_of}
 use Rattle.crc24q.proofs.RegisterLaws.{shift-add, shift_small}
 use Rattle.crc24q.proofs.StepLemmas.{twice, both}
 
--- what holds of the entries before two that are written, and of these, holds up to behind them
+-- what holds of the entries before two new ones, and of these, holds up to their end
 pub two_more : (P : ℕ → ℕ → Type 0) (xs : List ℕ) (half even odd : ℕ) → 2 * half + 1 < length xs
     → ((d : ℕ) → d < 2 * half → P d (get_or xs d 0)) → P (2 * half) even → P (2 * half + 1) odd
     → (d : ℕ) → d < 2 * (half + 1) → P d (get_or (set (set xs (2 * half) even) (2 * half + 1) odd) d 0)
@@ -32,7 +32,7 @@ two_more P xs half even odd inside before at_even at_odd d h = place (cases_lt d
         subst (P d) (sym (get_or-set_at first (2 * half + 1) d odd 0 (sym same) (omega (arith, length-set xs (2 * half) even))))
         (subst (λ n. P n odd) same at_odd)
 
-pub even_is : (n half entry even : ℕ) → half < 128 → entry ≡ shift n half → even ≡ turned entry → even ≡ shift n (2 * half)
+pub even_is : (n half entry even : ℕ) → half < 128 → entry ≡ shift n half → even ≡ stepped entry → even ≡ shift n (2 * half)
 even_is n half entry even h entry_is is =
     let order : half * 2 ≡ 2 * half = omega arith in
     twice n half entry even (omega arith) entry_is is ∙ ap (shift n) order
@@ -44,14 +44,14 @@ odd_is n half even one h is one_is =
     both n (2 * half) 1 even one (omega arith) (omega arith) is one_is
     ∙ ap (shift n) (ap (λ m. bit_xor m 1) order ∙ xor_shifted half 1 1 (omega arith) ∙ back)
 
--- eight places more of a power
+-- a power advanced by eight bits
 pub next_power : (n one next : ℕ) → one ≡ shift n 1 → next ≡ with_byte_of one 0 → next ≡ shift (n + 8) 1
 unfolding with_byte_of
 next_power n one next one_is is =
     let order : 8 + n ≡ n + 8 = omega arith in
     is ∙ ap (shift 8) (xor_zero_r one ∙ one_is) ∙ sym (shift-add 8 n 1) ∙ ap (λ m. shift m 1) order
 
--- the bytes in the middle and at the head
+-- the middle and the high byte
 pub in_middle : (n d : ℕ) → d < 256 → shift (n + 8) d ≡ shift n (d * 2 ^ 8)
 in_middle n d h = shift-add n 8 d ∙ ap (shift n) (shift_small 8 16 d refl (omega arith))
 

@@ -5,28 +5,28 @@ use Rattle.std.proofs.lemmas.Bool.{cases_lt}
 use Rattle.std.specs.Int.Bits.{bit_xor, xor_assoc, xor_zero_r}
 use Rattle.std.proofs.lemmas.Nat.{xor_comm, xor_block, xor_lt, xor_shr, shl_below}
 use Rattle.crc24q.specs.Division.{generator}
-use Rattle.crc24q.specs.Register.{turned, shift, with_byte_of, crc_from}
+use Rattle.crc24q.specs.Register.{stepped, shift, with_byte_of, crc_from}
 use Rattle.crc24q.proofs.SumLaws.{regroup, cancel, xor-mul_pow, digits-mul}
 
-pub turned-xor : (a b : ℕ) → a < 2 ^ 24 → b < 2 ^ 24 → turned (bit_xor a b) ≡ bit_xor (turned a) (turned b)
-unfolding turned
-turned-xor a b ha hb =
+pub stepped-xor : (a b : ℕ) → a < 2 ^ 24 → b < 2 ^ 24 → stepped (bit_xor a b) ≡ bit_xor (stepped a) (stepped b)
+unfolding stepped
+stepped-xor a b ha hb =
     let first : bit_xor a b * 2 ≡ bit_xor (a * 2) (b * 2) = xor-mul_pow 1 a b in
     let top : bit_xor a b / 2 ^ 23 * generator ≡ bit_xor (a / 2 ^ 23 * generator) (b / 2 ^ 23 * generator) =
     ap (λ x. x * generator) (xor_shr a b 23) ∙ digits-mul generator (a / 2 ^ 23) (b / 2 ^ 23) (omega arith) (omega arith) in
     ap (λ x. bit_xor x (bit_xor a b / 2 ^ 23 * generator)) first ∙ ap (bit_xor (bit_xor (a * 2) (b * 2))) top
     ∙ regroup (a * 2) (b * 2) (a / 2 ^ 23 * generator) (b / 2 ^ 23 * generator)
 
--- where the first digit is 0 nothing is taken off
-pub turned_small : (r : ℕ) → r < 2 ^ 23 → turned r ≡ r * 2
-unfolding turned
-turned_small r h =
+-- where the highest bit is 0 nothing is subtracted
+pub stepped_small : (r : ℕ) → r < 2 ^ 23 → stepped r ≡ r * 2
+unfolding stepped
+stepped_small r h =
     let none : r / 2 ^ 23 * generator ≡ 0 = omega arith in
     ap (bit_xor (r * 2)) none ∙ xor_zero_r (r * 2)
 
--- where the first digit is 1, the rest is below 2^24 once the generator is taken off
-turned_large : (low : ℕ) → low < 2 ^ 24 → bit_xor (2 ^ 24 + low) generator < 2 ^ 24
-turned_large low h =
+-- where the highest bit is 1, subtracting the generator leaves less than 2^24
+stepped_large : (low : ℕ) → low < 2 ^ 24 → bit_xor (2 ^ 24 + low) generator < 2 ^ 24
+stepped_large low h =
     let e : bit_xor (1 * 2 ^ 24 + low) (1 * 2 ^ 24 + 0x864CFB) ≡ bit_xor 1 1 * 2 ^ 24 + bit_xor low 0x864CFB =
     xor_block 24 1 1 low 0x864CFB h (omega arith) in
     let less : bit_xor low 0x864CFB < 2 ^ 24 = xor_lt 24 low 0x864CFB h (omega arith) in
@@ -36,38 +36,38 @@ turned_large low h =
     one : (low : ℕ) → 2 ^ 24 + low ≡ 1 * 2 ^ 24 + low
     one low = omega arith
 
-turned_large_is : (r : ℕ) → 2 ^ 23 ≤ r → r < 2 ^ 24 → turned r ≡ bit_xor (2 ^ 24 + (r * 2 - 2 ^ 24)) generator
-unfolding turned
-turned_large_is r h less =
+stepped_large_is : (r : ℕ) → 2 ^ 23 ≤ r → r < 2 ^ 24 → stepped r ≡ bit_xor (2 ^ 24 + (r * 2 - 2 ^ 24)) generator
+unfolding stepped
+stepped_large_is r h less =
     let top : r / 2 ^ 23 * generator ≡ generator = omega arith in
     let split : r * 2 ≡ 2 ^ 24 + (r * 2 - 2 ^ 24) = omega arith in
     ap (bit_xor (r * 2)) top ∙ ap (λ x. bit_xor x generator) split
 
-pub turned-lt : (r : ℕ) → r < 2 ^ 24 → turned r < 2 ^ 24
-turned-lt r h =
+pub stepped-lt : (r : ℕ) → r < 2 ^ 24 → stepped r < 2 ^ 24
+stepped-lt r h =
     let P : ℕ → Type 0 = λ n. n < 2 ^ 24 in
     ⊎_elim
-    (λ (small : r < 2 ^ 23). subst P (sym (turned_small r small)) (omega arith))
-    (λ (large : 2 ^ 23 ≤ r). subst P (sym (turned_large_is r large h)) (turned_large (r * 2 - 2 ^ 24) (omega arith)))
+    (λ (small : r < 2 ^ 23). subst P (sym (stepped_small r small)) (omega arith))
+    (λ (large : 2 ^ 23 ≤ r). subst P (sym (stepped_large_is r large h)) (stepped_large (r * 2 - 2 ^ 24) (omega arith)))
     (cases_lt r (2 ^ 23))
 
 pub shift-lt : (k r : ℕ) → r < 2 ^ 24 → shift k r < 2 ^ 24
 unfolding shift
 shift-lt zero r h = h
-shift-lt (suc k) r h = turned-lt (shift k r) (shift-lt k r h)
+shift-lt (suc k) r h = stepped-lt (shift k r) (shift-lt k r h)
 
 pub shift-xor : (k a b : ℕ) → a < 2 ^ 24 → b < 2 ^ 24 → shift k (bit_xor a b) ≡ bit_xor (shift k a) (shift k b)
 unfolding shift
 shift-xor zero a b ha hb = refl
 shift-xor (suc k) a b ha hb =
-    ap turned (shift-xor k a b ha hb) ∙ turned-xor (shift k a) (shift k b) (shift-lt k a ha) (shift-lt k b hb)
+    ap stepped (shift-xor k a b ha hb) ∙ stepped-xor (shift k a) (shift k b) (shift-lt k a ha) (shift-lt k b hb)
 
 pub shift-add : (i j r : ℕ) → shift (i + j) r ≡ shift i (shift j r)
 unfolding shift
 shift-add zero j r = ap (λ n. shift n r) (zero-add j)
-shift-add (suc i) j r = ap (λ n. shift n r) (suc-add i j) ∙ ap turned (shift-add i j r)
+shift-add (suc i) j r = ap (λ n. shift n r) (suc-add i j) ∙ ap stepped (shift-add i j r)
 
--- k more digits where the first k are 0: nothing is taken off
+-- k more bits where the highest k are 0: nothing is subtracted
 pub shift_small : (k j r : ℕ) → k + j ≡ 24 → r < 2 ^ j → shift k r ≡ r * 2 ^ k
 unfolding shift
 shift_small zero j r e h = omega arith
@@ -77,16 +77,16 @@ shift_small (suc k) j r e h =
     let room : r * 2 ^ k < 2 ^ (j + k) = shl_below r j k h in
     let places : j + k ≡ 23 = omega arith in
     let P : ℕ → Type 0 = λ n. r * 2 ^ k < 2 ^ n in
-    ap turned before ∙ turned_small (r * 2 ^ k) (subst P places room) ∙ mul_assoc r (2 ^ k) 2 ∙ ap (λ n. r * n) (sym (pow-suc 2 k))
+    ap stepped before ∙ stepped_small (r * 2 ^ k) (subst P places room) ∙ mul_assoc r (2 ^ k) 2 ∙ ap (λ n. r * n) (sym (pow-suc 2 k))
 
 pub shift-zero : (k : ℕ) → shift k 0 ≡ 0
 unfolding shift
 shift-zero zero = refl
-shift-zero (suc k) = ap turned (shift-zero k) ∙ turned_small 0 (omega arith)
+shift-zero (suc k) = ap stepped (shift-zero k) ∙ stepped_small 0 (omega arith)
 
 -- ---- bytes
 
--- a byte at the head of the register
+-- a byte at the head fits the register
 pub head-lt : (byte : ℕ) → byte % 256 * 2 ^ 16 < 2 ^ 24
 head-lt byte = omega arith
 
@@ -124,11 +124,11 @@ crc_from-xor a b (x ∷ xs) ha hb =
     ∙ crc_from-xor (shift 8 a) (with_byte_of b x) xs (shift-lt 8 a ha) (with_byte_of-lt b x hb)
     ∙ ap (λ r. bit_xor r (crc_from (with_byte_of b x) xs)) (sym (ap (λ n. shift n a) count ∙ shift-add (8 * length xs) 8 a))
 
--- what the bytes alone make, and what they make of the state before them
+-- the register after bytes: their own CRC plus the earlier register advanced
 pub crc_from-parts : (r : ℕ) (xs : List ℕ) → r < 2 ^ 24 → crc_from r xs ≡ bit_xor (shift (8 * length xs) r) (crc_from 0 xs)
 crc_from-parts r xs h = ap (λ n. crc_from n xs) (sym (xor_zero_r r)) ∙ crc_from-xor r 0 xs h (omega arith)
 
--- the CRC of some bytes by the states before and after them
+-- the CRC of a range of bytes by the registers before and after it
 pub crc_of_part : (r : ℕ) (xs : List ℕ) → r < 2 ^ 24 → crc_from 0 xs ≡ bit_xor (crc_from r xs) (shift (8 * length xs) r)
 crc_of_part r xs h =
     sym (cancel (shift (8 * length xs) r) (crc_from 0 xs)) ∙ ap (bit_xor (shift (8 * length xs) r)) (sym (crc_from-parts r xs h))

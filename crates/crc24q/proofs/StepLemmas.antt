@@ -1,11 +1,11 @@
--- One step of each loop: the register over what is left of a list, and the digits of a register that is moved on.
+-- One step of each loop: the register over the rest of a list, and the bits of a register that is advanced.
 use Rattle.std.proofs.Common.{◌≡◌, ℕ, zero, suc, ◌+◌, ◌-◌, ◌*◌, ◌/◌, ◌%◌, ◌^◌, ◌<◌, ◌≤◌, List, [], ◌∷◌, length, get_or, drop, sym, ap, subst, ◌∙◌, arith, zero-add}
 use Rattle.std.proofs.lemmas.List.{drop_more, drop_all}
 use Rattle.std.proofs.lemmas.Nat.{and_mask, shr-shr, shr_le}
 use Rattle.std.specs.Int.Bits.{bit_and, bit_xor}
-use Rattle.crc24q.specs.Register.{turned, shift, with_byte_of, crc_from}
-use Rattle.crc24q.proofs.RegisterLaws.{turned_small, shift-lt, shift-xor, shift-add, shift-zero, crc_from-append}
-use Rattle.crc24q.proofs.LookupLemmas.{next_digits}
+use Rattle.crc24q.specs.Register.{stepped, shift, with_byte_of, crc_from}
+use Rattle.crc24q.proofs.RegisterLaws.{stepped_small, shift-lt, shift-xor, shift-add, shift-zero, crc_from-append}
+use Rattle.crc24q.proofs.LookupLemmas.{next_bits}
 
 pub byte_step : (state next i : ℕ) (xs : List ℕ) → i < length xs → next ≡ with_byte_of state (get_or xs i 0) → crc_from next (drop (i + 1) xs) ≡ crc_from state (drop i xs)
 unfolding crc_from
@@ -36,11 +36,11 @@ four_step state next n m xs places inside is =
     ∙ sym (ap (crc_from state) (four_more xs n (omega arith))
     ∙ crc_from-append state (get_or xs n 0 ∷ get_or xs (n + 1) 0 ∷ get_or xs (n + 2) 0 ∷ get_or xs (n + 3) 0 ∷ []) (drop (n + 4) xs))
 
--- ---- the register moved on by its digits
+-- ---- the register advanced by its bits
 
-pub digit_step : (n state k sum moved digit : ℕ) → state < 2 ^ 24 → k < 6 → sum ≡ shift n (state / 2 ^ (24 - 4 * k)) → moved ≡ shift 4 sum
+pub bit_step : (n state k sum moved digit : ℕ) → state < 2 ^ 24 → k < 6 → sum ≡ shift n (state / 2 ^ (24 - 4 * k)) → moved ≡ shift 4 sum
     → digit ≡ shift n (bit_and (state / 2 ^ (20 - 4 * k)) 15) → bit_xor moved digit ≡ shift n (state / 2 ^ (24 - 4 * (k + 1)))
-digit_step n state k sum moved digit fits h sum_is moved_is digit_is =
+bit_step n state k sum moved digit fits h sum_is moved_is digit_is =
     let rest : ℕ = state / 2 ^ (20 - 4 * k) in
     let inside : rest ≤ state = shr_le state (20 - 4 * k) in
     let further : 20 - 4 * k + 4 ≡ 24 - 4 * k = omega arith in
@@ -50,7 +50,7 @@ digit_step n state k sum moved digit fits h sum_is moved_is digit_is =
     let last : bit_and rest 15 ≡ rest % 16 = and_mask rest 4 in
     ap (λ m. bit_xor m digit) (moved_is ∙ ap (shift 4) (sum_is ∙ ap (shift n) before))
     ∙ ap (bit_xor (shift 4 (shift n (rest / 16)))) (digit_is ∙ ap (shift n) last)
-    ∙ sym (next_digits n (rest / 16) (rest % 16) (omega arith) (omega arith))
+    ∙ sym (next_bits n (rest / 16) (rest % 16) (omega arith) (omega arith))
     ∙ ap (shift n) (whole ∙ ap (λ m. state / 2 ^ m) after)
 
 pub shifted_fits : (n state m sum : ℕ) → state < 2 ^ 24 → sum ≡ shift n (state / 2 ^ m) → sum < 2 ^ 24
@@ -58,14 +58,14 @@ shifted_fits n state m sum fits is =
     let inside : state / 2 ^ m ≤ state = shr_le state m in
     subst (λ k. k < 2 ^ 24) (sym is) (shift-lt n (state / 2 ^ m) (omega arith))
 
-pub no_digits : (n state : ℕ) → state < 2 ^ 24 → 0 ≡ shift n (state / 2 ^ 24)
-no_digits n state fits =
+pub no_bits : (n state : ℕ) → state < 2 ^ 24 → 0 ≡ shift n (state / 2 ^ 24)
+no_bits n state fits =
     let none : state / 2 ^ 24 ≡ 0 = omega arith in
     sym (ap (shift n) none ∙ shift-zero n)
 
 -- ---- the sixteen multiples
 
--- each number of a list is f of its place, counted from i
+-- each number of a list is f of its index, counted from i
 abbrev Are : (ℕ → ℕ) → ℕ → List ℕ → Type 0
 Are f i [] = Unit {0}
 Are f i (x ∷ xs) = (x ≡ f i) × Are f (suc i) xs
@@ -79,16 +79,16 @@ are_at f i (x ∷ xs) all (suc k) h =
     let next : suc i + k ≡ i + suc k = omega arith in
     are_at f (suc i) xs all.1 k (omega arith) ∙ ap f next
 
-pub twice : (n m x y : ℕ) → m < 2 ^ 23 → x ≡ shift n m → y ≡ turned x → y ≡ shift n (m * 2)
+pub twice : (n m x y : ℕ) → m < 2 ^ 23 → x ≡ shift n m → y ≡ stepped x → y ≡ shift n (m * 2)
 unfolding shift
 twice n m x y h x_is y_is =
     let order : suc n ≡ n + 1 = omega arith in
-    y_is ∙ ap turned x_is ∙ ap (λ k. shift k m) order ∙ shift-add n 1 m ∙ ap (shift n) (turned_small m h)
+    y_is ∙ ap stepped x_is ∙ ap (λ k. shift k m) order ∙ shift-add n 1 m ∙ ap (shift n) (stepped_small m h)
 
 pub both : (n a b x y : ℕ) → a < 2 ^ 24 → b < 2 ^ 24 → x ≡ shift n a → y ≡ shift n b → bit_xor x y ≡ shift n (bit_xor a b)
 both n a b x y ha hb x_is y_is = ap (λ k. bit_xor k y) x_is ∙ ap (bit_xor (shift n a)) y_is ∙ sym (shift-xor n a b ha hb)
 
-pub multiple_is : (n one two four eight : ℕ) → one ≡ shift n 1 → two ≡ turned one → four ≡ turned two → eight ≡ turned four → (d : ℕ) → d < 16
+pub multiple_is : (n one two four eight : ℕ) → one ≡ shift n 1 → two ≡ stepped one → four ≡ stepped two → eight ≡ stepped four → (d : ℕ) → d < 16
     → get_or (0 ∷ one ∷ two ∷ bit_xor two one ∷ four ∷ bit_xor four one ∷ bit_xor four two ∷ bit_xor four (bit_xor two one)
     ∷ eight ∷ bit_xor eight one ∷ bit_xor eight two ∷ bit_xor eight (bit_xor two one)
     ∷ bit_xor eight four ∷ bit_xor eight (bit_xor four one) ∷ bit_xor eight (bit_xor four two) ∷ bit_xor eight (bit_xor four (bit_xor two one)) ∷ []) d 0 ≡ shift n d

@@ -1,58 +1,58 @@
--- What the first bytes of a file say of its form.
+-- The form of a file, from its first bytes.
 use Rattle.std.specs.Prelude.{◌==◌, nat_eq, nat_lt, ◌&&◌, ℕ, Bool, if◌then◌else◌, List, [], ◌∷◌, length, take, drop, codes, slice_index}
 use Rattle.std.specs.List.{starts_with}
 use Rattle.file_form.specs.declared.Kind.{Kind}
 use Rattle.file_form.specs.declared.Kind.TheVariants.{Empty, Capture1, Capture2, Rinex4, Rinex3, Rinex2, Observations, Hatanaka, OtherRinex, Stream, Ubx, Sbf, Nmea, Gzip, Compress, Zip, Marked, Unknown}
 
--- the bytes begin with this mark
+-- the bytes begin with this signature
 abbrev pub begins : List ℕ → List ℕ → Bool
 begins mark bytes = starts_with nat_eq bytes mark
 
--- this text stands behind so many bytes
+-- this text stands at this byte offset
 abbrev pub stands_at : ℕ → List ℕ → List ℕ → Bool
 stands_at place text bytes = starts_with nat_eq (drop place bytes) text
 
--- the first character that is no blank, or a blank
+-- the first character that is not a blank; a blank where there is none
 abbrev pub first_char : List ℕ → ℕ
 first_char [] = 32
 first_char (x ∷ xs) = if x == 32 then first_char xs else x
 
--- the first character of the version in columns 1-9, or a blank
+-- the first character of the RINEX version in columns 1-9, or a blank
 abbrev pub version_of : List ℕ → ℕ
-version_of front = first_char (take 9 front)
+version_of prefix = first_char (take 9 prefix)
 
--- a file of RINEX, by its type in column 21: `O` observations, `N` navigation, and there by its version
+-- a RINEX file, by its type in column 21: `O` observations, `N` navigation, and then by its version
 unfoldable pub rinex_kind : List ℕ → Kind
-rinex_kind front =
-    if stands_at 20 (codes "O") front then Observations
-    else if stands_at 20 (codes "N") front then
-    (if version_of front == 52 then Rinex4
-    else if version_of front == 51 then Rinex3
-    else if version_of front == 50 then Rinex2
+rinex_kind prefix =
+    if stands_at 20 (codes "O") prefix then Observations
+    else if stands_at 20 (codes "N") prefix then
+    (if version_of prefix == 52 then Rinex4
+    else if version_of prefix == 51 then Rinex3
+    else if version_of prefix == 50 then Rinex2
     else OtherRinex)
     else OtherRinex
 
--- a text: a capture, a log of SBF or NMEA, one that is marked as UTF-8, or RINEX by the label in columns 61-80
+-- a text: a capture, a log of SBF or NMEA, one with a UTF-8 byte order mark, or RINEX by the label in columns 61-80
 unfoldable pub text_kind : List ℕ → Kind
-text_kind front =
-    if begins (codes "NAVCAP 1") front then Capture1
-    else if begins (codes "NAVCAP 2") front then Capture2
-    else if begins (codes "$@") front then Sbf
-    else if begins (codes "$G") front then Nmea
-    else if begins (239 ∷ 187 ∷ 191 ∷ []) front then Marked
-    else if stands_at 60 (codes "CRINEX VERS   / TYPE") front then Hatanaka
-    else if stands_at 60 (codes "RINEX VERSION / TYPE") front then rinex_kind front
+text_kind prefix =
+    if begins (codes "NAVCAP 1") prefix then Capture1
+    else if begins (codes "NAVCAP 2") prefix then Capture2
+    else if begins (codes "$@") prefix then Sbf
+    else if begins (codes "$G") prefix then Nmea
+    else if begins (239 ∷ 187 ∷ 191 ∷ []) prefix then Marked
+    else if stands_at 60 (codes "CRINEX VERS   / TYPE") prefix then Hatanaka
+    else if stands_at 60 (codes "RINEX VERSION / TYPE") prefix then rinex_kind prefix
     else Unknown
 
--- Bytes that are no text: a frame of RTCM 3, whose preamble is followed by six bits of 0 and ten of its length; a message of
--- UBX; and what gzip, compress and zip write.
+-- Bytes that are not text: an RTCM 3 frame, whose preamble is followed by six reserved bits of 0 and ten bits of length; a UBX
+-- message; and the signatures of gzip, compress and zip.
 unfoldable pub binary_kind : List ℕ → Kind
-binary_kind front =
-    if begins (0xd3 ∷ []) front then (if nat_lt 1 (length front) && nat_lt (slice_index front 1) 4 then Stream else Unknown)
-    else if begins (0xb5 ∷ 0x62 ∷ []) front then Ubx
-    else if begins (0x1f ∷ 0x8b ∷ []) front then Gzip
-    else if begins (0x1f ∷ 0x9d ∷ []) front then Compress
-    else if begins (codes "PK") front then Zip
+binary_kind prefix =
+    if begins (0xd3 ∷ []) prefix then (if nat_lt 1 (length prefix) && nat_lt (slice_index prefix 1) 4 then Stream else Unknown)
+    else if begins (0xb5 ∷ 0x62 ∷ []) prefix then Ubx
+    else if begins (0x1f ∷ 0x8b ∷ []) prefix then Gzip
+    else if begins (0x1f ∷ 0x9d ∷ []) prefix then Compress
+    else if begins (codes "PK") prefix then Zip
     else Unknown
 
 -- the second kind where the first is unknown
@@ -76,10 +76,10 @@ or_else Compress kind = Compress
 or_else Zip kind = Zip
 or_else Marked kind = Marked
 
--- the form that the first bytes tell
-unfoldable pub front_kind : List ℕ → Kind
-front_kind front = if length front == 0 then Empty else or_else (binary_kind front) (text_kind front)
+-- the form that these first bytes tell
+unfoldable pub prefix_kind : List ℕ → Kind
+prefix_kind prefix = if length prefix == 0 then Empty else or_else (binary_kind prefix) (text_kind prefix)
 
 -- The form of a file with these bytes.
 unfoldable pub kind_of : List ℕ → Kind
-kind_of bytes = front_kind (take 80 bytes)
+kind_of bytes = prefix_kind (take 80 bytes)

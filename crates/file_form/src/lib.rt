@@ -1,7 +1,7 @@
 //! The form of a file, told by its first bytes.
 //!
-//! [`kind_of`] looks at no more than 80 bytes, so a front of a file that has as many says what the
-//! whole file says ([`first_bytes_decide`]).
+//! [`kind_of`] looks at no more than 80 bytes, so the first 80 bytes of a file tell the same form as
+//! the whole file ([`first_bytes_decide`]).
 //!
 //! ```rust
 //! assert!(rt; kind_of(b"NAVCAP 1\n") == Kind::Capture1);
@@ -10,7 +10,7 @@
 
 ghost use Rattle.std.specs.Prelude.{◌≡◌, ◌≤◌, ℕ, List, take, drop, nat_eq};
 ghost use Rattle.std.specs.List.{starts_with};
-ghost use Rattle.file_form.specs.Kinds.{kind_of, front_kind, binary_kind, text_kind};
+ghost use Rattle.file_form.specs.Kinds.{kind_of, prefix_kind, binary_kind, text_kind};
 ghost use Rattle.file_form.specs.Kinds.{rinex_kind, version_of, first_char};
 
 mod laws;
@@ -49,13 +49,13 @@ pub enum Kind {
     Sbf,
     /// Sentences of NMEA 0183.
     Nmea,
-    /// A file that is packed by gzip.
+    /// A file compressed by gzip.
     Gzip,
-    /// A file that is packed by compress.
+    /// A file compressed by compress.
     Compress,
-    /// An archive of zip.
+    /// A zip archive.
     Zip,
-    /// A text with a byte order mark of UTF-8 in front.
+    /// A text that begins with a UTF-8 byte order mark.
     Marked,
     /// Any other bytes.
     Unknown,
@@ -66,41 +66,41 @@ pub enum Kind {
 pub fn kind_of(bytes: &[u8]) -> Kind
     ensures { result ≡ kind_of bytes.now }
 {
-    front_kind(&bytes[..LOOKED_AT.min(bytes.len())])
+    prefix_kind(&bytes[..LOOKED_AT.min(bytes.len())])
 }
 
 // The form that the first bytes tell.
-#[tactic(auto, unfolding(crate::specs::Kinds::front_kind))]
-fn front_kind(front: &[u8]) -> Kind
-    ensures { result ≡ front_kind front.now }
+#[tactic(auto, unfolding(crate::specs::Kinds::prefix_kind))]
+fn prefix_kind(prefix: &[u8]) -> Kind
+    ensures { result ≡ prefix_kind prefix.now }
 {
-    if front.is_empty() {
+    if prefix.is_empty() {
         return Kind::Empty;
     }
-    match binary_kind(front) {
-        Kind::Unknown => text_kind(front),
+    match binary_kind(prefix) {
+        Kind::Unknown => text_kind(prefix),
         kind => kind,
     }
 }
 
-// The form of a file that is no text, or `Unknown`.
+// The form of a file that is not text, or `Unknown`.
 #[tactic(auto, unfolding(crate::specs::Kinds::binary_kind))]
-fn binary_kind(front: &[u8]) -> Kind
-    ensures { result ≡ binary_kind front.now }
+fn binary_kind(prefix: &[u8]) -> Kind
+    ensures { result ≡ binary_kind prefix.now }
 {
-    if begins(front, b"\xd3") {
-        if front.len() > 1 && front[1] < 4 {
+    if begins(prefix, b"\xd3") {
+        if prefix.len() > 1 && prefix[1] < 4 {
             return Kind::Stream;
         }
         return Kind::Unknown;
     }
-    if begins(front, b"\xb5\x62") {
+    if begins(prefix, b"\xb5\x62") {
         Kind::Ubx
-    } else if begins(front, b"\x1f\x8b") {
+    } else if begins(prefix, b"\x1f\x8b") {
         Kind::Gzip
-    } else if begins(front, b"\x1f\x9d") {
+    } else if begins(prefix, b"\x1f\x9d") {
         Kind::Compress
-    } else if begins(front, b"PK") {
+    } else if begins(prefix, b"PK") {
         Kind::Zip
     } else {
         Kind::Unknown
@@ -109,23 +109,23 @@ fn binary_kind(front: &[u8]) -> Kind
 
 // The form of a file that begins as a text.
 #[tactic(auto, unfolding(crate::specs::Kinds::text_kind))]
-fn text_kind(front: &[u8]) -> Kind
-    ensures { result ≡ text_kind front.now }
+fn text_kind(prefix: &[u8]) -> Kind
+    ensures { result ≡ text_kind prefix.now }
 {
-    if begins(front, b"NAVCAP 1") {
+    if begins(prefix, b"NAVCAP 1") {
         Kind::Capture1
-    } else if begins(front, b"NAVCAP 2") {
+    } else if begins(prefix, b"NAVCAP 2") {
         Kind::Capture2
-    } else if begins(front, b"$@") {
+    } else if begins(prefix, b"$@") {
         Kind::Sbf
-    } else if begins(front, b"$G") {
+    } else if begins(prefix, b"$G") {
         Kind::Nmea
-    } else if begins(front, b"\xef\xbb\xbf") {
+    } else if begins(prefix, b"\xef\xbb\xbf") {
         Kind::Marked
-    } else if stands_at(front, 60, b"CRINEX VERS   / TYPE") {
+    } else if stands_at(prefix, 60, b"CRINEX VERS   / TYPE") {
         Kind::Hatanaka
-    } else if stands_at(front, 60, b"RINEX VERSION / TYPE") {
-        rinex_kind(front)
+    } else if stands_at(prefix, 60, b"RINEX VERSION / TYPE") {
+        rinex_kind(prefix)
     } else {
         Kind::Unknown
     }
@@ -133,16 +133,16 @@ fn text_kind(front: &[u8]) -> Kind
 
 // The form of a file of RINEX, by its version and its type in column 21.
 #[tactic(auto, unfolding(crate::specs::Kinds::rinex_kind))]
-fn rinex_kind(front: &[u8]) -> Kind
-    ensures { result ≡ rinex_kind front.now }
+fn rinex_kind(prefix: &[u8]) -> Kind
+    ensures { result ≡ rinex_kind prefix.now }
 {
-    if stands_at(front, 20, b"O") {
+    if stands_at(prefix, 20, b"O") {
         return Kind::Observations;
     }
-    if !stands_at(front, 20, b"N") {
+    if !stands_at(prefix, 20, b"N") {
         return Kind::OtherRinex;
     }
-    match version_of(front) {
+    match version_of(prefix) {
         b'4' => Kind::Rinex4,
         b'3' => Kind::Rinex3,
         b'2' => Kind::Rinex2,
@@ -151,13 +151,13 @@ fn rinex_kind(front: &[u8]) -> Kind
 }
 
 // The first character of the version in columns 1-9, or a blank.
-fn version_of(front: &[u8]) -> u8
-    ensures { result ≡ version_of front.now }
+fn version_of(prefix: &[u8]) -> u8
+    ensures { result ≡ version_of prefix.now }
 {
-    first_char(&front[..9.min(front.len())])
+    first_char(&prefix[..9.min(prefix.len())])
 }
 
-// The first character that is no blank, or a blank.
+// The first character that is not a blank; a blank where there is none.
 fn first_char(text: &[u8]) -> u8
     ensures { result ≡ first_char text.now }
 {
@@ -169,14 +169,14 @@ fn first_char(text: &[u8]) -> u8
     b' '
 }
 
-// Whether the bytes begin with these.
+// Whether the bytes begin with this signature.
 fn begins(bytes: &[u8], mark: &[u8]) -> bool
     ensures { result ≡ starts_with nat_eq bytes.now mark.now }
 {
     bytes.starts_with(mark)
 }
 
-// Whether this text stands behind so many bytes.
+// Whether this text stands at this byte offset.
 #[tactic(auto, using(std::proofs::lemmas::List::drop_min))]
 fn stands_at(bytes: &[u8], place: usize, text: &[u8]) -> bool
     ensures { result ≡ starts_with nat_eq (drop place bytes.now) text.now }

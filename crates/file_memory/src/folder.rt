@@ -4,7 +4,7 @@ ghost use Rattle.std.specs.Prelude.{◌≡◌, ◌≤◌, Some, None, OnOk, OnEr
 ghost use Rattle.std.specs.Option.{option_map};
 ghost use Rattle.nav_io.specs.Causes.{Rose};
 ghost use Rattle.file_step.specs.Files.{Opens, Publishes, Stays};
-ghost use Rattle.file_memory.specs.Entries.{Sets, bytes_at, items_of};
+ghost use Rattle.file_memory.specs.Entries.{Sets, bytes_at, contents_of};
 
 use crate::draft::MemDraft;
 use file_step::{FileFault, FileInput, Folder};
@@ -15,14 +15,14 @@ use std::io::Cursor;
 /// A file in memory that is read.
 pub type MemInput = FileInput<Cursor<Vec<u8>>>;
 
-// What became of a name: a file with these bytes, or none.
+// A change of a name: now a file with these bytes, or none.
 #[derive(Drop)]
 struct Entry {
     name: String,
     bytes: Option<Vec<u8>>,
 }
 
-/// A folder in memory. No call on it fails but for want of memory, or where it has to.
+/// A folder in memory. Its calls fail only for want of memory, or where `Folder` requires it.
 #[derive(Drop)]
 pub struct MemFolder {
     alloc: Global,
@@ -32,7 +32,7 @@ pub struct MemFolder {
 }
 
 impl MemFolder {
-    /// A folder without a file, and with a count of 0.
+    /// An empty folder, with a fault count of 0.
     pub fn new(alloc: Global) -> MemFolder
         ensures files { result.entries.items ≡ [] }
         ensures faults { ⟦<MemFolder as Folder>⟧.faults result ≡ 0 }
@@ -85,7 +85,7 @@ impl Folder for MemFolder {
 
     ghost faults = { λ s. s.faults };
 
-    /// Gives a source over the bytes.
+    /// Returns a source over the bytes.
     fn open(&mut self, name: &str) -> Result<MemInput, FileFault> {
         let alloc = self.alloc;
         match opened(alloc, &self.entries, name) {
@@ -94,7 +94,7 @@ impl Folder for MemFolder {
         }
     }
 
-    /// Says why a read has failed last, where one has.
+    /// Returns the last fault of a read, if any.
     fn close(&mut self, input: MemInput) -> Result<(), FileFault> {
         match input.fault() {
             None => Ok(()),
@@ -102,7 +102,7 @@ impl Folder for MemFolder {
         }
     }
 
-    /// Gives the name no byte, where no file has it.
+    /// Creates an empty file with this name, which no file has.
     fn draft(&mut self, part: &str) -> Result<MemDraft, FileFault> {
         match begun(self.alloc, &mut self.entries, part) {
             Ok(draft) => Ok(draft),
@@ -110,7 +110,7 @@ impl Folder for MemFolder {
         }
     }
 
-    /// Gives the name the bytes, and takes the part away.
+    /// Gives the name the bytes, and removes the part.
     fn publish(&mut self, draft: MemDraft, part: &str, name: &str) -> Result<(), FileFault> {
         match published(self.alloc, &mut self.entries, draft, part, name) {
             Ok(()) => Ok(()),
@@ -118,7 +118,7 @@ impl Folder for MemFolder {
         }
     }
 
-    /// Takes the part away.
+    /// Removes the part.
     fn discard(&mut self, draft: MemDraft, part: &str) -> Result<(), FileFault> {
         if set(self.alloc, &mut self.entries, part, None).is_err() || draft.faults() != 0 {
             return Err(self.failed(FileFault::NoMemory));
@@ -127,7 +127,7 @@ impl Folder for MemFolder {
     }
 }
 
-// Notes what became of a name.
+// Adds a change of a name.
 fn set(
     alloc: Global,
     entries: &mut Vec<Entry>,
@@ -135,7 +135,7 @@ fn set(
     bytes: Option<Vec<u8>>,
 ) -> Result<(), AllocError>
     ensures sets { OnOk result (Sets (bytes_at entries.old.items) (bytes_at entries.new.items)
-        name.now (items_of bytes)) }
+        name.now (contents_of bytes)) }
     ensures same { OnErr result (entries.new.items ≡ entries.old.items) }
 {
     let name = String::from_str(alloc, name)?;
@@ -145,7 +145,7 @@ fn set(
 
 // The bytes of an entry.
 fn bytes_in(entry: &Entry) -> Option<&[u8]>
-    ensures { option_map (λ bytes. bytes.now) result ≡ items_of entry.now.bytes }
+    ensures { option_map (λ bytes. bytes.now) result ≡ contents_of entry.now.bytes }
 {
     match &entry.bytes {
         Some(bytes) => Some(bytes.as_slice()),
@@ -179,7 +179,7 @@ fn opened(alloc: Global, entries: &[Entry], name: &str) -> Result<MemInput, File
     }
 }
 
-// Gives the name no byte, where no file has it.
+// Creates an empty file with this name, which no file has.
 fn begun(alloc: Global, entries: &mut Vec<Entry>, part: &str) -> Result<MemDraft, FileFault>
     ensures none { OnOk result (bytes_at entries.old.items part.now ≡ None) }
     ensures empty { IfOk result (λ draft. ⟦<MemDraft as Sink>⟧.written draft ≡ Some []) }
@@ -196,7 +196,7 @@ fn begun(alloc: Global, entries: &mut Vec<Entry>, part: &str) -> Result<MemDraft
     }
 }
 
-// Gives the name the bytes, and takes the part away.
+// Gives the name the bytes, and removes the part.
 fn published(
     alloc: Global,
     entries: &mut Vec<Entry>,

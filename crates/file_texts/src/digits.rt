@@ -1,4 +1,4 @@
-//! Digits of numbers, with zeros in front.
+//! Decimal digits of numbers, with leading zeros.
 
 ghost use Rattle.std.specs.Prelude.{◌≡◌, ◌+◌, ◌<◌, ◌++◌, ◌∷◌, [], OnOk};
 ghost use Rattle.std.specs.String.{string_bytes};

@@ -1,4 +1,4 @@
-//! Why a file is not converted.
+//! Why a file is not converted, and the message and exit status for it.
 
 ghost use Rattle.std.specs.Prelude.{◌≡◌};
 ghost use Rattle.file_texts.specs.Says.{status_of};
@@ -10,23 +10,23 @@ use std::fmt;
 /// Why a file is not converted, or not to its end.
 #[derive(Clone, Copy, Debug, Drop)]
 pub enum Refusal<'a> {
-    /// A file of this form is not converted to that.
+    /// A file of this form is not converted to the target.
     NoSuchConversion(Kind),
     /// No conversion takes a file of this form.
     NoConversion(Kind),
-    /// The value of `--date` is no date.
+    /// The value of `--date` is not a date.
     Date(&'a str),
-    /// The value of `--week` is no week near which a file is read.
+    /// The value of `--week` is not a valid reference week.
     Week(&'a str),
-    /// The input has no name of a file, so that its output has none.
+    /// The input has no file name, so that its output has none.
     NoName,
     /// The input was not opened.
     NotOpened(FileFault),
-    /// Reading failed after so many bytes.
+    /// A read failed after this number of bytes.
     ReadFault(u64, FileFault),
-    /// A file has the name of the output.
+    /// A file with the name of the output exists.
     OutputThere(&'a str),
-    /// A file has the name of the part.
+    /// A file with the name of the part exists.
     PartThere(&'a str),
     /// The output is the input itself.
     SameFile(&'a str),
@@ -34,18 +34,18 @@ pub enum Refusal<'a> {
     WriteFault(&'a str, FileFault),
     /// The first line or the header of a file of this form is not accepted.
     NotAccepted(Kind),
-    /// There was no memory.
+    /// Memory was missing.
     NoMemory,
-    /// The report was not written.
+    /// The report could not be written.
     ReportFault,
     /// The input is too long.
     TooLong,
-    /// A word of the command line is not UTF-8.
+    /// A command-line word is not UTF-8.
     Word,
 }
 
 impl Refusal<'_> {
-    /// The status of the program.
+    /// The exit status of the program.
     pub fn status(&self) -> u8
         ensures { result ≡ status_of self.now }
     {
@@ -69,7 +69,7 @@ impl Refusal<'_> {
     }
 }
 
-/// What a file of this form is.
+/// A description of this form of a file.
 pub fn kind_text(kind: Kind) -> &'static str {
     match kind {
         Kind::Empty => "an empty file",
@@ -93,7 +93,7 @@ pub fn kind_text(kind: Kind) -> &'static str {
     }
 }
 
-/// To what a file of this form converts, or how it can be made one that does.
+/// The targets of a file of this form, or how to make it one that can be converted.
 pub fn targets_of(kind: Kind) -> &'static str {
     match kind {
         Kind::Capture1 | Kind::Capture2 => "that converts to rinex, rinex3, rtcm, list, count",
@@ -113,7 +113,7 @@ pub fn targets_of(kind: Kind) -> &'static str {
     }
 }
 
-// What a call on a file failed for.
+// A description of why a call on a file failed.
 fn fault_text(fault: FileFault) -> &'static str {
     match fault {
         FileFault::NotFound => "there is no such file",

@@ -8,3 +8,4 @@ mod Takes
 mod Promising
 mod HeadingLaws
 pub mod Going
+pub mod Surface

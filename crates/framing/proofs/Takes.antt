@@ -1,4 +1,4 @@
--- The step of a deframer at the first place: it takes a message, or none.
+-- The step of a deframer at the first offset: it finds a message, or none.
 use Rattle.std.proofs.Common.{get_or, ◌≡◌, ℕ, ◌+◌, ◌-◌, ◌<◌, ◌&&◌, nat_lt}
 use Rattle.std.proofs.Common.{Bool, true, false, if◌then◌else◌, List, [], ◌∷◌, ◌++◌, length, take}
 use Rattle.std.proofs.Common.{drop, refl, sym, ◌∙◌, inl, inr, arith, length-drop}
@@ -13,25 +13,25 @@ use Rattle.framing.proofs.MessageLaws.{messages_past-drop, drop_first}
 use Rattle.framing.proofs.FirstPlace.{IsHeld, first_is_held, length-from_first, messages_from_first}
 use Rattle.framing.proofs.FirstPlace.{past_from_first, after_from_first, open_from_first}
 
--- no bytes begin no message
+-- no message begins where there are no bytes
 none_size : (format : Format) → IsFormat format → 0 < format.size [] → ⊥
 none_size format laws h = omega (arith, laws.size_le [])
 
--- where a whole message begins, it is not open
+-- a complete message is not incomplete
 closed_by : (format : Format) → IsFormat format → (xs : List ℕ) → 0 < format.size xs
     → format.is_open xs ≡ false
 closed_by format laws xs h = false_from_ne_true _ (λ o. omega (arith, laws.size_of_open xs o))
 
--- a message at the front, with bytes behind
-pub messages-front : (format : Format) → IsFormat format → (r c : List ℕ) → 0 < format.size r
+-- a first message, with bytes following
+pub messages-prefix : (format : Format) → IsFormat format → (r c : List ℕ) → 0 < format.size r
     → messages format (r ++ c) ≡ take (format.size r) r
     ∷ messages format (drop (format.size r) r ++ c)
-messages-front format laws [] c h = absurd (none_size format laws h)
-messages-front format laws (x ∷ xs) c h =
+messages-prefix format laws [] c h = absurd (none_size format laws h)
+messages-prefix format laws (x ∷ xs) c h =
     let n = format.size (x ∷ xs) in
     let f : nat_lt 0 (format.size (x ∷ xs)) ≡ true = lt-ltb _ _ h in
     let size = laws.size_le (x ∷ xs) in
-    let front : take (format.size (x ∷ xs)) (x ∷ (xs ++ c)) ≡ take (format.size (x ∷ xs)) (x ∷ xs) =
+    let prefix : take (format.size (x ∷ xs)) (x ∷ (xs ++ c)) ≡ take (format.size (x ∷ xs)) (x ∷ xs) =
     take-append-le (format.size (x ∷ xs)) (x ∷ xs) c size in
     let rest : drop (format.size (x ∷ xs) - 1) (xs ++ c) ≡ drop (format.size (x ∷ xs) - 1) xs ++ c =
     drop-append-le (format.size (x ∷ xs) - 1) xs c (omega arith) in
@@ -40,18 +40,18 @@ messages-front format laws (x ∷ xs) c h =
     rw (
       laws.size_append x xs c (closed_by format laws (x ∷ xs) h),
       f,
-      front,
+      prefix,
       behind,
       messages_past-drop format false (xs ++ c) (format.size (x ∷ xs) - 1),
       rest,
     ) refl
 
--- a message at the front
-past-front : (format : Format) → IsFormat format → (more : Bool) (r : List ℕ) → 0 < format.size r
+-- a first message
+past-prefix : (format : Format) → IsFormat format → (more : Bool) (r : List ℕ) → 0 < format.size r
     → messages_past format more r 0 ≡ take (format.size r) r
     ∷ messages_past format more (drop (format.size r) r) 0
-past-front format laws more [] h = absurd (none_size format laws h)
-past-front format laws more (x ∷ xs) h =
+past-prefix format laws more [] h = absurd (none_size format laws h)
+past-prefix format laws more (x ∷ xs) h =
     let f : nat_lt 0 (format.size (x ∷ xs)) ≡ true = lt-ltb _ _ h in
     let closed : (more && format.is_open (x ∷ xs)) ≡ false =
     and_right more _ (closed_by format laws (x ∷ xs) h) in
@@ -59,13 +59,13 @@ past-front format laws more (x ∷ xs) h =
     drop_first x xs (format.size (x ∷ xs)) h in
     rw (closed, f, behind, messages_past-drop format more xs (format.size (x ∷ xs) - 1)) refl
 
-after-front : (format : Format) → IsFormat format → (r : List ℕ) → 0 < format.size r
+after-prefix : (format : Format) → IsFormat format → (r : List ℕ) → 0 < format.size r
     → after_first format r ≡ drop (format.size r) r
-after-front format laws [] h = absurd (none_size format laws h)
-after-front format laws (x ∷ xs) h = let f : nat_lt 0 (format.size (x ∷ xs)) ≡ true =
+after-prefix format laws [] h = absurd (none_size format laws h)
+after-prefix format laws (x ∷ xs) h = let f : nat_lt 0 (format.size (x ∷ xs)) ≡ true =
     lt-ltb _ _ h in rw f refl
 
--- the message that begins at the first place is taken
+-- the message that begins at the first offset is found
 pub takes_message : (format : Format) → IsFormat format → (more : Bool) (old : List ℕ)
     → 0 < format.size (from_first format more old)
     → TakesMessage format more old (take (format.size (from_first format more old))
@@ -73,11 +73,11 @@ pub takes_message : (format : Format) → IsFormat format → (more : Bool) (old
     (from_first format more old))
 takes_message format laws more old h = record {
   stream = λ following last. messages_from_first format laws more following last old
-      ∙ messages-front format laws (from_first format more old) following h;
+      ∙ messages-prefix format laws (from_first format more old) following h;
   first = past_from_first format more old
-      ∙ past-front format laws more (from_first format more old) h;
+      ∙ past-prefix format laws more (from_first format more old) h;
   rest = sym (after_from_first format more old
-      ∙ after-front format laws (from_first format more old) h);
+      ∙ after-prefix format laws (from_first format more old) h);
   shorter = omega (
     arith,
     length-from_first format more old,
@@ -88,7 +88,7 @@ takes_message format laws more old h = record {
   );
 }
 
--- what is held has no message, and is what is undecided
+-- the bytes held have no message, and are undecided
 held_none : (format : Format) → (more : Bool) (r : List ℕ) → IsHeld format more r
     → messages_past format more r 0 ≡ []
 held_none format more [] held = refl
@@ -109,7 +109,7 @@ held_rest format true old held = sym (open_from_first format old
     ∙ held_open format (from_first format true old) held)
 held_rest format false old held = elim held [ inl e ↦ e | inr h ↦ absurd (false≢true h.0) ]
 
--- where no message begins at the first place, none is taken
+-- where no message begins at the first offset, none is found
 pub takes_none : (format : Format) → IsFormat format → (more : Bool) (old : List ℕ)
     → format.size (from_first format more old) ≡ 0
     → TakesNone format more old (from_first format more old)
@@ -134,7 +134,7 @@ waiting_size : (format : Format) → IsFormat format → (rest : List ℕ) → I
 waiting_size format laws rest w = elim w
     [ inl e ↦ rw e (omega (arith, laws.size_le [])) | inr o ↦ laws.size_of_open rest o ]
 
--- while bytes wait, none is taken
+-- while bytes wait, none is found
 pub waits_for_more : (format : Format) → IsFormat format → (rest : List ℕ) → IsWaiting format rest
     → TakesNone format true rest rest
 waits_for_more format laws rest w =
@@ -153,7 +153,7 @@ pub waiting_undecided : (format : Format) → (rest : List ℕ) → IsWaiting fo
 waiting_undecided format [] w = refl
 waiting_undecided format (x ∷ xs) w = elim w [ inl e ↦ cc | inr o ↦ rw o refl ]
 
--- the same at the bytes from the first place on
+-- the same for the bytes from the first offset on
 pub none_at_first : (format : Format) → IsFormat format → (more : Bool) (old rest : List ℕ)
     → rest ≡ from_first format more old → format.size rest ≡ 0 → TakesNone format more old rest
 none_at_first format laws more old rest e none =
@@ -173,7 +173,7 @@ message_at_first format laws more old rest frame size e n some f =
     let there : 0 < format.size (from_first format more old) = rw (n, e) at some in
     rw (f, n, e) (takes_message format laws more old there)
 
--- where the bytes are held, they are from their first place on
+-- where the bytes are held, the first offset is 0
 pub first_at_held : (format : Format) → (more : Bool) (b : List ℕ)
     → (more && format.is_open b) ≡ true → from_first format more b ≡ b
 first_at_held format more [] h = refl
@@ -197,10 +197,10 @@ first_at_message format laws more (x ∷ xs) h =
     and_right more _ (closed_by format laws (x ∷ xs) h) in
     rw (closed, f) refl
 
-passed_front : (format : Format) → (more : Bool) (x : ℕ) (xs b : List ℕ) → b ≡ x ∷ xs
+passed_prefix : (format : Format) → (more : Bool) (x : ℕ) (xs b : List ℕ) → b ≡ x ∷ xs
     → (more && format.is_open b) ≡ false → format.size b ≡ 0
     → from_first format more b ≡ from_first format more xs
-passed_front format more x xs b e closed none =
+passed_prefix format more x xs b e closed none =
     let f : nat_lt 0 (format.size b) ≡ false = le-ltb _ _ (omega arith) in
     rw e (rw (rw e at closed, rw e at f) refl)
 
@@ -209,5 +209,5 @@ pub first_passed : (format : Format) → (more : Bool) (b : List ℕ) (i : ℕ) 
     → (more && format.is_open (drop i b)) ≡ false → format.size (drop i b) ≡ 0
     → from_first format more (drop i b) ≡ from_first format more (drop (i + 1) b)
 first_passed format more b i h closed none =
-    passed_front format more (get_or b i 0) (drop (i + 1) b) (drop i b)
+    passed_prefix format more (get_or b i 0) (drop (i + 1) b) (drop i b)
     (drop_more b i 0 h) closed none

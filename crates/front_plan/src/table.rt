@@ -1,4 +1,4 @@
-//! The table of conversions: which values each takes.
+//! The table of conversions: which options each takes.
 
 ghost use Rattle.std.specs.Prelude.{◌≡◌, ◌≢◌, None, Some, MatchOption};
 ghost use Rattle.front_plan.specs.Table.{row_of, capture_row, stream_row, file_row, file4_row};
@@ -7,7 +7,7 @@ ghost use Rattle.front_plan.specs.declared.table.Target.{Target};
 
 use file_form::Kind;
 
-/// What is made.
+/// The form that is written.
 #[derive(Clone, Copy, PartialEq, Eq, Debug)]
 pub enum Target {
     /// A navigation file of RINEX 4.
@@ -22,16 +22,16 @@ pub enum Target {
     Count,
     /// A line for each frame.
     Frames,
-    /// One navigation file of several.
+    /// One navigation file merged from several.
     Merged,
-    /// The times that have an ephemeris.
+    /// The times for which there is an ephemeris.
     Cover,
     /// A capture.
     Capture,
 }
 
 impl Target {
-    /// Its word in `--to`.
+    /// Its `--to` word.
     pub fn word(self) -> &'static str
         ensures { result.now ≡ to_word self }
     {
@@ -48,7 +48,7 @@ impl Target {
         }
     }
 
-    /// The ending of its files.
+    /// The ending of its file names.
     pub fn ending(self) -> &'static str
         ensures { result.now ≡ ending_of self }
     {
@@ -65,18 +65,18 @@ impl Target {
     }
 }
 
-/// Whether a week is given.
+/// Whether `navbridge` is given a reference week.
 #[derive(Clone, Copy, PartialEq, Eq, Debug)]
 pub enum WeekRule {
-    /// None is.
+    /// Never.
     Never,
-    /// One is, where it is named.
+    /// Only where the command line names one.
     IfNamed,
-    /// One is: that which is named, or that of the clock.
+    /// Always: the one that is named, or else that of the clock.
     Always,
 }
 
-/// The values that a conversion takes.
+/// The options that a conversion takes.
 #[derive(Clone, Copy, PartialEq, Eq, Debug)]
 pub struct Row {
     /// Whether it takes a week.
@@ -85,7 +85,7 @@ pub struct Row {
     pub header: bool,
 }
 
-/// The values that the conversion of a file of this form takes, where there is one.
+/// The options that the conversion of a file of this form takes, where there is one.
 pub fn row_of(kind: Kind, target: Target) -> Option<Row>
     ensures { result ≡ row_of kind target }
 {
@@ -152,7 +152,7 @@ fn file4_row(target: Target) -> Option<Row>
     }
 }
 
-/// The word of a form in `--from`; nothing for a form that no conversion takes.
+/// The `--from` word of a form; empty for a form that cannot be converted.
 pub fn from_word(kind: Kind) -> &'static str
     ensures { result.now ≡ from_word kind }
 {
@@ -165,7 +165,7 @@ pub fn from_word(kind: Kind) -> &'static str
     }
 }
 
-/// What a word of `--to` names.
+/// The target that a `--to` word names.
 pub fn target_named(word: &str) -> Option<Target>
     ensures { MatchOption result ((target : Target) → word.now ≢ to_word target)
         (λ target. word.now ≡ to_word target) }
@@ -184,7 +184,7 @@ pub fn target_named(word: &str) -> Option<Target>
     }
 }
 
-/// The form that a word of `--from` names, of captures that which takes a week where none is named.
+/// The form that a `--from` word names; `capture` is taken as one that names no week.
 pub fn kind_named(word: &str) -> Option<Kind>
     ensures { result ≡ kind_named word.now }
 {

@@ -42,7 +42,7 @@ fn bytes_that_were_looked_at_come_again(rt: HostRuntime) -> Result<(), Fail> {
     for most in [0, 1, 3, 7, 13, 80] {
         let source = source_of(rt.alloc(), text, 99)?;
         let peeked = peek(rt.alloc(), source, most).map_err(|_| "looked at")?;
-        assert!(rt; peeked.front() == &text[..most.min(text.len())]);
+        assert!(rt; peeked.prefix() == &text[..most.min(text.len())]);
         let mut counted = Counted::new(peeked, Last(0));
         let bytes = read_all(rt.alloc(), &mut counted)?;
         assert!(rt; bytes.as_slice() == text && counted.count() == 13);

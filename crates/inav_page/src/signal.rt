@@ -3,8 +3,8 @@ ghost use Rattle.inav_page.specs.Mirrors.{signal_number};
 
 use nav_eph::Signal;
 
-// Its place in the order of signals.
-pub(crate) fn number_of(signal: Signal) -> u64
+// The number of a signal in the order of signals.
+pub(crate) fn signal_code(signal: Signal) -> u64
     ensures { result ≡ signal_number signal }
 {
     match signal {

@@ -11,7 +11,7 @@ use Rattle.periods.specs.declared.closed.Closed.{Closed}
 use Rattle.capture_lines.specs.Heads.{IsHead, head_of}
 use Rattle.capture_lines.specs.declared.head.CaptureHead.{CaptureHead}
 use Rattle.capture_log.specs.Heard.{IsPartHeard}
-use Rattle.capture_log.specs.Log.{items_of, parts_of}
+use Rattle.capture_log.specs.Log.{line_items_of, parts_of}
 use Rattle.rinex_write.specs.Texts.{IsHeader, rinex_text}
 use Rattle.rinex_write.specs.Texts3.{ephemerides, rinex3_text}
 use Rattle.rinex_write.specs.declared.words.HeaderWords.{HeaderWords}
@@ -29,9 +29,9 @@ use Rattle.job_laws.proofs.References.{capture_reference}
 -- what the crates below say
 pub record Laws : Type 0 where
   pub heard : (r window : ℕ) (lines : List Line)
-      → ArePeriods r window (IsPartHeard window (items_of lines)) (periods_of r window (parts_of window lines))
+      → ArePeriods r window (IsPartHeard window (line_items_of lines)) (periods_of r window (parts_of window lines))
   pub whole : (r window : ℕ) (lines : List Line) (ps : List Closed) → IsReference r
-      → ArePeriods r window (IsPartHeard window (items_of lines)) ps → All IsItem (items_in ps)
+      → ArePeriods r window (IsPartHeard window (line_items_of lines)) ps → All IsItem (items_in ps)
   pub head : (line : List ℕ) (head : CaptureHead) → (head_of line ≡ Some head) ↔ IsHead head line
   pub messages : MessageLaws
   pub back : (h : HeaderWords) (is : List NavItem) → IsHeader h → AreItems is → rinex_list (rinex_text h is) ≡ is

@@ -1,11 +1,11 @@
-//! The laws: each function does nothing, and its contract is the law.
+//! The laws: each is the contract of an empty function.
 
 ghost use Rattle.std.specs.Prelude.{◌≡◌, ℕ, List, Option, Some, IfSome};
 ghost use Rattle.gnss_week.specs.Weeks.{IsReference};
 ghost use Rattle.rinex_write.specs.Texts.{IsHeader};
 ghost use Rattle.rinex_write.specs.declared.words.HeaderWords.{HeaderWords};
 ghost use Rattle.outlets.specs.declared.target.Target.TheVariants as targets;
-ghost use Rattle.capture_log.specs.Log.{items_of};
+ghost use Rattle.capture_log.specs.Log.{line_items_of};
 ghost use Rattle.capture_laws.specs.Counted.{ArePairsHeard, Pair};
 ghost use Rattle.captures.specs.Captures.{Capture, capture_meaning, capture_of, counts_of};
 ghost use Rattle.captures.specs.Captures.{output_of};
@@ -16,8 +16,8 @@ ghost use Rattle.job_laws.specs.CountedLines.{CountLines};
 ghost use Rattle.job_laws.specs.SayTheSame.{IsOfPeriods, SayTheSame};
 ghost use Rattle.job_laws.specs.Written.{ConvertCapture, IsWritten};
 
-/// Of two captures of one week and one window with the same lines, in whatever order and however
-/// often, none of them late, the same is written, in every form but that of the counts.
+/// Two captures of one week and one window with the same lines, in any order and repeated or not, none
+/// of them late, give the same output in every form but the counts.
 pub fn order_of_lines_changes_no_text()
     ensures captures { (to : CaptureTo) (week named : Option ℕ) (bytes other : List ℕ)
         (c d : Capture) → IsOfPeriods to → capture_of week bytes ≡ Some c
@@ -30,22 +30,22 @@ pub fn order_of_lines_changes_no_text()
         → capture_of week bytes ≡ Some c → capture_of named other ≡ Some d → SayTheSame c d
         → IsWritten words bytes text → IsWritten others other another → text ≡ another }
 {
-    capture_log::order_of_lines_is_nothing();
+    capture_log::order_of_lines_does_not_matter();
     bridge_engine::words_give_one_job();
 }
 
-/// Each count of a capture's report is of so many events: of those that each line brings by itself,
-/// and of those that each word heard brings, once, however its pairs of halves are listed.
+/// Each count of a capture's report is a number of events: those of each line alone, and those of each
+/// word received, once, in whatever order the pairs of page parts are listed.
 pub fn counts_are_of_lines_and_words()
-    ensures { (c : Capture) (pairs : List Pair) → ArePairsHeard c.window (items_of c.lines) pairs
+    ensures { (c : Capture) (pairs : List Pair) → ArePairsHeard c.window (line_items_of c.lines) pairs
         → CountLines c pairs (counts_of c) }
 {
     capture_laws::events_are_counted();
 }
 
-/// What is written of a capture is the text of the items of the periods of the parts heard, and it
-/// is read as these items; each ephemeris's message is read as it, but for when it was sent, near a
-/// week in whose span its own lies.
+/// The output for a capture is the text of the items of the periods of the parts received, and reads
+/// back as these items; the message of each ephemeris reads back as it, without its transmission time,
+/// for a reference week near its own.
 pub fn converted_captures_come_back()
     ensures rinex { (week : Option ℕ) (header : HeaderWords) (bytes : List ℕ) (c : Capture)
         → IfSome week IsReference → IsHeader header → capture_of week bytes ≡ Some c
@@ -69,7 +69,7 @@ pub fn converted_captures_come_back()
     rinex_read::files3_are_read();
 }
 
-/// The same over the words of the command line: whatever text their job writes of a capture.
+/// The same for the words of a command line: whatever text their job writes of a capture.
 pub fn what_is_converted_comes_back()
     ensures rinex { (words : List (List ℕ)) (week : Option ℕ) (header : HeaderWords)
         (bytes text : List ℕ) (c : Capture) → ConvertCapture words (Rinex header) week

@@ -30,10 +30,10 @@ const FOUR_HOURS_LATER: &str = concat!(
 
 #[test]
 fn merges_files(rt: HostRuntime) -> Result<(), Fail> {
-    let (front, rest) = around(RECORD, SENT);
+    let (prefix, rest) = around(RECORD, SENT);
     let report = "records 2\nrefused 0\npassed 0\nitems 2\nkept 1\n";
     for (first, second) in [(SENT, SENT), (UNKNOWN, SENT), (SENT, UNKNOWN)] {
-        let input = [HEADER, front, first, rest, HEADER, front, second, rest];
+        let input = [HEADER, prefix, first, rest, HEADER, prefix, second, rest];
         let holds = ends(rt.alloc(), MERGE, &input, 0, &[HEADER, RECORD], &[report])?;
         assert!(rt; holds, "{first}{second}");
     }
@@ -53,7 +53,7 @@ fn merges_in_the_order_of_rank(rt: HostRuntime) -> Result<(), Fail> {
 // ranges that their file covers.
 #[derive(Clone, Copy)]
 struct Covered {
-    front: &'static str,
+    prefix: &'static str,
     record: &'static str,
     changes: [(&'static str, &'static str); 2],
     ranges: &'static str,
@@ -61,25 +61,25 @@ struct Covered {
 
 const COVERED: [Covered; 5] = [
     Covered {
-        front: "",
+        prefix: "",
         record: RECORD,
         changes: [("", ""), ("", "")],
         ranges: "G05 1388008800 1388023200\n",
     },
     Covered {
-        front: "",
+        prefix: "",
         record: GALILEO,
         changes: [("", ""), ("", "")],
         ranges: "E11 1388008800 1388023200\n",
     },
     Covered {
-        front: RECORD,
+        prefix: RECORD,
         record: FOUR_HOURS_LATER,
         changes: [("", ""), ("", "")],
         ranges: "G05 1388008800 1388037600\n",
     },
     Covered {
-        front: RECORD,
+        prefix: RECORD,
         record: FOUR_HOURS_LATER,
         changes: [
             ("31 04 00 00", "31 04 00 16"),
@@ -88,7 +88,7 @@ const COVERED: [Covered; 5] = [
         ranges: "G05 1388008800 1388023200\nG05 1388023216 1388037616\n",
     },
     Covered {
-        front: "",
+        prefix: "",
         record: RECORD,
         changes: [("4.000000000000D+00\n", "6.000000000000D+00\n"), ("", "")],
         ranges: "G05 1388005200 1388026800\n",
@@ -99,9 +99,9 @@ impl Covered {
     // Whether a run over the file writes these ranges, and reports so.
     fn is_covered(&self, alloc: Global, report: &[&str]) -> Result<bool, AllocError> {
         let [(old, new), (other, another)] = self.changes;
-        let (front, rest) = around(self.record, old);
+        let (prefix, rest) = around(self.record, old);
         let (between, rest) = around(rest, other);
-        let input = [HEADER, self.front, front, new, between, another, rest];
+        let input = [HEADER, self.prefix, prefix, new, between, another, rest];
         ends(alloc, COVER, &input, 0, &[self.ranges], report)
     }
 }

@@ -41,20 +41,20 @@ const BITS: [(&str, &[u8]); 34] = [
     ),
     // Subframe 1 at the end of week 246: count 100,796, all else 0.
     (
-        "TURN_1",
+        "ROLLOVER_1",
         b"8b00004b13781583d8000d7fffffd6000000a7fffffd6000000a7fffffd6000000a7fffff200",
     ),
     // Subframe 2: count 100,797, all else 0.
     (
-        "TURN_2",
+        "ROLLOVER_2",
         b"8b00004b137a2300000000000000000000000000000000000000000000000000000000000000",
     ),
     // Subframe 3: count 100,798, all else 0.
     (
-        "TURN_3",
+        "ROLLOVER_3",
         b"8b00004b137c3400000000000000000000000000000000000000000000000000000000000000",
     ),
-    // The front of subframe 3 whose third word has a wrong parity.
+    // The prefix of subframe 3 whose third word has a wrong parity.
     (
         "BAD_PARITY",
         b"8b000048000631c8000000000000000000000000000000000000000000000000000000000000",

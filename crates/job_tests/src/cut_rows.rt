@@ -35,11 +35,11 @@ fn is_judged(
     report: &str,
 ) -> Result<bool, AllocError> {
     let file = expand(alloc, &[HEADER, RECORD])?;
-    let front = lines_before(file.as_slice(), number);
+    let prefix = lines_before(file.as_slice(), number);
     ends_over(
         alloc,
         FILE_TO_LIST,
-        front,
+        prefix,
         &NOTHING_FAILS,
         status,
         &[list],
@@ -68,7 +68,7 @@ fn judges_a_file_cut_behind_each_line(rt: HostRuntime) -> Result<(), Fail> {
 // How many bytes the frame of the ephemeris of GPS has.
 const LENGTH: usize = 67;
 
-// Whether no frame is found in the front of this length of that frame, in which some bits of the
+// Whether no frame is found in the prefix of this length of that frame, in which some bits of the
 // byte at this place are turned.
 fn finds_none(alloc: Global, length: usize, place: usize, mask: u8) -> Result<bool, AllocError> {
     let mut frame = expand(alloc, &["{GPS_FRAME}"])?;

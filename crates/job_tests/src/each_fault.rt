@@ -1,7 +1,7 @@
 //! A capture of which each read, each write of the output and each write of the report fails in
 //! turn.
 
-use crate::over_memory::{FRONT, Failing, around, ends_failing};
+use crate::over_memory::{Failing, PREFIX, around, ends_failing};
 use crate::samples::{FIRST, GALILEO, HEADER, TO_RINEX, WORD_5, WORDS};
 use std::alloc::{AllocError, Global};
 use std::test::Fail;
@@ -81,14 +81,14 @@ const FAULTS: [Fault; 6] = [
         reports: &[0],
         status: 7,
         parts: 4,
-        report: [FRONT, COUNTS],
+        report: [PREFIX, COUNTS],
     },
     Fault {
         writes: &[],
         reports: &[1],
         status: 0,
         parts: 4,
-        report: [FRONT, COUNTS],
+        report: [PREFIX, COUNTS],
     },
 ];
 
@@ -117,7 +117,7 @@ impl Fault {
 }
 
 #[test]
-fn writes_a_front_where_a_write_fails(rt: HostRuntime) -> Result<(), Fail> {
+fn writes_a_prefix_where_a_write_fails(rt: HostRuntime) -> Result<(), Fail> {
     for case in &FAULTS {
         assert!(rt;
             case.is_answered(rt.alloc())?,

@@ -2,7 +2,7 @@
 
 use crate::bits::expand;
 use crate::over_memory::{
-    ANYTHING, FRONT, Failing, NOTHING_FAILS, Outcome, REPORT_FAILS, around, ends, ends_failing,
+    ANYTHING, Failing, NOTHING_FAILS, Outcome, PREFIX, REPORT_FAILS, around, ends, ends_failing,
     run_over,
 };
 use crate::samples::{FILE_TO_LIST, FILE_TO_RINEX, GALILEO, HEADER, ONE_ITEM, RECORD};
@@ -142,9 +142,9 @@ const READINGS: [Reading; 15] = [
 impl Reading {
     // Whether the conversion of the file has there what is printed.
     fn is_printed(&self, alloc: Global) -> Result<bool, AllocError> {
-        let (front, rest) = around(self.record, self.old);
-        let input = [HEADER, front, self.new, rest];
-        let want = [HEADER, front, self.printed, rest];
+        let (prefix, rest) = around(self.record, self.old);
+        let input = [HEADER, prefix, self.new, rest];
+        let want = [HEADER, prefix, self.printed, rest];
         ends(alloc, FILE_TO_RINEX, &input, 0, &want, &[ANYTHING])
     }
 }
@@ -182,8 +182,8 @@ const REFUSED: [(&str, &str, &str); 10] = [
 #[test]
 fn refuses_records(rt: HostRuntime) -> Result<(), Fail> {
     for &(old, new, reason) in &REFUSED {
-        let (front, rest) = around(RECORD, old);
-        let input = [HEADER, front, new, rest];
+        let (prefix, rest) = around(RECORD, old);
+        let input = [HEADER, prefix, new, rest];
         let report = ["line 5 ", reason, ANYTHING];
         assert!(rt;
             ends(rt.alloc(), FILE_TO_LIST, &input, 0, &[], &report)?,
@@ -271,8 +271,8 @@ const HEADERS: [(&str, &str, u8); 5] = [
 #[test]
 fn judges_the_header(rt: HostRuntime) -> Result<(), Fail> {
     for &(old, new, status) in &HEADERS {
-        let (front, rest) = around(HEADER, old);
-        let input = [front, new, rest, RECORD];
+        let (prefix, rest) = around(HEADER, old);
+        let input = [prefix, new, rest, RECORD];
         let said = if status == 0 { ANYTHING } else { "" };
         let holds = ends(rt.alloc(), FILE_TO_LIST, &input, status, &[said], &[said])?;
         assert!(rt; holds, "{new}");
@@ -290,7 +290,7 @@ const FAULTS: [(Failing<'static>, u8, [&str; 2], &str); 3] = [
             reports: &[],
         },
         3,
-        [FRONT, HEADER],
+        [PREFIX, HEADER],
         "",
     ),
     (

@@ -27,7 +27,7 @@ const TWO_BEHIND: &str = concat!(
 // health of the record.
 #[derive(Clone, Copy)]
 struct Taken {
-    front: &'static str,
+    prefix: &'static str,
     back: &'static str,
     list: &'static str,
     is_ion_first: bool,
@@ -36,21 +36,21 @@ struct Taken {
 
 const TAKEN: [Taken; 3] = [
     Taken {
-        front: ONE_BEFORE,
+        prefix: ONE_BEFORE,
         back: LATER,
         is_ion_first: true,
         list: "7 ION E 00000000000 whole\n7207 EPH E11 5 whole\n",
         health: HEALTHY,
     },
     Taken {
-        front: TWO_BEFORE,
+        prefix: TWO_BEFORE,
         back: LATER,
         is_ion_first: true,
         list: "7 ION E 00000000000 whole\n7207 EPH E11 5 whole\n",
         health: " 3.120000000000D+00 2.000000000000D+00",
     },
     Taken {
-        front: WORDS,
+        prefix: WORDS,
         back: TWO_BEHIND,
         is_ion_first: false,
         list: "7 EPH E11 5 whole\n9 ION E 00000000000 whole\n",
@@ -64,13 +64,13 @@ const HEALTHY: &str = " 3.120000000000D+00 0.000000000000D+00";
 impl Taken {
     // Whether runs over these lines list and write so.
     fn is_taken(&self, alloc: Global) -> Result<bool, AllocError> {
-        let input = [FIRST, self.front, self.back];
+        let input = [FIRST, self.prefix, self.back];
         let (ephemeris, ionosphere) = around(GALILEO, "> ION");
-        let (front, rest) = around(ephemeris, HEALTHY);
+        let (prefix, rest) = around(ephemeris, HEALTHY);
         let want = if self.is_ion_first {
-            [HEADER, "> ION", ionosphere, front, self.health, rest, ""]
+            [HEADER, "> ION", ionosphere, prefix, self.health, rest, ""]
         } else {
-            [HEADER, front, self.health, rest, "", "> ION", ionosphere]
+            [HEADER, prefix, self.health, rest, "", "> ION", ionosphere]
         };
         Ok(
             ends(alloc, TO_LIST, &input, 0, &[self.list], &[ANYTHING])?
@@ -82,17 +82,17 @@ impl Taken {
 #[test]
 fn takes_the_health_nearest_the_end(rt: HostRuntime) -> Result<(), Fail> {
     for case in &TAKEN {
-        assert!(rt; case.is_taken(rt.alloc())?, "{}", case.front);
+        assert!(rt; case.is_taken(rt.alloc())?, "{}", case.prefix);
     }
     Ok(())
 }
 
 #[test]
 fn takes_the_later_side(rt: HostRuntime) -> Result<(), Fail> {
-    let (front, rest) = around(RECORD, " 0.000000000000D+00 2.295000000000D+03");
+    let (prefix, rest) = around(RECORD, " 0.000000000000D+00 2.295000000000D+03");
     let side = " 1.000000000000D+00 2.295000000000D+03";
     let input = [FIRST, GPS, "18 R {FRAME_L2}\n"];
-    let want = [HEADER, front, side, rest];
+    let want = [HEADER, prefix, side, rest];
     assert!(rt; ends(rt.alloc(), TO_RINEX, &input, 0, &want, &[ANYTHING])?);
     Ok(())
 }

@@ -13,8 +13,8 @@ const REPORT_ROOM: usize = 65_536;
 /// The last part of an expected text, behind which anything may stand.
 pub(crate) const ANYTHING: &str = "{*}";
 
-/// The first part of an expected text of which a front stands.
-pub(crate) const FRONT: &str = "{<}";
+/// The first part of an expected text of which a prefix stands.
+pub(crate) const PREFIX: &str = "{<}";
 
 /// What a run answered and wrote.
 #[derive(Drop)]
@@ -113,7 +113,7 @@ fn are_those(alloc: Global, bytes: &[u8], want: &[&str]) -> Result<bool, AllocEr
     if want.last() == Some(&ANYTHING) {
         return Ok(bytes.starts_with(text.as_slice()));
     }
-    if want.first() == Some(&FRONT) {
+    if want.first() == Some(&PREFIX) {
         return Ok(text.starts_with(bytes));
     }
     Ok(bytes == text.as_slice())
@@ -173,6 +173,6 @@ pub(crate) fn ends(
 pub(crate) fn around<'a>(text: &'a str, words: &str) -> (&'a str, &'a str) {
     match text.split_once(words) {
         None => (text, ""),
-        Some((front, rest)) => (front, rest),
+        Some((prefix, rest)) => (prefix, rest),
     }
 }

@@ -68,9 +68,9 @@ const VERSIONS: [(&str, u8); 5] = [
 
 #[test]
 fn takes_versions_of_its_form_alone(rt: HostRuntime) -> Result<(), Fail> {
-    let (front, rest) = around(HEADER, "4.01");
+    let (prefix, rest) = around(HEADER, "4.01");
     for &(version, status) in &VERSIONS {
-        let input = [front, version, rest, RECORD];
+        let input = [prefix, version, rest, RECORD];
         let holds = ends(
             rt.alloc(),
             TO_LIST,
@@ -88,14 +88,14 @@ fn takes_versions_of_its_form_alone(rt: HostRuntime) -> Result<(), Fail> {
 fn passes_over_other_records(rt: HostRuntime) -> Result<(), Fail> {
     let (records, _) = around(GALILEO, "> ION E11");
     let (_, orbit) = around(records, "> EPH E11 INAV\n");
-    let (front, rest) = around(orbit, " 5.170000000000D+02");
+    let (prefix, rest) = around(orbit, " 5.170000000000D+02");
     let glonass = concat!(
         "R01 2023 12 31 00 15 00-5.752365104850D-03 0.000000000000D+00 3.870000000000D+05\n",
         "     1.158612988000D+04-2.010898590000D+00 0.000000000000D+00 0.000000000000D+00\n",
         "     1.150612207000D+04-9.106531140000D-01 0.000000000000D+00 1.000000000000D+00\n",
         "     1.974410205000D+04 1.713361740000D+00-2.793967724000D-09 0.000000000000D+00\n",
     );
-    let input = [OLDER_HEADER, front, " 2.580000000000D+02", rest, glonass];
+    let input = [OLDER_HEADER, prefix, " 2.580000000000D+02", rest, glonass];
     let report = ["records 2\nrefused 0\npassed 2\nitems 0\n"];
     assert!(rt; ends(rt.alloc(), TO_LIST, &input, 0, &[], &report)?);
     Ok(())

@@ -15,8 +15,8 @@ struct Listed {
 
 impl Listed {
     // Whether a run over these lines and the capture's lists and reports so.
-    fn is_listed(&self, alloc: Global, front: &'static str) -> Result<bool, AllocError> {
-        let input = [FIRST, front, self.lines];
+    fn is_listed(&self, alloc: Global, prefix: &'static str) -> Result<bool, AllocError> {
+        let input = [FIRST, prefix, self.lines];
         let report = [self.refusals, "lines ", ANYTHING];
         ends(alloc, TO_LIST, &input, 0, &[self.list], &report)
     }

@@ -77,8 +77,8 @@ const WITHHELD: [Withheld; 3] = [
 #[test]
 fn says_why_an_ephemeris_is_not_sent(rt: HostRuntime) -> Result<(), Fail> {
     for case in &WITHHELD {
-        let (front, rest) = around(RECORD, case.old);
-        let input = [HEADER, front, case.new, rest];
+        let (prefix, rest) = around(RECORD, case.old);
+        let input = [HEADER, prefix, case.new, rest];
         let holds = ends(rt.alloc(), case.words, &input, 0, &[FIRST], &[case.report])?;
         assert!(rt; holds, "{}", case.report);
     }
@@ -104,11 +104,11 @@ fn comes_back(alloc: Global, order: &[u8]) -> Result<bool, AllocError> {
     }
 
     // The transmission time and the epoch of the ionosphere are those of word 5, at toe.
-    let (front, rest) = around(GALILEO, "\n     8.000000000000D+00");
+    let (prefix, rest) = around(GALILEO, "\n     8.000000000000D+00");
     let (between, rest) = around(rest, "31 00 00 08");
     let back = [
         HEADER,
-        front,
+        prefix,
         "\n     0.000000000000D+00",
         between,
         "31 00 00 00",

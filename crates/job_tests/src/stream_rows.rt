@@ -1,6 +1,6 @@
 //! Streams of RTCM frames, converted over memory.
 
-use crate::over_memory::{ANYTHING, FRONT, Failing, REPORT_FAILS, ends, ends_failing};
+use crate::over_memory::{ANYTHING, Failing, PREFIX, REPORT_FAILS, ends, ends_failing};
 use crate::samples::{HEADER, OLDER_HEADER, ORBIT_LINE};
 use std::test::Fail;
 
@@ -104,7 +104,7 @@ const FAULTS: [Fault; 3] = [
         },
         words: TO_RINEX,
         status: 3,
-        output: [FRONT, HEADER],
+        output: [PREFIX, HEADER],
         report: "",
     },
     Fault {

@@ -47,9 +47,9 @@ fn writes_frames(rt: HostRuntime) -> Result<(), Fail> {
 }
 
 #[test]
-fn turns_the_week(rt: HostRuntime) -> Result<(), Fail> {
+fn week_rolls_over(rt: HostRuntime) -> Result<(), Fail> {
     let words = "--from=capture;--to=rinex;--week=2294;--date=20240101 000000 UTC;--leap=18";
-    let input = "NAVCAP 1\n0 L G05 {TURN_1}\n6 L G05 {TURN_2}\n12 L G05 {TURN_3}\n";
+    let input = "NAVCAP 1\n0 L G05 {ROLLOVER_1}\n6 L G05 {ROLLOVER_2}\n12 L G05 {ROLLOVER_3}\n";
     let record = concat!(
         "> EPH G05 LNAV\n",
         "G05 2023 12 31 00 00 00 0.000000000000D+00 0.000000000000D+00 0.000000000000D+00\n",

@@ -6,17 +6,17 @@ use Rattle.std.proofs.lemmas.Nat.Bits.{bit_at-lt, same_from_bits_below}
 use Rattle.lnav_subframe.specs.Parity.{sent, source, d30_star, IsGood, IsSource}
 use Rattle.lnav_subframe.specs.ParityMirrors.{IsParity, masked_sum}
 use Rattle.lnav_subframe.proofs.Sums.{SameSums, same_sums, masked_sum-row_25, masked_sum-row_26, masked_sum-row_27, masked_sum-row_28, masked_sum-row_29, masked_sum-row_30}
-use Rattle.lnav_subframe.proofs.Digits.{all_star, all_source, turned_same}
+use Rattle.lnav_subframe.proofs.WordBits.{all_star, all_source, inverted_same}
 
--- one row: of the masked digits, the parity bit
+-- one row: of the masked bits, the parity bit
 row_parity : (r masked star star' s t : ℕ) → r ≡ masked % 2 → masked ≡ star + s → star ≡ star' → s ≡ t → r ≡ (star' + t) % 2
 row_parity r masked star star' s t e row stars sums = omega arith
 
--- six digits in one number
-pub six_digits : (a b c d e f : ℕ) → a < 2 → b < 2 → c < 2 → d < 2 → e < 2 → f < 2
+-- six bits as one number
+pub six_bits : (a b c d e f : ℕ) → a < 2 → b < 2 → c < 2 → d < 2 → e < 2 → f < 2
     → let n = 32 * a + 16 * b + 8 * c + 4 * d + 2 * e + f in
     (n < 64) × (bit_at n 5 ≡ a) × (bit_at n 4 ≡ b) × (bit_at n 3 ≡ c) × (bit_at n 2 ≡ d) × (bit_at n 1 ≡ e) × (bit_at n 0 ≡ f)
-six_digits a b c d e f p q r s t u = (omega arith, omega arith, omega arith, omega arith, omega arith, omega arith, omega arith)
+six_bits a b c d e f p q r s t u = (omega arith, omega arith, omega arith, omega arith, omega arith, omega arith, omega arith)
 
 -- the six masked sums are the parity bits
 pub parity_is : (bits last a b c d e f : ℕ) → bits < 2 ^ 24
@@ -30,7 +30,7 @@ pub parity_is : (bits last a b c d e f : ℕ) → bits < 2 ^ 24
 parity_is bits last a b c d e f fits p q r s t u =
     let all = last * 2 ^ 24 + bits in
     let sums : SameSums (λ n. bit_at all (24 - n)) (λ n. bit_at bits (24 - n)) = same_sums _ _ (λ n low high. all_source last bits n low) in
-    let digits = six_digits a b c d e f (omega arith) (omega arith) (omega arith) (omega arith) (omega arith) (omega arith) in
+    let digits = six_bits a b c d e f (omega arith) (omega arith) (omega arith) (omega arith) (omega arith) (omega arith) in
     record {
       fits = digits.0;
       d25 = digits.1 ∙ row_parity a _ _ _ _ _ p (masked_sum-row_25 (bit_at all)) (all_star last bits 1 fits) sums.d25;
@@ -50,7 +50,7 @@ even_to x star s t p digit parity sums even = omega arith
 even_same : (x y star s t : ℕ) → x < 2 → y < 2 → s ≡ t → (x + star + s) % 2 ≡ 0 → (y + star + t) % 2 ≡ 0 → x ≡ y
 even_same x y star s t p q sums one two = omega arith
 
--- the digits of the six parity bits are the same
+-- six parity bits with equal bits are equal
 pub record SameParity (word parity : ℕ) : Type 0 where
   pub same : (k : ℕ) → k < 6 → bit_at word k ≡ bit_at parity k
 
@@ -66,7 +66,7 @@ good_from_parity word last bits parity source_bits is same =
       d30 = even_from (bit_at word 0) _ _ _ _ (same.same 0 (lit< tt)) is.d30 sums.d30;
     }
 
--- six facts, one for each digit
+-- six facts, one for each bit
 six : (P : ℕ → Type 0) → P 0 → P 1 → P 2 → P 3 → P 4 → P 5 → (k : ℕ) → k < 6 → P k
 six P a b c d e f zero h = a
 six P a b c d e f (suc zero) h = b
@@ -102,7 +102,7 @@ same_parity w v last bits one two good_w good_v =
     (even_same (bit_at w 4) (bit_at v 4) _ _ _ (bit_at-lt w 4) (bit_at-lt v 4) sums.d26 good_w.d26 good_v.d26)
     (even_same (bit_at w 5) (bit_at v 5) _ _ _ (bit_at-lt w 5) (bit_at-lt v 5) sums.d25 good_w.d25 good_v.d25)
 
--- there is one good word of these source bits
+-- the good word of these source bits is unique
 pub one_word : (w v last bits : ℕ) → w < 2 ^ 30 → v < 2 ^ 30 → IsSource w last bits → IsSource v last bits → IsGood w last → IsGood v last → w ≡ v
 one_word w v last bits fits_w fits_v one two good_w good_v =
     same_from_bits_below 30 w v fits_w fits_v (λ i h. elim (cases_lt i 6) [
@@ -112,6 +112,6 @@ one_word w v last bits fits_w fits_v one two good_w good_v =
           let same : source w last (30 - i) ≡ source v last (30 - i) =
           sym (one.each (30 - i) (omega arith) (omega arith)) ∙ two.each (30 - i) (omega arith) (omega arith) in
           let sent_same : sent w (30 - i) ≡ sent v (30 - i) =
-          turned_same (sent w (30 - i)) (sent v (30 - i)) (d30_star last) (bit_at-lt w _) (bit_at-lt v _) same in
+          inverted_same (sent w (30 - i)) (sent v (30 - i)) (d30_star last) (bit_at-lt w _) (bit_at-lt v _) same in
           ap (bit_at w) (sym back) ∙ sent_same ∙ ap (bit_at v) back
     ])

@@ -1,4 +1,4 @@
--- The function of the reading is the reading.
+-- The function of the reading agrees with the relation.
 use Rattle.std.proofs.Common.{◌≡◌, ℕ, zero, suc, ◌+◌, ◌-◌, ◌*◌, ◌<◌, ◌≤◌, List, Bool, true, false, ◌||◌, if◌then◌else◌, nat_eq, Option, None, Some, Result, Ok, Err, inl, inr, refl, sym, ap, ◌∙◌, subst, arith}
 use Rattle.std.proofs.lemmas.Bool.{cases_lt, cond_both, eqb-true, true≢false}
 use Rattle.nav_bits.specs.Bits.{number_at}
@@ -153,11 +153,11 @@ one_bad : (bits : List ℕ) (word : ℕ) (w : Option ℕ) → IsFirstBad bits wo
 one_bad bits word None bad is = absurd (bad.bad (is (word - 1) (omega arith) (omega (arith, bad.low, bad.high))))
 one_bad bits word (Some v) bad is = ap Some (same_word bits v word (first_bad bits v is) bad)
 
--- by whether the bits begin as a subframe
+-- by whether the bits begin with a preamble
 abbrev by_preamble : List ℕ → Satellite → ℕ → Bool → Result Part LnavFault
 by_preamble bits sat stamp begins = if begins then by_words (upright bits) sat stamp (bad_word_from (upright bits) 0 10) else Err Preamble
 
--- the function gives what the data bits of a subframe stand for, and refuses other bits
+-- the function gives the content of the data bits of a subframe, and refuses other bits
 pub of_subframe : (bits source : List ℕ) (sat : Satellite) (stamp : ℕ) → IsSubframe bits source → subframe_of bits sat stamp ≡ heard sat stamp (content source)
 unfolding subframe_of
 of_subframe bits source sat stamp is =
@@ -176,7 +176,7 @@ pub of_no_preamble : (bits : List ℕ) (sat : Satellite) (stamp : ℕ) → (HasP
 unfolding subframe_of
 of_no_preamble bits sat stamp none = ap (by_preamble bits sat stamp) (no_preamble_from bits none)
 
--- the bits stand for the part that the function gives, and the function gives the part that they stand for
+-- the bits encode the part that the function gives, and the function gives the part that they encode
 abbrev given : Part → Result Part LnavFault
 given p = Ok p
 
@@ -210,14 +210,14 @@ stands_back bits sat stamp part h =
     let t = sym h.1 in
     of_subframe bits h.2.0 sat stamp h.2.1 ∙ ap (heard sat stamp) h.2.2 ∙ (λ i. Ok (record { stamp = s i; sat = t i; body = part.body }))
 
--- what was written is read as it was
-pub read_as_written : (body : SubframeOut) (count : ℕ) (bits : List ℕ) → count < 100800 → IsWritable body → HasTime body → IsWritten body count bits
-    → AllReadAs bits (read_again body count)
-read_as_written body count bits low ok time written sat stamp =
-    let begins : number_at bits 0 8 ≡ 139 = preamble_sent bits written.0 written.2 ∙ preamble_held body count written.0 written.1 in
+-- a written subframe is read with the same content
+pub read_as_written : (body : SubframeOut) (tow_count : ℕ) (bits : List ℕ) → tow_count < 100800 → IsWritable body → HasTime body → IsWritten body tow_count bits
+    → AllReadAs bits (read_again body tow_count)
+read_as_written body tow_count bits low ok time written sat stamp =
+    let begins : number_at bits 0 8 ≡ 139 = preamble_sent bits written.0 written.2 ∙ preamble_held body tow_count written.0 written.1 in
     let up : upright bits ≡ bits = stays bits begins in
     let good : AreGood bits 10 = λ k h. good_word k (word_of bits k) (last_before bits k) _ (written.2.words k h) in
     let right : AreGood (upright bits) 10 = subst (λ (u : List ℕ). AreGood u 10) (sym up) good in
     let is : IsSubframe bits (data_bits_of (upright bits)) = whole bits (inl begins) (λ k l h. right k h) in
     of_subframe bits (data_bits_of (upright bits)) sat stamp is
-    ∙ ap (heard sat stamp) (as_written body count bits written.0 (data_bits_of (upright bits)) low ok time written.1 written.2 up is)
+    ∙ ap (heard sat stamp) (as_written body tow_count bits written.0 (data_bits_of (upright bits)) low ok time written.1 written.2 up is)

@@ -1,5 +1,5 @@
 pub mod Sums
-pub mod Digits
+pub mod WordBits
 pub mod Equations
 pub mod ParityWords
 pub mod Choice

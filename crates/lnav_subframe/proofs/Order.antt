@@ -1,4 +1,4 @@
--- The fault of a reading is the first in the order of those that the subframe has.
+-- The fault of a reading is the first fault of the subframe.
 use Rattle.std.proofs.Common.{◌≡◌, ℕ, zero, suc, ◌-◌, ◌<◌, ◌≤◌, ◌&&◌, ◌↔◌, ◌⊎◌, List, Bool, true, false, nat_eq, nat_le, nat_lt, Option, None, Some, Result, Ok, Err, inl, inr, refl, sym, ap, ◌∙◌, subst, arith, ⊎_elim}
 use Rattle.std.proofs.lemmas.Bool.{and_parts, cond_both, eqb-false, eqb-true, leb-false, leb-true, ltb-false, ltb-true, true≢false}
 use Rattle.nav_eph.specs.Satellite.{Satellite}
@@ -14,9 +14,9 @@ use Rattle.lnav_subframe.specs.Words.{AreGood, HasPreamble, IsFirstBad, bad_word
 use Rattle.lnav_subframe.proofs.Again.{good_before, same_word}
 use Rattle.lnav_subframe.proofs.Functions.{Judged, first_bad, judged, preamble_false, preamble_true}
 
--- ---- the faults before a place in the order
+-- ---- the faults earlier in the order
 
-clear : (bits : List ℕ) (k : ℕ) → (1 < k → HasPreamble bits) → (2 < k → AreGood (upright bits) 10) → (3 < k → (head_of bits).count < 100800)
+clear : (bits : List ℕ) (k : ℕ) → (1 < k → HasPreamble bits) → (2 < k → AreGood (upright bits) 10) → (3 < k → (head_of bits).tow_count < 100800)
     → (4 < k → IsUsed (head_of bits)) → (5 < k → HasFault bits BadTime → ⊥) → (other : LnavFault) → order_of other < k → HasFault bits other → ⊥
 clear bits k begins good week used time Preamble low has = has (begins low)
 clear bits k begins good week used time (Parity word) low has = good_before (upright bits) word (good low) has
@@ -61,7 +61,7 @@ not_used h no1 no2 no3 no4 used =
     (λ (page : (h.number ≡ 4) × (h.page ≡ 56)). true≢false (sym (rw (page.0, page.1) refl) ∙ no4))
     rest) more) used
 
--- the time of a subframe that says none
+-- the toc or toe of a subframe that has none
 no_time : (bits : List ℕ) (n : ℕ) → (head_of bits).number ≡ n → 3 ≤ n → HasFault bits BadTime → ⊥
 no_time bits n is more (inl one) = omega (arith, is, more, one.0)
 no_time bits n is more (inr two) = omega (arith, is, more, two.0)
@@ -74,12 +74,12 @@ no_time2 : (bits : List ℕ) → (head_of bits).number ≡ 2 → (subframe2_at (
 no_time2 bits is low (inl one) = omega (arith, is, one.0)
 no_time2 bits is low (inr two) = omega (arith, low, two.1)
 
-no_fault : (bits : List ℕ) → HasPreamble bits → AreGood (upright bits) 10 → (head_of bits).count < 100800 → IsUsed (head_of bits) → (HasFault bits BadTime → ⊥)
+no_fault : (bits : List ℕ) → HasPreamble bits → AreGood (upright bits) 10 → (head_of bits).tow_count < 100800 → IsUsed (head_of bits) → (HasFault bits BadTime → ⊥)
     → (fault : LnavFault) → HasFault bits fault → ⊥
 no_fault bits begins good week used time fault =
     clear bits 6 (λ h. begins) (λ h. good) (λ h. week) (λ h. used) (λ h. time) fault (order-lt fault)
 
-late : (bits : List ℕ) → HasPreamble bits → AreGood (upright bits) 10 → (head_of bits).count < 100800 → IsUsed (head_of bits) → HasFault bits BadTime
+late : (bits : List ℕ) → HasPreamble bits → AreGood (upright bits) 10 → (head_of bits).tow_count < 100800 → IsUsed (head_of bits) → HasFault bits BadTime
     → IsFirstFault bits BadTime
 late bits begins good week used has = record {
   has = has;
@@ -92,12 +92,12 @@ of_data bits sat stamp begins good =
     let source = source_bits bits in
     let h = head_of bits in
     let M : Result Body LnavFault → Type 0 = λ r. Judges bits (heard sat stamp r) in
-    cond_both (nat_le 100800 h.count) _ _ M
+    cond_both (nat_le 100800 h.tow_count) _ _ M
     (λ over. record {
-      has = leb-true 100800 h.count over;
+      has = leb-true 100800 h.tow_count over;
       first = clear bits 3 (λ h. begins) (λ h. good) (λ h. absurd (omega arith)) (λ h. absurd (omega arith)) (λ h. absurd (omega arith));
     })
-    (λ within. let week : h.count < 100800 = leb-false 100800 h.count within in
+    (λ within. let week : h.tow_count < 100800 = leb-false 100800 h.tow_count within in
     cond_both (nat_eq h.number 1) _ _ M
     (λ one. let is : h.number ≡ 1 = eqb-true h.number 1 one in
     cond_both (nat_lt (subframe1_at source 0).toc 37800) _ _ M
@@ -134,7 +134,7 @@ judges bits sat stamp =
     (λ begins. of_words bits sat stamp (bad_word_from (upright bits) 0 10) (preamble_true bits begins) (judged (upright bits) 0 10))
     (λ none. no_preamble bits (preamble_false bits none))
 
--- ---- there is one first fault
+-- ---- the first fault is unique
 
 word_or : Option ℕ → ℕ
 word_or None = 0

@@ -1,4 +1,4 @@
--- What is read has each field of its content within its digits: the bits that hold it are no more.
+-- The fields of a read part are within their widths in bits.
 use Rattle.std.proofs.Common.{◌≡◌, ℕ, ◌+◌, ◌*◌, ◌<◌, ◌^◌, List, ◌&&◌, nat_eq, nat_le, nat_lt, Result, Ok, Err, subst, arith}
 use Rattle.std.proofs.lemmas.Bool.{cond_both, ltb-true}
 use Rattle.nav_bits.specs.Bits.{number_at, signed_at}
@@ -82,7 +82,7 @@ ranges_by : (h : Head) (s1 : Subframe1) (s2 : Subframe2) (s3 : Subframe3) (p : P
     → (IsStep16 s2.toe → IsGpsOrbitA (orbit_a_of s2)) → s2.fit < 2 ^ 1
     → IsGpsOrbitB (orbit_b_of s3) → IsGpsIon (ion_of p) → HasContentRanges (read_by h s1 s2 s3 p)
 ranges_by h s1 s2 s3 p clock side a fit b ion =
-    cond_both (nat_le 100800 h.count) _ _ HasContentRanges (λ over. tt) (λ within.
+    cond_both (nat_le 100800 h.tow_count) _ _ HasContentRanges (λ over. tt) (λ within.
     cond_both (nat_eq h.number 1) _ _ HasContentRanges (λ one. cond_both (nat_lt s1.toc 37800) _ _ HasContentRanges
     (λ time. (clock (ltb-true s1.toc 37800 time), side)) (λ none. tt))
     (λ no1. cond_both (nat_eq h.number 2) _ _ HasContentRanges (λ two. cond_both (nat_lt s2.toe 37800) _ _ HasContentRanges

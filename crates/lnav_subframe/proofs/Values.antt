@@ -1,4 +1,4 @@
--- What is read has the satellite and the stamp with which it was heard, and its fields within their digits.
+-- A read part has the satellite and stamp given, and its fields within their widths in bits.
 use Rattle.std.proofs.Common.{◌≡◌, ℕ, ◌-◌, ◌*◌, ◌<◌, ◌^◌, List, ◌&&◌, nat_eq, nat_le, nat_lt, Result, Ok, Err, lit<, refl, sym, ap, ◌∙◌, subst, arith}
 use Rattle.std.proofs.lemmas.Bool.{cond_both, leb-false}
 use Rattle.nav_bits.specs.Bits.{number_at, signed_at}
@@ -23,9 +23,9 @@ use Rattle.lnav_subframe.specs.Subframes.{head_at, subframe1_at, subframe2_at, s
 use Rattle.lnav_subframe.proofs.Faults.{is_part}
 use Rattle.lnav_subframe.proofs.Functions.{stands}
 
-start-lt : (count : ℕ) → count < 100800 → start_second count < 604800
-start-lt count low =
-    cond_both (nat_eq count 0) 604794 (6 * count - 6) (λ s. s < 604800) (λ zero. lit< tt) (λ more. omega arith)
+start-lt : (tow_count : ℕ) → tow_count < 100800 → start_second tow_count < 604800
+start-lt tow_count low =
+    cond_both (nat_eq tow_count 0) 604794 (6 * tow_count - 6) (λ s. s < 604800) (λ zero. lit< tt) (λ more. omega arith)
 
 octet : (bits : List ℕ) (at : ℕ) → IsSigned 8 (signed_at bits at 8)
 octet bits at = signed_of-fits 8 (number_at bits at 8) (omega arith) (number_at-lt bits at 8)
@@ -54,13 +54,13 @@ abbrev HasValue : Result Body LnavFault → Type 0
 HasValue (Ok body) = IsBodyValue body
 HasValue (Err fault) = Unit {0}
 
-values_by : (h : Head) (s1 : Subframe1) (s2 : Subframe2) (s3 : Subframe3) (p : Page18) → s1.count ≡ h.count → p.count ≡ h.count
+values_by : (h : Head) (s1 : Subframe1) (s2 : Subframe2) (s3 : Subframe3) (p : Page18) → s1.tow_count ≡ h.tow_count → p.tow_count ≡ h.tow_count
     → IsGpsSide (side_of s1) → s1.wn < 1024 → IsGpsIon (ion_of p) → HasValue (read_by h s1 s2 s3 p)
 values_by h s1 s2 s3 p same1 same18 side week ion =
-    cond_both (nat_le 100800 h.count) _ _ HasValue (λ over. tt) (λ within.
-    let low : h.count < 100800 = leb-false 100800 h.count within in
-    let second1 : start_second s1.count < 604800 = start-lt s1.count (omega (arith, low, same1)) in
-    let second18 : start_second p.count < 604800 = start-lt p.count (omega (arith, low, same18)) in
+    cond_both (nat_le 100800 h.tow_count) _ _ HasValue (λ over. tt) (λ within.
+    let low : h.tow_count < 100800 = leb-false 100800 h.tow_count within in
+    let second1 : start_second s1.tow_count < 604800 = start-lt s1.tow_count (omega (arith, low, same1)) in
+    let second18 : start_second p.tow_count < 604800 = start-lt p.tow_count (omega (arith, low, same18)) in
     let wn : s1.wn < 4096 = omega arith in
     cond_both (nat_eq h.number 1) _ _ HasValue (λ one. cond_both (nat_lt s1.toc 37800) _ _ HasValue (λ time. (side, (wn, second1))) (λ none. tt))
     (λ no1. cond_both (nat_eq h.number 2) _ _ HasValue (λ two. cond_both (nat_lt s2.toe 37800) _ _ HasValue (λ time. tt) (λ none. tt))

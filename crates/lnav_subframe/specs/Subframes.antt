@@ -1,6 +1,6 @@
 -- The fields of the subframes of the LNAV message (IS-GPS-200, figure 20-1). Bit n of the standard is
--- at bit offset at + (n - 1); a field in two ranges is their concatenation. What is no field, the parity
--- bits among it, is 0 but for the preamble and the numbers that name the subframe and the page.
+-- at bit offset at + (n - 1); a field in two ranges is their concatenation. All other bits, parity bits
+-- included, are 0, except for preamble, subframe ID, data ID and SV ID.
 use Rattle.std.specs.Prelude.{◌≡◌, ℕ, ◌+◌, ◌*◌, ◌^◌, List}
 use Rattle.nav_bits.specs.Bits.{number_at, signed_at, SameInside}
 use Rattle.nav_bits.specs.Laws.{number_within}
@@ -11,15 +11,15 @@ use Rattle.lnav_subframe.specs.declared.orbit.Subframe2.{Subframe2}
 use Rattle.lnav_subframe.specs.declared.orbit.Subframe3.{Subframe3}
 use Rattle.lnav_subframe.specs.declared.page18.Page18.{Page18}
 
--- what each subframe says of itself: its count, its number and, in subframes 4 and 5, its page
+-- the fields common to all subframes: TOW count, subframe ID and, in subframes 4 and 5, the SV ID
 abbrev pub head_at : List ℕ → ℕ → Head
 head_at bits at = record {
-  count = number_at bits (at + 30) 17;
+  tow_count = number_at bits (at + 30) 17;
   number = number_at bits (at + 49) 3;
   page = number_at bits (at + 62) 6;
 }
 
--- and what stands beside them, here and in each subframe below: the preamble, the number where it is known, and 0 in what is reserved
+-- its other bits, here and for each subframe below: the preamble, fixed IDs, and 0 elsewhere
 abbrev pub head_rest : List ℕ → ℕ → Type 0
 head_rest bits at =
     (number_at bits (at + 0) 8 ≡ 139) × (number_at bits (at + 8) 22 ≡ 0) × (number_at bits (at + 47) 2 ≡ 0)
@@ -29,7 +29,7 @@ head_rest bits at =
 -- subframe 1 (figure 20-1, sheet 1)
 abbrev pub subframe1_at : List ℕ → ℕ → Subframe1
 subframe1_at bits at = record {
-  count = number_at bits (at + 30) 17;
+  tow_count = number_at bits (at + 30) 17;
   wn = number_at bits (at + 60) 10;
   l2_code = number_at bits (at + 70) 2;
   ura = number_at bits (at + 72) 4;
@@ -43,6 +43,7 @@ subframe1_at bits at = record {
   af0 = signed_at bits (at + 270) 22;
 }
 
+-- the other bits of subframe 1
 abbrev pub subframe1_rest : List ℕ → ℕ → Type 0
 subframe1_rest bits at =
     (number_at bits (at + 0) 8 ≡ 139) × (number_at bits (at + 8) 22 ≡ 0) × (number_at bits (at + 47) 2 ≡ 0)
@@ -53,7 +54,7 @@ subframe1_rest bits at =
 -- subframe 2 (figure 20-1, sheet 2)
 abbrev pub subframe2_at : List ℕ → ℕ → Subframe2
 subframe2_at bits at = record {
-  count = number_at bits (at + 30) 17;
+  tow_count = number_at bits (at + 30) 17;
   iode = number_at bits (at + 60) 8;
   crs = signed_at bits (at + 68) 16;
   delta_n = signed_at bits (at + 90) 16;
@@ -66,6 +67,7 @@ subframe2_at bits at = record {
   fit = number_at bits (at + 286) 1;
 }
 
+-- the other bits of subframe 2
 abbrev pub subframe2_rest : List ℕ → ℕ → Type 0
 subframe2_rest bits at =
     (number_at bits (at + 0) 8 ≡ 139) × (number_at bits (at + 8) 22 ≡ 0) × (number_at bits (at + 47) 2 ≡ 0)
@@ -77,7 +79,7 @@ subframe2_rest bits at =
 -- subframe 3 (figure 20-1, sheet 3)
 abbrev pub subframe3_at : List ℕ → ℕ → Subframe3
 subframe3_at bits at = record {
-  count = number_at bits (at + 30) 17;
+  tow_count = number_at bits (at + 30) 17;
   cic = signed_at bits (at + 60) 16;
   omega0 = signed_of 32 (number_at bits (at + 76) 8 * 2 ^ 24 + number_at bits (at + 90) 24);
   cis = signed_at bits (at + 120) 16;
@@ -89,6 +91,7 @@ subframe3_at bits at = record {
   idot = signed_at bits (at + 278) 14;
 }
 
+-- the other bits of subframe 3
 abbrev pub subframe3_rest : List ℕ → ℕ → Type 0
 subframe3_rest bits at =
     (number_at bits (at + 0) 8 ≡ 139) × (number_at bits (at + 8) 22 ≡ 0) × (number_at bits (at + 47) 2 ≡ 0)
@@ -100,7 +103,7 @@ subframe3_rest bits at =
 -- page 18 of subframe 4, whose SV ID is 56 (figure 20-1, sheet 8): the ionosphere
 abbrev pub page18_at : List ℕ → ℕ → Page18
 page18_at bits at = record {
-  count = number_at bits (at + 30) 17;
+  tow_count = number_at bits (at + 30) 17;
   alpha0 = signed_at bits (at + 68) 8;
   alpha1 = signed_at bits (at + 76) 8;
   alpha2 = signed_at bits (at + 90) 8;
@@ -111,6 +114,7 @@ page18_at bits at = record {
   beta3 = signed_at bits (at + 136) 8;
 }
 
+-- the other bits of page 18
 abbrev pub page18_rest : List ℕ → ℕ → Type 0
 page18_rest bits at =
     (number_at bits (at + 0) 8 ≡ 139) × (number_at bits (at + 8) 22 ≡ 0) × (number_at bits (at + 47) 2 ≡ 0)
@@ -118,18 +122,22 @@ page18_rest bits at =
     × (number_at bits (at + 62) 6 ≡ 56) × (number_at bits (at + 84) 6 ≡ 0) × (number_at bits (at + 114) 6 ≡ 0)
     × (number_at bits (at + 144) 64 ≡ 0) × (number_at bits (at + 208) 64 ≡ 0) × (number_at bits (at + 272) 28 ≡ 0)
 
--- the fields of a subframe rest on its own bits alone
+-- the fields of a subframe depend on its own 300 bits alone
 pub head_own_bits : (a b : List ℕ) (at : ℕ) → SameInside a b at (at + 300) → head_at a at ≡ head_at b at
 head_own_bits a b at same = simp (number_within a b at 300 same)
 
+-- the fields of subframe 1 depend on its own bits alone
 pub subframe1_own_bits : (a b : List ℕ) (at : ℕ) → SameInside a b at (at + 300) → subframe1_at a at ≡ subframe1_at b at
 subframe1_own_bits a b at same = simp (number_within a b at 300 same)
 
+-- the fields of subframe 2 depend on its own bits alone
 pub subframe2_own_bits : (a b : List ℕ) (at : ℕ) → SameInside a b at (at + 300) → subframe2_at a at ≡ subframe2_at b at
 subframe2_own_bits a b at same = simp (number_within a b at 300 same)
 
+-- the fields of subframe 3 depend on its own bits alone
 pub subframe3_own_bits : (a b : List ℕ) (at : ℕ) → SameInside a b at (at + 300) → subframe3_at a at ≡ subframe3_at b at
 subframe3_own_bits a b at same = simp (number_within a b at 300 same)
 
+-- the fields of page 18 depend on its own bits alone
 pub page18_own_bits : (a b : List ℕ) (at : ℕ) → SameInside a b at (at + 300) → page18_at a at ≡ page18_at b at
 page18_own_bits a b at same = simp (number_within a b at 300 same)

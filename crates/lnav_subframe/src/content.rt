@@ -12,27 +12,27 @@ use gnss_week::Second;
 use nav_bits::{BitForm, Bits, U};
 use nav_eph::{Body, GpsClock, GpsIon, GpsOrbitA, GpsOrbitB, GpsSide, SentTag, Step16};
 
-// The subframes of a week, which start 6 s apart.
+// The subframes of a week, one every 6 s.
 const SUBFRAMES_OF_WEEK: u64 = 100_800;
 
-// The SV ID of the page of subframe 4 that says the ionosphere.
+// The SV ID of page 18 of subframe 4, with the ionosphere.
 const IONOSPHERE: u64 = 56;
 
-// The second of the week at which the subframe with that count starts.
-fn start(count: U<17>) -> Second
-    requires { count < 100800 }
-    ensures { result ≡ start_second count }
+// The second of the week at which the subframe with this TOW count starts.
+fn start(tow_count: U<17>) -> Second
+    requires { tow_count < 100800 }
+    ensures { result ≡ start_second tow_count }
 {
-    let count = count.value();
-    if count == 0 {
+    let tow_count = tow_count.value();
+    if tow_count == 0 {
         return Second::from_number(604_794);
     }
-    Second::from_number((6 * count - 6) as u32)
+    Second::from_number((6 * tow_count - 6) as u32)
 }
 
-// The body that subframe 1 stands for.
+// The body of subframe 1; `BadTime` where toc is past the end of the week.
 fn clock_body(fields: &Subframe1) -> Result<Body, LnavFault>
-    requires { fields.now.count < 100800 }
+    requires { fields.now.tow_count < 100800 }
     ensures { result ≡ read_1 fields.now }
 {
     let toc = match Step16::new(fields.toc.value()) {
@@ -54,13 +54,13 @@ fn clock_body(fields: &Subframe1) -> Result<Body, LnavFault>
         l2p: fields.l2p,
     };
     let tag = SentTag::Sent {
-        wn: U::from_digits(fields.wn.value()),
-        second: start(fields.count),
+        wn: U::from_bits(fields.wn.value()),
+        second: start(fields.tow_count),
     };
     Ok(Body::GpsClock(clock, side, tag))
 }
 
-// The body that subframe 2 stands for.
+// The body of subframe 2; `BadTime` where toe is past the end of the week.
 fn orbit_a_body(fields: &Subframe2) -> Result<Body, LnavFault>
     ensures { result ≡ read_2 fields.now }
 {
@@ -82,7 +82,7 @@ fn orbit_a_body(fields: &Subframe2) -> Result<Body, LnavFault>
     Ok(Body::GpsA(orbit, fields.fit))
 }
 
-// The body that subframe 3 stands for.
+// The body of subframe 3.
 fn orbit_b_body(fields: &Subframe3) -> Result<Body, LnavFault>
     ensures { result ≡ read_3 fields.now }
 {
@@ -100,9 +100,9 @@ fn orbit_b_body(fields: &Subframe3) -> Result<Body, LnavFault>
     Ok(Body::GpsB(orbit))
 }
 
-// The body that page 18 of subframe 4 stands for.
+// The body of page 18 of subframe 4.
 fn ion_body(fields: &Page18) -> Result<Body, LnavFault>
-    requires { fields.now.count < 100800 }
+    requires { fields.now.tow_count < 100800 }
     ensures { result ≡ read_18 fields.now }
 {
     let ion = GpsIon {
@@ -115,10 +115,10 @@ fn ion_body(fields: &Page18) -> Result<Body, LnavFault>
         beta2: fields.beta2,
         beta3: fields.beta3,
     };
-    Ok(Body::GpsIon(ion, start(fields.count)))
+    Ok(Body::GpsIon(ion, start(fields.tow_count)))
 }
 
-// The page that a subframe is refused with.
+// The page in `LnavFault::Unused`: the SV ID in subframes 4 and 5, 0 in others.
 fn page(head: &Head) -> u8
     ensures { result ≡ page_of head.now }
 {
@@ -133,12 +133,12 @@ fn page(head: &Head) -> u8
     0
 }
 
-// What the data bits of a subframe stand for, or the first fault in them.
+// The body that the data bits of a subframe encode, or the first fault in them.
 pub(crate) fn content_of(source: &Bits<38>) -> Result<Body, LnavFault>
     ensures { result ≡ content source.now }
 {
     let head: Head = BitForm::<38>::unpack(source, 0);
-    if head.count.value() >= SUBFRAMES_OF_WEEK {
+    if head.tow_count.value() >= SUBFRAMES_OF_WEEK {
         return Err(LnavFault::BadTow);
     }
     let number = head.number.value();

@@ -1,14 +1,14 @@
 use nav_bits::{Layout, U, put_numbers};
 
-/// What each subframe says of itself (IS-GPS-200, 20.3.3.1 and 20.3.3.2), in its 300 bits: its
-/// count, its number and its page. Written, it is a page of subframe 4 or 5 of which all else is 0.
+/// The HOW fields of a subframe and its page (IS-GPS-200, 20.3.3.1 and 20.3.3.2), in its 300 bits.
+/// Written, it is a page of subframe 4 or 5 whose other data bits are 0.
 #[derive(Clone, Copy)]
 pub struct Head {
-    /// How many times 6 s of the week have passed when the next subframe starts.
-    pub count: U<17>,
-    /// The number of the subframe.
+    /// TOW count of the HOW: the start of the next subframe, in units of 6 s from the start of the week.
+    pub tow_count: U<17>,
+    /// The subframe ID.
     pub number: U<3>,
-    /// The SV ID of a page of subframe 4 or 5.
+    /// The SV (page) ID of subframes 4 and 5.
     pub page: U<6>,
 }
 
@@ -35,7 +35,7 @@ impl Layout for Head {
             &[
                 (8, 139),
                 (22, 0),
-                (17, self.count.value()),
+                (17, self.tow_count.value()),
                 (2, 0),
                 (3, self.number.value()),
                 (8, 0),
@@ -51,7 +51,7 @@ impl Layout for Head {
 
     fn read_bits(from: &[u8], at: usize) -> Self {
         Head {
-            count: U::read_bits(from, at + 30),
+            tow_count: U::read_bits(from, at + 30),
             number: U::read_bits(from, at + 49),
             page: U::read_bits(from, at + 62),
         }

@@ -3,27 +3,27 @@ use nav_bits::{Layout, S, U, put_numbers};
 /// The fields of subframe 2 in its 300 bits (IS-GPS-200, figure 20-1, sheet 2).
 #[derive(Clone, Copy)]
 pub struct Subframe2 {
-    /// How many times 6 s of the week have passed when the next subframe starts.
-    pub count: U<17>,
-    /// Issue of data, ephemeris.
+    /// TOW count of the HOW: the start of the next subframe, in units of 6 s from the start of the week.
+    pub tow_count: U<17>,
+    /// Issue of data, ephemeris (IODE).
     pub iode: U<8>,
-    /// Sine correction to the orbit's radius, in 2^-5 m.
+    /// Amplitude of the sine harmonic correction to the orbit radius, in 2^-5 m.
     pub crs: S<16>,
-    /// Correction to the mean motion, in 2^-43 semicircles/s.
+    /// Mean motion difference from the computed value, in 2^-43 semicircles/s.
     pub delta_n: S<16>,
-    /// Mean anomaly at the time of the ephemeris, in 2^-31 semicircles.
+    /// Mean anomaly at toe, in 2^-31 semicircles.
     pub m0: S<32>,
-    /// Cosine correction to the argument of latitude, in 2^-29 rad.
+    /// Amplitude of the cosine harmonic correction to the argument of latitude, in 2^-29 rad.
     pub cuc: S<16>,
     /// Eccentricity, in 2^-33.
     pub e: U<32>,
-    /// Sine correction to the argument of latitude, in 2^-29 rad.
+    /// Amplitude of the sine harmonic correction to the argument of latitude, in 2^-29 rad.
     pub cus: S<16>,
     /// Square root of the semi-major axis, in 2^-19 √m.
     pub root_a: U<32>,
-    /// The time of the ephemeris, in steps of 16 s.
+    /// The ephemeris reference time toe, in units of 16 s.
     pub toe: U<16>,
-    /// Whether the curve fit interval is longer than 4 hours.
+    /// The fit interval flag: 1 where the curve fit interval is longer than 4 hours.
     pub fit: U<1>,
 }
 
@@ -54,24 +54,24 @@ impl Layout for Subframe2 {
             &[
                 (8, 139),
                 (22, 0),
-                (17, self.count.value()),
+                (17, self.tow_count.value()),
                 (2, 0),
                 (3, 2),
                 (8, 0),
                 (8, self.iode.value()),
-                (16, self.crs.digits()),
+                (16, self.crs.bit_pattern()),
                 (6, 0),
-                (16, self.delta_n.digits()),
+                (16, self.delta_n.bit_pattern()),
                 (8, m0_high.value()),
                 (6, 0),
                 (24, m0_low.value()),
                 (6, 0),
-                (16, self.cuc.digits()),
+                (16, self.cuc.bit_pattern()),
                 (8, e_high.value()),
                 (6, 0),
                 (24, e_low.value()),
                 (6, 0),
-                (16, self.cus.digits()),
+                (16, self.cus.bit_pattern()),
                 (8, root_a_high.value()),
                 (6, 0),
                 (24, root_a_low.value()),
@@ -85,7 +85,7 @@ impl Layout for Subframe2 {
 
     fn read_bits(from: &[u8], at: usize) -> Self {
         Subframe2 {
-            count: U::read_bits(from, at + 30),
+            tow_count: U::read_bits(from, at + 30),
             iode: U::read_bits(from, at + 60),
             crs: S::read_bits(from, at + 68),
             delta_n: S::read_bits(from, at + 90),
@@ -112,25 +112,25 @@ impl Layout for Subframe2 {
 /// The fields of subframe 3 in its 300 bits (IS-GPS-200, figure 20-1, sheet 3).
 #[derive(Clone, Copy)]
 pub struct Subframe3 {
-    /// How many times 6 s of the week have passed when the next subframe starts.
-    pub count: U<17>,
-    /// Cosine correction to the inclination, in 2^-29 rad.
+    /// TOW count of the HOW: the start of the next subframe, in units of 6 s from the start of the week.
+    pub tow_count: U<17>,
+    /// Amplitude of the cosine harmonic correction to the inclination, in 2^-29 rad.
     pub cic: S<16>,
-    /// Longitude of the ascending node at the start of the week, in 2^-31 semicircles.
+    /// Longitude of the ascending node at the weekly epoch, in 2^-31 semicircles.
     pub omega0: S<32>,
-    /// Sine correction to the inclination, in 2^-29 rad.
+    /// Amplitude of the sine harmonic correction to the inclination, in 2^-29 rad.
     pub cis: S<16>,
-    /// Inclination at the time of the ephemeris, in 2^-31 semicircles.
+    /// Inclination at toe, in 2^-31 semicircles.
     pub i0: S<32>,
-    /// Cosine correction to the orbit's radius, in 2^-5 m.
+    /// Amplitude of the cosine harmonic correction to the orbit radius, in 2^-5 m.
     pub crc: S<16>,
     /// Argument of perigee, in 2^-31 semicircles.
     pub omega: S<32>,
-    /// Rate of the right ascension, in 2^-43 semicircles/s.
+    /// Rate of right ascension, in 2^-43 semicircles/s.
     pub omega_dot: S<24>,
-    /// Issue of data, ephemeris.
+    /// Issue of data, ephemeris (IODE).
     pub iode: U<8>,
-    /// Rate of the inclination, in 2^-43 semicircles/s.
+    /// Rate of inclination, in 2^-43 semicircles/s.
     pub idot: S<14>,
 }
 
@@ -161,29 +161,29 @@ impl Layout for Subframe3 {
             &[
                 (8, 139),
                 (22, 0),
-                (17, self.count.value()),
+                (17, self.tow_count.value()),
                 (2, 0),
                 (3, 3),
                 (8, 0),
-                (16, self.cic.digits()),
+                (16, self.cic.bit_pattern()),
                 (8, omega0_high.value()),
                 (6, 0),
                 (24, omega0_low.value()),
                 (6, 0),
-                (16, self.cis.digits()),
+                (16, self.cis.bit_pattern()),
                 (8, i0_high.value()),
                 (6, 0),
                 (24, i0_low.value()),
                 (6, 0),
-                (16, self.crc.digits()),
+                (16, self.crc.bit_pattern()),
                 (8, omega_high.value()),
                 (6, 0),
                 (24, omega_low.value()),
                 (6, 0),
-                (24, self.omega_dot.digits()),
+                (24, self.omega_dot.bit_pattern()),
                 (6, 0),
                 (8, self.iode.value()),
-                (14, self.idot.digits()),
+                (14, self.idot.bit_pattern()),
                 (8, 0),
             ],
         );
@@ -191,7 +191,7 @@ impl Layout for Subframe3 {
 
     fn read_bits(from: &[u8], at: usize) -> Self {
         Subframe3 {
-            count: U::read_bits(from, at + 30),
+            tow_count: U::read_bits(from, at + 30),
             cic: S::read_bits(from, at + 60),
             omega0: S::join(
                 U::<8>::read_bits(from, at + 76),

@@ -3,8 +3,8 @@ use nav_bits::{Layout, S, U, put_numbers};
 /// The fields of page 18 of subframe 4 in its 300 bits (IS-GPS-200, figure 20-1, sheet 8).
 #[derive(Clone, Copy)]
 pub struct Page18 {
-    /// How many times 6 s of the week have passed when the next subframe starts.
-    pub count: U<17>,
+    /// TOW count of the HOW: the start of the next subframe, in units of 6 s from the start of the week.
+    pub tow_count: U<17>,
     /// In 2^-30 s.
     pub alpha0: S<8>,
     /// In 2^-27 s/semicircle.
@@ -46,22 +46,22 @@ impl Layout for Page18 {
             &[
                 (8, 139),
                 (22, 0),
-                (17, self.count.value()),
+                (17, self.tow_count.value()),
                 (2, 0),
                 (3, 4),
                 (8, 0),
                 (2, 1),
                 (6, 56),
-                (8, self.alpha0.digits()),
-                (8, self.alpha1.digits()),
+                (8, self.alpha0.bit_pattern()),
+                (8, self.alpha1.bit_pattern()),
                 (6, 0),
-                (8, self.alpha2.digits()),
-                (8, self.alpha3.digits()),
-                (8, self.beta0.digits()),
+                (8, self.alpha2.bit_pattern()),
+                (8, self.alpha3.bit_pattern()),
+                (8, self.beta0.bit_pattern()),
                 (6, 0),
-                (8, self.beta1.digits()),
-                (8, self.beta2.digits()),
-                (8, self.beta3.digits()),
+                (8, self.beta1.bit_pattern()),
+                (8, self.beta2.bit_pattern()),
+                (8, self.beta3.bit_pattern()),
                 (64, 0),
                 (64, 0),
                 (28, 0),
@@ -71,7 +71,7 @@ impl Layout for Page18 {
 
     fn read_bits(from: &[u8], at: usize) -> Self {
         Page18 {
-            count: U::read_bits(from, at + 30),
+            tow_count: U::read_bits(from, at + 30),
             alpha0: S::read_bits(from, at + 68),
             alpha1: S::read_bits(from, at + 76),
             alpha2: S::read_bits(from, at + 90),

@@ -5,8 +5,8 @@ ghost use Rattle.lnav_subframe.specs.Writing.{AreWords};
 use crate::{check_word, make_solved, make_word};
 use nav_bits::{Bits, U};
 
-// All bits turned.
-pub(crate) fn turned(bits: &Bits<38>) -> Bits<38>
+// Inverts all bits.
+pub(crate) fn inverted(bits: &Bits<38>) -> Bits<38>
     ensures { result ≡ complement bits.now }
 {
     let mut bytes = *bits.bytes();
@@ -16,8 +16,8 @@ pub(crate) fn turned(bits: &Bits<38>) -> Bits<38>
     Bits::from_bytes(bytes)
 }
 
-// The source bits of the ten words, each at the place of its data bit, or the first word whose
-// parity is wrong, counted from 1.
+// The source bits of the ten words, each at its bit offset in the subframe, or the number (from 1) of
+// the first word whose parity is wrong.
 pub(crate) fn source_of(bits: &Bits<38>) -> Result<Bits<38>, u8>
     ensures good { IfOk result (λ source. AreGood bits.now 10) }
     ensures source { IfOk result (λ source. AreSource bits.now source 10) }
@@ -27,7 +27,7 @@ pub(crate) fn source_of(bits: &Bits<38>) -> Result<Bits<38>, u8>
     let mut last = 0;
     for k in 0..10usize {
         let word = bits.get(30 * k, 30);
-        match check_word(U::from_digits(word), U::from_digits(last)) {
+        match check_word(U::from_bits(word), U::from_bits(last)) {
             Some(found) => source.put(30 * k, 24, found.value()),
             None => return Err(k as u8 + 1),
         }
@@ -36,18 +36,18 @@ pub(crate) fn source_of(bits: &Bits<38>) -> Result<Bits<38>, u8>
     Ok(source)
 }
 
-// The word at an index, of its data bits and the last two bits of the word before.
+// The word at an index, from its data bits and the last two bits of the previous word.
 fn word_at(k: usize, bits: u64, last: u64) -> u64
     requires bits { bits < 2 ^ 24 }
     requires last { last < 4 }
     ensures fits { result < 2 ^ 30 }
     ensures word { IsWord k result last bits }
 {
-    let last2: U<2> = U::from_digits(last);
+    let last2: U<2> = U::from_bits(last);
     match k {
-        1 => make_solved(U::from_digits(bits / 4), last2).value(),
-        9 => make_solved(U::from_digits(bits / 4), last2).value(),
-        _ => make_word(U::from_digits(bits), last2).value(),
+        1 => make_solved(U::from_bits(bits / 4), last2).value(),
+        9 => make_solved(U::from_bits(bits / 4), last2).value(),
+        _ => make_word(U::from_bits(bits), last2).value(),
     }
 }
 

@@ -2,7 +2,7 @@ ghost use Rattle.std.specs.Prelude.{◌≡◌, ◌<◌};
 ghost use Rattle.nav_eph.specs.Bodies.{IsGpsIon, IsGpsSide};
 ghost use Rattle.nav_eph.specs.Ranges.{IsGpsClock, IsGpsOrbitA, IsGpsOrbitB};
 ghost use Rattle.nav_eph.specs.Steps.{IsStep16};
-ghost use Rattle.lnav_subframe.specs.Bytes.{HasDigits, subframe_bytes};
+ghost use Rattle.lnav_subframe.specs.Bytes.{HasBits, subframe_bytes};
 ghost use Rattle.lnav_subframe.specs.Writing.{AllReadAs, HasTime, Holds, IsWritable, IsWritten};
 ghost use Rattle.lnav_subframe.specs.Writing.{page18_of, read_again};
 ghost use Rattle.lnav_subframe.specs.Writing.{subframe1_of, subframe2_of, subframe3_of};
@@ -17,12 +17,12 @@ use nav_bits::{BitForm, Bits, U};
 use nav_eph::{GpsClock, GpsIon, GpsOrbitA, GpsOrbitB, GpsSide};
 
 // The fields of subframe 1.
-fn subframe1(clock: &GpsClock, side: &GpsSide, wn: U<10>, count: U<17>) -> Subframe1
-    ensures fields { result ≡ subframe1_of clock.now side.now wn count }
+fn subframe1(clock: &GpsClock, side: &GpsSide, wn: U<10>, tow_count: U<17>) -> Subframe1
+    ensures fields { result ≡ subframe1_of clock.now side.now wn tow_count }
     ensures time { IsStep16 clock.now.toc }
 {
     Subframe1 {
-        count,
+        tow_count,
         wn,
         l2_code: side.l2_code,
         ura: side.ura,
@@ -30,7 +30,7 @@ fn subframe1(clock: &GpsClock, side: &GpsSide, wn: U<10>, count: U<17>) -> Subfr
         iodc: clock.iodc,
         l2p: side.l2p,
         tgd: clock.tgd,
-        toc: U::from_digits(clock.toc.value()),
+        toc: U::from_bits(clock.toc.value()),
         af2: clock.af2,
         af1: clock.af1,
         af0: clock.af0,
@@ -38,12 +38,12 @@ fn subframe1(clock: &GpsClock, side: &GpsSide, wn: U<10>, count: U<17>) -> Subfr
 }
 
 // The fields of subframe 2.
-fn subframe2(orbit: &GpsOrbitA, fit: U<1>, count: U<17>) -> Subframe2
-    ensures fields { result ≡ subframe2_of orbit.now fit count }
+fn subframe2(orbit: &GpsOrbitA, fit: U<1>, tow_count: U<17>) -> Subframe2
+    ensures fields { result ≡ subframe2_of orbit.now fit tow_count }
     ensures time { IsStep16 orbit.now.toe }
 {
     Subframe2 {
-        count,
+        tow_count,
         iode: orbit.iode,
         crs: orbit.crs,
         delta_n: orbit.delta_n,
@@ -52,17 +52,17 @@ fn subframe2(orbit: &GpsOrbitA, fit: U<1>, count: U<17>) -> Subframe2
         e: orbit.e,
         cus: orbit.cus,
         root_a: orbit.root_a,
-        toe: U::from_digits(orbit.toe.value()),
+        toe: U::from_bits(orbit.toe.value()),
         fit,
     }
 }
 
 // The fields of subframe 3.
-fn subframe3(orbit: &GpsOrbitB, count: U<17>) -> Subframe3
-    ensures { result ≡ subframe3_of orbit.now count }
+fn subframe3(orbit: &GpsOrbitB, tow_count: U<17>) -> Subframe3
+    ensures { result ≡ subframe3_of orbit.now tow_count }
 {
     Subframe3 {
-        count,
+        tow_count,
         cic: orbit.cic,
         omega0: orbit.omega0,
         cis: orbit.cis,
@@ -76,11 +76,11 @@ fn subframe3(orbit: &GpsOrbitB, count: U<17>) -> Subframe3
 }
 
 // The fields of page 18.
-fn page18(ion: &GpsIon, count: U<17>) -> Page18
-    ensures { result ≡ page18_of ion.now count }
+fn page18(ion: &GpsIon, tow_count: U<17>) -> Page18
+    ensures { result ≡ page18_of ion.now tow_count }
 {
     Page18 {
-        count,
+        tow_count,
         alpha0: ion.alpha0,
         alpha1: ion.alpha1,
         alpha2: ion.alpha2,
@@ -92,22 +92,22 @@ fn page18(ion: &GpsIon, count: U<17>) -> Page18
     }
 }
 
-// The data bits of a subframe. Its time is within the week.
-fn data_bits(body: &SubframeOut, count: U<17>) -> Bits<38>
-    ensures fields { Holds body.now count result }
+// The data bits of a subframe, whose toc or toe is within the week.
+fn data_bits(body: &SubframeOut, tow_count: U<17>) -> Bits<38>
+    ensures fields { Holds body.now tow_count result }
     ensures time { HasTime body.now }
 {
     let mut bits = Bits::<38>::zero();
     match body {
-        SubframeOut::Clock { clock, side, wn } => subframe1(clock, side, *wn, count).pack(
+        SubframeOut::Clock { clock, side, wn } => subframe1(clock, side, *wn, tow_count).pack(
             &mut bits, 0,
         ),
-        SubframeOut::OrbitA { orbit, fit } => subframe2(orbit, *fit, count).pack(&mut bits, 0),
-        SubframeOut::OrbitB { orbit } => subframe3(orbit, count).pack(&mut bits, 0),
-        SubframeOut::Ion { ion } => page18(ion, count).pack(&mut bits, 0),
+        SubframeOut::OrbitA { orbit, fit } => subframe2(orbit, *fit, tow_count).pack(&mut bits, 0),
+        SubframeOut::OrbitB { orbit } => subframe3(orbit, tow_count).pack(&mut bits, 0),
+        SubframeOut::Ion { ion } => page18(ion, tow_count).pack(&mut bits, 0),
         SubframeOut::Other { number, page } => {
             let head = Head {
-                count,
+                tow_count,
                 number: *number,
                 page: *page,
             };
@@ -117,47 +117,47 @@ fn data_bits(body: &SubframeOut, count: U<17>) -> Bits<38>
     bits
 }
 
-// Each field of a clock is within its digits.
-fn clock_digits(clock: GpsClock)
+// States that each field of a clock is within its width in bits.
+fn clock_bits(clock: GpsClock)
     ensures { IsGpsClock clock }
 {}
 
-// Each field of a side is within its digits.
-fn side_digits(side: GpsSide)
+// States that each field of the SV status is within its width in bits.
+fn side_bits(side: GpsSide)
     ensures { IsGpsSide side }
 {}
 
-// Each field of a first half of an orbit is within its digits.
-fn orbit_a_digits(orbit: GpsOrbitA)
+// States that each field of subframe 2's orbit is within its width in bits.
+fn orbit_a_bits(orbit: GpsOrbitA)
     ensures { IsGpsOrbitA orbit }
 {}
 
-// Each field of a second half of an orbit is within its digits.
-fn orbit_b_digits(orbit: GpsOrbitB)
+// States that each field of subframe 3's orbit is within its width in bits.
+fn orbit_b_bits(orbit: GpsOrbitB)
     ensures { IsGpsOrbitB orbit }
 {}
 
-// Each field of an ionosphere is within its digits.
-fn ion_digits(ion: GpsIon)
+// States that each field of an ionosphere is within its width in bits.
+fn ion_bits(ion: GpsIon)
     ensures { IsGpsIon ion }
 {}
 
-// Each field of a subframe is within its digits.
+// States that each field of a subframe is within its width in bits.
 fn digits(body: &SubframeOut)
-    ensures { HasDigits body.now }
+    ensures { HasBits body.now }
 {
     match *body {
         SubframeOut::Clock { clock, side, wn } => {
-            clock_digits(clock);
-            side_digits(side);
+            clock_bits(clock);
+            side_bits(side);
             let _wn = wn.value();
         }
         SubframeOut::OrbitA { orbit, fit } => {
-            orbit_a_digits(orbit);
+            orbit_a_bits(orbit);
             let _fit = fit.value();
         }
-        SubframeOut::OrbitB { orbit } => orbit_b_digits(orbit),
-        SubframeOut::Ion { ion } => ion_digits(ion),
+        SubframeOut::OrbitB { orbit } => orbit_b_bits(orbit),
+        SubframeOut::Ion { ion } => ion_bits(ion),
         SubframeOut::Other { number, page } => {
             let _number = number.value();
             let _page = page.value();
@@ -165,18 +165,18 @@ fn digits(body: &SubframeOut)
     }
 }
 
-/// The 300 bits of a subframe of the LNAV message (IS-GPS-200, figure 20-1) and four bits that are
-/// 0. `count` is the number of 6 s intervals of the week that have passed when the next subframe
-/// starts. The TLM message, alert, anti-spoof, AODO and what is reserved are 0, the data ID of
-/// subframes 4 and 5 is 1, and words 2 and 10 end in two bits that are 0.
-pub fn write_subframe(body: &SubframeOut, count: U<17>) -> Bits<38>
-    requires week { count < 100800 }
+/// The 300 bits of a subframe of the LNAV message (IS-GPS-200, figure 20-1), followed by four 0 bits.
+/// `tow_count` is the TOW count of the HOW: the start of the next subframe in units of 6 s from the
+/// start of the week. TLM message, alert and anti-spoof flags, AODO and reserved bits are 0, the data ID
+/// of subframes 4 and 5 is 1, and words 2 and 10 end in two 0 bits.
+pub fn write_subframe(body: &SubframeOut, tow_count: U<17>) -> Bits<38>
+    requires week { tow_count < 100800 }
     requires page { IsWritable body.now }
-    ensures written { IsWritten body.now count result }
-    ensures again { AllReadAs result (read_again body.now count) }
-    ensures bytes { result ≡ subframe_bytes body.now count }
+    ensures written { IsWritten body.now tow_count result }
+    ensures again { AllReadAs result (read_again body.now tow_count) }
+    ensures bytes { result ≡ subframe_bytes body.now tow_count }
 {
-    let bits = words_of(&data_bits(body, count));
+    let bits = words_of(&data_bits(body, tow_count));
     digits(body);
     bits.are_bytes();
     bits

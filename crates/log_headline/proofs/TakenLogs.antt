@@ -1,4 +1,4 @@
--- A text that is heard as a log is taken as one.
+-- A text that is the capture of a log is read as one.
 use Rattle.std.proofs.Common.{◌≡◌, ◌++◌, ℕ, List, refl, ap, ◌∙◌}
 use Rattle.std.proofs.lemmas.Bool.{eq-eqb}
 use Rattle.std.specs.Prelude.{Option, Some, None}
@@ -6,7 +6,7 @@ use Rattle.nav_eph.specs.declared.part.Part.{Part}
 use Rattle.periods.specs.PeriodsOf.{periods_of}
 use Rattle.periods.specs.declared.closed.Closed.{Closed}
 use Rattle.outlets.specs.declared.target.Target.{Target}
-use Rattle.outlets.specs.Targets.{back_text, front_text}
+use Rattle.outlets.specs.Targets.{back_text, prefix_text}
 use Rattle.captures.specs.Captures.{Capture, accepted_line, capture_of, counts_of, counts_text}
 use Rattle.captures.specs.Captures.{output_of, periods, texts_of, whole_text}
 use Rattle.log_laws.specs.LogHeard.{IsHeardAs, IsHeardBy, parts_heard}
@@ -25,7 +25,7 @@ taken week log text heard =
     ap (λ (parts : List Part). periods_of week 7200 parts) heard.parts_are in
     let written : (to : Target) → whole_text to (Some capture)
     ≡ log_output to week log (counts_of capture) =
-    λ to. ap (λ (cs : List Closed). front_text to
+    λ to. ap (λ (cs : List Closed). prefix_text to
     ++ (texts_of to cs ++ back_text to (counts_text (counts_of capture)))) same in
     record {
       capture = capture;

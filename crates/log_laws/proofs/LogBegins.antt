@@ -1,4 +1,4 @@
--- The first line stands in front of the first subframe or page with a time.
+-- The first line is written before the first subframe or page with a time.
 use Rattle.std.proofs.Common.{◌≡◌, ℕ, ◌+◌, ◌-◌, ◌*◌, ◌/◌, ◌≤◌, nat_lt, nat_le, false}
 use Rattle.std.proofs.Common.{List, [], ◌∷◌, ◌++◌, length, refl, sym, ap, subst, ◌∙◌, arith}
 use Rattle.std.proofs.Common.{append-nil}
@@ -14,8 +14,8 @@ use Rattle.receiver_messages.specs.declared.said.Said.{Said}
 use Rattle.receiver_messages.specs.declared.said.Said.TheVariants.{Other, Time, Heard, Dated}
 use Rattle.receiver_log.specs.declared.state.LogState.{LogState}
 use Rattle.receiver_log.specs.Capture.{lines_from}
-use Rattle.receiver_log.specs.Log.{Given, counted, given, given_at, head_line, reason_in, week_of}
-use Rattle.log_laws.specs.LogItems.{Timed, brought, brought_by, first_second, items_at}
+use Rattle.receiver_log.specs.Log.{LinesGiven, counted, given, given_at, head_line, reason_in, week_of}
+use Rattle.log_laws.specs.LogItems.{Timed, yielded, yielded_by, first_second, items_at}
 use Rattle.log_laws.specs.LogItems.{time_behind, week_before, week_of_log}
 use Rattle.log_laws.proofs.SaidRanges.{IsSaid, IsTime}
 use Rattle.log_laws.proofs.LogTexts.{lines_behind, log_texts, texts_both}
@@ -24,7 +24,7 @@ use Rattle.log_laws.proofs.LogTexts.{lines_behind, log_texts, texts_both}
 abbrev week_at : ℕ → ℕ
 week_at first = (first - 7200) / 604800
 
--- nothing is against the first line
+-- no reason against the first line
 no_reason : (first last : ℕ) → first ≤ last → last ≤ first + 1 → reason_in
     (week_at first) first last ≡ None
 no_reason first last from to =
@@ -40,7 +40,7 @@ in_range : (first : ℕ) → 604800 * 1025 ≤ first + 1 → first ≤ 604800 * 
 in_range first low high = (omega (arith, low), omega (arith, high))
 
 -- what is given at a time, where no line was written
-abbrev First : Option ℕ → Option ℕ → Content → LogState → Given → Type 0
+abbrev First : Option ℕ → Option ℕ → Content → LogState → LinesGiven → Type 0
 First None time content s g =
     (g.text ≡ []) × (g.state.week ≡ None) × (g.state.time ≡ s.time)
     × ((week : ℕ) → items_at week time content ≡ [])
@@ -92,32 +92,32 @@ passed None x log text none is = is
 passed (Some week) x log text none is = (rw (none week) is.0, is.1)
 
 module _ (said : List ℕ → Said) (each : (m : List ℕ) → IsSaid (said m)) where
-  -- what the messages behind give, where no line was written
+  -- what the messages after it give, where no line was written
   abbrev Behind : List (List ℕ) → Type 0
   Behind ms = (s : LogState) → s.week ≡ None → IsTime s.time
-      → IsText (week_of_log (brought_by said s.time ms)) (brought_by said s.time ms)
+      → IsText (week_of_log (yielded_by said s.time ms)) (yielded_by said s.time ms)
       (lines_from said s ms)
 
-  by_first : (s : LogState) (time : Option ℕ) (content : Content) (ms : List (List ℕ)) (g : Given)
+  by_first : (s : LogState) (time : Option ℕ) (content : Content) (ms : List (List ℕ)) (g : LinesGiven)
       (first : Option ℕ)
       → First first time content s g → IsTime s.time → Behind ms
-      → IsText (week_before first (week_of_log (brought_by said s.time ms)))
-      (record { time = time; content = content } ∷ brought_by said s.time ms)
+      → IsText (week_before first (week_of_log (yielded_by said s.time ms)))
+      (record { time = time; content = content } ∷ yielded_by said s.time ms)
       (g.text ++ lines_from said g.state ms)
   unfolding log_texts
   by_first s time content ms g None is ranged behind =
-      let log = brought_by said s.time ms in
+      let log = yielded_by said s.time ms in
       let more : IsText (week_of_log log) log (lines_from said g.state ms) =
-      subst (λ t. IsText (week_of_log (brought_by said t ms)) (brought_by said t ms)
+      subst (λ t. IsText (week_of_log (yielded_by said t ms)) (yielded_by said t ms)
       (lines_from said g.state ms)) is.2 (behind g.state is.1 (subst IsTime (sym is.2) ranged)) in
       rw is.0 (passed (week_of_log log) (record { time = time; content = content }) log
       (lines_from said g.state ms) is.3 more)
   by_first s time content ms g (Some first) is ranged behind =
       let week = week_at first in
-      let log = brought_by said s.time ms in
+      let log = yielded_by said s.time ms in
       let more : lines_from said g.state ms ≡ log_texts week log =
       lines_behind said g.state week ms is.1
-      ∙ ap (λ t. log_texts week (brought_by said t ms)) is.2 in (
+      ∙ ap (λ t. log_texts week (yielded_by said t ms)) is.2 in (
         ap (λ t. g.text ++ t) more ∙ ap (λ t. t ++ log_texts week log) is.0
             ∙ append_assoc (head_line week) (text_of_items (items_at week time content))
             (log_texts week log)
@@ -130,8 +130,8 @@ module _ (said : List ℕ → Said) (each : (m : List ℕ) → IsSaid (said m)) 
 
   by_message : (s : LogState) (bytes : ℕ) (x : Said) (ms : List (List ℕ)) → s.week ≡ None
       → IsTime s.time → IsSaid x → Behind ms
-      → IsText (week_of_log (brought s.time x ++ brought_by said (time_behind s.time x) ms))
-      (brought s.time x ++ brought_by said (time_behind s.time x) ms)
+      → IsText (week_of_log (yielded s.time x ++ yielded_by said (time_behind s.time x) ms))
+      (yielded s.time x ++ yielded_by said (time_behind s.time x) ms)
       ((given s bytes x).text ++ lines_from said (given s bytes x).state ms)
   by_message s bytes Other ms e ranged is behind = behind (given s bytes Other).state e ranged
   by_message s bytes (Time None) ms e ranged is behind =

@@ -22,10 +22,9 @@ use Rattle.capture_lines.specs.Texts.{half_text, lnav_text}
 use Rattle.capture_lines.specs.declared.head.CaptureHead.{CaptureHead}
 use Rattle.capture_lines.specs.declared.item.LineItem.{LineItem}
 use Rattle.capture_lines.specs.declared.item.LineItem.TheVariants.{Half, Lnav}
-use Rattle.capture_lines.proofs.Decimals.{last_digit, one_digit}
-use Rattle.capture_lines.proofs.NumberTexts.{decimal_is_text}
-use Rattle.capture_log.specs.Log.{items_of}
-use Rattle.nav_laws.proofs.SentTexts.{AreSpelt, LineLaws, lines_are, no_cr, no_end, spelt_append}
+use Rattle.capture_lines.proofs.Surface.{decimal_is_text, last_digit, one_digit}
+use Rattle.capture_log.specs.Log.{line_items_of}
+use Rattle.nav_laws.proofs.Surface.{AreSpelt, LineLaws, lines_are, no_cr, no_end, spelt_append}
 use Rattle.framing.specs.Headings.{Heading, format_of}
 use Rattle.framing.specs.Messages.{messages}
 use Rattle.nav_bits.specs.Packed.{pack}
@@ -37,7 +36,7 @@ use Rattle.receiver_messages.specs.declared.said.Said.{Said}
 use Rattle.receiver_messages.specs.declared.said.Said.TheVariants.{Other, Time, Heard, Dated}
 use Rattle.receiver_log.specs.Capture as logs
 use Rattle.receiver_log.specs.Log.{begun, head_line, reason_in}
-use Rattle.log_laws.specs.LogItems.{Timed, brought, brought_by, items_at, items_of_log, time_behind}
+use Rattle.log_laws.specs.LogItems.{Timed, yielded, yielded_by, items_at, items_of_log, time_behind}
 use Rattle.log_laws.specs.LogItems.{unless, week_of_log}
 use Rattle.log_laws.specs.LogHeard.{IsHeardBy, IsHeardThrough, parts_heard}
 use Rattle.log_laws.proofs.LogBegins.{IsText, lines_are_text}
@@ -117,7 +116,7 @@ spelt_at laws week (Some time) (Page sat signal even odd) is =
           ),
         )
 
--- what is brought is in its ranges
+-- what is yielded is in its ranges
 abbrev AreContents : List Timed → Type 0
 AreContents [] = Unit {0}
 AreContents (x ∷ xs) = IsContent x.content × AreContents xs
@@ -126,18 +125,18 @@ contents_append : (xs ys : List Timed) → AreContents xs → AreContents ys →
 contents_append [] ys a b = b
 contents_append (x ∷ xs) ys a b = (a.0, contents_append xs ys a.1 b)
 
-brought_contents : (time : Option ℕ) (x : Said) → IsSaid x → AreContents (brought time x)
-brought_contents time Other is = tt
-brought_contents time (Time next) is = tt
-brought_contents time (Heard content) is = (is, tt)
-brought_contents time (Dated own content) is = (is.1, tt)
+yielded_contents : (time : Option ℕ) (x : Said) → IsSaid x → AreContents (yielded time x)
+yielded_contents time Other is = tt
+yielded_contents time (Time next) is = tt
+yielded_contents time (Heard content) is = (is, tt)
+yielded_contents time (Dated own content) is = (is.1, tt)
 
 log_contents : (said : List ℕ → Said) → ((m : List ℕ) → IsSaid (said m))
-    → (time : Option ℕ) (ms : List (List ℕ)) → AreContents (brought_by said time ms)
+    → (time : Option ℕ) (ms : List (List ℕ)) → AreContents (yielded_by said time ms)
 log_contents said each time [] = tt
 log_contents said each time (m ∷ ms) =
-    contents_append (brought time (said m)) (brought_by said (time_behind time (said m)) ms)
-    (brought_contents time (said m) (each m))
+    contents_append (yielded time (said m)) (yielded_by said (time_behind time (said m)) ms)
+    (yielded_contents time (said m) (each m))
     (log_contents said each (time_behind time (said m)) ms)
 
 spelt_log : ChainLaws → (week : ℕ) (log : List Timed) → AreContents log
@@ -160,7 +159,7 @@ digits_printed (c ∷ cs) h = let range = digit_from_value c h.0 in
 passes : ℕ → Bool
 passes c = nat_le 32 c && nat_le c 126
 
--- known words in front
+-- known first words
 words_printed : (text rest : List ℕ) → list_all passes text ≡ true → All IsPrinted rest
     → All IsPrinted (text ++ rest)
 unfolding passes
@@ -243,7 +242,7 @@ heard_by laws (Some week) log text contents is =
     let printed = head_printed week fits in
     let whole : IsOneLine (head_words week) =
     record { none = no_end _ printed; last = no_cr _ printed; short = head_short week fits } in
-    let items_are : items_of (lines_by false (log_texts week log)) ≡ items =
+    let items_are : line_items_of (lines_by false (log_texts week log)) ≡ items =
     lines_are laws.lines items (spelt_log laws week log contents) in
     record {
       first = head_words week;
@@ -257,11 +256,11 @@ heard_by laws (Some week) log text contents is =
 
 pub heard_through : ChainLaws → (heading : Heading) (said : List ℕ → Said)
     → ((m : List ℕ) → IsSaid (said m)) → (bytes : List ℕ)
-    → IsHeardThrough (brought_by said None (messages (format_of heading) bytes))
+    → IsHeardThrough (yielded_by said None (messages (format_of heading) bytes))
     (logs.capture_of heading said bytes)
 heard_through laws heading said each bytes =
     let ms = messages (format_of heading) bytes in
-    let log = brought_by said None ms in
+    let log = yielded_by said None ms in
     heard_by laws (week_of_log log) log (logs.capture_of heading said bytes)
     (log_contents said each None ms)
     (lines_are_text said each ms begun refl tt)

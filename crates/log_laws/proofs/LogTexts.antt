@@ -1,4 +1,4 @@
--- The lines that the messages of a log give are the texts of the items of what it brings.
+-- The lines that the messages of a log give are the texts of the items that it yields.
 use Rattle.std.proofs.Common.{◌≡◌, ℕ, ◌-◌, ◌*◌}
 use Rattle.std.proofs.Common.{List, [], ◌∷◌, ◌++◌, length, refl, sym, ap, ◌∙◌}
 use Rattle.std.proofs.Common.{append-nil, append_assoc}
@@ -15,9 +15,9 @@ use Rattle.receiver_messages.specs.declared.said.Said.{Said}
 use Rattle.receiver_messages.specs.declared.said.Said.TheVariants.{Other, Time, Heard, Dated}
 use Rattle.receiver_log.specs.declared.state.LogState.{LogState}
 use Rattle.receiver_log.specs.Capture.{lines_from}
-use Rattle.receiver_log.specs.Log.{Given, counted, given, given_at, page_in, reason_in}
+use Rattle.receiver_log.specs.Log.{LinesGiven, counted, given, given_at, page_in, reason_in}
 use Rattle.receiver_log.specs.Log.{subframe_in, week_of}
-use Rattle.log_laws.specs.LogItems.{Timed, brought, brought_by, items_at}
+use Rattle.log_laws.specs.LogItems.{Timed, yielded, yielded_by, items_at}
 use Rattle.log_laws.specs.LogItems.{items_of_log, time_behind}
 
 -- ---- lists
@@ -51,7 +51,7 @@ texts_both week xs ys =
 
 -- what is given at a time
 record Goes (s : LogState) (week : ℕ) (time : Option ℕ) (content : Content)
-    (g : Given) : Type 0 where
+    (g : LinesGiven) : Type 0 where
   text_is : g.text ≡ text_of_items (items_at week time content)
   week_is : g.state.week ≡ Some week
   time_is : g.state.time ≡ s.time
@@ -94,8 +94,8 @@ goes_at s week (Some time) (Page sat signal even odd) e =
     (ap (λ w. reason_in (week_of w (time - 1)) (time - 1) time) (sym e))
 
 -- what a message gives
-record Steps (week : ℕ) (time : Option ℕ) (x : Said) (g : Given) : Type 0 where
-  text_is : g.text ≡ log_texts week (brought time x)
+record Steps (week : ℕ) (time : Option ℕ) (x : Said) (g : LinesGiven) : Type 0 where
+  text_is : g.text ≡ log_texts week (yielded time x)
   week_is : g.state.week ≡ Some week
   time_is : g.state.time ≡ time_behind time x
 
@@ -125,14 +125,14 @@ steps s week bytes (Dated time content) e =
 -- the lines of messages, where the first line was written
 pub lines_behind : (said : List ℕ → Said) (s : LogState) (week : ℕ) (ms : List (List ℕ))
     → s.week ≡ Some week
-    → lines_from said s ms ≡ log_texts week (brought_by said s.time ms)
+    → lines_from said s ms ≡ log_texts week (yielded_by said s.time ms)
 unfolding log_texts
 lines_behind said s week [] e = refl
 lines_behind said s week (m ∷ ms) e =
     let g = given s (length m) (said m) in
     let k = steps s week (length m) (said m) e in
     let more = lines_behind said g.state week ms k.week_is in
-    ap (λ t. g.text ++ t) (more ∙ ap (λ time. log_texts week (brought_by said time ms)) k.time_is)
-    ∙ ap (λ t. t ++ log_texts week (brought_by said (time_behind s.time (said m)) ms)) k.text_is
-    ∙ sym (texts_both week (brought s.time (said m))
-    (brought_by said (time_behind s.time (said m)) ms))
+    ap (λ t. g.text ++ t) (more ∙ ap (λ time. log_texts week (yielded_by said time ms)) k.time_is)
+    ∙ ap (λ t. t ++ log_texts week (yielded_by said (time_behind s.time (said m)) ms)) k.text_is
+    ∙ sym (texts_both week (yielded s.time (said m))
+    (yielded_by said (time_behind s.time (said m)) ms))

@@ -1,4 +1,4 @@
--- What messages say is in its ranges: times, satellites, and halves of pages.
+-- The contents of messages are in their ranges: times, satellites, and page parts.
 use Rattle.std.proofs.Common.{◌≡◌, ℕ, ◌+◌, ◌-◌, ◌*◌, ◌/◌, ◌%◌, ◌^◌, ◌<◌, ◌≤◌, ◌==◌, ◌&&◌, ◌||◌}
 use Rattle.std.proofs.Common.{nat_lt, nat_le, Bool, true, false, List, length, refl, arith}
 use Rattle.std.proofs.lemmas.Bool.{and_parts, leb-true, ltb-true}
@@ -15,8 +15,8 @@ use Rattle.gnss_week.specs.declared.calendar.WeekFault.{WeekFault}
 use Rattle.receiver_messages.specs.Halves.{ubx_even, ubx_odd, sbf_even, sbf_odd}
 use Rattle.receiver_messages.specs.Numbers.{two_at, four_at, eight_at}
 use Rattle.receiver_messages.specs.Times.{digits_of, exponent_of, is_week, is_in_week, minute_at}
-use Rattle.receiver_messages.specs.Times.{nearest_to, places_of, time_in, time_near, time_of_date}
-use Rattle.receiver_messages.specs.Times.{time_of_raw, time_of_seconds, time_of_week, week_near}
+use Rattle.receiver_messages.specs.Times.{nearest_to, places_of, time_in, nearest_time, time_of_date}
+use Rattle.receiver_messages.specs.Times.{time_of_raw, time_of_seconds, time_of_week, nearest_week}
 use Rattle.receiver_messages.specs.Words.{words_at}
 use Rattle.receiver_messages.specs.Sbf.{block_said, page_said, pages_said, sbf_said, subframe_said}
 use Rattle.receiver_messages.specs.Sbf.{time_at}
@@ -29,7 +29,7 @@ use Rattle.receiver_messages.specs.declared.said.Reason.TheVariants.{Length}
 use Rattle.receiver_messages.specs.declared.said.Said.{Said}
 use Rattle.receiver_messages.specs.declared.said.Said.TheVariants.{Other, Time, Heard, Dated}
 
--- a time is in the weeks in which receivers are believed, or at the end of the last
+-- a time is in the weeks that are accepted from receivers, or at the end of the last
 abbrev pub IsTime : Option ℕ → Type 0
 IsTime None = Unit {0}
 IsTime (Some time) = (604800 * 1025 ≤ time) × (time ≤ 604800 * 8192)
@@ -93,21 +93,21 @@ time_of_week_is payload =
     (time_in (two_at payload 8) (four_at payload 0)) None
     (time_in_is (two_at payload 8) (four_at payload 0)) tt
 
-time_near_is : (minute : Result ℕ WeekFault) (second milliseconds : ℕ)
-    → IsTime (time_near minute second milliseconds)
-time_near_is (Ok minute) second milliseconds =
-    time_in_is (week_near (minute + second) milliseconds) milliseconds
-time_near_is (Err fault) second milliseconds = tt
+nearest_time_is : (minute : Result ℕ WeekFault) (second milliseconds : ℕ)
+    → IsTime (nearest_time minute second milliseconds)
+nearest_time_is (Ok minute) second milliseconds =
+    time_in_is (nearest_week (minute + second) milliseconds) milliseconds
+nearest_time_is (Err fault) second milliseconds = tt
 
 time_of_date_is : (payload : List ℕ) → IsTime (time_of_date payload)
 unfolding time_of_date
 time_of_date_is payload =
-    let near = time_near (moment_to (minute_at payload)) (slice_index payload 10)
+    let near = nearest_time (moment_to (minute_at payload)) (slice_index payload 10)
     (four_at payload 0) in
     if_time (nat_le 12 (length payload)
     && (slice_index payload 11 % 4 == 3 && nat_le (slice_index payload 10) 60))
     near None
-    (time_near_is (moment_to (minute_at payload)) (slice_index payload 10) (four_at payload 0)) tt
+    (nearest_time_is (moment_to (minute_at payload)) (slice_index payload 10) (four_at payload 0)) tt
 
 nearest_is : (double : ℕ) → digits_of double / 2 ^ places_of double < 604800
     → nearest_to double ≤ 604800

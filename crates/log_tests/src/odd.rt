@@ -1,4 +1,4 @@
-//! Logs that bring little or nothing: without words, without a time, with times that jump, and
+//! Logs that yield little or nothing: without words, without a time, with times that jump, and
 //! files that are no logs.
 
 use crate::logs::Log;

@@ -32,7 +32,7 @@ const TIMES: [TimeCase; 24] = [
         ],
         second: 1388023201,
     },
-    // over the turn of the week
+    // over the week rollover
     TimeCase {
         class: 1,
         number: 32,

@@ -1,4 +1,4 @@
-pub mod Digits
+pub mod BitPatterns
 pub mod EightBytes
 pub mod BytePart
 pub mod Halves

@@ -2,7 +2,7 @@ ghost use Rattle.std.specs.Prelude.{◌≡◌, ℕ, ◌+◌, ◌*◌, ◌^◌, �
 ghost use Rattle.nav_bits.specs.Bits.{number_at, signed_at, Puts};
 ghost use Rattle.nav_bits.specs.Packed.{AreBytes};
 
-use crate::places::{number_of, put_number};
+use crate::bit_offsets::{number_in_bytes, put_number};
 use crate::signed::sign_extended;
 use std::marker::Model;
 
@@ -20,7 +20,7 @@ impl<const N: usize> Model for Bits<N> {
     ghost inverse = { λ bytes. record { bytes = bytes } };
 }
 
-// Contracts see bytes as numbers: each is below 256.
+// Contracts see bytes as natural numbers; each is below 256.
 fn fit(bytes: &[u8])
     ensures { (i : ℕ) → slice_index bytes.now i < 256 }
 {
@@ -28,14 +28,14 @@ fn fit(bytes: &[u8])
 }
 
 impl<const N: usize> Bits<N> {
-    /// They are `N` bytes: a fact of all bits, which this says and for which it does nothing.
+    /// A fact for proofs: there are `N` bytes, each below 256. Does nothing when run.
     pub fn are_bytes(&self)
         ensures { AreBytes N self.now }
     {
         fit(&self.bytes);
     }
 
-    /// Bits that are all 0.
+    /// `N` bytes of zero.
     pub fn zero() -> Self
         ensures { result ≡ replicate N 0 }
     {
@@ -56,17 +56,17 @@ impl<const N: usize> Bits<N> {
         &self.bytes
     }
 
-    /// The number whose binary digits stand at the `width` places from `at` on.
+    /// The unsigned value of the `width` bits (1 to 64) from bit offset `at`.
     pub fn get(&self, at: usize, width: u32) -> u64
         requires some { 1 ≤ width }
         requires most { width ≤ 64 }
         requires inside { at + width ≤ 8 * N }
         ensures { result ≡ number_at self.now at width }
     {
-        number_of(&self.bytes, at, width as usize)
+        number_in_bytes(&self.bytes, at, width as usize)
     }
 
-    /// The same in two's complement, the first of the places being the sign.
+    /// The value of the `width` bits (1 to 64) from bit offset `at`, in two's complement.
     pub fn get_signed(&self, at: usize, width: u32) -> i64
         requires some { 1 ≤ width }
         requires most { width ≤ 64 }
@@ -76,7 +76,8 @@ impl<const N: usize> Bits<N> {
         sign_extended(self.get(at, width), width)
     }
 
-    /// Puts the binary digits of a number at the `width` places from `at` on. All other bits stay.
+    /// Writes an unsigned value as the `width` bits (1 to 64) from bit offset `at`. All other bits
+    /// stay.
     pub fn put(&mut self, at: usize, width: u32, value: u64)
         requires some { 1 ≤ width }
         requires most { width ≤ 64 }

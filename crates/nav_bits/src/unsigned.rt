@@ -2,8 +2,8 @@ ghost use Rattle.std.specs.Prelude.{◌≡◌, ℕ, ◌+◌, ◌*◌, ◌^◌, �
 ghost use Rattle.nav_bits.specs.Bits.{number_at};
 ghost use Rattle.nav_bits.specs.Laws.{number_at-same};
 
+use crate::bit_offsets::{number_in_bytes, put_number};
 use crate::layout::Layout;
-use crate::places::{number_of, put_number};
 use std::marker::Model;
 
 /// An unsigned number of `W` bits, from 0 up to 2^`W` - 1.
@@ -23,7 +23,7 @@ impl<const W: u32> Model for U<W> {
 }
 
 impl<const W: u32> U<W> {
-    /// The number as `W` digits; `None` where it does not fit.
+    /// The number as `W` bits; `None` where it is out of range.
     pub fn new(value: u64) -> Option<Self>
         ensures exactly { IsSome result ↔ (value < 2 ^ W) }
         ensures same { IfSome result (λ u. u ≡ value) }
@@ -46,15 +46,15 @@ impl<const W: u32> U<W> {
         self.raw
     }
 
-    /// The number as `W` digits, for code that knows that it fits.
-    pub fn from_digits(raw: u64) -> Self
+    /// The number as `W` bits, where the caller knows that it is in range.
+    pub fn from_bits(raw: u64) -> Self
         requires { raw < 2 ^ W }
         ensures { result ≡ raw }
     {
         U { raw }
     }
 
-    /// The number of which these are the high and the low digits.
+    /// The number whose `H` high and `L` low bits these are.
     pub fn join<const H: u32, const L: u32>(high: U<H>, low: U<L>) -> Self
         requires whole { H + L ≡ W }
         requires some_high { 1 ≤ H }
@@ -67,7 +67,7 @@ impl<const W: u32> U<W> {
         }
     }
 
-    /// Its `H` high digits and its `L` low digits.
+    /// Its `H` high bits and its `L` low bits.
     pub fn split<const H: u32, const L: u32>(&self) -> (U<H>, U<L>)
         requires whole { H + L ≡ W }
         requires some_high { 1 ≤ H }
@@ -75,8 +75,8 @@ impl<const W: u32> U<W> {
         requires most { W ≤ 64 }
         ensures { result.0 * 2 ^ L + result.1 ≡ self.now }
     {
-        let high = U::from_digits(self.raw >> L);
-        let low = U::from_digits(self.raw & (u64::MAX >> (64 - L)));
+        let high = U::from_bits(self.raw >> L);
+        let low = U::from_bits(self.raw & (u64::MAX >> (64 - L)));
         (high, low)
     }
 }
@@ -99,6 +99,6 @@ impl<const W: u32> Layout for U<W> {
     }
 
     fn read_bits(from: &[u8], at: usize) -> Self {
-        U::from_digits(number_of(from, at, W as usize))
+        U::from_bits(number_in_bytes(from, at, W as usize))
     }
 }

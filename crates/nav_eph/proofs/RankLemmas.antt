@@ -1,4 +1,4 @@
--- The numbers of a part and of an item tell its fields.
+-- The numbers of a part and of an item determine its fields.
 use Rattle.std.proofs.Common.{◌≡◌, ℕ, suc, ◌+◌, ℤ, pos, true, if◌then◌else◌, List, [], ◌∷◌, drop, length, refl, sym, ap, ◌∙◌, ◌↔◌, arith}
 use Rattle.std.specs.Prelude.{slice_index_or, nat_eq, ◌++◌}
 use Rattle.std.proofs.lemmas.Bool.{true≢false}
@@ -33,11 +33,11 @@ use Rattle.nav_eph.specs.declared.items.GalEph.{GalEph}
 use Rattle.nav_eph.specs.declared.items.IonEph.{IonEph}
 use Rattle.nav_eph.specs.declared.items.NavItem.{NavItem}
 use Rattle.nav_eph.specs.declared.items.NavItem.TheVariants.{Gps, Gal, Ion}
-use Rattle.nav_eph.specs.Ranks.{body_rank, part_rank, rank, same_numbers, sending_rank, sent_of, whole_rank, content_rank, tag_rank}
+use Rattle.nav_eph.specs.Ranks.{body_rank, part_rank, rank, same_numbers, transmission_rank, sent_of, whole_rank, content_rank, tag_rank}
 use Rattle.nav_eph.specs.Items.{IsAlike, is_alike, same_item, unsent}
 use Rattle.nav_eph.specs.Conditions.{same_part}
 
--- ---- the fields that numbers tell
+-- ---- fields determined by numbers
 
 abbrev n_at : ℕ → List ℤ → ℕ
 n_at k l = magnitude_of (slice_index_or l k (pos 0))
@@ -91,9 +91,9 @@ gal_ion_from k l = record { ai0 = n_at (k + 0) l; ai1 = z_at (k + 1) l; ai2 = z_
 abbrev tag_from : ℕ → List ℤ → SentTag
 tag_from k l = if nat_eq (n_at k l) 0 then Sent (n_at (k + 1) l) (n_at (k + 2) l) else Toe (n_at (k + 1) l) (n_at (k + 2) l)
 
-tag_again : (t : SentTag) (front : ℕ) → tag_from 0 (tag_rank t) ≡ t
-tag_again (Sent wn second) front = refl
-tag_again (Toe wn second) front = refl
+tag_again : (t : SentTag) (prefix : ℕ) → tag_from 0 (tag_rank t) ≡ t
+tag_again (Sent wn second) prefix = refl
+tag_again (Toe wn second) prefix = refl
 
 abbrev content_from : List ℤ → IonContent
 content_from l = if nat_eq (n_at 0 l) 0 then OfGps (gps_ion_from 1 l) else OfGal (gal_ion_from 1 l)
@@ -174,19 +174,19 @@ item_again (Gps e) = λ i. Gps (record e { sat = record { system = system_again 
 item_again (Gal e) = λ i. Gal (record e { sat = record { system = system_again e.sat.system i; number = e.sat.number }; sent = Unknown })
 item_again (Ion e) = λ i. Ion (record { sat = record { system = system_again e.sat.system i; number = e.sat.number }; moment = e.moment; content = content_again e.content i })
 
-abbrev sending_from : List ℤ → SentSecond
-sending_from l = if nat_eq (n_at 0 l) 0 then Unknown else At (z_at 1 l)
+abbrev transmission_from : List ℤ → SentSecond
+transmission_from l = if nat_eq (n_at 0 l) 0 then Unknown else At (z_at 1 l)
 
-sending_again : (s : SentSecond) → sending_from (sending_rank s) ≡ s
-sending_again Unknown = refl
-sending_again (At second) = refl
+transmission_again : (s : SentSecond) → transmission_from (transmission_rank s) ≡ s
+transmission_again Unknown = refl
+transmission_again (At second) = refl
 
-abbrev with_sending : SentSecond → NavItem → NavItem
-with_sending s (Gps e) = Gps (record e { sent = s })
-with_sending s (Gal e) = Gal (record e { sent = s })
-with_sending s (Ion e) = Ion e
+abbrev with_transmission : SentSecond → NavItem → NavItem
+with_transmission s (Gps e) = Gps (record e { sent = s })
+with_transmission s (Gal e) = Gal (record e { sent = s })
+with_transmission s (Ion e) = Ion e
 
-with_its_own : (x : NavItem) → with_sending (sent_of x) (unsent x) ≡ x
+with_its_own : (x : NavItem) → with_transmission (sent_of x) (unsent x) ≡ x
 with_its_own (Gps e) = refl
 with_its_own (Gal e) = refl
 with_its_own (Ion e) = refl
@@ -209,31 +209,31 @@ rank_unsent (Gps e) = refl
 rank_unsent (Gal e) = refl
 rank_unsent (Ion e) = refl
 
--- items have the same rank exactly where they are alike
+-- items of equal rank are equal but for the transmission time
 pub alike_by_rank : (a b : NavItem) → rank a ≡ rank b → IsAlike a b
 alike_by_rank a b e = sym (item_again a) ∙ ap item_from e ∙ item_again b
 
 pub rank_of_alike : (a b : NavItem) → IsAlike a b → rank a ≡ rank b
 rank_of_alike a b e = sym (rank_unsent a) ∙ ap rank e ∙ rank_unsent b
 
-abbrev front_two : List ℤ → List ℤ
-front_two l = slice_index_or l 0 (pos 0) ∷ slice_index_or l 1 (pos 0) ∷ []
+abbrev prefix_two : List ℤ → List ℤ
+prefix_two l = slice_index_or l 0 (pos 0) ∷ slice_index_or l 1 (pos 0) ∷ []
 
-front_is : (s : SentSecond) (l : List ℤ) → front_two (sending_rank s ++ l) ≡ sending_rank s
-front_is Unknown l = refl
-front_is (At second) l = refl
+prefix_is : (s : SentSecond) (l : List ℤ) → prefix_two (transmission_rank s ++ l) ≡ transmission_rank s
+prefix_is Unknown l = refl
+prefix_is (At second) l = refl
 
-behind_is : (s : SentSecond) (l : List ℤ) → drop 2 (sending_rank s ++ l) ≡ l
+behind_is : (s : SentSecond) (l : List ℤ) → drop 2 (transmission_rank s ++ l) ≡ l
 behind_is Unknown l = refl
 behind_is (At second) l = refl
 
 same_by_rank : (a b : NavItem) → whole_rank a ≡ whole_rank b → a ≡ b
 same_by_rank a b e =
-    let front : sending_rank (sent_of a) ≡ sending_rank (sent_of b) =
-    sym (front_is (sent_of a) (rank a)) ∙ ap front_two e ∙ front_is (sent_of b) (rank b) in
+    let prefix : transmission_rank (sent_of a) ≡ transmission_rank (sent_of b) =
+    sym (prefix_is (sent_of a) (rank a)) ∙ ap prefix_two e ∙ prefix_is (sent_of b) (rank b) in
     let behind : rank a ≡ rank b = sym (behind_is (sent_of a) (rank a)) ∙ ap (drop 2) e ∙ behind_is (sent_of b) (rank b) in
-    let sent : sent_of a ≡ sent_of b = sym (sending_again (sent_of a)) ∙ ap sending_from front ∙ sending_again (sent_of b) in
-    sym (with_its_own a) ∙ ap (λ s. with_sending s (unsent a)) sent ∙ ap (with_sending (sent_of b)) (alike_by_rank a b behind) ∙ with_its_own b
+    let sent : sent_of a ≡ sent_of b = sym (transmission_again (sent_of a)) ∙ ap transmission_from prefix ∙ transmission_again (sent_of b) in
+    sym (with_its_own a) ∙ ap (λ s. with_transmission s (unsent a)) sent ∙ ap (with_transmission (sent_of b)) (alike_by_rank a b behind) ∙ with_its_own b
 
 part_by_rank : (a b : Part) → part_rank a ≡ part_rank b → a ≡ b
 part_by_rank a b e = sym (part_again a) ∙ ap part_from e ∙ part_again b

@@ -1,6 +1,6 @@
 pub mod Bodies
 pub mod Conditions
-pub mod Digits
+pub mod BitPatterns
 pub mod Items
 pub mod Numbers
 pub mod Ranges

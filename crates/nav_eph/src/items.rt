@@ -11,80 +11,81 @@ use crate::sat::{Sat, System};
 use gnss_week::{Moment, Week};
 use nav_bits::U;
 
-/// The transmission time of an ephemeris.
+/// The transmission time of an ephemeris, relative to the week of toe.
 #[derive(Clone, Copy, PartialEq, Eq)]
 pub enum SentSecond {
-    /// It is not known.
+    /// Not known.
     Unknown,
-    /// So many seconds after the start of the week of its toe, -302,400 to 907,199.
+    /// Seconds after the start of the week of toe, -302,400 to 907,199.
     At(i32),
 }
 
-/// An ephemeris of GPS.
+/// A GPS LNAV ephemeris.
 #[derive(Clone, Copy, PartialEq, Eq)]
 pub struct GpsEph {
     /// The satellite, of GPS.
     pub sat: Sat,
-    /// Its clock.
+    /// Its clock correction, of subframe 1.
     pub clock: GpsClock,
-    /// Its SV status.
+    /// Its SV status, of subframe 1.
     pub side: GpsSide,
     /// Its subframe 2.
     pub a: GpsOrbitA,
     /// The fit interval flag (IS-GPS-200, 20.3.3.4.3.1).
     pub fit: U<1>,
-    /// Its subframe 3, of the same issue.
+    /// Its subframe 3, of the same IODE.
     pub b: GpsOrbitB,
     /// The week of toe, counted from 1980-01-06.
     pub toe_week: Week,
-    /// When it was sent.
+    /// Its transmission time.
     pub sent: SentSecond,
 }
 
-/// An ephemeris of Galileo.
+/// A Galileo I/NAV ephemeris.
 #[derive(Clone, Copy, PartialEq, Eq)]
 pub struct GalEph {
     /// The satellite, of Galileo.
     pub sat: Sat,
-    /// Its I/NAV word 1.
+    /// Its I/NAV word type 1.
     pub w1: GalWord1,
-    /// Word 2, of the same issue.
+    /// Word type 2, of the same IODnav.
     pub w2: GalWord2,
-    /// Word 3, with the SISA, of the same issue.
+    /// Word type 3, with the SISA, of the same IODnav.
     pub w3: GalWord3,
-    /// Word 4, with the clock, of the same issue.
+    /// Word type 4, with the clock correction, of the same IODnav.
     pub w4: GalWord4,
-    /// Its group delays and health, of word 5.
+    /// Its group delays, signal health and data validity, of word type 5.
     pub health: GalHealth,
     /// The week of toe, counted from 1980-01-06.
     pub toe_week: Week,
-    /// When it was sent.
+    /// Its transmission time.
     pub sent: SentSecond,
 }
 
-/// What a satellite says of the ionosphere, and when.
+/// Broadcast ionospheric parameters, with satellite and transmission time.
 #[derive(Clone, Copy, PartialEq, Eq)]
 pub struct IonEph {
-    /// The satellite, of the content's system.
+    /// The satellite, of the system of the parameters.
     pub sat: Sat,
-    /// When it was sent, in week 1 to 16382.
+    /// The transmission time, in week 1 to 16382.
     pub moment: Moment,
-    /// What it says.
+    /// The parameters.
     pub content: IonContent,
 }
 
-/// One item of a list of broadcast navigation data.
+/// One item of broadcast navigation data.
 #[derive(Clone, Copy, PartialEq, Eq)]
 pub enum NavItem {
-    /// An ephemeris of GPS.
+    /// A GPS ephemeris.
     Gps(GpsEph),
-    /// An ephemeris of Galileo.
+    /// A Galileo ephemeris.
     Gal(GalEph),
-    /// The ionosphere.
+    /// Ionospheric parameters.
     Ion(IonEph),
 }
 
-// A known second of sending lies from half a week before the week of toe to half a week after it.
+// Whether the transmission time is unknown, or from half a week before to half a week after the
+// week of toe.
 fn is_sent_second(sent: &SentSecond) -> bool
     ensures { IsTrue result ↔ IsSentSecond sent.now }
 {
@@ -95,8 +96,8 @@ fn is_sent_second(sent: &SentSecond) -> bool
 }
 
 impl GpsEph {
-    /// The ephemeris of these fields; `None` where the satellite is not one of GPS, the two halves
-    /// of the orbit have different issues, or `sent` is out of range.
+    /// The ephemeris of these fields; `None` where the satellite is not one of GPS, the IODEs of
+    /// subframes 2 and 3 differ, or `sent` is out of range.
     pub fn new(
         sat: Sat,
         clock: GpsClock,
@@ -140,8 +141,8 @@ impl GpsEph {
         })
     }
 
-    /// The moment of its toe (IS-GPS-200, 20.3.3.4.1): in the week of toe, in seconds from
-    /// 1980-01-06.
+    /// The ephemeris reference time toe as GPS time, in seconds from 1980-01-06 (IS-GPS-200,
+    /// 20.3.3.4.1).
     pub fn toe(&self) -> Moment
         ensures { result ≡ gps_toe_moment self.now }
     {
@@ -151,8 +152,8 @@ impl GpsEph {
 }
 
 impl GalEph {
-    /// The ephemeris of these fields; `None` where the satellite is not one of Galileo, the four
-    /// words have different issues, or `sent` is out of range.
+    /// The ephemeris of these fields; `None` where the satellite is not one of Galileo, the IODnavs
+    /// of the four words differ, or `sent` is out of range.
     pub fn new(
         sat: Sat,
         w1: GalWord1,
@@ -203,8 +204,8 @@ impl GalEph {
         })
     }
 
-    /// The moment of its toe (Galileo OS SIS ICD, 5.1.1): in the week of toe, in seconds from
-    /// 1980-01-06.
+    /// The ephemeris reference time toe as GPS time, in seconds from 1980-01-06 (Galileo OS SIS
+    /// ICD, 5.1.1).
     pub fn toe(&self) -> Moment
         ensures { result ≡ galileo_toe_moment self.now }
     {
@@ -214,8 +215,8 @@ impl GalEph {
 }
 
 impl IonEph {
-    /// The ionosphere of these fields; `None` where the satellite is not of the content's system,
-    /// or the moment is in week 0 or 16383.
+    /// The item of these fields; `None` where the satellite is not of the system of the parameters,
+    /// or the transmission time is in week 0 or 16383.
     pub fn new(sat: Sat, moment: Moment, content: IonContent) -> Option<Self>
         ensures exactly { IsSome result ↔ IsIonEph sat moment content }
         ensures same { IfSome result (λ e. e ≡ record {
@@ -242,7 +243,7 @@ impl IonEph {
 }
 
 impl NavItem {
-    // It equals another in every field.
+    // Whether it equals another in every field.
     fn equals(&self, other: &NavItem) -> bool
         ensures { IsTrue result ↔ (self.now ≡ other.now) }
     {
@@ -254,7 +255,7 @@ impl NavItem {
         }
     }
 
-    /// It equals another in every field.
+    /// Whether it equals another in every field.
     pub fn is_same(&self, other: &NavItem) -> bool
         ensures exactly { IsTrue result ↔ (self.now ≡ other.now) }
         ensures answer { result ≡ same_item self.now other.now }
@@ -262,8 +263,8 @@ impl NavItem {
         self.equals(other)
     }
 
-    // The item with no time of sending.
-    fn without_sending(&self) -> NavItem
+    // The item with transmission time `Unknown`.
+    fn without_transmission(&self) -> NavItem
         ensures { result ≡ unsent self.now }
     {
         match self {
@@ -279,14 +280,15 @@ impl NavItem {
         }
     }
 
-    // It equals another in every field but the time of sending.
+    // Whether it equals another in every field but the transmission time.
     fn equals_unsent(&self, other: &NavItem) -> bool
         ensures { IsTrue result ↔ IsAlike self.now other.now }
     {
-        self.without_sending().equals(&other.without_sending())
+        self.without_transmission()
+            .equals(&other.without_transmission())
     }
 
-    /// It equals another in every field but the time of sending.
+    /// Whether it equals another in every field but the transmission time of an ephemeris.
     pub fn is_alike(&self, other: &NavItem) -> bool
         ensures exactly { IsTrue result ↔ IsAlike self.now other.now }
         ensures answer { result ≡ is_alike self.now other.now }

@@ -1,16 +1,17 @@
-//! The values of broadcast ephemerides and of the broadcast ionosphere.
+//! Broadcast ephemerides and ionospheric parameters.
 //!
-//! GPS sends an ephemeris in three subframes (IS-GPS-200, 20.3.3), Galileo in four words and its
-//! health in a fifth (Galileo OS SIS ICD, 4.3.5), each parameter as a whole number of some binary
-//! digits. Here these numbers are kept as they were sent, unscaled:
+//! A GPS ephemeris is broadcast in three subframes (IS-GPS-200, 20.3.3), a Galileo ephemeris in
+//! four word types and its health in a fifth (Galileo OS SIS ICD, 4.3.5), each parameter as an
+//! integer of fixed width. Here parameters are kept as broadcast, unscaled:
 //!
-//! - [`Body`], what one subframe, word or message brings, and [`Part`], a body with its satellite
-//!   and the time at which it was heard;
-//! - [`GpsEph`], [`GalEph`] and [`IonEph`], whole values, and [`NavItem`], one of these;
+//! - [`Body`], the content of one subframe, word or message, and [`Part`], a body with its
+//!   satellite and time of reception;
+//! - [`GpsEph`], [`GalEph`] and [`IonEph`], complete values, and [`NavItem`], one of these;
 //! - [`Sat`], [`Signal`], [`SentTag`] and the small numbers [`Step16`], [`Step60`] and [`Sisa`].
 //!
-//! A constructor answers `None` exactly where what it is given does not fit together. Where one of
-//! several values is to be chosen, they are compared by their numbers, which `number` gives.
+//! A constructor gives `None` exactly where its arguments are inconsistent or out of range. Where
+//! one of several received values is to be chosen, they are compared by the numbers that `number`
+//! gives.
 //!
 //! ```rust
 //! use nav_eph::{Sat, System};
@@ -22,7 +23,7 @@
 //! ```
 #![tactic(auto)]
 
-mod digits;
+mod bit_pattern;
 mod galileo;
 mod gps;
 mod ion;
@@ -41,11 +42,11 @@ pub use crate::gps::{GpsClock, GpsOrbitA, GpsOrbitB, GpsSide};
 pub use crate::ion::{GalIon, GpsIon, IonContent};
 pub use crate::items::{GalEph, GpsEph, IonEph, NavItem, SentSecond};
 pub use crate::laws::{
-    alike_is_decided, equality_is_decided, one_galileo_ionosphere, one_galileo_sending,
-    one_gps_ionosphere, one_gps_sending, one_health_and_tag, one_side, one_tag,
+    alike_is_decided, equality_is_decided, one_galileo_ionosphere, one_galileo_transmission,
+    one_gps_ionosphere, one_gps_transmission, one_health_and_tag, one_side, one_tag,
 };
 pub use crate::part::{Body, Part};
 pub use crate::sat::{Sat, System};
 pub use crate::signal::Signal;
 pub use crate::steps::{Sisa, Step16, Step60};
-pub use crate::tag::{SentTag, gal_sending_number, gps_sending_number};
+pub use crate::tag::{SentTag, gal_transmission_number, gps_transmission_number};

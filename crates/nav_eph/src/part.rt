@@ -10,33 +10,33 @@ use crate::tag::SentTag;
 use gnss_week::Second;
 use nav_bits::U;
 
-/// What one subframe, word or message brings of an ephemeris or of the ionosphere.
+/// The content of one subframe, word or message.
 #[derive(Clone, Copy, PartialEq, Eq)]
 pub enum Body {
-    /// The clock of GPS, its SV status, and its transmission time (subframe 1).
+    /// GPS clock correction, SV status and transmission time (subframe 1).
     GpsClock(GpsClock, GpsSide, SentTag),
-    /// The first half of the orbit of GPS, and the fit interval flag (subframe 2).
+    /// GPS subframe 2, and the fit interval flag.
     GpsA(GpsOrbitA, U<1>),
-    /// The second half of the orbit of GPS (subframe 3).
+    /// GPS subframe 3.
     GpsB(GpsOrbitB),
-    /// Word 1 of Galileo.
+    /// I/NAV word type 1.
     GalW1(GalWord1),
-    /// Word 2 of Galileo.
+    /// I/NAV word type 2.
     GalW2(GalWord2),
-    /// Word 3 of Galileo.
+    /// I/NAV word type 3.
     GalW3(GalWord3),
-    /// Word 4 of Galileo.
+    /// I/NAV word type 4.
     GalW4(GalWord4),
-    /// Group delays and health of Galileo, and their transmission time (word 5).
+    /// Galileo group delays and health, and their transmission time (word type 5).
     GalHealth(GalHealth, SentTag),
-    /// The ionosphere of GPS, and its transmission time as a second of the week.
+    /// GPS ionospheric parameters, and their transmission time as time of week.
     GpsIon(GpsIon, Second),
-    /// The ionosphere of Galileo, and the week number and the second of its transmission time.
+    /// Galileo ionospheric parameters, and their transmission time as week number and time of week.
     GalIon(GalIon, U<12>, Second),
 }
 
 impl Body {
-    /// The system whose satellites send it.
+    /// The system that broadcasts it.
     pub fn system(&self) -> System
         ensures { result ≡ system_of self.now }
     {
@@ -55,18 +55,18 @@ impl Body {
     }
 }
 
-/// A part of an ephemeris or of the ionosphere, as it was heard.
+/// A part of an ephemeris or ionospheric parameters, as received.
 #[derive(Clone, Copy, PartialEq, Eq)]
 pub struct Part {
-    /// The second at which it was heard, as the logger counts.
+    /// The second of reception, as the receiver's log counts.
     pub stamp: u32,
-    /// Who sent it.
+    /// The satellite that sent it.
     pub sat: Sat,
-    /// What it brings.
+    /// Its content.
     pub body: Body,
 }
 
-// The week number that a tag of GPS bears has its ten digits.
+// Whether the week number of a GPS tag has at most ten bits.
 fn has_gps_week(body: &Body) -> bool
     ensures { IsTrue result ↔ HasGpsWeek body.now }
 {
@@ -78,8 +78,8 @@ fn has_gps_week(body: &Body) -> bool
 }
 
 impl Part {
-    /// The part heard at that second; `None` where the satellite is not of the body's system, or
-    /// the week number of a tag of GPS has more than ten bits.
+    /// The part received at that second; `None` where the satellite is not of the body's system, or
+    /// the week number of a GPS tag has more than ten bits.
     pub fn new(stamp: u32, sat: Sat, body: Body) -> Option<Self>
         ensures exactly { IsSome result ↔ IsPart sat body }
         ensures same { IfSome result (λ p. p ≡ record { stamp = stamp; sat = sat; body = body }) }
@@ -93,7 +93,7 @@ impl Part {
         Some(Part { stamp, sat, body })
     }
 
-    // It equals another in every field.
+    // Whether it equals another in every field.
     fn equals(&self, other: &Part) -> bool
         ensures { IsTrue result ↔ (self.now ≡ other.now) }
     {
@@ -106,7 +106,7 @@ impl Part {
         same_body(&self.body, &other.body)
     }
 
-    /// It equals another in every field.
+    /// Whether it equals another in every field.
     pub fn is_same(&self, other: &Part) -> bool
         ensures exactly { IsTrue result ↔ (self.now ≡ other.now) }
         ensures answer { result ≡ same_part self.now other.now }

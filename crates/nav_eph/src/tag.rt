@@ -1,33 +1,32 @@
 ghost use Rattle.std.specs.Prelude.{◌≡◌, ℕ, ◌^◌, ◌<◌};
 ghost use Rattle.gnss_week.specs.Weeks.{IsSecond};
 ghost use Rattle.nav_eph.specs.Bodies.{IsSentTag};
-ghost use Rattle.nav_eph.specs.Numbers.{gal_sending, gps_sending, tag_number};
+ghost use Rattle.nav_eph.specs.Numbers.{gal_transmission, gps_transmission, tag_number};
 
 use gnss_week::Second;
 use nav_bits::U;
 
-/// A time that says which week an ephemeris belongs to, its week number truncated to twelve bits.
+/// The time that dates an ephemeris: a week number of at most twelve bits and a time of week.
 #[derive(Clone, Copy, PartialEq, Eq)]
 pub enum SentTag {
-    /// The moment at which the data were sent.
+    /// The transmission time.
     Sent {
         /// The week number as sent.
         wn: U<12>,
-        /// The second of that week.
+        /// The time of week.
         second: Second,
     },
-    /// The time of the ephemeris itself, of a message that names no moment of sending.
+    /// The ephemeris reference time, where a message gives no transmission time.
     Toe {
         /// The week number as sent.
         wn: U<12>,
-        /// The second of that week.
+        /// The time of week.
         second: Second,
     },
 }
 
 impl SentTag {
-    /// The number that its 33 binary digits give: the kind in 1, the week number in 12 and the
-    /// second in 20.
+    /// Its 33 bits as one number: the kind in 1 bit, the week number in 12, the time of week in 20.
     pub fn number(&self) -> u64
         ensures value { result ≡ tag_number self.now }
         ensures fits { IsSentTag self.now }
@@ -41,18 +40,19 @@ impl SentTag {
     }
 }
 
-/// The number of the time at which the ionosphere of GPS was sent, which has no week: its second.
-pub fn gps_sending_number(second: Second) -> u64
-    ensures value { result ≡ gps_sending second }
+/// The transmission time of GPS ionospheric parameters as a number: the time of week, as no week
+/// number is known.
+pub fn gps_transmission_number(second: Second) -> u64
+    ensures value { result ≡ gps_transmission second }
     ensures fits { IsSecond second }
 {
     second.value() as u64
 }
 
-/// The number that the binary digits of the time give at which the ionosphere of Galileo was sent:
-/// the week number in 12 and the second in 20.
-pub fn gal_sending_number(wn: U<12>, second: Second) -> u64
-    ensures value { result ≡ gal_sending wn second }
+/// The transmission time of Galileo ionospheric parameters as one number: the week number in 12
+/// bits, the time of week in 20.
+pub fn gal_transmission_number(wn: U<12>, second: Second) -> u64
+    ensures value { result ≡ gal_transmission wn second }
     ensures week_fits { wn < 2 ^ 12 }
     ensures second_fits { IsSecond second }
 {

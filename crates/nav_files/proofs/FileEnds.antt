@@ -1,5 +1,5 @@
--- How a run over a file ends: in the header, behind it, after its records, or well. What is written and reported of the records,
--- and what is counted, is the job's.
+-- How a run over a file ends: in the header, after it, after its records, or well. What is written, reported and counted of the
+-- records is the job's.
 use Rattle.std.proofs.Common.{◌≡◌, ◌⊎◌, inl, inr, ◌^◌, ℕ, Bool, true, false, List, [], ◌++◌, length, refl, sym, ap, subst, ◌∙◌, arith, append-nil, length-append}
 use Rattle.std.specs.Prelude.{Option, None, Some, Result, Err, IfSome, IsSome, IsTrue, IsErrOf}
 use Rattle.std.specs.List.{flat_map}
@@ -7,7 +7,7 @@ use Rattle.std.specs.Io.KnownBytes.{Appends, Consumes, IsAtEnd}
 use Rattle.std.proofs.KnownBytes.{Appends-nil, Consumes-trans}
 use Rattle.std.proofs.lemmas.Grind.{flat_map-append}
 use Rattle.nav_io.specs.Causes.{Rose}
-use Rattle.nav_io.specs.Front.{AppendsFront, IsFront}
+use Rattle.nav_io.specs.Prefix.{AppendsPrefix, IsPrefix}
 use Rattle.rinex_read.specs.Forms.{Form}
 use Rattle.rinex_read.specs.Files.{file_reads, whole_reads}
 use Rattle.rinex_read.specs.Lines.{told_lines}
@@ -20,15 +20,15 @@ use Rattle.one_run.specs.declared.fault.BridgeFault.{BridgeFault}
 use Rattle.one_run.specs.declared.fault.BridgeFault.TheVariants.{ReadFault, WriteFault, ReportFault, NotThisForm, TooLong, NoMemory}
 use Rattle.one_run.specs.Causes.{Faults, HasItsCause, faults_of}
 use Rattle.one_run.specs.Runs.{AppendsBetween, Broke, Done, Leaves, Meaning, Says, World}
-use Rattle.one_run.proofs.Surface.{between, front_nil, front_within, no_front}
+use Rattle.one_run.proofs.Surface.{between, prefix_nil, prefix_within, no_prefix}
 use Rattle.nav_files.specs.Files.{counted_in, file_meaning, text_in}
 use Rattle.nav_files.specs.Mirrors.{HeaderFaultOf, NoHeader}
 use Rattle.nav_files.specs.Taken.{AtEnd}
-use Rattle.nav_files.proofs.FileLemmas.{Begins, Opens, Wholes, ends_there, file_front, file_whole, none_left}
+use Rattle.nav_files.proofs.FileLemmas.{Begins, Opens, Wholes, ends_there, file_prefix, file_whole, none_left}
 
 -- ---- what failed
 
--- what failed behind the header
+-- what failed after the header
 pub record Fails {S T U : Type 0} (b a : World S T U) (fault : BridgeFault) : Type 0 where
   pub read : fault ≡ ReadFault → Rose b.reads_failed a.reads_failed
   pub never : fault ≡ ReadFault → IsTrue b.never_fails → ⊥
@@ -40,7 +40,7 @@ pub record Fails {S T U : Type 0} (b a : World S T U) (fault : BridgeFault) : Ty
 abbrev pub Cause : Faults → Faults → BridgeFault → Type 0
 Cause before now fault = HasItsCause {T = Unit {0}} before now (Err fault)
 
--- before which nothing had failed
+-- nothing had failed before
 pub fails_of : {S T U : Type 0} (b a : World S T U) (fault : BridgeFault) (reads writes reports : ℕ)
     → reads ≡ b.reads_failed → writes ≡ b.writes_failed → reports ≡ b.reports_failed
     → HasItsCause {T = Unit {0}} (faults_of reads writes reports) (faults_of a.reads_failed a.writes_failed a.reports_failed) (Err fault)
@@ -76,7 +76,7 @@ fails_report b a rose = record {
 pub header_rose : (fault : BridgeFault) (reads reads_new : ℕ) → HasItsCause {T = Unit {0}} (faults_of reads 0 0) (faults_of reads_new 0 0) (Err fault) → fault ≡ ReadFault → Rose reads reads_new
 header_rose fault reads reads_new cause is = subst (Cause (faults_of reads 0 0) (faults_of reads_new 0 0)) is cause
 
--- ---- the header, whatever stands behind it
+-- ---- the header, whatever follows it
 
 -- with what is left
 with_rest : (left left_new : Option (List ℕ)) (taken : List ℕ) (P : List ℕ → Type 0) → Consumes left left_new taken
@@ -124,8 +124,8 @@ refused f count s (inr is) following = subst (λ (h : HeaderState). counted_in c
 -- ---- the ends
 
 -- the texts of records, and of more
-pub texts_front : {X : Type 0} (text : X → List ℕ) (some more : List X) → IsFront (flat_map text some) (flat_map text (some ++ more))
-texts_front text some more = (flat_map text more, flat_map-append text some more)
+pub texts_prefix : {X : Type 0} (text : X → List ℕ) (some more : List X) → IsPrefix (flat_map text some) (flat_map text (some ++ more))
+texts_prefix text some more = (flat_map text more, flat_map-append text some more)
 
 reading : {C S T U : Type 0} (m : Meaning C) (b a : World S T U) → m.reads ≡ true → m.reports ≡ true → Leaves m b a
 reading m b a reads reports = record {
@@ -137,14 +137,14 @@ reading m b a reads reports = record {
     never is some none = cc
 
 -- where a read failed, exactly what the records give that are whole in the bytes was written and reported
-abbrev Settled : {S T U : Type 0} → Form → (List ItemRead → List ℕ) → (List ItemRead → List ℕ) → List ℕ → World S T U → World S T U → BridgeFault → Type 0
-Settled f wrote tells taken b a fault =
+abbrev Flushed : {S T U : Type 0} → Form → (List ItemRead → List ℕ) → (List ItemRead → List ℕ) → List ℕ → World S T U → World S T U → BridgeFault → Type 0
+Flushed f wrote tells taken b a fault =
     fault ≡ ReadFault → Appends b.written a.written (text_in wrote (whole_reads f taken)) × Appends b.reported a.reported (text_in tells (whole_reads f taken))
 
 -- in the header there is none
-settled_header : {S T U : Type 0} (f : Form) (wrote tells : List ItemRead → List ℕ) (b a : World S T U) (s0 s1 : RecordsState) (fault : BridgeFault) → Opens f → IsNew s0
-    → (steps : HeaderSteps f b.left a.left s0 s1) → HeaderFaultOf fault s1 → a.written ≡ b.written → a.reported ≡ b.reported → Settled f wrote tells steps.reads.taken b a fault
-settled_header f wrote tells b a s0 s1 fault opens new steps by written reported is =
+flushed_header : {S T U : Type 0} (f : Form) (wrote tells : List ItemRead → List ℕ) (b a : World S T U) (s0 s1 : RecordsState) (fault : BridgeFault) → Opens f → IsNew s0
+    → (steps : HeaderSteps f b.left a.left s0 s1) → HeaderFaultOf fault s1 → a.written ≡ b.written → a.reported ≡ b.reported → Flushed f wrote tells steps.reads.taken b a fault
+flushed_header f wrote tells b a s0 s1 fault opens new steps by written reported is =
     let broke = subst (λ (x : BridgeFault). HeaderFaultOf x s1) is by in
     let none = opens b.left a.left s0 s1 new steps broke.0 (record { more = broke.1.0; none = broke.1.2 }) in (
       subst (λ (w : Option (List ℕ)). Appends b.written w (text_in wrote (whole_reads f steps.reads.taken))) (sym written)
@@ -153,12 +153,12 @@ settled_header f wrote tells b a s0 s1 fault opens new steps by written reported
           (subst (λ r. Appends b.reported b.reported (text_in tells r)) (sym none) (Appends-nil b.reported)),
     )
 
--- behind it these records are
-settled_file : {S T U : Type 0} (f : Form) (wrote tells : List ItemRead → List ℕ) (b a : World S T U) (l1 : Option (List ℕ)) (s0 s1 s2 : RecordsState) (given : List ItemRead) (fault : BridgeFault)
+-- after the header these records are complete
+flushed_file : {S T U : Type 0} (f : Form) (wrote tells : List ItemRead → List ℕ) (b a : World S T U) (l1 : Option (List ℕ)) (s0 s1 s2 : RecordsState) (given : List ItemRead) (fault : BridgeFault)
     → Wholes f → IsNew s0 → (header : PassesHeader f b.left l1 s0 s1) → (steps : Steps f l1 a.left s1 s2 given)
     → (fault ≡ ReadFault → IsPaused s2 × Appends b.written a.written (wrote given) × Appends b.reported a.reported (tells given))
-    → Settled f wrote tells (header.steps.reads.taken ++ steps.reads.taken) b a fault
-settled_file f wrote tells b a l1 s0 s1 s2 given fault wholes new header steps exact is =
+    → Flushed f wrote tells (header.steps.reads.taken ++ steps.reads.taken) b a fault
+flushed_file f wrote tells b a l1 s0 s1 s2 given fault wholes new header steps exact is =
     let all = exact is in
     let whole = wholes b.left l1 a.left s0 s1 s2 given new header steps all.0 in (
       subst (λ r. Appends b.written a.written (text_in wrote r)) (sym whole) all.1,
@@ -168,19 +168,19 @@ settled_file f wrote tells b a l1 s0 s1 s2 given fault wholes new header steps e
 says_header : {C S T U : Type 0} (f : Form) (memory : Bool) (wrote tells output report : List ItemRead → List ℕ) (count : List ItemRead → C) (b a : World S T U) (s0 s1 : RecordsState) (fault : BridgeFault)
     → Begins f → IsNew s0 → (steps : HeaderSteps f b.left a.left s0 s1) → HeaderFaultOf fault s1
     → (fault ≡ ReadFault → Rose b.reads_failed a.reads_failed) → (IsTrue b.never_fails → fault ≡ ReadFault → ⊥) → a.output ≡ b.output → a.report ≡ b.report
-    → Settled f wrote tells steps.reads.taken b a fault
+    → Flushed f wrote tells steps.reads.taken b a fault
     → Says (file_meaning f memory wrote tells output report count) steps.reads.taken b a fault
-says_header f memory wrote tells output report count b a s0 s1 ReadFault begins new steps by rose never out told settled = (refl, rose refl, (λ quiet. never quiet refl), settled refl)
-says_header f memory wrote tells output report count b a s0 s1 NotThisForm begins new steps by rose never out told settled = (
+says_header f memory wrote tells output report count b a s0 s1 ReadFault begins new steps by rose never out told flushed = (refl, rose refl, (λ quiet. never quiet refl), flushed refl)
+says_header f memory wrote tells output report count b a s0 s1 NotThisForm begins new steps by rose never out told flushed = (
   taken_reads f b.left a.left s0 s1 (λ r. counted_in count r ≡ None) begins new steps (refused f count s1 by),
   all_reads f b.left a.left s0 s1 (λ r. counted_in count r ≡ None) begins new steps (refused f count s1 by),
   out,
   told,
 )
-says_header f memory wrote tells output report count b a s0 s1 TooLong begins new steps by rose never out told settled = omega (arith, new.taken, steps.reads.count, by.1)
-says_header f memory wrote tells output report count b a s0 s1 WriteFault begins new steps by rose never out told settled = absurd by
-says_header f memory wrote tells output report count b a s0 s1 ReportFault begins new steps by rose never out told settled = absurd by
-says_header f memory wrote tells output report count b a s0 s1 NoMemory begins new steps by rose never out told settled = absurd by
+says_header f memory wrote tells output report count b a s0 s1 TooLong begins new steps by rose never out told flushed = omega (arith, new.taken, steps.reads.count, by.1)
+says_header f memory wrote tells output report count b a s0 s1 WriteFault begins new steps by rose never out told flushed = absurd by
+says_header f memory wrote tells output report count b a s0 s1 ReportFault begins new steps by rose never out told flushed = absurd by
+says_header f memory wrote tells output report count b a s0 s1 NoMemory begins new steps by rose never out told flushed = absurd by
 
 -- the header is refused, or the input breaks off in it
 pub broke_header : {C S T U : Type 0} (f : Form) (memory : Bool) (wrote tells output report : List ItemRead → List ℕ) (count : List ItemRead → C) (b a : World S T U) (s0 s1 : RecordsState) (fault : BridgeFault)
@@ -193,80 +193,80 @@ broke_header f memory wrote tells output report count b a s0 s1 fault begins ope
     let m = file_meaning f memory wrote tells output report count in record {
       taken = taken;
       consumes = broken.steps.reads.consumes;
-      text = subst (λ (w : Option (List ℕ)). AppendsBetween b.written w [] (text_in output (file_reads f taken))) (sym written) (between b.written b.written _ (no_front b.written _));
-      told = subst (λ (u : Option (List ℕ)). AppendsFront b.reported u (text_in report (file_reads f taken))) (sym reported) (no_front b.reported _);
+      text = subst (λ (w : Option (List ℕ)). AppendsBetween b.written w [] (text_in output (file_reads f taken))) (sym written) (between b.written b.written _ (no_prefix b.written _));
+      told = subst (λ (u : Option (List ℕ)). AppendsPrefix b.reported u (text_in report (file_reads f taken))) (sym reported) (no_prefix b.reported _);
       leaves = reading m b a refl refl;
       says = says_header f memory wrote tells output report count b a s0 s1 fault begins new broken.steps broken.by rose never out told
-          (settled_header f wrote tells b a s0 s1 fault opens new broken.steps broken.by written reported);
+          (flushed_header f wrote tells b a s0 s1 fault opens new broken.steps broken.by written reported);
     }
 
 says_behind : {C S T U : Type 0} (f : Form) (memory : Bool) (wrote tells output report : List ItemRead → List ℕ) (count : List ItemRead → C) (b a : World S T U) (taken : List ℕ) (fault : BridgeFault)
     → IfSome b.left (λ bytes. IsSome (counted_in count (file_reads f bytes)))
     → Fails b a fault → (fault ≡ TooLong → length taken ≡ 2 ^ 32) → (fault ≡ NoMemory → memory ≡ true)
-    → Settled f wrote tells taken b a fault
+    → Flushed f wrote tells taken b a fault
     → Says (file_meaning f memory wrote tells output report count) taken b a fault
-says_behind f memory wrote tells output report count b a taken ReadFault some fails long wants settled = (refl, fails.read refl, fails.never refl, settled refl)
-says_behind f memory wrote tells output report count b a taken WriteFault some fails long wants settled = (fails.write refl, some)
-says_behind f memory wrote tells output report count b a taken ReportFault some fails long wants settled = (refl, fails.report refl, some)
-says_behind f memory wrote tells output report count b a taken NotThisForm some fails long wants settled = absurd (fails.form refl)
-says_behind f memory wrote tells output report count b a taken TooLong some fails long wants settled = long refl
-says_behind f memory wrote tells output report count b a taken NoMemory some fails long wants settled = (wants refl, some)
+says_behind f memory wrote tells output report count b a taken ReadFault some fails long wants flushed = (refl, fails.read refl, fails.never refl, flushed refl)
+says_behind f memory wrote tells output report count b a taken WriteFault some fails long wants flushed = (fails.write refl, some)
+says_behind f memory wrote tells output report count b a taken ReportFault some fails long wants flushed = (refl, fails.report refl, some)
+says_behind f memory wrote tells output report count b a taken NotThisForm some fails long wants flushed = absurd (fails.form refl)
+says_behind f memory wrote tells output report count b a taken TooLong some fails long wants flushed = long refl
+says_behind f memory wrote tells output report count b a taken NoMemory some fails long wants flushed = (wants refl, some)
 
--- the run breaks off behind the header, once these records were given: a front was written and reported of what these give
+-- the run breaks off after the header, once these records were read: a prefix was written and reported of what these give
 pub broke_file : {C S T U : Type 0} (f : Form) (memory : Bool) (wrote tells output report : List ItemRead → List ℕ) (count : List ItemRead → C) (b a : World S T U) (l1 : Option (List ℕ)) (s0 s1 s2 : RecordsState)
     (given : List ItemRead) (text told : List ℕ) (fault : BridgeFault)
     → Begins f → IsNew s0 → (header : PassesHeader f b.left l1 s0 s1) → (steps : Steps f l1 a.left s1 s2 given)
-    → AppendsFront b.written a.written text → IsFront text (output (given ++ records_to_come f s2 []))
-    → AppendsFront b.reported a.reported told → IsFront told (report (given ++ records_to_come f s2 []))
+    → AppendsPrefix b.written a.written text → IsPrefix text (output (given ++ records_to_come f s2 []))
+    → AppendsPrefix b.reported a.reported told → IsPrefix told (report (given ++ records_to_come f s2 []))
     → Fails b a fault → (fault ≡ TooLong → s2.lines.taken ≡ 2 ^ 32) → (fault ≡ NoMemory → memory ≡ true)
-    → Settled f wrote tells (header.steps.reads.taken ++ steps.reads.taken) b a fault
+    → Flushed f wrote tells (header.steps.reads.taken ++ steps.reads.taken) b a fault
     → Broke (file_meaning f memory wrote tells output report count) b a fault
-broke_file f memory wrote tells output report count b a l1 s0 s1 s2 given text told fault begins new header steps written text_is reported told_is fails long wants settled =
+broke_file f memory wrote tells output report count b a l1 s0 s1 s2 given text told fault begins new header steps written text_is reported told_is fails long wants flushed =
     let m = file_meaning f memory wrote tells output report count in
-    let is = file_front f b.left l1 a.left s0 s1 s2 given begins new header steps in
+    let is = file_prefix f b.left l1 a.left s0 s1 s2 given begins new header steps in
     let taken = header.steps.reads.taken ++ steps.reads.taken in record {
       taken = taken;
       consumes = Consumes-trans b.left l1 a.left _ _ header.steps.reads.consumes steps.reads.consumes;
-      text = between b.written a.written _ (front_within b.written a.written text _ (subst (λ r. IsFront text (text_in output r)) (sym is) text_is) written);
-      told = front_within b.reported a.reported told _ (subst (λ r. IsFront told (text_in report r)) (sym is) told_is) reported;
+      text = between b.written a.written _ (prefix_within b.written a.written text _ (subst (λ r. IsPrefix text (text_in output r)) (sym is) text_is) written);
+      told = prefix_within b.reported a.reported told _ (subst (λ r. IsPrefix told (text_in report r)) (sym is) told_is) reported;
       leaves = reading m b a refl refl;
       says = says_behind f memory wrote tells output report count b a taken fault (accepted f count b.left l1 s0 s1 begins new header) fails
-          (λ is_long. omega (arith, length-append header.steps.reads.taken steps.reads.taken, new.taken, header.steps.reads.count, steps.reads.count, long is_long)) wants settled;
+          (λ is_long. omega (arith, length-append header.steps.reads.taken steps.reads.taken, new.taken, header.steps.reads.count, steps.reads.count, long is_long)) wants flushed;
     }
 
 -- the same, where a read failed with all of it written and reported
 pub broke_taken : {C S T U : Type 0} (f : Form) (memory : Bool) (wrote tells output report : List ItemRead → List ℕ) (count : List ItemRead → C) (b a : World S T U) (l1 : Option (List ℕ)) (s0 s1 s2 : RecordsState)
     (given : List ItemRead) (text told : List ℕ) (fault : BridgeFault)
     → Begins f → Wholes f → IsNew s0 → PassesHeader f b.left l1 s0 s1 → Steps f l1 a.left s1 s2 given
-    → AppendsFront b.written a.written text → IsFront text (output (given ++ records_to_come f s2 []))
-    → AppendsFront b.reported a.reported told → IsFront told (report (given ++ records_to_come f s2 []))
+    → AppendsPrefix b.written a.written text → IsPrefix text (output (given ++ records_to_come f s2 []))
+    → AppendsPrefix b.reported a.reported told → IsPrefix told (report (given ++ records_to_come f s2 []))
     → Fails b a fault → (fault ≡ TooLong → s2.lines.taken ≡ 2 ^ 32) → (fault ≡ NoMemory → memory ≡ true)
     → (fault ≡ ReadFault → IsPaused s2 × Appends b.written a.written (wrote given) × Appends b.reported a.reported (tells given))
     → Broke (file_meaning f memory wrote tells output report count) b a fault
 broke_taken f memory wrote tells output report count b a l1 s0 s1 s2 given text told fault begins wholes new header steps written text_is reported told_is fails long wants exact =
     broke_file f memory wrote tells output report count b a l1 s0 s1 s2 given text told fault begins new header steps written text_is reported told_is fails long wants
-    (settled_file f wrote tells b a l1 s0 s1 s2 given fault wholes new header steps exact)
+    (flushed_file f wrote tells b a l1 s0 s1 s2 given fault wholes new header steps exact)
 
--- the text in front is not written to its end
-pub broke_begin : {C S T U : Type 0} (f : Form) (memory : Bool) (wrote tells output report : List ItemRead → List ℕ) (count : List ItemRead → C) (b a : World S T U) (s0 s1 : RecordsState) (front : List ℕ)
+-- the leading text is not written to its end
+pub broke_begin : {C S T U : Type 0} (f : Form) (memory : Bool) (wrote tells output report : List ItemRead → List ℕ) (count : List ItemRead → C) (b a : World S T U) (s0 s1 : RecordsState) (prefix : List ℕ)
     → Begins f → IsNew s0 → PassesHeader f b.left a.left s0 s1 → Steps f a.left a.left s1 s1 []
-    → AppendsFront b.written a.written front → IsFront front (output (records_to_come f s1 [])) → a.reported ≡ b.reported → Fails b a WriteFault
+    → AppendsPrefix b.written a.written prefix → IsPrefix prefix (output (records_to_come f s1 [])) → a.reported ≡ b.reported → Fails b a WriteFault
     → Broke (file_meaning f memory wrote tells output report count) b a WriteFault
-broke_begin f memory wrote tells output report count b a s0 s1 front begins new header none written front_is same fails =
-    broke_file f memory wrote tells output report count b a a.left s0 s1 s1 [] front [] WriteFault begins new header none written front_is
-    (subst (λ (u : Option (List ℕ)). AppendsFront b.reported u []) (sym same) (no_front b.reported [])) (front_nil _) fails (λ long. cc) (λ wants. cc) (λ is. absurd (let none : WriteFault ≡ ReadFault = is in cc))
+broke_begin f memory wrote tells output report count b a s0 s1 prefix begins new header none written prefix_is same fails =
+    broke_file f memory wrote tells output report count b a a.left s0 s1 s1 [] prefix [] WriteFault begins new header none written prefix_is
+    (subst (λ (u : Option (List ℕ)). AppendsPrefix b.reported u []) (sym same) (no_prefix b.reported [])) (prefix_nil _) fails (λ long. cc) (λ wants. cc) (λ is. absurd (let none : WriteFault ≡ ReadFault = is in cc))
 
 -- the same where all records were given
 pub broke_end : {C S T U : Type 0} (f : Form) (memory : Bool) (wrote tells output report : List ItemRead → List ℕ) (count : List ItemRead → C) (b a : World S T U) (l1 : Option (List ℕ)) (s0 s1 s2 : RecordsState)
     (given : List ItemRead) (text told : List ℕ) (fault : BridgeFault)
     → Begins f → IsNew s0 → PassesHeader f b.left l1 s0 s1 → Steps f l1 a.left s1 s2 given → AtEnd s2
-    → AppendsFront b.written a.written text → IsFront text (output given) → AppendsFront b.reported a.reported told → IsFront told (report given)
+    → AppendsPrefix b.written a.written text → IsPrefix text (output given) → AppendsPrefix b.reported a.reported told → IsPrefix told (report given)
     → Fails b a fault → (fault ≡ TooLong → ⊥) → (fault ≡ NoMemory → memory ≡ true) → (fault ≡ ReadFault → ⊥)
     → Broke (file_meaning f memory wrote tells output report count) b a fault
 broke_end f memory wrote tells output report count b a l1 s0 s1 s2 given text told fault begins new header steps end written text_is reported told_is fails short wants over =
     let all : given ≡ given ++ records_to_come f s2 [] = sym (ap (λ (l : List ItemRead). given ++ l) (none_left f s2 end.kept end.rest) ∙ append-nil given) in
     broke_file f memory wrote tells output report count b a l1 s0 s1 s2 given text told fault begins new header steps
-    written (subst (λ (l : List ItemRead). IsFront text (output l)) all text_is) reported (subst (λ (l : List ItemRead). IsFront told (report l)) all told_is)
+    written (subst (λ (l : List ItemRead). IsPrefix text (output l)) all text_is) reported (subst (λ (l : List ItemRead). IsPrefix told (report l)) all told_is)
     fails (λ is. absurd (short is)) wants (λ is. absurd (over is))
 
 -- the run is done

@@ -6,7 +6,7 @@ use Rattle.std.specs.Io.KnownBytes.{Appends}
 use Rattle.std.proofs.KnownBytes.{Appends-nil, Appends-trans}
 use Rattle.std.proofs.lemmas.List.Elements.{Contains-append_left, Contains-push, Contains-push_cases}
 use Rattle.nav_io.specs.Causes.{HasCause}
-use Rattle.nav_io.specs.Front.{AppendsFront}
+use Rattle.nav_io.specs.Prefix.{AppendsPrefix}
 use Rattle.nav_io.specs.Writes.{Writes}
 use Rattle.nav_eph.specs.Satellite.{Satellite}
 use Rattle.nav_eph.specs.declared.items.NavItem.{NavItem}
@@ -14,7 +14,7 @@ use Rattle.nav_lists.specs.declared.range.CoverRange.{CoverRange}
 use Rattle.nav_lists.specs.Covering.{AreCovering, AreCovers, AreRanges, CoversSecond, IsIn}
 use Rattle.rinex_read.specs.declared.judged.ItemRead.{ItemRead}
 use Rattle.rinex_read.specs.declared.judged.ItemRead.TheVariants.{Item, Refused, PassedOver, End}
-use Rattle.one_run.proofs.Surface.{front_behind}
+use Rattle.one_run.proofs.Surface.{prefix_behind}
 use Rattle.nav_files.specs.declared.counts.RinexCounts.{RinexCounts}
 use Rattle.nav_files.specs.Files.{counts_of_reads}
 use Rattle.nav_files.specs.Mirrors.{AreCounted}
@@ -37,13 +37,13 @@ wrote_more text all left rest x w w1 w2 e h more = record {
 pub wrote_all : {X : Type 0} (text : X → List ℕ) (all left : List X) (w w1 : Option (List ℕ)) → left ≡ [] → WroteSome text all left w w1 → Appends w w1 (flat_map text all)
 wrote_all text all left w w1 e h = subst (Appends w w1) (sym (h.is ∙ ap (λ l. h.done ++ flat_map text l) e ∙ append-nil h.done)) h.grew
 
-pub wrote_front : {X : Type 0} (text : X → List ℕ) (all left rest : List X) (x : X) (w w1 w2 : Option (List ℕ)) → left ≡ x ∷ rest → WroteSome text all left w w1 → AppendsFront w1 w2 (text x) → AppendsFront w w2 (flat_map text all)
-wrote_front text all left rest x w w1 w2 e h (front, (more, is), grew) =
-    subst (AppendsFront w w2) (sym (h.is ∙ ap (λ l. h.done ++ flat_map text l) e))
-    (front_behind w w1 w2 h.done (text x ++ flat_map text rest) h.grew
-    (front, (more ++ flat_map text rest, ap (λ l. l ++ flat_map text rest) is ∙ append_assoc front more (flat_map text rest)), grew))
+pub wrote_prefix : {X : Type 0} (text : X → List ℕ) (all left rest : List X) (x : X) (w w1 w2 : Option (List ℕ)) → left ≡ x ∷ rest → WroteSome text all left w w1 → AppendsPrefix w1 w2 (text x) → AppendsPrefix w w2 (flat_map text all)
+wrote_prefix text all left rest x w w1 w2 e h (prefix, (more, is), grew) =
+    subst (AppendsPrefix w w2) (sym (h.is ∙ ap (λ l. h.done ++ flat_map text l) e))
+    (prefix_behind w w1 w2 h.done (text x ++ flat_map text rest) h.grew
+    (prefix, (more ++ flat_map text rest, ap (λ l. l ++ flat_map text rest) is ∙ append_assoc prefix more (flat_map text rest)), grew))
 
--- a write that failed behind others that did not
+-- a write that failed after others that did not
 pub cause_behind : {T E : Type 0} (before now after : ℕ) (r : Result T E) → now ≡ before → HasCause now after r → HasCause before after r
 cause_behind before now after r is cause = subst (λ n. HasCause n after r) is cause
 
@@ -87,7 +87,7 @@ nothing_counted c nothing = rw nothing (omega arith)
 
 -- ---- the end
 
-pub finish_as : {E : Type 0} (front text whole : List ℕ) (start w w1 : Option (List ℕ)) (f f1 : ℕ) (r : Result (Unit {0}) E) → text ≡ whole
-    → Appends start w front → Writes w w1 f f1 r text → MatchResult r (λ _. Appends start w1 (front ++ whole)) (λ _. AppendsFront start w1 (front ++ whole))
-finish_as front text whole start w w1 f f1 (Ok x) is so_far writes = Appends-trans start w w1 front whole so_far (subst (Appends w w1) is writes.bytes)
-finish_as front text whole start w w1 f f1 (Err x) is so_far writes = front_behind start w w1 front whole so_far (subst (AppendsFront w w1) is writes.bytes)
+pub finish_as : {E : Type 0} (prefix text whole : List ℕ) (start w w1 : Option (List ℕ)) (f f1 : ℕ) (r : Result (Unit {0}) E) → text ≡ whole
+    → Appends start w prefix → Writes w w1 f f1 r text → MatchResult r (λ _. Appends start w1 (prefix ++ whole)) (λ _. AppendsPrefix start w1 (prefix ++ whole))
+finish_as prefix text whole start w w1 f f1 (Ok x) is so_far writes = Appends-trans start w w1 prefix whole so_far (subst (Appends w w1) is writes.bytes)
+finish_as prefix text whole start w w1 f f1 (Err x) is so_far writes = prefix_behind start w w1 prefix whole so_far (subst (AppendsPrefix w w1) is writes.bytes)

@@ -8,7 +8,7 @@ use Rattle.rinex_read.specs.States.{RecordsState, Steps, GivesRead, GivesRecord,
 use Rattle.rinex_read.specs.declared.judged.ItemRead.{ItemRead}
 use Rattle.rinex_read.specs.declared.judged.ItemRead.TheVariants.{Item, Refused, PassedOver, End}
 use Rattle.nav_files.specs.declared.counts.RinexCounts.{RinexCounts}
-use Rattle.nav_files.specs.Files.{counts_of_reads, is_refused, is_passed, is_item}
+use Rattle.nav_files.specs.Files.{counts_of_reads, is_refused_read, is_passed, is_item}
 use Rattle.nav_files.specs.Mirrors.{IsRecord, counted}
 
 -- steps of a reader, one after another
@@ -31,7 +31,7 @@ pub counts_more : (given : List ItemRead) (read : ItemRead) → counted (counts_
 counts_more given read =
     counts_are (counted (counts_of_reads given) read) _ _ _ _
     (omega (arith, length-append given (read ∷ [])))
-    (omega (arith, count-append is_refused given (read ∷ [])))
+    (omega (arith, count-append is_refused_read given (read ∷ [])))
     (omega (arith, count-append is_passed given (read ∷ [])))
     (omega (arith, count-append is_item given (read ∷ [])))
 

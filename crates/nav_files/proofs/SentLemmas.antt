@@ -1,14 +1,14 @@
--- What is written and reported of records of which the ephemerides are sent, with a record more.
+-- What is written and reported when the ephemerides of records are transmitted, with one record more.
 use Rattle.std.proofs.Common.{◌≡◌, ℕ, ◌+◌, ◌<◌, ◌^◌, List, [], ◌∷◌, ◌++◌, length, sym, ap, subst, ◌∙◌, arith}
 use Rattle.std.specs.Prelude.{Option}
 use Rattle.std.specs.List.{flat_map}
 use Rattle.std.specs.Io.KnownBytes.{Appends}
 use Rattle.std.proofs.lemmas.Grind.{flat_map-append}
-use Rattle.nav_io.specs.Front.{AppendsFront, IsFront}
+use Rattle.nav_io.specs.Prefix.{AppendsPrefix, IsPrefix}
 use Rattle.rinex_read.specs.declared.judged.ItemRead.{ItemRead}
-use Rattle.one_run.proofs.Surface.{front_after}
+use Rattle.one_run.proofs.Surface.{prefix_after}
 use Rattle.nav_files.specs.declared.counts.RinexCounts.{RinexCounts}
-use Rattle.nav_files.proofs.Surface.{grew_front, grew_more}
+use Rattle.nav_files.proofs.Surface.{grew_prefix, grew_more}
 use Rattle.page_send.specs.Sendable.{sent_head, sent_text}
 use Rattle.nav_files.specs.declared.told.Told.{Told}
 use Rattle.nav_files.specs.Following.{counted}
@@ -21,13 +21,13 @@ unfolding sent_text
 sent_is r reads = ap (λ t. sent_head ++ t) (texts_are r 0 reads)
 
 -- a text of each record, and of more
-pub text_front : (r : ℕ) (text : Told → List ℕ) (some more : List ItemRead) → IsFront (flat_map text (tolds r 0 some)) (flat_map text (tolds r 0 (some ++ more)))
-text_front r text some more =
+pub text_prefix : (r : ℕ) (text : Told → List ℕ) (some more : List ItemRead) → IsPrefix (flat_map text (tolds r 0 some)) (flat_map text (tolds r 0 (some ++ more)))
+text_prefix r text some more =
     (flat_map text (tolds r (slots_behind r 0 some) more), ap (flat_map text) (tolds_append r 0 some more) ∙ flat_map-append text (tolds r 0 some) (tolds r (slots_behind r 0 some) more))
 
-pub sent_front : (r : ℕ) (some more : List ItemRead) → IsFront (sent_head ++ flat_map told_text (tolds r 0 some)) (sends_text r (some ++ more))
-sent_front r some more =
-    subst (IsFront (sent_head ++ flat_map told_text (tolds r 0 some))) (sent_is r (some ++ more)) (front_after sent_head _ _ (text_front r told_text some more))
+pub sent_prefix : (r : ℕ) (some more : List ItemRead) → IsPrefix (sent_head ++ flat_map told_text (tolds r 0 some)) (sends_text r (some ++ more))
+sent_prefix r some more =
+    subst (IsPrefix (sent_head ++ flat_map told_text (tolds r 0 some))) (sent_is r (some ++ more)) (prefix_after sent_head _ _ (text_prefix r told_text some more))
 
 -- what becomes of records and of one more
 tolds_with : (r slot : ℕ) (given : List ItemRead) (read : ItemRead) (x : Told) → slot ≡ slots_behind r 0 given → x ≡ told r slot read
@@ -40,15 +40,15 @@ pub slot_with : (r slot : ℕ) (given : List ItemRead) (read : ItemRead) (x : To
 slot_with r slot given read x is told_is =
     ap (slot_behind slot) told_is ∙ ap (λ s. slot_behind s (told r s read)) is ∙ sym (slots_more r 0 given read)
 
-pub told_more : (front : List ℕ) (text : Told → List ℕ) (r slot : ℕ) (given : List ItemRead) (read : ItemRead) (x : Told) (start w w1 : Option (List ℕ)) → slot ≡ slots_behind r 0 given → x ≡ told r slot read
-    → Appends start w (front ++ flat_map text (tolds r 0 given)) → Appends w w1 (text x) → Appends start w1 (front ++ flat_map text (tolds r 0 (given ++ read ∷ [])))
-told_more front text r slot given read x start w w1 is told_is so_far more =
-    subst (λ ts. Appends start w1 (front ++ flat_map text ts)) (tolds_with r slot given read x is told_is) (grew_more front text (tolds r 0 given) x start w w1 so_far more)
+pub told_more : (prefix : List ℕ) (text : Told → List ℕ) (r slot : ℕ) (given : List ItemRead) (read : ItemRead) (x : Told) (start w w1 : Option (List ℕ)) → slot ≡ slots_behind r 0 given → x ≡ told r slot read
+    → Appends start w (prefix ++ flat_map text (tolds r 0 given)) → Appends w w1 (text x) → Appends start w1 (prefix ++ flat_map text (tolds r 0 (given ++ read ∷ [])))
+told_more prefix text r slot given read x start w w1 is told_is so_far more =
+    subst (λ ts. Appends start w1 (prefix ++ flat_map text ts)) (tolds_with r slot given read x is told_is) (grew_more prefix text (tolds r 0 given) x start w w1 so_far more)
 
-pub told_front : (front : List ℕ) (text : Told → List ℕ) (r slot : ℕ) (given : List ItemRead) (read : ItemRead) (x : Told) (start w w1 : Option (List ℕ)) → slot ≡ slots_behind r 0 given → x ≡ told r slot read
-    → Appends start w (front ++ flat_map text (tolds r 0 given)) → AppendsFront w w1 (text x) → AppendsFront start w1 (front ++ flat_map text (tolds r 0 (given ++ read ∷ [])))
-told_front front text r slot given read x start w w1 is told_is so_far more =
-    subst (λ ts. AppendsFront start w1 (front ++ flat_map text ts)) (tolds_with r slot given read x is told_is) (grew_front front text (tolds r 0 given) x start w w1 so_far more)
+pub told_prefix : (prefix : List ℕ) (text : Told → List ℕ) (r slot : ℕ) (given : List ItemRead) (read : ItemRead) (x : Told) (start w w1 : Option (List ℕ)) → slot ≡ slots_behind r 0 given → x ≡ told r slot read
+    → Appends start w (prefix ++ flat_map text (tolds r 0 given)) → AppendsPrefix w w1 (text x) → AppendsPrefix start w1 (prefix ++ flat_map text (tolds r 0 (given ++ read ∷ [])))
+told_prefix prefix text r slot given read x start w w1 is told_is so_far more =
+    subst (λ ts. AppendsPrefix start w1 (prefix ++ flat_map text ts)) (tolds_with r slot given read x is told_is) (grew_prefix prefix text (tolds r 0 given) x start w w1 so_far more)
 
 pub counts_with : (r slot : ℕ) (given : List ItemRead) (read : ItemRead) (x : Told) (c : RinexCounts) → slot ≡ slots_behind r 0 given → x ≡ told r slot read → c ≡ counts_of_tolds (tolds r 0 given)
     → counted c x ≡ counts_of_tolds (tolds r 0 (given ++ read ∷ []))

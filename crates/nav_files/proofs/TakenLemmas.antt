@@ -2,13 +2,13 @@
 use Rattle.std.proofs.Common.{◌≡◌, ◌⊎◌, inl, inr, ℕ, ◌+◌, ◌<◌, ◌^◌, Bool, true, List, [], ◌∷◌, ◌++◌, length, sym, subst, ◌∙◌, arith, append-nil, length-append}
 use Rattle.std.specs.Prelude.{Option}
 use Rattle.std.specs.Io.KnownBytes.{Appends}
-use Rattle.nav_io.specs.Front.{AppendsFront}
+use Rattle.nav_io.specs.Prefix.{AppendsPrefix}
 use Rattle.rinex_read.specs.Forms.{Form}
 use Rattle.rinex_read.specs.States.{IsPaused, RecordsState, Steps, GivesRecord, GivesNone}
 use Rattle.rinex_read.specs.declared.judged.ItemRead.{ItemRead}
 use Rattle.one_run.specs.declared.fault.BridgeFault.{BridgeFault}
 use Rattle.one_run.specs.declared.fault.BridgeFault.TheVariants.{ReadFault, WriteFault, ReportFault, NotThisForm, TooLong, NoMemory}
-use Rattle.one_run.proofs.Surface.{whole_front}
+use Rattle.one_run.proofs.Surface.{whole_prefix}
 use Rattle.nav_files.specs.Mirrors.{BreaksRead}
 use Rattle.nav_files.specs.Taken.{TakenReads, TakesAll, TakesPart}
 use Rattle.nav_files.proofs.RecordLemmas.{Follow, left_few}
@@ -49,8 +49,8 @@ room_for f text told holds left l1 w w1 u u1 s0 s1 far = omega (arith, far.few, 
 -- it was not taken to its end
 pub part_of_take : (f : Form) (text told : List ItemRead → List ℕ) (holds : List ItemRead → Type 0) (memory : Bool) (left l1 l2 w w1 w2 u u1 u2 : Option (List ℕ)) (s0 s1 s2 : RecordsState) (read : ItemRead) (fault : BridgeFault)
     → Follow f → TakenReads f text told holds left l1 s0 s1 w w1 u u1 → GivesRecord f l1 l2 s1 s2 read
-    → ((reads : List ItemRead) (start : Option (List ℕ)) → holds reads → Appends start w1 (text reads) → AppendsFront start w2 (text (reads ++ read ∷ [])))
-    → ((reads : List ItemRead) (start : Option (List ℕ)) → holds reads → Appends start u1 (told reads) → AppendsFront start u2 (told (reads ++ read ∷ [])))
+    → ((reads : List ItemRead) (start : Option (List ℕ)) → holds reads → Appends start w1 (text reads) → AppendsPrefix start w2 (text (reads ++ read ∷ [])))
+    → ((reads : List ItemRead) (start : Option (List ℕ)) → holds reads → Appends start u1 (told reads) → AppendsPrefix start u2 (told (reads ++ read ∷ [])))
     → (fault ≡ WriteFault) ⊎ ((fault ≡ ReportFault) ⊎ ((fault ≡ NoMemory) × (memory ≡ true)))
     → TakesPart f text told memory left l2 s0 s2 w w2 u u2 fault
 part_of_take f text told holds memory left l1 l2 w w1 w2 u u1 u2 s0 s1 s2 read fault follow far gives output report kind = record {
@@ -94,8 +94,8 @@ part_of_break f text told holds memory left l1 l2 w w1 u u1 s0 s1 s2 fault follo
   part fault steps form long short paused = record {
     given = far.given;
     steps = subst (Steps f left l2 s0 s2) (append-nil far.given) (follow left l1 l2 s0 s1 s2 far.given [] far.steps steps);
-    output = λ start begun. whole_front start w1 _ (far.output start begun);
-    report = λ start begun. whole_front start u1 _ (far.report start begun);
+    output = λ start begun. whole_prefix start w1 _ (far.output start begun);
+    report = λ start begun. whole_prefix start u1 _ (far.report start begun);
     form = form;
     too_long = long;
     wants = λ is. absurd (short is);

@@ -1,4 +1,4 @@
--- What becomes of records, and of one more; and that its text is the text that is sent.
+-- The outcomes of records, and of one more; and their text is the capture that transmits them.
 use Rattle.std.proofs.Common.{◌≡◌, ℕ, suc, ◌+◌, ◌≤◌, ◌<◌, ◌&&◌, Bool, true, false, if◌then◌else◌, List, [], ◌∷◌, ◌++◌, length, map, sum, None, Some, Option, refl, sym, ap, ◌∙◌, arith, length-append, leb-false}
 use Rattle.std.specs.List.{flat_map, sum_by}
 use Rattle.std.proofs.lemmas.List.Sums.{sum-map, sum_by-append}
@@ -13,7 +13,7 @@ use Rattle.page_send.specs.Sendable.{first_fault, has_other_issue, is_ephemeris,
 use Rattle.page_send.proofs.Surface.{texts_append}
 use Rattle.nav_files.specs.declared.told.Told.{Told}
 use Rattle.nav_files.specs.Following.{counted}
-use Rattle.nav_files.specs.Sends.{counts_of_tolds, is_item, is_passed, is_refused, slot_behind, slots_behind, told, told_item, told_text, tolds}
+use Rattle.nav_files.specs.Sends.{counts_of_tolds, is_item, is_passed, is_refused_told, slot_behind, slots_behind, told, told_item, told_text, tolds}
 
 -- one record more
 pub tolds_more : (r slot : ℕ) (given : List ItemRead) (read : ItemRead)
@@ -76,7 +76,7 @@ pub counts_more : (given : List Told) (x : Told) → counted (counts_of_tolds gi
 counts_more given x =
     counts_are (counted (counts_of_tolds given) x) _ _ _ _
     (omega (arith, length-append given (x ∷ [])))
-    (omega (arith, count-append is_refused given (x ∷ [])))
+    (omega (arith, count-append is_refused_told given (x ∷ [])))
     (omega (arith, count-append is_passed given (x ∷ [])))
     (omega (arith, count-append is_item given (x ∷ [])))
 

@@ -39,33 +39,38 @@ merge_counts reads = let c = counts_of_reads reads in record {
   kept = length (merged_of (items_of reads));
 }
 
--- their text: a line for each, in the order of the fields
+-- the text of these counts: a line for each, in the order of the fields
 abbrev pub kept_counts_text : MergeCounts → List ℕ
 kept_counts_text c =
     (((count_line (codes "records") c.records ++ count_line (codes "refused") c.refused)
     ++ count_line (codes "passed") c.passed) ++ count_line (codes "items") c.items) ++ count_line (codes "kept") c.kept
 
+-- the text of the counts of a merge of records
 abbrev pub merge_counts_text : List ItemRead → List ℕ
 merge_counts_text reads = kept_counts_text (merge_counts reads)
 
--- the line of a range: the satellite, the first second and the one behind the last, as moments
+-- the line of a range: the satellite, the first second, and the second after the last, in GPS time
 abbrev pub cover_line : CoverRange → List ℕ
 cover_line range = ((((satellite_text range.sat ++ codes " ") ++ decimal range.from) ++ codes " ") ++ decimal range.to) ++ codes "\n"
 
+-- a line for each range of time that an item covers
 abbrev pub cover_text : List NavItem → List ℕ
 cover_text items = flat_map cover_line (covers_of items)
 
+-- the text of the counts of records
 abbrev pub cover_counts_text : List ItemRead → List ℕ
 cover_counts_text reads = file_counts_text (counts_of_reads reads)
 
--- What a run makes of a file, or of several one behind the other: a text in front, and the text of all its items at the end; a line of
--- the report for each record that is refused, and the text of the counts.
+-- What a run makes of a file, or of several concatenated: a leading text, and the text of all items at the end; the report has a
+-- line for each record that is refused, and the text of the counts.
 abbrev pub archive_meaning : {C : Type 0} → List ℕ → (List NavItem → List ℕ) → (List ItemRead → List ℕ) → (List ItemRead → C) → Meaning C
-archive_meaning front text after count =
-    file_meaning rinex4 true (λ reads. front) refusals_text (λ reads. front ++ text (items_of reads)) (λ reads. refusals_text reads ++ after reads) count
+archive_meaning prefix text after count =
+    file_meaning rinex4 true (λ reads. prefix) refusals_text (λ reads. prefix ++ text (items_of reads)) (λ reads. refusals_text reads ++ after reads) count
 
+-- the meaning of a run that merges files, with these header words
 abbrev pub merge_meaning : HeaderWords → Meaning MergeCounts
 merge_meaning words = archive_meaning (text_of (header_lines words)) merge_text merge_counts_text merge_counts
 
+-- the meaning of a run that finds the times that files cover
 abbrev pub cover_meaning : Meaning RinexCounts
 cover_meaning = archive_meaning [] cover_text cover_counts_text counts_of_reads

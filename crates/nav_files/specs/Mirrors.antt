@@ -9,36 +9,36 @@ use Rattle.rinex_read.specs.declared.judged.ItemRead.TheVariants.{Item, Refused,
 use Rattle.one_run.specs.declared.fault.BridgeFault.{BridgeFault}
 use Rattle.one_run.specs.declared.fault.BridgeFault.TheVariants.{ReadFault, NotThisForm, TooLong}
 use Rattle.nav_files.specs.declared.counts.RinexCounts.{RinexCounts}
-use Rattle.nav_files.specs.Files.{is_refused, is_passed, is_item}
+use Rattle.nav_files.specs.Files.{is_refused_read, is_passed, is_item}
 
--- a record, and not the end
+-- a record, not the end of the file
 abbrev pub IsRecord : ItemRead → Type 0
 IsRecord (Item line item) = Unit {0}
 IsRecord (Refused line reason) = Unit {0}
 IsRecord (PassedOver line) = Unit {0}
 IsRecord End = ⊥
 
--- the counts with a record more
+-- the counts with one record more
 abbrev pub counted : RinexCounts → ItemRead → RinexCounts
 counted c read = record {
   records = c.records + 1;
-  refused = c.refused + is_refused read;
+  refused = c.refused + is_refused_read read;
   passed = c.passed + is_passed read;
   items = c.items + is_item read;
 }
 
--- the records that were counted are those of the three kinds
+-- every record counted is refused, passed over or an item
 abbrev pub AreCounted : RinexCounts → Type 0
 AreCounted c = c.refused + c.passed + c.items ≡ c.records
 
--- how the header was left at a fault
+-- the state of the header at a fault
 abbrev pub HeaderFaultOf : BridgeFault → RecordsState → Type 0
 HeaderFaultOf ReadFault new = (is_waiting new.header ≡ true) × BrokeBy lines.ReadFault new
 HeaderFaultOf TooLong new = (is_waiting new.header ≡ true) × BrokeBy lines.TooLong new
 HeaderFaultOf NotThisForm new = (new.header ≡ NotRinexNav) ⊎ (new.header ≡ OtherVersion)
 HeaderFaultOf _ new = ⊥
 
--- How the reader breaks off behind the header.
+-- How the reader breaks off after the header.
 abbrev pub BreaksRead : Form → Option (List ℕ) → Option (List ℕ) → RecordsState → RecordsState → BridgeFault → Type 0
 BreaksRead f left left_new old new ReadFault = BreaksRecord f left left_new old new lines.ReadFault
 BreaksRead f left left_new old new TooLong = BreaksRecord f left left_new old new lines.TooLong

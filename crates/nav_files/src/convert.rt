@@ -3,7 +3,7 @@
 ghost use Rattle.std.specs.Prelude.{◌≡◌, ◌⊎◌, ◌++◌, IfErr, OnErr, OnOk, false};
 ghost use Rattle.std.specs.List.{flat_map};
 ghost use Rattle.std.specs.Io.KnownBytes.{Appends};
-ghost use Rattle.nav_io.specs.Front.{AppendsFront};
+ghost use Rattle.nav_io.specs.Prefix.{AppendsPrefix};
 ghost use Rattle.outlets.specs.Targets.{item_text};
 ghost use Rattle.one_run.specs.Causes.{HasItsCause, faults_of};
 ghost use Rattle.nav_files.specs.Files.{convert_report, convert_text, counts_of_reads, read_report, read_text};
@@ -28,9 +28,9 @@ fn tell_read<T: Sink, U: Sink>(
         (read_text (item_text to.now) read.now)) }
     ensures report { OnOk result (Appends (U.written report.old) (U.written report.new)
         (read_report read.now)) }
-    ensures part { OnErr result (AppendsFront (T.written output.old) (T.written output.new)
+    ensures part { OnErr result (AppendsPrefix (T.written output.old) (T.written output.new)
         (read_text (item_text to.now) read.now)) }
-    ensures report_part { OnErr result (AppendsFront (U.written report.old) (U.written report.new)
+    ensures report_part { OnErr result (AppendsPrefix (U.written report.old) (U.written report.new)
         (read_report read.now)) }
     ensures cause { HasItsCause (faults_of 0 (T.faults output.old) (U.faults report.old))
         (faults_of 0 (T.faults output.new) (U.faults report.new)) result }

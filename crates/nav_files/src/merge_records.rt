@@ -2,7 +2,7 @@
 
 ghost use Rattle.std.specs.Prelude.{◌≡◌, IfErr, OnOk, OnErr};
 ghost use Rattle.std.specs.Io.KnownBytes.{Appends};
-ghost use Rattle.nav_io.specs.Front.{AppendsFront};
+ghost use Rattle.nav_io.specs.Prefix.{AppendsPrefix};
 ghost use Rattle.one_run.specs.Causes.{HasItsCause, faults_of};
 ghost use Rattle.nav_files.specs.Files.{read_report};
 
@@ -15,7 +15,7 @@ use rinex_read::ItemRead;
 pub(crate) fn report_read<U: Sink>(read: &ItemRead, report: &mut U) -> Result<(), BridgeFault>
     ensures report { OnOk result (Appends (U.written report.old) (U.written report.new)
         (read_report read.now)) }
-    ensures part { OnErr result (AppendsFront (U.written report.old) (U.written report.new)
+    ensures part { OnErr result (AppendsPrefix (U.written report.old) (U.written report.new)
         (read_report read.now)) }
     ensures cause { HasItsCause (faults_of 0 0 (U.faults report.old))
         (faults_of 0 0 (U.faults report.new)) result }

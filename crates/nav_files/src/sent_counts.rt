@@ -1,4 +1,4 @@
-//! Counting.
+//! The counts of the records of a file that is transmitted.
 
 ghost use Rattle.std.specs.Prelude.{◌≡◌, ◌+◌, ◌^◌, ◌<◌, []};
 ghost use Rattle.nav_files.specs.Following.{AreCounted, counted};

@@ -3,7 +3,7 @@
 ghost use Rattle.std.specs.Prelude.{◌≡◌, ◌⊎◌, ◌<◌, ◌≤◌, IfErr, OnOk};
 ghost use Rattle.std.specs.Prelude.{OnErr, length, codes};
 ghost use Rattle.std.specs.Io.KnownBytes.{Appends};
-ghost use Rattle.nav_io.specs.Front.{AppendsFront};
+ghost use Rattle.nav_io.specs.Prefix.{AppendsPrefix};
 ghost use Rattle.one_run.specs.Causes.{HasItsCause, faults_of};
 ghost use Rattle.one_run.specs.Reports.{report_line};
 ghost use Rattle.nav_files.specs.Following.{IsTold};
@@ -21,7 +21,7 @@ fn report_word<U: Sink>(line: u32, word: &[u8], report: &mut U) -> Result<(), Br
     requires short { length word.now ≤ 32 }
     ensures report { OnOk result (Appends (U.written report.old) (U.written report.new)
         (report_line (codes "line") line word.now)) }
-    ensures part { OnErr result (AppendsFront (U.written report.old) (U.written report.new)
+    ensures part { OnErr result (AppendsPrefix (U.written report.old) (U.written report.new)
         (report_line (codes "line") line word.now)) }
     ensures cause { HasItsCause (faults_of 0 0 (U.faults report.old))
         (faults_of 0 0 (U.faults report.new)) result }
@@ -34,7 +34,7 @@ fn report_word<U: Sink>(line: u32, word: &[u8], report: &mut U) -> Result<(), Br
     }
 }
 
-// Writes an ephemeris that is sent, or reports a record that is not.
+// Writes an ephemeris that is transmitted, or reports a record that is refused or may not be.
 pub(crate) fn tell<T: Sink, U: Sink>(
     r: RefWeek,
     told: &Told,
@@ -46,9 +46,9 @@ pub(crate) fn tell<T: Sink, U: Sink>(
         (told_text told.now)) }
     ensures report { OnOk result (Appends (U.written report.old) (U.written report.new)
         (told_report told.now)) }
-    ensures part { OnErr result (AppendsFront (T.written output.old) (T.written output.new)
+    ensures part { OnErr result (AppendsPrefix (T.written output.old) (T.written output.new)
         (told_text told.now)) }
-    ensures report_part { OnErr result (AppendsFront (U.written report.old) (U.written report.new)
+    ensures report_part { OnErr result (AppendsPrefix (U.written report.old) (U.written report.new)
         (told_report told.now)) }
     ensures cause { HasItsCause (faults_of 0 (T.faults output.old) (U.faults report.old))
         (faults_of 0 (T.faults output.new) (U.faults report.new)) result }

@@ -4,7 +4,7 @@ ghost use Rattle.std.specs.Prelude.{◌≡◌, ◌⊎◌, ◌+◌, ◌^◌, ◌<
 ghost use Rattle.std.specs.Prelude.{IsTrue, IsErrOf, IfErr, MatchResult, OnOk};
 ghost use Rattle.std.specs.Io.KnownBytes.{Appends};
 ghost use Rattle.nav_io.specs.Causes.{HasCause};
-ghost use Rattle.nav_io.specs.Front.{AppendsFront, IsFront};
+ghost use Rattle.nav_io.specs.Prefix.{AppendsPrefix, IsPrefix};
 ghost use Rattle.nav_io.specs.Writes.{Writes};
 ghost use Rattle.rinex_read.specs.RoundTrip.{IsWholeRead};
 ghost use Rattle.rinex_read.specs.declared.judged.HeaderState.TheVariants.{Passed};
@@ -20,18 +20,17 @@ use crate::records::next_read;
 use nav_io::{Failed, Sink, Source};
 use one_run::{BridgeFault, Text};
 use rinex_read::{
-    FileForm, ItemRead, RecordReader, readers_begin_with_the_file, steps_follow_one_another,
+    FileForm, ItemRead, RecordReader, readers_begin_with_the_file, steps_compose,
     whole_records_are_given,
 };
 
-/// What a run does with the records of a file, one after another. Its settings stay as they are; what it holds of the records
-/// is its state.
+/// What a run does with the records of a file, in order. Its settings do not change; what it holds of the records is its state.
 pub trait Taker {
     type State;
 
     type Counts: Copy;
 
-    // What is written and reported once these records were taken.
+    // What was written and reported after these records.
     ghost text: { Self → List ItemRead → List ℕ };
 
     ghost told: { Self → List ItemRead → List ℕ };
@@ -46,23 +45,23 @@ pub trait Taker {
     // Whether it takes memory.
     ghost memory: { Bool };
 
-    // The state holds what these records come to.
+    // The state is that after these records.
     ghost holds: { Self → Self.State → List ItemRead → Type 0 };
 
-    // What was written and reported is a front of the whole; at first nothing is reported.
+    // What was written and reported is a prefix of the whole; at first nothing is reported.
     fn begins(&self)
         ensures text { (some more : List ItemRead)
-            → IsFront (text self.now some) (whole self.now (some ++ more)) }
+            → IsPrefix (text self.now some) (whole self.now (some ++ more)) }
         ensures told { (some more : List ItemRead)
-            → IsFront (told self.now some) (reported self.now (some ++ more)) }
+            → IsPrefix (told self.now some) (reported self.now (some ++ more)) }
         ensures silent { told self.now [] ≡ [] };
 
-    // Writes what stands in front.
+    // Writes the leading text.
     fn begin<T: Sink>(&self, output: &mut T) -> Result<(), Failed>
         ensures { Writes (T.written output.old) (T.written output.new)
             (T.faults output.old) (T.faults output.new) result (text self.now []) };
 
-    // Takes a record.
+    // Processes a record.
     fn take<T: Sink, U: Sink>(
         &self,
         state: &mut Self::State,
@@ -81,14 +80,14 @@ pub trait Taker {
             → Appends start (T.written output.old) (text self.now reads)
             → MatchResult result
             (λ _. Appends start (T.written output.new) (text self.now (reads ++ read.now ∷ [])))
-            (λ _. AppendsFront start (T.written output.new)
+            (λ _. AppendsPrefix start (T.written output.new)
             (text self.now (reads ++ read.now ∷ []))) }
         ensures report { (reads : List ItemRead) (start : Option (List ℕ))
             → holds self.now state.old reads
             → Appends start (U.written report.old) (told self.now reads)
             → MatchResult result
             (λ _. Appends start (U.written report.new) (told self.now (reads ++ read.now ∷ [])))
-            (λ _. AppendsFront start (U.written report.new)
+            (λ _. AppendsPrefix start (U.written report.new)
             (told self.now (reads ++ read.now ∷ []))) }
         ensures cause { HasItsCause (faults_of 0 (T.faults output.old) (U.faults report.old))
             (faults_of 0 (T.faults output.new) (U.faults report.new)) result }
@@ -96,19 +95,19 @@ pub trait Taker {
             ⊎ ((fault ≡ BridgeFault.ReportFault)
             ⊎ ((fault ≡ BridgeFault.NoMemory) × (memory ≡ true)))) };
 
-    // What is counted of the records that were taken.
+    // The counts of the records so far.
     fn counts(&self, state: &Self::State) -> Self::Counts
         ensures { (reads : List ItemRead) → holds self.now state.now reads
             → result ≡ count self.now reads };
 
-    // Writes what is written at the end of a file.
+    // Writes the text at the end of a file.
     fn finish<T: Sink>(&self, state: &mut Self::State, output: &mut T) -> Result<(), Failed>
         ensures output { (reads : List ItemRead) (start : Option (List ℕ))
             → holds self.now state.old reads
             → Appends start (T.written output.old) (text self.now reads)
             → MatchResult result
             (λ _. Appends start (T.written output.new) (whole self.now reads))
-            (λ _. AppendsFront start (T.written output.new) (whole self.now reads)) }
+            (λ _. AppendsPrefix start (T.written output.new) (whole self.now reads)) }
         ensures cause { HasCause (T.faults output.old) (T.faults output.new) result };
 
     // The text of counts.
@@ -117,8 +116,8 @@ pub trait Taker {
             → reported self.now reads ≡ told self.now reads ++ result.items };
 }
 
-// Takes the records behind the header, one after another.
-fn take_records<F: FileForm, K: Taker, S: Source, T: Sink, U: Sink>(
+// Processes the records after the header, in order.
+fn process_records<F: FileForm, K: Taker, S: Source, T: Sink, U: Sink>(
     taker: &K,
     state: &mut K::State,
     records: &mut RecordReader<F>,
@@ -141,7 +140,7 @@ fn take_records<F: FileForm, K: Taker, S: Source, T: Sink, U: Sink>(
         (faults_of (S.faults input.new) (T.faults output.new) (U.faults report.new)) result }
     ensures never { IsTrue (S.never_fails input.old) → IsErrOf result BridgeFault.ReadFault → ⊥ }
 {
-    steps_follow_one_another::<F>();
+    steps_compose::<F>();
     'records: loop {
         match next_read::<F, S>(records, input) {
             Err(fault) => return Err(fault),
@@ -153,7 +152,7 @@ fn take_records<F: FileForm, K: Taker, S: Source, T: Sink, U: Sink>(
 
 /// Reads a navigation file of a form to its end.
 ///
-/// The header is judged first; then the records are taken, one after another, and at the end the counts are reported.
+/// The header is checked first; then the records are processed in order, and at the end the counts are reported.
 pub fn run_file<F: FileForm, K: Taker, S: Source, T: Sink, U: Sink>(
     taker: &K,
     state: &mut K::State,
@@ -168,7 +167,7 @@ pub fn run_file<F: FileForm, K: Taker, S: Source, T: Sink, U: Sink>(
         input.old input.new output.old output.new report.old report.new result }
 {
     readers_begin_with_the_file::<F>();
-    steps_follow_one_another::<F>();
+    steps_compose::<F>();
     whole_records_are_given::<F>();
     taker.begins();
     let mut records: RecordReader<F> = RecordReader::new();
@@ -177,7 +176,7 @@ pub fn run_file<F: FileForm, K: Taker, S: Source, T: Sink, U: Sink>(
         Ok(()) => {}
         Err(Failed) => return Err(BridgeFault::WriteFault),
     }
-    take_records(taker, state, &mut records, input, output, report)?;
+    process_records(taker, state, &mut records, input, output, report)?;
     let counts = taker.counts(state);
     match taker.finish(state, output) {
         Ok(()) => {}

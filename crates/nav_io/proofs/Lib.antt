@@ -1,5 +1,5 @@
 mod Cuts
-mod Fronts
+mod Prefixes
 mod LaterCalls
 mod LineEnds
 pub mod LineLaws

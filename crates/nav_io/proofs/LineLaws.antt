@@ -1,15 +1,15 @@
--- Laws of the lines of bytes: of a line in front, of one that has not ended, and of a front of the bytes.
+-- Laws of the lines of bytes: of a first line, of a line not yet ended, and of a prefix of the bytes.
 use Rattle.std.specs.Prelude.{◌≡◌, ◌+◌, ◌<◌, ◌≤◌, ◌==◌, nat_lt, ◌++◌, ℕ, zero, suc, Bool, true, false, if◌then◌else◌, List, [], ◌∷◌, length, take, drop, map, refl}
 use Rattle.std.proofs.Common.{sym, ap, ◌∙◌, arith, append_assoc, append-nil, length-append, length-take, ⊎_elim}
 use Rattle.std.proofs.lemmas.List.{take_all, take-take, take-append-le, map-append, length-map}
 use Rattle.std.proofs.lemmas.Bool.{lt-ltb, cases_lt}
-use Rattle.nav_io.specs.Lines.{ends, with_front, pieces, without_cr, Line, line_of, lines_by}
+use Rattle.nav_io.specs.Lines.{ends, with_prefix, pieces, without_cr, Line, line_of, lines_by}
 
 ends_if : (b e : Bool) → (if b then true else e) ≡ false → (b ≡ false) × (e ≡ false)
 ends_if true e h = absurd cc
 ends_if false e h = (refl, h)
 
--- no line ends in a byte nor in those behind it
+-- no LF in a byte and the bytes after it
 pub ends-cons : (x : ℕ) (xs : List ℕ) → ends (x ∷ xs) ≡ false → ((x == 10) ≡ false) × (ends xs ≡ false)
 ends-cons x xs h = ends_if (x == 10) (ends xs) h
 
@@ -31,37 +31,37 @@ ends-drop zero p h = h
 ends-drop (suc n) [] h = refl
 ends-drop (suc n) (x ∷ p) h = ends-drop n p (ends-cons x p h).1
 
--- a line that ends, in front
+-- a first line with its LF
 pub pieces-line : (more : Bool) (p rest : List ℕ) → ends p ≡ false → pieces more (p ++ 10 ∷ rest) ≡ p ∷ pieces more rest
 pieces-line more [] rest h = refl
 pieces-line more (x ∷ p) rest h =
     let parts = ends-cons x p h in
     rw (parts.0, pieces-line more p rest parts.1) refl
 
--- where more may come, no line of these has ended
+-- where more bytes may come, bytes without LF have no line
 pub pieces-open : (p : List ℕ) → ends p ≡ false → pieces true p ≡ []
 pieces-open [] h = refl
 pieces-open (x ∷ p) h =
     let parts = ends-cons x p h in
     rw (parts.0, pieces-open p parts.1) refl
 
--- the last line, which has no end
+-- the last line, without LF
 pub pieces-last : (x : ℕ) (p : List ℕ) → ends (x ∷ p) ≡ false → pieces false (x ∷ p) ≡ (x ∷ p) ∷ []
 pieces-last x [] h = rw (ends-cons x [] h).0 refl
 pieces-last x (y ∷ p) h =
     let parts = ends-cons x (y ∷ p) h in
     rw (parts.0, pieces-last y p parts.1) refl
 
--- bytes in front of lines, in which no line ends
+-- bytes without LF before lines
 abbrev pub fronted : Bool → List ℕ → List (List ℕ) → List (List ℕ)
 fronted more [] lines = lines
-fronted more (x ∷ p) lines = with_front more x (fronted more p lines)
+fronted more (x ∷ p) lines = with_prefix more x (fronted more p lines)
 
-pub pieces-front : (more : Bool) (p q : List ℕ) → ends p ≡ false → pieces more (p ++ q) ≡ fronted more p (pieces more q)
-pieces-front more [] q h = refl
-pieces-front more (x ∷ p) q h =
+pub pieces-prefix : (more : Bool) (p q : List ℕ) → ends p ≡ false → pieces more (p ++ q) ≡ fronted more p (pieces more q)
+pieces-prefix more [] q h = refl
+pieces-prefix more (x ∷ p) q h =
     let parts = ends-cons x p h in
-    rw (parts.0, pieces-front more p q parts.1) refl
+    rw (parts.0, pieces-prefix more p q parts.1) refl
 
 pub fronted-line : (more : Bool) (p line : List ℕ) (lines : List (List ℕ)) → fronted more p (line ∷ lines) ≡ (p ++ line) ∷ lines
 fronted-line more [] line lines = refl
@@ -94,7 +94,7 @@ take-without_cr (suc m) [] h = absurd (omega arith)
 take-without_cr (suc m) (x ∷ []) h = absurd (omega arith)
 take-without_cr (suc m) (x ∷ y ∷ ys) h = ap (λ (l : List ℕ). x ∷ l) (take-without_cr m (y ∷ ys) (omega arith))
 
--- of a piece of 2,202 bytes or more only its front counts
+-- of a piece of 2,202 bytes or more only the first 2,200 matter
 pub line_of_long : (p : List ℕ) → 2202 ≤ length p → line_of p ≡ record { text = take 2200 p; long = true }
 unfolding line_of
 line_of_long p h =
@@ -108,9 +108,9 @@ line_of-cut p l = ⊎_elim
     let cut : length (take 2202 p) ≡ 2202 = length-take 2202 p ∙ omega arith in
     let some : 2202 ≤ length (take 2202 p ++ l) = omega (arith, length-append (take 2202 p) l) in
     let all : 2202 ≤ length (p ++ l) = omega (arith, length-append p l) in
-    let front : take 2200 (take 2202 p ++ l) ≡ take 2200 (p ++ l) =
+    let prefix : take 2200 (take 2202 p ++ l) ≡ take 2200 (p ++ l) =
     take-append-le 2200 (take 2202 p) l (omega arith) ∙ take-take 2200 2202 p (omega arith) ∙ sym (take-append-le 2200 p l (omega arith)) in
-    line_of_long (take 2202 p ++ l) some ∙ ap (λ (text : List ℕ). record { text = text; long = true }) front ∙ sym (line_of_long (p ++ l) all))
+    line_of_long (take 2202 p ++ l) some ∙ ap (λ (text : List ℕ). record { text = text; long = true }) prefix ∙ sym (line_of_long (p ++ l) all))
     (λ (short : length p ≤ 2202). rw (take_all 2202 p short) refl)
     (cases_lt 2202 (length p))
 
@@ -123,13 +123,13 @@ cut_lines false (x ∷ p) [] =
     ap line_of (sym (append-nil (take 2202 (x ∷ p)))) ∙ line_of-cut (x ∷ p) [] ∙ ap line_of (append-nil (x ∷ p)) in
     ap (map line_of) (fronted-last x (take 2201 p)) ∙ ap (λ (line : Line). line ∷ []) same ∙ sym (ap (map line_of) (fronted-last x p))
 
--- of a line that has not ended 2,202 bytes tell all that is seen of it, whatever bytes follow
+-- of a line not yet ended the first 2,202 bytes determine its text and kind, whatever follows
 pub lines_by-cut : (more : Bool) (p q : List ℕ) → ends p ≡ false → lines_by more (take 2202 p ++ q) ≡ lines_by more (p ++ q)
 lines_by-cut more p q h =
-    ap (map line_of) (pieces-front more (take 2202 p) q (ends-take 2202 p h)) ∙ cut_lines more p (pieces more q) ∙ sym (ap (map line_of) (pieces-front more p q h))
+    ap (map line_of) (pieces-prefix more (take 2202 p) q (ends-take 2202 p h)) ∙ cut_lines more p (pieces more q) ∙ sym (ap (map line_of) (pieces-prefix more p q h))
 
 append_open : (more : Bool) (x : ℕ) (d z o : List ℕ) (lines : List (List ℕ)) → (x == 10) ≡ false → pieces true d ≡ lines → pieces more (d ++ z) ≡ lines ++ pieces more (o ++ z)
-    → (o' : List ℕ) × (with_front more x (pieces more (d ++ z)) ≡ with_front true x lines ++ pieces more (o' ++ z))
+    → (o' : List ℕ) × (with_prefix more x (pieces more (d ++ z)) ≡ with_prefix true x lines ++ pieces more (o' ++ z))
 append_open more x d z o [] e is ih = (x ∷ o, rw (ih, e) refl)
 append_open more x d z o (line ∷ lines) e is ih = (o, rw ih refl)
 
@@ -138,38 +138,38 @@ append_by : (more : Bool) (x : ℕ) (d z : List ℕ) (b : Bool) → (x == 10) �
 append_by more x d z true e ih = (ih.0, rw (e, ih.1) refl)
 append_by more x d z false e ih = rw e (append_open more x d z ih.0 (pieces true d) e refl ih.1)
 
--- the lines that have ended stay, whatever follows
+-- the lines that an LF ended stay, whatever follows
 pub pieces-append : (more : Bool) (d z : List ℕ) → (o : List ℕ) × (pieces more (d ++ z) ≡ pieces true d ++ pieces more (o ++ z))
 pieces-append more [] z = ([], refl)
 pieces-append more (x ∷ d) z = append_by more x d z (x == 10) refl (pieces-append more d z)
 
-length-with_front : (x : ℕ) (lines : List (List ℕ)) → length (with_front true x lines) ≡ length lines
-length-with_front x [] = refl
-length-with_front x (line ∷ lines) = refl
+length-with_prefix : (x : ℕ) (lines : List (List ℕ)) → length (with_prefix true x lines) ≡ length lines
+length-with_prefix x [] = refl
+length-with_prefix x (line ∷ lines) = refl
 
 length_by : (x : ℕ) (a b : List ℕ) (t : Bool) → (x == 10) ≡ t → length (pieces true (a ++ b)) ≡ length (pieces true a) + length (pieces true b)
     → length (pieces true (x ∷ (a ++ b))) ≡ length (pieces true (x ∷ a)) + length (pieces true b)
 length_by x a b true e ih = rw e (omega (arith, ih))
-length_by x a b false e ih = rw (e, length-with_front x (pieces true (a ++ b)), length-with_front x (pieces true a)) ih
+length_by x a b false e ih = rw (e, length-with_prefix x (pieces true (a ++ b)), length-with_prefix x (pieces true a)) ih
 
--- as many lines have ended as in the parts
+-- the number of ended lines adds up
 pub length-pieces-append : (a b : List ℕ) → length (pieces true (a ++ b)) ≡ length (pieces true a) + length (pieces true b)
 length-pieces-append [] b = omega arith
 length-pieces-append (x ∷ a) b = length_by x a b (x == 10) refl (length-pieces-append a b)
 
--- of two fronts of a list the longer has the shorter as its front
-pub front_within : {A : Type 0} (a b x y : List A) → a ++ x ≡ b ++ y → length a ≤ length b → (more : List A) × (b ≡ a ++ more)
-front_within [] b x y e h = (b, refl)
-front_within (k ∷ a) [] x y e h = absurd (omega arith)
-front_within (k ∷ a) (l ∷ b) x y e h =
+-- of two prefixes of a list the shorter is a prefix of the longer
+pub prefix_within : {A : Type 0} (a b x y : List A) → a ++ x ≡ b ++ y → length a ≤ length b → (more : List A) × (b ≡ a ++ more)
+prefix_within [] b x y e h = (b, refl)
+prefix_within (k ∷ a) [] x y e h = absurd (omega arith)
+prefix_within (k ∷ a) (l ∷ b) x y e h =
     let tails : a ++ x ≡ b ++ y = cc in
     let heads : k ≡ l = cc in
-    let rest = front_within a b x y tails (omega arith) in
+    let rest = prefix_within a b x y tails (omega arith) in
     (rest.0, cc rest.1)
 
--- Lines were given for the front of the bytes; those that have ended in a front of that are a front of them.
-pub ended_front : (d w rest : List ℕ) (lines : List Line) → lines_by true ((d ++ w) ++ rest) ≡ lines ++ lines_by true rest → (more : List Line) × (lines ≡ lines_by true d ++ more)
-ended_front d w rest lines e =
+-- lines of a prefix of the bytes: those ended in a shorter prefix come first
+pub ended_prefix : (d w rest : List ℕ) (lines : List Line) → lines_by true ((d ++ w) ++ rest) ≡ lines ++ lines_by true rest → (more : List Line) × (lines ≡ lines_by true d ++ more)
+ended_prefix d w rest lines e =
     let split = pieces-append true d (w ++ rest) in
     let all : lines_by true d ++ lines_by true (split.0 ++ (w ++ rest)) ≡ lines ++ lines_by true rest =
     sym (map-append line_of (pieces true d) (pieces true (split.0 ++ (w ++ rest)))) ∙ ap (map line_of) (sym split.1) ∙ ap (lines_by true) (sym (append_assoc d w rest)) ∙ e in
@@ -184,11 +184,11 @@ ended_front d w rest lines e =
       length-pieces-append (d ++ w) rest,
       length-pieces-append d w,
     ) in
-    front_within (lines_by true d) lines (lines_by true (split.0 ++ (w ++ rest))) (lines_by true rest) all few
+    prefix_within (lines_by true d) lines (lines_by true (split.0 ++ (w ++ rest))) (lines_by true rest) all few
 
--- without its last line it is a front of all but the last
+-- a proper prefix of a list of lines is a prefix of all but its last line
 pub without_last : (some more others : List Line) (last line : Line) → others ++ line ∷ [] ≡ (some ++ last ∷ []) ++ more → (rest : List Line) × (others ≡ some ++ rest)
 without_last some more others last line e =
     let all : some ++ (last ∷ more) ≡ others ++ line ∷ [] = sym (append_assoc some (last ∷ []) more) ∙ sym e in
     let counts : length some + length (last ∷ more) ≡ length others + length (line ∷ []) = sym (length-append some (last ∷ more)) ∙ ap length all ∙ length-append others (line ∷ []) in
-    front_within some others (last ∷ more) (line ∷ []) all (omega (arith, counts))
+    prefix_within some others (last ∷ more) (line ∷ []) all (omega (arith, counts))

@@ -1,4 +1,4 @@
--- How far a call of `Lines::next` has come, and what it then answers.
+-- The progress of a call of `Lines::next`, and what it returns.
 use Rattle.std.proofs.Common.{◌≡◌, ◌⊎◌, ◌+◌, ◌-◌, ◌^◌, ◌<◌, ◌≤◌, ◌++◌, ℕ, Bool, true, false, if◌then◌else◌, List, [], ◌∷◌, map, length, take, drop, refl, sym, ap, subst, ◌∙◌, inl, inr, ⊎_elim, arith, append_assoc, append-nil, length-append, length-drop, length-take}
 use Rattle.std.specs.Prelude.{Option}
 use Rattle.std.specs.Io.KnownBytes.{IsAtEnd, Keeps}
@@ -13,7 +13,7 @@ use Rattle.nav_io.proofs.ReadsLaws.{reads_more, count_none}
 use Rattle.nav_io.specs.declared.lines.LineKind.{LineKind}
 use Rattle.nav_io.specs.declared.lines.LineKind.TheVariants.{Text, Long, End}
 
--- No line was given yet. No line ends in the bytes that were looked at; those behind came in one piece.
+-- No line was returned yet. The first looked bytes of the rest have no LF; those after them came in one read.
 pub record Reading (left left_new : Option (List ℕ)) (old now : LinesState) (looked : ℕ) : Type 0 where
   pub reads : Reads left left_new old now []
   pub within : looked ≤ length now.rest
@@ -21,9 +21,9 @@ pub record Reading (left left_new : Option (List ℕ)) (old now : LinesState) (l
   pub number : now.number ≡ old.number
   pub text : now.text ≡ []
   pub short : length old.rest ≤ 4096 → length now.rest ≤ looked + 4096
-  pub front : List ℕ
-  pub split : old.rest ++ reads.taken ≡ front ++ drop looked now.rest
-  pub clean : ends front ≡ false
+  pub prefix : List ℕ
+  pub split : old.rest ++ reads.taken ≡ prefix ++ drop looked now.rest
+  pub clean : ends prefix ≡ false
   pub few : old.taken < now.taken → length (drop looked now.rest) ≤ 4096
 
 -- nothing was read
@@ -45,7 +45,7 @@ reading_start o s = record {
   number = refl;
   text = refl;
   short = λ h. omega arith;
-  front = [];
+  prefix = [];
   split = append-nil s.rest;
   clean = refl;
   few = λ h. absurd (omega arith);
@@ -77,34 +77,34 @@ reads_fill left left_new s t more none f = record {
   after_end = no_end s.ended more;
 }
 
--- what was kept stands in front of the piece
+-- the bytes kept come before the piece
 behind_kept : (kept piece rest : List ℕ) (n : ℕ) → rest ≡ kept ++ piece → n ≡ length kept → drop n rest ≡ piece
 behind_kept kept piece rest n e is = ap (drop n) e ∙ drop_at kept piece n (sym is)
 
-front_kept : (kept piece rest : List ℕ) (n : ℕ) → rest ≡ kept ++ piece → n ≡ length kept → take n rest ≡ kept
-front_kept kept piece rest n e is = ap (take n) e ∙ take_at kept piece n (sym is)
+prefix_kept : (kept piece rest : List ℕ) (n : ℕ) → rest ≡ kept ++ piece → n ≡ length kept → take n rest ≡ kept
+prefix_kept kept piece rest n e is = ap (take n) e ∙ take_at kept piece n (sym is)
 
 pub reading_fill : (left middle left_new : Option (List ℕ)) (old s t : LinesState) (looked kept : ℕ) → Reading left middle old s looked → s.ended ≡ false → ends s.rest ≡ false
     → Fills middle left_new s t → kept ≡ length (take 2202 s.rest) → Reading left left_new old t kept
 reading_fill left middle left_new old s t looked kept r more none f is =
-    let all : ends (r.front ++ drop looked s.rest) ≡ false = ends-append r.front (drop looked s.rest) r.clean (ends-drop looked s.rest none) in
+    let all : ends (r.prefix ++ drop looked s.rest) ≡ false = ends-append r.prefix (drop looked s.rest) r.clean (ends-drop looked s.rest none) in
     let piece : drop kept t.rest ≡ f.piece = behind_kept (take 2202 s.rest) f.piece t.rest kept f.rest is in
-    let front : take kept t.rest ≡ take 2202 s.rest = front_kept (take 2202 s.rest) f.piece t.rest kept f.rest is in
+    let prefix : take kept t.rest ≡ take 2202 s.rest = prefix_kept (take 2202 s.rest) f.piece t.rest kept f.rest is in
     let size : length t.rest ≡ kept + length f.piece = ap length f.rest ∙ length-append (take 2202 s.rest) f.piece ∙ ap (λ (n : ℕ). n + length f.piece) (sym is) in
     record {
       reads = reads_more left middle left_new old s t [] [] r.reads (reads_fill middle left_new s t more none f);
       within = omega (arith, size);
-      none = ap ends front ∙ ends-take 2202 s.rest none;
+      none = ap ends prefix ∙ ends-take 2202 s.rest none;
       number = f.number ∙ r.number;
       text = f.text;
       short = λ h. omega (arith, size, f.few);
-      front = old.rest ++ r.reads.taken;
+      prefix = old.rest ++ r.reads.taken;
       split = sym (append_assoc old.rest r.reads.taken f.piece) ∙ ap (λ (l : List ℕ). (old.rest ++ r.reads.taken) ++ l) (sym piece);
       clean = ap ends r.split ∙ all;
       few = λ h. omega (arith, ap length piece, f.few);
     }
 
--- a line that has ended
+-- a line with its LF
 stream_line : (s : LinesState) (place : ℕ) → EndsAt s.rest place → (more : Bool) (following : List ℕ)
     → lines_by more (s.rest ++ following) ≡ line_of (take place s.rest) ∷ lines_by more (drop (place + 1) s.rest ++ following)
 stream_line s place at more following =
@@ -200,23 +200,23 @@ breaks_long left left_new old s looked r more most = record {
   too_many = omega arith;
   number = r.number;
   text = r.text;
-  front = r.front;
+  prefix = r.prefix;
   last = drop looked s.rest;
   split = r.split;
   few = λ low. r.few (omega arith);
   none = r.clean;
 }
 
--- what was held and taken up to the end of the line
-split_line : (old taken front rest new : List ℕ) (looked place : ℕ) → looked ≤ place → old ++ taken ≡ front ++ drop looked rest → new ≡ drop (place + 1) rest
-    → old ++ (taken ++ []) ≡ (front ++ take (place + 1 - looked) (drop looked rest)) ++ new
-split_line old taken front rest new looked place h e is =
+-- the bytes held and read up to the end of the line
+split_line : (old taken prefix rest new : List ℕ) (looked place : ℕ) → looked ≤ place → old ++ taken ≡ prefix ++ drop looked rest → new ≡ drop (place + 1) rest
+    → old ++ (taken ++ []) ≡ (prefix ++ take (place + 1 - looked) (drop looked rest)) ++ new
+split_line old taken prefix rest new looked place h e is =
     let k = place + 1 - looked in
     let to : looked + k ≡ place + 1 = omega arith in
     let behind : drop k (drop looked rest) ≡ new = drop-drop k looked rest ∙ ap (λ (n : ℕ). drop n rest) to ∙ sym is in
     ap (λ (l : List ℕ). old ++ l) (append-nil taken) ∙ e
-    ∙ ap (λ (l : List ℕ). front ++ l) (sym (take-append-drop k (drop looked rest)) ∙ ap (λ (l : List ℕ). take k (drop looked rest) ++ l) behind)
-    ∙ sym (append_assoc front (take k (drop looked rest)) new)
+    ∙ ap (λ (l : List ℕ). prefix ++ l) (sym (take-append-drop k (drop looked rest)) ∙ ap (λ (l : List ℕ). take k (drop looked rest) ++ l) behind)
+    ∙ sym (append_assoc prefix (take k (drop looked rest)) new)
 
 gives_line : (left left_new : Option (List ℕ)) (old s t : LinesState) (looked place : ℕ) → Reading left left_new old s looked → s.taken < 2 ^ 32 → EndsAt s.rest place → looked ≤ place
     → PassesLine s t place (place + 1) → GivesLine left left_new old t (line_of (take place s.rest))
@@ -226,11 +226,11 @@ gives_line left left_new old s t looked place r low at behind p = record {
   short = λ h. omega (arith, r.short h, ap length p.rest, length-drop (place + 1) s.rest);
   low = omega (arith, p.taken, low);
   numbered = p.numbered;
-  front = r.front ++ take (place + 1 - looked) (drop looked s.rest);
-  split = split_line old.rest r.reads.taken r.front s.rest t.rest looked place behind r.split p.rest;
+  prefix = r.prefix ++ take (place + 1 - looked) (drop looked s.rest);
+  split = split_line old.rest r.reads.taken r.prefix s.rest t.rest looked place behind r.split p.rest;
 }
 
--- nothing stands behind the last line
+-- nothing follows the last line
 split_last : (old taken new : List ℕ) → new ≡ [] → old ++ (taken ++ []) ≡ (old ++ taken) ++ new
 split_last old taken new e = ap (λ (l : List ℕ). old ++ l) (append-nil taken) ∙ sym (append-nil (old ++ taken)) ∙ ap (λ (l : List ℕ). (old ++ taken) ++ l) (sym e)
 
@@ -244,7 +244,7 @@ gives_last left left_new old s t looked r low ended none some p =
       short = λ h. omega (arith, ap length gone);
       low = omega (arith, p.taken, low);
       numbered = p.numbered;
-      front = old.rest ++ r.reads.taken;
+      prefix = old.rest ++ r.reads.taken;
       split = split_last old.rest r.reads.taken t.rest gone;
     }
 

@@ -1,5 +1,5 @@
 pub mod Causes
-pub mod Front
+pub mod Prefix
 pub mod LineAnswers
 pub mod Lines
 pub mod LinesState

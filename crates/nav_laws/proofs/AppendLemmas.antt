@@ -1,4 +1,4 @@
--- What is in two lists, one behind the other.
+-- What is in two lists, concatenated.
 use Rattle.std.proofs.Common.{◌⊎◌, inl, inr, List, [], ◌∷◌, ◌++◌}
 use Rattle.periods.proofs.EndSurface.{In}
 

@@ -1,4 +1,4 @@
--- Of accepted lines that are accepted among others too no more is heard than of these.
+-- From fewer accepted lines no more parts are received.
 use Rattle.std.proofs.Common.{ℕ, List, inl, inr}
 use Rattle.nav_eph.specs.declared.part.Part.{Part}
 use Rattle.inav_page.specs.Heard.{StampedHalf}
@@ -8,10 +8,10 @@ use Rattle.capture_lines.specs.declared.item.LineItem.{LineItem}
 use Rattle.capture_lines.specs.declared.item.LineItem.TheVariants.{Lnav, Half}
 use Rattle.capture_log.specs.Heard.{IsHalfHeard, IsPartHeard}
 
-abbrev pub Accepts : ℕ → List LineItem → List LineItem → Type 0
-Accepts w some other = (item : LineItem) → IsAccepted w some item → IsAccepted w other item
+abbrev pub AcceptsAgain : ℕ → List LineItem → List LineItem → Type 0
+AcceptsAgain w some other = (item : LineItem) → IsAccepted w some item → IsAccepted w other item
 
-half_to : (w : ℕ) (some other : List LineItem) (half : StampedHalf) → Accepts w some other → IsHalfHeard w some half → IsHalfHeard w other half
+half_to : (w : ℕ) (some other : List LineItem) (half : StampedHalf) → AcceptsAgain w some other → IsHalfHeard w some half → IsHalfHeard w other half
 half_to w some other half to h = record {
   stamp = h.stamp;
   sat = h.sat;
@@ -22,7 +22,7 @@ half_to w some other half to h = record {
   half_is = h.half_is;
 }
 
-pub heard_to : (w : ℕ) (some other : List LineItem) (part : Part) → Accepts w some other → IsPartHeard w some part → IsPartHeard w other part
+pub heard_to : (w : ℕ) (some other : List LineItem) (part : Part) → AcceptsAgain w some other → IsPartHeard w some part → IsPartHeard w other part
 heard_to w some other part to (inl h) = inl (record { stamp = h.stamp; sat = h.sat; bits = h.bits; accepted = to (Lnav h.stamp h.sat h.bits) h.accepted; is = h.is })
 heard_to w some other part to (inr (inl h)) =
     inr (inl (record { stamp = h.stamp; item = h.item; bytes = h.bytes; item_is = h.item_is; accepted = to h.item h.accepted; is = h.is }))

@@ -10,3 +10,4 @@ pub mod Sendable
 pub mod Fewer
 mod DueLemmas
 mod PlainLemmas
+pub mod Surface

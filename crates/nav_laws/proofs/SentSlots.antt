@@ -1,4 +1,4 @@
--- What is sent in the slots, and that its parts are those of the slots.
+-- What is transmitted in the slots, and that its parts are those of the slots.
 use Rattle.std.proofs.Common.{◌≡◌, ℕ, ◌+◌, ◌-◌, ◌*◌, ◌^◌, ◌<◌, ◌≤◌, ◌⊎◌, ◌↔◌, inl, inr, Bool, true, false, nat_eq, if◌then◌else◌, List, [], ◌∷◌, ◌++◌, Contains, Ok, Some, length, refl, sym, ap, subst, ◌∙◌, arith, eqb-true}
 use Rattle.std.proofs.lemmas.Int.{ints}
 use Rattle.nav_bits.specs.Packed.{AreBytes}
@@ -22,7 +22,7 @@ use Rattle.nav_eph.specs.declared.items.NavItem.{NavItem}
 use Rattle.nav_eph.specs.declared.items.NavItem.TheVariants.{Gps, Gal, Ion}
 use Rattle.lnav_subframe.specs.declared.out.SubframeOut.{SubframeOut}
 use Rattle.lnav_subframe.specs.declared.out.SubframeOut.TheVariants.{Clock, OrbitA, OrbitB}
-use Rattle.lnav_subframe.specs.Bytes.{HasDigits, subframe_bytes}
+use Rattle.lnav_subframe.specs.Bytes.{HasBits, subframe_bytes}
 use Rattle.lnav_subframe.specs.Reading.{heard, start_second, subframe_of}
 use Rattle.lnav_subframe.specs.Writing.{IsWritable, read_again}
 use Rattle.inav_word.specs.Reading.{one_part, reading_of, two_parts}
@@ -40,12 +40,12 @@ use Rattle.capture_log.specs.Events.{of_subframe, of_word}
 use Rattle.capture_log.specs.Heard.{IsPartHeard}
 use Rattle.capture_log.specs.declared.event.Event.{Event}
 use Rattle.capture_log.specs.declared.event.Event.TheVariants.{Heard}
-use Rattle.page_send.specs.Slots.{count_of, galileo_items, galileo_second, galileo_week_number, gps_sending, gps_week_number, half_item, items_at, no_ionosphere, slot_stamp, subframe_item}
+use Rattle.page_send.specs.Slots.{count_of, galileo_items, galileo_second, galileo_week_number, gps_transmission, gps_week_number, half_item, items_at, no_ionosphere, slot_stamp, subframe_item}
 use Rattle.page_send.specs.Sendable.{slots_items}
 use Rattle.nav_laws.specs.SlotParts.{part, parts_at, slots_parts}
 use Rattle.nav_laws.proofs.SlotFacts.{IsSentGal, IsSentGps}
 use Rattle.nav_laws.proofs.Slots.{IsSent}
-use Rattle.nav_laws.proofs.Heard.{Brings, InOrder, Page, PageGives, PageLaws, PagesInOrder, Sends, Sub, SubGives, brought_is_heard, even_item, heard_is_brought, odd_item, sub_item}
+use Rattle.nav_laws.proofs.Heard.{Yields, InOrder, Page, PageGives, PageLaws, PagesInOrder, Sends, Sub, SubGives, yielded_is_heard, even_item, heard_is_yielded, odd_item, sub_item}
 
 -- ---- what is sent in a slot
 
@@ -100,7 +100,7 @@ slots_pages slot (x ∷ xs) = pages_at (slot_stamp slot) x ++ slots_pages (slot 
 -- ---- what the laws of readers say
 
 pub record ReadLaws : Type 0 where
-  pub sub : (body : SubframeOut) (count : ℕ) (sat : Satellite) (stamp : ℕ) → HasDigits body → count < 100800 → IsWritable body
+  pub sub : (body : SubframeOut) (count : ℕ) (sat : Satellite) (stamp : ℕ) → HasBits body → count < 100800 → IsWritable body
       → subframe_of (subframe_bytes body count) sat stamp ≡ heard sat stamp (read_again body count)
   pub sub_bytes : (body : SubframeOut) (count : ℕ) → AreBytes 38 (subframe_bytes body count)
   pub word1 : (w : GalWord1) (sat : Satellite) (stamp : ℕ) → IsGalWord1 w → reading_of (word1_bytes w) sat stamp ≡ Ok (one_part sat stamp (OfWord1 w))
@@ -349,17 +349,17 @@ slots_pages_order slot (x ∷ xs) =
     pages_append (slot_stamp slot) (slot_stamp (slot + 1)) (pages_at (slot_stamp slot) x) (slots_pages (slot + 1) xs)
     (pages_order_at (slot_stamp slot) (slot_stamp (slot + 1)) x (omega arith)) (slots_pages_order (slot + 1) xs)
 
--- ---- what they bring
+-- ---- what they yield
 
 heard_same : (a b : Part) → Heard a ≡ Heard b → a ≡ b
 heard_same a b e = cc
 
--- a subframe or a page that brings one part brings no other
-sub_brings : (b : Sub) (q p : Part) → of_subframe (subframe_of (subframe_bytes b.body b.count) b.sat b.stamp) ≡ Heard q → (q ≡ p → SubGives b p) × (SubGives b p → q ≡ p)
-sub_brings b q p fact = (λ is. fact ∙ ap Heard is, λ gives. heard_same q p (sym fact ∙ gives))
+-- a subframe or a page that yields one part yields no other
+sub_yields : (b : Sub) (q p : Part) → of_subframe (subframe_of (subframe_bytes b.body b.count) b.sat b.stamp) ≡ Heard q → (q ≡ p → SubGives b p) × (SubGives b p → q ≡ p)
+sub_yields b q p fact = (λ is. fact ∙ ap Heard is, λ gives. heard_same q p (sym fact ∙ gives))
 
-page_brings : (g : Page) (q p : Part) → of_word (reading_of g.word g.sat (g.stamp + 1)) ≡ Heard q ∷ [] → (q ≡ p → PageGives g p) × (PageGives g p → q ≡ p)
-page_brings g q p fact = (
+page_yields : (g : Page) (q p : Part) → of_word (reading_of g.word g.sat (g.stamp + 1)) ≡ Heard q ∷ [] → (q ≡ p → PageGives g p) × (PageGives g p → q ≡ p)
+page_yields g q p fact = (
   λ is. subst (λ (l : List Event). Contains l (Heard p)) (sym fact) (contains_from_In (Heard q ∷ []) (Heard p) (inl (ap Heard is))),
   λ gives. elim (In-from_contains (Heard q ∷ []) (Heard p) (subst (λ (l : List Event). Contains l (Heard p)) fact gives)) [
     | inl e ↦ heard_same q p e
@@ -367,9 +367,9 @@ page_brings g q p fact = (
   ],
 )
 
-page_brings_two : (g : Page) (q t p : Part) → of_word (reading_of g.word g.sat (g.stamp + 1)) ≡ Heard q ∷ Heard t ∷ []
+page_yields_two : (g : Page) (q t p : Part) → of_word (reading_of g.word g.sat (g.stamp + 1)) ≡ Heard q ∷ Heard t ∷ []
     → ((q ≡ p) ⊎ (t ≡ p) → PageGives g p) × (PageGives g p → (q ≡ p) ⊎ (t ≡ p))
-page_brings_two g q t p fact = (
+page_yields_two g q t p fact = (
   λ is. subst (λ (l : List Event). Contains l (Heard p)) (sym fact) (contains_from_In (Heard q ∷ Heard t ∷ []) (Heard p) (elim is [
     | inl e ↦ inl (ap Heard e)
     | inr e ↦ inr (inl (ap Heard e))
@@ -380,11 +380,11 @@ page_brings_two g q t p fact = (
   ],
 )
 
--- the count of subframe 1 says when it is sent
-start_is : (r : ℕ) (e : GpsEph) → IsSentGps r e → start_second (count_of e 1) ≡ gps_sending e
+-- the TOW count of subframe 1 gives its transmission time
+start_is : (r : ℕ) (e : GpsEph) → IsSentGps r e → start_second (count_of e 1) ≡ gps_transmission e
 start_is r e h = by (nat_eq (count_of e 1) 0) refl
   where
-    by : (t : Bool) → nat_eq (count_of e 1) 0 ≡ t → (if t then 604794 else 6 * count_of e 1 - 6) ≡ gps_sending e
+    by : (t : Bool) → nat_eq (count_of e 1) 0 ≡ t → (if t then 604794 else 6 * count_of e 1 - 6) ≡ gps_transmission e
     by true is = absurd (let zero_is = eqb-true (count_of e 1) 0 is in omega (arith, zero_is, h.item.ranges.a.toe))
     by false is = omega (arith, h.item.ranges.a.toe)
 
@@ -393,7 +393,7 @@ count_low e k = omega arith
 
 clock_fact : (laws : ReadLaws) (r s : ℕ) (e : GpsEph) → IsSentGps r e
     → of_subframe (subframe_of (subframe_bytes (Clock e.clock e.side (gps_week_number e)) (count_of e 1)) e.sat s)
-    ≡ Heard (part s e.sat (OfClock e.clock e.side (Sent (gps_week_number e) (gps_sending e))))
+    ≡ Heard (part s e.sat (OfClock e.clock e.side (Sent (gps_week_number e) (gps_transmission e))))
 clock_fact laws r s e h =
     ap of_subframe (laws.sub (Clock e.clock e.side (gps_week_number e)) (count_of e 1) e.sat s (h.item.ranges.clock, h.item.ranges.side, omega arith) (count_low e 1) tt)
     ∙ ap (λ u. Heard (part s e.sat (OfClock e.clock e.side (Sent (gps_week_number e) u)))) (start_is r e h)
@@ -437,30 +437,30 @@ fact5 : (laws : ReadLaws) (r s : ℕ) (e : GalEph) → IsSentGal r e
     ∷ Heard (part (s + 9) e.sat (OfGalIon no_ionosphere (galileo_week_number e) (galileo_second e))) ∷ []
 fact5 laws r s e h = let at : s + 8 + 1 ≡ s + 9 = omega arith in ap (λ t. of_word (reading_of (word5_bytes e.health no_ionosphere (galileo_week_number e) (galileo_second e)) e.sat t)) at ∙ ap of_word (laws.word5 e.health no_ionosphere (galileo_week_number e) (galileo_second e) e.sat (s + 9) h.item.ranges.health no_ion (week_low e) (second_low r e h))
 
--- the parts of a slot are those that its subframes and pages bring
-parts_brought : (laws : ReadLaws) (r s : ℕ) (x : NavItem) (p : Part) → IsSent r x → In (parts_at s x) p → Brings (subs_at s x) (pages_at s x) p
-parts_brought laws r s (Gps e) p h (inl is) = inl (clock_sub s e, inl refl, (sub_brings (clock_sub s e) _ p (clock_fact laws r s e h)).0 is)
-parts_brought laws r s (Gps e) p h (inr (inl is)) = inl (a_sub s e, inr (inl refl), (sub_brings (a_sub s e) _ p (a_fact laws r s e h)).0 is)
-parts_brought laws r s (Gps e) p h (inr (inr (inl is))) = inl (b_sub s e, inr (inr (inl refl)), (sub_brings (b_sub s e) _ p (b_fact laws r s e h)).0 is)
-parts_brought laws r s (Gps e) p h (inr (inr (inr is))) = absurd is
-parts_brought laws r s (Gal e) p h (inl is) = inr (page1 s e, inl refl, (page_brings (page1 s e) _ p (fact1 laws r s e h)).0 is)
-parts_brought laws r s (Gal e) p h (inr (inl is)) = inr (page2 s e, inr (inl refl), (page_brings (page2 s e) _ p (fact2 laws r s e h)).0 is)
-parts_brought laws r s (Gal e) p h (inr (inr (inl is))) = inr (page3 s e, inr (inr (inl refl)), (page_brings (page3 s e) _ p (fact3 laws r s e h)).0 is)
-parts_brought laws r s (Gal e) p h (inr (inr (inr (inl is)))) = inr (page4 s e, inr (inr (inr (inl refl))), (page_brings (page4 s e) _ p (fact4 laws r s e h)).0 is)
-parts_brought laws r s (Gal e) p h (inr (inr (inr (inr (inl is))))) =
-    inr (page5 s e, inr (inr (inr (inr (inl refl)))), (page_brings_two (page5 s e) _ _ p (fact5 laws r s e h)).0 (inl is))
-parts_brought laws r s (Gal e) p h (inr (inr (inr (inr (inr (inl is)))))) =
-    inr (page5 s e, inr (inr (inr (inr (inl refl)))), (page_brings_two (page5 s e) _ _ p (fact5 laws r s e h)).0 (inr is))
-parts_brought laws r s (Gal e) p h (inr (inr (inr (inr (inr (inr is)))))) = absurd is
-parts_brought laws r s (Ion e) p h is = absurd is
+-- the parts of a slot are those that its subframes and pages yield
+parts_yielded : (laws : ReadLaws) (r s : ℕ) (x : NavItem) (p : Part) → IsSent r x → In (parts_at s x) p → Yields (subs_at s x) (pages_at s x) p
+parts_yielded laws r s (Gps e) p h (inl is) = inl (clock_sub s e, inl refl, (sub_yields (clock_sub s e) _ p (clock_fact laws r s e h)).0 is)
+parts_yielded laws r s (Gps e) p h (inr (inl is)) = inl (a_sub s e, inr (inl refl), (sub_yields (a_sub s e) _ p (a_fact laws r s e h)).0 is)
+parts_yielded laws r s (Gps e) p h (inr (inr (inl is))) = inl (b_sub s e, inr (inr (inl refl)), (sub_yields (b_sub s e) _ p (b_fact laws r s e h)).0 is)
+parts_yielded laws r s (Gps e) p h (inr (inr (inr is))) = absurd is
+parts_yielded laws r s (Gal e) p h (inl is) = inr (page1 s e, inl refl, (page_yields (page1 s e) _ p (fact1 laws r s e h)).0 is)
+parts_yielded laws r s (Gal e) p h (inr (inl is)) = inr (page2 s e, inr (inl refl), (page_yields (page2 s e) _ p (fact2 laws r s e h)).0 is)
+parts_yielded laws r s (Gal e) p h (inr (inr (inl is))) = inr (page3 s e, inr (inr (inl refl)), (page_yields (page3 s e) _ p (fact3 laws r s e h)).0 is)
+parts_yielded laws r s (Gal e) p h (inr (inr (inr (inl is)))) = inr (page4 s e, inr (inr (inr (inl refl))), (page_yields (page4 s e) _ p (fact4 laws r s e h)).0 is)
+parts_yielded laws r s (Gal e) p h (inr (inr (inr (inr (inl is))))) =
+    inr (page5 s e, inr (inr (inr (inr (inl refl)))), (page_yields_two (page5 s e) _ _ p (fact5 laws r s e h)).0 (inl is))
+parts_yielded laws r s (Gal e) p h (inr (inr (inr (inr (inr (inl is)))))) =
+    inr (page5 s e, inr (inr (inr (inr (inl refl)))), (page_yields_two (page5 s e) _ _ p (fact5 laws r s e h)).0 (inr is))
+parts_yielded laws r s (Gal e) p h (inr (inr (inr (inr (inr (inr is)))))) = absurd is
+parts_yielded laws r s (Ion e) p h is = absurd is
 
 sub_back : (laws : ReadLaws) (r s : ℕ) (x : NavItem) (b : Sub) (p : Part) → IsSent r x → In (subs_at s x) b → SubGives b p → In (parts_at s x) p
 sub_back laws r s (Gps e) b p h (inl is) gives =
-    inl ((sub_brings (clock_sub s e) _ p (clock_fact laws r s e h)).1 (subst (λ (z : Sub). SubGives z p) (sym is) gives))
+    inl ((sub_yields (clock_sub s e) _ p (clock_fact laws r s e h)).1 (subst (λ (z : Sub). SubGives z p) (sym is) gives))
 sub_back laws r s (Gps e) b p h (inr (inl is)) gives =
-    inr (inl ((sub_brings (a_sub s e) _ p (a_fact laws r s e h)).1 (subst (λ (z : Sub). SubGives z p) (sym is) gives)))
+    inr (inl ((sub_yields (a_sub s e) _ p (a_fact laws r s e h)).1 (subst (λ (z : Sub). SubGives z p) (sym is) gives)))
 sub_back laws r s (Gps e) b p h (inr (inr (inl is))) gives =
-    inr (inr (inl ((sub_brings (b_sub s e) _ p (b_fact laws r s e h)).1 (subst (λ (z : Sub). SubGives z p) (sym is) gives))))
+    inr (inr (inl ((sub_yields (b_sub s e) _ p (b_fact laws r s e h)).1 (subst (λ (z : Sub). SubGives z p) (sym is) gives))))
 sub_back laws r s (Gps e) b p h (inr (inr (inr is))) gives = absurd is
 sub_back laws r s (Gal e) b p h is gives = absurd is
 sub_back laws r s (Ion e) b p h is gives = absurd is
@@ -468,15 +468,15 @@ sub_back laws r s (Ion e) b p h is gives = absurd is
 page_back : (laws : ReadLaws) (r s : ℕ) (x : NavItem) (g : Page) (p : Part) → IsSent r x → In (pages_at s x) g → PageGives g p → In (parts_at s x) p
 page_back laws r s (Gps e) g p h is gives = absurd is
 page_back laws r s (Gal e) g p h (inl is) gives =
-    inl ((page_brings (page1 s e) _ p (fact1 laws r s e h)).1 (subst (λ (z : Page). PageGives z p) (sym is) gives))
+    inl ((page_yields (page1 s e) _ p (fact1 laws r s e h)).1 (subst (λ (z : Page). PageGives z p) (sym is) gives))
 page_back laws r s (Gal e) g p h (inr (inl is)) gives =
-    inr (inl ((page_brings (page2 s e) _ p (fact2 laws r s e h)).1 (subst (λ (z : Page). PageGives z p) (sym is) gives)))
+    inr (inl ((page_yields (page2 s e) _ p (fact2 laws r s e h)).1 (subst (λ (z : Page). PageGives z p) (sym is) gives)))
 page_back laws r s (Gal e) g p h (inr (inr (inl is))) gives =
-    inr (inr (inl ((page_brings (page3 s e) _ p (fact3 laws r s e h)).1 (subst (λ (z : Page). PageGives z p) (sym is) gives))))
+    inr (inr (inl ((page_yields (page3 s e) _ p (fact3 laws r s e h)).1 (subst (λ (z : Page). PageGives z p) (sym is) gives))))
 page_back laws r s (Gal e) g p h (inr (inr (inr (inl is)))) gives =
-    inr (inr (inr (inl ((page_brings (page4 s e) _ p (fact4 laws r s e h)).1 (subst (λ (z : Page). PageGives z p) (sym is) gives)))))
+    inr (inr (inr (inl ((page_yields (page4 s e) _ p (fact4 laws r s e h)).1 (subst (λ (z : Page). PageGives z p) (sym is) gives)))))
 page_back laws r s (Gal e) g p h (inr (inr (inr (inr (inl is))))) gives =
-    elim ((page_brings_two (page5 s e) _ _ p (fact5 laws r s e h)).1 (subst (λ (z : Page). PageGives z p) (sym is) gives)) [
+    elim ((page_yields_two (page5 s e) _ _ p (fact5 laws r s e h)).1 (subst (λ (z : Page). PageGives z p) (sym is) gives)) [
       | inl a ↦ inr (inr (inr (inr (inl a))))
       | inr a ↦ inr (inr (inr (inr (inr (inl a)))))
     ]
@@ -488,16 +488,16 @@ abbrev pub InSlots : ℕ → ℕ → List NavItem → Type 0
 InSlots r slot [] = Unit {0}
 InSlots r slot (x ∷ xs) = IsSent r x × (slot < 198842) × InSlots r (slot + 1) xs
 
-slots_brought : (laws : ReadLaws) (r slot : ℕ) (xs : List NavItem) (p : Part) → InSlots r slot xs → In (slots_parts slot xs) p → Brings (slots_subs slot xs) (slots_pages slot xs) p
-slots_brought laws r slot [] p h i = absurd i
-slots_brought laws r slot (x ∷ xs) p h i =
+slots_yielded : (laws : ReadLaws) (r slot : ℕ) (xs : List NavItem) (p : Part) → InSlots r slot xs → In (slots_parts slot xs) p → Yields (slots_subs slot xs) (slots_pages slot xs) p
+slots_yielded laws r slot [] p h i = absurd i
+slots_yielded laws r slot (x ∷ xs) p h i =
     let s = slot_stamp slot in
     elim (In-append_cases (parts_at s x) (slots_parts (slot + 1) xs) p i) [
-      | inl j ↦ elim (parts_brought laws r s x p h.0 j) [
+      | inl j ↦ elim (parts_yielded laws r s x p h.0 j) [
         | inl b ↦ inl (b.0, In-append_left (subs_at s x) (slots_subs (slot + 1) xs) b.0 b.1, b.2)
         | inr g ↦ inr (g.0, In-append_left (pages_at s x) (slots_pages (slot + 1) xs) g.0 g.1, g.2)
       ]
-      | inr j ↦ elim (slots_brought laws r (slot + 1) xs p h.2 j) [
+      | inr j ↦ elim (slots_yielded laws r (slot + 1) xs p h.2 j) [
         | inl b ↦ inl (b.0, In-append_right (subs_at s x) (slots_subs (slot + 1) xs) b.0 b.1, b.2)
         | inr g ↦ inr (g.0, In-append_right (pages_at s x) (slots_pages (slot + 1) xs) g.0 g.1, g.2)
       ]
@@ -521,14 +521,14 @@ page_in_slots laws r slot (x ∷ xs) g p h i gives =
       | inr j ↦ In-append_right (parts_at s x) (slots_parts (slot + 1) xs) p (page_in_slots laws r (slot + 1) xs g p h.2 j gives)
     ]
 
--- what is heard of what is sent is the parts of the slots
+-- the parts received from a transmission are those of the slots
 pub slots_are_heard : (laws : ReadLaws) (pages : PageLaws) (r w slot : ℕ) (xs : List NavItem) (p : Part) → InSlots r slot xs
     → IsPartHeard w (slots_items slot xs) p ↔ In (slots_parts slot xs) p
 slots_are_heard laws pages r w slot xs p h = (
-  λ heard. elim (heard_is_brought w (slot_stamp slot) (slots_items slot xs) (slots_subs slot xs) (slots_pages slot xs) p pages (slots_send laws slot xs) (slots_pages_order slot xs) heard) [
+  λ heard. elim (heard_is_yielded w (slot_stamp slot) (slots_items slot xs) (slots_subs slot xs) (slots_pages slot xs) p pages (slots_send laws slot xs) (slots_pages_order slot xs) heard) [
     | inl b ↦ sub_in_slots laws r slot xs b.0 p h b.1 b.2
     | inr g ↦ page_in_slots laws r slot xs g.0 p h g.1 g.2
   ],
-  λ i. brought_is_heard w (slot_stamp slot) (slots_items slot xs) (slots_subs slot xs) (slots_pages slot xs) p pages (slots_send laws slot xs) (slots_order slot xs)
-      (slots_brought laws r slot xs p h i),
+  λ i. yielded_is_heard w (slot_stamp slot) (slots_items slot xs) (slots_subs slot xs) (slots_pages slot xs) p pages (slots_send laws slot xs) (slots_order slot xs)
+      (slots_yielded laws r slot xs p h i),
 )

@@ -7,7 +7,7 @@ use Rattle.capture_lines.specs.Reading.{item_of}
 use Rattle.capture_lines.specs.Spellings.{IsEnded, IsPrinted, IsSpelling, StandsFor}
 use Rattle.capture_lines.specs.declared.item.LineItem.{LineItem}
 use Rattle.capture_lines.specs.declared.item.LineItem.TheVariants.{Pass, Lnav, Half, Frame, Malformed}
-use Rattle.capture_log.specs.Log.{items_of}
+use Rattle.capture_log.specs.Log.{line_items_of}
 use Rattle.page_send.specs.Slots.{text_of_item, text_of_items}
 use Rattle.page_send.specs.Sendable.{sent_lines, sent_text}
 use Rattle.nav_eph.specs.declared.items.NavItem.{NavItem}
@@ -55,7 +55,7 @@ stands (Half t sat signal bits) line h = h
 stands (Frame t bytes) line h = h
 stands Malformed line h = absurd h
 
-pub lines_are : LineLaws → (xs : List LineItem) → AreSpelt xs → items_of (lines_by false (text_of_items xs)) ≡ xs
+pub lines_are : LineLaws → (xs : List LineItem) → AreSpelt xs → line_items_of (lines_by false (text_of_items xs)) ≡ xs
 lines_are laws [] h = refl
 lines_are laws (x ∷ xs) h =
     let line = h.0.0 in
@@ -63,15 +63,15 @@ lines_are laws (x ∷ xs) h =
     let whole : IsOneLine line = record { none = no_end line (laws.printed x line spelling); last = no_cr line (laws.printed x line spelling); short = laws.short x line spelling } in
     let text : text_of_item x ++ text_of_items xs ≡ line ++ 10 ∷ text_of_items xs =
     ap (λ t. t ++ text_of_items xs) h.0.1 ∙ append_assoc line (10 ∷ []) (text_of_items xs) in
-    ap (λ t. items_of (lines_by false t)) text
-    ∙ ap items_of (laws.given false line (text_of_items xs) whole)
-    ∙ ap (λ item. item ∷ items_of (lines_by false (text_of_items xs))) (sym (laws.only line x (stands x line spelling)))
+    ap (λ t. line_items_of (lines_by false t)) text
+    ∙ ap line_items_of (laws.given false line (text_of_items xs) whole)
+    ∙ ap (λ item. item ∷ line_items_of (lines_by false (text_of_items xs))) (sym (laws.only line x (stands x line spelling)))
     ∙ ap (λ rest. x ∷ rest) (lines_are laws xs h.1)
 
 pub sent_lines_are : LineLaws → (r : ℕ) (items : List NavItem) → AreSpelt (sent_lines r items)
-    → items_of (drop 1 (lines_by false (sent_text r items))) ≡ sent_lines r items
+    → line_items_of (drop 1 (lines_by false (sent_text r items))) ≡ sent_lines r items
 unfolding sent_text
 sent_lines_are laws r items h =
     let whole : IsOneLine (codes "NAVCAP 1") = record { none = refl; last = refl; short = omega arith } in
-    ap (λ l. items_of (drop 1 l)) (laws.given false (codes "NAVCAP 1") (text_of_items (sent_lines r items)) whole)
+    ap (λ l. line_items_of (drop 1 l)) (laws.given false (codes "NAVCAP 1") (text_of_items (sent_lines r items)) whole)
     ∙ lines_are laws (sent_lines r items) h

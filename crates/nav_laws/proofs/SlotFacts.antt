@@ -1,4 +1,4 @@
--- What is known of the parts of one slot by themselves: their periods, and what these come to.
+-- What is known of the parts of one slot alone: their periods, and the verdicts of these.
 use Rattle.std.proofs.Common.{◌≡◌, ℕ, ◌+◌, ◌*◌, ◌%◌, ◌<◌, ◌≤◌, ◌⊎◌, inl, inr, pos, ◌-ℤ◌, Bool, if◌then◌else◌, List, [], ◌∷◌, Option, None, Some, Contains, refl, sym, ap, subst, ◌∙◌, arith}
 use Rattle.std.proofs.lemmas.Bool.{cases_lt}
 use Rattle.std.proofs.lemmas.Int.{ints}
@@ -25,14 +25,14 @@ use Rattle.periods.specs.declared.key.Key.TheVariants.{Gps, Gal, GalIon}
 use Rattle.periods.specs.declared.key.Place.{Place}
 use Rattle.periods.specs.declared.closed.Finding.TheVariants.{Complete}
 use Rattle.periods.specs.Values.{IsBelow, IsEarlier, IsLater, IsFirstBy, IsOnly}
-use Rattle.periods.specs.declared.key.Sending.{Sending}
-use Rattle.periods.specs.Parts.{Kind, Clock, OrbitA, OrbitB, Word1, Word2, Word3, Word4, Side, FitFlag, SendingTag, IonSending, HealthOf, Value, HasValue, key_of, side_numbers, fit_numbers, tag_numbers, health_numbers, sending_numbers}
+use Rattle.periods.specs.declared.key.Transmission.{Transmission}
+use Rattle.periods.specs.Parts.{Kind, Clock, OrbitA, OrbitB, Word1, Word2, Word3, Word4, Side, FitFlag, TransmissionTag, IonTransmission, HealthOf, Value, HasValue, key_of, side_numbers, fit_numbers, tag_numbers, health_numbers, transmission_numbers}
 use Rattle.periods.specs.Readings.{reading}
 use Rattle.periods.specs.Periods.{IsHeardAt, IsMember, IsPeriod}
 use Rattle.periods.specs.PeriodsOf.{end_place}
 use Rattle.periods.specs.Verdicts.{IsFound}
 use Rattle.periods.proofs.Surface.{is-same_sat, none_some, some_is, said_of, reading_of}
-use Rattle.page_send.specs.Slots.{galileo_second, galileo_week_number, gps_second, gps_sending, gps_week_number, no_ionosphere}
+use Rattle.page_send.specs.Slots.{galileo_second, galileo_week_number, gps_second, gps_transmission, gps_week_number, no_ionosphere}
 use Rattle.page_send.specs.SentItems.{as_sent}
 use Rattle.nav_laws.specs.SlotParts.{galileo_parts, gps_parts, part}
 
@@ -43,7 +43,7 @@ irreflexive [] h = h
 irreflexive (x ∷ xs) (inl l) = omega arith
 irreflexive (x ∷ xs) (inr t) = irreflexive xs t.1
 
--- the moment nearest to one of a week, with a second of the week
+-- the GPS time with the second of week `toe` that is nearest to the transmission time
 near_is : (week sent toe : ℕ) → toe < 604800 → sent ≤ toe → toe < sent + 6 → moment_near (604800 * week + sent) toe ≡ 604800 * week + toe
 near_is week sent toe small low high =
     sym (moment_near-only (604800 * week + sent) toe (604800 * week + toe) (record { second_is = omega arith; from = omega arith; to = omega arith }))
@@ -58,11 +58,11 @@ sent_is week sent = let e : pos sent ≡ pos (604800 * week + sent) -ℤ pos (60
 
 -- ---- values
 
--- the part says no other value
+-- the part gives no other value
 abbrev Gives : (k : Kind) → Value k → Part → Type 0
 Gives k v p = (w : Value k) → reading k p ≡ Some w → w ≡ v
 
--- all parts of a list say one value
+-- all parts of a list give one value
 abbrev AllGive : (k : Kind) → Value k → List Part → Type 0
 AllGive k v [] = Unit {0}
 AllGive k v (p ∷ ps) = Gives k v p × AllGive k v ps
@@ -172,7 +172,7 @@ gps_found r s e h =
     let parts = gps_parts s e in
     let members = IsMember 7200 (GpsSet s e) (end_place (gps_key e) (s + 12)) in
     let within : (q : Part) → members q → In parts q = λ q m. In-from_contains parts q m.here in
-    let tag = Sent (gps_week_number e) (gps_sending e) in
+    let tag = Sent (gps_week_number e) (gps_transmission e) in
     let a = part s e.sat (OfClock e.clock e.side tag) in
     let b = part (s + 6) e.sat (OfOrbitA e.a e.fit) in
     let c = part (s + 12) e.sat (OfOrbitB e.b) in
@@ -180,8 +180,8 @@ gps_found r s e h =
     let mb : members b = gps_member r s e b h (inr (inl refl)) in
     let mc : members c = gps_member r s e c h (inr (inr (inl refl))) in
     let small : gps_second e < 604800 = omega (arith, h.item.ranges.a.toe) in
-    let low : gps_sending e ≤ gps_second e = omega arith in
-    let high : gps_second e < gps_sending e + 6 = omega arith in
+    let low : gps_transmission e ≤ gps_second e = omega arith in
+    let high : gps_second e < gps_transmission e + 6 = omega arith in
     let means : e.toe_week ≡ gps_week_to r (gps_week_number e) = sym (gps_number-means r e.toe_week h.near) in
     record {
       sat = refl;
@@ -195,11 +195,11 @@ gps_found r s e h =
       fit = first_is FitFlag (IsLater fit_numbers) (s + 6, e.fit) parts members b (irreflexive (fit_numbers (s + 6, e.fit))) within
           (none (s + 6, e.fit), (one (s + 6, e.fit), (none (s + 6, e.fit), tt))) mb refl;
       tag = (s, tag);
-      tag_is = inl (first_is SendingTag (IsEarlier tag_numbers) (s, tag) parts members a (irreflexive (tag_numbers (s, tag))) within
+      tag_is = inl (first_is TransmissionTag (IsEarlier tag_numbers) (s, tag) parts members a (irreflexive (tag_numbers (s, tag))) within
           (one (s, tag), (none (s, tag), (none (s, tag), tt))) ma refl);
-      toe_week = toe_week_is e.toe_week (gps_sending e) (gps_second e) small low high
-          ∙ ap (λ z. week_of (moment_near (604800 * z + gps_sending e) (gps_second e))) means;
-      sent = sent_is e.toe_week (gps_sending e) ∙ ap (λ z. At (pos (604800 * z + gps_sending e) -ℤ pos (604800 * e.toe_week))) means;
+      toe_week = toe_week_is e.toe_week (gps_transmission e) (gps_second e) small low high
+          ∙ ap (λ z. week_of (moment_near (604800 * z + gps_transmission e) (gps_second e))) means;
+      sent = sent_is e.toe_week (gps_transmission e) ∙ ap (λ z. At (pos (604800 * z + gps_transmission e) -ℤ pos (604800 * e.toe_week))) means;
     }
 
 -- ---- Galileo
@@ -245,7 +245,7 @@ GalSet s e = Contains (galileo_parts s e)
 keys_differ : (e : GalEph) → gal_key e ≡ ion_key → ⊥
 keys_differ e is = cc
 
--- what is heard of a key
+-- the parts received of a key
 abbrev IsGalHeard : ℕ → GalEph → Key → ℕ → Type 0
 IsGalHeard s e key t = ((gal_key e ≡ key) × (s + 1 ≤ t) × (t ≤ s + 7)) ⊎ ((ion_key ≡ key) × (t ≡ s + 9))
 
@@ -421,12 +421,12 @@ ion_found r s e h =
     let parts = galileo_parts s e in
     let members = IsMember 7200 (GalSet s e) (end_place ion_key (s + 9)) in
     let within : (q : Part) → members q → In parts q = λ q m. In-from_contains parts q m.here in
-    let v : Sending = record { stamp = s + 9; sat = e.sat; wn = galileo_week_number e; second = galileo_second e } in
+    let v : Transmission = record { stamp = s + 9; sat = e.sat; wn = galileo_week_number e; second = galileo_second e } in
     let means : e.toe_week ≡ galileo_week_to r (galileo_week_number e) = sym (galileo_number-means r e.toe_week h.near) in
     record {
       content = refl;
-      sending = v;
-      first = first_is IonSending (IsEarlier sending_numbers) v parts members (ion_part e s) (irreflexive (sending_numbers v)) within
+      transmission = v;
+      first = first_is IonTransmission (IsEarlier transmission_numbers) v parts members (ion_part e s) (irreflexive (transmission_numbers v)) within
           (none v, (none v, (none v, (none v, (none v, (one v, tt)))))) (ion_member r s e h) refl;
       sat = refl;
       moment = ap (λ z. 604800 * z + galileo_second e) means;

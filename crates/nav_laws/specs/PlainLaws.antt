@@ -17,7 +17,7 @@ pub parts_are_a_set : (s : PlainState) (at : Standing) (other : List Part) → P
 parts_are_a_set s at other h same = record {
   keeps = λ p i. h.keeps p ((same p).1 i);
   keeps_no_more = λ p i. (same p).0 (h.keeps_no_more p i);
-  at_mark = h.at_mark;
+  at_watermark = h.at_watermark;
   at_last = h.at_last;
   values = h.values;
   least = h.least;

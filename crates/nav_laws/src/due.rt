@@ -8,7 +8,7 @@ ghost use Rattle.nav_laws.specs.Plain.{is_after, due};
 use nav_eph::Part;
 use periods::{Place, comes_before, is_quiet, place_of_part};
 
-// The place is behind the last one given.
+// Whether the place comes after the last one given.
 fn is_behind(last: &Option<Place>, place: &Place) -> bool
     ensures { result ≡ is_after last.now place.now }
 {
@@ -18,7 +18,7 @@ fn is_behind(last: &Option<Place>, place: &Place) -> bool
     }
 }
 
-// No place was found yet, or this one comes before.
+// Whether no place was found yet, or this one comes before it.
 fn is_sooner(best: &Option<Place>, place: &Place) -> bool
     ensures { result ≡ is_better is_before best.now place.now }
 {
@@ -28,29 +28,29 @@ fn is_sooner(best: &Option<Place>, place: &Place) -> bool
     }
 }
 
-// The place is that of a period that is closed at the mark and was not given.
-fn is_due(parts: &[Part], window: u32, mark: u64, last: &Option<Place>, place: &Place) -> bool
-    ensures { result ≡ due parts.now window mark last.now place.now }
+// Whether the place is that of a period that is closed at the watermark and was not given.
+fn is_due(parts: &[Part], window: u32, watermark: u64, last: &Option<Place>, place: &Place) -> bool
+    ensures { result ≡ due parts.now window watermark last.now place.now }
 {
-    place.end as u64 + (window as u64) < mark
+    place.end as u64 + (window as u64) < watermark
         && (is_behind(last, place) && is_quiet(parts, window, &place.key, place.end))
 }
 
-// The first due place so far, and one more.
+// The first due place so far, after one more place was looked at.
 fn place_with(
     best: Option<Place>,
     place: Option<Place>,
     parts: &[Part],
     window: u32,
-    mark: u64,
+    watermark: u64,
     last: &Option<Place>,
 ) -> Option<Place>
-    ensures { result ≡ best_with (due parts.now window mark last.now) is_before best place }
+    ensures { result ≡ best_with (due parts.now window watermark last.now) is_before best place }
 {
     match place {
         None => best,
         Some(q) => {
-            if is_sooner(&best, &q) && is_due(parts, window, mark, last, &q) {
+            if is_sooner(&best, &q) && is_due(parts, window, watermark, last, &q) {
                 Some(q)
             } else {
                 best
@@ -63,15 +63,15 @@ fn place_with(
 pub(crate) fn first_due(
     parts: &[Part],
     window: u32,
-    mark: u64,
+    watermark: u64,
     last: &Option<Place>,
 ) -> Option<Place>
     ensures { result
-        ≡ best_among place_at (due parts.now window mark last.now) is_before parts.now None }
+        ≡ best_among place_at (due parts.now window watermark last.now) is_before parts.now None }
 {
     let mut best: Option<Place> = None;
     for part in parts {
-        best = place_with(best, place_of_part(part), parts, window, mark, last);
+        best = place_with(best, place_of_part(part), parts, window, watermark, last);
     }
     best
 }

@@ -1,4 +1,4 @@
-//! A law of what is far from a mark: the function does nothing, and its contract is the law.
+//! A law of what lies far before a watermark: the contract of an empty function.
 
 ghost use Rattle.std.specs.Prelude.{◌≡◌, ◌+◌, ◌*◌, ◌<◌, ◌≤◌, ◌++◌};
 ghost use Rattle.std.specs.Prelude.{ℕ, List, Option, All, Contains};
@@ -7,12 +7,12 @@ ghost use Rattle.periods.specs.declared.key.Place.{Place};
 ghost use Rattle.periods.specs.Periods.{IsPeriod};
 ghost use Rattle.slot_assembly.specs.Standing.{IsAfter, NoneDue};
 
-/// Where no period is due at a mark, and later parts come from the mark on, what was heard two
-/// windows before the mark is farther than the window from each end to come.
+/// Where no period is due at a watermark and later parts have stamps from it on, a stamp more than two
+/// windows before the watermark is more than a window before the end of each period not yet given.
 pub fn old_is_far()
-    ensures { (window mark : ℕ) (parts later : List Part) (last : Option Place)
+    ensures { (window watermark : ℕ) (parts later : List Part) (last : Option Place)
         (place : Place) (stamp : ℕ)
-        → NoneDue window (Contains parts) mark last → All (λ p. mark ≤ p.stamp) later
+        → NoneDue window (Contains parts) watermark last → All (λ p. watermark ≤ p.stamp) later
         → IsPeriod window (Contains (parts ++ later)) place → IsAfter last place
-        → stamp + 2 * window < mark → stamp + window < place.end }
+        → stamp + 2 * window < watermark → stamp + window < place.end }
 {}

@@ -1,4 +1,4 @@
-//! The laws: each function does nothing, and its contract is the law.
+//! The laws: each is the contract of an empty function.
 
 ghost use Rattle.std.specs.Prelude.{◌≡◌, ◌∷◌, ◌↔◌, ℕ, List, None, Some, All, Contains, codes};
 ghost use Rattle.std.specs.Prelude.{false};
@@ -10,26 +10,26 @@ ghost use Rattle.capture_lines.specs.Heads.{head_of, plain_head};
 ghost use Rattle.periods.specs.PeriodLists.{items_in};
 ghost use Rattle.periods.specs.PeriodsOf.{periods_of};
 ghost use Rattle.capture_log.specs.Heard.{NoneLate, SameItems};
-ghost use Rattle.capture_log.specs.Log.{items_of, parts_of};
+ghost use Rattle.capture_log.specs.Log.{line_items_of, parts_of};
 ghost use Rattle.page_send.specs.Sendable.{sendable, sent_lines, sent_text};
 ghost use Rattle.page_send.specs.SentItems.{sent_items};
 ghost use Rattle.nav_laws.specs.SentCapture.{IsOfLines, IsStillHeard, sent_capture};
 ghost use Rattle.nav_laws.specs.SlotParts.{slots_parts};
 
-/// The items of the periods of the parts of all slots are those that come back.
+/// The items of the periods of the parts of all slots are those that come back of a transmitted list.
 pub fn parts_of_slots_come_back()
     ensures { (r : ℕ) (items : List NavItem) → All IsItem items
         → items_in (periods_of r 7200 (slots_parts 0 (sendable r 0 items))) ≡ sent_items r items }
 {}
 
-/// The text that is sent begins with a head that names no week and a window of 7,200 s, and behind
-/// it the lines stand for what is sent; of them exactly the parts of the slots are heard.
+/// The capture that transmits items begins with a head that names no week and a window of 7,200 s, its
+/// further lines are those of the slots, and exactly the parts of the slots are received from them.
 pub fn what_is_sent_is_heard()
     ensures head { (r : ℕ) (items : List NavItem) → lines_by false (sent_text r items)
         ≡ record { text = plain_head; long = false } ∷ sent_capture r items }
     ensures window { head_of plain_head ≡ Some (record { window = 7200; week = None }) }
     ensures items { (r : ℕ) (items : List NavItem) → All IsItem items
-        → items_of (sent_capture r items) ≡ sent_lines r items }
+        → line_items_of (sent_capture r items) ≡ sent_lines r items }
     ensures parts { (r : ℕ) (items : List NavItem) (part : Part) → All IsItem items
         → Contains (parts_of 7200 (sent_capture r items)) part
         ↔ Contains (slots_parts 0 (sendable r 0 items)) part }
@@ -48,17 +48,17 @@ pub fn what_is_sent_is_heard()
     inav_page::split_is_a_word();
     inav_page::halves_are_read_again();
     inav_page::parts_are_their_bits();
-    capture_log::lines_bring_what_is_heard();
+    capture_log::lines_yield_what_is_heard();
 }
 
-/// What is sent comes back: of a capture with a window of 7,200 s, whose further lines hear the
-/// parts that are heard of what is sent of a list of items, the items are each ephemeris that may
-/// be sent, with the second at which its slot sends it, but for one that repeats the last of its
-/// key in every field but that second; behind each of Galileo the ionosphere that its slot bears;
+/// What is transmitted comes back. Take a capture with a window of 7,200 s from whose further lines
+/// the same parts are received as from the transmission of a list of items. Its items are each
+/// ephemeris that may be transmitted, with the transmission time of its slot, unless it repeats the
+/// last one of its key in every field but that time; after each of Galileo the ionosphere of its slot;
 /// and no others.
 ///
-/// So it is of a capture of which each line with a stamp is a line of what is sent, late or not,
-/// where each part is still heard; and of one that has the same lines in another order and
+/// This holds for a capture whose lines with a stamp are lines of the transmission, late or not, as
+/// long as each part is still received; and for one that has the same lines in another order or
 /// repeated, where none is late.
 pub fn what_is_sent_comes_back()
     ensures itself { (r : ℕ) (items : List NavItem) → All IsItem items
@@ -71,14 +71,14 @@ pub fn what_is_sent_comes_back()
     ensures lost { (r : ℕ) (items : List NavItem) (lines : List Line) → All IsItem items
         → IsOfLines lines (sent_capture r items) → IsStillHeard (sent_capture r items) lines
         → items_in (periods_of r 7200 (parts_of 7200 lines)) ≡ sent_items r items }
-    ensures turned { (r : ℕ) (items : List NavItem) (lines : List Line) → All IsItem items
-        → SameItems (items_of lines) (items_of (sent_capture r items))
-        → NoneLate 7200 (items_of lines)
+    ensures reordered { (r : ℕ) (items : List NavItem) (lines : List Line) → All IsItem items
+        → SameItems (line_items_of lines) (line_items_of (sent_capture r items))
+        → NoneLate 7200 (line_items_of lines)
         → items_in (periods_of r 7200 (parts_of 7200 lines)) ≡ sent_items r items }
 {
-    periods::order_is_nothing();
+    periods::order_does_not_matter();
     capture_log::parts_of_lines_are_values();
-    capture_log::lines_bring_what_is_heard();
+    capture_log::lines_yield_what_is_heard();
     parts_of_slots_come_back();
     what_is_sent_is_heard();
 }

@@ -11,22 +11,22 @@ use slot_assembly::Assembly;
 use std::alloc::{AllocError, Global};
 use std::marker::Model;
 
-/// An assembly that keeps every part, and searches them all for what is closed: the definition's
-/// own program.
+/// An assembly that keeps every part, and searches them all for what is closed, as the definition
+/// says.
 ///
-/// A contract sees the week `reference` near which it listens, the `window` in seconds, the `parts`
-/// that it keeps, the greatest `mark` given, the `last` period given, and the greatest mark
-/// `none_at` at which there was none to give.
+/// A contract sees the reference week `reference`, the `window` in seconds, the `parts` that it keeps,
+/// the greatest `watermark` given, the `last` period given, and the greatest watermark `none_at` at
+/// which no period was due.
 #[derive(Drop)]
 pub struct PlainAssembly {
     parts: Vec<Part>,
     reference: RefWeek,
     window: u32,
-    mark: u64,
+    watermark: u64,
     last: Option<Place>,
     // no kept part has an earlier stamp
     least: u32,
-    // the greatest mark at which there was none to give
+    // the greatest watermark at which no period was due
     none_at: u64,
 }
 
@@ -39,7 +39,7 @@ impl Model for PlainAssembly {
       reference = s.reference;
       window = s.window;
       parts = s.parts.items;
-      mark = s.mark;
+      watermark = s.watermark;
       last = s.last;
       least = s.least;
       none_at = s.none_at;
@@ -50,7 +50,7 @@ impl PlainAssembly {
     ghost use Rattle.nav_laws.specs.Plain.{PlainStandsFor};
     ghost use Rattle.slot_assembly.specs.Standing.{nothing_yet};
 
-    /// An assembly of no parts, near the week `r`, with a window of 60 to 14,400 seconds.
+    /// An assembly without parts, for the reference week `r`, with a window of 60 to 14,400 seconds.
     pub fn new(alloc: Global, r: RefWeek, window: u32) -> PlainAssembly
         requires least { 60 ≤ window }
         requires most { window ≤ 14400 }
@@ -63,7 +63,7 @@ impl PlainAssembly {
             parts: Vec::new(alloc),
             reference: r,
             window,
-            mark: 0,
+            watermark: 0,
             last: None,
             least: u32::MAX,
             none_at: 0,
@@ -92,23 +92,23 @@ impl Assembly for PlainAssembly {
         Ok(())
     }
 
-    fn next_closed(&mut self, mark: u64) -> Result<Option<Closed>, AllocError> {
-        // There was none at this mark, and what came since does not end before it; or no kept part
+    fn next_closed(&mut self, watermark: u64) -> Result<Option<Closed>, AllocError> {
+        // No period was due at this watermark, and parts added since do not end before it; or no kept part
         // is old enough.
-        if mark <= self.none_at || mark <= self.least as u64 + self.window as u64 {
-            self.mark = mark;
-            self.none_at = mark;
+        if watermark <= self.none_at || watermark <= self.least as u64 + self.window as u64 {
+            self.watermark = watermark;
+            self.none_at = watermark;
             return Ok(None);
         }
-        match first_due(&self.parts, self.window, mark, &self.last) {
+        match first_due(&self.parts, self.window, watermark, &self.last) {
             None => {
-                self.mark = mark;
-                self.none_at = mark;
+                self.watermark = watermark;
+                self.none_at = watermark;
                 Ok(None)
             }
             Some(place) => {
                 let said = verdict_on(&self.parts, self.reference, self.window, &place);
-                self.mark = mark;
+                self.watermark = watermark;
                 self.last = Some(place);
                 Ok(Some(Closed {
                     end: place.end,

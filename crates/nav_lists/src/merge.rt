@@ -1,18 +1,18 @@
-//! Items that are merged while they come.
+//! The merged list of items, built item by item.
 
 ghost use Rattle.std.specs.Prelude.{◌≡◌, [], ◌∷◌, ◌++◌, IfSome, IfNone, OnOk, OnErr, length};
 ghost use Rattle.nav_lists.specs.Merging.{merged_of};
 
-use crate::ranked::{Ranked, is_new, sending, sent_at};
+use crate::ranked::{Ranked, is_new, sent_at, transmission};
 use nav_eph::{NavItem, SentSecond};
 use std::alloc::{AllocError, Global};
 use std::collections::BTreeMap;
 use std::marker::Model;
 
-/// The merged list of the items that were added.
+/// The merged list of the added items.
 #[derive(Drop)]
 pub struct Merge {
-    // Of the items that are alike the first one that came, with the least second of sending.
+    // By rank, the first added of alike items, with the earliest transmission time of them.
     held: BTreeMap<Ranked, SentSecond>,
 }
 
@@ -27,7 +27,7 @@ impl Model for Merge {
 }
 
 impl Merge {
-    /// Holds nothing.
+    /// A list without items.
     pub fn new(alloc: Global) -> Merge
         ensures { result ≡ [] }
     {
@@ -36,19 +36,19 @@ impl Merge {
         }
     }
 
-    /// Adds an item: it goes to its place in the order of rank, or, where one that is alike to it is
-    /// held, the one of the two that was sent first stays. It costs two searches in an ordered map.
+    /// Adds an item at its place in the order of rank. Where the list has an item that is alike to it,
+    /// the one of the two that was sent first stays. Costs two searches in an ordered map.
     ///
     /// # Errors
     ///
-    /// `AllocError` where no memory is to be had for the item; then what was held is held.
+    /// `AllocError` where memory runs out; the list is then unchanged.
     pub fn add(&mut self, item: &NavItem) -> Result<(), AllocError>
         ensures ok { OnOk result (self.new ≡ merged_of (self.old ++ item.now ∷ [])) }
         ensures err { OnErr result (self.new ≡ self.old) }
     {
         let _count = self.held.len();
         let key = Ranked { item: *item };
-        let sent = sending(item);
+        let sent = transmission(item);
         let known = self.held.get(&key).copied();
         if !is_new(&known, &sent) {
             return Ok(());
@@ -57,14 +57,14 @@ impl Merge {
         Ok(())
     }
 
-    /// How many items are held.
+    /// The number of items.
     pub fn len(&self) -> usize
         ensures { result ≡ length self.now }
     {
         self.held.len()
     }
 
-    /// Takes the first item of the list away; `None` where none is held.
+    /// Removes and returns the first item of the list; `None` where the list is empty.
     pub fn take_first(&mut self) -> Option<NavItem>
         ensures first { IfSome result (λ item. self.old ≡ item ∷ self.new) }
         ensures none { IfNone result ((self.old ≡ []) × (self.new ≡ [])) }

@@ -1,4 +1,4 @@
--- How many lines there are.
+-- The number of lines.
 use Rattle.std.proofs.Common.{◌≡◌, ℕ, zero, suc, ◌+◌, ◌-◌, ◌*◌, ◌/◌, ◌%◌, Bool, true, false, nat_eq, if◌then◌else◌, List, [], ◌∷◌, length, take, drop, reverse, min, refl, ap, ◌∙◌, eqb-true, arith}
 use Rattle.std.proofs.lemmas.Bool.{eqb-false}
 use Rattle.std.proofs.lemmas.List.{length-append, length-reverse, length-take, length-drop}
@@ -6,7 +6,7 @@ use Rattle.nav_eph.specs.declared.signal.Signal.TheVariants.{E1b, E5b}
 use Rattle.nav_vectors.specs.declared.sending.Sending.{Sending}
 use Rattle.nav_vectors.specs.declared.sending.Sending.TheVariants.{Subframe, Half}
 use Rattle.nav_vectors.specs.Lines.{subframes_at, halves_at, sent_at, sent_before}
-use Rattle.nav_vectors.specs.Capture.{turned_blocks, turned, lines_of}
+use Rattle.nav_vectors.specs.Capture.{reversed_blocks, reversed, lines_of}
 
 count_subframes : (stamp n : ℕ) → length (subframes_at stamp n) ≡ n
 unfolding subframes_at
@@ -29,7 +29,7 @@ count_at n stamp =
     length-append (if nat_eq (stamp % 6) 0 then subframes_at stamp n else []) (halves_at stamp n)
     ∙ omega (arith, count_some n stamp (nat_eq (stamp % 6) 0), count_halves stamp n)
 
--- one stamp more
+-- one more stamp
 step : (n stamp before at : ℕ) (b : Bool) → nat_eq (stamp % 6) 0 ≡ b → before ≡ n * ((stamp + 5) / 6) + 2 * (n * stamp) → at ≡ (if b then n else 0) + 2 * n
     → before + at ≡ n * ((suc stamp + 5) / 6) + 2 * (n * suc stamp)
 step n stamp before at true is e f =
@@ -48,21 +48,21 @@ count_before n (suc stamp) =
     length-append (sent_before n stamp) (sent_at n stamp)
     ∙ step n stamp (length (sent_before n stamp)) (length (sent_at n stamp)) (nat_eq (stamp % 6) 0) refl (count_before n stamp) (count_at n stamp)
 
-count_blocks : (xs : List Sending) (k : ℕ) → length (turned_blocks xs k) ≡ min (16 * k) (length xs)
-unfolding turned_blocks
+count_blocks : (xs : List Sending) (k : ℕ) → length (reversed_blocks xs k) ≡ min (16 * k) (length xs)
+unfolding reversed_blocks
 count_blocks xs zero = omega arith
 count_blocks xs (suc k) =
     let block : length (reverse (take 16 (drop (16 * k) xs))) ≡ min 16 (length xs - 16 * k) =
     length-reverse (take 16 (drop (16 * k) xs)) ∙ length-take 16 (drop (16 * k) xs) ∙ ap (min 16) (length-drop (16 * k) xs) in
-    length-append (turned_blocks xs k) (reverse (take 16 (drop (16 * k) xs))) ∙ omega (arith, count_blocks xs k, block)
+    length-append (reversed_blocks xs k) (reverse (take 16 (drop (16 * k) xs))) ∙ omega (arith, count_blocks xs k, block)
 
-count_turned : (xs : List Sending) → length (turned xs) ≡ length xs
-unfolding turned
-count_turned xs = count_blocks xs ((length xs + 15) / 16) ∙ omega arith
+count_reversed : (xs : List Sending) → length (reversed xs) ≡ length xs
+unfolding reversed
+count_reversed xs = count_blocks xs ((length xs + 15) / 16) ∙ omega arith
 
--- 600 subframes and 7,200 halves of each satellite in the hour, and 5 and 60 in its first 30 seconds
+-- 600 subframes and 7,200 page parts of each satellite in the hour, and 5 and 60 in its first 30 seconds
 pub count_lines : (n : ℕ) → length (lines_of n) ≡ 7865 * n
 unfolding lines_of
 count_lines n =
-    length-append (turned (sent_before n 3600)) (sent_before n 30)
-    ∙ omega (arith, count_turned (sent_before n 3600), count_before n 3600, count_before n 30)
+    length-append (reversed (sent_before n 3600)) (sent_before n 30)
+    ∙ omega (arith, count_reversed (sent_before n 3600), count_before n 3600, count_before n 30)

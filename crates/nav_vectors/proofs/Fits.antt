@@ -1,4 +1,4 @@
--- The values that are drawn are within the digits of their fields.
+-- The drawn values are within the widths of their fields.
 use Rattle.std.proofs.Common.{ℕ, ◌%◌, ◌^◌, ◌<◌, ◌≤◌, nat_eq, inl, lit<, arith}
 use Rattle.std.specs.Prelude.{◌/◌}
 use Rattle.std.proofs.lemmas.Bool.{cond_both}
@@ -8,7 +8,7 @@ use Rattle.nav_bits.proofs.Surface.{signed_of-fits}
 use Rattle.nav_eph.specs.Bodies.{IsGalHealth, IsGalIon, IsGpsIon, IsGpsSide}
 use Rattle.nav_eph.specs.Ranges.{IsGalWord1, IsGalWord2, IsGalWord3, IsGalWord4, IsGpsClock, IsGpsOrbitA, IsGpsOrbitB}
 use Rattle.nav_eph.specs.declared.ion.GpsIon.{GpsIon}
-use Rattle.lnav_subframe.specs.Bytes.{HasDigits}
+use Rattle.lnav_subframe.specs.Bytes.{HasBits}
 use Rattle.nav_vectors.specs.declared.values.GpsValues.{GpsValues}
 use Rattle.nav_vectors.specs.declared.values.GalValues.{GalValues}
 use Rattle.nav_vectors.specs.Draws.{draw, draw_signed, state_after}
@@ -23,7 +23,7 @@ draw_fits x k w most = draw-lt (state_after x k) w most
 signed_fits : (x k w : ℕ) → 1 ≤ w → w ≤ 64 → IsSigned w (draw_signed x k w)
 signed_fits x k w some most = signed_of-fits w (draw x k w) some (draw_fits x k w most)
 
--- what a satellite broadcasts is within its digits
+-- the values of a satellite are within the widths of their fields
 pub record AreGpsValues (v : GpsValues) : Type 0 where
   pub clock : IsGpsClock v.clock
   pub side : IsGpsSide v.side
@@ -164,13 +164,13 @@ pub gal_ion_of_fit : (seed n : ℕ) → IsGalIon (gal_ion_of seed n)
 unfolding gal_ion_of
 gal_ion_of_fit seed n = gal_ion_fit _
 
--- each subframe of the hour has its fields within their digits
-pub subframe_fits : (v : GpsValues) (ion : GpsIon) (r k : ℕ) → AreGpsValues v → IsGpsIon ion → HasDigits (subframe_of v ion r k)
+-- each subframe of the hour has its fields within their widths in bits
+pub subframe_fits : (v : GpsValues) (ion : GpsIon) (r k : ℕ) → AreGpsValues v → IsGpsIon ion → HasBits (subframe_of v ion r k)
 unfolding subframe_of
 subframe_fits v ion r k fits ion_fits =
-    cond_both (nat_eq (k % 5) 0) _ _ HasDigits (λ e. (fits.clock, fits.side, mod_below r 1024 (lit< tt)))
-    (λ e. cond_both (nat_eq (k % 5) 1) _ _ HasDigits (λ e. (fits.a, fits.fit))
-    (λ e. cond_both (nat_eq (k % 5) 2) _ _ HasDigits (λ e. fits.b)
-    (λ e. cond_both (nat_eq (k % 5) 3) _ _ HasDigits
-    (λ e. cond_both (nat_eq (k / 5 % 25) 17) _ _ HasDigits (λ e. ion_fits) (λ e. (lit< tt, lit< tt)))
+    cond_both (nat_eq (k % 5) 0) _ _ HasBits (λ e. (fits.clock, fits.side, mod_below r 1024 (lit< tt)))
+    (λ e. cond_both (nat_eq (k % 5) 1) _ _ HasBits (λ e. (fits.a, fits.fit))
+    (λ e. cond_both (nat_eq (k % 5) 2) _ _ HasBits (λ e. fits.b)
+    (λ e. cond_both (nat_eq (k % 5) 3) _ _ HasBits
+    (λ e. cond_both (nat_eq (k / 5 % 25) 17) _ _ HasBits (λ e. ion_fits) (λ e. (lit< tt, lit< tt)))
     (λ e. (lit< tt, lit< tt)))))

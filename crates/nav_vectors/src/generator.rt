@@ -6,12 +6,12 @@ ghost use Rattle.nav_vectors.specs.Draws.{next};
 
 use nav_bits::{S, U};
 
-// The numbers of the generator (Knuth's, of MMIX).
+// The multiplier and increment of the generator (Knuth's MMIX).
 const FACTOR: u64 = 6_364_136_223_846_793_005;
 
 const ADDEND: u64 = 1_442_695_040_888_963_407;
 
-// The state behind this one.
+// The next state.
 #[tactic(auto, unfolding(crate::specs::Draws::next))]
 fn next_state(state: u64) -> u64
     ensures { result ≡ next state }
@@ -19,7 +19,7 @@ fn next_state(state: u64) -> u64
     state.wrapping_mul(FACTOR).wrapping_add(ADDEND)
 }
 
-// Draws `W` bits.
+// Draws an unsigned number of `W` bits.
 pub(crate) fn draw<const W: u32>(state: &mut u64) -> U<W>
     requires some { 1 ≤ W }
     requires most { W ≤ 64 }
@@ -27,15 +27,15 @@ pub(crate) fn draw<const W: u32>(state: &mut u64) -> U<W>
     ensures after { state.new ≡ next state.old }
 {
     *state = next_state(*state);
-    U::from_digits(*state >> (64 - W))
+    U::from_bits(*state >> (64 - W))
 }
 
-// Draws `W` bits in two's complement.
+// Draws a number of `W` bits in two's complement.
 pub(crate) fn draw_signed<const W: u32>(state: &mut u64) -> S<W>
     requires some { 1 ≤ W }
     requires most { W ≤ 64 }
     ensures value { result ≡ signed_of W (next state.old / 2 ^ (64 - W)) }
     ensures after { state.new ≡ next state.old }
 {
-    S::from_digits(draw::<W>(state).value())
+    S::from_bits(draw::<W>(state).value())
 }

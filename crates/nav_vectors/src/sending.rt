@@ -1,40 +1,40 @@
-//! What is sent at each second, in the order of sending, and the order of the lines.
+//! The transmissions of each second, in order, and the order of the lines.
 
 ghost use Rattle.std.specs.Prelude.{◌≡◌, ◌+◌, ◌<◌, ◌++◌, IfOk, OnOk, length, reverse};
 ghost use Rattle.nav_vectors.specs.Lines.{halves_at, sent_at, sent_before, subframes_at};
-ghost use Rattle.nav_vectors.specs.Capture.{lines_of, turned};
+ghost use Rattle.nav_vectors.specs.Capture.{lines_of, reversed};
 
 use nav_eph::Signal;
 use std::alloc::{AllocError, Global};
 
-/// What one line of the capture says: that something was sent at a stamp, in seconds.
+/// A transmission, which one line of the capture records.
 #[derive(Clone, Copy)]
 pub enum Sending {
-    /// A subframe of the satellite of GPS with that number.
+    /// A subframe of the GPS satellite with that number.
     Subframe {
-        /// When.
+        /// The stamp, in seconds.
         stamp: u32,
-        /// By which.
+        /// The satellite number.
         number: u8,
     },
-    /// Half a page of the satellite of Galileo with that number.
+    /// A page part of the Galileo satellite with that number.
     Half {
-        /// When.
+        /// The stamp, in seconds.
         stamp: u32,
-        /// By which.
+        /// The satellite number.
         number: u8,
-        /// On which of its signals.
+        /// The signal.
         signal: Signal,
     },
 }
 
-// The lines of an hour, in seconds.
+// The seconds of the capture.
 const HOUR: u32 = 3600;
 
-// The lines before this stamp come once more.
+// The lines before this stamp are repeated.
 const REPEATED: u32 = 30;
 
-// So many lines are turned round together.
+// The number of lines in a reversed block.
 const BLOCK: usize = 16;
 
 // Appends the subframes of the satellites 1 to `sats`.
@@ -52,7 +52,7 @@ fn push_subframes(sent: &mut Vec<Sending>, sats: u8, stamp: u32) -> Result<(), A
     Ok(())
 }
 
-// Appends the halves of the satellites 1 to `sats`.
+// Appends the page parts of the satellites 1 to `sats`.
 #[tactic(auto, unfolding(crate::specs::Lines::halves_at))]
 fn push_halves(sent: &mut Vec<Sending>, sats: u8, stamp: u32) -> Result<(), AllocError>
     requires { sats < 255 }
@@ -76,7 +76,7 @@ fn push_halves(sent: &mut Vec<Sending>, sats: u8, stamp: u32) -> Result<(), Allo
     Ok(())
 }
 
-// Appends what is sent at a stamp.
+// Appends the transmissions at a stamp.
 #[tactic(auto, unfolding(crate::specs::Lines::sent_at))]
 fn push_sent(sent: &mut Vec<Sending>, sats: u8, stamp: u32) -> Result<(), AllocError>
     requires { sats < 255 }
@@ -88,7 +88,7 @@ fn push_sent(sent: &mut Vec<Sending>, sats: u8, stamp: u32) -> Result<(), AllocE
     push_halves(sent, sats, stamp)
 }
 
-// Appends what is sent before a stamp, in order.
+// Appends the transmissions before a stamp, in order.
 #[tactic(auto, unfolding(crate::specs::Lines::sent_before))]
 fn push_sent_before(sent: &mut Vec<Sending>, sats: u8, end: u32) -> Result<(), AllocError>
     requires { sats < 255 }
@@ -100,7 +100,7 @@ fn push_sent_before(sent: &mut Vec<Sending>, sats: u8, end: u32) -> Result<(), A
     Ok(())
 }
 
-// Appends a block in the reversed order.
+// Appends a block in reversed order.
 fn push_reversed(block: &[Sending], order: &mut Vec<Sending>) -> Result<(), AllocError>
     ensures { OnOk result (order.new.items ≡ order.old.items ++ reverse block.now) }
 {
@@ -110,9 +110,9 @@ fn push_reversed(block: &[Sending], order: &mut Vec<Sending>) -> Result<(), Allo
     Ok(())
 }
 
-// Appends the blocks, each turned round.
-fn push_turned(sent: &[Sending], order: &mut Vec<Sending>) -> Result<(), AllocError>
-    ensures { OnOk result (order.new.items ≡ order.old.items ++ turned sent.now) }
+// Appends the blocks, each reversed.
+fn push_reversed_blocks(sent: &[Sending], order: &mut Vec<Sending>) -> Result<(), AllocError>
+    ensures { OnOk result (order.new.items ≡ order.old.items ++ reversed sent.now) }
 {
     let count = (sent.len() + (BLOCK - 1)) / BLOCK;
     for block in 0..count {
@@ -123,7 +123,7 @@ fn push_turned(sent: &[Sending], order: &mut Vec<Sending>) -> Result<(), AllocEr
     Ok(())
 }
 
-// What the lines say, in their order.
+// The transmissions of the lines, in their order.
 #[tactic(auto, unfolding(crate::specs::Capture::lines_of))]
 pub(crate) fn order_of_lines(alloc: Global, sats: u8) -> Result<Vec<Sending>, AllocError>
     requires { sats < 255 }
@@ -132,7 +132,7 @@ pub(crate) fn order_of_lines(alloc: Global, sats: u8) -> Result<Vec<Sending>, Al
     let mut sent = Vec::new(alloc);
     push_sent_before(&mut sent, sats, HOUR)?;
     let mut order = Vec::new(alloc);
-    push_turned(sent.as_slice(), &mut order)?;
+    push_reversed_blocks(sent.as_slice(), &mut order)?;
     push_sent_before(&mut order, sats, REPEATED)?;
     Ok(order)
 }

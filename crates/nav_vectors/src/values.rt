@@ -1,4 +1,4 @@
-//! What the satellites broadcast: its values, drawn field by field.
+//! The broadcast values of the satellites, drawn field by field.
 
 ghost use Rattle.std.specs.Prelude.{◌≡◌};
 ghost use Rattle.nav_vectors.specs.Draws.{state_after};
@@ -11,37 +11,37 @@ use nav_eph::{
     GpsOrbitB, GpsSide, Sisa, Step16, Step60,
 };
 
-/// The ephemeris of a satellite of GPS.
+/// The ephemeris of a GPS satellite.
 #[derive(Clone, Copy)]
 pub struct GpsValues {
-    /// The clock, of subframe 1.
+    /// The clock parameters of subframe 1.
     pub clock: GpsClock,
-    /// What stands beside it there.
+    /// The SV status of subframe 1.
     pub side: GpsSide,
-    /// The first half of the orbit, of subframe 2.
+    /// The orbit parameters of subframe 2.
     pub a: GpsOrbitA,
-    /// Whether the curve fit interval is longer than 4 hours.
+    /// The fit interval flag: 1 where the curve fit interval is longer than 4 hours.
     pub fit: U<1>,
-    /// The second half of the orbit, of subframe 3.
+    /// The orbit parameters of subframe 3.
     pub b: GpsOrbitB,
 }
 
-/// The ephemeris of a satellite of Galileo.
+/// The ephemeris of a Galileo satellite.
 #[derive(Clone, Copy)]
 pub struct GalValues {
-    /// Of word 1.
+    /// Word type 1.
     pub w1: GalWord1,
-    /// Of word 2.
+    /// Word type 2.
     pub w2: GalWord2,
-    /// Of word 3.
+    /// Word type 3.
     pub w3: GalWord3,
-    /// Of word 4.
+    /// Word type 4.
     pub w4: GalWord4,
-    /// Group delays and health, of word 5.
+    /// BGD and health of word type 5.
     pub health: GalHealth,
 }
 
-// 7,200 seconds in steps of 16 s.
+// 7,200 s in units of 16 s.
 fn gps_time() -> Step16
     ensures { result ≡ 450 }
 {
@@ -51,7 +51,7 @@ fn gps_time() -> Step16
     steps
 }
 
-// 7,200 seconds in steps of 60 s.
+// 7,200 s in units of 60 s.
 fn gal_time() -> Step60
     ensures { result ≡ 120 }
 {
@@ -61,7 +61,7 @@ fn gal_time() -> Step60
     steps
 }
 
-// The accuracy index 107.
+// The SISA index 107.
 fn accuracy() -> Sisa
     ensures { result ≡ 107 }
 {
@@ -71,7 +71,7 @@ fn accuracy() -> Sisa
     sisa
 }
 
-// Draws the values of a satellite of GPS.
+// Draws the values of a GPS satellite.
 #[tactic(auto, unfolding(crate::specs::Values::gps_values, crate::specs::Draws::draw, crate::specs::Draws::state_after))]
 pub(crate) fn draw_gps(state: &mut u64) -> GpsValues
     ensures values { result ≡ gps_values state.old }
@@ -101,7 +101,7 @@ pub(crate) fn draw_gps(state: &mut u64) -> GpsValues
     let tgd = draw_signed(state);
     let l2p = draw(state);
     let fit = draw(state);
-    let iode = U::from_digits(iodc.value() % 256);
+    let iode = U::from_bits(iodc.value() % 256);
     let toe = gps_time();
     GpsValues {
         clock: GpsClock {
@@ -115,7 +115,7 @@ pub(crate) fn draw_gps(state: &mut u64) -> GpsValues
         side: GpsSide {
             l2_code,
             ura,
-            health: U::from_digits(0),
+            health: U::from_bits(0),
             l2p,
         },
         a: GpsOrbitA {
@@ -144,7 +144,7 @@ pub(crate) fn draw_gps(state: &mut u64) -> GpsValues
     }
 }
 
-// Draws the values of a satellite of Galileo.
+// Draws the values of a Galileo satellite.
 #[tactic(auto, unfolding(crate::specs::Values::gal_values, crate::specs::Draws::draw, crate::specs::Draws::state_after))]
 pub(crate) fn draw_gal(state: &mut u64) -> GalValues
     ensures values { result ≡ gal_values state.old }
@@ -209,10 +209,10 @@ pub(crate) fn draw_gal(state: &mut u64) -> GalValues
         health: GalHealth {
             bgd_a,
             bgd_b,
-            hs_e5b: U::from_digits(0),
-            hs_e1b: U::from_digits(0),
-            dvs_e5b: U::from_digits(0),
-            dvs_e1b: U::from_digits(0),
+            hs_e5b: U::from_bits(0),
+            hs_e1b: U::from_bits(0),
+            dvs_e5b: U::from_bits(0),
+            dvs_e1b: U::from_bits(0),
         },
     }
 }

@@ -1,4 +1,4 @@
 mod Digits
 pub mod Facts
-pub mod Fronts
+pub mod Prefixes
 pub mod Surface

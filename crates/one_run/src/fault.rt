@@ -3,22 +3,22 @@ use thiserror::Error;
 /// Why a run ended before it was done.
 #[derive(Clone, Copy, PartialEq, Eq, Debug, Error)]
 pub enum BridgeFault {
-    /// The input failed: its count of faults rose in the run, or stands at its last value.
+    /// The input failed: its count of faults rose in the run or is at its maximum.
     #[error("ReadFault")]
     ReadFault,
-    /// The output failed: its count of faults rose in the run, or stands at its last value.
+    /// The output failed: its count of faults rose in the run or is at its maximum.
     #[error("WriteFault")]
     WriteFault,
-    /// The report failed: its count of faults rose in the run, or stands at its last value.
+    /// The report failed: its count of faults rose in the run or is at its maximum.
     #[error("ReportFault")]
     ReportFault,
-    /// The input does not begin as its form asks.
+    /// The input does not begin as its format requires.
     #[error("NotThisForm")]
     NotThisForm,
-    /// More than 4,294,967,295 bytes of input were there.
+    /// The input has more than 4,294,967,295 bytes.
     #[error("TooLong")]
     TooLong,
-    /// Want of memory.
+    /// Memory could not be allocated.
     #[error("NoMemory")]
     NoMemory,
 }

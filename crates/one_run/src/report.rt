@@ -1,15 +1,15 @@
-//! The lines of a report, and those of counts.
+//! Lines of a report, and of counts.
 
 ghost use Rattle.std.specs.Prelude.{◌≡◌, ◌+◌, ◌≤◌, ◌++◌, length};
 ghost use Rattle.arrayvec.specs.ArrayVec.{array_vec_len};
-ghost use Rattle.one_run.specs.Reports.{count_line, report_front as front_of, report_line};
+ghost use Rattle.one_run.specs.Reports.{count_line, report_prefix as prefix_of, report_line};
 
 use crate::text::{Text, append, append_decimal};
 
-/// The front of a line of a report: what is spoken of, as `line` or `frame`, and its number.
-pub fn report_front(subject: &[u8], number: u64) -> Text
+/// The prefix of a line of a report: the subject, as `line` or `frame`, and its number.
+pub fn report_prefix(subject: &[u8], number: u64) -> Text
     requires { length subject.now ≤ 16 }
-    ensures items { result.items ≡ front_of subject.now number }
+    ensures items { result.items ≡ prefix_of subject.now number }
     ensures short { array_vec_len result ≤ 58 }
 {
     let mut text = Text::new();
@@ -20,20 +20,20 @@ pub fn report_front(subject: &[u8], number: u64) -> Text
     text
 }
 
-/// A line of a report: what is spoken of, as `line` or `frame`, its number, and the reason in a word.
+/// A line of a report: the subject, as `line` or `frame`, its number, and the reason in one word.
 #[tactic(auto, unfolding(crate::specs::Reports::report_line))]
 pub fn report_text(subject: &[u8], number: u64, reason: &[u8]) -> Text
     requires subject { length subject.now ≤ 16 }
     requires reason { length reason.now ≤ 32 }
     ensures { result.items ≡ report_line subject.now number reason.now }
 {
-    let mut text = report_front(subject, number);
+    let mut text = report_prefix(subject, number);
     append(&mut text, reason);
     append(&mut text, b"\n");
     text
 }
 
-/// Appends a line of a counts text: a name of at most 16 bytes, and the number.
+/// Appends a line of counts: a name of at most 16 bytes, and the number.
 #[tactic(auto, unfolding(crate::specs::Reports::count_line))]
 pub fn append_count(text: &mut Text, name: &[u8], number: u64)
     requires name { length name.now ≤ 16 }

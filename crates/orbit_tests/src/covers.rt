@@ -8,7 +8,7 @@ use std::test::Fail;
 fn add_ephemeris(cover: &mut Cover, toe: u64, fit: u64) -> Result<(), Fail> {
     let _inside: Option<(GpsEph, GalEph, IonEph, IonContent)> = None;
     let fit = U::new(fit).ok_or("a flag")?;
-    let item = ephemeris(toe, S::from_digits(0), fit, SentSecond::Unknown)?;
+    let item = ephemeris(toe, S::from_bits(0), fit, SentSecond::Unknown)?;
     cover.add(&item)?;
     Ok(())
 }

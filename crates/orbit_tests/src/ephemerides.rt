@@ -4,50 +4,50 @@ use gnss_week::{Moment, Second, Week};
 use nav_bits::{S, U};
 use nav_eph::{
     Body, GalEph, GalHealth, GalIon, GalWord2, GpsEph, GpsIon, GpsSide, IonContent, IonEph,
-    NavItem, Part, Sat, SentSecond, SentTag, Sisa, Step16, Step60, System, gal_sending_number,
-    gps_sending_number,
+    NavItem, Part, Sat, SentSecond, SentTag, Sisa, Step16, Step60, System, gal_transmission_number,
+    gps_transmission_number,
 };
 use std::test::Fail;
 
 fn side() -> GpsSide {
     GpsSide {
-        l2_code: U::from_digits(1),
-        ura: U::from_digits(2),
-        health: U::from_digits(63),
-        l2p: U::from_digits(1),
+        l2_code: U::from_bits(1),
+        ura: U::from_bits(2),
+        health: U::from_bits(63),
+        l2p: U::from_bits(1),
     }
 }
 
 fn health() -> GalHealth {
     GalHealth {
-        bgd_a: S::from_digits(0x3FF),
-        bgd_b: S::from_digits(1),
-        hs_e5b: U::from_digits(2),
-        hs_e1b: U::from_digits(3),
-        dvs_e5b: U::from_digits(1),
-        dvs_e1b: U::from_digits(0),
+        bgd_a: S::from_bits(0x3FF),
+        bgd_b: S::from_bits(1),
+        hs_e5b: U::from_bits(2),
+        hs_e1b: U::from_bits(3),
+        dvs_e5b: U::from_bits(1),
+        dvs_e1b: U::from_bits(0),
     }
 }
 
 fn gps_ionosphere() -> GpsIon {
     GpsIon {
-        alpha0: S::from_digits(0xFF),
-        alpha1: S::from_digits(0x7F),
-        alpha2: S::from_digits(0),
-        alpha3: S::from_digits(0),
-        beta0: S::from_digits(0),
-        beta1: S::from_digits(0),
-        beta2: S::from_digits(0),
-        beta3: S::from_digits(0x80),
+        alpha0: S::from_bits(0xFF),
+        alpha1: S::from_bits(0x7F),
+        alpha2: S::from_bits(0),
+        alpha3: S::from_bits(0),
+        beta0: S::from_bits(0),
+        beta1: S::from_bits(0),
+        beta2: S::from_bits(0),
+        beta3: S::from_bits(0x80),
     }
 }
 
 fn galileo_ionosphere() -> GalIon {
     GalIon {
-        ai0: U::from_digits(0x7FF),
-        ai1: S::from_digits(0x7FF),
-        ai2: S::from_digits(0),
-        regions: U::from_digits(16),
+        ai0: U::from_bits(0x7FF),
+        ai1: S::from_bits(0x7FF),
+        ai2: S::from_bits(0),
+        regions: U::from_bits(16),
     }
 }
 
@@ -67,7 +67,7 @@ fn small_values(rt: HostRuntime) -> Result<(), Fail> {
 
 #[test]
 fn numbers(rt: HostRuntime) -> Result<(), Fail> {
-    let wn = U::from_digits(247);
+    let wn = U::from_bits(247);
     let second = Second::new(604_799).ok_or("a second")?;
     let sent = SentTag::Sent { wn, second };
     let toe = SentTag::Toe { wn, second };
@@ -78,8 +78,8 @@ fn numbers(rt: HostRuntime) -> Result<(), Fail> {
         health().number_with(&sent) >> 33,
         IonContent::Gps(gps_ionosphere()).number(),
         IonContent::Gal(galileo_ionosphere()).number(),
-        gps_sending_number(second),
-        gal_sending_number(U::from_digits(0xFFF), second),
+        gps_transmission_number(second),
+        gal_transmission_number(U::from_bits(0xFFF), second),
     ];
     let wanted = [
         0b01_0010_111111_1,
@@ -98,7 +98,7 @@ fn numbers(rt: HostRuntime) -> Result<(), Fail> {
 // A clock of issue 7 and a health of Galileo, sent in the second 0 of a week number.
 fn clock_body(wn: U<12>) -> Option<Body> {
     let second = Second::new(0)?;
-    let clock = clock(U::from_digits(7), Step16::new(0)?);
+    let clock = clock(U::from_bits(7), Step16::new(0)?);
     Some(Body::GpsClock(clock, side(), SentTag::Sent { wn, second }))
 }
 
@@ -110,7 +110,7 @@ fn health_body(wn: U<12>) -> Option<Body> {
 #[test]
 fn parts(rt: HostRuntime) -> Result<(), Fail> {
     let sat = gps(5)?;
-    let (last, next) = (U::from_digits(1_023), U::from_digits(1_024));
+    let (last, next) = (U::from_bits(1_023), U::from_bits(1_024));
     let part = Part::new(60, sat, clock_body(last).ok_or("a clock")?);
     let long = Part::new(60, sat, clock_body(next).ok_or("a clock")?);
     let other = Part::new(60, sat, health_body(next).ok_or("a health")?);
@@ -121,11 +121,11 @@ fn parts(rt: HostRuntime) -> Result<(), Fail> {
 // The ephemeris of issue 7 of G05.
 fn ephemeris(sent: SentSecond) -> Result<Option<GpsEph>, Fail> {
     let zero = Step16::new(0).ok_or("steps")?;
-    let clock = clock(U::from_digits(7), zero);
-    let a = orbit_a(U::from_digits(7), S::from_digits(0), zero);
-    let b = orbit_b(U::from_digits(7));
+    let clock = clock(U::from_bits(7), zero);
+    let a = orbit_a(U::from_bits(7), S::from_bits(0), zero);
+    let b = orbit_b(U::from_bits(7));
     let week = Week::new(2_295).ok_or("a week")?;
-    let fit = U::from_digits(0);
+    let fit = U::from_bits(0);
     Ok(GpsEph::new(gps(5)?, clock, side(), a, fit, b, week, sent))
 }
 
@@ -140,7 +140,7 @@ fn items(rt: HostRuntime) -> Result<(), Fail> {
     let late = NavItem::Gps(ephemeris(SentSecond::At(907_199))?.ok_or("an ephemeris")?);
     let early = NavItem::Gps(ephemeris(SentSecond::At(-302_400))?.ok_or("an ephemeris")?);
     let eph = ephemeris(SentSecond::Unknown)?.ok_or("an ephemeris")?;
-    let b = orbit_b(U::from_digits(8));
+    let b = orbit_b(U::from_bits(8));
     late.ranges();
     let whole = late.is_whole() && !NavItem::Gps(GpsEph { b, ..eph }).is_whole();
     let alike = late.is_alike(&early) && !late.is_same(&early);
@@ -153,7 +153,7 @@ fn items(rt: HostRuntime) -> Result<(), Fail> {
 
 // The ephemeris of issue 63 of E05 with another second word.
 fn galileo_ephemeris(w2: GalWord2) -> Result<Option<GalEph>, Fail> {
-    let issue = U::from_digits(63);
+    let issue = U::from_bits(63);
     let zero = Step60::new(0).ok_or("steps")?;
     let sisa = Sisa::new(107).ok_or("an index")?;
     let (w1, w3, w4) = (word1(issue, zero), word3(issue, sisa), word4(issue, zero));
@@ -164,8 +164,8 @@ fn galileo_ephemeris(w2: GalWord2) -> Result<Option<GalEph>, Fail> {
 
 #[test]
 fn galileo(rt: HostRuntime) -> Result<(), Fail> {
-    let eph = galileo_ephemeris(word2(U::from_digits(63)))?.ok_or("an ephemeris")?;
-    let other = galileo_ephemeris(word2(U::from_digits(64)))?;
+    let eph = galileo_ephemeris(word2(U::from_bits(63)))?.ok_or("an ephemeris")?;
+    let other = galileo_ephemeris(word2(U::from_bits(64)))?;
     assert!(rt; eph.w3.sisa.value() == 107 && other.is_none());
     Ok(())
 }

@@ -6,7 +6,7 @@ use std::test::Fail;
 
 // An ephemeris of a toe, with a mean anomaly.
 fn gps(toe: u64, m0: S<32>, sent: SentSecond) -> Result<NavItem, Fail> {
-    ephemeris(toe, m0, U::from_digits(0), sent)
+    ephemeris(toe, m0, U::from_bits(0), sent)
 }
 
 // Adds the items of a file.
@@ -30,8 +30,8 @@ fn is_list(merge: &mut Merge, items: &[NavItem]) -> bool {
 // mean anomaly comes before 0, and the ionosphere stands behind the ephemeris of its moment.
 #[test]
 fn three_files(rt: HostRuntime) -> Result<(), Fail> {
-    let zero = S::from_digits(0);
-    let below = S::from_digits(0xFFFF_FFFF);
+    let zero = S::from_bits(0);
+    let below = S::from_bits(0xFFFF_FFFF);
     let late = gps(0, zero, SentSecond::At(100))?;
     let first = gps(0, zero, SentSecond::At(50))?;
     let unknown = gps(0, zero, SentSecond::Unknown)?;

@@ -16,7 +16,7 @@ pub(crate) enum Kind {
     Clock,
     // The same, with a health of the satellite.
     ClockOfHealth(u64),
-    // The clock, with an accuracy, a week and a second of sending.
+    // The clock, with an accuracy, a week and a transmission time.
     ClockSent(u64, u64, u32),
     // The clock, with an accuracy, of which the toe at the start of week 2295 is known alone.
     ClockOfToe(u64),
@@ -50,18 +50,18 @@ fn sent(wn: u64, second: u32) -> Result<SentTag, Fail> {
 
 fn clock_body(ura: u64, health: u64, tag: SentTag) -> Result<Body, Fail> {
     let toc = Step16::new(0).ok_or("a time")?;
-    let side = side(U::from_digits(ura % 16), U::from_digits(health % 64));
-    Ok(Body::GpsClock(clock(U::from_digits(0), toc), side, tag))
+    let side = side(U::from_bits(ura % 16), U::from_bits(health % 64));
+    Ok(Body::GpsClock(clock(U::from_bits(0), toc), side, tag))
 }
 
 fn orbit_body(m0: u64) -> Result<Body, Fail> {
     let toe = Step16::new(0).ok_or("a time")?;
-    let a = orbit_a(U::from_digits(0), S::from_digits(m0 % 2), toe);
-    Ok(Body::GpsA(a, U::from_digits(0)))
+    let a = orbit_a(U::from_bits(0), S::from_bits(m0 % 2), toe);
+    Ok(Body::GpsA(a, U::from_bits(0)))
 }
 
 fn word_body(number: u8) -> Result<Body, Fail> {
-    let issue = U::from_digits(5);
+    let issue = U::from_bits(5);
     let zero = Step60::new(0).ok_or("a time")?;
     let sisa = Sisa::new(107).ok_or("an index")?;
     Ok(match number {
@@ -74,12 +74,12 @@ fn word_body(number: u8) -> Result<Body, Fail> {
 
 fn health_body(hs_e1b: u64) -> Result<Body, Fail> {
     let health = GalHealth {
-        bgd_a: S::from_digits(0),
-        bgd_b: S::from_digits(0),
-        hs_e5b: U::from_digits(0),
-        hs_e1b: U::from_digits(hs_e1b % 4),
-        dvs_e5b: U::from_digits(0),
-        dvs_e1b: U::from_digits(0),
+        bgd_a: S::from_bits(0),
+        bgd_b: S::from_bits(0),
+        hs_e5b: U::from_bits(0),
+        hs_e1b: U::from_bits(hs_e1b % 4),
+        dvs_e5b: U::from_bits(0),
+        dvs_e1b: U::from_bits(0),
     };
     Ok(Body::GalHealth(health, sent(1_271, 8)?))
 }
@@ -87,17 +87,17 @@ fn health_body(hs_e1b: u64) -> Result<Body, Fail> {
 fn ionosphere_body() -> Result<Body, Fail> {
     let second = Second::new(8).ok_or("a second")?;
     let content = GalIon {
-        ai0: U::from_digits(0),
-        ai1: S::from_digits(0),
-        ai2: S::from_digits(0),
-        regions: U::from_digits(0),
+        ai0: U::from_bits(0),
+        ai1: S::from_bits(0),
+        ai2: S::from_bits(0),
+        regions: U::from_bits(0),
     };
-    Ok(Body::GalIon(content, U::from_digits(1_271), second))
+    Ok(Body::GalIon(content, U::from_bits(1_271), second))
 }
 
 fn body(kind: Kind) -> Result<Body, Fail> {
     let toe = SentTag::Toe {
-        wn: U::from_digits(247),
+        wn: U::from_bits(247),
         second: Second::new(0).ok_or("a second")?,
     };
     match kind {
@@ -106,7 +106,7 @@ fn body(kind: Kind) -> Result<Body, Fail> {
         Kind::ClockSent(ura, wn, second) => clock_body(ura, 0, sent(wn, second)?),
         Kind::ClockOfToe(ura) => clock_body(ura, 0, toe),
         Kind::OrbitA(m0) => orbit_body(m0),
-        Kind::OrbitB(issue) => Ok(Body::GpsB(orbit_b(U::from_digits(issue % 256)))),
+        Kind::OrbitB(issue) => Ok(Body::GpsB(orbit_b(U::from_bits(issue % 256)))),
         Kind::Word(number) => word_body(number),
         Kind::Health(health) => health_body(health),
         Kind::Ion(_) => Ok(Body::GpsIon(gps_ionosphere(), Second::new(18).ok_or("a second")?)),

@@ -4,7 +4,8 @@ use gnss_week::RefWeek;
 use nav_eph::{GalEph, GpsEph, IonContent, IonEph, NavItem, Part, SentSecond};
 use nav_laws::{PlainAssembly, old_is_far};
 use periods::{
-    Closed, Verdict, closed_stays, items_fit_together, one_more_part, order_is_nothing, periods_are,
+    Closed, Verdict, closed_stays, items_fit_together, one_more_part, order_does_not_matter,
+    periods_are,
 };
 use slot_assembly::{add_periods, one_next};
 use std::alloc::Global;
@@ -235,7 +236,7 @@ fn health_near_the_end(rt: HostRuntime) -> Result<(), Fail> {
 }
 
 // Two clocks, before and behind the rest of the orbit, near a week; and the accuracy, the week of toe
-// and the second of sending of their ephemeris.
+// and the transmission time of their ephemeris.
 #[derive(Clone, Copy)]
 struct GpsRow {
     week: u32,
@@ -281,7 +282,7 @@ const CHOSEN_CLOCKS: [GpsRow; 5] = [
     },
 ];
 
-// The accuracy, the week of toe and the second of sending of an ephemeris of GPS.
+// The accuracy, the week of toe and the transmission time of an ephemeris of GPS.
 fn times_of(item: &NavItem) -> Option<(u64, u32, SentSecond)> {
     match item {
         NavItem::Gps(e) => Some((e.side.ura.value(), e.toe_week.value(), e.sent)),
@@ -332,7 +333,7 @@ const IONOSPHERES: [IonRow; 4] = [
 ];
 
 // The satellite and the moment of an ionosphere.
-fn sending_of(item: &NavItem) -> Option<(u8, u64)> {
+fn transmission_of(item: &NavItem) -> Option<(u8, u64)> {
     match item {
         NavItem::Ion(e) => Some((e.sat.number(), e.moment.value())),
         _ => None,
@@ -350,7 +351,7 @@ fn is_sent(alloc: Global, row: &IonRow) -> Result<bool, Fail> {
                 verdict: Verdict::Whole(item),
                 ..
             },
-        ] => *end == row.end && sending_of(item) == Some(row.said),
+        ] => *end == row.end && transmission_of(item) == Some(row.said),
         _ => false,
     })
 }
@@ -516,6 +517,6 @@ fn laws() {
     old_is_far();
     one_more_part();
     one_next();
-    order_is_nothing();
+    order_does_not_matter();
     periods_are();
 }

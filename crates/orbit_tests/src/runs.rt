@@ -1,4 +1,4 @@
-//! Runs of an assembly, each period with the mark at which it was given.
+//! Runs of an assembly, each period with the watermark at which it was given.
 
 ghost use Rattle.std.specs.Prelude.{◌≤◌, OnOk};
 ghost use Rattle.slot_assembly.specs.Standing.{Stood};
@@ -26,59 +26,60 @@ pub(crate) fn letter(verdict: &Verdict) -> char {
     }
 }
 
-// Adds what is closed at a mark.
+// Adds what is closed at a watermark.
 fn ask<T: Assembly>(
     assembly: &mut T,
-    mark: u64,
+    watermark: u64,
     periods: &mut Vec<(u64, Closed)>,
 ) -> Result<(), AllocError>
-    requires { Stood (T.stands_for assembly.old) (λ at. at.mark ≤ mark) }
-    ensures { OnOk result (Stood (T.stands_for assembly.new) (λ at. at.mark ≤ mark)) }
+    requires { Stood (T.stands_for assembly.old) (λ at. at.watermark ≤ watermark) }
+    ensures { OnOk result (Stood (T.stands_for assembly.new) (λ at. at.watermark ≤ watermark)) }
 {
-    'asking: while let Some(closed) = assembly.next_closed(mark)? {
-        periods.push((mark, closed))?;
+    'asking: while let Some(closed) = assembly.next_closed(watermark)? {
+        periods.push((watermark, closed))?;
     }
     Ok(())
 }
 
 // The periods of parts that are taken in order, each asked for as soon as it is closed, and at each
-// of these marks in the end; a part that comes too late is left out.
+// of these watermarks in the end; a part that comes too late is left out.
 pub(crate) fn run<T: Assembly>(
     assembly: &mut T,
     parts: &[Part],
-    marks: &[u64],
+    watermarks: &[u64],
     periods: &mut Vec<(u64, Closed)>,
 ) -> Result<(), AllocError>
-    requires { Stood (T.stands_for assembly.old) (λ at. at.mark ≤ 0) }
+    requires { Stood (T.stands_for assembly.old) (λ at. at.watermark ≤ 0) }
 {
-    let mut mark: u64 = 0;
+    let mut watermark: u64 = 0;
     'parts: for part in parts {
-        if mark <= part.stamp as u64 {
-            mark = part.stamp as u64;
-            ask(assembly, mark, periods)?;
+        if watermark <= part.stamp as u64 {
+            watermark = part.stamp as u64;
+            ask(assembly, watermark, periods)?;
             assembly.take(part)?;
         }
     }
-    'marks: for next in marks {
-        mark = mark.max(*next);
-        ask(assembly, mark, periods)?;
+    'watermarks: for next in watermarks {
+        watermark = watermark.max(*next);
+        ask(assembly, watermark, periods)?;
     }
     Ok(())
 }
 
-// It gives the period of three parts at the first mark that lies far enough behind it, and not again.
+// It gives the period of three parts at the first watermark that lies far enough behind it, and not again.
 pub(crate) fn gives_a_period_once<T: Assembly>(
     alloc: Global,
     assembly: &mut T,
 ) -> Result<bool, Fail>
-    requires { Stood (T.stands_for assembly.old) (λ at. at.mark ≤ 0) }
+    requires { Stood (T.stands_for assembly.old) (λ at. at.watermark ≤ 0) }
 {
     let parts = parts_of(alloc, &[(0, A), (6, B), (12, C)])?;
     let mut given = Vec::new(alloc);
-    let marks = [7_212, 7_213, 7_213, u64::MAX];
-    run(assembly, parts.as_slice(), &marks, &mut given)?;
+    let watermarks = [7_212, 7_213, 7_213, u64::MAX];
+    run(assembly, parts.as_slice(), &watermarks, &mut given)?;
     Ok(match given.as_slice() {
-        [(mark, closed)] => (*mark, closed.end, letter(&closed.verdict)) == (7_213, 12, 'w'),
+        [(watermark, closed)] => (*watermark, closed.end, letter(&closed.verdict))
+            == (7_213, 12, 'w'),
         _ => false,
     })
 }

@@ -20,32 +20,32 @@ pub(crate) fn clock(issue: U<10>, toc: Step16) -> GpsClock {
     GpsClock {
         iodc: issue,
         toc,
-        af2: S::from_digits(0),
-        af1: S::from_digits(0),
-        af0: S::from_digits(0),
-        tgd: S::from_digits(0),
+        af2: S::from_bits(0),
+        af1: S::from_bits(0),
+        af0: S::from_bits(0),
+        tgd: S::from_bits(0),
     }
 }
 
 pub(crate) fn side(ura: U<4>, health: U<6>) -> GpsSide {
     GpsSide {
-        l2_code: U::from_digits(0),
+        l2_code: U::from_bits(0),
         ura,
         health,
-        l2p: U::from_digits(0),
+        l2p: U::from_bits(0),
     }
 }
 
 pub(crate) fn orbit_a(issue: U<8>, m0: S<32>, toe: Step16) -> GpsOrbitA {
     GpsOrbitA {
         iode: issue,
-        crs: S::from_digits(0),
-        delta_n: S::from_digits(0),
+        crs: S::from_bits(0),
+        delta_n: S::from_bits(0),
         m0,
-        cuc: S::from_digits(0),
-        e: U::from_digits(0),
-        cus: S::from_digits(0),
-        root_a: U::from_digits(0),
+        cuc: S::from_bits(0),
+        e: U::from_bits(0),
+        cus: S::from_bits(0),
+        root_a: U::from_bits(0),
         toe,
     }
 }
@@ -53,14 +53,14 @@ pub(crate) fn orbit_a(issue: U<8>, m0: S<32>, toe: Step16) -> GpsOrbitA {
 pub(crate) fn orbit_b(issue: U<8>) -> GpsOrbitB {
     GpsOrbitB {
         iode: issue,
-        cic: S::from_digits(0),
-        omega0: S::from_digits(0),
-        cis: S::from_digits(0),
-        i0: S::from_digits(0),
-        crc: S::from_digits(0),
-        omega: S::from_digits(0),
-        omega_dot: S::from_digits(0),
-        idot: S::from_digits(0),
+        cic: S::from_bits(0),
+        omega0: S::from_bits(0),
+        cis: S::from_bits(0),
+        i0: S::from_bits(0),
+        crc: S::from_bits(0),
+        omega: S::from_bits(0),
+        omega_dot: S::from_bits(0),
+        idot: S::from_bits(0),
     }
 }
 
@@ -68,31 +68,31 @@ pub(crate) fn word1(issue: U<10>, toe: Step60) -> GalWord1 {
     GalWord1 {
         iodnav: issue,
         toe,
-        m0: S::from_digits(0),
-        e: U::from_digits(0),
-        root_a: U::from_digits(0),
+        m0: S::from_bits(0),
+        e: U::from_bits(0),
+        root_a: U::from_bits(0),
     }
 }
 
 pub(crate) fn word2(issue: U<10>) -> GalWord2 {
     GalWord2 {
         iodnav: issue,
-        omega0: S::from_digits(0),
-        i0: S::from_digits(0),
-        omega: S::from_digits(0),
-        idot: S::from_digits(0),
+        omega0: S::from_bits(0),
+        i0: S::from_bits(0),
+        omega: S::from_bits(0),
+        idot: S::from_bits(0),
     }
 }
 
 pub(crate) fn word3(issue: U<10>, sisa: Sisa) -> GalWord3 {
     GalWord3 {
         iodnav: issue,
-        omega_dot: S::from_digits(0),
-        delta_n: S::from_digits(0),
-        cuc: S::from_digits(0),
-        cus: S::from_digits(0),
-        crc: S::from_digits(0),
-        crs: S::from_digits(0),
+        omega_dot: S::from_bits(0),
+        delta_n: S::from_bits(0),
+        cuc: S::from_bits(0),
+        cus: S::from_bits(0),
+        crc: S::from_bits(0),
+        crs: S::from_bits(0),
         sisa,
     }
 }
@@ -100,25 +100,25 @@ pub(crate) fn word3(issue: U<10>, sisa: Sisa) -> GalWord3 {
 pub(crate) fn word4(issue: U<10>, toc: Step60) -> GalWord4 {
     GalWord4 {
         iodnav: issue,
-        cic: S::from_digits(0),
-        cis: S::from_digits(0),
+        cic: S::from_bits(0),
+        cis: S::from_bits(0),
         toc,
-        af0: S::from_digits(0),
-        af1: S::from_digits(0),
-        af2: S::from_digits(0),
+        af0: S::from_bits(0),
+        af1: S::from_bits(0),
+        af2: S::from_bits(0),
     }
 }
 
 pub(crate) fn gps_ionosphere() -> GpsIon {
     GpsIon {
-        alpha0: S::from_digits(11),
-        alpha1: S::from_digits(0),
-        alpha2: S::from_digits(0),
-        alpha3: S::from_digits(0),
-        beta0: S::from_digits(44),
-        beta1: S::from_digits(0),
-        beta2: S::from_digits(0),
-        beta3: S::from_digits(0),
+        alpha0: S::from_bits(11),
+        alpha1: S::from_bits(0),
+        alpha2: S::from_bits(0),
+        alpha3: S::from_bits(0),
+        beta0: S::from_bits(44),
+        beta1: S::from_bits(0),
+        beta2: S::from_bits(0),
+        beta3: S::from_bits(0),
     }
 }
 
@@ -127,11 +127,11 @@ pub(crate) fn ephemeris(toe: u64, m0: S<32>, fit: U<1>, sent: SentSecond) -> Res
     let toe = Step16::new(toe).ok_or("a time")?;
     Ok(NavItem::Gps(GpsEph {
         sat: gps(5)?,
-        clock: clock(U::from_digits(0), toe),
-        side: side(U::from_digits(0), U::from_digits(0)),
-        a: orbit_a(U::from_digits(0), m0, toe),
+        clock: clock(U::from_bits(0), toe),
+        side: side(U::from_bits(0), U::from_bits(0)),
+        a: orbit_a(U::from_bits(0), m0, toe),
         fit,
-        b: orbit_b(U::from_digits(0)),
+        b: orbit_b(U::from_bits(0)),
         toe_week: Week::new(2_295).ok_or("a week")?,
         sent,
     }))

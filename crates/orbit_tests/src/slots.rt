@@ -64,7 +64,7 @@ fn slot_periods(alloc: Global, parts: &[Part]) -> Result<Vec<(u64, Closed)>, Fai
 }
 
 // How many periods a list has; `None` where the assemblies do not give the same periods at the same
-// marks.
+// watermarks.
 fn count(alloc: Global, parts: &[Part]) -> Result<Option<usize>, Fail> {
     let wanted = plain_periods(alloc, parts)?;
     let given = slot_periods(alloc, parts)?;

@@ -8,7 +8,7 @@ ghost use Rattle.nav_eph.specs.declared.sat.System.TheVariants.{Gal, Gps};
 ghost use Rattle.page_send.specs.Sendable.{IsEphemeris, send_fault};
 ghost use Rattle.page_send.specs.Slots.{count_of, galileo_items, galileo_second};
 ghost use Rattle.page_send.specs.Slots.{galileo_week_number};
-ghost use Rattle.page_send.specs.Slots.{gps_items, gps_sending, gps_week_number, items_at};
+ghost use Rattle.page_send.specs.Slots.{gps_items, gps_transmission, gps_week_number, items_at};
 ghost use Rattle.page_send.specs.Slots.{no_ionosphere, slot_text, text_of_items};
 
 use crate::lines::{SlotText, push_page, push_subframe};
@@ -19,27 +19,27 @@ use nav_bits::{S, U};
 use nav_eph::{GalEph, GalIon, GpsEph, NavItem};
 use nav_io::{Failed, Sink};
 
-// The seconds of a slot.
+// The length of a slot in seconds.
 const SLOT_SECONDS: u32 = 21_600;
 
-// The counts of a week, one every 6 s.
+// The TOW counts of a week, one every 6 s.
 const COUNTS: u32 = 100_800;
 
-// The 6 s intervals of the week that have passed when GPS begins to send.
-fn first_count(e: &GpsEph) -> u32
-    ensures same { result ≡ gps_sending e.now / 6 }
+// The 6 s intervals from the start of the week to the first GPS subframe.
+fn first_tow_count(e: &GpsEph) -> u32
+    ensures same { result ≡ gps_transmission e.now / 6 }
     ensures week { result < 100800 }
 {
     16 * e.a.toe.value() as u32 / 6
 }
 
-// The count of a subframe, which names the start of the next one.
-fn count(e: &GpsEph, number: u32) -> u32
+// The TOW count of a subframe, which is the time of the start of the next one.
+fn tow_count(e: &GpsEph, number: u32) -> u32
     requires { number ≤ 3 }
     ensures same { result ≡ count_of e.now number }
     ensures week { result < 100800 }
 {
-    (first_count(e) + number) % COUNTS
+    (first_tow_count(e) + number) % COUNTS
 }
 
 // Appends the lines of subframes 1, 2 and 3.
@@ -52,45 +52,45 @@ fn push_gps(stamp: u32, e: &GpsEph, text: &mut SlotText)
     let clock = SubframeOut::Clock {
         clock: e.clock,
         side: e.side,
-        wn: U::from_digits(u64::from(e.toe_week.value() % 1024)),
+        wn: U::from_bits(u64::from(e.toe_week.value() % 1024)),
     };
     let a = SubframeOut::OrbitA {
         orbit: e.a,
         fit: e.fit,
     };
     let b = SubframeOut::OrbitB { orbit: e.b };
-    push_subframe(stamp, e.sat, &clock, count(e, 1), text);
-    push_subframe(stamp + 6, e.sat, &a, count(e, 2), text);
-    push_subframe(stamp + 12, e.sat, &b, count(e, 3), text);
+    push_subframe(stamp, e.sat, &clock, tow_count(e, 1), text);
+    push_subframe(stamp + 6, e.sat, &a, tow_count(e, 2), text);
+    push_subframe(stamp + 12, e.sat, &b, tow_count(e, 3), text);
 }
 
-// An ionosphere whose parameters and disturbance flags are all 0.
+// Ionosphere parameters and disturbance flags that are all 0.
 fn nothing_said() -> GalIon
     ensures { result ≡ no_ionosphere }
 {
     GalIon {
-        ai0: U::from_digits(0),
-        ai1: S::from_digits(0),
-        ai2: S::from_digits(0),
-        regions: U::from_digits(0),
+        ai0: U::from_bits(0),
+        ai1: S::from_bits(0),
+        ai2: S::from_bits(0),
+        regions: U::from_bits(0),
     }
 }
 
-// The second of the week of toe.
+// toe as a second of the week.
 fn toe_second(e: &GalEph) -> Second
     ensures { result ≡ galileo_second e.now }
 {
     Second::from_number(60 * e.w1.toe.value() as u32)
 }
 
-// The week of toe in the twelve digits of Galileo.
+// The week of toe as Galileo's 12-bit week number.
 fn week_number(e: &GalEph) -> U<12>
     ensures { result ≡ galileo_week_number e.now }
 {
-    U::from_digits(u64::from((e.toe_week.value() + 3072) % 4096))
+    U::from_bits(u64::from((e.toe_week.value() + 3072) % 4096))
 }
 
-// Appends the lines of the pages of words 1 to 5.
+// Appends the lines of the pages of word types 1 to 5.
 fn push_galileo(stamp: u32, e: &GalEph, text: &mut SlotText)
     requires system { e.now.sat.system ≡ Gal }
     requires stamp { stamp + 12 < 2 ^ 32 }
@@ -105,7 +105,7 @@ fn push_galileo(stamp: u32, e: &GalEph, text: &mut SlotText)
     push_page(stamp + 8, e.sat, &word, text);
 }
 
-// The lines of what is sent from a stamp on.
+// The lines of an ephemeris sent from a stamp on.
 fn slot_lines(stamp: u32, item: &NavItem) -> SlotText
     requires whole { IsItem item.now }
     requires stamp { stamp + 12 < 2 ^ 32 }
@@ -120,22 +120,22 @@ fn slot_lines(stamp: u32, item: &NavItem) -> SlotText
     text
 }
 
-/// Writes the lines of an ephemeris in its slot, by one write; the slot `slot` begins at the stamp
-/// 21,600 times its number.
+/// Writes the lines of an ephemeris in its slot, by one write. Slot `slot` begins at stamp 21,600
+/// times its number.
 ///
-/// GPS: subframes 1, 2 and 3, one every six seconds, the first with the TOW count that names the start
-/// of the second one, at toe rounded down to a multiple of 6 s (IS-GPS-200, 20.3.3.2). Galileo:
-/// the even and the odd page parts of words 1 to 5, one every second; word 5 has the health, the week
-/// and the second of toe, and an ionosphere whose numbers are 0 (OS SIS ICD, 4.3.5). Spelling and
-/// digits are those of [`write_lnav`](capture_lines::write_lnav) and
+/// GPS: subframes 1, 2 and 3, one every six seconds; subframe 1 begins at toe rounded down to a
+/// multiple of 6 s, and its TOW count is the start of subframe 2 (IS-GPS-200, 20.3.3.2). Galileo:
+/// the even and odd page parts of word types 1 to 5, one every second; word type 5 has the health,
+/// the week and second of toe, and ionosphere parameters that are 0 (OS SIS ICD, 4.3.5). The line
+/// format is that of [`write_lnav`](capture_lines::write_lnav) and
 /// [`write_half_line`](capture_lines::write_half_line).
 ///
-/// It takes no memory.
+/// No memory is allocated.
 ///
 /// # Errors
 ///
-/// `Failed` only where the sink's count of faults rose in this call, or stands at its last value; a
-/// front of the lines was appended then.
+/// `Failed` only where the sink's count of faults rose in this call or is at its maximum; a prefix
+/// of the lines was appended then.
 #[tactic(auto, unfolding(crate::specs::Slots::slot_text))]
 pub fn send_item<T: Sink>(item: &NavItem, r: RefWeek, slot: u32, out: &mut T) -> Result<(), Failed>
     requires ephemeris { IsEphemeris item.now }

@@ -1,4 +1,4 @@
-//! A source whose first bytes were looked at.
+//! A source whose first bytes were peeked at.
 
 ghost use Rattle.std.specs.Prelude.{◌≡◌, ◌<◌, ◌≤◌, [], length, take, drop};
 ghost use Rattle.std.specs.Prelude.{IsTrue, IsOk, IfOk, OnOk, IfSome, MatchResult};
@@ -8,7 +8,7 @@ ghost use Rattle.nav_io.specs.Causes.{HasCause};
 use nav_io::{Failed, Source};
 use std::alloc::{AllocError, Global};
 
-/// Why a source could not be looked at.
+/// Why a source could not be peeked at.
 #[derive(Clone, Copy, PartialEq, Eq, Debug)]
 pub enum PeekFault {
     /// There was no memory.
@@ -27,41 +27,41 @@ impl From<AllocError> for PeekFault {
     }
 }
 
-/// A source whose first bytes were looked at. It gives them again, and then what follows.
+/// A source whose first bytes were peeked at. It gives them again, and then what follows.
 #[derive(Drop)]
 pub struct Peeked<S: Source> {
-    front: Vec<u8>,
-    // how many bytes of the front were given again
+    prefix: Vec<u8>,
+    // offset in the prefix: how many of its bytes were given again
     place: usize,
     source: S,
-    ghost within: { place ≤ length front.items },
+    ghost within: { place ≤ length prefix.items },
 }
 
 impl<S: Source> Peeked<S> {
-    /// The bytes that were looked at.
-    pub fn front(&self) -> &[u8]
-        ensures { result.now ≡ self.now.front.items }
+    /// The bytes that were peeked at.
+    pub fn prefix(&self) -> &[u8]
+        ensures { result.now ≡ self.now.prefix.items }
     {
-        &self.front
+        &self.prefix
     }
 
-    /// The source inside. What was not given again of the front is let go.
+    /// The inner source. Bytes of the prefix that were not given again are dropped.
     pub fn into_source(self) -> S
         ensures { result ≡ self.source }
     {
         let Peeked {
-            front: _,
+            prefix: _,
             place: _,
             source,
         } = self;
         source
     }
 
-    // The bytes of the front that were not given again.
+    // The bytes of the prefix that were not given again.
     fn kept(&self) -> &[u8]
-        ensures { result.now ≡ drop self.now.place self.now.front.items }
+        ensures { result.now ≡ drop self.now.place self.now.prefix.items }
     {
-        &self.front[self.place..]
+        &self.prefix[self.place..]
     }
 }
 
@@ -69,15 +69,15 @@ impl<S: Source> Source for Peeked<S> {
     ghost use Rattle.std.specs.Prelude.{drop};
     ghost use Rattle.std.specs.Io.KnownBytes.{prepend_known};
 
-    ghost left = { λ s. prepend_known (drop s.place s.front.items) (S.left s.source) };
+    ghost left = { λ s. prepend_known (drop s.place s.prefix.items) (S.left s.source) };
 
     ghost faults = { λ s. S.faults s.source };
 
     ghost never_fails = { λ s. S.never_fails s.source };
 
-    /// Gives what is kept of the front, and behind it one `read` of the source inside.
+    /// Gives the bytes left in the prefix, and after them one `read` of the inner source.
     fn read(&mut self, into: &mut [u8]) -> Result<usize, Failed> {
-        if self.place == self.front.len() {
+        if self.place == self.prefix.len() {
             return self.source.read(into);
         }
         let count = give(self.kept(), into);
@@ -86,15 +86,15 @@ impl<S: Source> Source for Peeked<S> {
     }
 }
 
-/// Looks at the first bytes of a source, so many at most: fewer only where it has no more.
+/// Peeks at the first `most` bytes of a source, or at all where it has fewer.
 pub fn peek<S: Source + Drop>(alloc: Global, source: S, most: usize) -> Result<Peeked<S>, PeekFault>
-    // The source that is given has the bytes of this one.
+    // The source returned has the bytes of this one.
     ensures left { IfOk result (λ peeked.
         Keeps (S.left source) (⟦<Peeked<S> as Source>⟧.left peeked)) }
-    ensures front { IfOk result (λ peeked.
-        IfSome (S.left source) (λ bytes. peeked.front.items ≡ take most bytes)) }
+    ensures prefix { IfOk result (λ peeked.
+        IfSome (S.left source) (λ bytes. peeked.prefix.items ≡ take most bytes)) }
 
-    // It has failed as often, and a read fails only where one of the source does.
+    // Its fault count is that of the source, and a read fails only where one of the source does.
     ensures faults { IfOk result (λ peeked.
         ⟦<Peeked<S> as Source>⟧.faults peeked ≡ S.faults source) }
     ensures never { IsTrue (S.never_fails source) → MatchResult result
@@ -102,38 +102,38 @@ pub fn peek<S: Source + Drop>(alloc: Global, source: S, most: usize) -> Result<P
         (λ fault. fault ≡ PeekFault.NoMemory) }
 {
     let mut source = source;
-    let mut front = Vec::with_capacity(alloc, most)?;
-    fill(&mut source, &mut front, most)?;
+    let mut prefix = Vec::with_capacity(alloc, most)?;
+    fill(&mut source, &mut prefix, most)?;
     Ok(Peeked {
-        front,
+        prefix,
         place: 0,
         source,
     })
 }
 
-// Reads until so many bytes are there, or the source is at its end.
-fn fill<S: Source>(source: &mut S, front: &mut Vec<u8>, most: usize) -> Result<(), PeekFault>
-    requires { front.old.items ≡ [] }
+// Reads until `most` bytes are there, or the source is at its end.
+fn fill<S: Source>(source: &mut S, prefix: &mut Vec<u8>, most: usize) -> Result<(), PeekFault>
+    requires { prefix.old.items ≡ [] }
     ensures bytes { OnOk result (Consumes (S.left source.old) (S.left source.new)
-        front.new.items) }
-    ensures front { OnOk result (IfSome (S.left source.old) (λ bytes.
-        front.new.items ≡ take most bytes)) }
+        prefix.new.items) }
+    ensures prefix { OnOk result (IfSome (S.left source.old) (λ bytes.
+        prefix.new.items ≡ take most bytes)) }
     ensures faults { OnOk result (S.faults source.new ≡ S.faults source.old) }
     ensures never { IsTrue (S.never_fails source.old) → MatchResult result
         (λ _. IsTrue (S.never_fails source.new)) (λ fault. fault ≡ PeekFault.NoMemory) }
 {
     let mut piece = [0; 80];
-    while front.len() < most {
-        match read_part(source, &mut piece, most - front.len()) {
+    while prefix.len() < most {
+        match read_part(source, &mut piece, most - prefix.len()) {
             Ok(0) => return Ok(()),
-            Ok(count) => front.extend_from_slice(&piece[..count])?,
+            Ok(count) => prefix.extend_from_slice(&piece[..count])?,
             Err(Failed) => return Err(PeekFault::ReadFault),
         }
     }
     Ok(())
 }
 
-// Reads so many bytes at most into the front of the piece.
+// Reads at most `most` bytes into the start of the piece.
 fn read_part<S: Source>(source: &mut S, piece: &mut [u8], most: usize) -> Result<usize, Failed>
     requires some { 0 < most }
     requires room { 0 < length piece.old }
@@ -152,7 +152,7 @@ fn read_part<S: Source>(source: &mut S, piece: &mut [u8], most: usize) -> Result
     source.read(&mut piece[..len])
 }
 
-// Copies the first bytes that are kept.
+// Copies the first of the bytes left in the prefix.
 fn give(kept: &[u8], into: &mut [u8]) -> usize
     ensures kept { result ≤ length kept.now }
     ensures fits { result ≤ length into.new }

@@ -1,6 +1,6 @@
--- The key's last complete period before an end, and what repeats it: the same for the same set, kept by later parts, and one.
+-- The key's last complete period before an end, and its repetition: the same for equal sets, kept by later parts, and unique.
 use Rattle.std.proofs.Common.{◌≡◌, ℕ, ◌+◌, ◌<◌, inl, inr, sym, subst, ◌∙◌, arith}
-use Rattle.periods.proofs.EndSurface.{Same, turned}
+use Rattle.periods.proofs.EndSurface.{Same, same_sym}
 use Rattle.nav_eph.specs.declared.items.NavItem.{NavItem}
 use Rattle.nav_eph.specs.declared.part.Part.{Part}
 use Rattle.periods.specs.declared.key.Key.{Key}
@@ -20,18 +20,18 @@ IsComplete-same r w a b key e item s h = record {
   found = IsFound-same r w a b (end_place key e) (Complete item) s h.found;
 }
 
-pub IsComplete-keeps : (r w mark : ℕ) (old new : Part → Type 0) (key : Key) (e : ℕ) (item : NavItem)
-    → AreLater mark old new → e + w < mark → IsComplete r w old key e item → IsComplete r w new key e item
-IsComplete-keeps r w mark old new key e item l low h = record {
-  period = IsPeriod-keeps w mark old new (end_place key e) l low h.period;
-  found = IsFound-keeps r w mark old new (end_place key e) (Complete item) l low h.found;
+pub IsComplete-keeps : (r w watermark : ℕ) (old new : Part → Type 0) (key : Key) (e : ℕ) (item : NavItem)
+    → AreLater watermark old new → e + w < watermark → IsComplete r w old key e item → IsComplete r w new key e item
+IsComplete-keeps r w watermark old new key e item l low h = record {
+  period = IsPeriod-keeps w watermark old new (end_place key e) l low h.period;
+  found = IsFound-keeps r w watermark old new (end_place key e) (Complete item) l low h.found;
 }
 
-pub IsComplete-was : (r w mark : ℕ) (old new : Part → Type 0) (key : Key) (e : ℕ) (item : NavItem)
-    → AreLater mark old new → e + w < mark → IsComplete r w new key e item → IsComplete r w old key e item
-IsComplete-was r w mark old new key e item l low h = record {
-  period = IsPeriod-was w mark old new (end_place key e) l (omega arith) h.period;
-  found = IsFound-was r w mark old new (end_place key e) (Complete item) l low h.found;
+pub IsComplete-was : (r w watermark : ℕ) (old new : Part → Type 0) (key : Key) (e : ℕ) (item : NavItem)
+    → AreLater watermark old new → e + w < watermark → IsComplete r w new key e item → IsComplete r w old key e item
+IsComplete-was r w watermark old new key e item l low h = record {
+  period = IsPeriod-was w watermark old new (end_place key e) l (omega arith) h.period;
+  found = IsFound-was r w watermark old new (end_place key e) (Complete item) l low h.found;
 }
 
 one_item : (a b : NavItem) → Complete a ≡ Complete b → a ≡ b
@@ -48,28 +48,28 @@ IsLastBefore-same r w a b key e item s h = record {
   at = h.at;
   earlier = h.earlier;
   complete = IsComplete-same r w a b key h.at item s h.complete;
-  last = λ f other c l. h.last f other (IsComplete-same r w b a key f other (turned a b s) c) l;
+  last = λ f other c l. h.last f other (IsComplete-same r w b a key f other (same_sym a b s) c) l;
 }
 
-pub IsLastBefore-keeps : (r w mark : ℕ) (old new : Part → Type 0) (key : Key) (e : ℕ) (item : NavItem)
-    → AreLater mark old new → e + w < mark → IsLastBefore r w old key e item → IsLastBefore r w new key e item
-IsLastBefore-keeps r w mark old new key e item l low h = record {
+pub IsLastBefore-keeps : (r w watermark : ℕ) (old new : Part → Type 0) (key : Key) (e : ℕ) (item : NavItem)
+    → AreLater watermark old new → e + w < watermark → IsLastBefore r w old key e item → IsLastBefore r w new key e item
+IsLastBefore-keeps r w watermark old new key e item l low h = record {
   at = h.at;
   earlier = h.earlier;
-  complete = IsComplete-keeps r w mark old new key h.at item l (omega (arith, h.earlier)) h.complete;
-  last = λ f other c k. h.last f other (IsComplete-was r w mark old new key f other l (omega arith) c) k;
+  complete = IsComplete-keeps r w watermark old new key h.at item l (omega (arith, h.earlier)) h.complete;
+  last = λ f other c k. h.last f other (IsComplete-was r w watermark old new key f other l (omega arith) c) k;
 }
 
-pub IsLastBefore-was : (r w mark : ℕ) (old new : Part → Type 0) (key : Key) (e : ℕ) (item : NavItem)
-    → AreLater mark old new → e + w < mark → IsLastBefore r w new key e item → IsLastBefore r w old key e item
-IsLastBefore-was r w mark old new key e item l low h = record {
+pub IsLastBefore-was : (r w watermark : ℕ) (old new : Part → Type 0) (key : Key) (e : ℕ) (item : NavItem)
+    → AreLater watermark old new → e + w < watermark → IsLastBefore r w new key e item → IsLastBefore r w old key e item
+IsLastBefore-was r w watermark old new key e item l low h = record {
   at = h.at;
   earlier = h.earlier;
-  complete = IsComplete-was r w mark old new key h.at item l (omega (arith, h.earlier)) h.complete;
-  last = λ f other c k. h.last f other (IsComplete-keeps r w mark old new key f other l (omega arith) c) k;
+  complete = IsComplete-was r w watermark old new key h.at item l (omega (arith, h.earlier)) h.complete;
+  last = λ f other c k. h.last f other (IsComplete-keeps r w watermark old new key f other l (omega arith) c) k;
 }
 
--- there is one last complete period before an end
+-- the last complete period before an end is unique
 pub IsLastBefore-one : (r w : ℕ) (parts : Part → Type 0) (key : Key) (e : ℕ) (a b : NavItem)
     → ((p : Part) → parts p → IsPartValue p) → IsLastBefore r w parts key e a → IsLastBefore r w parts key e b → a ≡ b
 IsLastBefore-one r w parts key e a b values h k =
@@ -85,25 +85,25 @@ Repeats-same r w a b q item s h = record {
   alike = h.alike;
 }
 
-pub Repeats-keeps : (r w mark : ℕ) (old new : Part → Type 0) (q : Place) (item : NavItem)
-    → AreLater mark old new → q.end + w < mark → Repeats r w old q item → Repeats r w new q item
-Repeats-keeps r w mark old new q item l low h = record {
+pub Repeats-keeps : (r w watermark : ℕ) (old new : Part → Type 0) (q : Place) (item : NavItem)
+    → AreLater watermark old new → q.end + w < watermark → Repeats r w old q item → Repeats r w new q item
+Repeats-keeps r w watermark old new q item l low h = record {
   ephemeris = h.ephemeris;
   before = h.before;
-  is_before = IsLastBefore-keeps r w mark old new q.key q.end h.before l low h.is_before;
+  is_before = IsLastBefore-keeps r w watermark old new q.key q.end h.before l low h.is_before;
   alike = h.alike;
 }
 
-pub Repeats-was : (r w mark : ℕ) (old new : Part → Type 0) (q : Place) (item : NavItem)
-    → AreLater mark old new → q.end + w < mark → Repeats r w new q item → Repeats r w old q item
-Repeats-was r w mark old new q item l low h = record {
+pub Repeats-was : (r w watermark : ℕ) (old new : Part → Type 0) (q : Place) (item : NavItem)
+    → AreLater watermark old new → q.end + w < watermark → Repeats r w new q item → Repeats r w old q item
+Repeats-was r w watermark old new q item l low h = record {
   ephemeris = h.ephemeris;
   before = h.before;
-  is_before = IsLastBefore-was r w mark old new q.key q.end h.before l low h.is_before;
+  is_before = IsLastBefore-was r w watermark old new q.key q.end h.before l low h.is_before;
   alike = h.alike;
 }
 
--- the verdict on a finding is one, and the same where the same is repeated
+-- the verdict on a finding is unique, and depends only on whether the item repeats an earlier one
 pub IsJudged-same : (a b : NavItem → Type 0) (f : Finding) (v : Verdict) → Same a b → IsJudged a f v → IsJudged b f v
 IsJudged-same a b Differs v s h = h
 IsJudged-same a b Misses v s h = h

@@ -1,4 +1,4 @@
--- What a digest and the health near the end come to is what the members do.
+-- The finding of the members' digest with the health near the end is the finding of the members.
 use Rattle.std.proofs.Common.{◌≡◌, ℕ, inl, inr, Bool, true, false, ◌||◌, if◌then◌else◌, List, [], ◌∷◌, Option, None, Some, refl}
 use Rattle.std.specs.List.{AllByRecursion}
 use Rattle.std.proofs.lemmas.Bool.{both_ways, or_cases, or_parts}
@@ -26,7 +26,7 @@ use Rattle.periods.specs.declared.digest.GalDigest.{GalDigest}
 use Rattle.periods.specs.declared.digest.Digest.{Digest}
 use Rattle.periods.specs.declared.digest.Digest.TheVariants.{Gps as GpsForm, Gal as GalForm, Ion as IonForm}
 use Rattle.periods.specs.Values.{IsEmpty, IsOnly, Differ, IsBest, IsEarlier, IsLater}
-use Rattle.periods.specs.Parts.{Kind, Clock, OrbitA, OrbitB, Word1, Word2, Word3, Word4, Side, FitFlag, SendingTag, ToeTag, Value, HasValue, kinds_of, AnyOf, side_numbers, fit_numbers, tag_numbers}
+use Rattle.periods.specs.Parts.{Kind, Clock, OrbitA, OrbitB, Word1, Word2, Word3, Word4, Side, FitFlag, TransmissionTag, ToeTag, Value, HasValue, kinds_of, AnyOf, side_numbers, fit_numbers, tag_numbers}
 use Rattle.periods.specs.Items.{IsGpsTag}
 use Rattle.periods.specs.Verdicts.{IsContradicted, IsPartial, IsFoundIn}
 use Rattle.periods.specs.Digests.{IsSeen, IsGpsDigest, IsGalDigest, IsDigest, IsBestHealth}
@@ -34,7 +34,7 @@ use Rattle.periods.specs.DigestsOf.{gps_item, gal_item, digest_finding}
 use Rattle.periods.specs.Mirrors.{or_else, seen_differs, seen_only}
 use Rattle.periods.proofs.ValueLemmas.{only_agrees, only_there, none_any}
 
--- what is known of each of some kinds, and whether two of one of them differ
+-- the contents seen of some kinds, and whether two of one kind differ
 abbrev Judged : (Part → Type 0) → Kind → Type 0
 Judged members k = (s : Seen (Value k)) × IsSeen (HasValue k members) s
 
@@ -66,7 +66,7 @@ none_differ members (k ∷ l ∷ ks) h e =
     let p = or_parts (seen_differs h.0.0) (differ_any members (l ∷ ks) h.1) e in
     ((h.0.0, h.0.1, p.0), none_differ members (l ∷ ks) h.1 p.1)
 
--- the one value there is, or that there is none
+-- the only value, or none
 abbrev IsOne : {X : Type 0} → (X → Type 0) → Option X → Type 0
 IsOne values None = IsEmpty values
 IsOne values (Some x) = IsOnly values x
@@ -84,12 +84,12 @@ agree : (key : Key) (members : Part → Type 0) → AllByRecursion (Agrees membe
 agree key members h =
     none_any _ _ (kinds_of key) (λ k a d. one_agrees (HasValue k members) (seen_only a.0) (seen_one (HasValue k members) a.0 a.1 a.2) d) h
 
--- beside a clock stand its side and a tag, beside the first half of an orbit the fit interval flag
+-- a clock comes with SV status and a tag, subframe 2 with the fit interval flag
 has_side : (members : Part → Type 0) (clock : GpsClock) → HasValue Clock members clock → IsEmpty (HasValue Side members) → ⊥
 has_side members clock h none =
     none (h.part.stamp, h.says.0) (record { part = h.part; here = h.here; says = (clock, h.says.1, h.says.2, refl) })
 
-has_tag : (members : Part → Type 0) (clock : GpsClock) → HasValue Clock members clock → IsEmpty (HasValue SendingTag members) → IsEmpty (HasValue ToeTag members) → ⊥
+has_tag : (members : Part → Type 0) (clock : GpsClock) → HasValue Clock members clock → IsEmpty (HasValue TransmissionTag members) → IsEmpty (HasValue ToeTag members) → ⊥
 has_tag members clock h none nor = named h.says.1 h.says.2
   where
     named : (tag : SentTag) → h.part.body ≡ OfClock clock h.says.0 tag → ⊥
@@ -101,13 +101,13 @@ has_tag members clock h none nor = named h.says.1 h.says.2
 has_fit : (members : Part → Type 0) (orbit : GpsOrbitA) → HasValue OrbitA members orbit → IsEmpty (HasValue FitFlag members) → ⊥
 has_fit members orbit h none = none (h.part.stamp, h.says.0) (record { part = h.part; here = h.here; says = (orbit, h.says.1, refl) })
 
--- the tag of GPS, or that there is none
+-- the tag of GPS, or none
 abbrev IsBestTag : (Part → Type 0) → Option (ℕ × SentTag) → Type 0
-IsBestTag members None = IsEmpty (HasValue SendingTag members) × IsEmpty (HasValue ToeTag members)
+IsBestTag members None = IsEmpty (HasValue TransmissionTag members) × IsEmpty (HasValue ToeTag members)
 IsBestTag members (Some t) = IsGpsTag members t
 
 best_tag : (members : Part → Type 0) (sent toe : Option (ℕ × SentTag))
-    → IsBest (IsEarlier tag_numbers) (HasValue SendingTag members) sent → IsBest (IsEarlier tag_numbers) (HasValue ToeTag members) toe
+    → IsBest (IsEarlier tag_numbers) (HasValue TransmissionTag members) sent → IsBest (IsEarlier tag_numbers) (HasValue ToeTag members) toe
     → IsBestTag members (or_else sent toe)
 best_tag members None None h k = (h, k)
 best_tag members None (Some t) h k = inr (h, k)
@@ -213,6 +213,6 @@ digest_finding-is r (Gps sat issue) members before behind (GpsForm d) health h h
     gps_at r sat issue members before behind d h (seen_differs d.clock || (seen_differs d.a || seen_differs d.b)) refl
 digest_finding-is r (Gal sat issue) members before behind (GalForm d) health h hh =
     gal_at r sat issue members before behind d health h hh (seen_differs d.w1 || (seen_differs d.w2 || (seen_differs d.w3 || seen_differs d.w4))) refl
-digest_finding-is r (GpsIon content) members before behind (IonForm s) health h hh = record { content = refl; sending = s; first = h; sat = refl; moment = refl }
-digest_finding-is r (GalIon content) members before behind (IonForm s) health h hh = record { content = refl; sending = s; first = h; sat = refl; moment = refl }
+digest_finding-is r (GpsIon content) members before behind (IonForm s) health h hh = record { content = refl; transmission = s; first = h; sat = refl; moment = refl }
+digest_finding-is r (GalIon content) members before behind (IonForm s) health h hh = record { content = refl; transmission = s; first = h; sat = refl; moment = refl }
 digest_finding-is r key members before behind d health h hh = absurd h

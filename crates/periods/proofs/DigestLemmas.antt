@@ -1,4 +1,4 @@
--- Digests: that of one part, that of two sets of parts together, and that of the same set.
+-- Digests: of one part, of the union of two sets of parts, and of equal sets.
 use Rattle.std.proofs.Common.{◌≡◌, ℕ, inl, inr, Bool, true, false, if◌then◌else◌, List, Option, None, Some, refl, sym, ap, subst, ◌∙◌, rules}
 use Rattle.std.specs.Bool.{Decides}
 use Rattle.std.proofs.lemmas.Bool.{both_ways}
@@ -17,7 +17,7 @@ use Rattle.nav_eph.specs.declared.part.Body.TheVariants.{GpsClock as OfClock, Gp
 use Rattle.periods.proofs.EndSurface.{Same}
 use Rattle.periods.specs.declared.key.Key.{Key}
 use Rattle.periods.specs.declared.key.Key.TheVariants.{Gps, Gal, GpsIon, GalIon}
-use Rattle.periods.specs.declared.key.Sending.{Sending}
+use Rattle.periods.specs.declared.key.Transmission.{Transmission}
 use Rattle.periods.specs.declared.digest.Seen.{Seen}
 use Rattle.periods.specs.declared.digest.Seen.TheVariants.{Nothing, One, Different}
 use Rattle.periods.specs.declared.digest.GpsDigest.{GpsDigest}
@@ -25,7 +25,7 @@ use Rattle.periods.specs.declared.digest.GalDigest.{GalDigest}
 use Rattle.periods.specs.declared.digest.Digest.{Digest}
 use Rattle.periods.specs.declared.digest.Digest.TheVariants.{Gps as GpsForm, Gal as GalForm, Ion as IonForm}
 use Rattle.periods.specs.Values.{IsOnly, IsFirstBy, IsBest, IsEarlier, IsLater}
-use Rattle.periods.specs.Parts.{Kind, Clock, OrbitA, OrbitB, Word1, Word2, Word3, Word4, Side, FitFlag, SendingTag, ToeTag, IonSending, Value, HasValue, key_in, key_of, side_numbers, fit_numbers, tag_numbers, sending_numbers}
+use Rattle.periods.specs.Parts.{Kind, Clock, OrbitA, OrbitB, Word1, Word2, Word3, Word4, Side, FitFlag, TransmissionTag, ToeTag, IonTransmission, Value, HasValue, key_in, key_of, side_numbers, fit_numbers, tag_numbers, transmission_numbers}
 use Rattle.periods.specs.Readings.{reading}
 use Rattle.periods.specs.Digests.{IsSeen, IsGpsDigest, IsGalDigest, IsDigest}
 use Rattle.periods.specs.DigestsOf.{gps_digest, gal_digest, ion_digest, digest_for, digest_of, gps_join, gal_join, digest_join}
@@ -35,14 +35,14 @@ use Rattle.periods.proofs.Folds.{some_is, none_some, IsBest-same, Grows, best_jo
 use Rattle.periods.proofs.ReadingLemmas.{part_of, said_of, reading_of}
 use Rattle.periods.proofs.ValueLemmas.{IsUnion, same_values, union_values, IsEmpty-same, IsOnly-same, Differ-same, first_same}
 
--- the test says yes exactly of values that are the same
+-- the test holds exactly of equal values
 abbrev IsExact : {T : Type 0} → (T → T → Bool) → Type 0
 IsExact {T} eq = (x y : T) → Decides (eq x y) (x ≡ y)
 
 word1_decided : IsExact word1_eq.it
 word1_decided = λ x y. search rules
 
--- contents of two sets together
+-- contents of the union of two sets
 one_and_one : {X : Type 0} (eq : X → X → Bool) (exact : IsExact eq) (a b c : X → Type 0) (x y : X) → Grows a c b → IsOnly a x → IsOnly b y
     → (t : Bool) → eq x y ≡ t → IsSeen c (if t then One x else Different)
 one_and_one eq exact a b c x y g h k true e = record {
@@ -81,7 +81,7 @@ IsSeen-same a b Nothing s h = IsEmpty-same a b s h
 IsSeen-same a b (One x) s h = IsOnly-same a b x s h
 IsSeen-same a b Different s h = Differ-same a b s h
 
--- of one part: what its reading gives
+-- of one part: the value of `reading`
 reads : (k : Kind) (p : Part) (v : Value k) → HasValue k (λ q. q ≡ p) v → reading k p ≡ Some v
 reads k p v h = sym (ap (reading k) h.here) ∙ reading_of k h.part v h.says
 
@@ -106,7 +106,7 @@ gps_digest-is p = record {
   b = just_seen OrbitB p (reading OrbitB p) refl;
   side = just_best Side (IsLater side_numbers) (later_decides side_numbers).irr p (reading Side p) refl;
   fit = just_best FitFlag (IsLater fit_numbers) (later_decides fit_numbers).irr p (reading FitFlag p) refl;
-  sent = just_best SendingTag (IsEarlier tag_numbers) (earlier_decides tag_numbers).irr p (reading SendingTag p) refl;
+  sent = just_best TransmissionTag (IsEarlier tag_numbers) (earlier_decides tag_numbers).irr p (reading TransmissionTag p) refl;
   toe = just_best ToeTag (IsEarlier tag_numbers) (earlier_decides tag_numbers).irr p (reading ToeTag p) refl;
 }
 
@@ -122,10 +122,10 @@ gal_digest-is p = record {
 digest_is : (p : Part) (key : Key) (d : Digest) → key_of p ≡ Some key → digest_of p ≡ Some d → digest_for (Some key) p ≡ Some d
 digest_is p key d kk dd = sym (ap (λ (o : Option Key). digest_for o p) kk) ∙ dd
 
-ion_form : (p : Part) (o : Option Sending) (d : Digest) → reading IonSending p ≡ o → ion_digest o ≡ Some d
-    → (s : Sending) × (IonForm s ≡ d) × IsFirstBy (IsEarlier sending_numbers) (HasValue IonSending (λ q. q ≡ p)) s
+ion_form : (p : Part) (o : Option Transmission) (d : Digest) → reading IonTransmission p ≡ o → ion_digest o ≡ Some d
+    → (s : Transmission) × (IonForm s ≡ d) × IsFirstBy (IsEarlier transmission_numbers) (HasValue IonTransmission (λ q. q ≡ p)) s
 ion_form p None d e h = absurd (none_some d h)
-ion_form p (Some s) d e h = (s, some_is (IonForm s) d h, just_best IonSending (IsEarlier sending_numbers) (earlier_decides sending_numbers).irr p (Some s) e)
+ion_form p (Some s) d e h = (s, some_is (IonForm s) d h, just_best IonTransmission (IsEarlier transmission_numbers) (earlier_decides transmission_numbers).irr p (Some s) e)
 
 pub digest_of-is : (p : Part) (key : Key) (d : Digest) → key_of p ≡ Some key → digest_of p ≡ Some d → IsDigest key (λ q. q ≡ p) d
 digest_of-is p (Gps sat issue) d kk dd =
@@ -133,10 +133,10 @@ digest_of-is p (Gps sat issue) d kk dd =
 digest_of-is p (Gal sat issue) d kk dd =
     subst (λ (x : Digest). IsDigest (Gal sat issue) (λ q. q ≡ p) x) (some_is (GalForm (gal_digest p)) d (digest_is p (Gal sat issue) d kk dd)) (gal_digest-is p)
 digest_of-is p (GpsIon content) d kk dd =
-    let f = ion_form p (reading IonSending p) d refl (digest_is p (GpsIon content) d kk dd) in
+    let f = ion_form p (reading IonTransmission p) d refl (digest_is p (GpsIon content) d kk dd) in
     subst (λ (x : Digest). IsDigest (GpsIon content) (λ q. q ≡ p) x) f.1 f.2
 digest_of-is p (GalIon content) d kk dd =
-    let f = ion_form p (reading IonSending p) d refl (digest_is p (GalIon content) d kk dd) in
+    let f = ion_form p (reading IonTransmission p) d refl (digest_is p (GalIon content) d kk dd) in
     subst (λ (x : Digest). IsDigest (GalIon content) (λ q. q ≡ p) x) f.1 f.2
 
 -- a part of a key has a digest
@@ -159,7 +159,7 @@ digest_some p key e = some_digest p.stamp p.sat p.body key e
 pub digest_none : (p : Part) → key_of p ≡ None → digest_of p ≡ None
 digest_none p e = ap (λ (o : Option Key). digest_for o p) e
 
--- of two sets together
+-- of the union of two sets
 seen_union : (k : Kind) (eq : Value k → Value k → Bool) (exact : IsExact eq) (a b c : Part → Type 0) (x y : Seen (Value k)) → IsUnion a b c
     → IsSeen (HasValue k a) x → IsSeen (HasValue k b) y → IsSeen (HasValue k c) (seen_join eq x y)
 seen_union k eq exact a b c x y u h i = seen_join-is eq exact (HasValue k a) (HasValue k b) (HasValue k c) x y (union_values k a b c u) h i
@@ -181,7 +181,7 @@ gps_join-is a b c x y u h k = record {
   b = seen_union OrbitB orbit_b_eq.it orbit_b_decided a b c x.b y.b u h.b k.b;
   side = latest_union Side side_numbers a b c x.side y.side u h.side k.side;
   fit = latest_union FitFlag fit_numbers a b c x.fit y.fit u h.fit k.fit;
-  sent = earliest_union SendingTag tag_numbers a b c x.sent y.sent u h.sent k.sent;
+  sent = earliest_union TransmissionTag tag_numbers a b c x.sent y.sent u h.sent k.sent;
   toe = earliest_union ToeTag tag_numbers a b c x.toe y.toe u h.toe k.toe;
 }
 
@@ -198,23 +198,23 @@ chosen : {V : Type 0} (R : V → V → Type 0) (c : V → Type 0) (x y : V) (t :
 chosen R c x y true h = h
 chosen R c x y false h = h
 
-first_join : (numbers : Sending → List ℕ) (a b c : Part → Type 0) (x y : Sending) → IsUnion a b c → IsFirstBy (IsEarlier numbers) (HasValue IonSending a) x
-    → IsFirstBy (IsEarlier numbers) (HasValue IonSending b) y → IsFirstBy (IsEarlier numbers) (HasValue IonSending c) (if earlier numbers y x then y else x)
+first_join : (numbers : Transmission → List ℕ) (a b c : Part → Type 0) (x y : Transmission) → IsUnion a b c → IsFirstBy (IsEarlier numbers) (HasValue IonTransmission a) x
+    → IsFirstBy (IsEarlier numbers) (HasValue IonTransmission b) y → IsFirstBy (IsEarlier numbers) (HasValue IonTransmission c) (if earlier numbers y x then y else x)
 first_join numbers a b c x y u h k =
-    chosen (IsEarlier numbers) (HasValue IonSending c) x y (earlier numbers y x) (earliest_union IonSending numbers a b c (Some x) (Some y) u h k)
+    chosen (IsEarlier numbers) (HasValue IonTransmission c) x y (earlier numbers y x) (earliest_union IonTransmission numbers a b c (Some x) (Some y) u h k)
 
 pub digest_join-is : (key : Key) (a b c : Part → Type 0) (x y : Digest) → IsUnion a b c → IsDigest key a x → IsDigest key b y → IsDigest key c (digest_join x y)
 digest_join-is (Gps s i) a b c (GpsForm x) (GpsForm y) u h k = gps_join-is a b c x y u h k
 digest_join-is (Gal s i) a b c (GalForm x) (GalForm y) u h k = gal_join-is a b c x y u h k
-digest_join-is (GpsIon n) a b c (IonForm x) (IonForm y) u h k = first_join sending_numbers a b c x y u h k
-digest_join-is (GalIon n) a b c (IonForm x) (IonForm y) u h k = first_join sending_numbers a b c x y u h k
+digest_join-is (GpsIon n) a b c (IonForm x) (IonForm y) u h k = first_join transmission_numbers a b c x y u h k
+digest_join-is (GalIon n) a b c (IonForm x) (IonForm y) u h k = first_join transmission_numbers a b c x y u h k
 digest_join-is (Gps s i) a b c (GpsForm x) y u h k = absurd k
 digest_join-is (Gal s i) a b c (GalForm x) y u h k = absurd k
 digest_join-is (GpsIon n) a b c (IonForm x) y u h k = absurd k
 digest_join-is (GalIon n) a b c (IonForm x) y u h k = absurd k
 digest_join-is key a b c x y u h k = absurd h
 
--- the same set has the same digest
+-- equal sets have the same digest
 seen_same : (k : Kind) (a b : Part → Type 0) (x : Seen (Value k)) → Same a b → IsSeen (HasValue k a) x → IsSeen (HasValue k b) x
 seen_same k a b x s h = IsSeen-same (HasValue k a) (HasValue k b) x (same_values k a b s) h
 
@@ -228,7 +228,7 @@ IsDigest-same (Gps sat issue) a b (GpsForm d) s h = record {
   b = seen_same OrbitB a b d.b s h.b;
   side = best_same Side (IsLater side_numbers) a b d.side s h.side;
   fit = best_same FitFlag (IsLater fit_numbers) a b d.fit s h.fit;
-  sent = best_same SendingTag (IsEarlier tag_numbers) a b d.sent s h.sent;
+  sent = best_same TransmissionTag (IsEarlier tag_numbers) a b d.sent s h.sent;
   toe = best_same ToeTag (IsEarlier tag_numbers) a b d.toe s h.toe;
 }
 IsDigest-same (Gal sat issue) a b (GalForm d) s h = record {
@@ -237,6 +237,6 @@ IsDigest-same (Gal sat issue) a b (GalForm d) s h = record {
   w3 = seen_same Word3 a b d.w3 s h.w3;
   w4 = seen_same Word4 a b d.w4 s h.w4;
 }
-IsDigest-same (GpsIon content) a b (IonForm d) s h = first_same IonSending (IsEarlier sending_numbers) a b d s h
-IsDigest-same (GalIon content) a b (IonForm d) s h = first_same IonSending (IsEarlier sending_numbers) a b d s h
+IsDigest-same (GpsIon content) a b (IonForm d) s h = first_same IonTransmission (IsEarlier transmission_numbers) a b d s h
+IsDigest-same (GalIon content) a b (IonForm d) s h = first_same IonTransmission (IsEarlier transmission_numbers) a b d s h
 IsDigest-same key a b d s h = absurd h

@@ -1,4 +1,4 @@
--- Ends: one at most for a stamp, one for each stamp of a list, and those that later stamps leave.
+-- Ends: at most one for a stamp, one for each stamp of a list, and those that later stamps keep.
 use Rattle.std.proofs.Common.{◌≡◌, ℕ, zero, suc, ◌+◌, ◌<◌, ◌≤◌, ◌⊎◌, inl, inr, List, [], ◌∷◌, Option, Some, None, max, refl, sym, ap, ◌∙◌, arith}
 use Rattle.std.proofs.lemmas.Bool.{cases_lt}
 use Rattle.periods.specs.Ends.{IsEnd, IsEndOf, IsLaterSet}
@@ -9,8 +9,8 @@ pub record Same {X : Type 0} (one other : X → Type 0) : Type 0 where
   pub to : (x : X) → one x → other x
   pub from : (x : X) → other x → one x
 
-pub turned : {X : Type 0} (a b : X → Type 0) → Same a b → Same b a
-turned a b s = record { to = s.from; from = s.to }
+pub same_sym : {X : Type 0} (a b : X → Type 0) → Same a b → Same b a
+same_sym a b s = record { to = s.from; from = s.to }
 
 pub IsEnd-same : (w : ℕ) (a b : ℕ → Type 0) (e : ℕ) → Same a b → IsEnd w a e → IsEnd w b e
 IsEnd-same w a b e same h = record { heard = same.to e h.heard; quiet = λ s hs. h.quiet s (same.from s hs) }
@@ -19,10 +19,10 @@ pub IsEndOf-same : (w : ℕ) (a b : ℕ → Type 0) (e s : ℕ) → Same a b →
 IsEndOf-same w a b e s same h = record {
   is_end = IsEnd-same w a b e same h.is_end;
   after = h.after;
-  first = λ o io. h.first o (IsEnd-same w b a o (turned a b same) io);
+  first = λ o io. h.first o (IsEnd-same w b a o (same_sym a b same) io);
 }
 
--- an end is its own
+-- an end is the end of itself
 pub own_end : (w : ℕ) (at : ℕ → Type 0) (e : ℕ) → IsEnd w at e → IsEndOf w at e e
 own_end w at e h = record { is_end = h; after = omega arith; first = λ o io l. l }
 
@@ -56,7 +56,7 @@ IsKnown-same w a b same k = record {
   next = λ x. elim (k.next x) [ inl n ↦ inl (n.0, same.to n.0 n.1, n.2, n.3) | inr q ↦ inr (λ y h. q y (same.from y h)) ];
 }
 
--- a stamp behind the next one
+-- a stamp after the next one
 next_end : (w : ℕ) (at : ℕ → Type 0) (e s y : ℕ) → s < y → y ≤ s + w → at y → IsEndOf w at e y → IsEndOf w at e s
 next_end w at e s y l k hy h = carried w at e y s h (λ o io a b. absurd (omega arith)) (λ o io a b. omega (arith, io.quiet y hy b))
 
@@ -90,7 +90,7 @@ pub bridge : (w : ℕ) (at : ℕ → Type 0) (k : IsKnown w at) (e z x : ℕ) �
     → (y : ℕ) × at y × IsEndOf w at e y × (x < y) × (y ≤ x + w)
 bridge w at k e z x hz h l m = bridge_by (suc x) w at k e z x hz h l m (omega arith)
 
--- the stamps that a list's elements have are known
+-- whether a stamp is one of a list's elements is decidable
 known_none : (w : ℕ) (at : ℕ → Type 0) → ((s : ℕ) → at s → ⊥) → IsKnown w at
 known_none w at none = record { greatest = 0; bound = λ s h. absurd (none s h); next = λ x. inr (λ y h. absurd (none y h)) }
 
@@ -110,7 +110,7 @@ known_more w t a b cases keeps here k = record {
   ];
 }
 
--- what a reading gives of some element of a list
+-- a value read from some element of a list
 abbrev pub ReadOf : {X V : Type 0} → (X → Option V) → List X → V → Type 0
 ReadOf {X} read xs v = (x : X) × In xs x × (read x ≡ Some v)
 
@@ -127,35 +127,35 @@ pub known_list : {X : Type 0} (w : ℕ) (read : X → Option ℕ) (xs : List X) 
 known_list w read [] = known_none w _ (λ s h. h.1)
 known_list w read (x ∷ xs) = known_at w read x xs (read x) refl (known_list w read xs)
 
--- later stamps leave the ends that are closed at the mark, with their stamps
-pub IsEnd-later : (w mark : ℕ) (old new : ℕ → Type 0) (e : ℕ) → IsLaterSet mark old new → e + w < mark → IsEnd w old e → IsEnd w new e
-IsEnd-later w mark old new e later low h = record {
+-- later stamps keep the ends that are closed at the watermark, with their stamps
+pub IsEnd-later : (w watermark : ℕ) (old new : ℕ → Type 0) (e : ℕ) → IsLaterSet watermark old new → e + w < watermark → IsEnd w old e → IsEnd w new e
+IsEnd-later w watermark old new e later low h = record {
   heard = later.keeps e h.heard;
   quiet = λ s hs l. elim (later.later s hs) [ inl o ↦ h.quiet s o l | inr m ↦ omega arith ];
 }
 
-pub IsEnd-was : (w mark : ℕ) (old new : ℕ → Type 0) (e : ℕ) → IsLaterSet mark old new → e < mark → IsEnd w new e → IsEnd w old e
-IsEnd-was w mark old new e later low h = record {
+pub IsEnd-was : (w watermark : ℕ) (old new : ℕ → Type 0) (e : ℕ) → IsLaterSet watermark old new → e < watermark → IsEnd w new e → IsEnd w old e
+IsEnd-was w watermark old new e later low h = record {
   heard = elim (later.later e h.heard) [ inl o ↦ o | inr m ↦ absurd (omega arith) ];
   quiet = λ s hs. h.quiet s (later.keeps s hs);
 }
 
-pub IsEndOf-later : (w mark : ℕ) (old new : ℕ → Type 0) (e s : ℕ) → IsLaterSet mark old new → e + w < mark → IsEndOf w old e s → IsEndOf w new e s
-IsEndOf-later w mark old new e s later low h = record {
-  is_end = IsEnd-later w mark old new e later low h.is_end;
+pub IsEndOf-later : (w watermark : ℕ) (old new : ℕ → Type 0) (e s : ℕ) → IsLaterSet watermark old new → e + w < watermark → IsEndOf w old e s → IsEndOf w new e s
+IsEndOf-later w watermark old new e s later low h = record {
+  is_end = IsEnd-later w watermark old new e later low h.is_end;
   after = h.after;
   first = λ o io l. elim (cases_lt o e) [
-    | inl k ↦ h.first o (IsEnd-was w mark old new o later (omega arith) io) l
+    | inl k ↦ h.first o (IsEnd-was w watermark old new o later (omega arith) io) l
     | inr k ↦ k
   ];
 }
 
-pub IsEndOf-was : (w mark : ℕ) (old new : ℕ → Type 0) (e s : ℕ) → IsLaterSet mark old new → e + w < mark → IsEndOf w new e s → IsEndOf w old e s
-IsEndOf-was w mark old new e s later low h = record {
-  is_end = IsEnd-was w mark old new e later (omega arith) h.is_end;
+pub IsEndOf-was : (w watermark : ℕ) (old new : ℕ → Type 0) (e s : ℕ) → IsLaterSet watermark old new → e + w < watermark → IsEndOf w new e s → IsEndOf w old e s
+IsEndOf-was w watermark old new e s later low h = record {
+  is_end = IsEnd-was w watermark old new e later (omega arith) h.is_end;
   after = h.after;
   first = λ o io l. elim (cases_lt o e) [
-    | inl k ↦ h.first o (IsEnd-later w mark old new o later (omega arith) io) l
+    | inl k ↦ h.first o (IsEnd-later w watermark old new o later (omega arith) io) l
     | inr k ↦ k
   ];
 }

@@ -13,18 +13,18 @@ use Rattle.nav_eph.specs.Values.{IsPartValue}
 use Rattle.periods.specs.Parts.{key_of}
 use Rattle.periods.specs.Periods.{IsPeriod, IsBefore, place_numbers}
 use Rattle.periods.specs.Verdicts.{IsClosed, closed_place}
-use Rattle.periods.specs.PeriodLists.{IsAscending, ArePeriods, AreClosed, IsPrefix}
+use Rattle.periods.specs.PeriodLists.{IsAscending, ArePeriods, AreClosed, IsPeriodPrefix}
 use Rattle.periods.specs.PeriodsOf.{quiet, place_in, place_at, verdict_at, closed_with, is_before, insert, insert_at, periods_ending, periods_of, closed_of}
 use Rattle.periods.proofs.Orders.{is_below-true, below-is_below}
 use Rattle.periods.proofs.Folds.{some_is, none_some}
 use Rattle.periods.proofs.KeyLemmas.{IsKeyValue, key_value, same_place}
 use Rattle.periods.proofs.PeriodLemmas.{AreLater, IsPeriod-was}
 use Rattle.periods.proofs.VerdictLemmas.{IsClosed-keeps}
-use Rattle.periods.proofs.ListLemmas.{before_trans, All-in, all_of, Precedes, ArePeriods-one, AreClosed-one, ArePeriods-same, closed_at-are, closed_at-front, closed_at-rise, filter_all}
+use Rattle.periods.proofs.ListLemmas.{before_trans, All-in, all_of, Precedes, ArePeriods-one, AreClosed-one, ArePeriods-same, closed_at-are, closed_at-prefix, closed_at-rise, filter_all}
 use Rattle.periods.proofs.SearchLemmas.{end_from_quiet, quiet_from_end}
 use Rattle.periods.proofs.LastLemmas.{verdict_at-is}
 
--- a period in its place
+-- inserting a period
 insert_all-at : (P : Closed → Type 0) (c d : Closed) (ds : List Closed) (t u : Bool) → P c → P d → AllByRecursion P ds → AllByRecursion P (insert c ds)
     → AllByRecursion P (if t then c ∷ d ∷ ds else (if u then d ∷ insert c ds else d ∷ ds))
 insert_all-at P c d ds true u hc hd h ih = (hc, (hd, h))
@@ -60,7 +60,7 @@ insert_keeps : (c x : Closed) (ds : List Closed) → In ds x → In (insert c ds
 insert_keeps c x [] i = absurd i
 insert_keeps c x (d ∷ ds) i = insert_keeps-at c d x ds (is_before (closed_place c) (closed_place d)) (is_before (closed_place d) (closed_place c)) i (λ j. insert_keeps c x ds j)
 
--- a period of the list stands at the place
+-- the list has a period at the place
 abbrev pub StandsIn : List Closed → Place → Type 0
 StandsIn xs q = (c : Closed) × In xs c × (closed_place c ≡ q)
 
@@ -92,7 +92,7 @@ is-place_at p q k s = ap (place_in p.stamp) k ∙ ap (λ (x : ℕ). Some (place_
     place_with : ℕ → Key → Place
     place_with x key = record { end = x; key = key }
 
--- each of the list is a period of the parts: what holds of these holds of each
+-- each element of the list is a period of the parts
 all_if : (Is : Closed → Type 0) (r w : ℕ) (parts : List Part) (q : Place) (p : Part) (cs : List Closed) (t : Bool)
     → ((z : Place) → IsPeriod w (Contains parts) z → Is (closed_with z (verdict_at r w parts z))) → quiet parts w q.key q.end ≡ t → In parts p → place_at p ≡ Some q
     → AllByRecursion Is cs → AllByRecursion Is (if t then insert (closed_with q (verdict_at r w parts q)) cs else cs)
@@ -187,61 +187,61 @@ periods_of-are r w parts values = record {
 pub all_values : (parts : List Part) → All IsPartValue parts → (p : Part) → Contains parts p → IsPartValue p
 all_values parts all p i = All-contains IsPartValue parts p all i
 
-pub closed_of-are : (r w mark : ℕ) (parts : List Part) → ((p : Part) → Contains parts p → IsPartValue p) → AreClosed r w (Contains parts) mark (closed_of r w mark parts)
+pub closed_of-are : (r w watermark : ℕ) (parts : List Part) → ((p : Part) → Contains parts p → IsPartValue p) → AreClosed r w (Contains parts) watermark (closed_of r w watermark parts)
 unfolding closed_of
-closed_of-are r w mark parts values = closed_at-are r w (Contains parts) mark (periods_of r w parts) (periods_of-are r w parts values)
+closed_of-are r w watermark parts values = closed_at-are r w (Contains parts) watermark (periods_of r w parts) (periods_of-are r w parts values)
 
 pub periods_of-only : (r w : ℕ) (parts : List Part) (xs : List Closed) → ((p : Part) → Contains parts p → IsPartValue p) → ArePeriods r w (Contains parts) xs → xs ≡ periods_of r w parts
 periods_of-only r w parts xs values h = ArePeriods-one r w (Contains parts) xs (periods_of r w parts) values h (periods_of-are r w parts values)
 
-pub closed_of-only : (r w mark : ℕ) (parts : List Part) (xs : List Closed) → ((p : Part) → Contains parts p → IsPartValue p) → AreClosed r w (Contains parts) mark xs → xs ≡ closed_of r w mark parts
-closed_of-only r w mark parts xs values h = AreClosed-one r w (Contains parts) mark xs (closed_of r w mark parts) values h (closed_of-are r w mark parts values)
+pub closed_of-only : (r w watermark : ℕ) (parts : List Part) (xs : List Closed) → ((p : Part) → Contains parts p → IsPartValue p) → AreClosed r w (Contains parts) watermark xs → xs ≡ closed_of r w watermark parts
+closed_of-only r w watermark parts xs values h = AreClosed-one r w (Contains parts) watermark xs (closed_of r w watermark parts) values h (closed_of-are r w watermark parts values)
 
--- order and repetition are nothing
+-- order and repetition do not matter
 pub order_nothing : (r w : ℕ) (some other : List Part) → ((p : Part) → Contains some p → IsPartValue p) → Same (Contains some) (Contains other) → periods_of r w some ≡ periods_of r w other
 order_nothing r w some other values s = sym (ArePeriods-one r w (Contains some) (periods_of r w other) (periods_of r w some) values
     (ArePeriods-same r w (Contains other) (Contains some) (periods_of r w other) (record { to = s.from; from = s.to }) (periods_of-are r w other (λ p i. values p (s.from p i))))
     (periods_of-are r w some values))
 
 -- parts of a list, and later ones
-pub later_parts : (mark : ℕ) (parts later : List Part) → All (λ p. mark ≤ p.stamp) later → AreLater mark (Contains parts) (Contains (parts ++ later))
-later_parts mark parts later all = record {
+pub later_parts : (watermark : ℕ) (parts later : List Part) → All (λ p. watermark ≤ p.stamp) later → AreLater watermark (Contains parts) (Contains (parts ++ later))
+later_parts watermark parts later all = record {
   keeps = λ p i. Contains-append_left parts later p i;
   later = λ p i. elim (Contains-append_cases parts later p i) [
     | inl a ↦ inl a
-    | inr b ↦ inr (All-contains (λ x. mark ≤ x.stamp) later p all b)
+    | inr b ↦ inr (All-contains (λ x. watermark ≤ x.stamp) later p all b)
   ];
 }
 
 -- and one later part
-pub later_part : (mark : ℕ) (parts : List Part) (p : Part) → mark ≤ p.stamp → AreLater mark (Contains parts) (Contains (parts ++ p ∷ []))
-later_part mark parts p l = record {
+pub later_part : (watermark : ℕ) (parts : List Part) (p : Part) → watermark ≤ p.stamp → AreLater watermark (Contains parts) (Contains (parts ++ p ∷ []))
+later_part watermark parts p l = record {
   keeps = λ q i. Contains-append_left parts (p ∷ []) q i;
-  later = λ q i. elim (Contains-push_cases parts p q i) [ inl o ↦ inl o | inr e ↦ inr (subst (λ (x : Part). mark ≤ x.stamp) e l) ];
+  later = λ q i. elim (Contains-push_cases parts p q i) [ inl o ↦ inl o | inr e ↦ inr (subst (λ (x : Part). watermark ≤ x.stamp) e l) ];
 }
 
-pub closed_of-later : (r w mark : ℕ) (parts later : List Part) → ((p : Part) → Contains (parts ++ later) p → IsPartValue p) → AreLater mark (Contains parts) (Contains (parts ++ later))
-    → closed_of r w mark (parts ++ later) ≡ closed_of r w mark parts
-closed_of-later r w mark parts later values l =
-    let h = closed_of-are r w mark parts (λ p i. values p (l.keeps p i)) in
-    sym (closed_of-only r w mark (parts ++ later) (closed_of r w mark parts) values (record {
+pub closed_of-later : (r w watermark : ℕ) (parts later : List Part) → ((p : Part) → Contains (parts ++ later) p → IsPartValue p) → AreLater watermark (Contains parts) (Contains (parts ++ later))
+    → closed_of r w watermark (parts ++ later) ≡ closed_of r w watermark parts
+closed_of-later r w watermark parts later values l =
+    let h = closed_of-are r w watermark parts (λ p i. values p (l.keeps p i)) in
+    sym (closed_of-only r w watermark (parts ++ later) (closed_of r w watermark parts) values (record {
       ascending = h.ascending;
-      each = λ c i. IsClosed-keeps r w mark (Contains parts) (Contains (parts ++ later)) c l (h.low c i) (h.each c i);
+      each = λ c i. IsClosed-keeps r w watermark (Contains parts) (Contains (parts ++ later)) c l (h.low c i) (h.each c i);
       low = h.low;
-      every = λ q hq low. h.every q (IsPeriod-was w mark (Contains parts) (Contains (parts ++ later)) q l (omega arith) hq) low;
+      every = λ q hq low. h.every q (IsPeriod-was w watermark (Contains parts) (Contains (parts ++ later)) q l (omega arith) hq) low;
     }))
 
-pub closed_of-rise : (r w mark higher : ℕ) (parts : List Part) → mark ≤ higher → IsPrefix (closed_of r w mark parts) (closed_of r w higher parts)
+pub closed_of-rise : (r w watermark higher : ℕ) (parts : List Part) → watermark ≤ higher → IsPeriodPrefix (closed_of r w watermark parts) (closed_of r w higher parts)
 unfolding closed_of periods_of
-closed_of-rise r w mark higher parts l = closed_at-rise w mark higher (periods_ending r w parts parts) l (ending_ascending r w parts parts)
+closed_of-rise r w watermark higher parts l = closed_at-rise w watermark higher (periods_ending r w parts parts) l (ending_ascending r w parts parts)
 
-pub closed_of-front : (r w mark : ℕ) (parts : List Part) → IsPrefix (closed_of r w mark parts) (periods_of r w parts)
+pub closed_of-prefix : (r w watermark : ℕ) (parts : List Part) → IsPeriodPrefix (closed_of r w watermark parts) (periods_of r w parts)
 unfolding closed_of periods_of
-closed_of-front r w mark parts = closed_at-front w mark (periods_ending r w parts parts) (ending_ascending r w parts parts)
+closed_of-prefix r w watermark parts = closed_at-prefix w watermark (periods_ending r w parts parts) (ending_ascending r w parts parts)
 
-pub closed_of-all : (r w mark : ℕ) (parts : List Part) → ((p : Part) → Contains parts p → p.stamp + w < mark) → closed_of r w mark parts ≡ periods_of r w parts
+pub closed_of-all : (r w watermark : ℕ) (parts : List Part) → ((p : Part) → Contains parts p → p.stamp + w < watermark) → closed_of r w watermark parts ≡ periods_of r w parts
 unfolding closed_of periods_of
-closed_of-all r w mark parts low = filter_all (λ c. nat_lt (c.end + w) mark) (periods_ending r w parts parts) (λ c i.
+closed_of-all r w watermark parts low = filter_all (λ c. nat_lt (c.end + w) watermark) (periods_ending r w parts parts) (λ c i.
     let k = All-in (AtPeriod w (Contains parts)) (periods_ending r w parts parts) c (ending_period r w parts parts (λ p j. j)) i in
     let p = k.heard in
-    lt-ltb (c.end + w) mark (subst (λ (s : ℕ). s + w < mark) p.at_stamp (low p.part p.here)))
+    lt-ltb (c.end + w) watermark (subst (λ (s : ℕ). s + w < watermark) p.at_stamp (low p.part p.here)))

@@ -12,11 +12,11 @@ use Rattle.periods.specs.declared.closed.Closed.{Closed}
 use Rattle.nav_eph.specs.Values.{IsPartValue}
 use Rattle.periods.specs.Periods.{IsPeriod, IsBefore, place_numbers}
 use Rattle.periods.specs.Verdicts.{IsClosed, closed_place}
-use Rattle.periods.specs.PeriodLists.{IsAscending, ArePeriods, AreClosed, closed_at, IsPrefix, item_in, items_in}
+use Rattle.periods.specs.PeriodLists.{IsAscending, ArePeriods, AreClosed, closed_at, IsPeriodPrefix, item_in, items_in}
 use Rattle.periods.proofs.Orders.{irreflexive, transitive}
 use Rattle.periods.proofs.PeriodLemmas.{IsPeriod-same}
 use Rattle.periods.proofs.VerdictLemmas.{IsClosed-same, IsClosed-one}
-use Rattle.periods.proofs.EndSurface.{turned}
+use Rattle.periods.proofs.EndSurface.{same_sym}
 
 pub before_irr : (a : Place) → IsBefore a a → ⊥
 before_irr a h = irreflexive (place_numbers a) h
@@ -24,7 +24,7 @@ before_irr a h = irreflexive (place_numbers a) h
 pub before_trans : (a b c : Place) → IsBefore a b → IsBefore b c → IsBefore a c
 before_trans a b c h k = transitive (place_numbers a) (place_numbers b) (place_numbers c) h k
 
--- of two places the first ends no later
+-- the first of two places ends no later
 pub before_end : (a b : Place) → IsBefore a b → a.end ≤ b.end
 before_end a b (inl l) = omega arith
 before_end a b (inr e) = omega (arith, e.0)
@@ -48,7 +48,7 @@ same_heads x y xs ys ax ay (inr i) (inl e) = e
 same_heads x y xs ys ax ay (inr i) (inr j) =
     absurd (before_irr (closed_place x) (before_trans (closed_place x) (closed_place y) (closed_place x) (All-in (Precedes x) xs y ax.0 j) (All-in (Precedes y) ys x ay.0 i)))
 
--- what is behind the head of one is behind that of the other
+-- the elements after the head of one list are those after the head of the other
 tail_in : (x y c : Closed) (xs ys : List Closed) → x ≡ y → AllByRecursion (Precedes x) xs → In xs c → In (y ∷ ys) c → In ys c
 tail_in x y c xs ys e h i (inl f) = absurd (before_irr (closed_place c) (subst (λ (z : Closed). IsBefore (closed_place z) (closed_place c)) (e ∙ f) (All-in (Precedes x) xs c h i)))
 tail_in x y c xs ys e h i (inr j) = j
@@ -62,7 +62,7 @@ ascending_one (x ∷ xs) (y ∷ ys) ax ay to from =
     let rest = ascending_one xs ys ax.1 ay.1 (λ c i. tail_in x y c xs ys e ax.0 i (to c (inr i))) (λ c i. tail_in y x c ys xs (sym e) ay.0 i (from c (inr i))) in
     λ i. e i ∷ rest i
 
--- two lists of exactly the periods of some kind are one
+-- two lists of exactly the same periods have the same elements
 one_of_kind : (Here : Place → Type 0) (Is : Closed → Type 0) (xs ys : List Closed) → ((c d : Closed) → closed_place c ≡ closed_place d → Is c → Is d → c ≡ d)
     → ((c : Closed) → Contains xs c → Is c × Here (closed_place c)) → ((c : Closed) → Contains ys c → Is c)
     → ((q : Place) → Here q → (d : Closed) × Contains ys d × (closed_place d ≡ q)) → (c : Closed) → In xs c → In ys c
@@ -80,20 +80,20 @@ ArePeriods-one r w parts xs ys values hx hy =
 
 -- a period that is closed
 abbrev pub IsLow : ℕ → (Part → Type 0) → ℕ → Place → Type 0
-IsLow w parts mark q = IsPeriod w parts q × (q.end + w < mark)
+IsLow w parts watermark q = IsPeriod w parts q × (q.end + w < watermark)
 
-pub AreClosed-one : (r w : ℕ) (parts : Part → Type 0) (mark : ℕ) (xs ys : List Closed) → ((p : Part) → parts p → IsPartValue p) → AreClosed r w parts mark xs → AreClosed r w parts mark ys → xs ≡ ys
-AreClosed-one r w parts mark xs ys values hx hy =
+pub AreClosed-one : (r w : ℕ) (parts : Part → Type 0) (watermark : ℕ) (xs ys : List Closed) → ((p : Part) → parts p → IsPartValue p) → AreClosed r w parts watermark xs → AreClosed r w parts watermark ys → xs ≡ ys
+AreClosed-one r w parts watermark xs ys values hx hy =
     let one : (c d : Closed) → closed_place c ≡ closed_place d → IsClosed r w parts c → IsClosed r w parts d → c ≡ d = λ c d e h k. IsClosed-one r w parts c d values e h k in
     ascending_one xs ys hx.ascending hy.ascending
-    (one_of_kind (IsLow w parts mark) (IsClosed r w parts) xs ys one (λ c i. let k = hx.each c i in (k, (k.period, hx.low c i))) hy.each (λ q h. hy.every q h.0 h.1))
-    (one_of_kind (IsLow w parts mark) (IsClosed r w parts) ys xs one (λ c i. let k = hy.each c i in (k, (k.period, hy.low c i))) hx.each (λ q h. hx.every q h.0 h.1))
+    (one_of_kind (IsLow w parts watermark) (IsClosed r w parts) xs ys one (λ c i. let k = hx.each c i in (k, (k.period, hx.low c i))) hy.each (λ q h. hy.every q h.0 h.1))
+    (one_of_kind (IsLow w parts watermark) (IsClosed r w parts) ys xs one (λ c i. let k = hy.each c i in (k, (k.period, hy.low c i))) hx.each (λ q h. hx.every q h.0 h.1))
 
 pub ArePeriods-same : (r w : ℕ) (a b : Part → Type 0) (xs : List Closed) → Same a b → ArePeriods r w a xs → ArePeriods r w b xs
 ArePeriods-same r w a b xs s h = record {
   ascending = h.ascending;
   each = λ c i. IsClosed-same r w a b c s (h.each c i);
-  every = λ q p. h.every q (IsPeriod-same w b a q (turned a b s) p);
+  every = λ q p. h.every q (IsPeriod-same w b a q (same_sym a b s) p);
 }
 
 -- those that pass a test
@@ -130,38 +130,38 @@ pub filter_ascending : (t : Closed → Bool) (xs : List Closed) → IsAscending 
 filter_ascending t [] h = tt
 filter_ascending t (x ∷ xs) h = ascending_at t x xs (t x) (filter_keeps (Precedes x) t xs h.0) (filter_ascending t xs h.1)
 
--- those of the periods that are closed at a mark
-pub closed_at-are : (r w : ℕ) (parts : Part → Type 0) (mark : ℕ) (xs : List Closed) → ArePeriods r w parts xs → AreClosed r w parts mark (closed_at w mark xs)
-closed_at-are r w parts mark xs h =
-    let t : Closed → Bool = λ c. nat_lt (c.end + w) mark in
+-- those of the periods that are closed at a watermark
+pub closed_at-are : (r w : ℕ) (parts : Part → Type 0) (watermark : ℕ) (xs : List Closed) → ArePeriods r w parts xs → AreClosed r w parts watermark (closed_at w watermark xs)
+closed_at-are r w parts watermark xs h =
+    let t : Closed → Bool = λ c. nat_lt (c.end + w) watermark in
     record {
       ascending = filter_ascending t xs h.ascending;
       each = λ c i. h.each c (contains_from_In xs c (filter_in t xs c (In-from_contains (filter t xs) c i)).0);
-      low = λ c i. ltb-true (c.end + w) mark (filter_in t xs c (In-from_contains (filter t xs) c i)).1;
+      low = λ c i. ltb-true (c.end + w) watermark (filter_in t xs c (In-from_contains (filter t xs) c i)).1;
       every = λ q p l.
           let f = h.every q p in
-          (f.0, contains_from_In (filter t xs) f.0 (in_filter t xs f.0 (In-from_contains xs f.0 f.1) (lt-ltb (f.0.end + w) mark (subst (λ (z : Place). z.end + w < mark) (sym f.2) l))), f.2);
+          (f.0, contains_from_In (filter t xs) f.0 (in_filter t xs f.0 (In-from_contains xs f.0 f.1) (lt-ltb (f.0.end + w) watermark (subst (λ (z : Place). z.end + w < watermark) (sym f.2) l))), f.2);
     }
 
--- where the first is not closed none is
-none_low : (w mark : ℕ) (x : Closed) (xs : List Closed) → AllByRecursion (Precedes x) xs → mark ≤ x.end + w → closed_at w mark xs ≡ []
-none_low w mark x [] h l = refl
-none_low w mark x (y ∷ ys) h l =
-    let high : nat_lt (y.end + w) mark ≡ false = le-ltb (y.end + w) mark (omega (arith, before_end (closed_place x) (closed_place y) h.0)) in
-    subst (λ (b : Bool). cond b (y ∷ closed_at w mark ys) (closed_at w mark ys) ≡ []) (sym high) (none_low w mark x ys h.1 l)
+-- where the first is not closed, none is
+none_low : (w watermark : ℕ) (x : Closed) (xs : List Closed) → AllByRecursion (Precedes x) xs → watermark ≤ x.end + w → closed_at w watermark xs ≡ []
+none_low w watermark x [] h l = refl
+none_low w watermark x (y ∷ ys) h l =
+    let high : nat_lt (y.end + w) watermark ≡ false = le-ltb (y.end + w) watermark (omega (arith, before_end (closed_place x) (closed_place y) h.0)) in
+    subst (λ (b : Bool). cond b (y ∷ closed_at w watermark ys) (closed_at w watermark ys) ≡ []) (sym high) (none_low w watermark x ys h.1 l)
 
-prefix_more : (x : Closed) (xs ys : List Closed) → IsPrefix xs ys → IsPrefix (x ∷ xs) (x ∷ ys)
+prefix_more : (x : Closed) (xs ys : List Closed) → IsPeriodPrefix xs ys → IsPeriodPrefix (x ∷ xs) (x ∷ ys)
 prefix_more x xs ys p = (p.0, ap (λ (l : List Closed). x ∷ l) p.1)
 
-prefix_at : (w mark : ℕ) (x : Closed) (xs : List Closed) (b : Bool) → nat_lt (x.end + w) mark ≡ b → AllByRecursion (Precedes x) xs → IsPrefix (closed_at w mark xs) xs
-    → IsPrefix (cond b (x ∷ closed_at w mark xs) (closed_at w mark xs)) (x ∷ xs)
-prefix_at w mark x xs true e h p = prefix_more x (closed_at w mark xs) xs p
-prefix_at w mark x xs false e h p = (x ∷ xs, ap (λ (l : List Closed). l ++ x ∷ xs) (sym (none_low w mark x xs h (ltb-false (x.end + w) mark e))))
+prefix_at : (w watermark : ℕ) (x : Closed) (xs : List Closed) (b : Bool) → nat_lt (x.end + w) watermark ≡ b → AllByRecursion (Precedes x) xs → IsPeriodPrefix (closed_at w watermark xs) xs
+    → IsPeriodPrefix (cond b (x ∷ closed_at w watermark xs) (closed_at w watermark xs)) (x ∷ xs)
+prefix_at w watermark x xs true e h p = prefix_more x (closed_at w watermark xs) xs p
+prefix_at w watermark x xs false e h p = (x ∷ xs, ap (λ (l : List Closed). l ++ x ∷ xs) (sym (none_low w watermark x xs h (ltb-false (x.end + w) watermark e))))
 
--- what is closed stands at the front
-pub closed_at-front : (w mark : ℕ) (xs : List Closed) → IsAscending xs → IsPrefix (closed_at w mark xs) xs
-closed_at-front w mark [] h = ([], refl)
-closed_at-front w mark (x ∷ xs) h = prefix_at w mark x xs (nat_lt (x.end + w) mark) refl h.0 (closed_at-front w mark xs h.1)
+-- the closed periods are a prefix
+pub closed_at-prefix : (w watermark : ℕ) (xs : List Closed) → IsAscending xs → IsPeriodPrefix (closed_at w watermark xs) xs
+closed_at-prefix w watermark [] h = ([], refl)
+closed_at-prefix w watermark (x ∷ xs) h = prefix_at w watermark x xs (nat_lt (x.end + w) watermark) refl h.0 (closed_at-prefix w watermark xs h.1)
 
 -- two tests, of which the first lets less pass
 twice_at : (s t : Closed → Bool) (x : Closed) (xs : List Closed) (b c : Bool) → s x ≡ b → t x ≡ c → (b ≡ true → c ≡ true) → filter s (filter t xs) ≡ filter s xs
@@ -175,12 +175,12 @@ filter_twice : (s t : Closed → Bool) (xs : List Closed) → ((x : Closed) → 
 filter_twice s t [] l = refl
 filter_twice s t (x ∷ xs) l = twice_at s t x xs (s x) (t x) refl refl (l x) (filter_twice s t xs l)
 
--- at a higher mark more is closed, behind it
-pub closed_at-rise : (w mark higher : ℕ) (xs : List Closed) → mark ≤ higher → IsAscending xs → IsPrefix (closed_at w mark xs) (closed_at w higher xs)
-closed_at-rise w mark higher xs l h =
-    subst (λ (z : List Closed). IsPrefix z (closed_at w higher xs))
-    (filter_twice (λ c. nat_lt (c.end + w) mark) (λ c. nat_lt (c.end + w) higher) xs (λ x e. lt-ltb (x.end + w) higher (omega (arith, ltb-true (x.end + w) mark e))))
-    (closed_at-front w mark (closed_at w higher xs) (filter_ascending (λ c. nat_lt (c.end + w) higher) xs h))
+-- a higher watermark adds closed periods at the end
+pub closed_at-rise : (w watermark higher : ℕ) (xs : List Closed) → watermark ≤ higher → IsAscending xs → IsPeriodPrefix (closed_at w watermark xs) (closed_at w higher xs)
+closed_at-rise w watermark higher xs l h =
+    subst (λ (z : List Closed). IsPeriodPrefix z (closed_at w higher xs))
+    (filter_twice (λ c. nat_lt (c.end + w) watermark) (λ c. nat_lt (c.end + w) higher) xs (λ x e. lt-ltb (x.end + w) higher (omega (arith, ltb-true (x.end + w) watermark e))))
+    (closed_at-prefix w watermark (closed_at w higher xs) (filter_ascending (λ c. nat_lt (c.end + w) higher) xs h))
 
 all_at : (t : Closed → Bool) (x : Closed) (xs : List Closed) (b : Bool) → t x ≡ b → b ≡ true → filter t xs ≡ xs → cond b (x ∷ filter t xs) (filter t xs) ≡ x ∷ xs
 all_at t x xs true e f ih = ap (λ (l : List Closed). x ∷ l) ih
@@ -190,7 +190,7 @@ pub filter_all : (t : Closed → Bool) (xs : List Closed) → ((x : Closed) → 
 filter_all t [] h = refl
 filter_all t (x ∷ xs) h = all_at t x xs (t x) refl (h x (inl refl)) (filter_all t xs (λ y i. h y (inr i)))
 
--- the items of periods behind others
+-- the items of concatenated lists of periods
 pub items_append : (xs ys : List Closed) → items_in (xs ++ ys) ≡ items_in xs ++ items_in ys
 items_append [] ys = refl
 items_append (x ∷ xs) ys = ap (λ (l : List NavItem). item_in x.verdict ++ l) (items_append xs ys) ∙ sym (append_assoc (item_in x.verdict) (items_in xs) (items_in ys))

@@ -1,4 +1,4 @@
--- The laws of ends, at the stamps of a list.
+-- The laws of ends for the stamps of a list.
 use Rattle.std.proofs.Common.{◌≡◌, ℕ, ◌≤◌, ◌⊎◌, inl, inr, List, [], ◌∷◌, ◌++◌, Some, All, Contains, refl, subst}
 use Rattle.std.proofs.lemmas.List.Elements.{All-contains, Contains-append_left, Contains-append_cases, Contains-push, Contains-push_cases}
 use Rattle.periods.specs.Ends.{IsLaterSet}
@@ -19,11 +19,11 @@ with_stamp stamps s = record {
   only = λ x h. Contains-push_cases stamps s x h;
 }
 
-pub later_list : (mark : ℕ) (stamps later : List ℕ) → All (λ s. mark ≤ s) later → IsLaterSet mark (Contains stamps) (Contains (stamps ++ later))
-later_list mark stamps later all = record {
+pub later_list : (watermark : ℕ) (stamps later : List ℕ) → All (λ s. watermark ≤ s) later → IsLaterSet watermark (Contains stamps) (Contains (stamps ++ later))
+later_list watermark stamps later all = record {
   keeps = λ x h. Contains-append_left stamps later x h;
   later = λ x h. elim (Contains-append_cases stamps later x h) [
     | inl a ↦ inl a
-    | inr b ↦ inr (All-contains (λ s. mark ≤ s) later x all b)
+    | inr b ↦ inr (All-contains (λ s. watermark ≤ s) later x all b)
   ];
 }

@@ -1,7 +1,7 @@
--- Periods of sets of parts, and what they come to by themselves: the same for the same set, kept by later parts where they are closed.
+-- Periods of sets of parts, and their findings: the same for equal sets, kept by later parts where they are closed.
 use Rattle.std.proofs.Common.{◌≡◌, ℕ, ◌+◌, ◌<◌, ◌≤◌, ◌⊎◌, inl, inr, subst, arith}
 use Rattle.periods.specs.Ends.{IsLaterSet}
-use Rattle.periods.proofs.EndSurface.{Same, turned, IsEnd-same, IsEndOf-same, IsEnd-later, IsEnd-was, IsEndOf-later, IsEndOf-was}
+use Rattle.periods.proofs.EndSurface.{Same, same_sym, IsEnd-same, IsEndOf-same, IsEnd-later, IsEnd-was, IsEndOf-later, IsEndOf-was}
 use Rattle.nav_eph.specs.declared.galileo.GalHealth.{GalHealth}
 use Rattle.nav_eph.specs.declared.tag.SentTag.{SentTag}
 use Rattle.nav_eph.specs.declared.part.Part.{Part}
@@ -32,9 +32,9 @@ IsMember-same w a b q p s h = record {
 }
 
 pub members_same : (w : ℕ) (a b : Part → Type 0) (q : Place) → Same a b → Same (IsMember w a q) (IsMember w b q)
-members_same w a b q s = record { to = λ p h. IsMember-same w a b q p s h; from = λ p h. IsMember-same w b a q p (turned a b s) h }
+members_same w a b q s = record { to = λ p h. IsMember-same w a b q p s h; from = λ p h. IsMember-same w b a q p (same_sym a b s) h }
 
--- a part says a health that counts for the key, at its stamp
+-- a part carries health of the key's satellite, at its stamp
 abbrev HasHealthIn : Key → ℕ × GalHealth × SentTag → Part → Type 0
 HasHealthIn (Gal sat i) h p = Says (HealthOf sat) p h
 HasHealthIn key h p = ⊥
@@ -70,48 +70,48 @@ before_same w a b key e s = record { to = λ h v. up_to w a b key e h (λ p l n.
 pub behind_same : (w : ℕ) (a b : Part → Type 0) (key : Key) (e : ℕ) → Same a b → Same (IsBehindEnd w a key e) (IsBehindEnd w b key e)
 behind_same w a b key e s = record { to = λ h v. behind_to w a b key e h (λ p l n. s.to p) v; from = λ h v. behind_to w b a key e h (λ p l n. s.from p) v }
 
--- the second set has the parts of the first, and further ones from the mark on
-pub record AreLater (mark : ℕ) (old new : Part → Type 0) : Type 0 where
+-- the second set has the parts of the first, and further ones from the watermark on
+pub record AreLater (watermark : ℕ) (old new : Part → Type 0) : Type 0 where
   pub keeps : (p : Part) → old p → new p
-  pub later : (p : Part) → new p → old p ⊎ (mark ≤ p.stamp)
+  pub later : (p : Part) → new p → old p ⊎ (watermark ≤ p.stamp)
 
-heard_later : (mark : ℕ) (old new : Part → Type 0) (key : Key) → AreLater mark old new → IsLaterSet mark (IsHeardAt old key) (IsHeardAt new key)
-heard_later mark old new key l = record {
+heard_later : (watermark : ℕ) (old new : Part → Type 0) (key : Key) → AreLater watermark old new → IsLaterSet watermark (IsHeardAt old key) (IsHeardAt new key)
+heard_later watermark old new key l = record {
   keeps = λ s h. heard_to old new key s l.keeps h;
   later = λ s h. elim (l.later h.part h.here) [
     | inl o ↦ inl (record { part = h.part; here = o; of_key = h.of_key; at_stamp = h.at_stamp })
-    | inr m ↦ inr (subst (λ (x : ℕ). mark ≤ x) h.at_stamp m)
+    | inr m ↦ inr (subst (λ (x : ℕ). watermark ≤ x) h.at_stamp m)
   ];
 }
 
-pub IsPeriod-keeps : (w mark : ℕ) (old new : Part → Type 0) (q : Place) → AreLater mark old new → q.end + w < mark → IsPeriod w old q → IsPeriod w new q
-IsPeriod-keeps w mark old new q l low h = IsEnd-later w mark (IsHeardAt old q.key) (IsHeardAt new q.key) q.end (heard_later mark old new q.key l) low h
+pub IsPeriod-keeps : (w watermark : ℕ) (old new : Part → Type 0) (q : Place) → AreLater watermark old new → q.end + w < watermark → IsPeriod w old q → IsPeriod w new q
+IsPeriod-keeps w watermark old new q l low h = IsEnd-later w watermark (IsHeardAt old q.key) (IsHeardAt new q.key) q.end (heard_later watermark old new q.key l) low h
 
-pub IsPeriod-was : (w mark : ℕ) (old new : Part → Type 0) (q : Place) → AreLater mark old new → q.end < mark → IsPeriod w new q → IsPeriod w old q
-IsPeriod-was w mark old new q l low h = IsEnd-was w mark (IsHeardAt old q.key) (IsHeardAt new q.key) q.end (heard_later mark old new q.key l) low h
+pub IsPeriod-was : (w watermark : ℕ) (old new : Part → Type 0) (q : Place) → AreLater watermark old new → q.end < watermark → IsPeriod w new q → IsPeriod w old q
+IsPeriod-was w watermark old new q l low h = IsEnd-was w watermark (IsHeardAt old q.key) (IsHeardAt new q.key) q.end (heard_later watermark old new q.key l) low h
 
-pub members_later : (w mark : ℕ) (old new : Part → Type 0) (q : Place) → AreLater mark old new → q.end + w < mark → Same (IsMember w old q) (IsMember w new q)
-members_later w mark old new q l low = record {
+pub members_later : (w watermark : ℕ) (old new : Part → Type 0) (q : Place) → AreLater watermark old new → q.end + w < watermark → Same (IsMember w old q) (IsMember w new q)
+members_later w watermark old new q l low = record {
   to = λ p h. record {
     here = l.keeps p h.here;
     of_key = h.of_key;
-    ends = IsEndOf-later w mark (IsHeardAt old q.key) (IsHeardAt new q.key) q.end p.stamp (heard_later mark old new q.key l) low h.ends;
+    ends = IsEndOf-later w watermark (IsHeardAt old q.key) (IsHeardAt new q.key) q.end p.stamp (heard_later watermark old new q.key l) low h.ends;
   };
   from = λ p h. record {
     here = elim (l.later p h.here) [ inl o ↦ o | inr m ↦ absurd (omega (arith, h.ends.after)) ];
     of_key = h.of_key;
-    ends = IsEndOf-was w mark (IsHeardAt old q.key) (IsHeardAt new q.key) q.end p.stamp (heard_later mark old new q.key l) low h.ends;
+    ends = IsEndOf-was w watermark (IsHeardAt old q.key) (IsHeardAt new q.key) q.end p.stamp (heard_later watermark old new q.key l) low h.ends;
   };
 }
 
-pub before_later : (w mark : ℕ) (old new : Part → Type 0) (key : Key) (e : ℕ) → AreLater mark old new → e + w < mark → Same (IsUpToEnd w old key e) (IsUpToEnd w new key e)
-before_later w mark old new key e l low = record {
+pub before_later : (w watermark : ℕ) (old new : Part → Type 0) (key : Key) (e : ℕ) → AreLater watermark old new → e + w < watermark → Same (IsUpToEnd w old key e) (IsUpToEnd w new key e)
+before_later w watermark old new key e l low = record {
   to = λ h v. up_to w old new key e h (λ p k n. l.keeps p) v;
   from = λ h v. up_to w new old key e h (λ p k n i. elim (l.later p i) [ inl o ↦ o | inr m ↦ absurd (omega (arith, k)) ]) v;
 }
 
-pub behind_later : (w mark : ℕ) (old new : Part → Type 0) (key : Key) (e : ℕ) → AreLater mark old new → e + w < mark → Same (IsBehindEnd w old key e) (IsBehindEnd w new key e)
-behind_later w mark old new key e l low = record {
+pub behind_later : (w watermark : ℕ) (old new : Part → Type 0) (key : Key) (e : ℕ) → AreLater watermark old new → e + w < watermark → Same (IsBehindEnd w old key e) (IsBehindEnd w new key e)
+behind_later w watermark old new key e l low = record {
   to = λ h v. behind_to w old new key e h (λ p k n. l.keeps p) v;
   from = λ h v. behind_to w new old key e h (λ p k n i. elim (l.later p i) [ inl o ↦ o | inr m ↦ absurd (omega (arith, n)) ]) v;
 }
@@ -126,28 +126,28 @@ before_value w parts key e h v b = health_in_value key parts h v b.heard
 pub behind_value : (w : ℕ) (parts : Part → Type 0) (key : Key) (e : ℕ) (h : ℕ × GalHealth × SentTag) → ((p : Part) → parts p → IsPartValue p) → IsBehindEnd w parts key e h → IsHealthValue h
 behind_value w parts key e h v b = health_in_value key parts h v b.heard
 
--- what a period comes to by itself: the same for the same set, kept by later parts where the period is closed, and one
+-- the finding of a period: the same for equal sets, kept by later parts where the period is closed, and unique
 pub IsFound-same : (r w : ℕ) (a b : Part → Type 0) (q : Place) (f : Finding) → Same a b → IsFound r w a q f → IsFound r w b q f
 IsFound-same r w a b q f s h =
     IsFoundIn-same r q.key (IsMember w a q) (IsMember w b q)
     (IsUpToEnd w a q.key q.end) (IsBehindEnd w a q.key q.end) (IsUpToEnd w b q.key q.end) (IsBehindEnd w b q.key q.end)
     f (members_same w a b q s) (before_same w a b q.key q.end s) (behind_same w a b q.key q.end s) h
 
-pub IsFound-keeps : (r w mark : ℕ) (old new : Part → Type 0) (q : Place) (f : Finding)
-    → AreLater mark old new → q.end + w < mark → IsFound r w old q f → IsFound r w new q f
-IsFound-keeps r w mark old new q f l low h =
+pub IsFound-keeps : (r w watermark : ℕ) (old new : Part → Type 0) (q : Place) (f : Finding)
+    → AreLater watermark old new → q.end + w < watermark → IsFound r w old q f → IsFound r w new q f
+IsFound-keeps r w watermark old new q f l low h =
     IsFoundIn-same r q.key (IsMember w old q) (IsMember w new q)
     (IsUpToEnd w old q.key q.end) (IsBehindEnd w old q.key q.end) (IsUpToEnd w new q.key q.end) (IsBehindEnd w new q.key q.end)
-    f (members_later w mark old new q l low) (before_later w mark old new q.key q.end l low) (behind_later w mark old new q.key q.end l low) h
+    f (members_later w watermark old new q l low) (before_later w watermark old new q.key q.end l low) (behind_later w watermark old new q.key q.end l low) h
 
-pub IsFound-was : (r w mark : ℕ) (old new : Part → Type 0) (q : Place) (f : Finding)
-    → AreLater mark old new → q.end + w < mark → IsFound r w new q f → IsFound r w old q f
-IsFound-was r w mark old new q f l low h =
+pub IsFound-was : (r w watermark : ℕ) (old new : Part → Type 0) (q : Place) (f : Finding)
+    → AreLater watermark old new → q.end + w < watermark → IsFound r w new q f → IsFound r w old q f
+IsFound-was r w watermark old new q f l low h =
     IsFoundIn-same r q.key (IsMember w new q) (IsMember w old q)
     (IsUpToEnd w new q.key q.end) (IsBehindEnd w new q.key q.end) (IsUpToEnd w old q.key q.end) (IsBehindEnd w old q.key q.end)
-    f (turned (IsMember w old q) (IsMember w new q) (members_later w mark old new q l low))
-    (turned (IsUpToEnd w old q.key q.end) (IsUpToEnd w new q.key q.end) (before_later w mark old new q.key q.end l low))
-    (turned (IsBehindEnd w old q.key q.end) (IsBehindEnd w new q.key q.end) (behind_later w mark old new q.key q.end l low)) h
+    f (same_sym (IsMember w old q) (IsMember w new q) (members_later w watermark old new q l low))
+    (same_sym (IsUpToEnd w old q.key q.end) (IsUpToEnd w new q.key q.end) (before_later w watermark old new q.key q.end l low))
+    (same_sym (IsBehindEnd w old q.key q.end) (IsBehindEnd w new q.key q.end) (behind_later w watermark old new q.key q.end l low)) h
 
 pub IsFound-one : (r w : ℕ) (parts : Part → Type 0) (q : Place) (f g : Finding)
     → ((p : Part) → parts p → IsPartValue p) → IsFound r w parts q f → IsFound r w parts q g → f ≡ g

@@ -1,4 +1,4 @@
--- An item that is found of members whose fields are within their digits has its own within theirs.
+-- An item has its fields within their widths in bits where its members have.
 use Rattle.std.proofs.Common.{◌≡◌, ℕ, ◌+◌, ◌*◌, ◌^◌, ◌<◌, ◌≤◌, inl, inr, Some, sym, subst, ◌∙◌, arith}
 use Rattle.gnss_week.specs.Weeks.{IsMoment, IsReference, IsSecond, IsWeek}
 use Rattle.gnss_week.specs.Functions.{gps_week_to, galileo_week_to}
@@ -21,7 +21,7 @@ use Rattle.nav_eph.specs.declared.part.Body.{Body}
 use Rattle.nav_eph.specs.declared.part.Body.TheVariants.{GpsClock as OfClock, GpsA as OfOrbitA, GpsB as OfOrbitB, GalW1 as OfWord1, GalW2 as OfWord2, GalW3 as OfWord3, GalW4 as OfWord4, GalHealth as OfHealth, GpsIon as OfGpsIon, GalIon as OfGalIon}
 use Rattle.periods.specs.declared.key.Key.{Key}
 use Rattle.periods.specs.declared.key.Key.TheVariants.{Gps, Gal, GpsIon, GalIon}
-use Rattle.periods.specs.declared.key.Sending.{Sending}
+use Rattle.periods.specs.declared.key.Transmission.{Transmission}
 use Rattle.periods.specs.declared.closed.Closed.{Closed}
 use Rattle.periods.specs.declared.closed.Finding.{Finding}
 use Rattle.periods.specs.declared.closed.Verdict.TheVariants.{Whole}
@@ -31,7 +31,7 @@ use Rattle.periods.specs.Periods.{IsMember}
 use Rattle.periods.specs.Verdicts.{IsClosed, IsFound, IsUpToEnd, IsBehindEnd, IsItemOf, Repeats, closed_place}
 use Rattle.periods.proofs.Folds.{none_some}
 use Rattle.periods.proofs.PeriodLemmas.{before_value, behind_value}
-use Rattle.periods.proofs.ValueFindings.{IsHealthValue, sending_value, sent_value, toe_value}
+use Rattle.periods.proofs.ValueFindings.{IsHealthValue, transmission_value, sent_value, toe_value}
 use Rattle.periods.proofs.ValueItems.{galileo_week_high, galileo_week_low, gps_week_low}
 use Rattle.periods.proofs.VerdictLemmas.{whole_item}
 
@@ -77,7 +77,7 @@ gal_ion_ranges sat (OfGalIon i w n) content h e = subst IsGalIon (gal_ion_key e)
 gal_ion_ranges sat (OfHealth h t) content k e = absurd (none_some (GalIon content) e)
 gal_ion_ranges sat _ content h e = absurd cc
 
--- ---- weeks and moments
+-- ---- weeks and GPS times
 
 gps_week_high : (r n : ℕ) → IsReference r → gps_week_to r n ≤ 8702
 unfolding gps_week_to
@@ -87,7 +87,7 @@ tag_second_is : (tag : SentTag) → IsSentTag tag → IsSecond (tag_second tag)
 tag_second_is (Sent wn second) h = h.1
 tag_second_is (Toe wn second) h = h.1
 
--- the week of the moment nearest to one of the weeks from 2 to 10,238
+-- the week of the GPS time nearest to one in the weeks 2 to 10,238
 near_week : (week second toe : ℕ) → 2 ≤ week → week ≤ 10238 → IsSecond second → IsSecond toe
     → IsWeek (toe_week_of (604800 * week + second) toe)
 near_week week second toe low high small toe_small =
@@ -106,19 +106,19 @@ gal_toe_week r tag toe reference h small =
     let high = galileo_week_high r (wn_of tag) reference in
     near_week (galileo_week_to r (wn_of tag)) (tag_second tag) (60 * toe) (omega (arith, low)) (omega (arith, high)) (tag_second_is tag h) (omega (arith, small))
 
-gps_ion_moment_is : (r : ℕ) (s : Sending) → IsReference r → s.stamp < 2 ^ 32 → IsSecond s.second → IsMoment (gps_ion_moment r s)
+gps_ion_moment_is : (r : ℕ) (s : Transmission) → IsReference r → s.stamp < 2 ^ 32 → IsSecond s.second → IsMoment (gps_ion_moment r s)
 gps_ion_moment_is r s reference stamp small =
     let n = moment_near-nearest (604800 * r + s.stamp) s.second (omega (arith, reference.0)) small in
     omega (arith, reference.1, stamp, n.to)
 
-gal_ion_moment_is : (r : ℕ) (s : Sending) → IsReference r → IsSecond s.second → IsMoment (gal_ion_moment r s)
+gal_ion_moment_is : (r : ℕ) (s : Transmission) → IsReference r → IsSecond s.second → IsMoment (gal_ion_moment r s)
 gal_ion_moment_is r s reference small =
     let high = galileo_week_high r s.wn reference in
     omega (arith, high, small)
 
 -- ---- the item
 
--- the members are of the key, and each is a value whose satellite is one of its system and whose fields are within their digits
+-- the members are of the key; each has a satellite of its system and fields within their widths in bits
 record AreRanged (key : Key) (members : Part → Type 0) : Type 0 where
   of_key : (p : Part) → members p → key_of p ≡ Some key
   has : (p : Part) → members p → HasPartRanges p
@@ -179,27 +179,27 @@ item_ranges r (Gal s issue) members before behind (GalItem e) reference are firs
 item_ranges r (GpsIon content) members before behind (IonItem e) reference are first second h =
     let f = h.first.here in
     let has = are.has f.part f.here in
-    let at = sending_value members h.sending are.is_value f in
+    let at = transmission_value members h.transmission are.is_value f in
     let content_is : IsIonContent (OfGpsContent content) = gps_ion_ranges f.part.sat f.part.body content has.body (are.of_key f.part f.here) in
     record {
       sat = subst IsRanged (f.says.1 ∙ sym h.sat) has.sat;
       moment = subst IsMoment (sym h.moment)
-          (gps_ion_moment_is r h.sending reference (subst (λ (n : ℕ). n < 2 ^ 32) f.says.0 (are.is_value f.part f.here).stamp) at);
+          (gps_ion_moment_is r h.transmission reference (subst (λ (n : ℕ). n < 2 ^ 32) f.says.0 (are.is_value f.part f.here).stamp) at);
       content = subst IsIonContent (sym h.content) content_is;
     }
 item_ranges r (GalIon content) members before behind (IonItem e) reference are first second h =
     let f = h.first.here in
     let has = are.has f.part f.here in
-    let at = sending_value members h.sending are.is_value f in
+    let at = transmission_value members h.transmission are.is_value f in
     let content_is : IsIonContent (OfGalContent content) = gal_ion_ranges f.part.sat f.part.body content has.body (are.of_key f.part f.here) in
     record {
       sat = subst IsRanged (f.says.1 ∙ sym h.sat) has.sat;
-      moment = subst IsMoment (sym h.moment) (gal_ion_moment_is r h.sending reference at);
+      moment = subst IsMoment (sym h.moment) (gal_ion_moment_is r h.transmission reference at);
       content = subst IsIonContent (sym h.content) content_is;
     }
 item_ranges r key members before behind item reference are first second h = absurd h
 
--- the item of a whole period of parts whose fields are within their digits
+-- the item of a complete period of parts whose fields are within their widths in bits
 pub period_ranges : (r w : ℕ) (parts : Part → Type 0) (c : Closed) (item : NavItem) → IsReference r
     → ((p : Part) → parts p → IsPartValue p) → ((p : Part) → parts p → HasPartRanges p)
     → IsClosed r w parts c → c.verdict ≡ Whole item → HasRanges item

@@ -1,4 +1,4 @@
--- What members and the health near an end come to: one finding at most, and the same of the same sets.
+-- The finding of members and the health near an end: at most one, and the same for equal sets.
 use Rattle.std.proofs.Common.{◌≡◌, ℕ, ◌*◌, inl, inr, ◌==◌, List, ◌∷◌, sym, ap, subst, refl, ◌∙◌, eq-eqb}
 use Rattle.std.specs.List.{AllByRecursion}
 use Rattle.std.proofs.lemmas.Bool.{and_from}
@@ -16,16 +16,16 @@ use Rattle.nav_eph.specs.declared.items.IonEph.{IonEph}
 use Rattle.nav_eph.specs.declared.items.NavItem.{NavItem}
 use Rattle.nav_eph.specs.declared.items.NavItem.TheVariants.{Gps as GpsItem, Gal as GalItem, Ion as IonItem}
 use Rattle.nav_eph.specs.declared.part.Part.{Part}
-use Rattle.nav_eph.proofs.Surface.{one_side, one_tag, one_health, one_sending}
-use Rattle.periods.proofs.EndSurface.{Same, turned}
+use Rattle.nav_eph.proofs.Surface.{one_side, one_tag, one_health, one_transmission}
+use Rattle.periods.proofs.EndSurface.{Same, same_sym}
 use Rattle.periods.specs.declared.key.Key.{Key}
 use Rattle.periods.specs.declared.key.Key.TheVariants.{Gps, Gal, GpsIon, GalIon}
-use Rattle.periods.specs.declared.key.Sending.{Sending}
+use Rattle.periods.specs.declared.key.Transmission.{Transmission}
 use Rattle.periods.specs.declared.closed.Finding.{Finding}
 use Rattle.periods.specs.declared.closed.Finding.TheVariants.{Differs, Misses, LacksHealth, Complete}
 use Rattle.periods.specs.Values.{IsEmpty, IsOnly, IsFirstBy, IsEarlier, IsLater}
 use Rattle.nav_eph.specs.Values.{IsPartValue}
-use Rattle.periods.specs.Parts.{Clock, OrbitA, OrbitB, Word1, Word2, Word3, Word4, Side, FitFlag, SendingTag, ToeTag, IonSending, HealthOf, Value, Says, HasValue, kinds_of, side_numbers, fit_numbers, tag_numbers, health_numbers, sending_numbers}
+use Rattle.periods.specs.Parts.{Clock, OrbitA, OrbitB, Word1, Word2, Word3, Word4, Side, FitFlag, TransmissionTag, ToeTag, IonTransmission, HealthOf, Value, Says, HasValue, kinds_of, side_numbers, fit_numbers, tag_numbers, health_numbers, transmission_numbers}
 use Rattle.nav_eph.specs.Values.{IsBodyValue}
 use Rattle.periods.specs.Items.{toe_week_of, gps_moment, gal_moment, sent_second, gps_ion_moment, gal_ion_moment, IsHealth, IsGpsTag, IsGpsItemOf, IsGalItemOf, IsIonItemOf}
 use Rattle.periods.specs.Verdicts.{IsContradicted, IsPartial, IsWithoutHealth, IsItemOf, IsFoundIn}
@@ -39,25 +39,25 @@ heads e = cc
 tails : {x y : ℕ} {xs ys : List ℕ} → x ∷ xs ≡ y ∷ ys → xs ≡ ys
 tails e = cc
 
--- what holds of a health with its tag
+-- a health and its tag are within their ranges
 pub record IsHealthValue (h : ℕ × GalHealth × SentTag) : Type 0 where
   pub health : IsGalHealth h.1
   pub tag : IsSentTag h.2
 
--- what the parts say is within its digits
-sending_value-in : (p : Part) (v : Sending) → IsBodyValue p.body → Says IonSending p v → IsSecond v.second
-sending_value-in p v b h = elim h.2 [
+-- the values of the parts are within their widths in bits
+transmission_value-in : (p : Part) (v : Transmission) → IsBodyValue p.body → Says IonTransmission p v → IsSecond v.second
+transmission_value-in p v b h = elim h.2 [
   | inl g ↦ (subst IsBodyValue g.1 b).1
   | inr g ↦ (subst IsBodyValue g.1 b).1
 ]
 
-pub sending_value : (members : Part → Type 0) (v : Sending) → ((p : Part) → members p → IsPartValue p) → HasValue IonSending members v → IsSecond v.second
-sending_value members v are h = sending_value-in h.part v (are h.part h.here).body h.says
+pub transmission_value : (members : Part → Type 0) (v : Transmission) → ((p : Part) → members p → IsPartValue p) → HasValue IonTransmission members v → IsSecond v.second
+transmission_value members v are h = transmission_value-in h.part v (are h.part h.here).body h.says
 
 side_value : (members : Part → Type 0) (v : ℕ × GpsSide) → ((p : Part) → members p → IsPartValue p) → HasValue Side members v → IsGpsSide v.1
 side_value members v are h = (subst IsBodyValue h.says.2 (are h.part h.here).body).0
 
-pub sent_value : (members : Part → Type 0) (v : ℕ × SentTag) → ((p : Part) → members p → IsPartValue p) → HasValue SendingTag members v → IsSentTag v.1
+pub sent_value : (members : Part → Type 0) (v : ℕ × SentTag) → ((p : Part) → members p → IsPartValue p) → HasValue TransmissionTag members v → IsSentTag v.1
 sent_value members v are h = subst (λ (x : ℕ × SentTag). IsSentTag x.1) (sym h.says.5) (subst IsBodyValue h.says.4 (are h.part h.here).body).1
 
 pub toe_value : (members : Part → Type 0) (v : ℕ × SentTag) → ((p : Part) → members p → IsPartValue p) → HasValue ToeTag members v → IsSentTag v.1
@@ -66,7 +66,7 @@ toe_value members v are h = subst (λ (x : ℕ × SentTag). IsSentTag x.1) (sym 
 pub health_value : (sat : Satellite) (p : Part) (h : ℕ × GalHealth × SentTag) → IsPartValue p → Says (HealthOf sat) p h → IsHealthValue h
 health_value sat p h v says = let b = subst IsBodyValue says.1 v.body in record { health = b.0; tag = b.1 }
 
--- two that are the only one, and two that are first, are one
+-- only values are equal, and so are first values
 one_only : {X : Type 0} (values : X → Type 0) (v w : X) → IsOnly values v → IsOnly values w → v ≡ w
 one_only values v w h k = k.only v h.here
 
@@ -89,7 +89,7 @@ one_fit_of members v w h k = heads (tails (last_numbers fit_numbers (HasValue Fi
 
 one_tag_of : (members : Part → Type 0) (v w : ℕ × SentTag) → ((p : Part) → members p → IsPartValue p) → IsGpsTag members v → IsGpsTag members w → v.1 ≡ w.1
 one_tag_of members v w are (inl h) (inl k) =
-    one_tag v.1 w.1 (sent_value members v are h.here) (sent_value members w are k.here) (heads (tails (first_numbers tag_numbers (HasValue SendingTag members) v w h k)))
+    one_tag v.1 w.1 (sent_value members v are h.here) (sent_value members w are k.here) (heads (tails (first_numbers tag_numbers (HasValue TransmissionTag members) v w h k)))
 one_tag_of members v w are (inl h) (inr k) = absurd (k.0 v h.here)
 one_tag_of members v w are (inr h) (inl k) = absurd (h.0 w k.here)
 one_tag_of members v w are (inr h) (inr k) =
@@ -110,16 +110,16 @@ one_satellite : (s t : Satellite) → place_of s.system ≡ place_of t.system �
 one_satellite s t e f =
     same_sat-is s t (and_from (place_of s.system == place_of t.system) (s.number == t.number) (eq-eqb (place_of s.system) (place_of t.system) e) (eq-eqb s.number t.number f))
 
-one_sending_of : (members : Part → Type 0) (v w : Sending) → ((p : Part) → members p → IsPartValue p)
-    → IsFirstBy (IsEarlier sending_numbers) (HasValue IonSending members) v → IsFirstBy (IsEarlier sending_numbers) (HasValue IonSending members) w → v ≡ w
-one_sending_of members v w are h k =
-    let e : sending_numbers v ≡ sending_numbers w = first_numbers sending_numbers (HasValue IonSending members) v w h k in
+one_transmission_of : (members : Part → Type 0) (v w : Transmission) → ((p : Part) → members p → IsPartValue p)
+    → IsFirstBy (IsEarlier transmission_numbers) (HasValue IonTransmission members) v → IsFirstBy (IsEarlier transmission_numbers) (HasValue IonTransmission members) w → v ≡ w
+one_transmission_of members v w are h k =
+    let e : transmission_numbers v ≡ transmission_numbers w = first_numbers transmission_numbers (HasValue IonTransmission members) v w h k in
     let stamp : v.stamp ≡ w.stamp = heads e in
     let sat : v.sat ≡ w.sat = one_satellite v.sat w.sat (heads (tails e)) (heads (tails (tails e))) in
-    let time = one_sending v.wn w.wn v.second w.second (sending_value members v are h.here) (sending_value members w are k.here) (heads (tails (tails (tails e)))) in
+    let time = one_transmission v.wn w.wn v.second w.second (transmission_value members v are h.here) (transmission_value members w are k.here) (heads (tails (tails (tails e)))) in
     λ i. record { stamp = stamp i; sat = sat i; wn = time.0 i; second = time.1 i }
 
--- the items are one
+-- the item is unique
 one_gps_item : (r : ℕ) (sat : Satellite) (members : Part → Type 0) (e f : GpsEph) → ((p : Part) → members p → IsPartValue p)
     → IsGpsItemOf r sat members e → IsGpsItemOf r sat members f → e ≡ f
 one_gps_item r sat members e f are h k =
@@ -150,13 +150,13 @@ one_gal_item r sat members before behind e f x y h k =
     let sent : e.sent ≡ f.sent = h.sent ∙ (λ i. sent_second (tag i) (gal_moment r (tag i)) (week i)) ∙ sym k.sent in
     λ i. record { sat = same i; w1 = w1 i; w2 = w2 i; w3 = w3 i; w4 = w4 i; health = health i; toe_week = week i; sent = sent i }
 
-one_ion_item : (moment_of : Sending → ℕ) (said : IonContent) (members : Part → Type 0) (e f : IonEph) → ((p : Part) → members p → IsPartValue p)
+one_ion_item : (moment_of : Transmission → ℕ) (said : IonContent) (members : Part → Type 0) (e f : IonEph) → ((p : Part) → members p → IsPartValue p)
     → IsIonItemOf moment_of said members e → IsIonItemOf moment_of said members f → e ≡ f
 one_ion_item moment_of said members e f are h k =
     let content : e.content ≡ f.content = h.content ∙ sym k.content in
-    let sending : h.sending ≡ k.sending = one_sending_of members h.sending k.sending are h.first k.first in
-    let sat : e.sat ≡ f.sat = h.sat ∙ (λ i. (sending i).sat) ∙ sym k.sat in
-    let moment : e.moment ≡ f.moment = h.moment ∙ (λ i. moment_of (sending i)) ∙ sym k.moment in
+    let transmission : h.transmission ≡ k.transmission = one_transmission_of members h.transmission k.transmission are h.first k.first in
+    let sat : e.sat ≡ f.sat = h.sat ∙ (λ i. (transmission i).sat) ∙ sym k.sat in
+    let moment : e.moment ≡ f.moment = h.moment ∙ (λ i. moment_of (transmission i)) ∙ sym k.moment in
     λ i. record { sat = sat i; moment = moment i; content = content i }
 
 one_item : (r : ℕ) (key : Key) (members : Part → Type 0) (before behind : ℕ × GalHealth × SentTag → Type 0) (e f : NavItem)
@@ -172,7 +172,7 @@ one_item r (GpsIon content) members before behind (IonItem e) f are x y h k = ab
 one_item r (GalIon content) members before behind (IonItem e) f are x y h k = absurd k
 one_item r key members before behind e f are x y h k = absurd h
 
--- where there is an item, the members agree, each kind is there, and so is health
+-- where there is an item, the members agree, and each kind and health are there
 only_each : (r : ℕ) (key : Key) (members : Part → Type 0) (before behind : ℕ × GalHealth × SentTag → Type 0) (e : NavItem)
     → IsItemOf r key members before behind e → AllByRecursion (λ k. (v : Value k) × IsOnly (HasValue k members) v) (kinds_of key)
 only_each r (Gps sat issue) members before behind (GpsItem e) h = ((e.clock, h.clock), ((e.a, h.a), ((e.b, h.b), tt)))
@@ -223,7 +223,7 @@ IsFoundIn-one r key members before behind (Complete i) Misses are x y h k = absu
 IsFoundIn-one r key members before behind (Complete i) LacksHealth are x y h k = absurd (item_healthy r key members before behind i h k.2)
 IsFoundIn-one r key members before behind (Complete i) (Complete j) are x y h k = ap Complete (one_item r key members before behind i j are x y h k)
 
--- of the same sets
+-- findings of equal sets
 contradicted_same : (key : Key) (a b : Part → Type 0) → Same a b → IsContradicted key a → IsContradicted key b
 contradicted_same key a b s = any_same _ _ (kinds_of key) (λ k. Differ-same (HasValue k a) (HasValue k b) (same_values k a b s))
 
@@ -237,9 +237,9 @@ without_same (Gal sat issue) before behind before' behind' s t d = (IsEmpty-same
 without_same (GpsIon content) before behind before' behind' s t d = d
 without_same (GalIon content) before behind before' behind' s t d = d
 
-ion_same : (moment_of : Sending → ℕ) (said : IonContent) (a b : Part → Type 0) (e : IonEph) → Same a b → IsIonItemOf moment_of said a e → IsIonItemOf moment_of said b e
+ion_same : (moment_of : Transmission → ℕ) (said : IonContent) (a b : Part → Type 0) (e : IonEph) → Same a b → IsIonItemOf moment_of said a e → IsIonItemOf moment_of said b e
 ion_same moment_of said a b e s h =
-    record { content = h.content; sending = h.sending; first = first_same IonSending (IsEarlier sending_numbers) a b h.sending s h.first; sat = h.sat; moment = h.moment }
+    record { content = h.content; transmission = h.transmission; first = first_same IonTransmission (IsEarlier transmission_numbers) a b h.transmission s h.first; sat = h.sat; moment = h.moment }
 
 item_same : (r : ℕ) (key : Key) (a b : Part → Type 0) (before behind before' behind' : ℕ × GalHealth × SentTag → Type 0) (e : NavItem)
     → Same a b → Same before before' → Same behind behind' → IsItemOf r key a before behind e → IsItemOf r key b before' behind' e
@@ -253,8 +253,8 @@ item_same r (Gps sat issue) a b before behind before' behind' (GpsItem e) s t u 
   fit_stamp = h.fit_stamp;
   fit = first_same FitFlag (IsLater fit_numbers) a b (h.fit_stamp, e.fit) s h.fit;
   tag = h.tag;
-  tag_is = IsFirstOrElse-same (IsEarlier tag_numbers) (IsEarlier tag_numbers) (HasValue SendingTag a) (HasValue SendingTag b) (HasValue ToeTag a) (HasValue ToeTag b) h.tag
-      (same_values SendingTag a b s) (same_values ToeTag a b s) h.tag_is;
+  tag_is = IsFirstOrElse-same (IsEarlier tag_numbers) (IsEarlier tag_numbers) (HasValue TransmissionTag a) (HasValue TransmissionTag b) (HasValue ToeTag a) (HasValue ToeTag b) h.tag
+      (same_values TransmissionTag a b s) (same_values ToeTag a b s) h.tag_is;
   toe_week = h.toe_week;
   sent = h.sent;
 }
@@ -278,7 +278,7 @@ pub IsFoundIn-same : (r : ℕ) (key : Key) (a b : Part → Type 0) (before behin
     → Same a b → Same before before' → Same behind behind' → IsFoundIn r key a before behind f → IsFoundIn r key b before' behind' f
 IsFoundIn-same r key a b before behind before' behind' Differs s t u h = contradicted_same key a b s h
 IsFoundIn-same r key a b before behind before' behind' Misses s t u h =
-    (λ d. h.0 (contradicted_same key b a (turned a b s) d), partial_same key a b s h.1)
+    (λ d. h.0 (contradicted_same key b a (same_sym a b s) d), partial_same key a b s h.1)
 IsFoundIn-same r key a b before behind before' behind' LacksHealth s t u h =
-    (λ d. h.0 (contradicted_same key b a (turned a b s) d), λ d. h.1 (partial_same key b a (turned a b s) d), without_same key before behind before' behind' t u h.2)
+    (λ d. h.0 (contradicted_same key b a (same_sym a b s) d), λ d. h.1 (partial_same key b a (same_sym a b s) d), without_same key before behind before' behind' t u h.2)
 IsFoundIn-same r key a b before behind before' behind' (Complete item) s t u h = item_same r key a b before behind before' behind' item s t u h

@@ -1,4 +1,4 @@
--- An item that is found of members that are parts fits together: one satellite of the right system, equal issues, and times within
+-- An item of valid parts is valid: one satellite of the right system, equal issues of data, and times within
 -- their ranges.
 use Rattle.std.proofs.Common.{◌≡◌, ℕ, ◌+◌, ◌*◌, ◌/◌, ◌^◌, ◌<◌, ◌≤◌, Some, pos, neg_ℤ, ◌-ℤ◌, ◌≤ℤ◌, refl, sym, ap, subst, ◌∙◌, arith}
 use Rattle.std.proofs.lemmas.Int.{ints}
@@ -27,15 +27,15 @@ use Rattle.nav_eph.specs.declared.part.Body.{Body}
 use Rattle.nav_eph.specs.declared.part.Body.TheVariants.{GpsClock as OfClock, GpsA as OfOrbitA, GpsB as OfOrbitB, GalW1 as OfWord1, GalW2 as OfWord2, GalW3 as OfWord3, GalW4 as OfWord4, GalHealth as OfHealth, GpsIon as OfGpsIon, GalIon as OfGalIon}
 use Rattle.periods.specs.declared.key.Key.{Key}
 use Rattle.periods.specs.declared.key.Key.TheVariants.{Gps, Gal, GpsIon, GalIon}
-use Rattle.periods.specs.declared.key.Sending.{Sending}
+use Rattle.periods.specs.declared.key.Transmission.{Transmission}
 use Rattle.nav_eph.specs.Values.{IsPartValue}
 use Rattle.periods.specs.Parts.{key_in, key_of}
 use Rattle.periods.specs.Items.{gps_moment, gal_moment, toe_week_of, sent_second, gps_ion_moment, gal_ion_moment, IsIonItemOf}
 use Rattle.periods.specs.Verdicts.{IsItemOf}
 use Rattle.periods.proofs.Folds.{none_some}
-use Rattle.periods.proofs.ValueFindings.{sending_value}
+use Rattle.periods.proofs.ValueFindings.{transmission_value}
 
--- the members are of the key, and each is a part of a satellite that sends such
+-- the members are of the key, and each is of a satellite of the right system
 pub record AreParts (key : Key) (members : Part → Type 0) : Type 0 where
   pub of_key : (p : Part) → members p → key_of p ≡ Some key
   pub is_part : (p : Part) → members p → IsPart p.sat p.body
@@ -83,14 +83,14 @@ gal_ion_system sat (OfGalIon i w n) content e p = p.system
 gal_ion_system sat (OfHealth h t) content e p = absurd (none_some (GalIon content) e)
 gal_ion_system sat _ content e p = absurd cc
 
--- the issue that a content bears is the key's
+-- the issue of data in a content is the key's
 gps_issue_is : (p : Part) (s : Satellite) (body : Body) (issue n : ℕ) → key_of p ≡ Some (Gps s issue) → p.body ≡ body → key_in p.sat body ≡ Some (Gps p.sat n) → n ≡ issue
 gps_issue_is p s body issue n e h k = gps_issue (sym k ∙ sym (ap (key_in p.sat) h) ∙ e)
 
 gal_issue_is : (p : Part) (s : Satellite) (body : Body) (issue n : ℕ) → key_of p ≡ Some (Gal s issue) → p.body ≡ body → key_in p.sat body ≡ Some (Gal p.sat n) → n ≡ issue
 gal_issue_is p s body issue n e h k = gal_issue (sym k ∙ sym (ap (key_in p.sat) h) ∙ e)
 
--- the weeks that numbers mean, whatever the numbers
+-- ranges of resolved week numbers
 pub gps_week_low : (r n : ℕ) → IsReference r → 512 ≤ gps_week_to r n
 unfolding gps_week_to
 gps_week_low r n reference = omega (arith, reference.0)
@@ -103,7 +103,7 @@ pub galileo_week_high : (r n : ℕ) → IsReference r → galileo_week_to r n �
 unfolding galileo_week_to
 galileo_week_high r n reference = omega (arith, reference.1)
 
--- the second of sending lies near the week of toe
+-- the transmission time lies near the week of toe
 near_week : (t m : ℕ) → t < m + 302400 → m ≤ t + 302400
     → (neg_ℤ (pos 302400) ≤ℤ (pos t -ℤ pos (604800 * (m / 604800)))) × ((pos t -ℤ pos (604800 * (m / 604800))) ≤ℤ pos 907199)
 near_week t m h k = (omega (arith, ints), omega (arith, ints))
@@ -124,27 +124,27 @@ gal_sent r tag toe reference small =
     sent_in_range tag (gal_moment r tag) (60 * toe) (omega arith) (omega arith)
 
 -- the week of an ionosphere
-gps_ion_week : (r : ℕ) (s : Sending) → IsReference r → s.stamp < 2 ^ 32 → IsSecond s.second → IsWeek (week_of (gps_ion_moment r s))
+gps_ion_week : (r : ℕ) (s : Transmission) → IsReference r → s.stamp < 2 ^ 32 → IsSecond s.second → IsWeek (week_of (gps_ion_moment r s))
 gps_ion_week r s reference stamp small =
     let n = moment_near-nearest (604800 * r + s.stamp) s.second (omega (arith, reference.0)) small in
     (omega (arith, reference.0, n.from, n.to), omega (arith, reference.1, n.from, n.to))
 
-gal_ion_week : (r : ℕ) (s : Sending) → IsReference r → IsSecond s.second → IsWeek (week_of (gal_ion_moment r s))
+gal_ion_week : (r : ℕ) (s : Transmission) → IsReference r → IsSecond s.second → IsWeek (week_of (gal_ion_moment r s))
 gal_ion_week r s reference small =
     let low : 1024 ≤ galileo_week_to r s.wn = galileo_week_low r s.wn reference in
     let high : galileo_week_to r s.wn ≤ 10238 = galileo_week_high r s.wn reference in
     (omega arith, omega arith)
 
--- the second of sending as the item has it
+-- the transmission time of the item
 sent_is : (tag : SentTag) (moment second week : ℕ) (sent : SentSecond) → week ≡ toe_week_of moment second → sent ≡ sent_second tag moment week
     → IsSentSecond (sent_second tag moment (toe_week_of moment second)) → IsSentSecond sent
 sent_is tag moment second week sent e f h = subst IsSentSecond (sym (f ∙ ap (λ (w : ℕ). sent_second tag moment w) e)) h
 
--- an ionosphere is of its sender's system, and its week is one
-ion_fits : (r : ℕ) (key : Key) (moment_of : Sending → ℕ) (said : IonContent) (members : Part → Type 0) (e : IonEph) → AreParts key members → HasRanges (IonItem e)
+-- an ionosphere is of its satellite's system, and its week is in range
+ion_fits : (r : ℕ) (key : Key) (moment_of : Transmission → ℕ) (said : IonContent) (members : Part → Type 0) (e : IonEph) → AreParts key members → HasRanges (IonItem e)
     → IsIonItemOf moment_of said members e
     → ((p : Part) → key_of p ≡ Some key → IsPart p.sat p.body → p.sat.system ≡ content_system said)
-    → ((s : Sending) → s.stamp < 2 ^ 32 → IsSecond s.second → IsWeek (week_of (moment_of s))) → FitsTogether (IonItem e)
+    → ((s : Transmission) → s.stamp < 2 ^ 32 → IsSecond s.second → IsWeek (week_of (moment_of s))) → FitsTogether (IonItem e)
 ion_fits r key moment_of said members e are ranges h system week =
     let f = h.first.here in
     record {
@@ -153,7 +153,7 @@ ion_fits r key moment_of said members e are ranges h system week =
         system = system_same f.part.sat e.sat (content_system said) (f.says.1 ∙ sym h.sat) (system f.part (are.of_key f.part f.here) (are.is_part f.part f.here))
             ∙ sym (ap content_system h.content);
         week = subst (λ (m : ℕ). IsWeek (week_of m)) (sym h.moment)
-            (week h.sending (subst (λ (n : ℕ). n < 2 ^ 32) f.says.0 (are.is_value f.part f.here).stamp) (sending_value members h.sending are.is_value f));
+            (week h.transmission (subst (λ (n : ℕ). n < 2 ^ 32) f.says.0 (are.is_value f.part f.here).stamp) (transmission_value members h.transmission are.is_value f));
       };
     }
 

@@ -1,6 +1,6 @@
--- Verdicts: the same for the same set, kept by later parts where the period is closed, and one.
+-- Verdicts: the same for equal sets, kept by later parts where the period is closed, and unique.
 use Rattle.std.proofs.Common.{◌≡◌, ℕ, ◌+◌, ◌<◌, inl, inr, sym, ap, subst, ◌∙◌}
-use Rattle.periods.proofs.EndSurface.{Same, turned}
+use Rattle.periods.proofs.EndSurface.{Same, same_sym}
 use Rattle.gnss_week.specs.Weeks.{IsReference}
 use Rattle.nav_eph.specs.Conditions.{IsPart}
 use Rattle.nav_eph.specs.Ranges.{HasRanges, IsItem}
@@ -24,28 +24,28 @@ IsVerdict-same r w a b q v s h = record {
   finding = h.finding;
   found = IsFound-same r w a b q h.finding s h.found;
   judged = IsJudged-same (Repeats r w a q) (Repeats r w b q) h.finding v
-      (record { to = λ item k. Repeats-same r w a b q item s k; from = λ item k. Repeats-same r w b a q item (turned a b s) k }) h.judged;
+      (record { to = λ item k. Repeats-same r w a b q item s k; from = λ item k. Repeats-same r w b a q item (same_sym a b s) k }) h.judged;
 }
 
 pub IsClosed-same : (r w : ℕ) (a b : Part → Type 0) (c : Closed) → Same a b → IsClosed r w a c → IsClosed r w b c
 IsClosed-same r w a b c s h = record { period = IsPeriod-same w a b (closed_place c) s h.period; verdict = IsVerdict-same r w a b (closed_place c) c.verdict s h.verdict }
 
--- what is closed keeps its verdict
-pub IsVerdict-keeps : (r w mark : ℕ) (old new : Part → Type 0) (q : Place) (v : Verdict)
-    → AreLater mark old new → q.end + w < mark → IsVerdict r w old q v → IsVerdict r w new q v
-IsVerdict-keeps r w mark old new q v l low h = record {
+-- a closed period keeps its verdict
+pub IsVerdict-keeps : (r w watermark : ℕ) (old new : Part → Type 0) (q : Place) (v : Verdict)
+    → AreLater watermark old new → q.end + w < watermark → IsVerdict r w old q v → IsVerdict r w new q v
+IsVerdict-keeps r w watermark old new q v l low h = record {
   finding = h.finding;
-  found = IsFound-keeps r w mark old new q h.finding l low h.found;
+  found = IsFound-keeps r w watermark old new q h.finding l low h.found;
   judged = IsJudged-same (Repeats r w old q) (Repeats r w new q) h.finding v (record {
-    to = λ item k. Repeats-keeps r w mark old new q item l low k;
-    from = λ item k. Repeats-was r w mark old new q item l low k;
+    to = λ item k. Repeats-keeps r w watermark old new q item l low k;
+    from = λ item k. Repeats-was r w watermark old new q item l low k;
   }) h.judged;
 }
 
-pub IsClosed-keeps : (r w mark : ℕ) (old new : Part → Type 0) (c : Closed) → AreLater mark old new → c.end + w < mark → IsClosed r w old c → IsClosed r w new c
-IsClosed-keeps r w mark old new c l low h = record {
-  period = IsPeriod-keeps w mark old new (closed_place c) l low h.period;
-  verdict = IsVerdict-keeps r w mark old new (closed_place c) c.verdict l low h.verdict;
+pub IsClosed-keeps : (r w watermark : ℕ) (old new : Part → Type 0) (c : Closed) → AreLater watermark old new → c.end + w < watermark → IsClosed r w old c → IsClosed r w new c
+IsClosed-keeps r w watermark old new c l low h = record {
+  period = IsPeriod-keeps w watermark old new (closed_place c) l low h.period;
+  verdict = IsVerdict-keeps r w watermark old new (closed_place c) c.verdict l low h.verdict;
 }
 
 -- a period has one verdict
@@ -62,7 +62,7 @@ IsClosed-one r w parts c d values e h k =
     let g : c.key ≡ d.key = ap (λ (q : Place). q.key) e in
     λ i. record { end = f i; key = g i; verdict = v i }
 
--- the item of a whole period is what it comes to
+-- the item of a period with the verdict `Whole` is that of its finding
 pub whole_item : (repeats : NavItem → Type 0) (f : Finding) (item : NavItem) (v : Verdict) → IsJudged repeats f v → v ≡ Whole item → f ≡ Complete item
 whole_item repeats Differs item v h e = absurd (let g : Contradicted ≡ Whole item = sym h ∙ e in cc)
 whole_item repeats Misses item v h e = absurd (let g : Partial ≡ Whole item = sym h ∙ e in cc)
@@ -72,7 +72,7 @@ whole_item repeats (Complete x) item v h e = elim h [
   | inr y ↦ let g : Whole x ≡ Whole item = sym y.1 ∙ e in cc
 ]
 
--- what is said again repeats
+-- a period with the verdict `Again` repeats an earlier one
 pub again_repeats : (repeats : NavItem → Type 0) (f : Finding) (v : Verdict) → IsJudged repeats f v → v ≡ Again → (item : NavItem) × repeats item
 again_repeats repeats Differs v h e = absurd (let g : Contradicted ≡ Again = sym h ∙ e in cc)
 again_repeats repeats Misses v h e = absurd (let g : Partial ≡ Again = sym h ∙ e in cc)

@@ -1,7 +1,7 @@
--- What parts are parts of: keys, contents, and what stands beside the contents.
+-- Keys of parts, and the values that parts carry.
 use Rattle.std.specs.Prelude.{◌≡◌, ℕ, ◌%◌, ◌⊎◌, List, [], ◌∷◌, Option, None, Some}
 use Rattle.nav_eph.specs.Satellite.{Satellite, place_of}
-use Rattle.nav_eph.specs.Numbers.{side_number, tag_number, health_number, gal_sending}
+use Rattle.nav_eph.specs.Numbers.{side_number, tag_number, health_number, gal_transmission}
 use Rattle.nav_eph.specs.declared.gps.GpsClock.{GpsClock}
 use Rattle.nav_eph.specs.declared.gps.GpsSide.{GpsSide}
 use Rattle.nav_eph.specs.declared.gps.GpsOrbitA.{GpsOrbitA}
@@ -20,10 +20,10 @@ use Rattle.nav_eph.specs.declared.part.Body.{Body}
 use Rattle.nav_eph.specs.declared.part.Body.TheVariants.{GpsClock as OfClock, GpsA as OfOrbitA, GpsB as OfOrbitB, GalW1 as OfWord1, GalW2 as OfWord2, GalW3 as OfWord3, GalW4 as OfWord4, GalHealth as OfHealth, GpsIon as OfGpsIon, GalIon as OfGalIon}
 use Rattle.periods.specs.declared.key.Key.{Key}
 use Rattle.periods.specs.declared.key.Key.TheVariants.{Gps, Gal, GpsIon, GalIon}
-use Rattle.periods.specs.declared.key.Sending.{Sending}
+use Rattle.periods.specs.declared.key.Transmission.{Transmission}
 
--- the key of what a satellite says: the satellite with the low eight bits of iodc, with iode or with iodnav; for an ionosphere the
--- content itself, whoever says it; health has none (IS-GPS-200, 20.3.3.3.1.5 and 20.3.4.4; Galileo OS SIS ICD, 5.1.9.2)
+-- the key of a satellite and body: the satellite with the low eight bits of IODC, with IODE or with IODnav; the content of an
+-- ionosphere; none for health (IS-GPS-200, 20.3.3.3.1.5 and 20.3.4.4; Galileo OS SIS ICD, 5.1.9.2)
 abbrev pub key_in : Satellite → Body → Option Key
 key_in sat (OfClock clock side tag) = Some (Gps sat (clock.iodc % 256))
 key_in sat (OfOrbitA orbit fit) = Some (Gps sat orbit.iode)
@@ -40,7 +40,7 @@ key_in sat (OfGalIon ionosphere wn second) = Some (GalIon ionosphere)
 abbrev pub key_of : Part → Option Key
 key_of p = key_in p.sat p.body
 
--- the kinds of values that parts say: the contents, and what stands beside these
+-- the kinds of values that parts carry: contents, and values that are sent along with a content
 pub data Kind : Type 0 where
   Clock : Kind
   OrbitA : Kind
@@ -51,12 +51,12 @@ pub data Kind : Type 0 where
   Word4 : Kind
   Side : Kind
   FitFlag : Kind
-  SendingTag : Kind
+  TransmissionTag : Kind
   ToeTag : Kind
-  IonSending : Kind
+  IonTransmission : Kind
   HealthOf : Satellite → Kind
 
--- the values of a kind; with what stands beside a content goes the stamp of its part
+-- the values of a kind; those sent along with a content have the stamp of their part
 abbrev pub Value : Kind → Type 0
 Value Clock = GpsClock
 Value OrbitA = GpsOrbitA
@@ -67,13 +67,13 @@ Value Word3 = GalWord3
 Value Word4 = GalWord4
 Value Side = ℕ × GpsSide
 Value FitFlag = ℕ × ℕ
-Value SendingTag = ℕ × SentTag
+Value TransmissionTag = ℕ × SentTag
 Value ToeTag = ℕ × SentTag
-Value IonSending = Sending
+Value IonTransmission = Transmission
 Value (HealthOf sat) = ℕ × GalHealth × SentTag
 
--- The part says the value. A tag of GPS names the moment of sending or a toe; GPS names no week with an ionosphere, and 0 stands in its
--- place; health is said of the part's own satellite.
+-- The part carries the value. A GPS tag names a transmission time or a toe; the week of a GPS ionosphere is not sent and is 0;
+-- health is that of the part's satellite.
 abbrev pub Says : (k : Kind) → Part → Value k → Type 0
 Says Clock p clock = (side : GpsSide) × (tag : SentTag) × (p.body ≡ OfClock clock side tag)
 Says OrbitA p orbit = (fit : ℕ) × (p.body ≡ OfOrbitA orbit fit)
@@ -84,44 +84,47 @@ Says Word3 p word = p.body ≡ OfWord3 word
 Says Word4 p word = p.body ≡ OfWord4 word
 Says Side p v = (clock : GpsClock) × (tag : SentTag) × (p.body ≡ OfClock clock v.1 tag) × (p.stamp ≡ v.0)
 Says FitFlag p v = (orbit : GpsOrbitA) × (p.body ≡ OfOrbitA orbit v.1) × (p.stamp ≡ v.0)
-Says SendingTag p v = (clock : GpsClock) × (side : GpsSide) × (wn : ℕ) × (second : ℕ) × (p.body ≡ OfClock clock side (Sent wn second)) × (v ≡ (p.stamp, Sent wn second))
+Says TransmissionTag p v = (clock : GpsClock) × (side : GpsSide) × (wn : ℕ) × (second : ℕ) × (p.body ≡ OfClock clock side (Sent wn second)) × (v ≡ (p.stamp, Sent wn second))
 Says ToeTag p v = (clock : GpsClock) × (side : GpsSide) × (wn : ℕ) × (second : ℕ) × (p.body ≡ OfClock clock side (Toe wn second)) × (v ≡ (p.stamp, Toe wn second))
-Says IonSending p s = (p.stamp ≡ s.stamp) × (p.sat ≡ s.sat)
+Says IonTransmission p s = (p.stamp ≡ s.stamp) × (p.sat ≡ s.sat)
     × (((ion : GpsIonosphere) × (p.body ≡ OfGpsIon ion s.second) × (s.wn ≡ 0)) ⊎ ((ion : GalIonosphere) × (p.body ≡ OfGalIon ion s.wn s.second)))
 Says (HealthOf sat) p v = (p.sat ≡ sat) × (p.body ≡ OfHealth v.1 v.2) × (p.stamp ≡ v.0)
 
--- some part of a set says the value
+-- some part of the set carries the value
 pub record HasValue (k : Kind) (set : Part → Type 0) (v : Value k) : Type 0 where
   pub part : Part
   pub here : set part
   pub says : Says k part v
 
--- the kinds of contents that an item of the key is made of; an ionosphere's content is its key
+-- the kinds of contents that make an item of the key; none for an ionosphere, whose content is the key
 abbrev pub kinds_of : Key → List Kind
 kinds_of (Gps sat issue) = Clock ∷ OrbitA ∷ OrbitB ∷ []
 kinds_of (Gal sat issue) = Word1 ∷ Word2 ∷ Word3 ∷ Word4 ∷ []
 kinds_of (GpsIon content) = []
 kinds_of (GalIon content) = []
 
--- it holds of one of the kinds
+-- P holds of one of the kinds
 abbrev pub AnyOf : (Kind → Type 0) → List Kind → Type 0
 AnyOf P [] = ⊥
 AnyOf P (k ∷ []) = P k
 AnyOf P (k ∷ l ∷ ks) = P k ⊎ AnyOf P (l ∷ ks)
 
--- the numbers by which these are compared: the stamp, and then the number that the binary digits give
+-- the order of SV statuses: by stamp, then by the number of their bits
 abbrev pub side_numbers : ℕ × GpsSide → List ℕ
 side_numbers v = v.0 ∷ side_number v.1 ∷ []
 
+-- the order of fit interval flags: by stamp, then by flag
 abbrev pub fit_numbers : ℕ × ℕ → List ℕ
 fit_numbers v = v.0 ∷ v.1 ∷ []
 
+-- the order of tags: by stamp, then by the number of their bits
 abbrev pub tag_numbers : ℕ × SentTag → List ℕ
 tag_numbers v = v.0 ∷ tag_number v.1 ∷ []
 
+-- the order of healths: by stamp, then by the number of their bits and those of the tag
 abbrev pub health_numbers : ℕ × GalHealth × SentTag → List ℕ
 health_numbers v = v.0 ∷ health_number v.1 v.2 ∷ []
 
--- of a sending the stamp, the satellite, and the number of its time
-abbrev pub sending_numbers : Sending → List ℕ
-sending_numbers s = s.stamp ∷ place_of s.sat.system ∷ s.sat.number ∷ gal_sending s.wn s.second ∷ []
+-- the order of transmissions: by stamp, satellite, and week number and second
+abbrev pub transmission_numbers : Transmission → List ℕ
+transmission_numbers s = s.stamp ∷ place_of s.sat.system ∷ s.sat.number ∷ gal_transmission s.wn s.second ∷ []

@@ -1,32 +1,32 @@
 use crate::key::{Key, Place};
 use nav_eph::NavItem;
 
-/// What a period comes to by itself.
+/// What the parts of a period come to, without a look at earlier periods.
 #[derive(Clone, Copy)]
 pub enum Finding {
-    /// Two members of one kind differ in content.
+    /// Two parts of one kind differ in content.
     Differs,
-    /// A kind has no member.
+    /// A part is missing: a subframe of GPS, or a word of Galileo.
     Misses,
-    /// No health of the Galileo satellite was heard near the end.
+    /// No health (word type 5) of the Galileo satellite was received within the window of the end.
     LacksHealth,
-    /// All is there and agrees; this is its item.
+    /// All parts are there and agree; this is the item.
     Complete(NavItem),
 }
 
-/// What is said of a period.
+/// The verdict on a period.
 #[derive(Clone, Copy, PartialEq, Eq)]
 pub enum Verdict {
-    /// All of its parts were heard and agree, and make a new item, which this is.
+    /// All parts were received and agree; this is their item, which is new.
     Whole(NavItem),
-    /// A kind of part was not heard.
+    /// A part was not received: a subframe of GPS, or a word of Galileo.
     Partial,
     /// Two parts of one kind differ in content.
     Contradicted,
-    /// No health of the Galileo satellite was heard within the window of the end.
+    /// No health of the Galileo satellite was received within the window of the end.
     NoHealth,
-    /// All of its parts were heard and agree, and in all but the transmission time they repeat
-    /// the last complete period of the same ephemeris.
+    /// All parts were received and agree, and equal in all but the transmission time the last
+    /// complete period of the same key.
     Again,
 }
 
@@ -35,8 +35,8 @@ pub enum Verdict {
 pub struct Closed {
     /// The stamp of its last part.
     pub end: u32,
-    /// What its parts are parts of.
+    /// The key of its parts.
     pub key: Key,
-    /// What is said of it.
+    /// The verdict on it.
     pub verdict: Verdict,
 }

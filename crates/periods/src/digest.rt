@@ -1,59 +1,59 @@
-use crate::key::Sending;
+use crate::key::Transmission;
 use nav_bits::U;
 use nav_eph::{
     GalWord1, GalWord2, GalWord3, GalWord4, GpsClock, GpsOrbitA, GpsOrbitB, GpsSide, SentTag,
 };
 
-/// What is known of the contents of one kind.
+/// The contents of one kind that were received.
 #[derive(Clone, Copy, PartialEq, Eq)]
 pub enum Seen<T> {
-    /// None was heard.
+    /// None.
     Nothing,
-    /// All that were heard are this one.
+    /// One content, perhaps repeated.
     One(T),
-    /// Two that were heard differ.
+    /// Two that differ.
     Different,
 }
 
-/// What members of a key of GPS ephemerides come to.
+/// The digest of parts of a GPS ephemeris key.
 #[derive(Clone, Copy)]
 pub struct GpsDigest {
-    /// The clocks.
+    /// The clock parameters of subframe 1.
     pub clock: Seen<GpsClock>,
-    /// The first halves of the orbit.
+    /// The orbit parameters of subframe 2.
     pub a: Seen<GpsOrbitA>,
-    /// The second halves of the orbit.
+    /// The orbit parameters of subframe 3.
     pub b: Seen<GpsOrbitB>,
-    /// The side that came last, with its stamp.
+    /// The latest SV status of subframe 1, with its stamp.
     pub side: Option<(u32, GpsSide)>,
-    /// The fit interval flag that came last, with its stamp.
+    /// The latest fit interval flag, with its stamp.
     pub fit: Option<(u32, U<1>)>,
-    /// The tag that came first of those that name the moment of sending, with its stamp.
+    /// The earliest tag that names a transmission time, with its stamp.
     pub sent: Option<(u32, SentTag)>,
-    /// The tag that came first of those that name a toe, with its stamp.
+    /// The earliest tag that names a toe, with its stamp.
     pub toe: Option<(u32, SentTag)>,
 }
 
-/// What members of a key of Galileo ephemerides come to.
+/// The digest of parts of a Galileo ephemeris key.
 #[derive(Clone, Copy)]
 pub struct GalDigest {
-    /// The words 1.
+    /// Word type 1.
     pub w1: Seen<GalWord1>,
-    /// The words 2.
+    /// Word type 2.
     pub w2: Seen<GalWord2>,
-    /// The words 3.
+    /// Word type 3.
     pub w3: Seen<GalWord3>,
-    /// The words 4.
+    /// Word type 4.
     pub w4: Seen<GalWord4>,
 }
 
-/// What members of a key come to, one at least.
+/// The digest of one or more parts of a key.
 #[derive(Clone, Copy)]
 pub enum Digest {
-    /// Of a key of GPS ephemerides.
+    /// Of a GPS ephemeris key.
     Gps(GpsDigest),
-    /// Of a key of Galileo ephemerides.
+    /// Of a Galileo ephemeris key.
     Gal(GalDigest),
-    /// Of a key of an ionosphere: the sending that came first.
-    Ion(Sending),
+    /// Of an ionosphere key: the earliest transmission.
+    Ion(Transmission),
 }

@@ -14,7 +14,7 @@ ghost use Rattle.nav_eph.specs.Conditions.{wn_of};
 
 use crate::closed::Finding;
 use crate::digest::{Digest, GalDigest, GpsDigest, Seen};
-use crate::key::{Key, Sending};
+use crate::key::{Key, Transmission};
 use gnss_week::{Moment, RefWeek, Second, Week, gal_week, gps_week, nearest_moment};
 use nav_bits::U;
 use nav_eph::{
@@ -22,10 +22,10 @@ use nav_eph::{
     GpsOrbitA, GpsOrbitB, GpsSide, IonContent, IonEph, NavItem, Sat, SentSecond, SentTag,
 };
 
-// The seconds of a week.
+// Seconds in a week.
 const WEEK: u64 = 604_800;
 
-// The week number that a tag bears.
+// The week number of a tag.
 fn tag_wn(tag: &SentTag) -> U<12>
     ensures { result ≡ wn_of tag.now }
 {
@@ -35,7 +35,7 @@ fn tag_wn(tag: &SentTag) -> U<12>
     }
 }
 
-// The second of the week that a tag names.
+// The second of the week of a tag.
 fn second_of_tag(tag: &SentTag) -> Second
     ensures { result ≡ tag_second tag.now }
 {
@@ -45,18 +45,18 @@ fn second_of_tag(tag: &SentTag) -> Second
     }
 }
 
-// The moment that a tag of GPS names, for a reader near the week `r`.
+// The GPS time of a GPS tag; its 10-bit week number is resolved near the reference week `r`.
 fn gps_moment_near(r: RefWeek, tag: &SentTag) -> Moment
     ensures same { result ≡ gps_moment r tag.now }
     ensures low { 2 ≤ week_of result }
     ensures high { week_of result ≤ 16381 }
 {
-    let week = gps_week(r, U::from_digits(tag_wn(tag).value() % 1_024));
+    let week = gps_week(r, U::from_bits(tag_wn(tag).value() % 1_024));
     let second = second_of_tag(tag);
     Moment::from_seconds(WEEK * week.value() as u64 + second.value() as u64)
 }
 
-// The moment of that second of the Galileo week that `wn` means near the week `r`.
+// The GPS time of a second of the Galileo week `wn` (12 bits), resolved near the reference week `r`.
 fn gal_moment_at(r: RefWeek, wn: U<12>, second: Second) -> Moment
     ensures same { result ≡ 604800 * galileo_week_to r wn + second }
     ensures low { 2 ≤ week_of result }
@@ -66,7 +66,7 @@ fn gal_moment_at(r: RefWeek, wn: U<12>, second: Second) -> Moment
     Moment::from_seconds(WEEK * week.value() as u64 + second.value() as u64)
 }
 
-// So many seconds after the start of the week of toe, or before it.
+// Seconds from the start of the week of toe; negative before it.
 fn seconds_from(week: Week, moment: Moment) -> i32
     requires near { 604800 * week ≤ moment + 302400 }
     requires close { moment ≤ 604800 * week + 907199 }
@@ -75,7 +75,7 @@ fn seconds_from(week: Week, moment: Moment) -> i32
     (moment.value() as i64 - (WEEK * week.value() as u64) as i64) as i32
 }
 
-// The week of toe by a tag's moment and the second of toe, and the second of sending in it.
+// The week of toe nearest to the tag's time, and the transmission time counted from its start.
 fn toe_and_sent(tag: SentTag, moment: Moment, toe_second: Second) -> (Week, SentSecond)
     requires low { 2 ≤ week_of moment }
     requires high { week_of moment ≤ 16381 }
@@ -90,14 +90,14 @@ fn toe_and_sent(tag: SentTag, moment: Moment, toe_second: Second) -> (Week, Sent
     }
 }
 
-// The second of toe of GPS.
+// toe of GPS in seconds of the week; the scale factor is 2^4.
 fn gps_toe(a: &GpsOrbitA) -> Second
     ensures { result ≡ 16 * a.now.toe }
 {
     Second::from_number(16 * a.toe.value() as u32)
 }
 
-// The second of toe of Galileo.
+// toe of Galileo in seconds of the week; the scale factor is 60.
 fn gal_toe(word: &GalWord1) -> Second
     ensures { result ≡ 60 * word.now.toe }
 {
@@ -105,7 +105,7 @@ fn gal_toe(word: &GalWord1) -> Second
 }
 
 impl<T: Copy> Seen<T> {
-    // Two that were heard differ.
+    // Two contents differ.
     fn differs(&self) -> bool
         ensures { result ≡ seen_differs self.now }
     {
@@ -116,7 +116,7 @@ impl<T: Copy> Seen<T> {
         }
     }
 
-    // The one there is.
+    // The content, where there is exactly one.
     fn only(&self) -> Option<T>
         ensures { result ≡ seen_only self.now }
     {
@@ -128,7 +128,7 @@ impl<T: Copy> Seen<T> {
     }
 }
 
-// The first of two that is there.
+// The first option that is not `None`.
 fn either(one: Option<(u32, SentTag)>, other: Option<(u32, SentTag)>) -> Option<(u32, SentTag)>
     ensures { result ≡ or_else one other }
 {
@@ -138,7 +138,7 @@ fn either(one: Option<(u32, SentTag)>, other: Option<(u32, SentTag)>) -> Option<
     }
 }
 
-// The ephemeris of GPS, where all of it is there.
+// The finding of a GPS period with all its parts.
 fn complete_gps(
     r: RefWeek,
     sat: Sat,
@@ -165,7 +165,7 @@ fn complete_gps(
     }))
 }
 
-// The ephemeris of Galileo, where all of it is there.
+// The finding of a Galileo period with all its parts and health.
 fn complete_gal(
     r: RefWeek,
     sat: Sat,
@@ -191,7 +191,7 @@ fn complete_gal(
     }))
 }
 
-// What the members of a GPS key come to.
+// The finding of a GPS digest.
 fn find_gps(r: RefWeek, sat: Sat, d: GpsDigest) -> Finding
     ensures { result ≡ gps_finding r sat d }
 {
@@ -207,7 +207,7 @@ fn find_gps(r: RefWeek, sat: Sat, d: GpsDigest) -> Finding
     }
 }
 
-// What the members of a Galileo key and the health near the end come to.
+// The finding of a Galileo digest and the health near the end.
 fn find_gal(
     r: RefWeek,
     sat: Sat,
@@ -228,40 +228,40 @@ fn find_gal(
     }
 }
 
-// The moment at which GPS sent an ionosphere: the nearest to the stamp, counted from the week `r`
-// on.
-fn gps_ion_moment_near(r: RefWeek, sending: &Sending) -> Moment
-    ensures { result ≡ gps_ion_moment r sending.now }
+// The GPS time at which GPS sent an ionosphere: the one nearest to the stamp, taken as seconds from
+// the start of the reference week `r`.
+fn gps_ion_moment_near(r: RefWeek, transmission: &Transmission) -> Moment
+    ensures { result ≡ gps_ion_moment r transmission.now }
 {
-    let near = Moment::from_seconds(WEEK * r.value() as u64 + sending.stamp as u64);
-    nearest_moment(near, sending.second)
+    let near = Moment::from_seconds(WEEK * r.value() as u64 + transmission.stamp as u64);
+    nearest_moment(near, transmission.second)
 }
 
-// The ionosphere of GPS, as it was sent first.
-fn gps_ionosphere(r: RefWeek, sending: Sending, content: GpsIon) -> Finding
-    ensures { result ≡ digest_finding r (OfGpsIon content) (IonForm sending) None }
+// The ionosphere of GPS, with its earliest transmission.
+fn gps_ionosphere(r: RefWeek, transmission: Transmission, content: GpsIon) -> Finding
+    ensures { result ≡ digest_finding r (OfGpsIon content) (IonForm transmission) None }
 {
     Finding::Complete(NavItem::Ion(IonEph {
-        sat: sending.sat,
-        moment: gps_ion_moment_near(r, &sending),
+        sat: transmission.sat,
+        moment: gps_ion_moment_near(r, &transmission),
         content: IonContent::Gps(content),
     }))
 }
 
-// The ionosphere of Galileo, as it was sent first.
-fn gal_ionosphere(r: RefWeek, sending: Sending, content: GalIon) -> Finding
-    ensures { result ≡ digest_finding r (OfGalIon content) (IonForm sending) None }
+// The ionosphere of Galileo, with its earliest transmission.
+fn gal_ionosphere(r: RefWeek, transmission: Transmission, content: GalIon) -> Finding
+    ensures { result ≡ digest_finding r (OfGalIon content) (IonForm transmission) None }
 {
     Finding::Complete(NavItem::Ion(IonEph {
-        sat: sending.sat,
-        moment: gal_moment_at(r, sending.wn, sending.second),
+        sat: transmission.sat,
+        moment: gal_moment_at(r, transmission.wn, transmission.second),
         content: IonContent::Gal(content),
     }))
 }
 
 impl Digest {
-    /// What the members of a key, and the health near the end of their period, come to, near the
-    /// week `r`.
+    /// The finding of a period from the digest of its members and the health near its end; week numbers
+    /// are resolved near the reference week `r`. `Misses` where the key is of another kind than the digest.
     pub fn finding(self, r: RefWeek, key: Key, health: Option<(u32, GalHealth, SentTag)>) -> Finding
         ensures { result ≡ digest_finding r key self health }
     {
@@ -274,9 +274,9 @@ impl Digest {
                 Key::Gal(sat, _) => find_gal(r, sat, d, health),
                 _ => Finding::Misses,
             },
-            Digest::Ion(sending) => match key {
-                Key::GpsIon(content) => gps_ionosphere(r, sending, content),
-                Key::GalIon(content) => gal_ionosphere(r, sending, content),
+            Digest::Ion(transmission) => match key {
+                Key::GpsIon(content) => gps_ionosphere(r, transmission, content),
+                Key::GalIon(content) => gal_ionosphere(r, transmission, content),
                 _ => Finding::Misses,
             },
         }

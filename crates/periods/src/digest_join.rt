@@ -1,17 +1,17 @@
 ghost use Rattle.std.specs.Prelude.{◌≡◌, [], ◌∷◌, if◌then◌else◌};
-ghost use Rattle.periods.specs.Parts.{fit_numbers, sending_numbers, side_numbers, tag_numbers};
+ghost use Rattle.periods.specs.Parts.{fit_numbers, transmission_numbers, side_numbers, tag_numbers};
 ghost use Rattle.periods.specs.DigestsOf.{digest_join, gal_join, gps_join};
 ghost use Rattle.periods.specs.Mirrors.{best_join, earlier};
 ghost use Rattle.periods.specs.Mirrors.{is_below, later, seen_join};
 
 use crate::digest::{Digest, GalDigest, GpsDigest, Seen};
-use crate::key::Sending;
+use crate::key::Transmission;
 use crate::order::system_number;
 use nav_bits::U;
-use nav_eph::{GpsSide, SentTag, gal_sending_number};
+use nav_eph::{GpsSide, SentTag, gal_transmission_number};
 
 impl<T: PartialEq + Copy> Seen<T> {
-    // What the contents of two sets come to together.
+    // The contents of one kind in the union of two sets.
     fn join(self, other: Seen<T>) -> Seen<T>
         ensures { result ≡ seen_join T.eq self other }
     {
@@ -31,14 +31,14 @@ impl<T: PartialEq + Copy> Seen<T> {
     }
 }
 
-// A stamp and a number come before another stamp and number.
+// Lexicographic order of stamp and number.
 fn is_before(stamp: u32, number: u64, other_stamp: u32, other_number: u64) -> bool
     ensures { result ≡ is_below (stamp ∷ number ∷ []) (other_stamp ∷ other_number ∷ []) }
 {
     stamp < other_stamp || (stamp == other_stamp && number < other_number)
 }
 
-// The later of two sides.
+// The later of two SV statuses.
 fn later_side(one: Option<(u32, GpsSide)>, other: Option<(u32, GpsSide)>) -> Option<(u32, GpsSide)>
     ensures { result ≡ best_join (later side_numbers) one other }
 {
@@ -89,9 +89,9 @@ fn earlier_tag(one: Option<(u32, SentTag)>, other: Option<(u32, SentTag)>) -> Op
     }
 }
 
-// One sending comes before another: by its stamp, its satellite, and the number of its time.
-fn is_earlier_sending(one: &Sending, other: &Sending) -> bool
-    ensures { result ≡ earlier sending_numbers one.now other.now }
+// One transmission is before another: by stamp, then satellite, then time of transmission.
+fn is_earlier_transmission(one: &Transmission, other: &Transmission) -> bool
+    ensures { result ≡ earlier transmission_numbers one.now other.now }
 {
     if one.stamp != other.stamp {
         return one.stamp < other.stamp;
@@ -104,21 +104,21 @@ fn is_earlier_sending(one: &Sending, other: &Sending) -> bool
     if one.sat.number() != other.sat.number() {
         return one.sat.number() < other.sat.number();
     }
-    gal_sending_number(one.wn, one.second) < gal_sending_number(other.wn, other.second)
+    gal_transmission_number(one.wn, one.second) < gal_transmission_number(other.wn, other.second)
 }
 
-// The earlier of two sendings.
-fn earlier_sending(one: Sending, other: Sending) -> Sending
-    ensures { result ≡ (if earlier sending_numbers other one then other else one) }
+// The earlier of two transmissions.
+fn earlier_transmission(one: Transmission, other: Transmission) -> Transmission
+    ensures { result ≡ (if earlier transmission_numbers other one then other else one) }
 {
-    if is_earlier_sending(&other, &one) {
+    if is_earlier_transmission(&other, &one) {
         other
     } else {
         one
     }
 }
 
-// What the parts of two sets of a GPS key come to together.
+// The digest of the union of two sets of parts of a GPS key.
 fn join_gps(one: GpsDigest, other: GpsDigest) -> GpsDigest
     ensures { result ≡ gps_join one other }
 {
@@ -133,7 +133,7 @@ fn join_gps(one: GpsDigest, other: GpsDigest) -> GpsDigest
     }
 }
 
-// What the parts of two sets of a Galileo key come to together.
+// The digest of the union of two sets of parts of a Galileo key.
 fn join_gal(one: GalDigest, other: GalDigest) -> GalDigest
     ensures { result ≡ gal_join one other }
 {
@@ -146,14 +146,14 @@ fn join_gal(one: GalDigest, other: GalDigest) -> GalDigest
 }
 
 impl Digest {
-    /// What the parts of two sets of a key come to together.
+    /// The digest of the union of two sets of parts of one key.
     pub fn join(self, other: Digest) -> Digest
         ensures { result ≡ digest_join self other }
     {
         match (self, other) {
             (Digest::Gps(x), Digest::Gps(y)) => Digest::Gps(join_gps(x, y)),
             (Digest::Gal(x), Digest::Gal(y)) => Digest::Gal(join_gal(x, y)),
-            (Digest::Ion(x), Digest::Ion(y)) => Digest::Ion(earlier_sending(x, y)),
+            (Digest::Ion(x), Digest::Ion(y)) => Digest::Ion(earlier_transmission(x, y)),
             (x, _) => x,
         }
     }

@@ -3,11 +3,11 @@ ghost use Rattle.periods.specs.Readings.{sent_in, toe_in};
 ghost use Rattle.periods.specs.DigestsOf.{digest_of};
 
 use crate::digest::{Digest, GalDigest, GpsDigest, Seen};
-use crate::key::Sending;
+use crate::key::Transmission;
 use nav_bits::U;
 use nav_eph::{Body, Part, SentTag};
 
-// Nothing of GPS.
+// The empty GPS digest.
 const NO_GPS: GpsDigest = GpsDigest {
     clock: Seen::Nothing,
     a: Seen::Nothing,
@@ -18,7 +18,7 @@ const NO_GPS: GpsDigest = GpsDigest {
     toe: None,
 };
 
-// Nothing of Galileo.
+// The empty Galileo digest.
 const NO_GAL: GalDigest = GalDigest {
     w1: Seen::Nothing,
     w2: Seen::Nothing,
@@ -26,7 +26,7 @@ const NO_GAL: GalDigest = GalDigest {
     w4: Seen::Nothing,
 };
 
-// The tag, where it names the moment of sending.
+// The tag with its stamp, where it names a transmission time.
 fn sent_tag(stamp: u32, tag: &SentTag) -> Option<(u32, SentTag)>
     ensures { result ≡ sent_in stamp tag.now }
 {
@@ -36,7 +36,7 @@ fn sent_tag(stamp: u32, tag: &SentTag) -> Option<(u32, SentTag)>
     }
 }
 
-// The tag, where it names a toe.
+// The tag with its stamp, where it names a toe.
 fn toe_tag(stamp: u32, tag: &SentTag) -> Option<(u32, SentTag)>
     ensures { result ≡ toe_in stamp tag.now }
 {
@@ -47,7 +47,7 @@ fn toe_tag(stamp: u32, tag: &SentTag) -> Option<(u32, SentTag)>
 }
 
 impl Digest {
-    /// What one part comes to; `None` where it has no key.
+    /// The digest of one part; `None` for Galileo health, which has no key.
     pub fn of(part: &Part) -> Option<Digest>
         ensures { result ≡ digest_of part.now }
     {
@@ -86,13 +86,13 @@ impl Digest {
                 ..NO_GAL
             })),
             Body::GalHealth(_, _) => None,
-            Body::GpsIon(_, second) => Some(Digest::Ion(Sending {
+            Body::GpsIon(_, second) => Some(Digest::Ion(Transmission {
                 stamp,
                 sat: part.sat,
-                wn: U::from_digits(0),
+                wn: U::from_bits(0),
                 second,
             })),
-            Body::GalIon(_, wn, second) => Some(Digest::Ion(Sending {
+            Body::GalIon(_, wn, second) => Some(Digest::Ion(Transmission {
                 stamp,
                 sat: part.sat,
                 wn,

@@ -14,7 +14,7 @@ pub fn each_stamp_has_one_end()
         → IsEndOf window (Contains stamps) e s → d ≡ e }
 {}
 
-/// One stamp more: what it touches, two ends at most, becomes one end with it, and all else stays.
+/// One more stamp: the ends within the window of it, at most two, become one end with it; all others stay.
 pub fn one_more_stamp()
     ensures one { (window : ℕ) (stamps : List ℕ) (stamp : ℕ)
         → (e : ℕ)
@@ -29,21 +29,21 @@ pub fn one_more_stamp()
         → StaysEnd window (Contains stamps) (Contains (stamps ++ stamp ∷ [])) e }
 {}
 
-/// Later stamps leave the ends whose window they do not reach, with their stamps, and bring no end
-/// before them.
+/// Later stamps change neither the ends whose window they do not reach nor the stamps of these, and
+/// add no end there.
 pub fn later_stamps_change_no_closed_end()
-    ensures end_stays { (window mark : ℕ) (stamps later : List ℕ) (e : ℕ)
-        → All (λ s. mark ≤ s) later → e + window < mark → IsEnd window (Contains stamps) e
+    ensures end_stays { (window watermark : ℕ) (stamps later : List ℕ) (e : ℕ)
+        → All (λ s. watermark ≤ s) later → e + window < watermark → IsEnd window (Contains stamps) e
         → IsEnd window (Contains (stamps ++ later)) e }
-    ensures end_was { (window mark : ℕ) (stamps later : List ℕ) (e : ℕ)
-        → All (λ s. mark ≤ s) later → e + window < mark
+    ensures end_was { (window watermark : ℕ) (stamps later : List ℕ) (e : ℕ)
+        → All (λ s. watermark ≤ s) later → e + window < watermark
         → IsEnd window (Contains (stamps ++ later)) e → IsEnd window (Contains stamps) e }
-    ensures stamp_stays { (window mark : ℕ) (stamps later : List ℕ) (e s : ℕ)
-        → All (λ s. mark ≤ s) later → e + window < mark
+    ensures stamp_stays { (window watermark : ℕ) (stamps later : List ℕ) (e s : ℕ)
+        → All (λ s. watermark ≤ s) later → e + window < watermark
         → IsEndOf window (Contains stamps) e s
         → IsEndOf window (Contains (stamps ++ later)) e s }
-    ensures stamp_was { (window mark : ℕ) (stamps later : List ℕ) (e s : ℕ)
-        → All (λ s. mark ≤ s) later → e + window < mark
+    ensures stamp_was { (window watermark : ℕ) (stamps later : List ℕ) (e s : ℕ)
+        → All (λ s. watermark ≤ s) later → e + window < watermark
         → IsEndOf window (Contains (stamps ++ later)) e s
         → IsEndOf window (Contains stamps) e s }
 {}

@@ -21,48 +21,48 @@ ghost use Rattle.periods.specs.declared.digest.Digest.{Digest};
 ghost use Rattle.periods.specs.Digests.{IsDigest};
 ghost use Rattle.periods.specs.KeyTests.{is_of};
 ghost use Rattle.periods.specs.DigestsOf.{digest_finding, digest_join, digest_of, health_at};
-ghost use Rattle.periods.specs.PeriodLists.{ArePeriods, AreClosed, IsPrefix, items_in};
+ghost use Rattle.periods.specs.PeriodLists.{ArePeriods, AreClosed, IsPeriodPrefix, items_in};
 ghost use Rattle.periods.specs.PeriodsOf.{periods_of, closed_of};
 ghost use Rattle.periods.specs.Touching.{IsTouched, IsJoined, Stays};
 
-/// Each list of parts has exactly one list of periods, and one of those closed at a mark: the
-/// computed ones.
+/// Each list of parts has exactly one list of periods, and one of the periods closed at a watermark:
+/// those that `periods_of` and `closed_of` give.
 pub fn periods_are()
     ensures are { (r window : ℕ) (parts : List Part) → All IsPartValue parts
         → ArePeriods r window (Contains parts) (periods_of r window parts) }
     ensures only { (r window : ℕ) (parts : List Part) (xs : List Closed) → All IsPartValue parts
         → ArePeriods r window (Contains parts) xs → xs ≡ periods_of r window parts }
-    ensures closed { (r window mark : ℕ) (parts : List Part) → All IsPartValue parts
-        → AreClosed r window (Contains parts) mark (closed_of r window mark parts) }
-    ensures only_closed { (r window mark : ℕ) (parts : List Part) (xs : List Closed)
-        → All IsPartValue parts → AreClosed r window (Contains parts) mark xs
-        → xs ≡ closed_of r window mark parts }
+    ensures closed { (r window watermark : ℕ) (parts : List Part) → All IsPartValue parts
+        → AreClosed r window (Contains parts) watermark (closed_of r window watermark parts) }
+    ensures only_closed { (r window watermark : ℕ) (parts : List Part) (xs : List Closed)
+        → All IsPartValue parts → AreClosed r window (Contains parts) watermark xs
+        → xs ≡ closed_of r window watermark parts }
 {}
 
 /// Order and repetition of the parts do not matter.
-pub fn order_is_nothing()
+pub fn order_does_not_matter()
     ensures { (r window : ℕ) (some other : List Part) → All IsPartValue some
         → ((p : Part) → Contains some p ↔ Contains other p)
         → periods_of r window some ≡ periods_of r window other }
 {}
 
-/// What is closed stays: later parts change nothing of it, more is closed at a higher mark behind
-/// it, and all of it is at the front of the periods.
+/// Closed periods stay: parts from the watermark on change none of them, a higher watermark adds
+/// periods after them, and they are a prefix of all periods.
 pub fn closed_stays()
-    ensures later { (r window mark : ℕ) (parts later : List Part)
-        → All IsPartValue (parts ++ later) → All (λ p. mark ≤ p.stamp) later
-        → closed_of r window mark (parts ++ later) ≡ closed_of r window mark parts }
-    ensures rise { (r window mark higher : ℕ) (parts : List Part) → mark ≤ higher
-        → IsPrefix (closed_of r window mark parts) (closed_of r window higher parts) }
-    ensures front { (r window mark : ℕ) (parts : List Part)
-        → IsPrefix (closed_of r window mark parts) (periods_of r window parts) }
-    ensures all { (r window mark : ℕ) (parts : List Part)
-        → All (λ p. p.stamp + window < mark) parts
-        → closed_of r window mark parts ≡ periods_of r window parts }
+    ensures later { (r window watermark : ℕ) (parts later : List Part)
+        → All IsPartValue (parts ++ later) → All (λ p. watermark ≤ p.stamp) later
+        → closed_of r window watermark (parts ++ later) ≡ closed_of r window watermark parts }
+    ensures rise { (r window watermark higher : ℕ) (parts : List Part) → watermark ≤ higher
+        → IsPeriodPrefix (closed_of r window watermark parts) (closed_of r window higher parts) }
+    ensures prefix { (r window watermark : ℕ) (parts : List Part)
+        → IsPeriodPrefix (closed_of r window watermark parts) (periods_of r window parts) }
+    ensures all { (r window watermark : ℕ) (parts : List Part)
+        → All (λ p. p.stamp + window < watermark) parts
+        → closed_of r window watermark parts ≡ periods_of r window parts }
 {}
 
-/// One more part: what it touches, at most two periods of its key, becomes one period with it, and
-/// all else stays.
+/// One more part: the periods of its key within the window of it, at most two, become one period with
+/// it; all others stay.
 pub fn one_more_part()
     ensures one { (window : ℕ) (parts : List Part) (part : Part) (key : Key)
         → key_of part ≡ Some key → (place : Place)
@@ -76,30 +76,30 @@ pub fn one_more_part()
         → Stays window (Contains parts) (Contains (parts ++ part ∷ [])) place }
 {}
 
-/// Parts that lie more than a window before others change none of their periods, nor the others
-/// theirs: the periods of both together are those of either, and each comes to the same by itself.
-/// The verdict of one may differ, since it may repeat an earlier one.
+/// Parts that lie more than a window before others change none of their periods, and vice versa: the
+/// periods of both together are those of either, with the same findings. Verdicts may differ, since a
+/// period may repeat an earlier one.
 pub fn parts_far_apart()
-    ensures periods { (window mark : ℕ) (some more : List Part) (place : Place)
-        → All (λ p. p.stamp + window < mark) some → All (λ p. mark ≤ p.stamp) more
+    ensures periods { (window watermark : ℕ) (some more : List Part) (place : Place)
+        → All (λ p. p.stamp + window < watermark) some → All (λ p. watermark ≤ p.stamp) more
         → IsPeriod window (Contains (some ++ more)) place
         ↔ (IsPeriod window (Contains some) place ⊎ IsPeriod window (Contains more) place) }
-    ensures first { (r window mark : ℕ) (some more : List Part) (place : Place)
-        (finding : Finding) → All (λ p. p.stamp + window < mark) some
-        → All (λ p. mark ≤ p.stamp) more
+    ensures first { (r window watermark : ℕ) (some more : List Part) (place : Place)
+        (finding : Finding) → All (λ p. p.stamp + window < watermark) some
+        → All (λ p. watermark ≤ p.stamp) more
         → IsPeriod window (Contains some) place
         → IsFound r window (Contains (some ++ more)) place finding
         ↔ IsFound r window (Contains some) place finding }
-    ensures second { (r window mark : ℕ) (some more : List Part) (place : Place)
-        (finding : Finding) → All (λ p. p.stamp + window < mark) some
-        → All (λ p. mark ≤ p.stamp) more
+    ensures second { (r window watermark : ℕ) (some more : List Part) (place : Place)
+        (finding : Finding) → All (λ p. p.stamp + window < watermark) some
+        → All (λ p. watermark ≤ p.stamp) more
         → IsPeriod window (Contains more) place
         → IsFound r window (Contains (some ++ more)) place finding
         ↔ IsFound r window (Contains more) place finding }
 {}
 
-/// What the calls compute of parts is what is described: of one part, of the parts of two sets
-/// together, and of the members of a period with the health near its end.
+/// The computed digests and findings are the specified ones: for one part, for the union of two sets
+/// of parts, and for the members of a period with the health near its end.
 pub fn digests_are()
     ensures one { (part : Part) (key : Key) (d : Digest)
         → key_of part ≡ Some key → digest_of part ≡ Some d
@@ -113,27 +113,27 @@ pub fn digests_are()
         (digest_finding r place.key d (health_at window parts place.key place.end)) }
 {}
 
-/// A part is told to be of a key exactly where that is its key.
+/// The test `is_of` holds exactly where the key is that of the part.
 pub fn keys_are_told()
     ensures { (key : Key) (part : Part)
         → (is_of key part ≡ true) ↔ (key_of part ≡ Some key) }
 {}
 
-/// Only an ephemeris can repeat an earlier one, and never an ionosphere.
+/// Only the period of an ephemeris has the verdict `Again`, never that of an ionosphere.
 pub fn only_ephemerides_are_said_again()
     ensures { (r window : ℕ) (parts : List Part) (c : Closed)
         → IsClosed r window (Contains parts) c → c.verdict ≡ Again → IsOfEphemeris c.key }
 {}
 
-/// The items of periods that follow others are those of the first, and then those of the second.
-pub fn items_follow()
+/// The items of concatenated lists of periods are the concatenated items.
+pub fn items_concatenate()
     ensures { (some more : List Closed)
         → items_in (some ++ more) ≡ items_in some ++ items_in more }
 {}
 
-/// The item of a period fits together, as the constructors of items demand, where each part is of a
-/// satellite that sends such and has its fields within their digits: its ranges, the satellite's
-/// system, the issues of its halves or words, the second of sending, the week of an ionosphere.
+/// The item of a period meets the conditions of the item constructors, where each part is of a
+/// satellite of the right system and its fields are within their widths: field ranges, system, issue
+/// of data, transmission time, week of an ionosphere.
 pub fn items_fit_together()
     ensures { (r window : ℕ) (parts : List Part) (c : Closed) (item : NavItem) → IsReference r
         → All IsPartValue parts → All (λ p. IsPart p.sat p.body) parts → All HasPartRanges parts

@@ -7,7 +7,7 @@ use Rattle.std.proofs.KnownBytes.{Appends-trans, Consumes-trans}
 use Rattle.std.specs.Prelude.{Option, Some, None, IsTrue, Result, Ok, Err, OnOk, OnErr, IfErr}
 use Rattle.std.specs.Io.KnownBytes.{Appends, Consumes, IsAtEnd, Keeps}
 use Rattle.nav_io.specs.Causes.{Rose}
-use Rattle.nav_io.specs.Front.{AppendsFront}
+use Rattle.nav_io.specs.Prefix.{AppendsPrefix}
 use Rattle.framing.specs.Headings.{Heading, format_of}
 use Rattle.framing.specs.Messages.{messages, decided}
 use Rattle.framing.specs.State.{DeframerState, IsWaiting, MayFeed}
@@ -16,7 +16,7 @@ use Rattle.one_run.specs.Runs.{World}
 use Rattle.one_run.specs.declared.fault.BridgeFault.{BridgeFault}
 use Rattle.one_run.specs.declared.fault.BridgeFault.TheVariants.{ReadFault, WriteFault, ReportFault}
 use Rattle.one_run.specs.declared.fault.BridgeFault.TheVariants.{TooLong}
-use Rattle.one_run.proofs.Surface.{front_behind, front_longer, whole_front}
+use Rattle.one_run.proofs.Surface.{prefix_behind, prefix_longer, whole_prefix}
 use Rattle.receiver_messages.specs.declared.said.Said.{Said}
 use Rattle.receiver_log.specs.declared.state.LogState.{LogState}
 use Rattle.receiver_log.specs.Capture.{capture_of, decided_capture, decided_report, lines_from}
@@ -25,10 +25,10 @@ use Rattle.receiver_log.specs.Log.{begun}
 use Rattle.receiver_log.specs.LogRuns.{LogBroke, LogEnded, too_many}
 use Rattle.receiver_log.specs.Report.{counts_report}
 use Rattle.receiver_log.specs.Steps.{Hears, Stops}
-use Rattle.receiver_log.proofs.LogSteps.{hears_fed, hears_nothing, hears_on, lines_front}
-use Rattle.receiver_log.proofs.LogSteps.{refusals_front, stops_of, stops_on}
+use Rattle.receiver_log.proofs.LogSteps.{hears_fed, hears_nothing, hears_on, lines_prefix}
+use Rattle.receiver_log.proofs.LogSteps.{refusals_prefix, stops_of, stops_on}
 
--- these bytes were taken, and what is decided of them was heard
+-- these bytes were read, and their decided messages processed
 pub record LogSoFar (h : Heading) (said : List ℕ → Said)
     (left left_new written written_new reported reported_new : Option (List ℕ))
     (held : DeframerState) (state : LogState) (taken : ℕ) : Type 0 where
@@ -39,13 +39,13 @@ pub record LogSoFar (h : Heading) (said : List ℕ → Said)
       reported_new
   pub may_feed : MayFeed (format_of h) held
 
--- what a run that broke off did, whatever its fault
+-- what a failed run did, whatever its fault
 pub record Broken (h : Heading) (said : List ℕ → Said)
     (left left_new written written_new reported reported_new : Option (List ℕ)) : Type 0 where
   pub taken : List ℕ
   pub consumes : Consumes left left_new taken
-  pub text : AppendsFront written written_new (capture_of h said taken)
-  pub told : AppendsFront reported reported_new (report_of h said taken)
+  pub text : AppendsPrefix written written_new (capture_of h said taken)
+  pub told : AppendsPrefix reported reported_new (report_of h said taken)
 
 keeps_consumes : (old new : Option (List ℕ)) → Keeps old new → Consumes old new []
 keeps_consumes None new a = tt
@@ -61,14 +61,14 @@ none_read : (l1 l2 : Option (List ℕ)) (n : ℕ) (buffer : List ℕ) → n ≡ 
     → Consumes l1 l2 (take n buffer) → Consumes l1 l2 []
 none_read l1 l2 n buffer zero read = subst (λ (k : ℕ). Consumes l1 l2 (take k buffer)) zero read
 
--- no message is decided of what waits
+-- no message is decided of bytes that wait
 waiting_decided : (h : Heading) (rest : List ℕ) → IsWaiting (format_of h) rest
     → decided (format_of h) rest ≡ []
 waiting_decided h [] w = refl
 waiting_decided h (x ∷ xs) w = elim w [ inl e ↦ cc | inr o ↦ rw o refl ]
 
 module _ (h : Heading) (said : List ℕ → Said) where
-  -- a run that stopped
+  -- a run that failed
   broken_by : (left l1 : Option (List ℕ)) (w w1 r r1 : Option (List ℕ)) (bytes : List ℕ)
       (more : Bool)
       → Consumes left l1 bytes → Stops h said more bytes begun w w1 [] r r1
@@ -82,11 +82,11 @@ module _ (h : Heading) (said : List ℕ → Said) where
       record {
         taken = bytes;
         consumes = consumes;
-        text = subst (λ ms. AppendsFront w w1 (lines_from said begun ms)) (sym whole)
-            (lines_front said begun stops.heard behind.0 w w1 stops.put);
-        told = front_longer r r1 (refusals_from said begun (messages (format_of h) bytes)) counts
-            (subst (λ ms. AppendsFront r r1 (refusals_from said begun ms)) (sym whole)
-            (refusals_front said begun stops.heard behind.0 r r1 stops.told));
+        text = subst (λ ms. AppendsPrefix w w1 (lines_from said begun ms)) (sym whole)
+            (lines_prefix said begun stops.heard behind.0 w w1 stops.put);
+        told = prefix_longer r r1 (refusals_from said begun (messages (format_of h) bytes)) counts
+            (subst (λ ms. AppendsPrefix r r1 (refusals_from said begun ms)) (sym whole)
+            (refusals_prefix said begun stops.heard behind.0 r r1 stops.told));
       }
 
   -- nothing was read yet
@@ -105,7 +105,7 @@ module _ (h : Heading) (said : List ℕ → Said) where
       none_taken None = tt
       none_taken (Some xs) = refl
 
-  -- a piece was taken
+  -- a piece was read
   pub log_piece : (left l1 l2 w w1 w2 r r1 r2 : Option (List ℕ)) (held new : DeframerState)
       (state next : LogState) (taken : ℕ) (piece : List ℕ) (n : ℕ)
       → LogSoFar h said left l1 w w1 r r1 held state taken → Consumes l1 l2 piece → length piece ≡ n
@@ -125,7 +125,7 @@ module _ (h : Heading) (said : List ℕ → Said) where
         may_feed = may;
       }
 
-  -- what was written and reported of what was heard
+  -- what was written and reported of the messages processed
   written_of : (more : Bool) (a b : List ℕ) (s s1 : LogState) (w w1 r r1 : Option (List ℕ))
       (x : Hears h said more a b s s1 w w1 [] [] r r1)
       → Appends w w1 (lines_from said s x.heard)
@@ -146,7 +146,7 @@ module _ (h : Heading) (said : List ℕ → Said) where
   -- ---- ends
 
   -- a read failed
-  pub record Settled (left left_new written written_new reported reported_new : Option (List ℕ)) :
+  pub record Flushed (left left_new written written_new reported reported_new : Option (List ℕ)) :
       Type 0 where
     pub broken : Broken h said left left_new written written_new reported reported_new
     pub text : Appends written written_new (decided_capture h said broken.taken)
@@ -154,7 +154,7 @@ module _ (h : Heading) (said : List ℕ → Said) where
 
   pub no_read : (left l1 l2 w w1 r r1 : Option (List ℕ)) (held : DeframerState) (state : LogState)
       (taken : ℕ)
-      → LogSoFar h said left l1 w w1 r r1 held state taken → Keeps l1 l2 → Settled left l2 w w1 r r1
+      → LogSoFar h said left l1 w w1 r r1 held state taken → Keeps l1 l2 → Flushed left l2 w w1 r r1
   unfolding broken_by
   no_read left l1 l2 w w1 r r1 held state taken far keeps =
       let is = heard_is left l1 w w1 r r1 held state taken far in
@@ -184,7 +184,7 @@ module _ (h : Heading) (said : List ℕ → Said) where
     many = rw far.size many;
   }
 
-  -- a piece was not taken to its end
+  -- a piece was not fed to its end
   pub broken_piece : (left l1 l2 w w1 w2 r r1 r2 : Option (List ℕ)) (held : DeframerState)
       (state : LogState) (taken : ℕ) (piece : List ℕ)
       → LogSoFar h said left l1 w w1 r r1 held state taken → Consumes l1 l2 piece
@@ -225,7 +225,7 @@ module _ (h : Heading) (said : List ℕ → Said) where
       (stops_on h said false far.bytes held.rest begun state w w1 w2 [] [] r r1 r2
       (at_end far.bytes held.rest begun state w w1 r r1 far.hears) ends)
 
-  -- all messages were heard
+  -- all messages were processed
   pub record Whole (left left_new written written_new reported reported_new : Option (List ℕ))
       (state : LogState) (count : ℕ) : Type 0 where
     pub taken : List ℕ
@@ -277,23 +277,23 @@ module _ (h : Heading) (said : List ℕ → Said) where
       (subst (Appends r2 r3) (ap (λ s. counts_report s.counts count) whole.state_is
       ∙ ap (counts_report _) (sym whole.size)) told)
 
-  -- the counts were not
+  -- the counts were not reported
   pub counts_failed : (left l2 w w2 r r2 r3 : Option (List ℕ)) (state : LogState) (count : ℕ)
       → Whole left l2 w w2 r r2 state count
-      → AppendsFront r2 r3 (counts_report state.counts count) → Broken h said left l2 w w2 r r3
+      → AppendsPrefix r2 r3 (counts_report state.counts count) → Broken h said left l2 w w2 r r3
   counts_failed left l2 w w2 r r2 r3 state count whole told = record {
     taken = whole.taken;
     consumes = whole.consumes;
-    text = whole_front w w2 _ whole.text;
-    told = front_behind r r2 r3 _ _ whole.told
-        (subst (AppendsFront r2 r3) (ap (λ s. counts_report s.counts count) whole.state_is
+    text = whole_prefix w w2 _ whole.text;
+    told = prefix_behind r r2 r3 _ _ whole.told
+        (subst (AppendsPrefix r2 r3) (ap (λ s. counts_report s.counts count) whole.state_is
         ∙ ap (counts_report _) (sym whole.size)) told);
   }
 
-  -- ---- as the contract says it
+  -- ---- in the words of the contract
 
   pub read_broke : {S T U : Type 0} (b a : World S T U)
-      → Settled b.left a.left b.written a.written b.reported a.reported
+      → Flushed b.left a.left b.written a.written b.reported a.reported
       → Rose b.reads_failed a.reads_failed → (IsTrue b.never_fails → ⊥)
       → LogBroke h said b a ReadFault
   read_broke b a x rose never = record {
@@ -352,7 +352,7 @@ module _ (h : Heading) (said : List ℕ → Said) where
       → count < too_many
       → a.reads_failed ≡ b.reads_failed → a.writes_failed ≡ b.writes_failed → u ≡ b.reports_failed
       → OnOk result (Appends r2 a.reported (counts_report state.counts count))
-      → OnErr result (AppendsFront r2 a.reported (counts_report state.counts count))
+      → OnErr result (AppendsPrefix r2 a.reported (counts_report state.counts count))
       → IfErr result (λ fault. fault ≡ ReportFault)
       → HasItsCause (faults_of 0 0 u) (faults_of 0 0 a.reports_failed) result
       → LogEnded h said b a result

@@ -1,4 +1,4 @@
--- Steps of a run over a log: messages are heard, and their lines written.
+-- Steps of a run over a log: messages are processed, and their lines written.
 use Rattle.std.proofs.Common.{◌≡◌, ℕ, ◌+◌, Bool, true, false, not, List, [], ◌∷◌, ◌++◌, length}
 use Rattle.std.proofs.Common.{take, drop}
 use Rattle.std.proofs.Common.{refl, sym, ap, subst, ◌∙◌, append-nil, append_assoc}
@@ -7,12 +7,12 @@ use Rattle.std.proofs.Math.Seq.{take-add}
 use Rattle.std.proofs.lemmas.List.{take-append-drop}
 use Rattle.std.specs.Prelude.{Option, Some, None, Result, Ok, Err, OnOk, OnErr}
 use Rattle.std.specs.Io.KnownBytes.{Appends}
-use Rattle.nav_io.specs.Front.{AppendsFront}
+use Rattle.nav_io.specs.Prefix.{AppendsPrefix}
 use Rattle.framing.specs.Headings.{Heading, IsHeading, format_of}
 use Rattle.framing.specs.Messages.{messages, decided}
 use Rattle.framing.specs.State.{TakesMessage, TakesNone}
-use Rattle.one_run.proofs.Surface.{front_behind, front_longer, no_front, whole_front}
-use Rattle.framing.proofs.Going.{decided_message, decided_none}
+use Rattle.one_run.proofs.Surface.{prefix_behind, prefix_longer, no_prefix, whole_prefix}
+use Rattle.framing.proofs.Surface.{decided_message, decided_none}
 use Rattle.receiver_messages.specs.declared.said.Said.{Said}
 use Rattle.receiver_log.specs.declared.state.LogState.{LogState}
 use Rattle.receiver_log.specs.Capture.{lines_from, refusal_text, refusals_from, state_after}
@@ -52,12 +52,12 @@ puts_more w w1 w2 a b c d p q = record {
       ∙ sym (append_assoc p.put q.put d);
 }
 
-puts_front : (w w1 w2 : Option (List ℕ)) (a b c : List ℕ) → Puts w w1 a b
-    → AppendsFront w1 w2 (b ++ c)
-    → AppendsFront w w2 (a ++ c)
-puts_front w w1 w2 a b c p f =
-    subst (AppendsFront w w2) (sym (ap (λ t. t ++ c) p.parts ∙ append_assoc p.put b c))
-    (front_behind w w1 w2 p.put (b ++ c) p.grew f)
+puts_prefix : (w w1 w2 : Option (List ℕ)) (a b c : List ℕ) → Puts w w1 a b
+    → AppendsPrefix w1 w2 (b ++ c)
+    → AppendsPrefix w w2 (a ++ c)
+puts_prefix w w1 w2 a b c p f =
+    subst (AppendsPrefix w w2) (sym (ap (λ t. t ++ c) p.parts ∙ append_assoc p.put b c))
+    (prefix_behind w w1 w2 p.put (b ++ c) p.grew f)
 
 -- ---- messages one after another
 
@@ -86,21 +86,21 @@ state_on : (said : List ℕ → Said) (s : LogState) (xs ys : List (List ℕ))
 state_on said s [] ys = refl
 state_on said s (m ∷ ms) ys = state_on said (given s (length m) (said m)).state ms ys
 
--- what the first of some messages give is a front of what all give
-pub lines_front : (said : List ℕ → Said) (s : LogState) (xs ys : List (List ℕ))
+-- the lines of the first of some messages are a prefix of the lines of all
+pub lines_prefix : (said : List ℕ → Said) (s : LogState) (xs ys : List (List ℕ))
     (w w1 : Option (List ℕ))
-    → AppendsFront w w1 (lines_from said s xs) → AppendsFront w w1 (lines_from said s (xs ++ ys))
-lines_front said s xs ys w w1 f =
-    subst (AppendsFront w w1) (sym (lines_on said s xs ys))
-    (front_longer w w1 (lines_from said s xs) _ f)
+    → AppendsPrefix w w1 (lines_from said s xs) → AppendsPrefix w w1 (lines_from said s (xs ++ ys))
+lines_prefix said s xs ys w w1 f =
+    subst (AppendsPrefix w w1) (sym (lines_on said s xs ys))
+    (prefix_longer w w1 (lines_from said s xs) _ f)
 
-pub refusals_front : (said : List ℕ → Said) (s : LogState) (xs ys : List (List ℕ))
+pub refusals_prefix : (said : List ℕ → Said) (s : LogState) (xs ys : List (List ℕ))
     (r r1 : Option (List ℕ))
-    → AppendsFront r r1 (refusals_from said s xs)
-    → AppendsFront r r1 (refusals_from said s (xs ++ ys))
-refusals_front said s xs ys r r1 f =
-    subst (AppendsFront r r1) (sym (refusals_on said s xs ys))
-    (front_longer r r1 (refusals_from said s xs) _ f)
+    → AppendsPrefix r r1 (refusals_from said s xs)
+    → AppendsPrefix r r1 (refusals_from said s (xs ++ ys))
+refusals_prefix said s xs ys r r1 f =
+    subst (AppendsPrefix r r1) (sym (refusals_on said s xs ys))
+    (prefix_longer r r1 (refusals_from said s xs) _ f)
 
 -- ---- steps
 
@@ -239,11 +239,11 @@ module _ (h : Heading) (said : List ℕ → Said) where
           x.stream following last ∙ ap (λ ms. x.heard ++ ms) (y.stream following last).1
               ∙ sym (append_assoc x.heard y.heard (y.stream following last).0),
         );
-        put = subst (AppendsFront w w2) lines
-            (puts_front w w1 w2 (l ++ lines_from said s x.heard) l1
+        put = subst (AppendsPrefix w w2) lines
+            (puts_prefix w w1 w2 (l ++ lines_from said s x.heard) l1
             (lines_from said s1 y.heard) x.puts y.put);
-        told = subst (AppendsFront r r2) told
-            (front_behind r r1 r2 (refusals_from said s x.heard)
+        told = subst (AppendsPrefix r r2) told
+            (prefix_behind r r1 r2 (refusals_from said s x.heard)
             (refusals_from said s1 y.heard) x.told y.told);
       }
 
@@ -251,8 +251,8 @@ module _ (h : Heading) (said : List ℕ → Said) where
   stops_one : (more : Bool) (b d m : List ℕ) (s : LogState) (w w1 : Option (List ℕ)) (l : List ℕ)
       (r r1 : Option (List ℕ))
       → TakesMessage (format_of h) more b m d
-      → AppendsFront w w1 (l ++ (given s (length m) (said m)).text)
-      → AppendsFront r r1 (refusal_text (given s (length m) (said m)))
+      → AppendsPrefix w w1 (l ++ (given s (length m) (said m)).text)
+      → AppendsPrefix r r1 (refusal_text (given s (length m) (said m)))
       → Stops h said more b s w w1 l r r1
   stops_one more b d m s w w1 l r r1 takes put told = record {
     heard = m ∷ [];
@@ -261,46 +261,46 @@ module _ (h : Heading) (said : List ℕ → Said) where
           (d ++ following),
       takes.stream following last,
     );
-    put = subst (AppendsFront w w1) (ap (λ t. l ++ t) (sym (append-nil _))) put;
-    told = subst (AppendsFront r r1) (sym (append-nil _)) told;
+    put = subst (AppendsPrefix w w1) (ap (λ t. l ++ t) (sym (append-nil _))) put;
+    told = subst (AppendsPrefix r r1) (sym (append-nil _)) told;
   }
 
   -- the report of a message failed
   pub stops_told : (more : Bool) (a b d m : List ℕ) (s s1 : LogState) (w w1 : Option (List ℕ))
       (l l1 : List ℕ) (r r1 r2 : Option (List ℕ))
       → Hears h said more a b s s1 w w1 l l1 r r1 → TakesMessage (format_of h) more b m d
-      → AppendsFront r1 r2 (refusal_text (given s1 (length m) (said m)))
+      → AppendsPrefix r1 r2 (refusal_text (given s1 (length m) (said m)))
       → Stops h said more a s w w1 l r r2
   stops_told more a b d m s s1 w w1 l l1 r r1 r2 x takes told =
       stops_on more a b s s1 w w1 w1 l l1 r r1 r2 x
-      (stops_one more b d m s1 w1 w1 l1 r1 r2 takes (no_front w1 _) told)
+      (stops_one more b d m s1 w1 w1 l1 r1 r2 takes (no_prefix w1 _) told)
 
-  -- the lines behind a message were not written
+  -- the lines of a message were not written
   pub stops_put : (more : Bool) (a b d m : List ℕ) (s s1 : LogState) (w w1 w2 : Option (List ℕ))
       (l l1 l2 : List ℕ) (r r1 r2 : Option (List ℕ))
       → Hears h said more a b s s1 w w1 l l1 r r1 → TakesMessage (format_of h) more b m d
       → l2 ≡ l1 ++ (given s1 (length m) (said m)).text
-      → Appends r1 r2 (refusal_text (given s1 (length m) (said m))) → AppendsFront w1 w2 l2
+      → Appends r1 r2 (refusal_text (given s1 (length m) (said m))) → AppendsPrefix w1 w2 l2
       → Stops h said more a s w w2 l r r2
   stops_put more a b d m s s1 w w1 w2 l l1 l2 r r1 r2 x takes lines told put =
       stops_on more a b s s1 w w1 w2 l l1 r r1 r2 x
-      (stops_one more b d m s1 w1 w2 l1 r1 r2 takes (subst (AppendsFront w1 w2) lines put)
-      (whole_front r1 r2 _ told))
+      (stops_one more b d m s1 w1 w2 l1 r1 r2 takes (subst (AppendsPrefix w1 w2) lines put)
+      (whole_prefix r1 r2 _ told))
 
   -- the last lines were not written
   pub stops_last : (more : Bool) (a b : List ℕ) (s s1 : LogState) (w w1 w2 : Option (List ℕ))
       (l l1 : List ℕ) (r r1 : Option (List ℕ))
-      → Hears h said more a b s s1 w w1 l l1 r r1 → AppendsFront w1 w2 l1
+      → Hears h said more a b s s1 w w1 l l1 r r1 → AppendsPrefix w1 w2 l1
       → Stops h said more a s w w2 l r r1
   stops_last more a b s s1 w w1 w2 l l1 r r1 x put =
       stops_on more a b s s1 w w1 w2 l l1 r r1 r1 x (record {
         heard = [];
         stream = λ following last. (messages (format_of h) (b ++ following), refl);
-        put = subst (AppendsFront w1 w2) (sym (append-nil l1)) put;
-        told = no_front r1 _;
+        put = subst (AppendsPrefix w1 w2) (sym (append-nil l1)) put;
+        told = no_prefix r1 _;
       })
 
-  -- more bytes are to follow
+  -- more bytes follow
   pub stops_fed : (a p : List ℕ) (s : LogState) (w w1 : Option (List ℕ)) (l : List ℕ)
       (r r1 : Option (List ℕ))
       → Stops h said true a s w w1 l r r1 → Stops h said true (a ++ p) s w w1 l r r1
@@ -315,12 +315,12 @@ module _ (h : Heading) (said : List ℕ → Said) where
     told = x.told;
   }
 
-  -- where messages were heard, they are the first whatever follows
+  -- messages that were processed are the first, whatever follows
   pub stops_of : (more : Bool) (a b : List ℕ) (s s1 : LogState) (w w1 : Option (List ℕ))
       (l : List ℕ) (r r1 : Option (List ℕ))
       → Hears h said more a b s s1 w w1 l [] r r1 → Stops h said more a s w w1 l r r1
   stops_of more a b s s1 w w1 l r r1 x =
-      stops_last more a b s s1 w w1 w1 l [] r r1 x (no_front w1 [])
+      stops_last more a b s s1 w w1 w1 l [] r r1 x (no_prefix w1 [])
 
   -- ---- a part of a piece
 

@@ -3,7 +3,7 @@ use Rattle.std.specs.Prelude.{◌≡◌, ◌-◌, ◌^◌, ◌<◌, ◌≤◌, �
 use Rattle.std.specs.Prelude.{Err, IsTrue}
 use Rattle.std.specs.Io.KnownBytes.{Appends, Consumes, IsAtEnd}
 use Rattle.nav_io.specs.Causes.{Rose}
-use Rattle.nav_io.specs.Front.{AppendsFront}
+use Rattle.nav_io.specs.Prefix.{AppendsPrefix}
 use Rattle.framing.specs.Headings.{Heading}
 use Rattle.one_run.specs.Runs.{World}
 use Rattle.one_run.specs.Ends.{status_of}
@@ -13,12 +13,11 @@ use Rattle.one_run.specs.declared.fault.BridgeFault.TheVariants.{NotThisForm, To
 use Rattle.receiver_messages.specs.declared.said.Said.{Said}
 use Rattle.receiver_log.specs.Capture.{capture_of, decided_capture, decided_report, report_of}
 
--- how many bytes are too many
+-- the count of bytes from which a log is too long
 abbrev pub too_many : ℕ
 too_many = 2 ^ 64 - 16384
 
--- The run is done: the input was read to its end, nothing failed, and the capture and the report of
--- its bytes were written.
+-- The run is done: the input was read to its end without a fault, and the capture and report of its bytes were written.
 pub record LogDone {S T U : Type 0} (h : Heading) (said : List ℕ → Said)
     (before after : World S T U) : Type 0 where
   pub taken : List ℕ
@@ -31,8 +30,8 @@ pub record LogDone {S T U : Type 0} (h : Heading) (said : List ℕ → Said)
   pub writes : after.writes_failed ≡ before.writes_failed
   pub reports : after.reports_failed ≡ before.reports_failed
 
--- what each fault says of a run that took these bytes: after a failed read exactly what they decide
--- was written and reported
+-- what each fault tells of a run that read these bytes: after a failed read, the lines and refusals of all decided messages
+-- were written
 abbrev pub LogSays : {S T U : Type 0} → Heading → (List ℕ → Said) → List ℕ → World S T U
     → World S T U
     → BridgeFault → Type 0
@@ -46,13 +45,13 @@ LogSays h said taken before after TooLong = too_many ≤ length taken
 LogSays h said taken before after NotThisForm = ⊥
 LogSays h said taken before after NoMemory = ⊥
 
--- The run broke off: of what the bytes that were taken give, a front was written and reported.
+-- The run failed: a prefix of the capture and of the report of the bytes read was written.
 pub record LogBroke {S T U : Type 0} (h : Heading) (said : List ℕ → Said)
     (before after : World S T U) (fault : BridgeFault) : Type 0 where
   pub taken : List ℕ
   pub consumes : Consumes before.left after.left taken
-  pub text : AppendsFront before.written after.written (capture_of h said taken)
-  pub told : AppendsFront before.reported after.reported (report_of h said taken)
+  pub text : AppendsPrefix before.written after.written (capture_of h said taken)
+  pub told : AppendsPrefix before.reported after.reported (report_of h said taken)
   pub says : LogSays h said taken before after fault
 
 -- how a run ended
@@ -61,7 +60,7 @@ abbrev pub LogEnded : {S T U : Type 0} → Heading → (List ℕ → Said) → W
 LogEnded h said before after (Ok done) = LogDone h said before after
 LogEnded h said before after (Err fault) = LogBroke h said before after fault
 
--- the run ended with this status
+-- the run ended with this exit status
 pub record LogEndedBy {S T U : Type 0} (h : Heading) (said : List ℕ → Said)
     (before after : World S T U) (status : ℕ) : Type 0 where
   pub result : Result (Unit {0}) BridgeFault

@@ -1,4 +1,4 @@
-//! What one message gives.
+//! The lines of one message.
 
 ghost use Rattle.std.specs.Prelude.{◌≡◌, ◌+◌, ◌-◌, ◌*◌, ◌^◌, ◌<◌, ◌≤◌, ◌++◌};
 ghost use Rattle.arrayvec.specs.ArrayVec.{array_vec_len};
@@ -19,12 +19,11 @@ use receiver_messages::{Content, Reason, Said, read_words, subframe_bits};
 // The seconds of a week.
 const WEEK: u64 = 604_800;
 
-// How many weeks the numbers of weeks in messages tell apart, at half.
+// Half the range in weeks of a ten-bit week number.
 const FAR: u64 = 512;
 
-/// Hears a message of so many bytes that says so much: appends its lines, and gives the reason
-/// where
-/// it is refused.
+/// Processes a message of `bytes` bytes with this content: appends its lines, and gives the reason
+/// where it is refused.
 pub fn hear(state: &mut LogState, bytes: usize, said: &Said, lines: &mut Lines) -> Option<Reason>
     requires room { array_vec_len lines.old + 8192 ≤ 16384 }
     requires system { SaysOfSystem said.now }
@@ -53,7 +52,7 @@ pub fn hear(state: &mut LogState, bytes: usize, said: &Said, lines: &mut Lines) 
     }
 }
 
-// Hears a subframe or a page at a time.
+// Processes a subframe or a page received at a time.
 fn hear_at(
     state: &mut LogState,
     time: Option<Moment>,
@@ -83,7 +82,7 @@ fn hear_at(
     }
 }
 
-// Counts a message that is refused.
+// Counts a refused message.
 fn refuse(state: &mut LogState, reason: Reason) -> Option<Reason>
     ensures state { state.new ≡ (refused_by state.old reason).state }
     ensures reason { result ≡ Some reason }
@@ -92,7 +91,7 @@ fn refuse(state: &mut LogState, reason: Reason) -> Option<Reason>
     Some(reason)
 }
 
-// The week of the first line, for lines from this second on.
+// The week of the capture's first line, where the first stamp is this second.
 fn week_of(week: Option<u32>, first: u64) -> u64
     requires { first < 2 ^ 40 }
     ensures value { result ≡ head_week week first }
@@ -120,7 +119,7 @@ fn reason_in(week: u64, first: u64, last: u64) -> Option<Reason>
     None
 }
 
-// Writes the first line, which has this week, where it was not written.
+// Writes the first line, with this week, where it was not written.
 fn begin(state: &mut LogState, week: u64, lines: &mut Lines)
     requires fits { week < 2 ^ 32 }
     requires room { array_vec_len lines.old + 640 ≤ 16384 }
@@ -136,7 +135,7 @@ fn begin(state: &mut LogState, week: u64, lines: &mut Lines)
     }
 }
 
-// Hears a subframe.
+// Processes a subframe.
 fn hear_subframe(
     state: &mut LogState,
     time: Moment,
@@ -163,7 +162,7 @@ fn hear_subframe(
         &subframe_bits(&read.words),
     );
     state.counts.subframes = state.counts.subframes.saturating_add(1);
-    if read.is_turned {
+    if read.is_inverted {
         state.counts.turned = state.counts.turned.saturating_add(1);
     }
     if !read.is_good {
@@ -172,7 +171,7 @@ fn hear_subframe(
     None
 }
 
-// Hears a page, of which the even half was sent a second earlier.
+// Processes a page, whose even page part was sent one second before its odd part.
 fn hear_page(
     state: &mut LogState,
     time: Moment,

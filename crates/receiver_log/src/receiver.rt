@@ -11,12 +11,12 @@ use receiver_messages::{Said, sbf_said, ubx_said};
 use sbf_frames::SbfJudge;
 use ubx_frames::UbxJudge;
 
-/// A format of messages, and what each message says.
+/// A format of messages, and their content.
 pub trait Receiver: Judge {
-    // What a whole message says.
+    // The content of a whole message.
     ghost said: { List ℕ → WhatIsSaid };
 
-    /// What a whole message says.
+    /// The content of a whole message.
     fn tell(message: &[u8]) -> Said
         ensures value { result ≡ said message.now }
         ensures system { SaysOfSystem result };

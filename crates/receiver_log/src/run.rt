@@ -1,10 +1,10 @@
-//! A whole run.
+//! A run over a whole log.
 
 ghost use Rattle.std.specs.Prelude.{◌≡◌, ◌≤◌, length, take, IsTrue, IsOk, IfOk, IfErr, OnOk, OnErr};
 ghost use Rattle.std.specs.Prelude.{MatchResult};
 ghost use Rattle.std.specs.Io.KnownBytes.{Appends, Consumes, IsAtEnd, Keeps};
 ghost use Rattle.nav_io.specs.Causes.{HasCause};
-ghost use Rattle.nav_io.specs.Front.{AppendsFront};
+ghost use Rattle.nav_io.specs.Prefix.{AppendsPrefix};
 ghost use Rattle.one_run.specs.Causes.{HasItsCause, faults_of};
 ghost use Rattle.one_run.specs.Ends.{status_of as status_of_end};
 ghost use Rattle.one_run.specs.Runs.{world};
@@ -14,29 +14,28 @@ ghost use Rattle.receiver_log.specs.Report.{counts_report};
 use crate::receiver::Receiver;
 use crate::report::counts_text;
 use crate::state::{Counts, LogState};
-use crate::taking::{take_messages, take_piece};
+use crate::taking::{process_messages, process_piece};
 use framing::Deframer;
 use nav_io::{Failed, Sink, Source};
 use one_run::BridgeFault;
 
-// How many bytes are read at most at a time.
+// The most bytes of one read.
 const PIECE: usize = 16_384;
 
-// How many bytes are too many: 2^64 - 16,384.
+// The count of bytes from which a log is too long: 2^64 - 16,384.
 const TOO_MANY: u64 = 18_446_744_073_709_535_232;
 
-/// Writes the capture of a log, and reports what was refused and the counts; answers the status.
+/// Writes the capture of a log, reports refused messages and counts, and gives the exit status.
 ///
-/// | Status | Comes |
+/// | Status | Meaning |
 /// |---|---|
 /// | 0 | the log was read to its end, and its capture and report were written |
-/// | 3 | a read failed; what the bytes before it decide was written and reported |
+/// | 3 | a read failed; the decided messages of the bytes before it were written and reported |
 /// | 4 | a write failed |
 /// | 7 | a write of the report failed |
 /// | 8 | there were 18,446,744,073,709,535,232 bytes or more |
 ///
-/// On 3, 4, 7 and 8 a front of the capture and of the report of the bytes that were read was
-/// written.
+/// On 3, 4, 7 and 8 a prefix of the capture and of the report of the bytes read was written.
 pub fn run_log<J: Receiver, S: Source, T: Sink, U: Sink>(
     input: &mut S,
     output: &mut T,
@@ -51,11 +50,11 @@ pub fn run_log<J: Receiver, S: Source, T: Sink, U: Sink>(
         report.new (U.written report.new) (U.faults report.new))
         result }
 {
-    let end = follow_log::<J, S, T, U>(input, output, report);
+    let end = convert_log::<J, S, T, U>(input, output, report);
     status_of(&end)
 }
 
-// The status of a run that ended so.
+// The exit status of a result.
 fn status_of(end: &Result<(), BridgeFault>) -> u8
     ensures { result ≡ status_of_end end.now }
 {
@@ -70,8 +69,8 @@ fn status_of(end: &Result<(), BridgeFault>) -> u8
     }
 }
 
-// Reads a log to its end, and writes its capture and its report while it reads.
-fn follow_log<J: Receiver, S: Source, T: Sink, U: Sink>(
+// Reads a log to its end, writing its capture and its report on the way.
+fn convert_log<J: Receiver, S: Source, T: Sink, U: Sink>(
     input: &mut S,
     output: &mut T,
     report: &mut U,
@@ -94,12 +93,12 @@ fn follow_log<J: Receiver, S: Source, T: Sink, U: Sink>(
             Err(Failed) => return Err(BridgeFault::ReadFault),
             Ok(0) => {
                 deframer.finish();
-                take_messages(&mut deframer, &mut state, output, report)?;
+                process_messages(&mut deframer, &mut state, output, report)?;
                 return report_counts(&state.counts, taken, report);
             }
             Ok(count) => {
                 taken += count as u64;
-                take_piece(&mut deframer, &mut state, &piece[..count], output, report)?;
+                process_piece(&mut deframer, &mut state, &piece[..count], output, report)?;
             }
         }
     }
@@ -122,11 +121,11 @@ fn read_some<S: Source>(source: &mut S, piece: &mut [u8]) -> Result<usize, Faile
     source.read(piece)
 }
 
-// Reports the counts of a log of so many bytes.
+// Reports the counts, for a log of `taken` bytes.
 fn report_counts<U: Sink>(counts: &Counts, taken: u64, report: &mut U) -> Result<(), BridgeFault>
     ensures told { OnOk result (Appends (U.written report.old) (U.written report.new)
         (counts_report counts.now taken)) }
-    ensures part { OnErr result (AppendsFront (U.written report.old) (U.written report.new)
+    ensures part { OnErr result (AppendsPrefix (U.written report.old) (U.written report.new)
         (counts_report counts.now taken)) }
     ensures cause { HasItsCause (faults_of 0 0 (U.faults report.old))
         (faults_of 0 0 (U.faults report.new)) result }

@@ -1,46 +1,46 @@
-//! What is known of a log so far.
+//! The state of a log.
 
 ghost use Rattle.std.specs.Prelude.{◌≡◌};
 ghost use Rattle.receiver_log.specs.Log.{begun};
 
 use gnss_week::Moment;
 
-/// What was counted in a log. A count stays at 18,446,744,073,709,551,615.
+/// Counts of a log. Each saturates at 18,446,744,073,709,551,615.
 #[derive(Clone, Copy, PartialEq, Eq)]
 pub struct Counts {
-    /// Whole messages of right checksum.
+    /// Complete messages with the right checksum.
     pub messages: u64,
     /// Bytes in them.
     pub within: u64,
-    /// Time messages that gave a time.
+    /// Time messages with a valid time.
     pub times: u64,
-    /// Subframes that were written.
+    /// Subframes written.
     pub subframes: u64,
-    /// Pages that were written.
+    /// Pages written.
     pub pages: u64,
-    /// Messages with a subframe or a page that gave no line.
+    /// Messages with a subframe or a page that were refused.
     pub refused: u64,
-    /// Messages that were passed over, and time messages that gave none.
+    /// Messages of other types, and time messages without a valid time.
     pub other: u64,
-    /// Subframes that were written otherwise than they stood.
+    /// Subframes whose words had to be inverted back.
     pub turned: u64,
-    /// Subframes without a good reading.
+    /// Subframes of which no reading has right parity.
     pub parity: u64,
 }
 
-/// What is known of a log so far.
+/// The state of a log after some of its messages.
 #[derive(Clone, Copy, PartialEq, Eq)]
 pub struct LogState {
-    /// The time of the last time message, if it gave one.
+    /// The time of the last time message; `None` where it was not valid, or before the first.
     pub time: Option<Moment>,
-    /// The week in the first line of the capture, where that was written.
+    /// The week in the first line of the capture, once written.
     pub week: Option<u32>,
-    /// What was counted.
+    /// The counts.
     pub counts: Counts,
 }
 
 impl LogState {
-    /// Nothing was heard.
+    /// The state before the first message.
     pub fn new() -> Self
         ensures { result ≡ begun }
     {

@@ -4,7 +4,7 @@ ghost use Rattle.std.specs.Prelude.{◌≡◌, ◌⊎◌, ◌≤◌, ◌∷◌, 
 ghost use Rattle.std.specs.Prelude.{IfErr, OnErr, OnOk};
 ghost use Rattle.std.specs.Io.KnownBytes.{Appends};
 ghost use Rattle.nav_io.specs.Causes.{HasCause};
-ghost use Rattle.nav_io.specs.Front.{AppendsFront};
+ghost use Rattle.nav_io.specs.Prefix.{AppendsPrefix};
 ghost use Rattle.framing.specs.Headings.{format_of};
 ghost use Rattle.framing.specs.State.{IsWaiting, MayFeed};
 ghost use Rattle.one_run.specs.Causes.{HasItsCause, faults_of};
@@ -22,10 +22,10 @@ use framing::Deframer;
 use nav_io::{Failed, Sink};
 use one_run::BridgeFault;
 
-// The most bytes of lines with which the lines of one more message have room.
+// While at most this many bytes of lines wait, the lines of one more message have room.
 const ROOM: usize = 8_192;
 
-// Hears the message that was taken last, and reports it where it is refused.
+// Processes the message found last, and reports it where it is refused.
 fn hear_message<J: Receiver, U: Sink>(
     deframer: &Deframer<J>,
     state: &mut LogState,
@@ -40,7 +40,7 @@ fn hear_message<J: Receiver, U: Sink>(
     ensures told { OnOk result (Appends (U.written report.old) (U.written report.new)
         (refusal_text (given state.old (length deframer.now.message)
         (J.said deframer.now.message)))) }
-    ensures part { OnErr result (AppendsFront (U.written report.old) (U.written report.new)
+    ensures part { OnErr result (AppendsPrefix (U.written report.old) (U.written report.new)
         (refusal_text (given state.old (length deframer.now.message)
         (J.said deframer.now.message)))) }
     ensures cause { HasItsCause (faults_of 0 0 (U.faults report.old))
@@ -63,7 +63,7 @@ fn put_lines<T: Sink>(lines: &mut Lines, output: &mut T) -> Result<(), BridgeFau
     ensures none { OnOk result (lines.new.items ≡ []) }
     ensures text { OnOk result (Appends (T.written output.old) (T.written output.new)
         lines.old.items) }
-    ensures part { OnErr result (AppendsFront (T.written output.old) (T.written output.new)
+    ensures part { OnErr result (AppendsPrefix (T.written output.old) (T.written output.new)
         lines.old.items) }
     ensures cause { HasItsCause (faults_of 0 (T.faults output.old) 0)
         (faults_of 0 (T.faults output.new) 0) result }
@@ -81,12 +81,12 @@ fn put_lines<T: Sink>(lines: &mut Lines, output: &mut T) -> Result<(), BridgeFau
     }
 }
 
-// Writes the lines that wait, where they are many.
+// Writes the lines that wait, where more than 8,192 bytes do.
 fn put_many<T: Sink>(lines: &mut Lines, output: &mut T) -> Result<(), BridgeFault>
     ensures room { OnOk result (length lines.new.items ≤ 8192) }
     ensures puts { OnOk result (Puts (T.written output.old) (T.written output.new)
         lines.old.items lines.new.items) }
-    ensures part { OnErr result (AppendsFront (T.written output.old) (T.written output.new)
+    ensures part { OnErr result (AppendsPrefix (T.written output.old) (T.written output.new)
         lines.old.items) }
     ensures cause { HasItsCause (faults_of 0 (T.faults output.old) 0)
         (faults_of 0 (T.faults output.new) 0) result }
@@ -98,8 +98,8 @@ fn put_many<T: Sink>(lines: &mut Lines, output: &mut T) -> Result<(), BridgeFaul
     Ok(())
 }
 
-// Hears the messages that are decided, and writes their lines.
-pub(crate) fn take_messages<J: Receiver, T: Sink, U: Sink>(
+// Processes the decided messages, and writes their lines.
+pub(crate) fn process_messages<J: Receiver, T: Sink, U: Sink>(
     deframer: &mut Deframer<J>,
     state: &mut LogState,
     output: &mut T,
@@ -128,8 +128,8 @@ pub(crate) fn take_messages<J: Receiver, T: Sink, U: Sink>(
     put_lines(&mut lines, output)
 }
 
-// Feeds a piece, hears the messages that are decided then, and writes their lines.
-pub(crate) fn take_piece<J: Receiver, T: Sink, U: Sink>(
+// Feeds a piece, processes the messages decided then, and writes their lines.
+pub(crate) fn process_piece<J: Receiver, T: Sink, U: Sink>(
     deframer: &mut Deframer<J>,
     state: &mut LogState,
     piece: &[u8],
@@ -153,7 +153,7 @@ pub(crate) fn take_piece<J: Receiver, T: Sink, U: Sink>(
     let mut fed = 0;
     while fed < piece.len() {
         fed += deframer.feed_some(&piece[fed..]);
-        take_messages(deframer, state, output, report)?;
+        process_messages(deframer, state, output, report)?;
     }
     Ok(())
 }

@@ -1,4 +1,4 @@
--- A word that is turned over has wrong parity where it had right parity.
+-- A word with right parity has wrong parity once inverted.
 use Rattle.std.proofs.Common.{◌≡◌, ℕ, ◌+◌, ◌-◌, ◌%◌, map, sum, refl, arith}
 use Rattle.std.specs.Int.{bit_at}
 use Rattle.std.specs.Int.Bits.{bit_xor}
@@ -6,13 +6,13 @@ use Rattle.std.proofs.lemmas.Nat.Bits.{bit_at-lt, bit_at_xor}
 use Rattle.lnav_subframe.specs.Parity.{source, d29_star, d30_star, row_25, row_29, IsGood}
 use Rattle.receiver_messages.specs.Words.{data_mask, whole_mask}
 
--- what differs from data bits turned over and all bits turned over: the parity bits
+-- the difference of the two masks: the parity bits
 abbrev pub parity_mask : ℕ
 parity_mask = 0x3F
 
-turned : (u m last n : ℕ) → bit_at m (30 - n) ≡ 1
+inverted : (u m last n : ℕ) → bit_at m (30 - n) ≡ 1
     → source u last n + source (bit_xor u m) last n ≡ 1
-turned u m last n one = omega (
+inverted u m last n one = omega (
   arith,
   bit_at_xor u m (30 - n),
   bit_at-lt u
@@ -23,13 +23,13 @@ turned u m last n one = omega (
 kept : (u m last n : ℕ) → bit_at m (30 - n) ≡ 0 → source (bit_xor u m) last n ≡ source u last n
 kept u m last n none = omega (arith, bit_at_xor u m (30 - n), bit_at-lt u (30 - n))
 
-bit_turned : (u m i : ℕ) → bit_at m i ≡ 1 → bit_at u i + bit_at (bit_xor u m) i ≡ 1
-bit_turned u m i one = omega (arith, bit_at_xor u m i, bit_at-lt u i)
+bit_inverted : (u m i : ℕ) → bit_at m i ≡ 1 → bit_at u i + bit_at (bit_xor u m) i ≡ 1
+bit_inverted u m i one = omega (arith, bit_at_xor u m i, bit_at-lt u i)
 
 bit_kept : (u m i : ℕ) → bit_at m i ≡ 0 → bit_at (bit_xor u m) i ≡ bit_at u i
 bit_kept u m i none = omega (arith, bit_at_xor u m i, bit_at-lt u i)
 
--- the sums of a row with an odd number of bits turned over
+-- the parity sums of a row with an odd number of bits inverted
 sums_25 : (f g : ℕ → ℕ) → f 1 + g 1 ≡ 1 → f 2 + g 2 ≡ 1 → f 3 + g 3 ≡ 1 → f 5 + g 5 ≡ 1
     → f 6 + g 6 ≡ 1 → f 10 + g 10 ≡ 1 → f 11 + g 11 ≡ 1
     → f 12 + g 12 ≡ 1 → f 13 + g 13 ≡ 1 → f 14 + g 14 ≡ 1 → f 17 + g 17 ≡ 1 → f 18 + g 18 ≡ 1
@@ -67,14 +67,14 @@ odd_parity star p q s t a b c d = omega arith
 pub not_both_whole : (u last : ℕ) → IsGood u last → IsGood (bit_xor u whole_mask) last → ⊥
 not_both_whole u last a b =
     let m : ℕ = whole_mask in
-    odd_whole (d29_star last) _ _ _ _ a.d25 b.d25 (bit_turned u whole_mask 5 refl)
+    odd_whole (d29_star last) _ _ _ _ a.d25 b.d25 (bit_inverted u whole_mask 5 refl)
     (sums_25 (source u last) (source (bit_xor u whole_mask) last)
-    (turned u m last 1 refl) (turned u m last 2 refl) (turned u m last 3 refl)
-    (turned u m last 5 refl) (turned u m last 6 refl)
-    (turned u m last 10 refl) (turned u m last 11 refl) (turned u m last 12 refl)
-    (turned u m last 13 refl) (turned u m last 14 refl)
-    (turned u m last 17 refl) (turned u m last 18 refl) (turned u m last 20 refl)
-    (turned u m last 23 refl))
+    (inverted u m last 1 refl) (inverted u m last 2 refl) (inverted u m last 3 refl)
+    (inverted u m last 5 refl) (inverted u m last 6 refl)
+    (inverted u m last 10 refl) (inverted u m last 11 refl) (inverted u m last 12 refl)
+    (inverted u m last 13 refl) (inverted u m last 14 refl)
+    (inverted u m last 17 refl) (inverted u m last 18 refl) (inverted u m last 20 refl)
+    (inverted u m last 23 refl))
 
 -- the 24 data bits
 pub not_both_data : (u last : ℕ) → IsGood u last → IsGood (bit_xor u data_mask) last → ⊥
@@ -82,18 +82,18 @@ not_both_data u last a b =
     let m : ℕ = data_mask in
     odd_data (d30_star last) _ _ _ _ a.d29 b.d29 (bit_kept u data_mask 1 refl)
     (sums_29 (source u last) (source (bit_xor u data_mask) last)
-    (turned u m last 1 refl) (turned u m last 3 refl) (turned u m last 5 refl)
-    (turned u m last 6 refl) (turned u m last 7 refl)
-    (turned u m last 9 refl) (turned u m last 10 refl) (turned u m last 14 refl)
-    (turned u m last 15 refl) (turned u m last 16 refl)
-    (turned u m last 17 refl) (turned u m last 18 refl) (turned u m last 21 refl)
-    (turned u m last 22 refl) (turned u m last 24 refl))
+    (inverted u m last 1 refl) (inverted u m last 3 refl) (inverted u m last 5 refl)
+    (inverted u m last 6 refl) (inverted u m last 7 refl)
+    (inverted u m last 9 refl) (inverted u m last 10 refl) (inverted u m last 14 refl)
+    (inverted u m last 15 refl) (inverted u m last 16 refl)
+    (inverted u m last 17 refl) (inverted u m last 18 refl) (inverted u m last 21 refl)
+    (inverted u m last 22 refl) (inverted u m last 24 refl))
 
 -- the six parity bits
 pub not_both_parity : (u last : ℕ) → IsGood u last → IsGood (bit_xor u parity_mask) last → ⊥
 not_both_parity u last a b =
     let m : ℕ = parity_mask in
-    odd_parity (d29_star last) _ _ _ _ a.d25 b.d25 (bit_turned u parity_mask 5 refl)
+    odd_parity (d29_star last) _ _ _ _ a.d25 b.d25 (bit_inverted u parity_mask 5 refl)
     (same_25 (source u last) (source (bit_xor u parity_mask) last)
     (kept u m last 1 refl) (kept u m last 2 refl) (kept u m last 3 refl) (kept u m last 5 refl)
     (kept u m last 6 refl)

@@ -1,4 +1,4 @@
-//! What a message may say.
+//! The content of a message.
 
 use gnss_week::Moment;
 use nav_bits::{Bits, U};
@@ -7,52 +7,52 @@ use nav_eph::{Sat, Signal};
 /// Why a message with a subframe or a page gives no line of a capture.
 #[derive(Clone, Copy, PartialEq, Eq)]
 pub enum Reason {
-    /// It is shorter than its form asks, or longer.
+    /// Its length is wrong for its type.
     Length,
-    /// Its satellite is none of the system.
+    /// Its satellite number is not one of the system.
     Satellite,
-    /// It has no time.
+    /// No time of reception is known.
     Untimed,
-    /// It was heard before the week of the capture's first line.
+    /// It was received before the week in the capture's first line.
     Late,
-    /// It was heard 512 weeks after the beginning of that week, or later.
+    /// It was received 512 weeks after the start of that week, or later.
     Far,
 }
 
-/// A subframe or a page, or why there is none.
+/// A subframe or a page, or why the message gives none.
 #[derive(Clone, Copy, PartialEq, Eq)]
 pub enum Content {
-    /// None.
+    /// None, for this reason.
     Refused(Reason),
-    /// A subframe of GPS.
+    /// A GPS LNAV subframe.
     Subframe {
         /// The satellite.
         sat: Sat,
-        /// The ten words of 30 bits, as they stand in the message.
+        /// The ten words of 30 bits, as logged.
         words: [U<30>; 10],
     },
-    /// A page of Galileo, in its two halves of 120 bits.
+    /// A Galileo I/NAV page, in two page parts of 120 bits.
     Page {
         /// The satellite.
         sat: Sat,
-        /// The signal on which it was heard.
+        /// The signal on which it was received.
         signal: Signal,
-        /// The even half.
+        /// The even page part.
         even: Bits<15>,
-        /// The odd half.
+        /// The odd page part.
         odd: Bits<15>,
     },
 }
 
-/// What a message says.
+/// The content of a message.
 #[derive(Clone, Copy, PartialEq, Eq)]
 pub enum Said {
-    /// Nothing that a capture needs.
+    /// Nothing that a capture uses.
     Other,
-    /// The time from here on, or that there is none.
+    /// The receiver's time from here on; `None` where it is not valid.
     Time(Option<Moment>),
-    /// A subframe or a page, heard at the time of the last message that gave one.
+    /// A subframe or a page, received at the time of the last time message.
     Heard(Content),
-    /// A subframe or a page with its own time.
+    /// A subframe or a page with its own time of reception.
     Dated(Option<Moment>, Content),
 }

@@ -1,4 +1,4 @@
-//! What blocks of SBF say.
+//! The content of SBF blocks.
 
 ghost use Rattle.std.specs.Prelude.{◌≡◌, ◌+◌, ◌<◌, ◌≤◌, length};
 ghost use Rattle.receiver_messages.specs.Sbf.{block_said as block_of, page_said as page_of};
@@ -15,11 +15,10 @@ use crate::words::words_from;
 use gnss_week::Moment;
 use nav_eph::{Signal, System};
 
-/// What a whole block of SBF says.
+/// The content of a whole SBF block.
 ///
 /// GPSRawCA gives a subframe, GALRawINAV a page of E1-B or E5b, each with the block's own time, or
-/// a
-/// reason why it gives none.
+/// the reason why it gives none.
 #[tactic(auto, unfolding(crate::specs::Sbf::sbf_said))]
 pub fn sbf_said(block: &[u8]) -> Said
     ensures value { result ≡ said_of block.now }
@@ -31,7 +30,7 @@ pub fn sbf_said(block: &[u8]) -> Said
     block_said(two(block, 4) % 8192, block)
 }
 
-// What a block of a number says.
+// The content of a block with this ID.
 #[tactic(auto, unfolding(crate::specs::Sbf::block_said))]
 fn block_said(number: u32, block: &[u8]) -> Said
     ensures value { result ≡ block_of number block.now }
@@ -44,7 +43,7 @@ fn block_said(number: u32, block: &[u8]) -> Said
     }
 }
 
-// The time of a block.
+// The time stamp of a block (WNc and TOW).
 fn time_of(block: &[u8]) -> Option<Moment>
     requires { 14 ≤ length block.now }
     ensures { result ≡ time_at block.now }
@@ -52,7 +51,7 @@ fn time_of(block: &[u8]) -> Option<Moment>
     time_in(u64::from(two(block, 12)), four(block, 8))
 }
 
-// What GPSRawCA says.
+// The content of GPSRawCA.
 #[tactic(auto, unfolding(crate::specs::Sbf::subframe_said))]
 fn subframe_said(block: &[u8]) -> Said
     ensures value { result ≡ subframe_of block.now }
@@ -74,7 +73,7 @@ fn subframe_said(block: &[u8]) -> Said
     }
 }
 
-// What GALRawINAV says.
+// The content of GALRawINAV.
 #[tactic(auto, unfolding(crate::specs::Sbf::pages_said))]
 fn pages_said(block: &[u8]) -> Said
     ensures value { result ≡ pages_of block.now }
@@ -90,7 +89,7 @@ fn pages_said(block: &[u8]) -> Said
     }
 }
 
-// A page of a signal.
+// The page of GALRawINAV on this signal.
 fn page_said(signal: Signal, block: &[u8]) -> Said
     requires { 52 ≤ length block.now }
     ensures value { result ≡ page_of signal block.now }

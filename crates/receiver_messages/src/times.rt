@@ -1,15 +1,15 @@
-//! The times that messages give.
+//! GPS times in messages.
 
 ghost use Rattle.std.specs.Prelude.{◌≡◌, ◌+◌, ◌-◌, ◌*◌, ◌/◌, ◌%◌, ◌^◌, ◌<◌, ◌≤◌, nat_lt, IsTrue};
 ghost use Rattle.receiver_messages.specs.Times.{digits_of as double_digits, exponent_of};
 ghost use Rattle.receiver_messages.specs.Times.{is_in_week};
 ghost use Rattle.receiver_messages.specs.Times.{is_week as in_weeks, nearest_to, places_of};
-ghost use Rattle.receiver_messages.specs.Times.{time_in as moment_in, time_near as moment_near};
+ghost use Rattle.receiver_messages.specs.Times.{time_in as moment_in, nearest_time as moment_near};
 ghost use Rattle.receiver_messages.specs.Times.{time_of_date as date_time};
 ghost use Rattle.gnss_week.specs.Functions.{moment_to};
 ghost use Rattle.receiver_messages.specs.Times.{time_of_raw as raw_time};
 ghost use Rattle.receiver_messages.specs.Times.{time_of_seconds as seconds_time};
-ghost use Rattle.receiver_messages.specs.Times.{time_of_week as week_time, week_near as near_week};
+ghost use Rattle.receiver_messages.specs.Times.{time_of_week as week_time, nearest_week as near_week};
 
 use crate::numbers::{eight, four, two};
 use gnss_week::{Civil, Moment, moment_of};
@@ -17,14 +17,14 @@ use gnss_week::{Civil, Moment, moment_of};
 // The seconds of a week.
 const WEEK: u64 = 604_800;
 
-// Whether receivers are believed that are in this week.
+// Whether a week number is plausible: 1025 to 8191.
 fn is_week(week: u64) -> bool
     ensures { result ≡ in_weeks week }
 {
     1025 <= week && week <= 8191
 }
 
-// The time of so many milliseconds of a week.
+// The time at this many milliseconds of a week, rounded to a second.
 #[tactic(auto, unfolding(crate::specs::Times::time_in))]
 pub fn time_in(week: u64, milliseconds: u32) -> Option<Moment>
     ensures { result ≡ moment_in week milliseconds }
@@ -47,8 +47,8 @@ pub fn time_of_week(payload: &[u8]) -> Option<Moment>
     time_in(u64::from(two(payload, 8)), four(payload, 0))
 }
 
-// The only week in which so many milliseconds of it are within half a week of a second.
-fn week_near(second: u64, milliseconds: u32) -> u64
+// The week in which this time of week, in milliseconds, is within half a week of `second`.
+fn nearest_week(second: u64, milliseconds: u32) -> u64
     requires { second < 2 ^ 40 }
     ensures { result ≡ near_week second milliseconds }
 {
@@ -71,16 +71,16 @@ pub fn time_of_date(payload: &[u8]) -> Option<Moment>
         minute: payload[9],
         second: 0,
     };
-    time_near(&minute, payload[10], four(payload, 0))
+    nearest_time(&minute, payload[10], four(payload, 0))
 }
 
-// The time of so many milliseconds of the week near a second of a minute.
-fn time_near(minute: &Civil, second: u8, milliseconds: u32) -> Option<Moment>
+// The GPS time with this time of week, in milliseconds, nearest to a second of a minute.
+fn nearest_time(minute: &Civil, second: u8, milliseconds: u32) -> Option<Moment>
     ensures { result ≡ moment_near (moment_to minute.now) second milliseconds }
 {
     match moment_of(minute) {
         Ok(moment) => {
-            let week = week_near(moment.value() + u64::from(second), milliseconds);
+            let week = nearest_week(moment.value() + u64::from(second), milliseconds);
             time_in(week, milliseconds)
         }
         Err(_) => None,
@@ -98,7 +98,7 @@ pub fn time_of_raw(payload: &[u8]) -> Option<Moment>
     time_of_seconds(u64::from(two(payload, 8)), eight(payload, 0))
 }
 
-// The time of so many seconds of a week, which are the digits of a double.
+// The time at a number of seconds of a week, given as the bits of a double.
 #[tactic(auto, unfolding(crate::specs::Times::time_of_seconds))]
 fn time_of_seconds(week: u64, double: u64) -> Option<Moment>
     ensures { result ≡ seconds_time week double }
@@ -112,14 +112,14 @@ fn time_of_seconds(week: u64, double: u64) -> Option<Moment>
     Some(Moment::from_seconds(WEEK * week + nearest(double)))
 }
 
-// The digits of the exponent.
+// The exponent field of a double.
 fn exponent(double: u64) -> u64
     ensures { result ≡ exponent_of double }
 {
     (double >> 52) % 2048
 }
 
-// The digits of the number itself.
+// The significand of a double, as an integer.
 #[tactic(auto, unfolding(crate::specs::Times::digits_of))]
 fn digits(double: u64) -> u64
     ensures value { result ≡ double_digits double }
@@ -133,7 +133,7 @@ fn digits(double: u64) -> u64
     }
 }
 
-// How many of them stand behind the point.
+// How many fraction bits the significand has.
 #[tactic(auto, unfolding(crate::specs::Times::places_of))]
 fn places(double: u64) -> u64
     ensures { result ≡ places_of double }
@@ -145,7 +145,7 @@ fn places(double: u64) -> u64
     }
 }
 
-// Whether it is a number from 0 to below 604,800.
+// Whether the double is from 0 to below 604,800.
 #[tactic(auto, unfolding(crate::specs::Times::is_in_week))]
 fn is_below_week(double: u64) -> bool
     ensures { result ≡ is_in_week double }
@@ -157,7 +157,7 @@ fn is_below_week(double: u64) -> bool
     exponent(double) <= 1075 && whole(digits, places(double)) < WEEK
 }
 
-// The digits before the point.
+// The integer part.
 fn whole(digits: u64, places: u64) -> u64
     requires { digits < 2 ^ 53 }
     ensures { result ≡ digits / 2 ^ places }
@@ -165,7 +165,7 @@ fn whole(digits: u64, places: u64) -> u64
     if places > 60 { 0 } else { digits >> places }
 }
 
-// Whether the digits behind the point are less than a half.
+// Whether the fraction is less than a half.
 fn is_low(digits: u64, places: u64) -> bool
     requires { digits < 2 ^ 53 }
     ensures { result ≡ nat_lt (2 * (digits % 2 ^ places)) (2 ^ places) }
@@ -176,7 +176,7 @@ fn is_low(digits: u64, places: u64) -> bool
     2 * (digits % (1 << places)) < 1 << places
 }
 
-// The nearest whole number.
+// The nearest integer, halves up.
 #[tactic(auto, unfolding(crate::specs::Times::is_in_week, crate::specs::Times::nearest_to))]
 fn nearest(double: u64) -> u64
     requires { IsTrue (is_in_week double) }

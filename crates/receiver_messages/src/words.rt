@@ -1,9 +1,9 @@
-//! The words of a subframe, in whichever of three forms a receiver logged them.
+//! The words of a subframe, in whichever of three forms the receiver logged them.
 
 ghost use Rattle.std.specs.Prelude.{◌≡◌, ◌+◌, ◌%◌, ◌^◌, ◌<◌, ◌≤◌, ◌==◌, if◌then◌else◌, length};
 ghost use Rattle.std.specs.Prelude.{bit_xor};
 ghost use Rattle.lnav_subframe.specs.ParityFunctions.{is_good};
-ghost use Rattle.receiver_messages.specs.Words.{are_good as all_good, has_good_reading, is_turned};
+ghost use Rattle.receiver_messages.specs.Words.{are_good as all_good, has_good_reading, is_inverted};
 ghost use Rattle.receiver_messages.specs.Words.{read_words as read_of, reading as reading_by};
 ghost use Rattle.receiver_messages.specs.Words.{subframe_bytes, word_at, words_at};
 
@@ -11,35 +11,35 @@ use crate::numbers::four;
 use lnav_subframe::check_word;
 use nav_bits::{Bits, U, packed_are_the_only, put_numbers};
 
-// The 24 data bits of a word, and all 30.
+// Masks of the 24 data bits and of all 30 bits of a word.
 const DATA: u64 = 0x3FFF_FFC0;
 
 const WHOLE: u64 = 0x3FFF_FFFF;
 
-/// The words of a subframe, read.
+/// The words of a subframe, as read.
 #[derive(Clone, Copy, PartialEq, Eq)]
 pub struct ReadWords {
-    /// The ten words as they were sent, or as they stand in the message where no reading is good.
+    /// The ten words as sent; as logged where no reading has right parity.
     pub words: [U<30>; 10],
     /// Whether all ten have right parity.
     pub is_good: bool,
-    /// Whether they are read otherwise than they stand.
-    pub is_turned: bool,
+    /// Whether data bits had to be inverted back.
+    pub is_inverted: bool,
 }
 
-/// The words of a subframe as they were sent: the one reading of three by which all ten have right
-/// parity (IS-GPS-200, 20.3.5.2), or the words as they stand where there is none.
-#[tactic(auto, unfolding(crate::specs::Words::read_words, crate::specs::Words::has_good_reading, crate::specs::Words::is_turned))]
+/// The words of a subframe as sent: the one of three readings in which all ten have right parity
+/// (IS-GPS-200, 20.3.5.2), or the words as logged where there is none.
+#[tactic(auto, unfolding(crate::specs::Words::read_words, crate::specs::Words::has_good_reading, crate::specs::Words::is_inverted))]
 pub fn read_words(words: &[U<30>; 10]) -> ReadWords
     ensures words { result.words ≡ read_of words.now }
     ensures good { result.is_good ≡ has_good_reading words.now }
-    ensures turned { result.is_turned ≡ is_turned words.now }
+    ensures inverted { result.is_inverted ≡ is_inverted words.now }
 {
     if are_good(words) {
         return ReadWords {
             words: *words,
             is_good: true,
-            is_turned: false,
+            is_inverted: false,
         };
     }
     let data = reading(words, DATA);
@@ -47,7 +47,7 @@ pub fn read_words(words: &[U<30>; 10]) -> ReadWords
         return ReadWords {
             words: data,
             is_good: true,
-            is_turned: true,
+            is_inverted: true,
         };
     }
     let whole = reading(words, WHOLE);
@@ -55,18 +55,18 @@ pub fn read_words(words: &[U<30>; 10]) -> ReadWords
         return ReadWords {
             words: whole,
             is_good: true,
-            is_turned: true,
+            is_inverted: true,
         };
     }
     ReadWords {
         words: *words,
         is_good: false,
-        is_turned: false,
+        is_inverted: false,
     }
 }
 
-// The first word as it stands, and each further one turned over by the mask where the one before
-// it, as it is read, ends in 1.
+// The first word as logged, and each further one XOR the mask where the word before it, as read,
+// ends in 1 (D30*).
 fn reading(words: &[U<30>; 10], mask: u64) -> [U<30>; 10]
     requires { mask < 2 ^ 30 }
     ensures { result ≡ reading_by mask words.now }
@@ -74,14 +74,14 @@ fn reading(words: &[U<30>; 10], mask: u64) -> [U<30>; 10]
     let mut read = *words;
     let mut last = 0;
     for i in 0..10 {
-        last = turned(words[i].value(), last, mask);
-        read[i] = U::from_digits(last);
+        last = inverted(words[i].value(), last, mask);
+        read[i] = U::from_bits(last);
     }
     read
 }
 
-// A word, turned over where the one before it ends in 1.
-fn turned(word: u64, last: u64, mask: u64) -> u64
+// A word XOR the mask where the word before it ends in 1.
+fn inverted(word: u64, last: u64, mask: u64) -> u64
     requires word { word < 2 ^ 30 }
     requires mask { mask < 2 ^ 30 }
     ensures value { result ≡ (if last % 2 == 1 then bit_xor word mask else word) }
@@ -104,22 +104,22 @@ fn are_good(words: &[U<30>; 10]) -> bool
     true
 }
 
-// Whether a word has right parity behind one that ends so.
+// Whether a word has right parity after a word that ends in the two low bits of `last`.
 fn has_parity(word: U<30>, last: u64) -> bool
     ensures { result ≡ is_good word (last % 4) }
 {
-    check_word(word, U::from_digits(last % 4)).is_some()
+    check_word(word, U::from_bits(last % 4)).is_some()
 }
 
-// The word at a place: the lower 30 of 32 bits.
+// The word at byte offset `at`: the lower 30 of 32 bits.
 fn word(bytes: &[u8], at: usize) -> U<30>
     requires { at + 4 ≤ length bytes.now }
     ensures { result ≡ word_at bytes.now at }
 {
-    U::from_digits(u64::from(four(bytes, at) % (1 << 30)))
+    U::from_bits(u64::from(four(bytes, at) % (1 << 30)))
 }
 
-/// The ten words of a subframe from a place on.
+/// The ten words of a subframe at byte offset `at`.
 pub fn words_from(bytes: &[u8], at: usize) -> [U<30>; 10]
     requires { at + 40 ≤ length bytes.now }
     ensures { result ≡ words_at bytes.now at }
@@ -138,7 +138,7 @@ pub fn words_from(bytes: &[u8], at: usize) -> [U<30>; 10]
     ]
 }
 
-/// The 300 bits of ten words, and four that are 0.
+/// The 300 bits of ten words, and four bits 0.
 #[tactic(auto, unfolding(crate::specs::Words::subframe_bytes))]
 pub fn subframe_bits(words: &[U<30>; 10]) -> Bits<38>
     ensures { result ≡ subframe_bytes words.now }

@@ -3,29 +3,29 @@ use Rattle.std.proofs.Common.{◌≡◌, ℕ, zero, suc, ◌+◌, ◌<◌, ◌�
 use Rattle.std.proofs.Math.Seq.{get_or-append_seam}
 use Rattle.rinex_read.specs.Lines.{columns, stands_at}
 
--- the character behind a front
-pub column_behind : (front rest : List ℕ) (x a : ℕ) → length front ≡ a → get_or (front ++ x ∷ rest) a 32 ≡ x
-column_behind front rest x a e = ap (λ i. get_or (front ++ x ∷ rest) i 32) (sym e) ∙ get_or-append_seam front x rest 32
+-- the character after a prefix
+pub column_behind : (prefix rest : List ℕ) (x a : ℕ) → length prefix ≡ a → get_or (prefix ++ x ∷ rest) a 32 ≡ x
+column_behind prefix rest x a e = ap (λ i. get_or (prefix ++ x ∷ rest) i 32) (sym e) ∙ get_or-append_seam prefix x rest 32
 
--- a part of a line stands in its columns
-pub columns_part : (a : ℕ) (front text tail line : List ℕ) → line ≡ front ++ (text ++ tail) → length front ≡ a → columns a (length text) line ≡ text
+-- a part of a line is in its columns
+pub columns_part : (a : ℕ) (prefix text tail line : List ℕ) → line ≡ prefix ++ (text ++ tail) → length prefix ≡ a → columns a (length text) line ≡ text
 unfolding columns
-columns_part a front [] tail line e at = refl
-columns_part a front (x ∷ text) tail line e at =
-    let first : get_or line a 32 ≡ x = ap (λ l. get_or l a 32) e ∙ column_behind front (text ++ tail) x a at in
-    let longer : length (front ++ x ∷ []) ≡ a + 1 = omega (arith, length-append front (x ∷ [])) in
-    let rest = columns_part (a + 1) (front ++ x ∷ []) text tail line (e ∙ sym (append_assoc front (x ∷ []) (text ++ tail))) longer in
+columns_part a prefix [] tail line e at = refl
+columns_part a prefix (x ∷ text) tail line e at =
+    let first : get_or line a 32 ≡ x = ap (λ l. get_or l a 32) e ∙ column_behind prefix (text ++ tail) x a at in
+    let longer : length (prefix ++ x ∷ []) ≡ a + 1 = omega (arith, length-append prefix (x ∷ [])) in
+    let rest = columns_part (a + 1) (prefix ++ x ∷ []) text tail line (e ∙ sym (append_assoc prefix (x ∷ []) (text ++ tail))) longer in
     ap (λ c. c ∷ columns (a + 1) (length text) line) first ∙ ap (λ l. x ∷ l) rest
 
-pub columns_at : (a n : ℕ) (front text tail line : List ℕ) → line ≡ front ++ (text ++ tail) → length front ≡ a → length text ≡ n → columns a n line ≡ text
-columns_at a n front text tail line e at is = ap (λ k. columns a k line) (sym is) ∙ columns_part a front text tail line e at
+pub columns_at : (a n : ℕ) (prefix text tail line : List ℕ) → line ≡ prefix ++ (text ++ tail) → length prefix ≡ a → length text ≡ n → columns a n line ≡ text
+columns_at a n prefix text tail line e at is = ap (λ k. columns a k line) (sym is) ∙ columns_part a prefix text tail line e at
 
 -- a line that begins with three characters begins with them
 pub stands_first : (a b c : ℕ) (rest : List ℕ) → stands_at 0 (a ∷ b ∷ c ∷ []) (a ∷ b ∷ c ∷ rest) ≡ true
 unfolding stands_at
 stands_first a b c rest = rw (eq-eqb a a refl, eq-eqb b b refl, eq-eqb c c refl) refl
 
--- the same characters stand in the first 80 columns
+-- the same characters are in the first 80 columns
 pub record IsAlike (l m : List ℕ) : Type 0 where
   pub same : (i : ℕ) → i < 80 → get_or l i 32 ≡ get_or m i 32
 

@@ -132,7 +132,7 @@ all_sisa_small : all_below 256 is_sisa_small ≡ true
 unfolding sisa_nominal
 all_sisa_small = refl
 
--- the number of a field has at most 32 digits
+-- the number of a field has at most 32 bits
 shown_small : (r : Rule) (z : ℤ) → is_good_rule r ≡ true → IsField r z → unsigned_abs (shown r z) ≤ 4294967295
 shown_small (Plain low high) z good h = range_small low high z good h.0 h.1
 shown_small (OrZero low high) z good h = range_small low high z good h.0 h.1
@@ -151,7 +151,7 @@ shown_small (Unread n) z good h =
     let both = and_parts (int_le (negsuc 4294967294) n) (int_le n (pos 4294967295)) good in
     abs_small n (le_from (negsuc 4294967294) n both.0) (le_from n (pos 4294967295) both.1)
 
--- what a good scale and a good range are within
+-- the bounds of a good scale and a good range
 pub scale_within : (s : Scale) → is_good_scale s ≡ true → AreWithin s.factor s.two s.ten
 scale_within s good =
     let a = nat_le 1 s.factor in
@@ -178,7 +178,7 @@ range_within low high good =
     let both = and_parts (int_le (negsuc 4294967294) low) (int_le high (pos 4294967295)) good in
     (le_from (negsuc 4294967294) low both.0, le_from high (pos 4294967295) both.1)
 
--- a good scale is one at which each number is in reach
+-- a good scale can express each number
 good_scale : (s : Scale) → is_good_scale s ≡ true → IsScale (size_of s)
 good_scale s good = is_scale s (scale_within s good)
 
@@ -221,10 +221,10 @@ good_parts (c ∷ cs) ds good =
     let more = good_parts cs ds parts.1 in
     (ap (λ b. b && are_good cs) parts.0 ∙ more.0, more.1)
 
-front_and_rest : (n : ℕ) (zs : List ℤ) → take n zs ++ drop n zs ≡ zs
-front_and_rest zero zs = refl
-front_and_rest (suc n) [] = refl
-front_and_rest (suc n) (z ∷ zs) = ap (λ l. z ∷ l) (front_and_rest n zs)
+prefix_and_rest : (n : ℕ) (zs : List ℤ) → take n zs ++ drop n zs ≡ zs
+prefix_and_rest zero zs = refl
+prefix_and_rest (suc n) [] = refl
+prefix_and_rest (suc n) (z ∷ zs) = ap (λ l. z ∷ l) (prefix_and_rest n zs)
 
 -- the lines of rows are read as their fields, whatever lines follow
 pub rows_again : (rows : List (List Column)) (zs : List ℤ) (a : ℕ) (start : List ℕ) (more : List (List ℕ)) → length start ≡ a
@@ -240,7 +240,7 @@ rows_again (r ∷ rs) zs a start more at good are =
     let next = rows_again rs (drop (length r) zs) 4 (codes "    ") more refl parts.1 (rest_fields r (joined_rows rs) zs are) in
     ap (λ x. x >>= λ ws. read_rows rs 4 others >>= λ vs. Ok (ws ++ vs)) first
     ∙ ap (λ x. x >>= λ vs. Ok (take (length r) zs ++ vs)) next
-    ∙ ap Ok (front_and_rest (length r) zs)
+    ∙ ap Ok (prefix_and_rest (length r) zs)
   where
     nothing_behind : (xs : List ℕ) → xs ++ [] ≡ xs
     nothing_behind [] = refl

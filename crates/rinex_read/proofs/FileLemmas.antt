@@ -1,4 +1,4 @@
--- What is read of the text of a header and of a list of items is that list, where each record stands for its item.
+-- The text of a header and of a list of items is read as that list, where each record gives its item.
 use Rattle.std.proofs.Common.{◌≡◌, ℕ, ◌+◌, ◌==◌, Bool, true, false, if◌then◌else◌, List, [], ◌∷◌, ◌++◌, length, map, codes, Ok, refl, ap, sym, ◌∙◌, arith, append_assoc, append-nil, length-append, ne_eqb}
 use Rattle.std.specs.List.{flat_map}
 use Rattle.scaled_decimal.specs.NumberText.{AreShown}
@@ -36,7 +36,7 @@ lines_again (l ∷ ls) rest h =
     ∙ ap (λ t. t ∷ lines_of (text_of ls ++ rest)) (shown_cr l h.0)
     ∙ ap (λ t. l ∷ t) (lines_again ls rest h.1)
 
--- lines that begin no record are passed
+-- lines that begin no record are skipped
 passed : (f : Form) (n : ℕ) (ls rest : List (List ℕ)) → NoneBegins f ls → reads f n (ls ++ rest) ≡ reads f (n + length ls) rest
 passed f n [] rest h = ap (λ m. reads f m rest) (omega arith)
 passed f n (l ∷ ls) rest h =
@@ -48,7 +48,7 @@ up_to_more f [] rest h = refl
 up_to_more f (l ∷ ls) rest h =
     ap (λ b. if b then [] else l ∷ up_to_next f (ls ++ rest)) h.0 ∙ ap (λ t. l ∷ t) (up_to_more f ls rest h.1)
 
--- a record that stands for an item is read, whatever lines follow
+-- a record that gives an item is read, whatever lines follow
 item_read : (f : Form) (n : ℕ) (lines : List (List ℕ)) (i : NavItem) (rest : List (List ℕ)) → StandFor f lines i → reads f n (lines ++ rest) ≡ Item (n + 1) i ∷ reads f (n + length lines) rest
 item_read f n lines i rest is =
     let h = is.are in
@@ -91,7 +91,7 @@ items_numbered : (write : NavItem → List (List ℕ)) (n : ℕ) (is : List NavI
 items_numbered write n [] rs = refl
 items_numbered write n (i ∷ is) rs = ap (λ js. i ∷ js) (items_numbered write (n + length (write i)) is rs)
 
--- the items of what is numbered are these items
+-- numbering leaves the items the same
 pub items_are : (write : NavItem → List (List ℕ)) (n : ℕ) (is : List NavItem) → items_of (numbered_by write n is) ≡ is
 items_are write n is = ap items_of (sym (append-nil (numbered_by write n is))) ∙ items_numbered write n is [] ∙ append-nil is
 
@@ -122,7 +122,7 @@ file_again h is header items =
 pub list_again : (h : HeaderWords) (is : List NavItem) → IsHeader h → AreItems is → rinex_list (rinex_text h is) ≡ is
 list_again h is header items = ap items_read (file_again h is header items) ∙ items_are item_lines 4 is
 
--- what is read of two files one behind the other
+-- what is read of two files concatenated
 pub joined_reads : (h k : HeaderWords) (is js : List NavItem) → IsHeader h → IsHeader k → AreItems is → AreItems js
     → file_reads rinex4 (rinex_text h is ++ rinex_text k js) ≡ Ok (numbered 4 is ++ numbered (8 + length (flat_map item_lines is)) js)
 joined_reads h k is js first second items more =

@@ -1,8 +1,8 @@
--- What was given where a reader has paused is what the whole records of the bytes give.
+-- A reader that has paused has given what the whole records of the bytes give.
 use Rattle.std.proofs.Common.{◌≡◌, ℕ, ◌==◌, Bool, true, false, if◌then◌else◌, List, [], ◌∷◌, ◌++◌, map, Ok, Err, refl, sym, ap, subst, ◌∙◌, append-nil}
 use Rattle.std.specs.Prelude.{Option, Result}
 use Rattle.std.proofs.lemmas.List.{map-append}
-use Rattle.nav_io.specs.Lines.{Line, ends, lines_by, pieces, with_front, line_of}
+use Rattle.nav_io.specs.Lines.{Line, ends, lines_by, pieces, with_prefix, line_of}
 use Rattle.nav_io.specs.LinesState.{LinesState, Reads}
 use Rattle.nav_io.proofs.Surface.{reads_more}
 use Rattle.rinex_read.specs.declared.judged.ItemRead.{ItemRead}
@@ -20,9 +20,9 @@ use Rattle.rinex_read.proofs.TakeLemmas.{none_whole}
 
 no_line : (xs : List ℕ) → ends xs ≡ false → lines_by true xs ≡ []
 no_line xs none = ap (map line_of) (no_piece xs none) where
-  step : (b e : Bool) (x : ℕ) (ps : List (List ℕ)) → (if b then true else e) ≡ false → (e ≡ false → ps ≡ []) → (if b then [] ∷ ps else with_front true x ps) ≡ []
+  step : (b e : Bool) (x : ℕ) (ps : List (List ℕ)) → (if b then true else e) ≡ false → (e ≡ false → ps ≡ []) → (if b then [] ∷ ps else with_prefix true x ps) ≡ []
   step true e x ps h f = absurd cc
-  step false e x ps h f = ap (with_front true x) (f h)
+  step false e x ps h f = ap (with_prefix true x) (f h)
 
   no_piece : (xs : List ℕ) → ends xs ≡ false → pieces true xs ≡ []
   no_piece [] h = refl
@@ -31,7 +31,7 @@ no_line xs none = ap (map line_of) (no_piece xs none) where
 no_end : (s : RecordsState) → s.lines.ended ≡ false → s.lines.ended ≡ true → ⊥
 no_end s more ended = cc
 
--- the lines that have ended in the bytes are those that were given
+-- the complete lines of the bytes are those that were given
 lines_are : (left left_new : Option (List ℕ)) (old new : RecordsState) (lines : List Line) → (r : Reads left left_new old.lines new.lines lines) → IsNew old → IsPaused new
     → lines_by true r.taken ≡ lines
 lines_are left left_new old new lines r first paused =
@@ -51,7 +51,7 @@ by_lines f law old taken lines first are =
     ∙ ap (λ (n : ℕ). whole_behind (reads_behind f (header_of f n (map text_of_line lines)))) (sym first.number)
     ∙ ap (λ (h : HeaderState). whole_behind (file_by f h old (map text_of_line lines))) (sym first.header)
 
--- behind the header
+-- after the header
 pub records_whole : (f : Form) → LooksAtKept f → (left middle left_new : Option (List ℕ)) (old now new : RecordsState) (given : List ItemRead) → IsNew old
     → (header : PassesHeader f left middle old now) → (steps : Steps f middle left_new now new given) → IsPaused new
     → whole_reads f (header.steps.reads.taken ++ steps.reads.taken) ≡ Ok given

@@ -2,7 +2,7 @@
 use Rattle.std.specs.Prelude.{◌≡◌, ◌==◌, ◌++◌, ◌∷◌, ℕ, Bool, true, false, if◌then◌else◌, List, [], map, Option, refl}
 use Rattle.std.proofs.Common.{sym, ap, ◌∙◌, append_assoc, append-nil}
 use Rattle.std.proofs.lemmas.List.{map-append}
-use Rattle.nav_io.specs.Lines.{Line, line_of, lines_by, pieces, with_front}
+use Rattle.nav_io.specs.Lines.{Line, line_of, lines_by, pieces, with_prefix}
 use Rattle.nav_io.specs.LinesState.{LinesState, Reads}
 use Rattle.nav_io.proofs.Surface.{reads_none, reads_more}
 use Rattle.rinex_read.specs.declared.judged.ItemRead.{ItemRead}
@@ -18,7 +18,7 @@ steps_none f o s = record { lines = []; reads = reads_none o s.lines; header = r
 none_after : (a b : List ℕ) → a ≡ [] → b ≡ [] → a ++ b ≡ []
 none_after a b x y = rw (x, y) refl
 
--- what a second step took follows what a first one did
+-- the bytes of two steps concatenated
 may_before : (p q : Option (List ℕ)) (s t : LinesState) (g : List Line) (r : Reads p q s t g) (following : List ℕ) → (t.ended ≡ true → following ≡ []) → s.ended ≡ true → r.taken ++ following ≡ []
 may_before p q s t g r following may ended =
     let after = r.after_end ended in
@@ -26,11 +26,11 @@ may_before p q s t g r following may ended =
 
 -- ---- the end
 
--- nothing stands in no lines
+-- no text is in no lines
 nothing_there : (xs : List ℕ) → lines_by false xs ≡ [] → xs ≡ []
 nothing_there [] e = refl
 nothing_there (x ∷ xs) e = absurd (by (x == 10) (pieces false xs) e) where
-  by : (b : Bool) (ps : List (List ℕ)) → map line_of (if b then [] ∷ ps else with_front false x ps) ≡ [] → ⊥
+  by : (b : Bool) (ps : List (List ℕ)) → map line_of (if b then [] ∷ ps else with_prefix false x ps) ≡ [] → ⊥
   by true ps e = cc
   by false [] e = cc
   by false (p ∷ ps) e = cc
@@ -39,7 +39,7 @@ both_none : {X : Type 0} (xs ys : List X) → [] ≡ xs ++ ys → (xs ≡ []) ×
 both_none [] ys e = (refl, sym e)
 both_none (x ∷ xs) ys e = absurd (cc)
 
--- behind the end there is no line
+-- after the end there is no line
 pub none_behind : (p q : Option (List ℕ)) (s t : LinesState) (lines : List Line) → Reads p q s t lines → s.ended ≡ true → s.rest ≡ []
     → (lines ≡ []) × (t.rest ≡ []) × (t.ended ≡ true)
 none_behind p q s t lines r ended rest =
@@ -67,9 +67,9 @@ over_stays f p q s t given steps over =
     (sym (nothing_to_come f s steps.reads.taken over.kept over.rest (steps.reads.after_end over.ended).1) ∙ steps.stream [] (λ e. refl)) in
     record { kept = held_nil f t.kept t.first t.lines.number (told_lines (t.lines.rest ++ [])) nothing.1; rest = none.1; ended = none.2 }
 
--- ---- one behind the other
+-- ---- concatenated
 
--- lines behind lines
+-- lines after lines
 lines_behind : (some more : List Line) (next : List (List ℕ)) → map text_of_line (some ++ more) ++ next ≡ map text_of_line some ++ (map text_of_line more ++ next)
 lines_behind some more next =
     ap (λ (ls : List (List ℕ)). ls ++ next) (map-append text_of_line some more) ∙ append_assoc (map text_of_line some) (map text_of_line more) next

@@ -72,17 +72,17 @@ line_next f law (k ∷ ks) new first number line read some e h is_read = record 
 
 -- ---- the records that are whole
 
--- what is held is a record
+-- the lines in progress are a record
 pub held_nil : (f : Form) (ks : List (List ℕ)) (first n : ℕ) (more : List (List ℕ)) → held_reads f ks first n more ≡ [] → ks ≡ []
 held_nil f [] first n more e = refl
 held_nil f (k ∷ ks) first n more e = absurd (cc)
 
--- with no line behind it, that is not known to be whole
+-- with no line after it, it is not known to be whole
 pub none_whole : (f : Form) (ks : List (List ℕ)) (first n : ℕ) → but_last (held_reads f ks first n []) ≡ []
 none_whole f [] first n = refl
 none_whole f (k ∷ ks) first n = refl
 
--- all but the last of two lists one behind the other
+-- all but the last of two lists concatenated
 last_behind : (xs ys : List ItemRead) → (ys ≡ [] → xs ≡ []) → but_last (xs ++ ys) ≡ xs ++ but_last ys
 last_behind [] ys some = refl
 last_behind (x ∷ xs) [] some = absurd (let none : x ∷ xs ≡ [] = some refl in cc)

@@ -5,12 +5,12 @@ ghost use Rattle.gnss_week.specs.Functions.{moment_to};
 ghost use Rattle.rinex_read.specs.Lines.{columns};
 ghost use Rattle.rinex_read.specs.Judging.{date_of, moment_at, moment_said, whole_number};
 
-use crate::line::{Line, columns};
+use crate::line::{PaddedLine, columns};
 use crate::reason::Reason;
 use gnss_week::{Civil, Moment, WeekFault, moment_of};
 use scaled_decimal::{leading_digits, trimmed};
 
-// The number that decimal digits are, with blanks at their ends or none.
+// A decimal number, with blanks before and after it allowed.
 #[tactic(auto, unfolding(crate::specs::Judging::whole_number))]
 fn whole_number(text: &[u8]) -> Result<u16, Reason>
     requires { length text.now ≤ 4 }
@@ -26,7 +26,7 @@ fn whole_number(text: &[u8]) -> Result<u16, Reason>
 }
 
 // The same of two characters.
-fn two_digits(line: &Line, place: usize) -> Result<u8, Reason>
+fn two_digits(line: &PaddedLine, place: usize) -> Result<u8, Reason>
     requires { place + 2 ≤ 80 }
     ensures { result ≡ whole_number (columns place 2 line.now) }
 {
@@ -36,7 +36,7 @@ fn two_digits(line: &Line, place: usize) -> Result<u8, Reason>
 
 // The date of a line.
 #[tactic(auto, unfolding(crate::specs::Judging::date_of))]
-fn date_of(line: &Line) -> Result<Civil, Reason>
+fn date_of(line: &PaddedLine) -> Result<Civil, Reason>
     ensures { result ≡ date_of line.now }
 {
     let year = whole_number(columns(line, 4, 4))?;
@@ -55,7 +55,7 @@ fn date_of(line: &Line) -> Result<Civil, Reason>
     })
 }
 
-// The moment of a date.
+// GPS time of a date, in seconds since the GPS epoch.
 fn moment_said(date: &Civil) -> Result<Moment, Reason>
     ensures { result ≡ moment_said (moment_to date.now) }
 {
@@ -67,8 +67,8 @@ fn moment_said(date: &Civil) -> Result<Moment, Reason>
     }
 }
 
-/// The moment of the date of a line.
-pub(crate) fn moment_in(line: &Line) -> Result<Moment, Reason>
+/// GPS time of the date of a line, in seconds since the GPS epoch.
+pub(crate) fn moment_in(line: &PaddedLine) -> Result<Moment, Reason>
     ensures { result ≡ moment_at line.now }
 {
     let date = date_of(line)?;

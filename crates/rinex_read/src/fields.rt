@@ -1,4 +1,4 @@
-//! The fields that the numbers of a record say.
+//! The fields of a record, from its numbers.
 
 ghost use Rattle.std.specs.Prelude.{◌≡◌, ◌+◌, ◌*◌, ◌≤◌, ◌≤ℤ◌, pos};
 ghost use Rattle.std.specs.Prelude.{true, length, unsigned_abs, OnOk};
@@ -7,25 +7,25 @@ ghost use Rattle.scaled_decimal.specs.ScaleValue.{size_of};
 ghost use Rattle.scaled_decimal.specs.NumberReading.{seen};
 ghost use Rattle.rinex_write.specs.Columns.{are_good, is_good_rule, is_good_scale};
 ghost use Rattle.rinex_read.specs.Fields.{flag_of, read_row, taken};
-ghost use Rattle.rinex_read.specs.Mirrors.{Gives, IsLayout, ReadsTo, flat_rows, with_front};
+ghost use Rattle.rinex_read.specs.Mirrors.{Gives, IsLayout, ReadsTo, flat_rows, with_prefix};
 
 use crate::accuracy::{sisa_of, ura_of};
-use crate::line::{Line, columns};
+use crate::line::{PaddedLine, columns};
 use crate::reason::Reason;
 use arrayvec::ArrayVec;
-use rinex_write::{Column, Layout, Rule};
+use rinex_write::{Column, RecordLayout, Rule};
 use scaled_decimal::{DecimalFault, read};
 
 /// The fields of a record, of which there are at most 29.
 pub(crate) type Fields = ArrayVec<i64, 29>;
 
-// The second of sending that is not known.
+// The transmission time that means unknown.
 const UNKNOWN: i64 = 999_900_000;
 
-// The greatest accuracy that is read, in centimetres.
+// The bound of the accuracy values that are read, in centimetres.
 const GREATEST: i64 = 100_000_000;
 
-// The flag of a fit interval in hours.
+// The fit interval flag of an interval in hours.
 fn flag_of(hours: i64) -> Result<i64, Reason>
     requires { pos 0 ≤ℤ hours }
     ensures { result ≡ flag_of (unsigned_abs hours) }
@@ -37,7 +37,7 @@ fn flag_of(hours: i64) -> Result<i64, Reason>
     }
 }
 
-// The field that a text in a column says.
+// The field of the text in a column.
 fn field(column: &Column, text: &[u8]) -> Result<i64, Reason>
     requires text { length text.now ≤ 19 }
     requires scale { is_good_scale column.now.scale ≡ true }
@@ -85,17 +85,17 @@ fn field(column: &Column, text: &[u8]) -> Result<i64, Reason>
     }
 }
 
-// Appends the fields of a line whose numbers begin at a place.
+// Appends the fields of a line; its numbers begin at offset `place`.
 fn read_row(
     columns_of_row: &[Column],
     place: usize,
-    line: &Line,
+    line: &PaddedLine,
     fields: &mut Fields,
 ) -> Result<(), Reason>
     requires good { are_good columns_of_row.now ≡ true }
     requires line { place + 19 * length columns_of_row.now ≤ 80 }
     requires room { array_vec_len fields.old + length columns_of_row.now ≤ 29 }
-    ensures read { ReadsTo result fields.new.items (with_front fields.old.items
+    ensures read { ReadsTo result fields.new.items (with_prefix fields.old.items
         (read_row columns_of_row.now place line.now)) }
     ensures count { OnOk result (length fields.new.items
         ≡ length fields.old.items + length columns_of_row.now) }
@@ -107,9 +107,9 @@ fn read_row(
     Ok(())
 }
 
-/// The fields of the lines of a record behind its title, of which the numbers of the first begin at
-/// place 23.
-pub(crate) fn read_fields(layout: &Layout, lines: &[Line]) -> Result<Fields, Reason>
+/// The fields of the lines of a record after its title. The numbers of the first line begin at
+/// offset 23.
+pub(crate) fn read_fields(layout: &RecordLayout, lines: &[PaddedLine]) -> Result<Fields, Reason>
     requires layout { IsLayout layout.now.columns.now layout.now.rows.now }
     requires lines { length layout.now.rows.now ≤ length lines.now }
     ensures { Gives (λ fields. fields.items) result

@@ -8,35 +8,35 @@ ghost use Rattle.rinex_read.specs.Mirrors.{header_after};
 
 use crate::form::FileForm;
 use crate::judged::HeaderState;
-use crate::line::{Line, columns, padded, stands_at};
+use crate::line::{PaddedLine, columns, padded, stands_at};
 use scaled_decimal::trimmed;
 
-// The line is the first one of a navigation file.
+// Whether the line is the first of a navigation file.
 #[tactic(auto, unfolding(crate::specs::Files::is_navigation))]
-fn is_navigation(line: &Line) -> bool
+fn is_navigation(line: &PaddedLine) -> bool
     ensures { result ≡ is_navigation line.now }
 {
     stands_at(line, 60, b"RINEX VERSION / TYPE") && stands_at(line, 20, b"N")
 }
 
-// The version of the line is one of the form.
+// Whether the version of the line is one of the form.
 #[tactic(auto, unfolding(crate::specs::Forms::is_version))]
-fn is_version<F: FileForm>(line: &Line) -> bool
+fn is_version<F: FileForm>(line: &PaddedLine) -> bool
     ensures { result ≡ is_version F.form line.now }
 {
     F::names(trimmed(columns(line, 0, 9)))
 }
 
-// The line ends a header.
+// Whether the line ends a header.
 #[tactic(auto, unfolding(crate::specs::Files::ends_header))]
-fn ends_header(line: &Line) -> bool
+fn ends_header(line: &PaddedLine) -> bool
     ensures { result ≡ ends_header line.now }
 {
     stands_at(line, 60, b"END OF HEADER")
 }
 
-// The same of a line as it is kept.
-fn after_kept<F: FileForm>(state: HeaderState, line: &Line) -> HeaderState
+// The same of a line cut to 80 characters.
+fn after_kept<F: FileForm>(state: HeaderState, line: &PaddedLine) -> HeaderState
     ensures { result ≡ header_after F.form state line.now }
 {
     match state {
@@ -62,7 +62,7 @@ fn after_kept<F: FileForm>(state: HeaderState, line: &Line) -> HeaderState
     }
 }
 
-/// How far a header is read with one more line.
+/// The state of reading a header after one more line.
 pub(crate) fn header_after<F: FileForm>(state: HeaderState, line: &[u8]) -> HeaderState
     ensures { result ≡ header_after F.form state line.now }
 {

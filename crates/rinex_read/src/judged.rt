@@ -2,21 +2,21 @@ use crate::reason::Reason;
 use nav_eph::NavItem;
 use nav_io::LineFault;
 
-/// What the lines of a record stand for.
+/// How a record is judged.
 #[derive(Clone, Copy, PartialEq, Eq)]
 pub enum Judged {
-    /// An item.
+    /// It gives this item.
     Item(NavItem),
-    /// None: the record is of a kind that is read, and this is the first reason.
+    /// It is of a kind that is read, but gives no item; this is the first reason.
     Refused(Reason),
-    /// None: the record is of another kind.
+    /// It is of another kind.
     PassedOver,
 }
 
-/// What is read of a file behind its header.
+/// What `next_item` reads after the header.
 #[derive(Clone, Copy, PartialEq, Eq)]
 pub enum ItemRead {
-    /// A record that stands for an item.
+    /// A record that gives an item.
     Item {
         /// The number of its first line, counted from 1.
         line: u32,
@@ -35,7 +35,7 @@ pub enum ItemRead {
         /// The number of its first line, counted from 1.
         line: u32,
     },
-    /// No record is left.
+    /// There is no further record.
     End,
 }
 
@@ -44,23 +44,23 @@ pub enum ItemRead {
 pub enum HeaderFault {
     /// The first line is not that of a RINEX navigation file, or no line ends the header.
     NotRinexNav,
-    /// The version is not 4.
+    /// The version is not one of the form.
     Version,
-    /// The lines break off.
+    /// The lines could not be read.
     Line(LineFault),
 }
 
-/// How far a header was read.
+/// The state of reading a header.
 #[derive(Clone, Copy)]
 pub enum HeaderState {
-    /// No line of it was read.
+    /// No line was read.
     New,
-    /// Its first line was read and is that of a navigation file of version 4.
+    /// The first line was read: a navigation file, of a version of the form.
     Open,
-    /// It was read.
+    /// The whole header was read.
     Passed,
-    /// It is not that of a navigation file.
+    /// It is not the header of a navigation file.
     NotRinexNav,
-    /// It is of another version than 4.
+    /// The version is not one of the form.
     OtherVersion,
 }

@@ -21,9 +21,9 @@ use std::marker::{Model, PhantomData};
 
 /// Reads the records of a RINEX navigation file of one form one by one, in buffers of fixed size.
 ///
-/// A contract sees how far the `header` was read, the lines `kept` of the record that was begun and
-/// the number of the `first` of them, and the reader of `lines`; from these follows what is still
-/// to be read whatever bytes follow.
+/// Contracts see the state `header` of the header, the lines `kept` of the record in progress, the
+/// number `first` of its first line, and the reader of `lines`; they determine what is still to be
+/// read, whatever bytes follow.
 #[derive(Drop)]
 pub struct RecordReader<F: FileForm> {
     of: PhantomData<F>,
@@ -63,7 +63,7 @@ fn is_end(kind: LineKind) -> bool
     }
 }
 
-// What is read of a record that begins at a line.
+// What is read of a record that begins at this line.
 fn read_at(line: u32, judged: Judged) -> ItemRead
     ensures value { result ≡ read_at line judged }
     ensures record { IsRecord result }
@@ -75,7 +75,7 @@ fn read_at(line: u32, judged: Judged) -> ItemRead
     }
 }
 
-// Lines of the header are still to come.
+// Whether lines of the header are still to come.
 fn is_waiting(header: HeaderState) -> bool
     ensures { result ≡ is_waiting header }
 {
@@ -88,7 +88,7 @@ fn is_waiting(header: HeaderState) -> bool
     }
 }
 
-// How a header that was read is answered.
+// The result of reading a header, from its final state.
 fn answer_of(header: HeaderState) -> Result<(), HeaderFault>
     requires { is_waiting header ≡ false }
     ensures { MatchResult result (λ _. header ≡ Passed) (λ fault. HeaderRefused header fault) }
@@ -102,8 +102,8 @@ fn answer_of(header: HeaderState) -> Result<(), HeaderFault>
     }
 }
 
-// Takes the next line of a file: of the record that was begun, or of another one, which ends that.
-fn take_line<F: FileForm>(
+// Processes the next line: it continues the record in progress, or ends it and begins another.
+fn process_line<F: FileForm>(
     kept: &mut RecordLines,
     first: &mut u32,
     line: &[u8],
@@ -135,8 +135,8 @@ fn take_line<F: FileForm>(
     Some(read)
 }
 
-// Ends the record that was begun, where one was.
-fn take_end<F: FileForm>(kept: &mut RecordLines, first: u32) -> ItemRead
+// Ends the record in progress, if there is one.
+fn process_end<F: FileForm>(kept: &mut RecordLines, first: u32) -> ItemRead
     ensures kept { kept.new ≡ [] }
     ensures read { EndsWith F.form kept.old first result }
     ensures whole { IsWholeRead result }
@@ -150,7 +150,7 @@ fn take_end<F: FileForm>(kept: &mut RecordLines, first: u32) -> ItemRead
     read
 }
 
-// Reads the lines of a header that are still to come.
+// Reads the remaining lines of a header.
 fn pass_header<F: FileForm, S: Source>(
     lines: &mut Lines,
     header: &mut HeaderState,
@@ -190,7 +190,7 @@ fn pass_header<F: FileForm, S: Source>(
     }
 }
 
-// The next record of lines, of which some of a record that was begun may be kept.
+// Reads the next record, after the lines kept of the record in progress.
 fn next_record<F: FileForm, S: Source>(
     lines: &mut Lines,
     kept: &mut RecordLines,
@@ -221,9 +221,9 @@ fn next_record<F: FileForm, S: Source>(
             Err(fault) => return Err(fault),
             Ok(kind) => {
                 if is_end(kind) {
-                    return Ok(take_end::<F>(kept, *first));
+                    return Ok(process_end::<F>(kept, *first));
                 }
-                if let Some(read) = take_line::<F>(kept, first, lines.text(), lines.number()) {
+                if let Some(read) = process_line::<F>(kept, first, lines.text(), lines.number()) {
                     return Ok(read);
                 }
             }
@@ -240,7 +240,7 @@ impl<F: FileForm> RecordReader<F> {
     ghost use Rattle.rinex_read.specs.States.{PassesHeader, BreaksHeader};
     ghost use Rattle.rinex_read.specs.RoundTrip.{IsWholeRead};
 
-    /// A reader of which nothing was read.
+    /// A reader that has read nothing.
     pub fn new() -> RecordReader<F>
         ensures { IsNew result }
     {
@@ -255,23 +255,24 @@ impl<F: FileForm> RecordReader<F> {
 
     /// Reads the header of a file.
     ///
-    /// Its first line has `RINEX VERSION / TYPE` in columns 61-80 and `N` in column 21, and in
-    /// columns 1-9 a version of the form, for [`Records`] `4.` and one digit or two; the lines up
-    /// to the next with `END OF HEADER` in columns 61-73 are passed (RINEX 4.01, header section).
-    /// `NotRinexNav`: the first line is another one, or no line ends the header; each further call
-    /// answers the same. `Version`: another version; each further call answers the same. `Line`: as
-    /// for `next_item`; after a failed read a further call goes on with the same header, and
-    /// `TooLong` stays. The other answers come only where at most 4,294,967,295 bytes were taken.
+    /// Its first line has `RINEX VERSION / TYPE` in columns 61-80, `N` in column 21, and in columns
+    /// 1-9 a version of the form, for [`Records`] `4.` and one digit or two; the lines up to the
+    /// next with `END OF HEADER` in columns 61-73 are skipped (RINEX 4.01, header section).
+    /// `NotRinexNav`: the first line is another one, or no line ends the header. `Version`: another
+    /// version. Each further call gives the same error. `Line`: as for `next_item`; after a failed
+    /// read a further call continues with the same header, and `TooLong` stays. The other results
+    /// come only where at most 4,294,967,295 bytes were read.
     pub fn read_header<S: Source>(&mut self, source: &mut S) -> Result<(), HeaderFault>
-        // What is to come behind the header are the records of the file, whatever bytes follow.
+        // The rest of the file is its records, whatever bytes follow.
         ensures header { OnOk result (PassesHeader F.form (S.left source.old)
             (S.left source.new) self.old self.new) }
 
-        // The header is refused, whatever bytes follow, or after a fault the same file is to come.
+        // The header is refused, whatever bytes follow, or after a read fault the file can be read
+        // on.
         ensures fault { IfErr result (λ fault.
             BreaksHeader F.form (S.left source.old) (S.left source.new) self.old self.new fault) }
 
-        // A header that was read or refused is answered again, and nothing is read.
+        // The result for a header that was read or refused is repeated, and nothing is read.
         ensures passed { self.old.header ≡ Passed
             → IsOk result × (self.new ≡ self.old) × (source.new ≡ source.old) }
         ensures refused { self.old.header ≡ NotRinexNav
@@ -281,7 +282,7 @@ impl<F: FileForm> RecordReader<F> {
             → IsErrOf result HeaderFault.Version × (self.new ≡ self.old)
             × (source.new ≡ source.old) }
 
-        // A read fails only by the source's own count.
+        // `ReadFault` only where the source's count of faults rose.
         ensures failed { IsErrOf result (HeaderFault.Line LineFault.ReadFault)
             → Rose (S.faults source.old) (S.faults source.new) }
         ensures quiet { (IsErrOf result (HeaderFault.Line LineFault.ReadFault) → ⊥)
@@ -297,29 +298,29 @@ impl<F: FileForm> RecordReader<F> {
         pass_header::<F, S>(&mut self.lines, &mut self.header, source)
     }
 
-    /// The next record of a file whose header was read.
+    /// Reads the next record of a file whose header was read.
     ///
     /// A record is a line that begins one, for [`Records`] with `>`, and the lines up to the next
-    /// such line or the end. Its line is the number of its first line in the file, counted from 1.
-    /// `ReadFault`: a read failed, and the source's count of faults says so; a further call goes on
-    /// with the same record. `TooLong`: 4,294,967,295 bytes were taken and one more was there.
+    /// such line or the end. Its number is that of its first line in the file, counted from 1.
+    /// `ReadFault`: a read failed, and the source's count of faults rose; a further call continues
+    /// with the same record. `TooLong`: there were more than 4,294,967,295 bytes.
     pub fn next_item<S: Source>(&mut self, source: &mut S) -> Result<ItemRead, LineFault>
         requires header { self.old.header ≡ Passed }
 
-        // The record is that of the file, whatever bytes follow.
+        // The record is the next of the file, whatever bytes follow.
         ensures read { IfOk result (λ read.
             GivesRead F.form read (S.left source.old) (S.left source.new) self.old self.new) }
 
-        // An item that is read has fields within their digits, and its parts fit together.
+        // An item that is read is consistent, each field within its width.
         ensures whole { IfOk result (λ read. IsWholeRead read) }
 
         ensures header { self.new.header ≡ Passed }
 
-        // After a fault the same records are to come.
+        // After a fault the same records are still to come.
         ensures fault { IfErr result (λ fault.
             BreaksRecord F.form (S.left source.old) (S.left source.new) self.old self.new fault) }
 
-        // A read fails only by the source's own count.
+        // `ReadFault` only where the source's count of faults rose.
         ensures failed { IsErrOf result LineFault.ReadFault
             → Rose (S.faults source.old) (S.faults source.new) }
         ensures quiet { OnOk result (S.faults source.new ≡ S.faults source.old) }

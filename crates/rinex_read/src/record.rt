@@ -1,4 +1,4 @@
-//! The lines of a record, and what they stand for.
+//! The lines of a record, and how it is judged.
 
 ghost use Rattle.std.specs.Prelude.{◌≡◌, ◌↔◌, ◌∷◌, ◌++◌, [], List, ℕ, IsTrue};
 ghost use Rattle.rinex_read.specs.Judging.{galileo_ionosphere_read, galileo_read};
@@ -7,21 +7,20 @@ ghost use Rattle.rinex_read.specs.Kept.{kept_with};
 
 use crate::items::{galileo_ionosphere_item, galileo_item, gps_ionosphere_item, gps_item};
 use crate::judged::Judged;
-use crate::line::{Line, padded};
+use crate::line::{PaddedLine, padded};
 use crate::reason::Reason;
 use crate::said::{ephemeris_said, ionosphere_said};
 use crate::title::{RecordKind, is_kind};
 use nav_eph::NavItem;
 use std::marker::Model;
 
-/// The lines of a record as far as they are looked at: the first nine, of each the first 80
-/// characters.
+/// The lines of a record as far as they matter: the first nine, of each the first 80 characters.
 ///
-/// A contract sees the list of these lines, with blanks behind each that is shorter. What is left
-/// out changes nothing: they are judged as all lines that were pushed would be.
+/// Contracts see the list of these lines, filled with blanks. They are judged as all lines that
+/// were pushed would be.
 #[derive(Drop)]
 pub struct RecordLines {
-    lines: [Line; 9],
+    lines: [PaddedLine; 9],
     count: usize,
 }
 
@@ -35,32 +34,32 @@ impl Model for RecordLines {
     ghost invariant = { λ r. r.count ≤ 9 };
 }
 
-// The ephemeris of GPS for which the lines stand.
-fn gps_read(title: &Line, lines: &[Line]) -> Result<NavItem, Reason>
+// The GPS ephemeris of a record.
+fn gps_read(title: &PaddedLine, lines: &[PaddedLine]) -> Result<NavItem, Reason>
     ensures { result ≡ gps_read title.now lines.now }
 {
     let said = ephemeris_said(RecordKind::GpsEphemeris, title, lines)?;
     gps_item(said.sat, said.moment, said.fields.as_slice())
 }
 
-// The ephemeris of Galileo for which the lines stand.
-fn galileo_read(title: &Line, lines: &[Line]) -> Result<NavItem, Reason>
+// The Galileo ephemeris of a record.
+fn galileo_read(title: &PaddedLine, lines: &[PaddedLine]) -> Result<NavItem, Reason>
     ensures { result ≡ galileo_read title.now lines.now }
 {
     let said = ephemeris_said(RecordKind::GalileoEphemeris, title, lines)?;
     galileo_item(said.sat, said.moment, said.fields.as_slice())
 }
 
-// The ionosphere of GPS for which the lines stand.
-fn gps_ionosphere_read(title: &Line, lines: &[Line]) -> Result<NavItem, Reason>
+// The GPS ionosphere parameters of a record.
+fn gps_ionosphere_read(title: &PaddedLine, lines: &[PaddedLine]) -> Result<NavItem, Reason>
     ensures { result ≡ gps_ionosphere_read title.now lines.now }
 {
     let said = ionosphere_said(RecordKind::GpsIonosphere, title, lines)?;
     gps_ionosphere_item(said.sat, said.moment, said.fields.as_slice())
 }
 
-// The ionosphere of Galileo for which the lines stand.
-fn galileo_ionosphere_read(title: &Line, lines: &[Line]) -> Result<NavItem, Reason>
+// The Galileo ionosphere parameters of a record.
+fn galileo_ionosphere_read(title: &PaddedLine, lines: &[PaddedLine]) -> Result<NavItem, Reason>
     ensures { result ≡ galileo_ionosphere_read title.now lines.now }
 {
     let said = ionosphere_said(RecordKind::GalileoIonosphere, title, lines)?;
@@ -77,9 +76,9 @@ fn outcome(read: Result<NavItem, Reason>) -> Judged
     }
 }
 
-// What the lines behind a title stand for with it.
+// Judges the lines after a title.
 #[tactic(auto, unfolding(crate::specs::Judging::judged))]
-fn judge_lines(title: &Line, lines: &[Line]) -> Judged
+fn judge_lines(title: &PaddedLine, lines: &[PaddedLine]) -> Judged
     ensures { result ≡ judged (title.now ∷ lines.now) }
 {
     if is_kind(RecordKind::GpsEphemeris, title) {
@@ -98,7 +97,7 @@ fn judge_lines(title: &Line, lines: &[Line]) -> Judged
 }
 
 impl RecordLines {
-    /// A record of no line.
+    /// A record without lines.
     pub fn new() -> RecordLines
         ensures { result ≡ [] }
     {
@@ -108,14 +107,14 @@ impl RecordLines {
         }
     }
 
-    /// There is no line.
+    /// Whether there is no line.
     pub fn is_empty(&self) -> bool
         ensures { IsTrue result ↔ (self.now ≡ []) }
     {
         self.count == 0
     }
 
-    // Keeps what is looked at of one more line.
+    // Keeps what matters of one more line.
     fn keep(&mut self, line: &[u8])
         ensures { self.new ≡ kept_with self.old line.now }
     {
@@ -125,40 +124,39 @@ impl RecordLines {
         }
     }
 
-    /// Takes the next line of the record, without the end of the line; the first one is its title,
-    /// as `> EPH G05 LNAV`.
+    /// Takes the next line of the record, without its line end; the first one is the title, as `>
+    /// EPH G05 LNAV`.
     ///
-    /// Lines behind the ninth and characters behind the 80th are not kept, since they are not
-    /// looked at.
+    /// Lines after the ninth and characters after the 80th are dropped; they do not matter.
     pub fn push(&mut self, line: &[u8])
         ensures kept { self.new ≡ kept_with self.old line.now }
 
-        // The lines that are kept are judged as those that were pushed, whatever lines follow.
+        // The kept lines are judged as those that were pushed, whatever lines follow.
         ensures means { (more : List (List ℕ)) → judged (self.new ++ more)
             ≡ judged (self.old ++ line.now ∷ more) }
     {
         self.keep(line);
     }
 
-    /// The lines that are kept, each with blanks behind it where it is shorter than 80 characters.
+    /// The kept lines, each filled with blanks to 80 characters.
     pub fn lines(&self) -> &[[u8; 80]]
         ensures { result.now ≡ self.now }
     {
         &self.lines[..self.count]
     }
 
-    /// What a title and the lines behind it stand for: as [`judge`](RecordLines::judge) of a record
-    /// that has the title as its first line.
+    /// Judges the lines after this title, as [`judge`](RecordLines::judge) does a record with that
+    /// title as its first line.
     pub fn judge_behind(&self, title: &[u8]) -> Judged
         ensures { result ≡ judged (title.now ∷ self.now) }
     {
         judge_lines(&padded(title), &self.lines[..self.count])
     }
 
-    /// What the lines stand for (RINEX 4.01, navigation records: EPH LNAV and INAV, and ION).
+    /// Judges the record (RINEX 4.01, navigation records: EPH LNAV and INAV, and ION).
     ///
-    /// An item; or the first [`Reason`] for which a record of these kinds stands for none; or, of
-    /// records of other kinds and where there is no line, that they are passed over.
+    /// It gives an item, or the first [`Reason`] why a record of these kinds gives none; records of
+    /// other kinds, and no lines, are passed over.
     pub fn judge(&self) -> Judged
         ensures { result ≡ judged self.now }
     {

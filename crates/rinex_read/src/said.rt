@@ -1,4 +1,4 @@
-//! What records say: satellites, moments and fields.
+//! The contents of records: satellite, date and fields.
 
 ghost use Rattle.std.specs.Prelude.{◌≡◌, ◌≤◌, map, length, IfOk};
 ghost use Rattle.rinex_write.specs.Columns.{AreFields, joined_rows};
@@ -8,29 +8,29 @@ ghost use Rattle.rinex_read.specs.Mirrors.{Gives, kind_by, view_said};
 
 use crate::date::moment_in;
 use crate::fields::{Fields, read_fields};
-use crate::line::Line;
+use crate::line::PaddedLine;
 use crate::reason::Reason;
 use crate::title::{RecordKind, same_sat, sat_of};
 use gnss_week::Moment;
 use nav_eph::{Sat, System};
 use rinex_write::{
-    Layout, galileo_ionosphere_layout, galileo_layout, gps_ionosphere_layout, gps_layout,
+    RecordLayout, galileo_ionosphere_layout, galileo_layout, gps_ionosphere_layout, gps_layout,
 };
 
-/// What a record says.
+/// The contents of a record.
 #[derive(Drop)]
 pub(crate) struct RecordSaid {
     /// The satellite of its title.
     pub(crate) sat: Sat,
-    /// The moment of its date.
+    /// Its date as GPS time, in seconds since the GPS epoch.
     pub(crate) moment: Moment,
     /// The fields of its numbers.
     pub(crate) fields: Fields,
 }
 
-// The layout of a kind.
+// The layout of a kind of record.
 #[tactic(auto, unfolding(rinex_write::specs::Layouts::gps_kind, rinex_write::specs::Layouts::galileo_kind, rinex_write::specs::Layouts::gps_ionosphere_kind, rinex_write::specs::Layouts::galileo_ionosphere_kind,))]
-fn layout_of(kind: RecordKind) -> Layout
+fn layout_of(kind: RecordKind) -> RecordLayout
     ensures columns { result.columns.now ≡ joined_rows (kind_by kind).rows }
     ensures rows { result.rows.now ≡ map length (kind_by kind).rows }
 {
@@ -42,7 +42,7 @@ fn layout_of(kind: RecordKind) -> Layout
     }
 }
 
-// The system of a kind.
+// The satellite system of a kind.
 #[tactic(auto, unfolding(rinex_write::specs::Layouts::gps_kind, rinex_write::specs::Layouts::galileo_kind, rinex_write::specs::Layouts::gps_ionosphere_kind, rinex_write::specs::Layouts::galileo_ionosphere_kind,))]
 fn system_of(kind: RecordKind) -> System
     ensures { result ≡ (kind_by kind).system }
@@ -53,7 +53,7 @@ fn system_of(kind: RecordKind) -> System
     }
 }
 
-// How many lines a kind has behind the title.
+// How many lines a kind has after the title.
 fn count_of(kind: RecordKind) -> usize
     ensures count { result ≡ length (kind_by kind).rows }
     ensures some { 1 ≤ result }
@@ -62,7 +62,7 @@ fn count_of(kind: RecordKind) -> usize
 }
 
 // The fields of the lines of a record.
-fn fields_of(kind: RecordKind, lines: &[Line]) -> Result<Fields, Reason>
+fn fields_of(kind: RecordKind, lines: &[PaddedLine]) -> Result<Fields, Reason>
     requires { length (kind_by kind).rows ≤ length lines.now }
     ensures read { Gives (λ fields. fields.items) result (read_rows
         (kind_by kind).rows 23 lines.now) }
@@ -72,26 +72,26 @@ fn fields_of(kind: RecordKind, lines: &[Line]) -> Result<Fields, Reason>
     read_fields(&layout, lines)
 }
 
-// Nothing where this holds, and the reason where it does not.
+// `Ok` where the condition holds, else the reason.
 fn need(holds: bool, reason: Reason) -> Result<bool, Reason>
     ensures { result ≡ need holds reason }
 {
     if holds { Ok(true) } else { Err(reason) }
 }
 
-// The moment lies in a week that has one before it and one after it.
+// Whether the time is in GPS weeks 1 to 16382.
 fn is_named_week(moment: Moment) -> bool
     ensures { result ≡ is_named_week moment }
 {
     moment.week() >= 1 && moment.week() <= 16_382
 }
 
-/// What an ephemeris says.
+/// The contents of an ephemeris record.
 #[tactic(auto, unfolding(crate::specs::Judging::ephemeris_said))]
 pub(crate) fn ephemeris_said(
     kind: RecordKind,
-    title: &Line,
-    lines: &[Line],
+    title: &PaddedLine,
+    lines: &[PaddedLine],
 ) -> Result<RecordSaid, Reason>
     ensures said { Gives view_said result (ephemeris_said (kind_by kind) title.now lines.now) }
     ensures are { IfOk result (λ said. AreFields (joined_rows
@@ -109,12 +109,12 @@ pub(crate) fn ephemeris_said(
     })
 }
 
-/// What an ionosphere says.
+/// The contents of an ionosphere record.
 #[tactic(auto, unfolding(crate::specs::Judging::ionosphere_said))]
 pub(crate) fn ionosphere_said(
     kind: RecordKind,
-    title: &Line,
-    lines: &[Line],
+    title: &PaddedLine,
+    lines: &[PaddedLine],
 ) -> Result<RecordSaid, Reason>
     ensures said { Gives view_said result (ionosphere_said (kind_by kind) title.now lines.now) }
     ensures are { IfOk result (λ said. AreFields (joined_rows

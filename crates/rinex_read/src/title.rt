@@ -5,7 +5,7 @@ ghost use Rattle.rinex_read.specs.Lines.{stands_at};
 ghost use Rattle.rinex_read.specs.Judging.{is_kind, named, same_sat, sat_of, satellite_of};
 ghost use Rattle.rinex_read.specs.Mirrors.{kind_by};
 
-use crate::line::{Line, columns, stands_at};
+use crate::line::{PaddedLine, columns, stands_at};
 use crate::reason::Reason;
 use nav_eph::{Sat, System};
 use scaled_decimal::is_decimal;
@@ -13,18 +13,18 @@ use scaled_decimal::is_decimal;
 /// The kinds of records that are read.
 #[derive(Clone, Copy)]
 pub(crate) enum RecordKind {
-    /// An ephemeris of GPS, of its LNAV message.
+    /// A GPS LNAV ephemeris.
     GpsEphemeris,
-    /// An ephemeris of Galileo, of its I/NAV message.
+    /// A Galileo I/NAV ephemeris.
     GalileoEphemeris,
-    /// The ionosphere of GPS.
+    /// GPS ionosphere parameters.
     GpsIonosphere,
-    /// The ionosphere of Galileo.
+    /// Galileo ionosphere parameters.
     GalileoIonosphere,
 }
 
-// The class, the letter of the system and the message stand in the title.
-fn has_title(title: &Line, class: &[u8], letter: &[u8], message: &[u8]) -> bool
+// Whether the title has this record type, system letter and message type.
+fn has_title(title: &PaddedLine, class: &[u8], letter: &[u8], message: &[u8]) -> bool
     requires class { length class.now ≤ 4 }
     requires letter { length letter.now ≤ 4 }
     requires message { length message.now ≤ 4 }
@@ -34,9 +34,9 @@ fn has_title(title: &Line, class: &[u8], letter: &[u8], message: &[u8]) -> bool
     stands_at(title, 2, class) && stands_at(title, 6, letter) && stands_at(title, 10, message)
 }
 
-/// The title is one of that kind.
+/// Whether the title is one of that kind.
 #[tactic(auto, unfolding(rinex_write::specs::Layouts::gps_kind, rinex_write::specs::Layouts::galileo_kind, rinex_write::specs::Layouts::gps_ionosphere_kind, rinex_write::specs::Layouts::galileo_ionosphere_kind,))]
-pub(crate) fn is_kind(kind: RecordKind, title: &Line) -> bool
+pub(crate) fn is_kind(kind: RecordKind, title: &PaddedLine) -> bool
     ensures { result ≡ is_kind (kind_by kind) title.now }
 {
     match kind {
@@ -57,7 +57,7 @@ fn named(system: System, number: u8) -> Result<Sat, Reason>
     }
 }
 
-// The satellite of a system whose number these two characters are.
+// The satellite of a system with this two-digit number.
 fn satellite_of(system: System, tens: u8, ones: u8) -> Result<Sat, Reason>
     ensures { result ≡ satellite_of system tens ones }
 {
@@ -74,14 +74,14 @@ fn satellite_of(system: System, tens: u8, ones: u8) -> Result<Sat, Reason>
 }
 
 /// The satellite of a title.
-pub(crate) fn sat_of(system: System, title: &Line) -> Result<Sat, Reason>
+pub(crate) fn sat_of(system: System, title: &PaddedLine) -> Result<Sat, Reason>
     ensures { result ≡ sat_of system title.now }
 {
     satellite_of(system, title[7], title[8])
 }
 
-/// A line begins with the satellite of a title.
-pub(crate) fn same_sat(title: &Line, line: &Line) -> bool
+/// Whether a line begins with the satellite of the title.
+pub(crate) fn same_sat(title: &PaddedLine, line: &PaddedLine) -> bool
     ensures { result ≡ same_sat title.now line.now }
 {
     stands_at(line, 0, columns(title, 6, 3))

@@ -10,7 +10,7 @@ use gnss_week::Week;
 use nav_bits::U;
 use nav_eph::{GalEph, GalHealth, GalIon, GpsEph, GpsIon, SentSecond, Sisa, Step16, Step60};
 
-// A number without a sign.
+// An unsigned number.
 fn unsigned<const W: u32>(number: &U<W>) -> i64
     requires { W ≤ 32 }
     ensures { result ≡ pos number.now }
@@ -18,14 +18,14 @@ fn unsigned<const W: u32>(number: &U<W>) -> i64
     number.value() as i64
 }
 
-// A time of GPS.
+// A GPS time of week, in steps of 16 s.
 fn steps16(steps: &Step16) -> i64
     ensures { result ≡ pos steps.now }
 {
     steps.value() as i64
 }
 
-// A time of Galileo.
+// A Galileo time of week, in steps of 60 s.
 fn steps60(steps: &Step60) -> i64
     ensures { result ≡ pos steps.now }
 {
@@ -39,14 +39,14 @@ fn week(week: &Week) -> i64
     i64::from(week.value())
 }
 
-// An accuracy of Galileo.
+// A SISA index.
 fn accuracy(index: &Sisa) -> i64
     ensures { result ≡ pos index.now }
 {
     index.value() as i64
 }
 
-// The second of sending.
+// The transmission time.
 fn sent_field(sent: &SentSecond) -> i64
     ensures same { result ≡ sent_field sent.now }
     ensures small { IsSmall result }
@@ -57,7 +57,7 @@ fn sent_field(sent: &SentSecond) -> i64
     }
 }
 
-// The health of a Galileo satellite.
+// The SV health of a Galileo satellite.
 fn health_of(health: &GalHealth) -> i64
     ensures { result ≡ pos (health_of health.now) }
 {

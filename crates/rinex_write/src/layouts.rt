@@ -9,16 +9,16 @@ ghost use Rattle.rinex_write.specs.Layouts.{galileo_ionosphere_rows};
 use crate::columns::{Column, Rule};
 use scaled_decimal::Scale;
 
-/// The columns of a record, and how many of them stand in each of its lines behind the title.
+/// The columns of a record, and how many each of its lines after the title has.
 #[derive(Clone, Copy)]
-pub struct Layout {
+pub struct RecordLayout {
     /// The columns of all lines.
     pub columns: &'static [Column],
     /// How many columns each line has.
     pub rows: &'static [usize],
 }
 
-// A number of so many digits in two's complement, and one without a sign.
+// The rule of a field of some width in bits, in two's complement or unsigned.
 macro_rules! signed {
     ($width:literal) => {
         Rule::Plain {
@@ -46,7 +46,7 @@ macro_rules! flags {
     };
 }
 
-// A column that counts steps of 2^two, with the factor pi where the field is in semicircles.
+// A column in units of 2^two; times pi where the field is in semicircles.
 macro_rules! power {
     ($two:literal, $rule:expr) => {
         Column {
@@ -75,7 +75,7 @@ macro_rules! semicircles {
     };
 }
 
-// A column that counts steps of a whole number, and one that counts hundredths.
+// A column in units of an integer, and one in hundredths.
 macro_rules! steps {
     ($factor:literal, $rule:expr) => {
         Column {
@@ -214,49 +214,49 @@ static GALILEO_IONOSPHERE: [Column; 4] = [
 
 static GALILEO_IONOSPHERE_ROWS: [usize; 2] = [3, 1];
 
-/// The record of an ephemeris of GPS (RINEX 4.01, GPS LNAV navigation record).
+/// The record of a GPS ephemeris (RINEX 4.01, GPS LNAV navigation record).
 #[tactic(auto, unfolding(crate::specs::Layouts::gps_rows))]
-pub fn gps_layout() -> Layout
+pub fn gps_layout() -> RecordLayout
     ensures columns { result.columns.now ≡ joined_rows gps_rows }
     ensures rows { result.rows.now ≡ map length gps_rows }
 {
-    Layout {
+    RecordLayout {
         columns: &GPS,
         rows: &GPS_ROWS,
     }
 }
 
-/// The record of an ephemeris of Galileo (RINEX 4.01, Galileo INAV navigation record).
+/// The record of a Galileo ephemeris (RINEX 4.01, Galileo INAV navigation record).
 #[tactic(auto, unfolding(crate::specs::Layouts::galileo_rows))]
-pub fn galileo_layout() -> Layout
+pub fn galileo_layout() -> RecordLayout
     ensures columns { result.columns.now ≡ joined_rows galileo_rows }
     ensures rows { result.rows.now ≡ map length galileo_rows }
 {
-    Layout {
+    RecordLayout {
         columns: &GALILEO,
         rows: &GALILEO_ROWS,
     }
 }
 
-/// The record of the ionosphere of GPS.
+/// The record of the GPS ionosphere parameters.
 #[tactic(auto, unfolding(crate::specs::Layouts::gps_ionosphere_rows))]
-pub fn gps_ionosphere_layout() -> Layout
+pub fn gps_ionosphere_layout() -> RecordLayout
     ensures columns { result.columns.now ≡ joined_rows gps_ionosphere_rows }
     ensures rows { result.rows.now ≡ map length gps_ionosphere_rows }
 {
-    Layout {
+    RecordLayout {
         columns: &GPS_IONOSPHERE,
         rows: &GPS_IONOSPHERE_ROWS,
     }
 }
 
-/// The record of the ionosphere of Galileo.
+/// The record of the Galileo ionosphere parameters.
 #[tactic(auto, unfolding(crate::specs::Layouts::galileo_ionosphere_rows))]
-pub fn galileo_ionosphere_layout() -> Layout
+pub fn galileo_ionosphere_layout() -> RecordLayout
     ensures columns { result.columns.now ≡ joined_rows galileo_ionosphere_rows }
     ensures rows { result.rows.now ≡ map length galileo_ionosphere_rows }
 {
-    Layout {
+    RecordLayout {
         columns: &GALILEO_IONOSPHERE,
         rows: &GALILEO_IONOSPHERE_ROWS,
     }

@@ -7,11 +7,11 @@ ghost use Rattle.rtcm_eph.specs.Writing.{message_1046};
 use crate::content::{Content, GalContent};
 use crate::fault::MessageFault;
 use crate::message1046::Message1046;
-use crate::satellite::{accuracy_of, index_of, number_of, satellite_of};
+use crate::satellite::{accuracy_of, index_of, sat_number, satellite_of};
 use nav_bits::U;
 use nav_eph::{GalEph, GalHealth, GalWord1, GalWord2, GalWord3, GalWord4, Sisa, Step60, System};
 
-// The first part of the orbit that message 1046 brings.
+// Word type 1 by message 1046.
 fn word1(m: &Message1046, toe: Step60) -> GalWord1
     requires { toe ≡ m.now.toe }
     ensures { result ≡ (content_1046 m.now).w1 }
@@ -25,7 +25,7 @@ fn word1(m: &Message1046, toe: Step60) -> GalWord1
     }
 }
 
-// The second part.
+// Word type 2.
 fn word2(m: &Message1046) -> GalWord2
     ensures { result ≡ (content_1046 m.now).w2 }
 {
@@ -38,7 +38,7 @@ fn word2(m: &Message1046) -> GalWord2
     }
 }
 
-// The third part.
+// Word type 3.
 fn word3(m: &Message1046, sisa: Sisa) -> GalWord3
     requires { sisa ≡ m.now.sisa }
     ensures { result ≡ (content_1046 m.now).w3 }
@@ -55,7 +55,7 @@ fn word3(m: &Message1046, sisa: Sisa) -> GalWord3
     }
 }
 
-// The last part and the clock.
+// Word type 4.
 fn word4(m: &Message1046, toc: Step60) -> GalWord4
     requires { toc ≡ m.now.toc }
     ensures { result ≡ (content_1046 m.now).w4 }
@@ -71,7 +71,7 @@ fn word4(m: &Message1046, toc: Step60) -> GalWord4
     }
 }
 
-// The delays and the health.
+// Group delays, signal health and data validity status.
 fn health(m: &Message1046) -> GalHealth
     ensures { result ≡ (content_1046 m.now).health }
 {
@@ -85,7 +85,7 @@ fn health(m: &Message1046) -> GalHealth
     }
 }
 
-// What message 1046 brings, or its first fault.
+// What message 1046 carries, or its first fault.
 pub(crate) fn judge_1046(m: &Message1046) -> Result<Content, MessageFault>
     ensures judged { result ≡ judged_1046 m.now }
     ensures system { IfOk result IsOfSystem }
@@ -122,12 +122,12 @@ pub(crate) fn message_of(eph: &GalEph) -> Message1046
     ensures { result ≡ message_1046 eph.now }
 {
     Message1046 {
-        satellite: number_of(&eph.sat),
-        week: U::from_digits(((eph.toe_week.value() + 3072) % 4096) as u64),
+        satellite: sat_number(&eph.sat),
+        week: U::from_bits(((eph.toe_week.value() + 3072) % 4096) as u64),
         iodnav: eph.w1.iodnav,
         sisa: index_of(&eph.w3.sisa),
         idot: eph.w2.idot,
-        toc: U::from_digits(eph.w4.toc.value()),
+        toc: U::from_bits(eph.w4.toc.value()),
         af2: eph.w4.af2,
         af1: eph.w4.af1,
         af0: eph.w4.af0,
@@ -138,7 +138,7 @@ pub(crate) fn message_of(eph: &GalEph) -> Message1046
         e: eph.w1.e,
         cus: eph.w3.cus,
         root_a: eph.w1.root_a,
-        toe: U::from_digits(eph.w1.toe.value()),
+        toe: U::from_bits(eph.w1.toe.value()),
         cic: eph.w4.cic,
         omega0: eph.w2.omega0,
         cis: eph.w4.cis,

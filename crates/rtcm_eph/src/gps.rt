@@ -7,11 +7,11 @@ ghost use Rattle.rtcm_eph.specs.Writing.{message_1019};
 use crate::content::{Content, GpsContent};
 use crate::fault::MessageFault;
 use crate::message1019::Message1019;
-use crate::satellite::{number_of, satellite_of};
+use crate::satellite::{sat_number, satellite_of};
 use nav_bits::U;
 use nav_eph::{GpsClock, GpsEph, GpsOrbitA, GpsOrbitB, GpsSide, Sat, Step16, System};
 
-// The clock that message 1019 brings.
+// The clock parameters of message 1019.
 fn clock(m: &Message1019, toc: Step16) -> GpsClock
     requires { toc ≡ m.now.toc }
     ensures { result ≡ (content_1019 m.now).clock }
@@ -26,7 +26,7 @@ fn clock(m: &Message1019, toc: Step16) -> GpsClock
     }
 }
 
-// What it says beside the clock.
+// Code on L2, URA, health and L2 P data flag.
 fn side(m: &Message1019) -> GpsSide
     ensures { result ≡ (content_1019 m.now).side }
 {
@@ -38,7 +38,7 @@ fn side(m: &Message1019) -> GpsSide
     }
 }
 
-// The first half of the orbit.
+// The orbit parameters of subframe 2.
 fn orbit_a(m: &Message1019, toe: Step16) -> GpsOrbitA
     requires { toe ≡ m.now.toe }
     ensures { result ≡ (content_1019 m.now).a }
@@ -56,7 +56,7 @@ fn orbit_a(m: &Message1019, toe: Step16) -> GpsOrbitA
     }
 }
 
-// The second half of the orbit.
+// The orbit parameters of subframe 3.
 fn orbit_b(m: &Message1019) -> GpsOrbitB
     ensures { result ≡ (content_1019 m.now).b }
 {
@@ -73,7 +73,7 @@ fn orbit_b(m: &Message1019) -> GpsOrbitB
     }
 }
 
-// What message 1019 brings, or its first fault.
+// What message 1019 carries, or its first fault.
 pub(crate) fn judge_1019(m: &Message1019) -> Result<Content, MessageFault>
     ensures judged { result ≡ judged_1019 m.now }
     ensures system { IfOk result IsOfSystem }
@@ -106,13 +106,13 @@ pub(crate) fn message_of(eph: &GpsEph) -> Message1019
     ensures { result ≡ message_1019 eph.now }
 {
     Message1019 {
-        satellite: number_of(&eph.sat),
-        week: U::from_digits((eph.toe_week.value() % 1024) as u64),
+        satellite: sat_number(&eph.sat),
+        week: U::from_bits((eph.toe_week.value() % 1024) as u64),
         ura: eph.side.ura,
         l2_code: eph.side.l2_code,
         idot: eph.b.idot,
         iode: eph.a.iode,
-        toc: U::from_digits(eph.clock.toc.value()),
+        toc: U::from_bits(eph.clock.toc.value()),
         af2: eph.clock.af2,
         af1: eph.clock.af1,
         af0: eph.clock.af0,
@@ -124,7 +124,7 @@ pub(crate) fn message_of(eph: &GpsEph) -> Message1019
         e: eph.a.e,
         cus: eph.a.cus,
         root_a: eph.a.root_a,
-        toe: U::from_digits(eph.a.toe.value()),
+        toe: U::from_bits(eph.a.toe.value()),
         cic: eph.b.cic,
         omega0: eph.b.omega0,
         cis: eph.b.cis,

@@ -1,11 +1,11 @@
--- The first place where a frame begins or that is open, and what is looked at from there.
+-- The first offset where a frame begins or is incomplete, and functions that look only from there on.
 use Rattle.std.proofs.Common.{◌≡◌, ℕ, ◌≤◌, ◌&&◌, ◌⊎◌, nat_lt, Bool, true, false, List, [], ◌∷◌, ◌++◌, length, refl, ◌∙◌, inl, inr, arith, append-nil}
 use Rattle.std.proofs.lemmas.Bool.{ltb-true, and_parts}
 use Rattle.rtcm_frame.specs.Frames.{frame_size, is_open, frames_past, frames, undecided, after_first}
 use Rattle.rtcm_frame.specs.Mirrors.{from_first}
 use Rattle.rtcm_frame.proofs.FormLaws.{size-append}
 
--- nothing begins at the first byte
+-- no frame begins at the first byte
 record Passed (more : Bool) (x : ℕ) (xs : List ℕ) : Type 0 where
   pub closed : (more && is_open (x ∷ xs)) ≡ false
   pub none : nat_lt 0 (frame_size (x ∷ xs)) ≡ false
@@ -16,11 +16,11 @@ pass_at F more x xs same go true o found f = rw o refl
 pass_at F more x xs same go false o true f = rw (o, f) refl
 pass_at F more x xs same go false o false f = rw (o, f) (same (record { closed = o; none = f }) ∙ go)
 
--- what doesn't look at a byte where nothing begins doesn't look at those before the first place
-pass_front : {A : Type 0} (F : List ℕ → A) (more : Bool) → ((x : ℕ) (xs : List ℕ) → Passed more x xs → F (x ∷ xs) ≡ F xs)
+-- a function that ignores a byte where no frame begins ignores all before the first offset
+pass_prefix : {A : Type 0} (F : List ℕ → A) (more : Bool) → ((x : ℕ) (xs : List ℕ) → Passed more x xs → F (x ∷ xs) ≡ F xs)
     → (b : List ℕ) → F b ≡ F (from_first more b)
-pass_front F more same [] = refl
-pass_front F more same (x ∷ xs) = pass_at F more x xs (same x xs) (pass_front F more same xs) _ refl _ refl
+pass_prefix F more same [] = refl
+pass_prefix F more same (x ∷ xs) = pass_at F more x xs (same x xs) (pass_prefix F more same xs) _ refl _ refl
 
 shorter_at : (more : Bool) (x : ℕ) (xs : List ℕ) → length (from_first more xs) ≤ length xs
     → (held : Bool) → (more && is_open (x ∷ xs)) ≡ held → (found : Bool) → nat_lt 0 (frame_size (x ∷ xs)) ≡ found → length (from_first more (x ∷ xs)) ≤ length (x ∷ xs)
@@ -32,7 +32,7 @@ pub length-from_first : (more : Bool) (b : List ℕ) → length (from_first more
 length-from_first more [] = omega arith
 length-from_first more (x ∷ xs) = shorter_at more x xs (length-from_first more xs) _ refl _ refl
 
--- nothing is left, or it is open and more bytes may come
+-- nothing is left, or an incomplete frame while more bytes may come
 abbrev pub IsHeld : Bool → List ℕ → Type 0
 IsHeld more rest = (rest ≡ []) ⊎ ((more ≡ true) × (is_open rest ≡ true))
 
@@ -43,12 +43,12 @@ held_at more x xs go true o found f = rw o (λ none. inr (and_parts more (is_ope
 held_at more x xs go false o true f = rw (o, f) (λ none. absurd (omega (arith, ltb-true 0 (frame_size (x ∷ xs)) f)))
 held_at more x xs go false o false f = rw (o, f) go
 
--- where no frame begins at the first place, what is there is held
+-- where no frame begins at the first offset, what is there is held
 pub first_is_held : (more : Bool) (b : List ℕ) → frame_size (from_first more b) ≡ 0 → IsHeld more (from_first more b)
 first_is_held more [] none = inl refl
 first_is_held more (x ∷ xs) none = held_at more x xs (first_is_held more xs) _ refl _ refl none
 
--- the frames with bytes behind, none after the last one, don't look at a byte where nothing begins
+-- the frames with bytes appended ignore a byte where no frame begins
 abbrev Follows : Bool → List ℕ → Type 0
 Follows more following = more ≡ false → following ≡ []
 
@@ -70,13 +70,13 @@ open_passed : (x : ℕ) (xs : List ℕ) → Passed true x xs → undecided (x �
 open_passed x xs passed = let closed : is_open (x ∷ xs) ≡ false = passed.closed in rw (closed, passed.none) refl
 
 pub frames_from_first : (more : Bool) (following : List ℕ) → (more ≡ false → following ≡ []) → (b : List ℕ) → frames (b ++ following) ≡ frames (from_first more b ++ following)
-frames_from_first more following last b = pass_front (λ v. frames (v ++ following)) more (frames_passed more following last) b
+frames_from_first more following last b = pass_prefix (λ v. frames (v ++ following)) more (frames_passed more following last) b
 
 pub past_from_first : (more : Bool) (b : List ℕ) → frames_past more b 0 ≡ frames_past more (from_first more b) 0
-past_from_first more b = pass_front (λ v. frames_past more v 0) more (past_passed more) b
+past_from_first more b = pass_prefix (λ v. frames_past more v 0) more (past_passed more) b
 
 pub after_from_first : (more : Bool) (b : List ℕ) → after_first b ≡ after_first (from_first more b)
-after_from_first more b = pass_front after_first more (after_passed more) b
+after_from_first more b = pass_prefix after_first more (after_passed more) b
 
 pub open_from_first : (b : List ℕ) → undecided b ≡ undecided (from_first true b)
-open_from_first b = pass_front undecided true open_passed b
+open_from_first b = pass_prefix undecided true open_passed b

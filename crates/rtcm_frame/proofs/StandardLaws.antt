@@ -16,7 +16,7 @@ use Rattle.rtcm_frame.specs.Standard.{AreBytes, BeginsFrame}
 first_byte : (bytes : List ℕ) → AreBytes bytes → number_at bytes 0 8 ≡ slice_index bytes 0
 first_byte bytes b = number_at-byte bytes 0 (b 0)
 
--- behind six bits of the second byte stand ten bits of length
+-- the ten bits of length after six bits of the second byte
 length_bits : (bytes : List ℕ) → AreBytes bytes → number_at bytes 14 10 + 6 ≡ announced (slice_index bytes 1) (slice_index bytes 2)
 length_bits bytes b =
     let high : number_at bytes 14 2 ≡ slice_index bytes 1 / 1 % 4 = number_at-part bytes 14 6 1 2 refl refl (omega arith) in
@@ -25,7 +25,7 @@ length_bits bytes b =
     let byte = b 2 in
     omega arith
 
--- the number of three bytes is that of their bits
+-- three bytes and their bits are one number
 three_bytes_bits : (bytes : List ℕ) (i : ℕ) → AreBytes bytes → number_at bytes (8 * i) 24 ≡ (slice_index bytes i * 256 + slice_index bytes (i + 1)) * 256 + slice_index bytes (i + 2)
 three_bytes_bits bytes i b =
     let two : number_at bytes (8 * i) 24 ≡ number_at bytes (8 * i) 16 * 2 ^ 8 + number_at bytes (8 * i + 16) 8 = number_at-append bytes (8 * i) 16 8 in
@@ -36,9 +36,9 @@ three_bytes_bits bytes i b =
     omega arith
 
 -- the bits of the first bytes are those of all
-bits_of_front : (bytes : List ℕ) (m : ℕ) → number_at (take m bytes) 0 (8 * m) ≡ number_at bytes 0 (8 * m)
+bits_of_prefix : (bytes : List ℕ) (m : ℕ) → number_at (take m bytes) 0 (8 * m) ≡ number_at bytes 0 (8 * m)
 unfolding bit
-bits_of_front bytes m =
+bits_of_prefix bytes m =
     number_at-same (take m bytes) bytes 0 (8 * m)
     (record { same = λ i low high. ap (λ x. bit_at x (7 - i % 8)) (get_or-take m bytes (i / 8) 0 (omega arith)) })
 
@@ -55,10 +55,10 @@ right_by_bits : (bytes : List ℕ) (n : ℕ) → 3 ≤ n → n ≤ length bytes 
 unfolding is_right
 right_by_bits bytes n h whole b =
     let size : length (take n bytes) ≡ n = length-take-le n bytes whole in
-    let front : take (n - 3) (take n bytes) ≡ take (n - 3) bytes = take-take (n - 3) n bytes (omega arith) in
+    let prefix : take (n - 3) (take n bytes) ≡ take (n - 3) bytes = take-take (n - 3) n bytes (omega arith) in
     let last : big_number 3 (drop (n - 3) (take n bytes)) ≡ number_at bytes (8 * (n - 3)) 24 = last_three bytes n h b in
     ap (λ m. nat_eq (crc_from 0 (take (m - 3) (take n bytes))) (big_number 3 (drop (m - 3) (take n bytes)))) size
-    ∙ ap (λ xs. nat_eq (crc_from 0 xs) (big_number 3 (drop (n - 3) (take n bytes)))) front
+    ∙ ap (λ xs. nat_eq (crc_from 0 xs) (big_number 3 (drop (n - 3) (take n bytes)))) prefix
     ∙ ap (nat_eq (crc_from 0 (take (n - 3) bytes))) last
 
 -- what a frame of n bytes at the beginning tells of the bytes
@@ -90,11 +90,11 @@ form_of bytes n some size =
     ]
 
 -- the CRC of the first bytes is that of their bits
-crc_of_front : ((xs : List ℕ) → IsCrc (number_at xs 0 (8 * length xs)) (crc_from 0 xs)) → (bytes : List ℕ) (m : ℕ) → m ≤ length bytes
+crc_of_prefix : ((xs : List ℕ) → IsCrc (number_at xs 0 (8 * length xs)) (crc_from 0 xs)) → (bytes : List ℕ) (m : ℕ) → m ≤ length bytes
     → IsCrc (number_at bytes 0 (8 * m)) (crc_from 0 (take m bytes))
-crc_of_front register bytes m h =
+crc_of_prefix register bytes m h =
     let size : length (take m bytes) ≡ m = length-take-le m bytes h in
-    rw (size, bits_of_front bytes m) at (register (take m bytes))
+    rw (size, bits_of_prefix bytes m) at (register (take m bytes))
 
 pub begins_frame : ((xs : List ℕ) → IsCrc (number_at xs 0 (8 * length xs)) (crc_from 0 xs)) → (bytes : List ℕ) (n : ℕ) → AreBytes bytes
     → 0 < n → frame_size bytes ≡ n → BeginsFrame bytes n
@@ -106,7 +106,7 @@ begins_frame register bytes n b some size =
       preamble = first_byte bytes b ∙ form.start;
       message_length = length_bits bytes b ∙ form.size;
       whole = form.within;
-      crc = rw crc at (crc_of_front register bytes (n - 3) (omega (arith, form.within)));
+      crc = rw crc at (crc_of_prefix register bytes (n - 3) (omega (arith, form.within)));
     }
 
 pub frame_begun : ((xs : List ℕ) → IsCrc (number_at xs 0 (8 * length xs)) (crc_from 0 xs)) → ((p r s : ℕ) → IsCrc p r → IsCrc p s → r ≡ s)
@@ -116,6 +116,6 @@ frame_begun register one bytes n b begins =
     let start : slice_index bytes 0 ≡ 211 = sym (first_byte bytes b) ∙ begins.preamble in
     let six : 6 ≤ n = omega (arith, begins.message_length) in
     let within : n ≤ length bytes = begins.whole in
-    let crc : crc_from 0 (take (n - 3) bytes) ≡ number_at bytes (8 * (n - 3)) 24 = one (number_at bytes 0 (8 * (n - 3))) _ _ (crc_of_front register bytes (n - 3) (omega arith)) begins.crc in
+    let crc : crc_from 0 (take (n - 3) bytes) ≡ number_at bytes (8 * (n - 3)) 24 = one (number_at bytes 0 (8 * (n - 3))) _ _ (crc_of_prefix register bytes (n - 3) (omega arith)) begins.crc in
     let right : is_right (take n bytes) ≡ true = right_by_bits bytes n (omega arith) within b ∙ eq-eqb _ _ crc in
     (omega arith, size_within bytes (omega arith) start (rw size within) ∙ rw (size, right) refl)

@@ -1,4 +1,4 @@
--- The step of a deframer at the first place: it takes a frame, or none.
+-- The step of a deframer: it takes a frame, or none.
 use Rattle.std.proofs.Common.{get_or, ◌≡◌, ℕ, zero, suc, ◌+◌, ◌-◌, ◌<◌, ◌≤◌, ◌&&◌, ◌⊎◌, nat_lt, Bool, true, false, if◌then◌else◌, List, [], ◌∷◌, ◌++◌, length, take, drop, refl, sym, ap, ◌∙◌, inl, inr, arith, length-drop, length-take}
 use Rattle.std.proofs.lemmas.Bool.{lt-ltb, le-ltb, false_from_ne_true, and_right, and_parts, false≢true}
 use Rattle.std.proofs.lemmas.List.{take-append-le, drop-append-le, drop_more, take_rest}
@@ -9,50 +9,50 @@ use Rattle.rtcm_frame.proofs.FormLaws.{size-append, size_le, size_least, size_mo
 use Rattle.rtcm_frame.proofs.FrameLaws.{frames_past-drop, drop_first}
 use Rattle.rtcm_frame.proofs.FirstPlace.{IsHeld, first_is_held, length-from_first, frames_from_first, past_from_first, after_from_first, open_from_first}
 
--- no bytes begin no frame
+-- no frame begins in no bytes
 none_size : 0 < frame_size [] → ⊥
 none_size h = omega (arith, size_le [])
 
--- where a whole frame begins, it is not open
+-- a whole frame is not incomplete
 closed_by : (xs : List ℕ) → 0 < frame_size xs → is_open xs ≡ false
 closed_by xs h = false_from_ne_true _ (λ o. omega (arith, size_of_open xs o))
 
--- a frame at the front, with bytes behind
-pub frames-front : (r c : List ℕ) → 0 < frame_size r → frames (r ++ c) ≡ take (frame_size r) r ∷ frames (drop (frame_size r) r ++ c)
-frames-front [] c h = absurd (none_size h)
-frames-front (x ∷ xs) c h =
+-- a frame at the start, with bytes after it
+pub frames-prefix : (r c : List ℕ) → 0 < frame_size r → frames (r ++ c) ≡ take (frame_size r) r ∷ frames (drop (frame_size r) r ++ c)
+frames-prefix [] c h = absurd (none_size h)
+frames-prefix (x ∷ xs) c h =
     let n = frame_size (x ∷ xs) in
     let f : nat_lt 0 (frame_size (x ∷ xs)) ≡ true = lt-ltb _ _ h in
     let size = size_le (x ∷ xs) in
-    let front : take (frame_size (x ∷ xs)) (x ∷ (xs ++ c)) ≡ take (frame_size (x ∷ xs)) (x ∷ xs) = take-append-le (frame_size (x ∷ xs)) (x ∷ xs) c size in
+    let prefix : take (frame_size (x ∷ xs)) (x ∷ (xs ++ c)) ≡ take (frame_size (x ∷ xs)) (x ∷ xs) = take-append-le (frame_size (x ∷ xs)) (x ∷ xs) c size in
     let rest : drop (frame_size (x ∷ xs) - 1) (xs ++ c) ≡ drop (frame_size (x ∷ xs) - 1) xs ++ c = drop-append-le (frame_size (x ∷ xs) - 1) xs c (omega arith) in
     let behind : drop (frame_size (x ∷ xs)) (x ∷ xs) ≡ drop (frame_size (x ∷ xs) - 1) xs = drop_first x xs (frame_size (x ∷ xs)) h in
-    rw (size-append x xs c (closed_by (x ∷ xs) h), f, front, behind, frames_past-drop false (xs ++ c) (frame_size (x ∷ xs) - 1), rest) refl
+    rw (size-append x xs c (closed_by (x ∷ xs) h), f, prefix, behind, frames_past-drop false (xs ++ c) (frame_size (x ∷ xs) - 1), rest) refl
 
--- a frame at the front
-past-front : (more : Bool) (r : List ℕ) → 0 < frame_size r → frames_past more r 0 ≡ take (frame_size r) r ∷ frames_past more (drop (frame_size r) r) 0
-past-front more [] h = absurd (none_size h)
-past-front more (x ∷ xs) h =
+-- a frame at the start
+past-prefix : (more : Bool) (r : List ℕ) → 0 < frame_size r → frames_past more r 0 ≡ take (frame_size r) r ∷ frames_past more (drop (frame_size r) r) 0
+past-prefix more [] h = absurd (none_size h)
+past-prefix more (x ∷ xs) h =
     let f : nat_lt 0 (frame_size (x ∷ xs)) ≡ true = lt-ltb _ _ h in
     let closed : (more && is_open (x ∷ xs)) ≡ false = and_right more _ (closed_by (x ∷ xs) h) in
     let behind : drop (frame_size (x ∷ xs)) (x ∷ xs) ≡ drop (frame_size (x ∷ xs) - 1) xs = drop_first x xs (frame_size (x ∷ xs)) h in
     rw (closed, f, behind, frames_past-drop more xs (frame_size (x ∷ xs) - 1)) refl
 
-after-front : (r : List ℕ) → 0 < frame_size r → after_first r ≡ drop (frame_size r) r
-after-front [] h = absurd (none_size h)
-after-front (x ∷ xs) h = let f : nat_lt 0 (frame_size (x ∷ xs)) ≡ true = lt-ltb _ _ h in rw f refl
+after-prefix : (r : List ℕ) → 0 < frame_size r → after_first r ≡ drop (frame_size r) r
+after-prefix [] h = absurd (none_size h)
+after-prefix (x ∷ xs) h = let f : nat_lt 0 (frame_size (x ∷ xs)) ≡ true = lt-ltb _ _ h in rw f refl
 
--- the frame that begins at the first place is taken
+-- the first frame is taken
 pub takes_frame : (more : Bool) (old : List ℕ) → 0 < frame_size (from_first more old)
     → TakesFrame more old (take (frame_size (from_first more old)) (from_first more old)) (drop (frame_size (from_first more old)) (from_first more old))
 takes_frame more old h = record {
-  stream = λ following last. frames_from_first more following last old ∙ frames-front (from_first more old) following h;
-  first = past_from_first more old ∙ past-front more (from_first more old) h;
-  rest = sym (after_from_first more old ∙ after-front (from_first more old) h);
+  stream = λ following last. frames_from_first more following last old ∙ frames-prefix (from_first more old) following h;
+  first = past_from_first more old ∙ past-prefix more (from_first more old) h;
+  rest = sym (after_from_first more old ∙ after-prefix (from_first more old) h);
   shorter = omega (arith, length-from_first more old, size_le (from_first more old), length-drop (frame_size (from_first more old)) (from_first more old));
 }
 
--- what is held has no frame, and is what is undecided
+-- what is held has no frame, and all of it is undecided
 held_none : (more : Bool) (r : List ℕ) → IsHeld more r → frames_past more r 0 ≡ []
 held_none more [] held = refl
 held_none more (x ∷ xs) held = elim held [ inl e ↦ cc | inr h ↦ rw (h.0, h.1) refl ]
@@ -68,7 +68,7 @@ held_rest : (more : Bool) (old : List ℕ) → IsHeld more (from_first more old)
 held_rest true old held = sym (open_from_first old ∙ held_open (from_first true old) held)
 held_rest false old held = elim held [ inl e ↦ e | inr h ↦ absurd (false≢true h.0) ]
 
--- where no frame begins at the first place, none is taken
+-- where no frame begins at the first offset, none is taken
 pub takes_none : (more : Bool) (old : List ℕ) → frame_size (from_first more old) ≡ 0 → TakesNone more old (from_first more old)
 takes_none more old none =
     let held = first_is_held more old none in
@@ -134,14 +134,14 @@ first_at_frame more (x ∷ xs) h =
     let closed : (more && is_open (x ∷ xs)) ≡ false = and_right more _ (closed_by (x ∷ xs) h) in
     rw (closed, f) refl
 
-passed_front : (more : Bool) (x : ℕ) (xs b : List ℕ) → b ≡ x ∷ xs → (more && is_open b) ≡ false → frame_size b ≡ 0 → from_first more b ≡ from_first more xs
-passed_front more x xs b e closed none =
+passed_prefix : (more : Bool) (x : ℕ) (xs b : List ℕ) → b ≡ x ∷ xs → (more && is_open b) ≡ false → frame_size b ≡ 0 → from_first more b ≡ from_first more xs
+passed_prefix more x xs b e closed none =
     let f : nat_lt 0 (frame_size b) ≡ false = le-ltb _ _ (omega arith) in
     rw e (rw (rw e at closed, rw e at f) refl)
 
 -- a byte where nothing begins is passed
 pub first_passed : (more : Bool) (b : List ℕ) (i : ℕ) → i < length b → (more && is_open (drop i b)) ≡ false → frame_size (drop i b) ≡ 0 → from_first more (drop i b) ≡ from_first more (drop (i + 1) b)
-first_passed more b i h closed none = passed_front more (get_or b i 0) (drop (i + 1) b) (drop i b) (drop_more b i 0 h) closed none
+first_passed more b i h closed none = passed_prefix more (get_or b i 0) (drop (i + 1) b) (drop i b) (drop_more b i 0 h) closed none
 
 pub ruleset steps = (first_at_held, size_at_held, size_at_end, first_at_frame, first_passed, size_le, length-drop, take_rest)
 

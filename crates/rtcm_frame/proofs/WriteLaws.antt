@@ -19,17 +19,17 @@ big_number-three_bytes n h = omega arith
 pub length-frame_bytes : (payload : List ℕ) → length (frame_bytes payload) ≡ length payload + 6
 length-frame_bytes payload = omega (arith, length-append payload (three_bytes (crc_from 0 (body_of payload))))
 
--- a checksum behind the bytes that it is of is right
+-- a checksum after the bytes that it covers is right
 right_behind : (body : List ℕ) → is_right (body ++ three_bytes (crc_from 0 body)) ≡ true
 unfolding is_right
 right_behind body =
     let crc = crc_from 0 body in
     let size : length (body ++ three_bytes (crc_from 0 body)) - 3 ≡ length body = omega (arith, length-append body (three_bytes (crc_from 0 body))) in
-    let front : take (length body) (body ++ three_bytes (crc_from 0 body)) ≡ body = take_at body (three_bytes (crc_from 0 body)) (length body) refl in
+    let prefix : take (length body) (body ++ three_bytes (crc_from 0 body)) ≡ body = take_at body (three_bytes (crc_from 0 body)) (length body) refl in
     let last : drop (length body) (body ++ three_bytes (crc_from 0 body)) ≡ three_bytes (crc_from 0 body) = drop_at body (three_bytes (crc_from 0 body)) (length body) refl in
     let number : big_number 3 (three_bytes (crc_from 0 body)) ≡ crc_from 0 body = big_number-three_bytes (crc_from 0 body) (crc_from-lt 0 body (omega arith)) in
     ap (λ end. nat_eq (crc_from 0 (take end (body ++ three_bytes (crc_from 0 body)))) (big_number 3 (drop end (body ++ three_bytes (crc_from 0 body))))) size
-    ∙ ap (λ xs. nat_eq (crc_from 0 xs) (big_number 3 (drop (length body) (body ++ three_bytes (crc_from 0 body))))) front
+    ∙ ap (λ xs. nat_eq (crc_from 0 xs) (big_number 3 (drop (length body) (body ++ three_bytes (crc_from 0 body))))) prefix
     ∙ ap (λ xs. nat_eq (crc_from 0 body) (big_number 3 xs)) last
     ∙ eq-eqb _ _ (sym number)
 
@@ -52,11 +52,11 @@ whole_first x xs more whole =
     let shut = not_open (is_open (x ∷ xs)) refl in
     let size : frame_size (x ∷ (xs ++ more)) ≡ length (x ∷ xs) = size-append x xs more shut ∙ whole in
     let some : nat_lt 0 (length (x ∷ xs)) ≡ true = lt-ltb 0 (length (x ∷ xs)) (omega arith) in
-    let front : take (length (x ∷ xs)) (x ∷ (xs ++ more)) ≡ x ∷ xs = take_at (x ∷ xs) more (length (x ∷ xs)) refl in
+    let prefix : take (length (x ∷ xs)) (x ∷ (xs ++ more)) ≡ x ∷ xs = take_at (x ∷ xs) more (length (x ∷ xs)) refl in
     let count : length (x ∷ xs) - 1 ≡ length xs = omega arith in
     let rest : frames_past false (xs ++ more) (length xs) ≡ frames more =
     frames_past-drop false (xs ++ more) (length xs) ∙ ap frames (drop_at xs more (length xs) refl) in
-    rw (size, some, front, count, rest) refl
+    rw (size, some, prefix, count, rest) refl
   where
     not_open : (b : Bool) → is_open (x ∷ xs) ≡ b → is_open (x ∷ xs) ≡ false
     not_open true e = absurd (let none = size_of_open (x ∷ xs) e in omega (arith, whole, none))

@@ -1,4 +1,4 @@
-//! Frames of bytes that come one by one.
+//! Finds the frames in a stream that is fed byte by byte or in pieces.
 
 ghost use Rattle.std.specs.Prelude.{◌≡◌, ◌+◌, ◌-◌, ◌<◌, ◌≤◌, ◌↔◌, [], ◌∷◌, ◌++◌, length, take};
 ghost use Rattle.std.specs.Prelude.{drop, true, false, not, IsTrue, IfSome, IfNone};
@@ -11,17 +11,17 @@ use crate::frame::Frame;
 use crate::window::Window;
 use std::marker::Model;
 
-/// Takes the bytes of a stream one by one and gives the frames in them, in order (RTCM 10403.3, the
-/// transport layer).
+/// Finds the frames in a stream of bytes and gives them in order (RTCM 10403.3, the transport
+/// layer).
 ///
-/// A contract sees the bytes that were fed and not passed yet, `rest`, and whether `finish` was
-/// called, `finished`.
+/// Contracts see `rest`, the bytes that were fed and are not yet consumed, and `finished`, whether
+/// `finish` was called.
 #[derive(Drop)]
 pub struct Deframer {
     window: Window,
-    // where the bytes begin that were not passed yet
+    // the offset of the first byte that is not yet consumed
     start: usize,
-    // with fewer bytes than so many in the window nothing is decided
+    // while the window has fewer bytes than this, no frame can be decided
     wanted: usize,
     finished: bool,
 }
@@ -44,7 +44,7 @@ impl Deframer {
     ghost use Rattle.std.specs.Prelude.{not, IsTrue, IfSome, IfNone};
     ghost use Rattle.rtcm_frame.specs.State.{MayFeed, TakesFrame, TakesNone};
 
-    /// A deframer that has taken no byte.
+    /// A deframer that has been fed no byte.
     pub fn new() -> Self
         ensures rest { result.rest ≡ [] }
         ensures finished { result.finished ≡ false }
@@ -57,8 +57,8 @@ impl Deframer {
         }
     }
 
-    /// Takes one more byte. It may be called where `may_feed` holds: after `new`, and after each
-    /// `next_frame` that answered `None`, until `finish` is called.
+    /// Feeds one byte. Allowed where `may_feed` holds: after `new`, and after each `next_frame`
+    /// that returned `None`, until `finish` is called.
     pub fn feed(&mut self, byte: u8)
         requires { MayFeed self.old }
         ensures rest { self.new.rest ≡ self.old.rest ++ byte ∷ [] }
@@ -68,11 +68,10 @@ impl Deframer {
         self.window.push(byte);
     }
 
-    /// Takes bytes from the front of a piece, as many as there is room for and at least one, and
+    /// Feeds bytes from the start of a piece, as many as there is room for but at least one, and
     /// gives how many.
     ///
-    /// It may be called where `may_feed` holds, as `feed`. A piece that is fed so costs less than
-    /// one that is fed byte by byte.
+    /// Allowed where `may_feed` holds, as `feed`. This is faster than feeding the bytes one by one.
     pub fn feed_some(&mut self, piece: &[u8]) -> usize
         requires may_feed { MayFeed self.old }
         requires some { 0 < length piece.now }
@@ -87,11 +86,11 @@ impl Deframer {
         count
     }
 
-    /// The next frame, and passes the bytes up to its end.
+    /// Gives the next frame and consumes the bytes up to its end.
     ///
-    /// Before `finish` it answers `None` exactly where no frame is decided: what is kept then
-    /// begins with a frame that has not ended, or nothing is kept. After `finish` it answers `None`
-    /// exactly where there is no frame any more, and keeps nothing.
+    /// Before `finish`, `None` means that no frame is decided yet: what is left is empty or begins
+    /// with an incomplete frame. After `finish`, `None` means that there is no further frame, and
+    /// nothing is left.
     pub fn next_frame(&mut self) -> Option<Frame>
         ensures frame { IfSome result (λ frame.
             TakesFrame (not self.old.finished) self.old.rest frame self.new.rest) }
@@ -117,8 +116,8 @@ impl Deframer {
         Some(frame)
     }
 
-    /// Says that no byte follows: a frame that has not ended will not, and the frames inside it are
-    /// looked for.
+    /// Says that no byte follows. A frame that is incomplete stays so; the bytes after its preamble
+    /// are then searched for frames.
     pub fn finish(&mut self)
         ensures rest { self.new.rest ≡ self.old.rest }
         ensures finished { self.new.finished ≡ true }
@@ -134,8 +133,8 @@ impl Deframer {
     }
 }
 
-// Passes the bytes before the first place where a frame begins or, where more may come, that is
-// open, and gives the size of the frame that begins there, or 0 where none does.
+// Consumes the bytes before the first frame or, where more may come, the first incomplete frame.
+// Gives the size of the frame there, or 0 where it is incomplete or there is none.
 #[inline(never)]
 fn decide(window: &mut Window, start: &mut usize, wanted: &mut usize, more: bool) -> usize
     requires { start.old ≤ length window.old }
@@ -153,8 +152,8 @@ fn decide(window: &mut Window, start: &mut usize, wanted: &mut usize, more: bool
     size
 }
 
-// The first place from this one on where a frame begins or, where more bytes may come, that is
-// open, and the size of the frame, or 0 where none begins.
+// The first offset from `start` on where a frame begins or, where more bytes may come, an
+// incomplete one does; and the size of the frame there, or 0.
 #[tactic(auto, using(crate::proofs::Takes::steps))]
 fn find(window: &mut Window, start: usize, more: bool) -> (usize, usize)
     requires { start ≤ length window.old }
@@ -178,7 +177,7 @@ fn find(window: &mut Window, start: usize, more: bool) -> (usize, usize)
     (place, 0)
 }
 
-// The frame of so many bytes from this place on.
+// The frame of `size` bytes at this offset.
 #[tactic(auto, using(crate::proofs::Takes::sizes))]
 fn frame_at(window: &Window, place: usize, size: usize) -> Frame
     requires size { size ≡ frame_size (drop place window.now) }
@@ -189,7 +188,8 @@ fn frame_at(window: &Window, place: usize, size: usize) -> Frame
     Frame::new(&window.bytes()[place..place + size])
 }
 
-// Below how many bytes in the window nothing is decided; a window with no bytes to pass is cleared.
+// The number of bytes in the window below which no frame is decided. An all-consumed window is
+// cleared.
 #[tactic(auto, using(crate::proofs::Promising::promises))]
 fn undecided_below(window: &mut Window, start: &mut usize) -> usize
     requires inside { start.old ≤ length window.old }
@@ -206,7 +206,7 @@ fn undecided_below(window: &mut Window, start: &mut usize) -> usize
     *start + wanted_of(&window.bytes()[*start..])
 }
 
-// Moves the bytes that were not passed to the front of a full window.
+// Moves the unconsumed bytes to the start of a full window.
 fn make_room(window: &mut Window, start: &mut usize, wanted: &mut usize)
     requires inside { start.old ≤ length window.old }
     requires short { length (drop start.old window.old) < 4096 }
@@ -216,7 +216,7 @@ fn make_room(window: &mut Window, start: &mut usize, wanted: &mut usize)
     ensures room { length window.new < 4096 }
 {
     if window.len() == 4096 {
-        window.cut_front(*start);
+        window.cut_prefix(*start);
         *wanted = wanted.saturating_sub(*start);
         *start = 0;
     }

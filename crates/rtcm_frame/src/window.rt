@@ -9,18 +9,17 @@ use crate::states::{begin_states, cut_states, extend, has_right_checksum_by};
 use arrayvec::ArrayVec;
 use std::marker::Model;
 
-// How many bytes a window holds at most.
+// The capacity of a window in bytes.
 const CAPACITY: usize = 4096;
 
-// The bytes, seen as their list. Beside the first of them stand the registers of the checksum: as
-// far as a checksum by itself was wrong, so that good frames never pay for them, and no byte is
-// gone over twice.
+// The bytes, and CRC registers beside them. The registers are computed only as far as a checksum
+// was wrong: good frames cost no registers, and no byte is processed twice.
 #[derive(Drop)]
 pub struct Window {
     bytes: ArrayVec<u8, CAPACITY>,
     // the register before each byte, up to some byte
     states: ArrayVec<u32, 4097>,
-    // moves them past the bodies of frames
+    // advances registers over the bodies of frames
     mover: BodyMover,
 }
 
@@ -36,7 +35,7 @@ impl Model for Window {
 }
 
 impl Window {
-    // A window of no bytes.
+    // An empty window.
     pub fn new() -> Self
         ensures { result ≡ [] }
     {
@@ -72,7 +71,7 @@ impl Window {
         self.bytes.push(byte);
     }
 
-    // Appends bytes, for which there is room.
+    // Appends bytes; there must be room for them.
     pub fn append(&mut self, piece: &[u8])
         requires { length self.old + length piece.now ≤ 4096 }
         ensures { self.new ≡ self.old ++ piece.now }
@@ -82,8 +81,8 @@ impl Window {
         }
     }
 
-    // Removes so many bytes in front.
-    pub fn cut_front(&mut self, count: usize)
+    // Removes the first `count` bytes.
+    pub fn cut_prefix(&mut self, count: usize)
         requires { count ≤ length self.old }
         ensures { self.new ≡ drop count self.old }
     {
@@ -99,7 +98,8 @@ impl Window {
         begin_states(&mut self.states);
     }
 
-    // Whether the last three of these bytes are the checksum of those before.
+    // Whether the last three of the `size` bytes at this offset are the checksum of those before
+    // them.
     pub fn is_right_at(&mut self, place: usize, size: usize) -> bool
         requires inside { place + size ≤ length self.old }
         requires shortest { 3 ≤ size }
@@ -119,7 +119,7 @@ impl Window {
         has_right_checksum_by(&mut self.mover, before, after, frame)
     }
 
-    // The size of the frame that begins at this place, or 0 where none does.
+    // The size of the frame with right checksum at this offset, or 0 where there is none.
     pub fn size_at(&mut self, place: usize) -> usize
         requires { place ≤ length self.old }
         ensures value { result ≡ frame_size (drop place self.old) }

@@ -51,7 +51,7 @@ E11 2023 12 31 00 00 00 0.000000000000D+00 0.000000000000D+00 0.000000000000D+00
 const REFUSED: &[u8] = b"> EPH G00 LNAV
 ";
 
-// What differs between the ephemerides of G05: time of day, toe, second of sending, and hours of fit.
+// What differs between the ephemerides of G05: time of day, toe, transmission time, and hours of fit.
 #[derive(Clone, Copy)]
 struct Record {
     time: &'static [u8],
@@ -65,7 +65,7 @@ const START: Record = Record {
     last: b"0.000000000000D+00 4.000000000000D+00\n",
 };
 
-// The same, the second of sending being unknown.
+// The same, the transmission time being unknown.
 const UNKNOWN: Record = Record {
     time: b"00 00 00",
     toe: b"0.000000000000D+00",
@@ -105,7 +105,7 @@ fn file_of(alloc: Global, record: &Record) -> Result<Vec<u8>, AllocError> {
     .concat(alloc)
 }
 
-// A source over two files, one behind the other.
+// A source over two files, concatenated.
 fn source_of(alloc: Global, first: &[u8], second: &[u8]) -> Result<MemSource, AllocError> {
     Ok(MemSource::new(
         [first, second].concat(alloc)?,
@@ -146,7 +146,7 @@ fn is_covered(alloc: Global, row: &Row) -> Result<bool, AllocError> {
     Ok(counts.is_ok() && output.bytes() == row.output && report.bytes() == row.report)
 }
 
-// A file twice, and two that differ in the time of sending, both ways round: the one that was sent first is kept.
+// A file twice, and two that differ in the transmission time, both ways round: the one that was sent first is kept.
 // Two systems, in the order of rank, whatever comes first.
 #[test]
 fn merges_two_files(rt: HostRuntime) -> Result<(), Fail> {

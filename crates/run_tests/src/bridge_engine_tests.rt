@@ -1,5 +1,5 @@
 //! Whole captures: what a run over them lists, and what the assembly that keeps all parts makes of the parts that their
-//! lines bring.
+//! lines yield.
 
 ghost use Rattle.std.specs.Prelude.{◌≤◌};
 
@@ -24,7 +24,7 @@ use std::alloc::{AllocError, Global};
 use std::test::Fail;
 
 // The bytes of a capture that are taken with a short window: some 200 seconds.
-const FRONT: usize = 40_000;
+const PREFIX: usize = 40_000;
 
 // More bytes than a capture has.
 const WHOLE: usize = 4_000_000;
@@ -57,7 +57,7 @@ fn lines_of(alloc: Global, seed: u32, week: RefWeek, most: usize) -> Result<Vec<
     }
 }
 
-// Adds the parts that a line brings.
+// Adds the parts that a line yields.
 fn add_parts(
     item: &LineItem,
     halves: &mut Halves,
@@ -99,7 +99,7 @@ fn add_parts(
     Ok(())
 }
 
-// The parts that the lines bring.
+// The parts that the lines yield.
 fn parts_of(alloc: Global, lines: &[u8], window: u32) -> Result<Vec<Part>, AllocError>
     requires least { 60 ≤ window }
     requires most { window ≤ 14400 }
@@ -210,9 +210,9 @@ fn list_the_same(
 fn both_assemblies_list_the_same(rt: HostRuntime) -> Result<(), Fail> {
     let seeds: [u32; 5] = [1, 2, 3, 4, 5];
     for seed in seeds {
-        let front = list_the_same(rt.alloc(), seed, ONE_MINUTE, 60, FRONT)?;
+        let prefix = list_the_same(rt.alloc(), seed, ONE_MINUTE, 60, PREFIX)?;
         let whole = list_the_same(rt.alloc(), seed, TWO_HOURS, 7_200, WHOLE)?;
-        assert!(rt; front && whole);
+        assert!(rt; prefix && whole);
     }
     Ok(())
 }

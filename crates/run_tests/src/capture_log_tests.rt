@@ -1,7 +1,7 @@
 //! What readers answer, as events.
 
 use capture_log::{
-    Event, Refusal, lines_bring_what_is_heard, message_event, order_of_lines_is_nothing,
+    Event, Refusal, lines_yield_what_is_heard, message_event, order_of_lines_does_not_matter,
     subframe_event, taken_parts_are_heard, what_is_closed_stays, word_event,
 };
 use inav_word::WordFault;
@@ -14,15 +14,15 @@ use std::test::Fail;
 #[test]
 fn a_part_is_heard(rt: HostRuntime) -> Result<(), Fail> {
     let orbit = GpsOrbitB {
-        iode: U::from_digits(85),
-        cic: S::from_digits(0),
-        omega0: S::from_digits(0),
-        cis: S::from_digits(0),
-        i0: S::from_digits(0),
-        crc: S::from_digits(0),
-        omega: S::from_digits(0),
-        omega_dot: S::from_digits(0),
-        idot: S::from_digits(0),
+        iode: U::from_bits(85),
+        cic: S::from_bits(0),
+        omega0: S::from_bits(0),
+        cis: S::from_bits(0),
+        i0: S::from_bits(0),
+        crc: S::from_bits(0),
+        omega: S::from_bits(0),
+        omega_dot: S::from_bits(0),
+        idot: S::from_bits(0),
     };
     let part = Part {
         stamp: 6,
@@ -52,8 +52,8 @@ fn what_is_refused_and_what_is_not_used(rt: HostRuntime) -> Result<(), Fail> {
 #[test]
 fn laws_cost_nothing(rt: HostRuntime) -> Result<(), Fail> {
     taken_parts_are_heard();
-    lines_bring_what_is_heard();
-    order_of_lines_is_nothing();
+    lines_yield_what_is_heard();
+    order_of_lines_does_not_matter();
     what_is_closed_stays();
     assert!(rt; Event::Late != Event::Malformed);
     Ok(())

@@ -1,4 +1,4 @@
-//! Tests of the runs, each over memory: what a capture's lines bring, captures, streams, navigation files, archives of
+//! Tests of the runs, each over memory: what a capture's lines yield, captures, streams, navigation files, archives of
 //! them, generated captures, and the captures that are sent.
 //!
 //! They see what those crates hand out to everyone.

@@ -36,38 +36,38 @@ fn gps(iodc: u64, week: u32) -> Option<NavItem> {
     let clock = GpsClock {
         iodc: U::new(iodc)?,
         toc: Step16::new(0)?,
-        af2: S::from_digits(0),
-        af1: S::from_digits(0),
-        af0: S::from_digits(0),
-        tgd: S::from_digits(0),
+        af2: S::from_bits(0),
+        af1: S::from_bits(0),
+        af0: S::from_bits(0),
+        tgd: S::from_bits(0),
     };
     let side = GpsSide {
-        l2_code: U::from_digits(0),
-        ura: U::from_digits(0),
-        health: U::from_digits(0),
-        l2p: U::from_digits(0),
+        l2_code: U::from_bits(0),
+        ura: U::from_bits(0),
+        health: U::from_bits(0),
+        l2p: U::from_bits(0),
     };
     let a = GpsOrbitA {
-        iode: U::from_digits(0),
-        crs: S::from_digits(0),
-        delta_n: S::from_digits(0),
-        m0: S::from_digits(0),
-        cuc: S::from_digits(0),
-        e: U::from_digits(0),
-        cus: S::from_digits(0),
-        root_a: U::from_digits(0),
+        iode: U::from_bits(0),
+        crs: S::from_bits(0),
+        delta_n: S::from_bits(0),
+        m0: S::from_bits(0),
+        cuc: S::from_bits(0),
+        e: U::from_bits(0),
+        cus: S::from_bits(0),
+        root_a: U::from_bits(0),
         toe: Step16::new(0)?,
     };
     let b = GpsOrbitB {
-        iode: U::from_digits(0),
-        cic: S::from_digits(0),
-        omega0: S::from_digits(0),
-        cis: S::from_digits(0),
-        i0: S::from_digits(0),
-        crc: S::from_digits(0),
-        omega: S::from_digits(0),
-        omega_dot: S::from_digits(0),
-        idot: S::from_digits(0),
+        iode: U::from_bits(0),
+        cic: S::from_bits(0),
+        omega0: S::from_bits(0),
+        cis: S::from_bits(0),
+        i0: S::from_bits(0),
+        crc: S::from_bits(0),
+        omega: S::from_bits(0),
+        omega_dot: S::from_bits(0),
+        idot: S::from_bits(0),
     };
     let sat = Sat::new(System::Gps, 5)?;
     let sent = SentSecond::At(0);
@@ -76,7 +76,7 @@ fn gps(iodc: u64, week: u32) -> Option<NavItem> {
         clock,
         side,
         a,
-        U::from_digits(0),
+        U::from_bits(0),
         b,
         Week::new(week)?,
         sent,
@@ -86,47 +86,47 @@ fn gps(iodc: u64, week: u32) -> Option<NavItem> {
 
 // An ephemeris of E11 of issue 5, whose other numbers are 0 but for the accuracy.
 fn galileo(week: u32) -> Option<NavItem> {
-    let iodnav = U::from_digits(5);
+    let iodnav = U::from_bits(5);
     let w1 = GalWord1 {
         iodnav,
         toe: Step60::new(0)?,
-        m0: S::from_digits(0),
-        e: U::from_digits(0),
-        root_a: U::from_digits(0),
+        m0: S::from_bits(0),
+        e: U::from_bits(0),
+        root_a: U::from_bits(0),
     };
     let w2 = GalWord2 {
         iodnav,
-        omega0: S::from_digits(0),
-        i0: S::from_digits(0),
-        omega: S::from_digits(0),
-        idot: S::from_digits(0),
+        omega0: S::from_bits(0),
+        i0: S::from_bits(0),
+        omega: S::from_bits(0),
+        idot: S::from_bits(0),
     };
     let w3 = GalWord3 {
         iodnav,
-        omega_dot: S::from_digits(0),
-        delta_n: S::from_digits(0),
-        cuc: S::from_digits(0),
-        cus: S::from_digits(0),
-        crc: S::from_digits(0),
-        crs: S::from_digits(0),
+        omega_dot: S::from_bits(0),
+        delta_n: S::from_bits(0),
+        cuc: S::from_bits(0),
+        cus: S::from_bits(0),
+        crc: S::from_bits(0),
+        crs: S::from_bits(0),
         sisa: Sisa::new(107)?,
     };
     let w4 = GalWord4 {
         iodnav,
-        cic: S::from_digits(0),
-        cis: S::from_digits(0),
+        cic: S::from_bits(0),
+        cis: S::from_bits(0),
         toc: Step60::new(0)?,
-        af0: S::from_digits(0),
-        af1: S::from_digits(0),
-        af2: S::from_digits(0),
+        af0: S::from_bits(0),
+        af1: S::from_bits(0),
+        af2: S::from_bits(0),
     };
     let health = GalHealth {
-        bgd_a: S::from_digits(0),
-        bgd_b: S::from_digits(0),
-        hs_e5b: U::from_digits(0),
-        hs_e1b: U::from_digits(0),
-        dvs_e5b: U::from_digits(0),
-        dvs_e1b: U::from_digits(0),
+        bgd_a: S::from_bits(0),
+        bgd_b: S::from_bits(0),
+        hs_e5b: U::from_bits(0),
+        hs_e1b: U::from_bits(0),
+        dvs_e5b: U::from_bits(0),
+        dvs_e1b: U::from_bits(0),
     };
     let sat = Sat::new(System::Gal, 11)?;
     let sent = SentSecond::At(8);
@@ -172,7 +172,7 @@ fn sends_pages(rt: HostRuntime) -> Result<(), Fail> {
 struct Case {
     iodc: u64,
     week: u32,
-    near: u32,
+    reference_week: u32,
     slot: u32,
     want: Result<(), SendFault>,
 }
@@ -181,56 +181,56 @@ static CASES: [Case; 8] = [
     Case {
         iodc: 256,
         week: 2295,
-        near: 2295,
+        reference_week: 2295,
         slot: 198_841,
         want: Ok(()),
     },
     Case {
         iodc: 1,
         week: 2295,
-        near: 3000,
+        reference_week: 3000,
         slot: 198_842,
         want: Err(SendFault::Issue),
     },
     Case {
         iodc: 0,
         week: 2295,
-        near: 3000,
+        reference_week: 3000,
         slot: 198_842,
         want: Err(SendFault::Week),
     },
     Case {
         iodc: 0,
         week: 2295,
-        near: 2295,
+        reference_week: 2295,
         slot: 198_842,
         want: Err(SendFault::Room),
     },
     Case {
         iodc: 0,
         week: 1783,
-        near: 2295,
+        reference_week: 2295,
         slot: 0,
         want: Ok(()),
     },
     Case {
         iodc: 0,
         week: 1782,
-        near: 2295,
+        reference_week: 2295,
         slot: 0,
         want: Err(SendFault::Week),
     },
     Case {
         iodc: 0,
         week: 2806,
-        near: 2295,
+        reference_week: 2295,
         slot: 0,
         want: Ok(()),
     },
     Case {
         iodc: 0,
         week: 2807,
-        near: 2295,
+        reference_week: 2295,
         slot: 0,
         want: Err(SendFault::Week),
     },
@@ -239,7 +239,7 @@ static CASES: [Case; 8] = [
 // Whether the answer in a case is the one that is wanted.
 fn is_answered(case: &Case) -> Option<bool> {
     let _inside: Option<(GpsEph, GalEph, IonEph, IonContent)> = None;
-    let r = RefWeek::new(case.near)?;
+    let r = RefWeek::new(case.reference_week)?;
     let item = gps(case.iodc, case.week)?;
     if !is_ephemeris(&item) {
         return None;

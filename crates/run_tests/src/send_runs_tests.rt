@@ -50,7 +50,7 @@ fn sink_of(alloc: Global) -> Result<MemSink, AllocError> {
     MemSink::new(alloc, 2000, Vec::new(alloc))
 }
 
-// A file of either form, the week near which it is read, and what is made of it.
+// A file of either form, the reference week by which it is read, and what is made of it.
 #[derive(Clone, Copy)]
 struct Case {
     week: u32,

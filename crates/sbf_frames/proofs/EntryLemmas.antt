@@ -1,15 +1,15 @@
--- What stands in the table, by a test that computes.
+-- The entries of the table, by a test that computes.
 use Rattle.std.proofs.Common.{◌≡◌, ℕ, ◌*◌, ◌^◌, ◌<◌, true, get_or, refl, ap, ◌∙◌, zero-add}
-use Rattle.sbf_frames.specs.Register.{turned, shift}
+use Rattle.sbf_frames.specs.Register.{stepped, shift}
 use Rattle.sbf_frames.specs.declared.register.TheConstants.{MOVED_8}
 use Rattle.sbf_frames.proofs.TableLemmas.{are_entries, entry_is}
 
--- a byte at the head of the register, eight places on
+-- a byte at the head of the register, advanced by eight bits
 unfoldable pub moved : ℕ → ℕ
 moved byte = shift 8 (byte * 2 ^ 8)
 
 test_8 : are_entries moved 0 MOVED_8 ≡ true
-unfolding moved shift turned
+unfolding moved shift stepped
 test_8 = refl
 
 pub moved_8_is : (byte : ℕ) → byte < 256 → get_or MOVED_8 byte 0 ≡ shift 8 (byte * 2 ^ 8)

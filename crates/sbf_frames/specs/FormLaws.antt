@@ -1,4 +1,4 @@
--- The form of SBF is a heading.
+-- SBF has a heading.
 use Rattle.std.proofs.Common.{◌≡◌, ℕ, ◌+◌, ◌*◌, ◌%◌, ◌<◌, ◌≤◌, nat_le, cond, List, ◌++◌, length}
 use Rattle.std.proofs.Common.{get_or, ap, ◌∙◌, arith}
 use Rattle.std.proofs.lemmas.Bool.{cond_both, leb-true}
@@ -21,8 +21,8 @@ sbf_is_sync = record {
       (λ e. omega (arith, leb-true _ _ e)) (λ _. omega arith);
   most = λ xs. cond_both (nat_le 8 (announced xs)) (announced xs) 8 (λ n. n ≤ 65535)
       (λ _. omega arith) (λ _. omega arith);
-  size_front = λ xs ys h. ap (λ n. cond (nat_le 8 n) n 8) (announced-append xs ys h);
-  fits_front = λ xs ys h. ap may_be (announced-append xs ys h);
+  size_prefix = λ xs ys h. ap (λ n. cond (nat_le 8 n) n 8) (announced-append xs ys h);
+  fits_prefix = λ xs ys h. ap may_be (announced-append xs ys h);
 }
 
 pub sbf_is_heading : IsHeading sbf

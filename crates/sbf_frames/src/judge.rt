@@ -1,4 +1,4 @@
-//! Which bytes are a block of SBF.
+//! SBF as a format of `framing`.
 
 ghost use Rattle.std.specs.Prelude.{◌≡◌, ◌+◌, ◌≤◌, List, ℕ, length, take, drop, slice_index};
 ghost use Rattle.sbf_frames.specs.Form.{announced, may_be as is_length, sbf};
@@ -10,16 +10,16 @@ use crate::states::{Powers, begin_states, cut_states, extend, has_right_crc, has
 use arrayvec::ArrayVec;
 use framing::{Deframer, Judge};
 
-/// The blocks of SBF in bytes that come in pieces.
+/// Finds SBF blocks in bytes that come in pieces.
 pub type SbfDeframer = Deframer<SbfJudge>;
 
-/// Judges blocks of SBF.
+/// Checks SBF blocks.
 ///
-/// Beside the bytes stand the registers of their CRC, as far as the CRC of a block by itself was
-/// wrong, so that good blocks never pay for them, and no byte is gone over twice.
+/// Once a block has failed its CRC, keeps the CRC register after each byte up to its end, so that no
+/// byte is processed twice; valid blocks need none.
 #[derive(Drop)]
 pub struct SbfJudge {
-    // the register before each byte, up to some byte
+    // the CRC register before each byte read so far, from an arbitrary start
     states: ArrayVec<u16, 98_305>,
     powers: Powers,
 }
@@ -72,7 +72,7 @@ impl Judge for SbfJudge {
         has_right_crc_by(self.states.as_slice(), &mut self.powers, bytes, place, size)
     }
 
-    fn cut_front(&mut self, count: usize) {
+    fn cut_prefix(&mut self, count: usize) {
         cut_states(&mut self.states, count);
     }
 
@@ -83,7 +83,7 @@ impl Judge for SbfJudge {
     ghost stays = { λ judge xs ys. states_stay xs ys judge.states.items };
 }
 
-// The length that the header of these bytes tells.
+// The block length in this header.
 fn told(bytes: &[u8]) -> usize
     requires { 8 ≤ length bytes.now }
     ensures { result ≡ announced bytes.now }
@@ -91,7 +91,7 @@ fn told(bytes: &[u8]) -> usize
     bytes[7] as usize * 256 + bytes[6] as usize
 }
 
-// Whether it is one of a block.
+// Whether a block can have this length.
 fn may_be(length: usize) -> bool
     ensures { result ≡ is_length length }
 {

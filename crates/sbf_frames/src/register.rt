@@ -1,11 +1,11 @@
-//! The register of the CRC, a byte at a time, and moved past bytes that are 0.
+//! The CRC register: one more byte, and advance over zero bytes.
 
 ghost use Rattle.std.specs.Prelude.{◌≡◌, ℕ, ◌+◌, ◌*◌, ◌%◌, ◌^◌, ◌<◌};
-ghost use Rattle.sbf_frames.specs.Register.{crc_from, shift, turned, with_byte_of};
+ghost use Rattle.sbf_frames.specs.Register.{crc_from, shift, stepped, with_byte_of};
 
 const GENERATOR: u32 = 0x11021;
 
-// The register with one more byte.
+// The register after one more byte.
 pub fn with_byte(state: u32, byte: u8) -> u32
     requires { state < 2 ^ 16 }
     ensures value { result ≡ with_byte_of state byte }
@@ -14,7 +14,7 @@ pub fn with_byte(state: u32, byte: u8) -> u32
     moved_8((state >> 8) as u8 ^ byte) ^ (state & 0xff) << 8
 }
 
-// The register from 0 on after all of the bytes.
+// The CRC of the bytes.
 pub fn crc_of(bytes: &[u8]) -> u32
     ensures value { result ≡ crc_from 0 bytes.now }
     ensures fits { result < 2 ^ 16 }
@@ -26,7 +26,7 @@ pub fn crc_of(bytes: &[u8]) -> u32
     state
 }
 
-// The register after so many bytes 0, going on from this one, by the power of x that they are.
+// The register after n zero bits, where `power` is x^n modulo the generator.
 pub fn moved_by(state: u32, power: u32) -> u32
     requires state { state < 2 ^ 16 }
     requires power { power < 2 ^ 16 }
@@ -34,13 +34,13 @@ pub fn moved_by(state: u32, power: u32) -> u32
 {
     let mut sum = 0;
     for k in 0..16u32 {
-        sum = moved_1(sum) ^ digit_times(state >> (15 - k), power);
+        sum = moved_1(sum) ^ bit_times(state >> (15 - k), power);
     }
     sum
 }
 
-// The last digit of a number, times a register.
-fn digit_times(number: u32, power: u32) -> u32
+// The lowest bit of `number` times `power`.
+fn bit_times(number: u32, power: u32) -> u32
     requires { power < 2 ^ 16 }
     ensures value { result ≡ number % 2 * power }
     ensures fits { result < 2 ^ 16 }
@@ -48,10 +48,10 @@ fn digit_times(number: u32, power: u32) -> u32
     number % 2 * power
 }
 
-// x times a register.
+// x times the register, modulo the generator.
 pub fn moved_1(state: u32) -> u32
     requires { state < 2 ^ 16 }
-    ensures value { result ≡ turned state }
+    ensures value { result ≡ stepped state }
     ensures fits { result < 2 ^ 16 }
 {
     let longer = state << 1;
@@ -62,7 +62,7 @@ pub fn moved_1(state: u32) -> u32
     }
 }
 
-// x^8 times the byte at the head of the register.
+// x^8 times the high byte of the register, modulo the generator.
 fn moved_8(byte: u8) -> u32
     ensures { result ≡ shift 8 (byte * 2 ^ 8) }
 {

@@ -1,4 +1,4 @@
--- The columns of a text: how many there are, that each is shown, and that the last has a digit.
+-- The columns of a text: their number, that each is printable, and that the last is a digit.
 use Rattle.std.proofs.Common.{◌≡◌, ℕ, zero, suc, ◌+◌, ◌/◌, ◌%◌, ◌^◌, ◌≤◌, List, [], ◌∷◌, ◌++◌, length, refl, sym, ap, ◌∙◌, arith, ℤ, pos, negsuc, unsigned_abs, length-append, append_assoc}
 use Rattle.scaled_decimal.specs.Fractions.{Fraction}
 use Rattle.scaled_decimal.specs.NumberText.{Parts, digits, body, exponent_sign, exponent_text, sign_column, parts_at, number_text, AreShown, EndsInDigit}
@@ -62,16 +62,16 @@ AreShown-number_text s z = (shown_sign z, AreShown-body (parts_at s (unsigned_ab
 
 ends_behind : (xs ys : List ℕ) → EndsInDigit ys → EndsInDigit (xs ++ ys)
 ends_behind xs ys h = record {
-  front = xs ++ h.front;
+  prefix = xs ++ h.prefix;
   last = h.last;
-  text_is = ap (λ zs. xs ++ zs) h.text_is ∙ sym (append_assoc xs h.front (h.last ∷ []));
+  text_is = ap (λ zs. xs ++ zs) h.text_is ∙ sym (append_assoc xs h.prefix (h.last ∷ []));
   from = h.from;
   to = h.to;
 }
 
 ends_digits : (k n : ℕ) → EndsInDigit (digits (suc k) n)
 unfolding digits
-ends_digits k n = record { front = digits k (n / 10); last = 48 + n % 10; text_is = refl; from = omega arith; to = omega arith }
+ends_digits k n = record { prefix = digits k (n / 10); last = 48 + n % 10; text_is = refl; from = omega arith; to = omega arith }
 
 ends_exponent : (z : ℤ) → EndsInDigit (exponent_text z)
 ends_exponent z = ends_behind (exponent_sign z ∷ []) (digits 2 (unsigned_abs z)) (ends_digits 1 (unsigned_abs z))

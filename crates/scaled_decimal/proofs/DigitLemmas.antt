@@ -4,7 +4,7 @@ use Rattle.std.proofs.Math.Nat.{div-div-eq-div-mul}
 use Rattle.std.proofs.lemmas.Nat.{pow-add, div-add-mod'}
 use Rattle.scaled_decimal.specs.NumberText.{digits}
 
--- the last digits do not see what stands before them
+-- the last digits do not depend on higher ones
 digits_behind : (k q r : ℕ) → digits k (q * 10 ^ k + r) ≡ digits k r
 unfolding digits
 digits_behind zero q r = refl
@@ -12,9 +12,9 @@ digits_behind (suc k) q r =
     let power : 10 ^ suc k ≡ 10 ^ k * 10 ^ 1 = ap (λ n. 10 ^ n) (omega arith) ∙ pow-add 10 k 1 in
     let more : q * 10 ^ suc k ≡ q * (10 ^ k * 10 ^ 1) = ap (λ n. q * n) power in
     let tens : q * 10 ^ suc k + r ≡ (q * 10 ^ k) * 10 + r = omega arith in
-    let front : (q * 10 ^ suc k + r) / 10 ≡ q * 10 ^ k + r / 10 = omega arith in
+    let prefix : (q * 10 ^ suc k + r) / 10 ≡ q * 10 ^ k + r / 10 = omega arith in
     let last : (q * 10 ^ suc k + r) % 10 ≡ r % 10 = omega arith in
-    ap₂ (λ n d. digits k n ++ (48 + d) ∷ []) front last
+    ap₂ (λ n d. digits k n ++ (48 + d) ∷ []) prefix last
     ∙ ap (λ t. t ++ (48 + r % 10) ∷ []) (digits_behind k q (r / 10))
 
 six_on : (n : ℕ) → n / 10 / 10 / 10 / 10 / 10 / 10 ≡ n / 10 ^ 6
@@ -40,7 +40,7 @@ unfolding digits
 six n a b c d e f ea eb ec ed ee ef =
     ap₂ (λ x t. x ∷ t) ea (ap₂ (λ x t. x ∷ t) eb (ap₂ (λ x t. x ∷ t) ec (ap₂ (λ x t. x ∷ t) ed (ap₂ (λ x y. x ∷ y ∷ []) ee ef))))
 
--- the pieces of a text, put together
+-- a text assembled from its pieces
 pub assembled : (sign plus m n k first x y : ℕ) (s t : List ℕ) → first ≡ 48 + m % 10 → s ≡ digits 6 (n / 10 ^ 6) → t ≡ digits 6 (n % 10 ^ 6)
     → x ≡ 48 + k / 10 % 10 → y ≡ 48 + k % 10
     → sign ∷ first ∷ 46 ∷ get_or s 0 0 ∷ get_or s 1 0 ∷ get_or s 2 0 ∷ get_or s 3 0 ∷ get_or s 4 0 ∷ get_or s 5 0

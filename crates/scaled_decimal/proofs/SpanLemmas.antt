@@ -1,4 +1,4 @@
--- Digits that were written are read back, and so is the body of a text.
+-- Written digits are read back, and so is the body of a text.
 use Rattle.std.proofs.Common.{◌≡◌, ℕ, zero, suc, ◌+◌, ◌-◌, ◌*◌, ◌/◌, ◌%◌, ◌^◌, ◌<◌, ◌≤◌, Bool, true, false, ◌&&◌, nat_le, if◌then◌else◌, List, [], ◌∷◌, ◌++◌, Some, None, Option, option_map, sym, ap, ◌∙◌, arith, ℤ, pos, negsuc, ◌-ℤ◌, ◌≤ℤ◌, append_assoc, append-nil, pow-suc, le-leb}
 use Rattle.std.proofs.lemmas.Int.{ints}
 use Rattle.scaled_decimal.specs.NumberText.{Parts, digits, body, exponent_text}
@@ -17,10 +17,10 @@ span-digits zero n k m tail h =
 span-digits (suc j) n k m tail h =
     let power : 10 ^ suc j ≡ 10 ^ j * 10 = pow-suc 10 j in
     let product : n * 10 ^ suc j ≡ n * (10 ^ j * 10) = ap (λ i. n * i) power in
-    let front = span-digits j n k (m / 10) ((48 + m % 10) ∷ tail) (omega arith) in
+    let prefix = span-digits j n k (m / 10) ((48 + m % 10) ∷ tail) (omega arith) in
     let number : (n * 10 ^ j + m / 10) * 10 + (48 + m % 10 - 48) ≡ n * 10 ^ suc j + m = omega arith in
     let count : k + j + 1 ≡ k + suc j = omega arith in
-    ap (span n k) (append_assoc (digits j (m / 10)) ((48 + m % 10) ∷ []) tail) ∙ front
+    ap (span n k) (append_assoc (digits j (m / 10)) ((48 + m % 10) ∷ []) tail) ∙ prefix
     ∙ ap (λ b. if b then span ((n * 10 ^ j + m / 10) * 10 + (48 + m % 10 - 48)) (k + j + 1) tail
     else record { number = n * 10 ^ j + m / 10; count = k + j; rest = (48 + m % 10) ∷ tail }) (digit_is (m % 10) (omega arith))
     ∙ ap (λ i. span i (k + j + 1) tail) number ∙ ap (λ i. span (n * 10 ^ suc j + m) i tail) count
@@ -44,7 +44,7 @@ read_from m =
 abbrev after_span : Span → Mantissa
 after_span s = after_whole s.number s.count s.rest
 
--- thirteen digits with a point after the first are read as the number that they are
+-- thirteen digits with a point after the first are read as their number
 mantissa_read : (n : ℕ) (tail : List ℕ) → n < 10 ^ 13
     → mantissa (digits 1 (n / 10 ^ 12) ++ 46 ∷ (digits 12 (n % 10 ^ 12) ++ 68 ∷ tail)) ≡ record { number = n; count = 13; places = 12; rest = 68 ∷ tail }
 mantissa_read n tail h =
@@ -59,7 +59,7 @@ reading_body p h =
     ap read_from (mantissa_read p.digits (exponent_text p.exponent) h.digits)
     ∙ ap (option_map (λ e. record { digits = p.digits; exponent = e -ℤ pos 12 })) (exponent_read p.exponent h.from h.to)
 
--- a mantissa of 1 to 18 digits and an exponent are a reading
+-- a mantissa of 1 to 18 digits and an exponent give a value
 pub reading_is : (text : List ℕ) (m : Mantissa) (e x : ℤ) → m ≡ mantissa text → 1 ≤ m.count → m.count ≤ 18 → exponent_after m.rest ≡ Some e
     → x ≡ e -ℤ pos m.places → reading text ≡ Some (record { digits = m.number; exponent = x })
 reading_is text m e x is from to after exponent =

@@ -1,4 +1,4 @@
--- What is given next, and what the assembly stands for then.
+-- The next period given, and what the assembly stands for then.
 use Rattle.std.proofs.Common.{◌≡◌, ℕ, ◌+◌, ◌≤◌, inl, inr, Bool, true, false, cond, List, Option, None, Some, Contains, refl, sym, ap, subst, ◌∙◌, arith}
 use Rattle.std.specs.BTreeMap.{is_at}
 use Rattle.std.specs.List.Sorted.{IsStrictlySortedBy}
@@ -32,8 +32,8 @@ use Rattle.slot_assembly.proofs.KeptLemmas.{chosen_best}
 use Rattle.slot_assembly.proofs.KnownLemmas.{IsFirst, compares_kept, are_known_given}
 
 -- the first due slot is that of the first due period
-first_is : (s : SlotsState) (at : Standing) (mark : ℕ) (slot : Slot) → SlotsStandFor s at → IsFirstDue s.slots s.window mark (Some slot) → IsFirst s.window (Contains at.parts) mark at.last (slot_place slot)
-first_is s at mark slot h f =
+first_is : (s : SlotsState) (at : Standing) (watermark : ℕ) (slot : Slot) → SlotsStandFor s at → IsFirstDue s.slots s.window watermark (Some slot) → IsFirst s.window (Contains at.parts) watermark at.last (slot_place slot)
+first_is s at watermark slot h f =
     let k = h.slots.each slot f.0.here in
     record {
       period = k.period;
@@ -44,27 +44,27 @@ first_is s at mark slot h f =
           f.0.least g.0 g.1 (subst (λ (x : Place). IsBefore x (slot_place slot)) (sym g.2) b);
     }
 
--- its window reaches the mark at which there was none
+-- its window reaches the watermark at which there was none
 reaches : (w n : ℕ) (parts : Part → Type 0) (last : Option Place) (q : Place) → NoneDue w parts n last → IsPeriod w parts q → IsAfter last q → n ≤ q.end + w
 reaches w n parts last q none h a = elim (cases_lt (q.end + w) n) [ inl l ↦ absurd (none q (record { period = h; low = l; after = a })) | inr l ↦ l ]
 
--- what it comes to
-found_is : (s : SlotsState) (at : Standing) (mark : ℕ) (slot : Slot) (health : Option Health) → SlotsStandFor s at → IsFirstDue s.slots s.window mark (Some slot) → IsChosen s.heard s.window slot.key slot.end health
+-- its finding
+found_is : (s : SlotsState) (at : Standing) (watermark : ℕ) (slot : Slot) (health : Option Health) → SlotsStandFor s at → IsFirstDue s.slots s.window watermark (Some slot) → IsChosen s.heard s.window slot.key slot.end health
     → IsFound s.reference s.window (Contains at.parts) (slot_place slot) (digest_finding s.reference slot.key slot.digest health)
-found_is s at mark slot health h f c =
+found_is s at watermark slot health h f c =
     let k = h.slots.each slot f.0.here in
     let parts = Contains at.parts in
     let near = reaches s.window s.none_at parts at.last (slot_place slot) h.none_due k.period k.after in
     digest_finding-is s.reference slot.key (IsMember s.window parts (slot_place slot)) (IsUpToEnd s.window parts slot.key slot.end) (IsBehindEnd s.window parts slot.key slot.end) slot.digest health k.digest
     (chosen_best s.window s.none_at parts s.heard slot.key slot.end health h.kept near c)
 
-pub next_is : (s : SlotsState) (at : Standing) (mark : ℕ) (slot : Slot) (health : Option Health) → SlotsStandFor s at → IsFirstDue s.slots s.window mark (Some slot) → IsChosen s.heard s.window slot.key slot.end health
-    → IsNext s.reference s.window (Contains at.parts) mark at.last
+pub next_is : (s : SlotsState) (at : Standing) (watermark : ℕ) (slot : Slot) (health : Option Health) → SlotsStandFor s at → IsFirstDue s.slots s.window watermark (Some slot) → IsChosen s.heard s.window slot.key slot.end health
+    → IsNext s.reference s.window (Contains at.parts) watermark at.last
     (record { end = slot.end; key = slot.key; verdict = verdict_of (known_for slot.key s.known) (digest_finding s.reference slot.key slot.digest health) })
-next_is s at mark slot health h f c =
+next_is s at watermark slot health h f c =
     let q = slot_place slot in
     let parts = Contains at.parts in
-    let one = first_is s at mark slot h f in
+    let one = first_is s at watermark slot h f in
     let finding = digest_finding s.reference slot.key slot.digest health in
     let values = all_values at.parts h.values in
     record {
@@ -73,17 +73,17 @@ next_is s at mark slot health h f c =
         period = one.period;
         verdict = record {
           finding = finding;
-          found = found_is s at mark slot health h f c;
-          judged = judged_by (Repeats s.reference s.window parts q) (known_for slot.key s.known) finding (compares_kept s.reference s.window mark parts at.last q one s.known values h.known);
+          found = found_is s at watermark slot health h f c;
+          judged = judged_by (Repeats s.reference s.window parts q) (known_for slot.key s.known) finding (compares_kept s.reference s.window watermark parts at.last q one s.known values h.known);
         };
       };
       least = one.least;
     }
 
--- the slots that are left
-slots_given : (s : SlotsState) (at : Standing) (mark : ℕ) (slot : Slot) (slots : List (ByEnd × PackedSlot)) → SlotsStandFor s at → IsFirstDue s.slots s.window mark (Some slot) → IsChanged s.slots (at_of slot) None slots
+-- the number of slots left
+slots_given : (s : SlotsState) (at : Standing) (watermark : ℕ) (slot : Slot) (slots : List (ByEnd × PackedSlot)) → SlotsStandFor s at → IsFirstDue s.slots s.window watermark (Some slot) → IsChanged s.slots (at_of slot) None slots
     → AreSlots s.window (Contains at.parts) (Some (slot_place slot)) slots
-slots_given s at mark slot slots h f c =
+slots_given s at watermark slot slots h f c =
     let values = all_values at.parts h.values in
     let key : (x : Slot) → IsOpen s.slots x → IsKeyValue x.key = λ x i. period_key s.window (Contains at.parts) (slot_place x) values (h.slots.each x i).period in
     record {
@@ -117,25 +117,25 @@ slots_given s at mark slot slots h f c =
           ]
         ]
 
-pub stands_given : (s : SlotsState) (at : Standing) (mark : ℕ) (slot : Slot) (health : Option Health) (finding : Finding) (slots : List (ByEnd × PackedSlot)) (ends : List ByKey) (known : List (Rank × NavItem)) → SlotsStandFor s at
-    → at.mark ≤ mark → IsFirstDue s.slots s.window mark (Some slot) → IsChosen s.heard s.window slot.key slot.end health → finding ≡ digest_finding s.reference slot.key slot.digest health
+pub stands_given : (s : SlotsState) (at : Standing) (watermark : ℕ) (slot : Slot) (health : Option Health) (finding : Finding) (slots : List (ByEnd × PackedSlot)) (ends : List ByKey) (known : List (Rank × NavItem)) → SlotsStandFor s at
+    → at.watermark ≤ watermark → IsFirstDue s.slots s.window watermark (Some slot) → IsChosen s.heard s.window slot.key slot.end health → finding ≡ digest_finding s.reference slot.key slot.digest health
     → IsChanged s.slots (at_of slot) None slots → AreIndexed slots ends → IsRemembered s.known (rank_of slot.key) (item_to_keep slot.key finding) known → IsStrictlySortedBy rank_cmp.it (keys_of known)
-    → SlotsStandFor (record { reference = s.reference; window = s.window; slots = slots; ends = ends; heard = s.heard; stamps = s.stamps; mark = mark; last = Some (slot_place slot); none_at = s.none_at; known = known })
-    (giving mark (slot_place slot) at)
-stands_given s at mark slot health finding slots ends known h l f c e gone i kept o =
+    → SlotsStandFor (record { reference = s.reference; window = s.window; slots = slots; ends = ends; heard = s.heard; stamps = s.stamps; watermark = watermark; last = Some (slot_place slot); none_at = s.none_at; known = known })
+    (giving watermark (slot_place slot) at)
+stands_given s at watermark slot health finding slots ends known h l f c e gone i kept o =
     let q = slot_place slot in
     let parts = Contains at.parts in
-    let one = first_is s at mark slot h f in
+    let one = first_is s at watermark slot h f in
     let values = all_values at.parts h.values in
-    let found = subst (IsFound s.reference s.window parts q) (sym e) (found_is s at mark slot health h f c) in
+    let found = subst (IsFound s.reference s.window parts q) (sym e) (found_is s at watermark slot health h f c) in
     record {
-      slots = slots_given s at mark slot slots h f gone;
+      slots = slots_given s at watermark slot slots h f gone;
       indexed = i;
       kept = h.kept;
       stamped = h.stamped;
-      known = are_known_given s.reference s.window mark parts at.last q one finding (item_to_keep slot.key finding) s.known known values found refl kept h.known;
+      known = are_known_given s.reference s.window watermark parts at.last q one finding (item_to_keep slot.key finding) s.known known values found refl kept h.known;
       known_ordered = o;
-      at_mark = refl;
+      at_watermark = refl;
       at_last = refl;
       given = f.1;
       none_due = NoneDue-give s.window s.none_at parts at.last q one.after h.none_due;

@@ -1,4 +1,4 @@
--- The items that are kept: after parts taken, what they say of the next period, and after a period given.
+-- The stored items: after parts are taken, in the verdict on the next period, and after a period is given.
 use Rattle.std.proofs.Common.{◌≡◌, ℕ, ◌+◌, ◌<◌, ◌≤◌, ◌⊎◌, inl, inr, Bool, true, false, cond, List, Option, None, Some, IsSome, refl, sym, ap, subst, ◌∙◌, arith, rules}
 use Rattle.std.specs.BTreeMap.{is_at}
 use Rattle.std.proofs.lemmas.Bool.{both_ways, cases_lt}
@@ -67,22 +67,22 @@ keeps_none (GpsIon c) f item e h k = h
 keeps_none (GalIon c) f item e h k = h
 
 -- later parts
-given_low : (w mark : ℕ) (last : Option Place) (q : Place) → GivenBelow w mark last → IsGiven last q → q.end + w < mark
-given_low w mark last q g h = elim (cases_lt (q.end + w) mark) [ inl l ↦ l | inr l ↦ absurd (h (after_low w mark last q g l)) ]
+given_low : (w watermark : ℕ) (last : Option Place) (q : Place) → GivenBelow w watermark last → IsGiven last q → q.end + w < watermark
+given_low w watermark last q g h = elim (cases_lt (q.end + w) watermark) [ inl l ↦ l | inr l ↦ absurd (h (after_low w watermark last q g l)) ]
 
-known_later : (r w mark : ℕ) (old new : Part → Type 0) (last : Option Place) (key : Key) (o : Option NavItem) → AreLater mark old new → GivenBelow w mark last → IsKnownGiven r w old last key o → IsKnownGiven r w new last key o
-known_later r w mark old new last key None l g h = λ eph f item c k. h eph f item (IsComplete-was r w mark old new key f item l (given_low w mark last (end_place key f) g k) c) k
-known_later r w mark old new last key (Some item) l g h = record {
+known_later : (r w watermark : ℕ) (old new : Part → Type 0) (last : Option Place) (key : Key) (o : Option NavItem) → AreLater watermark old new → GivenBelow w watermark last → IsKnownGiven r w old last key o → IsKnownGiven r w new last key o
+known_later r w watermark old new last key None l g h = λ eph f item c k. h eph f item (IsComplete-was r w watermark old new key f item l (given_low w watermark last (end_place key f) g k) c) k
+known_later r w watermark old new last key (Some item) l g h = record {
   ephemeris = h.ephemeris;
   at = h.at;
-  complete = IsComplete-keeps r w mark old new key h.at item l (given_low w mark last (end_place key h.at) g h.given) h.complete;
+  complete = IsComplete-keeps r w watermark old new key h.at item l (given_low w watermark last (end_place key h.at) g h.given) h.complete;
   given = h.given;
-  greatest = λ f other c k. h.greatest f other (IsComplete-was r w mark old new key f other l (given_low w mark last (end_place key f) g k) c) k;
+  greatest = λ f other c k. h.greatest f other (IsComplete-was r w watermark old new key f other l (given_low w watermark last (end_place key f) g k) c) k;
 }
 
-pub are_known_later : (r w mark : ℕ) (old new : Part → Type 0) (last : Option Place) (known : Items) → AreLater mark old new → GivenBelow w mark last → AreKnown r w old last known → AreKnown r w new last known
-are_known_later r w mark old new last known l g h = record {
-  each = λ key. known_later r w mark old new last key (known_at known (rank_of key)) l g (h.each key);
+pub are_known_later : (r w watermark : ℕ) (old new : Part → Type 0) (last : Option Place) (known : Items) → AreLater watermark old new → GivenBelow w watermark last → AreKnown r w old last known → AreKnown r w new last known
+are_known_later r w watermark old new last known l g h = record {
+  each = λ key. known_later r w watermark old new last key (known_at known (rank_of key)) l g (h.each key);
   only = h.only;
 }
 
@@ -93,14 +93,14 @@ are_known_same r w parts last known known' same h = record {
   only = λ x i. h.only x (subst IsSome (same x) i);
 }
 
--- the first due period: those of its key that end before it are those that were given
-pub record IsFirst (w : ℕ) (parts : Part → Type 0) (mark : ℕ) (last : Option Place) (q : Place) : Type 0 where
+-- the first due period: the key's periods that end before it are those that were given
+pub record IsFirst (w : ℕ) (parts : Part → Type 0) (watermark : ℕ) (last : Option Place) (q : Place) : Type 0 where
   pub period : IsPeriod w parts q
-  pub low : q.end + w < mark
+  pub low : q.end + w < watermark
   pub after : IsAfter last q
-  pub least : (z : Place) → IsDue w parts mark last z → IsBefore z q → ⊥
+  pub least : (z : Place) → IsDue w parts watermark last z → IsBefore z q → ⊥
 
-module _ (r w mark : ℕ) (parts : Part → Type 0) (last : Option Place) (q : Place) (first : IsFirst w parts mark last q) where
+module _ (r w watermark : ℕ) (parts : Part → Type 0) (last : Option Place) (q : Place) (first : IsFirst w parts watermark last q) where
   before_given : (z : Place) → IsPeriod w parts z → z.end ≤ q.end → IsBefore z q → IsGiven last z
   before_given z h l b = λ a. first.least z (record { period = h; low = omega (arith, first.low); after = a }) b
 

@@ -1,5 +1,5 @@
 mod GivenLemmas
-mod SettleLemmas
+mod FlushLemmas
 pub mod Surface
 mod RankOrder
 mod Changes

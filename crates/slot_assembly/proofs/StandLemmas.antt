@@ -32,7 +32,7 @@ use Rattle.slot_assembly.proofs.KnownLemmas.{are_known_later, are_known_same}
 abbrev SlotList : Type 0
 SlotList = List (ByEnd × PackedSlot)
 
--- where memory is wanting
+-- where memory runs out
 slots_same : (w : ℕ) (parts : Part → Type 0) (last : Option Place) (old new : SlotList) → AreSameSlots old new → AreSlots w parts last old → AreSlots w parts last new
 slots_same w parts last old new same h = record {
   each = λ s i. h.each s (sym (same (at_of s)) ∙ i);
@@ -46,10 +46,10 @@ kept_same w n parts old new same h = record {
   every = λ sat v i l. same _ ∙ h.every sat v i l;
 }
 
--- the same parts, mark and period given last, with other content that stands for them
+-- the same parts, watermark and last period given, with another store that stands for them
 stands_as : (s : SlotsState) (at : Standing) (slots : SlotList) (ends : List ByKey) (heard : HeardList) (stamps : List ByStamp) (known : List (Rank × NavItem)) → AreSlots s.window (Contains at.parts) at.last slots → AreIndexed slots ends
     → AreKept s.window s.none_at (Contains at.parts) heard → AreStamped heard stamps → AreKnown s.reference s.window (Contains at.parts) at.last known → IsStrictlySortedBy rank_cmp.it (keys_of known) → SlotsStandFor s at
-    → SlotsStandFor (record { reference = s.reference; window = s.window; slots = slots; ends = ends; heard = heard; stamps = stamps; mark = s.mark; last = s.last; none_at = s.none_at; known = known }) at
+    → SlotsStandFor (record { reference = s.reference; window = s.window; slots = slots; ends = ends; heard = heard; stamps = stamps; watermark = s.watermark; last = s.last; none_at = s.none_at; known = known }) at
 stands_as s at slots ends heard stamps known are_slots indexed kept stamped are_known known_ordered h = record {
   slots = are_slots;
   indexed = indexed;
@@ -57,7 +57,7 @@ stands_as s at slots ends heard stamps known are_slots indexed kept stamped are_
   stamped = stamped;
   known = are_known;
   known_ordered = known_ordered;
-  at_mark = h.at_mark;
+  at_watermark = h.at_watermark;
   at_last = h.at_last;
   given = h.given;
   none_due = h.none_due;
@@ -66,22 +66,22 @@ stands_as s at slots ends heard stamps known are_slots indexed kept stamped are_
 }
 
 pub stands_slots : (s : SlotsState) (at : Standing) (slots : SlotList) (ends : List ByKey) → AreSameSlots s.slots slots → AreIndexed slots ends → SlotsStandFor s at
-    → SlotsStandFor (record { reference = s.reference; window = s.window; slots = slots; ends = ends; heard = s.heard; stamps = s.stamps; mark = s.mark; last = s.last; none_at = s.none_at; known = s.known }) at
+    → SlotsStandFor (record { reference = s.reference; window = s.window; slots = slots; ends = ends; heard = s.heard; stamps = s.stamps; watermark = s.watermark; last = s.last; none_at = s.none_at; known = s.known }) at
 stands_slots s at slots ends same i h =
     stands_as s at slots ends s.heard s.stamps s.known (slots_same s.window (Contains at.parts) at.last s.slots slots same h.slots) i h.kept h.stamped h.known h.known_ordered h
 
 pub stands_healths : (s : SlotsState) (at : Standing) (heard : HeardList) (stamps : List ByStamp) → IsSameHealth s.heard heard → AreStamped heard stamps → SlotsStandFor s at
-    → SlotsStandFor (record { reference = s.reference; window = s.window; slots = s.slots; ends = s.ends; heard = heard; stamps = stamps; mark = s.mark; last = s.last; none_at = s.none_at; known = s.known }) at
+    → SlotsStandFor (record { reference = s.reference; window = s.window; slots = s.slots; ends = s.ends; heard = heard; stamps = stamps; watermark = s.watermark; last = s.last; none_at = s.none_at; known = s.known }) at
 stands_healths s at heard stamps same i h =
     stands_as s at s.slots s.ends heard stamps s.known h.slots h.indexed (kept_same s.window s.none_at (Contains at.parts) s.heard heard same h.kept) i h.known h.known_ordered h
 
 pub stands_known : (s : SlotsState) (at : Standing) (known : List (Rank × NavItem)) → AreSameItems s.known known → IsStrictlySortedBy rank_cmp.it (keys_of known) → SlotsStandFor s at
-    → SlotsStandFor (record { reference = s.reference; window = s.window; slots = s.slots; ends = s.ends; heard = s.heard; stamps = s.stamps; mark = s.mark; last = s.last; none_at = s.none_at; known = known }) at
+    → SlotsStandFor (record { reference = s.reference; window = s.window; slots = s.slots; ends = s.ends; heard = s.heard; stamps = s.stamps; watermark = s.watermark; last = s.last; none_at = s.none_at; known = known }) at
 stands_known s at known same i h =
     stands_as s at s.slots s.ends s.heard s.stamps known h.slots h.indexed h.kept h.stamped (are_known_same s.reference s.window (Contains at.parts) at.last s.known known same h.known) i h
 
--- a part of a key taken
-are_taken : (s : SlotsState) (at : Standing) (p : Part) (one : Slot) (slots : SlotList) → SlotsStandFor s at → at.mark ≤ p.stamp → IsPartValue p → IsOneSlot p one → IsTaken s.slots one s.window slots
+-- taking a part of a key
+are_taken : (s : SlotsState) (at : Standing) (p : Part) (one : Slot) (slots : SlotList) → SlotsStandFor s at → at.watermark ≤ p.stamp → IsPartValue p → IsOneSlot p one → IsTaken s.slots one s.window slots
     → AreSlots s.window (Contains (at.parts ++ p ∷ [])) at.last slots
 are_taken s at p one slots h l v k t =
     let w = s.window in
@@ -99,31 +99,31 @@ are_taken s at p one slots h l v k t =
       own = h.indexed.own;
       value = key_value p one.key v k.key;
       values = λ x i. period_key w old (slot_place x) values (h.slots.each x i).period;
-      behind = λ q i g. after_low w at.mark at.last q h.given (omega arith);
-      behind_new = λ q g. after_low w at.mark at.last q h.given (omega arith);
+      behind = λ q i g. after_low w at.watermark at.last q h.given (omega arith);
+      behind_new = λ q g. after_low w at.watermark at.last q h.given (omega arith);
     }) one k j.0 j.1 slots t
 
-pub stands_taken : (s : SlotsState) (at : Standing) (p : Part) (one : Slot) (slots : SlotList) (ends : List ByKey) → SlotsStandFor s at → at.mark ≤ p.stamp → IsPartValue p → IsOneSlot p one → IsTaken s.slots one s.window slots
+pub stands_taken : (s : SlotsState) (at : Standing) (p : Part) (one : Slot) (slots : SlotList) (ends : List ByKey) → SlotsStandFor s at → at.watermark ≤ p.stamp → IsPartValue p → IsOneSlot p one → IsTaken s.slots one s.window slots
     → AreIndexed slots ends
-    → SlotsStandFor (record { reference = s.reference; window = s.window; slots = slots; ends = ends; heard = s.heard; stamps = s.stamps; mark = s.mark; last = s.last; none_at = s.none_at; known = s.known }) (taking p at)
+    → SlotsStandFor (record { reference = s.reference; window = s.window; slots = slots; ends = ends; heard = s.heard; stamps = s.stamps; watermark = s.watermark; last = s.last; none_at = s.none_at; known = s.known }) (taking p at)
 stands_taken s at p one slots ends h l v k t i =
-    let late = later_part at.mark at.parts p l in
+    let late = later_part at.watermark at.parts p l in
     record {
       slots = are_taken s at p one slots h l v k t;
       indexed = i;
       kept = kept_keyed s.window s.none_at (Contains at.parts) (Contains (at.parts ++ p ∷ [])) p one.key s.heard (with_part at.parts p) k.key h.kept;
       stamped = h.stamped;
-      known = are_known_later s.reference s.window at.mark (Contains at.parts) (Contains (at.parts ++ p ∷ [])) at.last s.known late h.given h.known;
+      known = are_known_later s.reference s.window at.watermark (Contains at.parts) (Contains (at.parts ++ p ∷ [])) at.last s.known late h.given h.known;
       known_ordered = h.known_ordered;
-      at_mark = h.at_mark;
+      at_watermark = h.at_watermark;
       at_last = h.at_last;
       given = h.given;
-      none_due = NoneDue-take s.window s.none_at at.mark (Contains at.parts) (Contains (at.parts ++ p ∷ [])) at.last late h.none_by h.none_due;
+      none_due = NoneDue-take s.window s.none_at at.watermark (Contains at.parts) (Contains (at.parts ++ p ∷ [])) at.last late h.none_by h.none_due;
       none_by = h.none_by;
       values = All-push IsPartValue at.parts p h.values v;
     }
 
--- health taken: it is of no key
+-- taking health, which has no key
 heard_no : (old new : Part → Type 0) (p : Part) (key : Key) → IsWithPart old new p → key_of p ≡ None → Same (IsHeardAt old key) (IsHeardAt new key)
 heard_no old new p key m e = record {
   to = λ x h. record { part = h.part; here = m.keeps h.part h.here; of_key = h.of_key; at_stamp = h.at_stamp };
@@ -162,11 +162,11 @@ slots_heard w old new p last slots m e h = record {
   every = λ q k after. let s = heard_no old new p q.key m e in h.every q (IsEnd-same w (IsHeardAt new q.key) (IsHeardAt old q.key) q.end (record { to = s.from; from = s.to }) k) after;
 }
 
-pub stands_heard : (s : SlotsState) (at : Standing) (p : Part) (heard : HeardList) (stamps : List ByStamp) → SlotsStandFor s at → at.mark ≤ p.stamp → IsPartValue p → key_of p ≡ None → IsHeard s.heard p heard
+pub stands_heard : (s : SlotsState) (at : Standing) (p : Part) (heard : HeardList) (stamps : List ByStamp) → SlotsStandFor s at → at.watermark ≤ p.stamp → IsPartValue p → key_of p ≡ None → IsHeard s.heard p heard
     → AreStamped heard stamps
-    → SlotsStandFor (record { reference = s.reference; window = s.window; slots = s.slots; ends = s.ends; heard = heard; stamps = stamps; mark = s.mark; last = s.last; none_at = s.none_at; known = s.known }) (taking p at)
+    → SlotsStandFor (record { reference = s.reference; window = s.window; slots = s.slots; ends = s.ends; heard = heard; stamps = stamps; watermark = s.watermark; last = s.last; none_at = s.none_at; known = s.known }) (taking p at)
 stands_heard s at p heard stamps h l v k t i =
-    let late = later_part at.mark at.parts p l in
+    let late = later_part at.watermark at.parts p l in
     let old = Contains at.parts in
     let new = Contains (at.parts ++ p ∷ []) in
     let all = All-push IsPartValue at.parts p h.values v in
@@ -176,36 +176,36 @@ stands_heard s at p heard stamps h l v k t i =
       indexed = h.indexed;
       kept = kept_said s.window s.none_at old new p (health_in p.stamp p.body) s.heard heard refl m (all_values (at.parts ++ p ∷ []) all) (omega (arith, h.none_by)) t h.kept;
       stamped = i;
-      known = are_known_later s.reference s.window at.mark old new at.last s.known late h.given h.known;
+      known = are_known_later s.reference s.window at.watermark old new at.last s.known late h.given h.known;
       known_ordered = h.known_ordered;
-      at_mark = h.at_mark;
+      at_watermark = h.at_watermark;
       at_last = h.at_last;
       given = h.given;
-      none_due = NoneDue-take s.window s.none_at at.mark old new at.last late h.none_by h.none_due;
+      none_due = NoneDue-take s.window s.none_at at.watermark old new at.last late h.none_by h.none_due;
       none_by = h.none_by;
       values = all;
     }
 
--- none is due
-pub none_is : (s : SlotsState) (at : Standing) (mark : ℕ) → SlotsStandFor s at → IsFirstDue s.slots s.window mark None → NoneDue s.window (Contains at.parts) mark at.last
-none_is s at mark h none = λ q due.
+-- no period is due
+pub none_is : (s : SlotsState) (at : Standing) (watermark : ℕ) → SlotsStandFor s at → IsFirstDue s.slots s.window watermark None → NoneDue s.window (Contains at.parts) watermark at.last
+none_is s at watermark h none = λ q due.
     let f = h.slots.every q due.period due.after in
     omega (arith, none f.0 f.1, due.low, ap (λ (x : Place). x.end) f.2)
 
-pub stands_reached : (s : SlotsState) (at : Standing) (mark : ℕ) (heard : HeardList) (stamps : List ByStamp) → SlotsStandFor s at → at.mark ≤ mark → IsFirstDue s.slots s.window mark None → IsForgotten s.window mark s.heard heard
+pub stands_reached : (s : SlotsState) (at : Standing) (watermark : ℕ) (heard : HeardList) (stamps : List ByStamp) → SlotsStandFor s at → at.watermark ≤ watermark → IsFirstDue s.slots s.window watermark None → IsForgotten s.window watermark s.heard heard
     → AreStamped heard stamps
-    → SlotsStandFor (record { reference = s.reference; window = s.window; slots = s.slots; ends = s.ends; heard = heard; stamps = stamps; mark = mark; last = s.last; none_at = mark; known = s.known }) (reaching mark at)
-stands_reached s at mark heard stamps h l none f i = record {
+    → SlotsStandFor (record { reference = s.reference; window = s.window; slots = s.slots; ends = s.ends; heard = heard; stamps = stamps; watermark = watermark; last = s.last; none_at = watermark; known = s.known }) (reaching watermark at)
+stands_reached s at watermark heard stamps h l none f i = record {
   slots = h.slots;
   indexed = h.indexed;
-  kept = kept_forgotten s.window s.none_at mark (Contains at.parts) s.heard heard (omega (arith, h.none_by)) f h.kept;
+  kept = kept_forgotten s.window s.none_at watermark (Contains at.parts) s.heard heard (omega (arith, h.none_by)) f h.kept;
   stamped = i;
   known = h.known;
   known_ordered = h.known_ordered;
-  at_mark = refl;
+  at_watermark = refl;
   at_last = h.at_last;
-  given = below_rise s.window at.mark mark at.last l h.given;
-  none_due = none_is s at mark h none;
+  given = below_rise s.window at.watermark watermark at.last l h.given;
+  none_due = none_is s at watermark h none;
   none_by = omega arith;
   values = h.values;
 }

@@ -1,11 +1,11 @@
--- The laws of the trait for the assembly in slots: its parts are values, and a set. (An impl names the proof of a law, and code can name
--- what stands in specs/ alone.)
+-- The trait's laws for the slot assembly: its parts are values, and their order and repetition do not matter. (An impl names the
+-- proof of a law, and code can name only what is in specs/.)
 use Rattle.std.proofs.Common.{ℕ, Option, None, Some, All, List, Contains, get_or, ◌↔◌}
 use Rattle.std.proofs.lemmas.List.Elements.{All-contains, Contains-get_or}
 use Rattle.nav_eph.specs.declared.items.NavItem.{NavItem}
 use Rattle.nav_eph.specs.declared.part.Part.{Part}
 use Rattle.nav_eph.specs.Values.{IsPartValue}
-use Rattle.periods.proofs.EndSurface.{Same, turned}
+use Rattle.periods.proofs.EndSurface.{Same, same_sym}
 use Rattle.periods.specs.declared.key.Key.{Key}
 use Rattle.periods.specs.declared.key.Place.{Place}
 use Rattle.periods.proofs.Surface.{IsPeriod-same, members_same, IsDigest-same, IsComplete-same, HasValue-to}
@@ -16,9 +16,11 @@ use Rattle.slot_assembly.specs.Order.{rank_of}
 use Rattle.slot_assembly.specs.Slots.{slot_place}
 use Rattle.slot_assembly.specs.SlotStanding.{SlotsState, SlotsStandFor, IsSlot, IsKnownGiven, known_at}
 
+-- each part that the assembly stands for is a value of its type
 pub parts_are_values : (s : SlotsState) (at : Standing) → SlotsStandFor s at → All IsPartValue at.parts
 parts_are_values s at h = h.values
 
+-- the slot of a period is the same for equal sets of parts
 IsSlot-same : (w : ℕ) (a b : Part → Type 0) (last : Option Place) (s : Slot) → Same a b → IsSlot w a last s → IsSlot w b last s
 IsSlot-same w a b last s e h =
     let m = members_same w a b (slot_place s) e in
@@ -30,23 +32,25 @@ IsSlot-same w a b last s e h =
       digest = IsDigest-same s.key _ _ s.digest m h.digest;
     }
 
+-- the known item of a key is the same for equal sets of parts
 IsKnownGiven-same : (r w : ℕ) (a b : Part → Type 0) (last : Option Place) (key : Key) (o : Option NavItem) → Same a b → IsKnownGiven r w a last key o → IsKnownGiven r w b last key o
-IsKnownGiven-same r w a b last key None e h = λ eph f item c g. h eph f item (IsComplete-same r w b a key f item (turned a b e) c) g
+IsKnownGiven-same r w a b last key None e h = λ eph f item c g. h eph f item (IsComplete-same r w b a key f item (same_sym a b e) c) g
 IsKnownGiven-same r w a b last key (Some item) e h = record {
   ephemeris = h.ephemeris;
   at = h.at;
   complete = IsComplete-same r w a b key h.at item e h.complete;
   given = h.given;
-  greatest = λ f other c g. h.greatest f other (IsComplete-same r w b a key f other (turned a b e) c) g;
+  greatest = λ f other c g. h.greatest f other (IsComplete-same r w b a key f other (same_sym a b e) c) g;
 }
 
+-- the assembly stands for its parts in any order and with any repetition
 pub parts_are_a_set : (s : SlotsState) (at : Standing) (other : List Part) → SlotsStandFor s at
     → ((p : Part) → Contains at.parts p ↔ Contains other p) → SlotsStandFor s (with_parts other at)
 parts_are_a_set s at other h same =
     let a = Contains at.parts in
     let b = Contains other in
     let e : Same a b = record { to = λ p. (same p).0; from = λ p. (same p).1 } in
-    let back = turned a b e in
+    let back = same_sym a b e in
     record {
       slots = record {
         each = λ x i. IsSlot-same s.window a b at.last x e (h.slots.each x i);
@@ -64,7 +68,7 @@ parts_are_a_set s at other h same =
         only = h.known.only;
       };
       known_ordered = h.known_ordered;
-      at_mark = h.at_mark;
+      at_watermark = h.at_watermark;
       at_last = h.at_last;
       given = h.given;
       none_due = λ q due. h.none_due q (record { period = IsPeriod-same s.window b a q back due.period; low = due.low; after = due.after });

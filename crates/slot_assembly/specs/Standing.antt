@@ -1,4 +1,4 @@
--- What an assembly stands for, and what it gives next.
+-- The state that an assembly stands for, and the period that it gives next.
 use Rattle.std.specs.Prelude.{ℕ, ◌+◌, ◌<◌, List, [], ◌∷◌, ◌++◌, Option, None, Some}
 use Rattle.nav_eph.specs.declared.part.Part.{Part}
 use Rattle.periods.specs.declared.key.Place.{Place}
@@ -6,70 +6,69 @@ use Rattle.periods.specs.declared.closed.Closed.{Closed}
 use Rattle.periods.specs.Periods.{IsPeriod, IsBefore}
 use Rattle.periods.specs.Verdicts.{IsClosed, closed_place}
 
--- the parts taken, the greatest mark given, and the last period given
+-- the parts taken, the greatest watermark given, and the last period given
 pub record Standing : Type 0 where
   pub parts : List Part
-  pub mark : ℕ
+  pub watermark : ℕ
   pub last : Option Place
 
--- there is something that it stands for, and that has this property
+-- the assembly stands for some state with this property
 abbrev pub Stood : (Standing → Type 0) → (Standing → Type 0) → Type 0
 Stood now property = (at : Standing) × now at × property at
 
--- all that it stands for has this property
+-- every state that the assembly stands for has this property
 abbrev pub Tells : (Standing → Type 0) → (Standing → Type 0) → Type 0
 Tells now property = (at : Standing) → now at → property at
 
--- a call that makes this change: if the assembly stood for some parts, mark and last period before the call, it stands for the changed
--- ones after it
+-- the effect of a call: of each state that the assembly stood for before, it stands for the changed one after it
 abbrev pub Carries : (Standing → Type 0) → (Standing → Type 0) → (Standing → Standing) → Type 0
 Carries old new change = (at : Standing) → old at → new (change at)
 
--- nothing yet
+-- the state before the first part
 abbrev pub nothing_yet : Standing
-nothing_yet = record { parts = []; mark = 0; last = None }
+nothing_yet = record { parts = []; watermark = 0; last = None }
 
--- the same
+-- the same state
 abbrev pub unchanged : Standing → Standing
 unchanged at = at
 
--- with one part more
+-- one more part taken
 abbrev pub taking : Part → Standing → Standing
-taking part at = record { parts = at.parts ++ part ∷ []; mark = at.mark; last = at.last }
+taking part at = record { parts = at.parts ++ part ∷ []; watermark = at.watermark; last = at.last }
 
--- with these parts more, in this order
+-- further parts taken, in this order
 abbrev pub adding : List Part → Standing → Standing
-adding parts at = record { parts = at.parts ++ parts; mark = at.mark; last = at.last }
+adding parts at = record { parts = at.parts ++ parts; watermark = at.watermark; last = at.last }
 
--- with other parts in their place
+-- other parts in their place
 abbrev pub with_parts : List Part → Standing → Standing
-with_parts parts at = record { parts = parts; mark = at.mark; last = at.last }
+with_parts parts at = record { parts = parts; watermark = at.watermark; last = at.last }
 
--- at a mark
+-- a higher watermark
 abbrev pub reaching : ℕ → Standing → Standing
-reaching mark at = record { parts = at.parts; mark = mark; last = at.last }
+reaching watermark at = record { parts = at.parts; watermark = watermark; last = at.last }
 
--- at a mark, with a period given
+-- a watermark, and a period given
 abbrev pub giving : ℕ → Place → Standing → Standing
-giving mark place at = record { parts = at.parts; mark = mark; last = Some place }
+giving watermark place at = record { parts = at.parts; watermark = watermark; last = Some place }
 
--- behind the last period given
+-- the period is after the last one given, if any
 abbrev pub IsAfter : Option Place → Place → Type 0
 IsAfter None place = Unit {0}
 IsAfter (Some last) place = IsBefore last place
 
--- a period that is closed at the mark, and was not given yet
-pub record IsDue (window : ℕ) (parts : Part → Type 0) (mark : ℕ) (last : Option Place) (place : Place) : Type 0 where
+-- a period that is closed at the watermark and not given yet
+pub record IsDue (window : ℕ) (parts : Part → Type 0) (watermark : ℕ) (last : Option Place) (place : Place) : Type 0 where
   pub period : IsPeriod window parts place
-  pub low : place.end + window < mark
+  pub low : place.end + window < watermark
   pub after : IsAfter last place
 
--- the first of these
-pub record IsNext (r window : ℕ) (parts : Part → Type 0) (mark : ℕ) (last : Option Place) (closed : Closed) : Type 0 where
-  pub due : IsDue window parts mark last (closed_place closed)
+-- the first period due, with its verdict
+pub record IsNext (r window : ℕ) (parts : Part → Type 0) (watermark : ℕ) (last : Option Place) (closed : Closed) : Type 0 where
+  pub due : IsDue window parts watermark last (closed_place closed)
   pub verdict : IsClosed r window parts closed
-  pub least : (place : Place) → IsDue window parts mark last place → IsBefore place (closed_place closed) → ⊥
+  pub least : (place : Place) → IsDue window parts watermark last place → IsBefore place (closed_place closed) → ⊥
 
--- there is none
+-- no period is due
 abbrev pub NoneDue : ℕ → (Part → Type 0) → ℕ → Option Place → Type 0
-NoneDue window parts mark last = (place : Place) → IsDue window parts mark last place → ⊥
+NoneDue window parts watermark last = (place : Place) → IsDue window parts watermark last place → ⊥

@@ -10,32 +10,32 @@ use nav_eph::Part;
 use periods::Closed;
 use std::alloc::AllocError;
 
-/// What puts parts together into periods.
+/// Assembles parts into periods.
 ///
-/// It stands for the parts that it has taken, the greatest mark that it was given, and the last
-/// period that it has given. An implementation may keep less than these; each clause holds of
-/// everything that it may stand for.
+/// Its contract is over what it stands for: the parts taken, the greatest watermark given, and the last
+/// period given. An implementation may store less; each clause holds of every such state that it may
+/// stand for.
 pub trait Assembly {
-    // The week near which it listens.
+    // The reference week near which week numbers are resolved.
     ghost reference: { Self → ℕ };
 
-    // How long after a part another one of its key may still belong to the same period.
+    // The window in seconds: how long after a part another one of its key may belong to the same period.
     ghost window: { Self → ℕ };
 
-    // What it stands for.
+    // The states that it stands for.
     ghost stands_for: { Self → Standing → Type 0 };
 
-    // How many periods it may still give before it takes a part again.
+    // A bound on the periods that it may still give before it takes another part.
     ghost left: { Self → ℕ };
 
-    // The greatest mark at which it answered that there is none to give. What it keeps of what no
-    // longer counts is told by this mark.
+    // The greatest watermark at which no period was due; it may have removed the data that no longer
+    // count at it.
     ghost none_at: { Self → ℕ };
 
-    /// Takes a part, whose stamp is at least the greatest mark given so far. A part that was taken
-    /// already changes no period. Where memory is wanting all is unchanged.
+    /// Takes a part whose stamp is at least the greatest watermark given so far; a repeated part changes no
+    /// period. `AllocError` where memory runs out; nothing is changed then.
     fn take(&mut self, part: &Part) -> Result<(), AllocError>
-        requires { Stood (stands_for self.old) (λ at. at.mark ≤ part.now.stamp) }
+        requires { Stood (stands_for self.old) (λ at. at.watermark ≤ part.now.stamp) }
         ensures reference { reference self.new ≡ reference self.old }
         ensures window { window self.new ≡ window self.old }
         ensures ok { OnOk result
@@ -44,36 +44,36 @@ pub trait Assembly {
             (Carries (stands_for self.old) (stands_for self.new) unchanged) }
         ensures none_at { none_at self.new ≡ none_at self.old };
 
-    /// The first period whose end and the window after it are below the mark and that was not given
-    /// yet, with its verdict; `None` exactly where there is none. The mark is at least the greatest
-    /// given so far. Where memory is wanting all is unchanged.
-    fn next_closed(&mut self, mark: u64) -> Result<Option<Closed>, AllocError>
-        requires { Stood (stands_for self.old) (λ at. at.mark ≤ mark) }
+    /// The first period not given yet whose end plus the window is below the watermark, with its
+    /// verdict; `None` exactly where there is none. The watermark is at least the greatest given so far.
+    /// `AllocError` where memory runs out; nothing is changed then.
+    fn next_closed(&mut self, watermark: u64) -> Result<Option<Closed>, AllocError>
+        requires { Stood (stands_for self.old) (λ at. at.watermark ≤ watermark) }
         ensures reference { reference self.new ≡ reference self.old }
         ensures window { window self.new ≡ window self.old }
 
-        // What is given, and where nothing is.
+        // The period given, or that none is due.
         ensures next { IfOk result (λ answer. IfSome answer (λ closed.
             Tells (stands_for self.old) (λ at. IsNext (reference self.old) (window self.old)
-            (Contains at.parts) mark at.last closed))) }
+            (Contains at.parts) watermark at.last closed))) }
         ensures none { IfOk result (λ answer. IfNone answer
             (Tells (stands_for self.old) (λ at. NoneDue (window self.old)
-            (Contains at.parts) mark at.last))) }
+            (Contains at.parts) watermark at.last))) }
 
-        // What it stands for then.
+        // The state after the call.
         ensures given { IfOk result (λ answer. IfSome answer (λ closed.
             Carries (stands_for self.old) (stands_for self.new)
-            (giving mark (closed_place closed)))) }
+            (giving watermark (closed_place closed)))) }
         ensures reached { IfOk result (λ answer. IfNone answer
-            (Carries (stands_for self.old) (stands_for self.new) (reaching mark))) }
+            (Carries (stands_for self.old) (stands_for self.new) (reaching watermark))) }
         ensures err { OnErr result (Carries (stands_for self.old) (stands_for self.new) unchanged) }
 
-        // Fewer may still be given, so asking until there is none ends.
+        // The bound decreases, so repeated calls end with `None`.
         ensures fewer { IfOk result (λ answer. IfSome answer
             (λ _. left self.new < left self.old)) }
 
-        // The mark is noted where there is none, and there alone.
-        ensures none_there { IfOk result (λ answer. IfNone answer (none_at self.new ≡ mark)) }
+        // The watermark is recorded where no period is due, and only there.
+        ensures none_there { IfOk result (λ answer. IfNone answer (none_at self.new ≡ watermark)) }
         ensures none_stays { IfOk result (λ answer. IfSome answer
             (λ _. none_at self.new ≡ none_at self.old)) }
         ensures none_kept { OnErr result (none_at self.new ≡ none_at self.old) };
@@ -82,7 +82,7 @@ pub trait Assembly {
     ghost parts_are_values: { (assembly : Self) (at : Standing)
         → stands_for assembly at → All IsPartValue at.parts };
 
-    // Its parts are a set: what it stands for, it stands for in any order and with any repetition.
+    // Order and repetition of its parts do not matter.
     ghost parts_are_a_set: { (assembly : Self) (at : Standing) (other : List Part)
         → stands_for assembly at → ((p : Part) → Contains at.parts p ↔ Contains other p)
         → stands_for assembly (with_parts other at) };

@@ -7,9 +7,9 @@ ghost use Rattle.periods.specs.declared.key.Place.{Place};
 ghost use Rattle.periods.specs.declared.closed.Closed.{Closed};
 ghost use Rattle.slot_assembly.specs.Standing.{IsNext};
 
-/// One period is the first that is due at a mark, and one verdict is said of it.
+/// The next period due at a watermark is unique, and so is its verdict.
 pub fn one_next()
-    ensures { (r window mark : ℕ) (parts : List Part) (last : Option Place) (a b : Closed)
-        → All IsPartValue parts → IsNext r window (Contains parts) mark last a
-        → IsNext r window (Contains parts) mark last b → a ≡ b }
+    ensures { (r window watermark : ℕ) (parts : List Part) (last : Option Place) (a b : Closed)
+        → All IsPartValue parts → IsNext r window (Contains parts) watermark last a
+        → IsNext r window (Contains parts) watermark last b → a ≡ b }
 {}

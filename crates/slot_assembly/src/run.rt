@@ -1,23 +1,23 @@
-//! The periods of a list of parts, by any assembly.
+//! The periods of a list of parts by any assembly.
 
 ghost use Rattle.std.specs.Prelude.{◌≡◌, ◌<◌, ◌≤◌, ◌^◌, List, [], OnOk};
 ghost use Rattle.nav_eph.specs.declared.part.Part.{Part};
 ghost use Rattle.periods.specs.PeriodsOf.{closed_of, periods_of};
 ghost use Rattle.slot_assembly.specs.Standing.{Stood, nothing_yet};
-ghost use Rattle.slot_assembly.specs.Given.{settled};
+ghost use Rattle.slot_assembly.specs.Given.{flushed};
 
 use crate::assembly::Assembly;
 use nav_eph::Part;
 use periods::Closed;
 use std::alloc::AllocError;
 
-// Adds to an empty list all that is closed at the last mark.
+// Adds to an empty list all periods closed at the greatest watermark.
 fn give_all<A: Assembly>(assembly: &mut A, given: &mut Vec<Closed>) -> Result<(), AllocError>
-    requires stood { Stood (A.stands_for assembly.old) (λ at. at.mark ≤ 0) }
+    requires stood { Stood (A.stands_for assembly.old) (λ at. at.watermark ≤ 0) }
     requires given { given.old.items ≡ [] }
     ensures { OnOk result ((parts : List Part)
         → A.stands_for assembly.old
-        (settled (A.reference assembly.old) (A.window assembly.old) parts 0)
+        (flushed (A.reference assembly.old) (A.window assembly.old) parts 0)
         → given.new.items
         ≡ closed_of (A.reference assembly.old) (A.window assembly.old)
         18446744073709551615 parts) }
@@ -28,8 +28,8 @@ fn give_all<A: Assembly>(assembly: &mut A, given: &mut Vec<Closed>) -> Result<()
     Ok(())
 }
 
-/// The periods of some parts, in order, each with its verdict, by an assembly that has taken none
-/// yet.
+/// Adds to an empty list the periods of the parts, in order, with their verdicts, by an assembly without
+/// parts. `AllocError` where memory runs out.
 pub fn add_periods<A: Assembly>(
     assembly: &mut A,
     parts: &[Part],

@@ -1,4 +1,4 @@
-//! A slot: what is kept of an open period.
+//! A slot: the stored form of an open period.
 
 ghost use Rattle.std.specs.Prelude.{◌≡◌, IfOk, Some};
 ghost use Rattle.periods.specs.DigestsOf.{digest_join};
@@ -11,38 +11,38 @@ use nav_eph::{
     GalWord1, GalWord2, GalWord3, GalWord4, GpsClock, GpsOrbitA, GpsOrbitB, GpsSide, Part, Sat,
     SentTag,
 };
-use periods::{Digest, GalDigest, GpsDigest, Key, Seen, Sending, key_of_part};
+use periods::{Digest, GalDigest, GpsDigest, Key, Seen, Transmission, key_of_part};
 use std::alloc::{AllocError, Global};
 
-/// An open period: its key, the stamps of its first and its last member, and what its members come
-/// to.
+/// An open period: its key, the stamps of its first and last member, and the digest of its
+/// members.
 #[derive(Clone, Copy)]
 pub struct Slot {
-    /// What its parts are parts of.
+    /// The key of its parts.
     pub key: Key,
     /// The stamp of the first member.
     pub start: u32,
     /// The stamp of the last member.
     pub end: u32,
-    /// What the members come to.
+    /// The digest of the members.
     pub digest: Digest,
 }
 
-/// A slot of an ionosphere, as it is kept.
+/// The slot of an ionosphere, as stored.
 #[derive(Clone, Copy)]
 pub struct IonSlot {
-    /// What its parts are parts of.
+    /// The key of its parts.
     pub key: Key,
     /// The stamp of the first member.
     pub start: u32,
     /// The stamp of the last member.
     pub end: u32,
-    /// The sending that came first.
-    pub sending: Sending,
+    /// The earliest transmission.
+    pub transmission: Transmission,
 }
 
-/// A slot as it is kept. That of an ephemeris is four times as large as that of an ionosphere and
-/// stands in a box, so that many ionospheres take little.
+/// A slot as stored. That of an ephemeris, four times as large as that of an ionosphere, is in a box, so
+/// that many ionospheres take little memory.
 #[derive(Drop)]
 pub enum PackedSlot {
     /// Of an ephemeris.
@@ -51,25 +51,25 @@ pub enum PackedSlot {
     Ionosphere(IonSlot),
 }
 
-// What a slot takes in the map, and what an ephemeris takes in its box besides.
+// Bytes of a slot in the map, and of an ephemeris' slot in its box.
 const _: () = prove!(size_of::<PackedSlot>() <= 112);
 
 const _: () = prove!(size_of::<Slot>() <= 456);
 
-// The earlier of a sending and that of another slot of an ionosphere.
-fn earlier(sending: &Sending, other: &PackedSlot) -> Sending
-    ensures { Ion result ≡ digest_join (Ion sending.now) (slot_of other.now).digest }
+// The earlier of a transmission and that of another slot of the ionosphere.
+fn earlier(transmission: &Transmission, other: &PackedSlot) -> Transmission
+    ensures { Ion result ≡ digest_join (Ion transmission.now) (slot_of other.now).digest }
 {
-    let one = Digest::Ion(*sending);
+    let one = Digest::Ion(*transmission);
     match one.join(other.digest()) {
         Digest::Ion(first) => first,
-        Digest::Gps(_) => *sending,
-        Digest::Gal(_) => *sending,
+        Digest::Gps(_) => *transmission,
+        Digest::Gal(_) => *transmission,
     }
 }
 
 impl Slot {
-    // Joins another slot of its key into it.
+    // Merges another slot of its key into it.
     fn add(&mut self, other: &Slot)
         ensures { self.new ≡ slot_with self.old (Some other.now) }
     {
@@ -80,14 +80,14 @@ impl Slot {
 }
 
 impl IonSlot {
-    // Joins another slot of its key into it.
+    // Merges another slot of its key into it.
     fn add(&mut self, other: &PackedSlot)
         ensures { slot_of (Ionosphere self.new) ≡ slot_with (slot_of (Ionosphere self.old))
             (Some (slot_of other.now)) }
     {
         self.start = self.start.min(other.start());
         self.end = self.end.max(other.end());
-        self.sending = earlier(&self.sending, other);
+        self.transmission = earlier(&self.transmission, other);
     }
 }
 
@@ -97,17 +97,17 @@ impl PackedSlot {
         ensures { IfOk result (λ packed. slot_of packed ≡ slot) }
     {
         match &slot.digest {
-            Digest::Ion(sending) => Ok(PackedSlot::Ionosphere(IonSlot {
+            Digest::Ion(transmission) => Ok(PackedSlot::Ionosphere(IonSlot {
                 key: slot.key,
                 start: slot.start,
                 end: slot.end,
-                sending: *sending,
+                transmission: *transmission,
             })),
             _ => Ok(PackedSlot::Ephemeris(Box::new(alloc, slot)?)),
         }
     }
 
-    // The slot that was packed.
+    // Unpacks the slot.
     pub(crate) fn slot(&self) -> Slot
         ensures { result ≡ slot_of self.now }
     {
@@ -117,7 +117,7 @@ impl PackedSlot {
                 key: slot.key,
                 start: slot.start,
                 end: slot.end,
-                digest: Digest::Ion(slot.sending),
+                digest: Digest::Ion(slot.transmission),
             },
         }
     }
@@ -142,17 +142,17 @@ impl PackedSlot {
         }
     }
 
-    // What its members come to.
+    // The digest of its members.
     fn digest(&self) -> Digest
         ensures { result ≡ (slot_of self.now).digest }
     {
         match self {
             PackedSlot::Ephemeris(boxed) => boxed.digest,
-            PackedSlot::Ionosphere(slot) => Digest::Ion(slot.sending),
+            PackedSlot::Ionosphere(slot) => Digest::Ion(slot.transmission),
         }
     }
 
-    // Joins another slot of its key into it, where it stands.
+    // Merges another slot of its key into it, in place.
     pub(crate) fn add(&mut self, other: &PackedSlot)
         ensures { slot_of self.new ≡ slot_with (slot_of self.old) (Some (slot_of other.now)) }
     {

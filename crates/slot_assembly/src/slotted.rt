@@ -1,4 +1,4 @@
-//! The assembly in slots.
+//! The assembly that stores open periods in slots.
 
 ghost use Rattle.std.specs.Prelude.{◌≡◌, ◌≤◌, ◌<◌, ◌+◌};
 
@@ -15,20 +15,20 @@ use std::alloc::{AllocError, Global};
 use std::collections::{BTreeMap, BTreeSet};
 use std::marker::Model;
 
-/// An assembly that keeps a slot for each open period, joined and given as parts come.
+/// An assembly that stores a slot for each open period.
 ///
-/// A contract sees all that it keeps: the week `reference` near which it listens, the `window` in
-/// seconds, the `slots` of the open periods and the index `ends` of them, the health `heard` that
-/// may still count and the index `stamps` of it, the greatest `mark` given, the `last` period
-/// given, the greatest mark `none_at` at which there was none to give, and as `known` for each
-/// ephemeris the item of the last complete period given.
+/// A contract sees all its state: the reference week `reference`, the `window` in seconds, the `slots`
+/// of the open periods and their index `ends`, the health `heard` that a period may still take and its
+/// index `stamps`, the greatest `watermark` given, the `last` period given, the greatest watermark
+/// `none_at` at which no period was due, and in `known` for each ephemeris the item of the last
+/// complete period given.
 #[derive(Drop)]
 pub struct SlotAssembly {
     held: OpenSlots,
     healths: Healths,
     reference: RefWeek,
     window: u32,
-    mark: u64,
+    watermark: u64,
     last: Option<Place>,
     none_at: u64,
     known: BTreeMap<Rank, NavItem>,
@@ -46,7 +46,7 @@ impl Model for SlotAssembly {
       ends = s.held.ends.keys;
       heard = s.healths.heard.entries;
       stamps = s.healths.stamps.keys;
-      mark = s.mark;
+      watermark = s.watermark;
       last = s.last;
       none_at = s.none_at;
       known = s.known.entries;
@@ -57,7 +57,7 @@ impl SlotAssembly {
     ghost use Rattle.slot_assembly.specs.SlotStanding.{SlotsStandFor};
     ghost use Rattle.slot_assembly.specs.Standing.{nothing_yet};
 
-    /// An assembly of no parts, near the week `r`, with a window of 60 to 14,400 seconds.
+    /// An assembly without parts, for the reference week `r` and a window of 60 to 14,400 seconds.
     pub fn new(alloc: Global, r: RefWeek, window: u32) -> SlotAssembly
         requires least { 60 ≤ window }
         requires most { window ≤ 14400 }
@@ -78,7 +78,7 @@ impl SlotAssembly {
             },
             reference: r,
             window,
-            mark: 0,
+            watermark: 0,
             last: None,
             none_at: 0,
             known: BTreeMap::new(alloc),
@@ -114,12 +114,12 @@ impl Assembly for SlotAssembly {
         }
     }
 
-    fn next_closed(&mut self, mark: u64) -> Result<Option<Closed>, AllocError> {
-        match self.held.first_due(self.window, mark) {
+    fn next_closed(&mut self, watermark: u64) -> Result<Option<Closed>, AllocError> {
+        match self.held.first_due(self.window, watermark) {
             None => {
-                self.healths.forget(self.window, mark);
-                self.mark = mark;
-                self.none_at = mark;
+                self.healths.forget(self.window, watermark);
+                self.watermark = watermark;
+                self.none_at = watermark;
                 Ok(None)
             }
             Some(slot) => {
@@ -132,7 +132,7 @@ impl Assembly for SlotAssembly {
                 }
                 let verdict = judge(before, finding);
                 self.held.drop_slot(&slot);
-                self.mark = mark;
+                self.watermark = watermark;
                 self.last = Some(Place {
                     end: slot.end,
                     key: slot.key,

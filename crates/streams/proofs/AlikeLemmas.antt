@@ -1,4 +1,4 @@
--- Ephemerides that are read of frames are equal where the same message is sent for them.
+-- Ephemerides that are read from frames are equal where the same message encodes them.
 use Rattle.std.proofs.Common.{◌≡◌, ◌↔◌, ℕ, ◌≤◌, ◌||◌, Bool, true, false, List, [], ◌∷◌, length, refl, sym, ap, subst, ◌∙◌, arith}
 use Rattle.std.specs.Prelude.{Result, Ok, Err, IfOk}
 use Rattle.std.specs.declared.cmp.Ordering.{Ordering}
@@ -25,7 +25,7 @@ use Rattle.rtcm_eph.specs.Reading.{GivesItem, content_of, item_in}
 use Rattle.rtcm_eph.specs.RoundTrip.{Begins1019, Begins1046, IsGal, IsGps}
 use Rattle.rtcm_eph.specs.Writing.{bytes_1019, bytes_1046, message_1019, message_1046}
 use Rattle.rtcm_frame.specs.State.{payload_of}
-use Rattle.streams.specs.Streams.{has, items_in, readings}
+use Rattle.streams.specs.Streams.{has, items_of_readings, readings}
 use Rattle.streams.specs.Mirrors.{any_alike, sent_alike}
 
 -- what the crates below promise of messages and items
@@ -42,7 +42,7 @@ pub record Laws (r : ℕ) : Type 0 where
       → GivesItem week (content_of payload) answer → answer ≡ Ok (Gal (record e { sent = Unknown }))
   pub decides : (a b : NavItem) → (same_item a b ≡ true) ↔ (a ≡ b)
 
--- an ephemeris that is read near the week
+-- an ephemeris that is read for the reference week
 record ReadGps (r : ℕ) (e : GpsEph) : Type 0 where
   is : IsGps e
   near : IsNearGps r e.toe_week
@@ -55,7 +55,7 @@ record ReadGal (r : ℕ) (e : GalEph) : Type 0 where
   ranges : HasGalRanges e
   unsent : record e { sent = Unknown } ≡ e
 
--- an item that is read near the week: an ephemeris
+-- an item that is read for the reference week: an ephemeris
 abbrev IsRead : ℕ → NavItem → Type 0
 IsRead r (Gps e) = ReadGps r e
 IsRead r (Gal e) = ReadGal r e
@@ -160,13 +160,13 @@ read_own r payload item laws is = own_alike r item (read_is r payload item laws 
 
 -- among the items of frames an ephemeris is looked for by its message
 pub looked_for : (r : ℕ) (frames : List (List ℕ)) (payload : List ℕ) (item : NavItem) → Laws r → item_in r payload ≡ Ok item
-    → any_alike (items_in (readings r frames)) item ≡ has (items_in (readings r frames)) item
+    → any_alike (items_of_readings (readings r frames)) item ≡ has (items_of_readings (readings r frames)) item
 looked_for r [] payload item laws is = refl
 looked_for r (frame ∷ frames) payload item laws is = step (item_in r (payload_of frame)) refl (looked_for r frames payload item laws is) where
   step : (x : Result NavItem MessageFault) → item_in r (payload_of frame) ≡ x
-      → any_alike (items_in (readings r frames)) item ≡ has (items_in (readings r frames)) item
-      → any_alike (items_in (x ∷ readings r frames)) item ≡ has (items_in (x ∷ readings r frames)) item
+      → any_alike (items_of_readings (readings r frames)) item ≡ has (items_of_readings (readings r frames)) item
+      → any_alike (items_of_readings (x ∷ readings r frames)) item ≡ has (items_of_readings (x ∷ readings r frames)) item
   step (Ok i) read more =
-      ap (λ (b : Bool). b || any_alike (items_in (readings r frames)) item) (alike_is r i item laws (read_is r (payload_of frame) i laws read) (read_is r payload item laws is))
+      ap (λ (b : Bool). b || any_alike (items_of_readings (readings r frames)) item) (alike_is r i item laws (read_is r (payload_of frame) i laws read) (read_is r payload item laws is))
       ∙ ap (λ (b : Bool). same_item i item || b) more
   step (Err fault) read more = more

@@ -4,7 +4,7 @@ use Rattle.std.specs.Prelude.{Option}
 use Rattle.std.specs.List.{flat_map}
 use Rattle.std.proofs.KnownBytes.{Appends-trans}
 use Rattle.std.proofs.lemmas.Grind.{flat_map-append}
-use Rattle.nav_io.specs.Front.{AppendsFront}
+use Rattle.nav_io.specs.Prefix.{AppendsPrefix}
 use Rattle.rtcm_frame.specs.Frames.{frames}
 use Rattle.streams.specs.FrameRuns.{output_of, Goes, Breaks}
 
@@ -29,5 +29,5 @@ breaks_on line more a b u v w k n goes breaks = record {
 pub breaks_fed : (line : List ℕ → List ℕ) (a c : List ℕ) (v w : Option (List ℕ)) → Breaks line true a v w → Breaks line true (a ++ c) v w
 breaks_fed line a c v w breaks = record {
   text = λ following last.
-      subst (λ (l : List ℕ). AppendsFront v w (flat_map line (frames l))) (sym (append_assoc a c following)) (breaks.text (c ++ following) (λ never. cc));
+      subst (λ (l : List ℕ). AppendsPrefix v w (flat_map line (frames l))) (sym (append_assoc a c following)) (breaks.text (c ++ following) (λ never. cc));
 }

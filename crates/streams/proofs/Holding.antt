@@ -5,7 +5,7 @@ use Rattle.std.specs.List.{flat_map}
 use Rattle.std.specs.Io.KnownBytes.{Appends}
 use Rattle.std.proofs.KnownBytes.{Appends-nil, Appends-trans}
 use Rattle.std.proofs.lemmas.Grind.{flat_map-append}
-use Rattle.nav_io.specs.Front.{AppendsFront}
+use Rattle.nav_io.specs.Prefix.{AppendsPrefix}
 use Rattle.rtcm_frame.specs.Frames.{decided, frames}
 use Rattle.rtcm_frame.specs.State.{TakesFrame, TakesNone}
 use Rattle.streams.specs.FrameRuns.{Goes, Breaks, Gathers, Holds, text_of}
@@ -75,17 +75,17 @@ holds_goes line more a b u v w held k n holds text = record {
 
 -- a write of it failed
 pub holds_breaks : (line : List ℕ → List ℕ) (more : Bool) (a b : List ℕ) (u v w : Option (List ℕ)) (held : List ℕ) (k n : ℕ)
-    → Holds line more a b u v held k n → AppendsFront v w held → Breaks line more a u w
-holds_breaks line more a b u v w held k n holds (front, whole, out) = record {
+    → Holds line more a b u v held k n → AppendsPrefix v w held → Breaks line more a u w
+holds_breaks line more a b u v w held k n holds (prefix, whole, out) = record {
   text = λ following last. (
-    holds.out ++ front,
+    holds.out ++ prefix,
     (
       whole.0 ++ flat_map line (frames (b ++ following)),
       ap (flat_map line) (holds.stream following last) ∙ flat_map-append line holds.given (frames (b ++ following))
           ∙ ap (λ (l : List ℕ). l ++ flat_map line (frames (b ++ following))) (holds.same ∙ ap (λ (l : List ℕ). holds.out ++ l) whole.1)
-          ∙ append_assoc holds.out (front ++ whole.0) (flat_map line (frames (b ++ following)))
-          ∙ ap (λ (l : List ℕ). holds.out ++ l) (append_assoc front whole.0 (flat_map line (frames (b ++ following))))
-          ∙ sym (append_assoc holds.out front (whole.0 ++ flat_map line (frames (b ++ following)))),
+          ∙ append_assoc holds.out (prefix ++ whole.0) (flat_map line (frames (b ++ following)))
+          ∙ ap (λ (l : List ℕ). holds.out ++ l) (append_assoc prefix whole.0 (flat_map line (frames (b ++ following))))
+          ∙ sym (append_assoc holds.out prefix (whole.0 ++ flat_map line (frames (b ++ following)))),
     ),
     Appends-trans u v w _ _ holds.text out,
   );

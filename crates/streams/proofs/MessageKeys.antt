@@ -1,4 +1,4 @@
--- What is found among messages once one was added.
+-- Which messages the set has once one was added.
 use Rattle.std.proofs.Common.{◌≡◌, ℕ, ◌<◌, ◌||◌, Bool, true, false, cond, List, [], ◌∷◌, ◌++◌}
 use Rattle.std.proofs.Common.{length, refl, sym, ap, subst, ◌∙◌, ⊎_elim, arith}
 use Rattle.std.specs.Prelude.{Option, None, Some, Result, Ok, Err, IfSome, OnOk, slice_get}
@@ -15,11 +15,11 @@ use Rattle.std.proofs.lemmas.List.{get_or_append_left, length-append}
 use Rattle.std.proofs.lemmas.Map.Lookups.{exact_unsigned}
 use Rattle.std.proofs.lemmas.Option.{slice_get-get_or}
 use Rattle.std.proofs.Math.Seq.{get_or-append_seam}
-use Rattle.streams.specs.Mirrors.{AddsKey, MessagesState, first_in, first_of, has_key, mix_of}
-use Rattle.streams.specs.Mirrors.{place_of_mix, stands_in}
+use Rattle.streams.specs.Mirrors.{AddsKey, MessagesState, first_in, first_of, has_key, hash_of}
+use Rattle.streams.specs.Mirrors.{place_of_hash, stands_in}
 use Rattle.streams.proofs.AlikeLemmas.{equal_keys}
 
--- a message, the places of mixes, and messages that are kept
+-- a message, the places of hashes, and messages that are kept
 abbrev Message : Type 0
 Message = List ℕ
 
@@ -29,32 +29,32 @@ Places = BTreeMap ℕ ℕ
 abbrev kept : List (ℕ × ℕ) → List Message → BTreeSet Message → MessagesState
 kept firsts list others = record { firsts = firsts; list = list; others = others }
 
--- whether two messages are the same, and whether two mixes are
+-- whether two messages are the same, and whether two hashes are
 abbrev same : Message → Message → Bool
 same a b = is_at (slice_cmp nat_cmp a) b
 
-abbrev same_mix : Message → Message → Bool
-same_mix a b = is_at (nat_cmp (mix_of a)) (mix_of b)
+abbrev same_hash : Message → Message → Bool
+same_hash a b = is_at (nat_cmp (hash_of a)) (hash_of b)
 
 own_equal : (o : Ordering) → o ≡ ordering_reverse o → is_eq o ≡ true
 own_equal Less is = cc
 own_equal Equal is = refl
 own_equal Greater is = cc
 
-own_mix : (a : Message) → same_mix a a ≡ true
-own_mix a = own_equal (nat_cmp (mix_of a) (mix_of a)) (nat_cmp_total.antisymm (mix_of a) (mix_of a))
+own_hash : (a : Message) → same_hash a a ≡ true
+own_hash a = own_equal (nat_cmp (hash_of a) (hash_of a)) (nat_cmp_total.antisymm (hash_of a) (hash_of a))
 
-mixes_differ : (a b : Message) → same_mix a b ≡ false → same a b ≡ false
-mixes_differ a b apart =
-    let to_own : a ≡ b → true ≡ false = λ is. sym (own_mix a) ∙ ap (same_mix a) is ∙ apart in
+hashes_differ : (a b : Message) → same_hash a b ≡ false → same a b ≡ false
+hashes_differ a b apart =
+    let to_own : a ≡ b → true ≡ false = λ is. sym (own_hash a) ∙ ap (same_hash a) is ∙ apart in
     ⊎_elim
     (λ (is : same a b ≡ true). absurd (true≢false (to_own (equal_keys a b is))))
     (λ (is : same a b ≡ false). is)
     (cases_Bool (same a b))
 
-equal_mixes : (a b : Message) → same_mix a b ≡ true → mix_of a ≡ mix_of b
-equal_mixes a b is =
-    exact_unsigned (mix_of a) (mix_of b) ((Equal-is (nat_cmp (mix_of a) (mix_of b))).0 is)
+equal_hashes : (a b : Message) → same_hash a b ≡ true → hash_of a ≡ hash_of b
+equal_hashes a b is =
+    exact_unsigned (hash_of a) (hash_of b) ((Equal-is (nat_cmp (hash_of a) (hash_of b))).0 is)
 
 no_place : (list : List Message) (place : Option ℕ) (message : Message)
     → first_in list place message ≡ None → place ≡ None
@@ -86,25 +86,25 @@ first_stays list message other (Some place) within =
     let there = before_end list message place within in
     ap (λ (x : Option Message). Some (stands_in x other)) there
 
--- a message was put behind the list, as the first with its mix
+-- a message was appended to the list, as the first with its hash
 adds_first : (firsts new : Places) (list : List Message) (others : BTreeSet Message)
     → (message : Message)
-    → ((mix : ℕ) → IfSome (place_of_mix firsts.entries mix) (λ place. place < length list))
+    → ((hash : ℕ) → IfSome (place_of_hash firsts.entries hash) (λ place. place < length list))
     → first_of (kept firsts.entries list others) message ≡ None
-    → Updates nat_cmp firsts new (mix_of message) (Some (length list))
+    → Updates nat_cmp firsts new (hash_of message) (Some (length list))
     → AddsKey (kept firsts.entries list others)
     (kept new.entries (list ++ message ∷ []) others) message
 adds_first firsts new list others message within none updates other =
-    let first = ⊎_elim here elsewhere (cases_Bool (same_mix message other)) in
+    let first = ⊎_elim here elsewhere (cases_Bool (same_hash message other)) in
     ap (λ (b : Bool). b || rest) first ∙ joined (same message other) was rest where
       rest : Bool
       rest = contains (slice_cmp nat_cmp) others other
 
       place_before : Option ℕ
-      place_before = place_of_mix firsts.entries (mix_of other)
+      place_before = place_of_hash firsts.entries (hash_of other)
 
       place_now : Option ℕ
-      place_now = place_of_mix new.entries (mix_of other)
+      place_now = place_of_hash new.entries (hash_of other)
 
       by : Option ℕ → Bool
       by place = unwrap_or (first_in list place other) false
@@ -123,34 +123,34 @@ adds_first firsts new list others message within none updates other =
       or_false true b is = refl
       or_false false b is = sym is
 
-      here : same_mix message other ≡ true → now place_now ≡ (same message other || was)
+      here : same_hash message other ≡ true → now place_now ≡ (same message other || was)
       here is =
-          let free = no_place list (place_of_mix firsts.entries (mix_of message)) message none in
-          let moved = ap (place_of_mix firsts.entries) (sym (equal_mixes message other is)) in
-          ap now (updates.0 (mix_of other) ∙ cond-true _ _ _ is)
+          let free = no_place list (place_of_hash firsts.entries (hash_of message)) message none in
+          let moved = ap (place_of_hash firsts.entries) (sym (equal_hashes message other is)) in
+          ap now (updates.0 (hash_of other) ∙ cond-true _ _ _ is)
           ∙ ap (λ (x : Option Message). stands_in x other) (at_end list message)
           ∙ or_false (same message other) was (ap by (moved ∙ free))
 
-      elsewhere : same_mix message other ≡ false → now place_now ≡ (same message other || was)
+      elsewhere : same_hash message other ≡ false → now place_now ≡ (same message other || was)
       elsewhere apart =
-          let stays = first_stays list message other place_before (within (mix_of other)) in
-          ap now (updates.0 (mix_of other) ∙ cond-false _ _ _ apart)
+          let stays = first_stays list message other place_before (within (hash_of other)) in
+          ap now (updates.0 (hash_of other) ∙ cond-false _ _ _ apart)
           ∙ ap (λ (x : Option Bool). unwrap_or x false) stays
-          ∙ sym (ap (λ (b : Bool). b || was) (mixes_differ message other apart))
+          ∙ sym (ap (λ (b : Bool). b || was) (hashes_differ message other apart))
 
 -- the same of a state, its new list and the numbers that were computed
 pub adds_first_to : (old : MessagesState) (firsts new : Places) (list list_new : List Message)
-    → (others : BTreeSet Message) (message : Message) (mix place : ℕ)
+    → (others : BTreeSet Message) (message : Message) (hash place : ℕ)
     → old ≡ kept firsts.entries list others
-    → ((m : ℕ) → IfSome (place_of_mix firsts.entries m) (λ p. p < length list))
-    → first_of old message ≡ None → mix ≡ mix_of message
+    → ((m : ℕ) → IfSome (place_of_hash firsts.entries m) (λ p. p < length list))
+    → first_of old message ≡ None → hash ≡ hash_of message
     → place ≡ length list → list_new ≡ list ++ message ∷ []
-    → Updates nat_cmp firsts new mix (Some place)
+    → Updates nat_cmp firsts new hash (Some place)
     → AddsKey old (kept new.entries list_new others) message
-adds_first_to old firsts new list l1 others message mix place is within none of_it at grown set =
-    let set_at : Updates nat_cmp firsts new mix (Some (length list)) =
-    subst (λ (p : ℕ). Updates nat_cmp firsts new mix (Some p)) at set in
-    let updates : Updates nat_cmp firsts new (mix_of message) (Some (length list)) =
+adds_first_to old firsts new list l1 others message hash place is within none of_it at grown set =
+    let set_at : Updates nat_cmp firsts new hash (Some (length list)) =
+    subst (λ (p : ℕ). Updates nat_cmp firsts new hash (Some p)) at set in
+    let updates : Updates nat_cmp firsts new (hash_of message) (Some (length list)) =
     subst (λ (m : ℕ). Updates nat_cmp firsts new m (Some (length list))) of_it set_at in
     let before : MessagesState = kept firsts.entries list others in
     let after : List Message → MessagesState = λ l. kept new.entries l others in
@@ -170,7 +170,7 @@ adds_other firsts list others new message updates other =
     ap (λ (b : Bool). first || b) (updates other)
     ∙ swap first (same message other) (contains (slice_cmp nat_cmp) others other) where
       first : Bool
-      first = unwrap_or (first_in list (place_of_mix firsts (mix_of other)) other) false
+      first = unwrap_or (first_in list (place_of_hash firsts (hash_of other)) other) false
 
       swap : (a b c : Bool) → (a || cond b true c) ≡ (b || (a || c))
       swap true true c = refl

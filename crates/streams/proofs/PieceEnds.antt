@@ -1,4 +1,4 @@
--- How a run over the bytes of a stream ends: with all of them, or with a front of what they give.
+-- How a run over the bytes of a stream ends: with all of them, or with a prefix of what they give.
 use Rattle.std.proofs.Common.{◌≡◌, ◌-◌, ◌<◌, ◌≤◌, ◌^◌, ℕ, Bool, true, false, not, List, [], ◌++◌, length, take, drop, ◌∙◌, refl, sym, ap, subst, arith, append_assoc, append-nil, length-append}
 use Rattle.std.proofs.lemmas.List.{take-append-drop, take-append-le}
 use Rattle.std.specs.Prelude.{Option, Result, Ok, Err, IfErr, OnErr}
@@ -11,26 +11,26 @@ use Rattle.one_run.specs.declared.fault.BridgeFault.{BridgeFault}
 use Rattle.one_run.specs.declared.fault.BridgeFault.TheVariants.{ReadFault, TooLong}
 use Rattle.streams.specs.declared.counts.StreamCounts.{StreamCounts}
 use Rattle.streams.specs.Streams.{readings, readings_output, readings_report}
-use Rattle.streams.specs.Mirrors.{BeginsSettled, GivenState, IsStreamFault, StreamAll, StreamBroke, StreamGoes, StreamMoves, StreamPart, StreamSoFar, StreamStops}
+use Rattle.streams.specs.Mirrors.{BeginsFlushed, GivenState, IsStreamFault, StreamAll, StreamBroke, StreamGoes, StreamMoves, StreamPart, StreamSoFar, StreamStops}
 use Rattle.streams.proofs.DecidedLemmas.{decided_behind, decided_waiting}
 use Rattle.streams.proofs.MoveLemmas.{moves_fed, moves_on, stops_on}
 use Rattle.streams.proofs.PieceLemmas.{PiecesSoFar}
-use Rattle.one_run.proofs.Surface.{whole_front}
+use Rattle.one_run.proofs.Surface.{whole_prefix}
 use Rattle.streams.proofs.StreamLemmas.{between_whole}
 
 -- frames that are taken whatever follows are taken where nothing follows
-moves_last : (r : ℕ) (front : List ℕ) (text : NavItem → List ℕ) (a b : List ℕ) (w w1 u u1 : Option (List ℕ)) (g g1 : GivenState) (c c1 : StreamCounts)
-    → StreamMoves r front text true a b w w1 u u1 g g1 c c1 → StreamMoves r front text false a b w w1 u u1 g g1 c c1
-moves_last r front text a b w w1 u u1 g g1 c c1 moves = record {
+moves_last : (r : ℕ) (prefix : List ℕ) (text : NavItem → List ℕ) (a b : List ℕ) (w w1 u u1 : Option (List ℕ)) (g g1 : GivenState) (c c1 : StreamCounts)
+    → StreamMoves r prefix text true a b w w1 u u1 g g1 c c1 → StreamMoves r prefix text false a b w w1 u u1 g g1 c c1
+moves_last r prefix text a b w w1 u u1 g g1 c c1 moves = record {
   frames_are = moves.frames_are;
   stream = λ following last. moves.stream following (λ never. cc);
   decides = λ following never. cc;
   goes = moves.goes;
 }
 
-stops_last : (r : ℕ) (front : List ℕ) (text : NavItem → List ℕ) (a : List ℕ) (w w1 u u1 : Option (List ℕ)) (g : GivenState) (c : StreamCounts)
-    → StreamStops r front text true a w w1 u u1 g c → StreamStops r front text false a w w1 u u1 g c
-stops_last r front text a w w1 u u1 g c stops = record {
+stops_last : (r : ℕ) (prefix : List ℕ) (text : NavItem → List ℕ) (a : List ℕ) (w w1 u u1 : Option (List ℕ)) (g : GivenState) (c : StreamCounts)
+    → StreamStops r prefix text true a w w1 u u1 g c → StreamStops r prefix text false a w w1 u u1 g c
+stops_last r prefix text a w w1 u u1 g c stops = record {
   done = stops.done;
   frames_are = stops.frames_are;
   stream = λ following last. stops.stream following (λ never. cc);
@@ -38,41 +38,41 @@ stops_last r front text a w w1 u u1 g c stops = record {
 }
 
 -- what is left is the same
-moves_to : (r : ℕ) (front : List ℕ) (text : NavItem → List ℕ) (more : Bool) (a b d : List ℕ) (w w1 u u1 : Option (List ℕ)) (g g1 : GivenState) (c c1 : StreamCounts)
-    → b ≡ d → StreamMoves r front text more a b w w1 u u1 g g1 c c1 → StreamMoves r front text more a d w w1 u u1 g g1 c c1
-moves_to r front text more a b d w w1 u u1 g g1 c c1 same moves = record {
+moves_to : (r : ℕ) (prefix : List ℕ) (text : NavItem → List ℕ) (more : Bool) (a b d : List ℕ) (w w1 u u1 : Option (List ℕ)) (g g1 : GivenState) (c c1 : StreamCounts)
+    → b ≡ d → StreamMoves r prefix text more a b w w1 u u1 g g1 c c1 → StreamMoves r prefix text more a d w w1 u u1 g g1 c c1
+moves_to r prefix text more a b d w w1 u u1 g g1 c c1 same moves = record {
   frames_are = moves.frames_are;
   stream = λ following last. moves.stream following last ∙ ap (λ (l : List ℕ). moves.frames_are ++ frames (l ++ following)) same;
   decides = λ following unfinished. moves.decides following unfinished ∙ ap (λ (l : List ℕ). moves.frames_are ++ decided (l ++ following)) same;
   goes = moves.goes;
 }
 
--- all of what frames give is a front of it
-broke_whole : (r : ℕ) (front : List ℕ) (text : NavItem → List ℕ) (past : List (List ℕ)) (w w1 u u1 : Option (List ℕ)) (g : GivenState) (c : StreamCounts)
-    → StreamSoFar r front text past w w1 u u1 g c → StreamBroke r front text past past w w1 u u1
-broke_whole r front text past w w1 u u1 g c far = record {
-  output = between_whole w w1 (readings_output front text (readings r past)) far.output;
-  report = whole_front u u1 (readings_report 1 (readings r past)) far.report;
+-- all of what frames give is a prefix of it
+broke_whole : (r : ℕ) (prefix : List ℕ) (text : NavItem → List ℕ) (past : List (List ℕ)) (w w1 u u1 : Option (List ℕ)) (g : GivenState) (c : StreamCounts)
+    → StreamSoFar r prefix text past w w1 u u1 g c → StreamBroke r prefix text past past w w1 u u1
+broke_whole r prefix text past w w1 u u1 g c far = record {
+  output = between_whole w w1 (readings_output prefix text (readings r past)) far.output;
+  report = whole_prefix u u1 (readings_report 1 (readings r past)) far.report;
 }
 
-stops_of_moves : (r : ℕ) (front : List ℕ) (text : NavItem → List ℕ) (more : Bool) (a b : List ℕ) (w w1 u u1 : Option (List ℕ)) (g g1 : GivenState) (c c1 : StreamCounts)
-    → StreamMoves r front text more a b w w1 u u1 g g1 c c1 → StreamStops r front text more a w w1 u u1 g c
-stops_of_moves r front text more a b w w1 u u1 g g1 c c1 moves = record {
+stops_of_moves : (r : ℕ) (prefix : List ℕ) (text : NavItem → List ℕ) (more : Bool) (a b : List ℕ) (w w1 u u1 : Option (List ℕ)) (g g1 : GivenState) (c c1 : StreamCounts)
+    → StreamMoves r prefix text more a b w w1 u u1 g g1 c c1 → StreamStops r prefix text more a w w1 u u1 g c
+stops_of_moves r prefix text more a b w w1 u u1 g g1 c c1 moves = record {
   done = moves.frames_are;
   frames_are = moves.frames_are;
   stream = λ following last. (frames (b ++ following), moves.stream following last);
-  breaks = λ past start begun far. broke_whole r front text (past ++ moves.frames_are) start w1 begun u1 g1 c1 (moves.goes past start begun far);
+  breaks = λ past start begun far. broke_whole r prefix text (past ++ moves.frames_are) start w1 begun u1 g1 c1 (moves.goes past start begun far);
 }
 
 -- exactly the decided frames were taken
-pub settled_frames : (bytes rest : List ℕ) (them : List (List ℕ)) → decided (bytes ++ []) ≡ them ++ decided (rest ++ []) → IsWaiting rest → them ≡ decided bytes
-settled_frames bytes rest them is waits =
+pub flushed_frames : (bytes rest : List ℕ) (them : List (List ℕ)) → decided (bytes ++ []) ≡ them ++ decided (rest ++ []) → IsWaiting rest → them ≡ decided bytes
+flushed_frames bytes rest them is waits =
     sym (ap decided (sym (append-nil bytes)) ∙ is ∙ ap (λ (l : List ℕ). them ++ decided l) (append-nil rest)
     ∙ ap (λ (l : List (List ℕ)). them ++ l) (decided_waiting rest waits) ∙ append-nil them)
 
 -- what is decided by the first bytes is decided by all
-pub decided_front : (k : ℕ) (bytes : List ℕ) → (rest : List (List ℕ)) × (decided bytes ≡ decided (take k bytes) ++ rest)
-decided_front k bytes = (
+pub decided_prefix : (k : ℕ) (bytes : List ℕ) → (rest : List (List ℕ)) × (decided bytes ≡ decided (take k bytes) ++ rest)
+decided_prefix k bytes = (
   decided (undecided (take k bytes) ++ drop k bytes),
   ap decided (sym (take-append-drop k bytes)) ∙ decided_behind (take k bytes) (drop k bytes),
 )
@@ -82,22 +82,22 @@ pub before_last : (bytes piece : List ℕ) → length piece ≤ 16384 → take (
 before_last bytes piece few = take-append-le (length (bytes ++ piece) - 16384) bytes piece (omega (arith, length-append bytes piece, few))
 
 -- frames that begin with those that were decided before the last piece
-begins_settled : (bytes piece : List ℕ) (them more : List (List ℕ)) → length piece ≤ 16384 → them ≡ decided bytes ++ more → BeginsSettled them (bytes ++ piece)
-begins_settled bytes piece them more few is =
+begins_flushed : (bytes piece : List ℕ) (them more : List (List ℕ)) → length piece ≤ 16384 → them ≡ decided bytes ++ more → BeginsFlushed them (bytes ++ piece)
+begins_flushed bytes piece them more few is =
     let n = length (bytes ++ piece) - 16384 in
-    let first = decided_front n bytes in (
+    let first = decided_prefix n bytes in (
       first.0 ++ more,
       is ∙ ap (λ (l : List (List ℕ)). l ++ more) first.1 ∙ append_assoc (decided (take n bytes)) first.0 more
           ∙ ap (λ (l : List ℕ). decided l ++ (first.0 ++ more)) (sym (before_last bytes piece few)),
     )
 
-begins_all : (bytes : List ℕ) (them more : List (List ℕ)) → them ≡ decided bytes ++ more → BeginsSettled them bytes
-begins_all bytes them more is = subst (BeginsSettled them) (append-nil bytes) (begins_settled bytes [] them more (omega arith) is)
+begins_all : (bytes : List ℕ) (them more : List (List ℕ)) → them ≡ decided bytes ++ more → BeginsFlushed them bytes
+begins_all bytes them more is = subst (BeginsFlushed them) (append-nil bytes) (begins_flushed bytes [] them more (omega arith) is)
 
 -- the frames that were taken before the last piece are those that were decided
-far_settled : (r : ℕ) (front : List ℕ) (text : NavItem → List ℕ) (left l1 w w1 u u1 : Option (List ℕ)) (g g1 : GivenState) (c c1 : StreamCounts) (state : DeframerState) (taken : ℕ)
-    → (far : PiecesSoFar r front text left l1 w w1 u u1 g g1 c c1 state taken) → far.moves.frames_are ≡ decided far.bytes
-far_settled r front text left l1 w w1 u u1 g g1 c c1 state taken far = settled_frames far.bytes state.rest far.moves.frames_are (far.moves.decides [] refl) far.may_feed.1
+far_flushed : (r : ℕ) (prefix : List ℕ) (text : NavItem → List ℕ) (left l1 w w1 u u1 : Option (List ℕ)) (g g1 : GivenState) (c c1 : StreamCounts) (state : DeframerState) (taken : ℕ)
+    → (far : PiecesSoFar r prefix text left l1 w w1 u u1 g g1 c c1 state taken) → far.moves.frames_are ≡ decided far.bytes
+far_flushed r prefix text left l1 w w1 u u1 g g1 c c1 state taken far = flushed_frames far.bytes state.rest far.moves.frames_are (far.moves.decides [] refl) far.may_feed.1
 
 -- a read that gave no byte
 takes_none : (left l1 l2 : Option (List ℕ)) (bytes : List ℕ) (n : ℕ) (buffer : List ℕ) → Consumes left l1 bytes → n ≡ 0 → Consumes l1 l2 (take n buffer) → Consumes left l2 bytes
@@ -106,92 +106,92 @@ takes_none left l1 l2 bytes n buffer before zero read =
     subst (Consumes left l2) (append-nil bytes) (Consumes-trans left l1 l2 bytes [] before none)
 
 -- the whole input was taken
-pub pieces_all : (r : ℕ) (front : List ℕ) (text : NavItem → List ℕ) (left l1 l2 w w1 w2 u u1 u2 : Option (List ℕ)) (g g1 g2 : GivenState) (c c1 c2 : StreamCounts) (old last : DeframerState) (after : List ℕ) (taken n : ℕ) (buffer : List ℕ)
-    → PiecesSoFar r front text left l1 w w1 u u1 g g1 c c1 old taken → taken < 2 ^ 32 → n ≡ 0 → Consumes l1 l2 (take n buffer) → IsAtEnd l2
+pub pieces_all : (r : ℕ) (prefix : List ℕ) (text : NavItem → List ℕ) (left l1 l2 w w1 w2 u u1 u2 : Option (List ℕ)) (g g1 g2 : GivenState) (c c1 c2 : StreamCounts) (old last : DeframerState) (after : List ℕ) (taken n : ℕ) (buffer : List ℕ)
+    → PiecesSoFar r prefix text left l1 w w1 u u1 g g1 c c1 old taken → taken < 2 ^ 32 → n ≡ 0 → Consumes l1 l2 (take n buffer) → IsAtEnd l2
     → last.rest ≡ old.rest → last.finished ≡ true
-    → StreamMoves r front text (not last.finished) last.rest after w1 w2 u1 u2 g1 g2 c1 c2 → (last.finished ≡ true → after ≡ [])
-    → StreamAll r front text left l2 w w2 u u2 g g2 c c2
+    → StreamMoves r prefix text (not last.finished) last.rest after w1 w2 u1 u2 g1 g2 c1 c2 → (last.finished ≡ true → after ≡ [])
+    → StreamAll r prefix text left l2 w w2 u u2 g g2 c c2
 unfolding moves_to moves_on moves_last
-pieces_all r front text left l1 l2 w w1 w2 u u1 u2 g g1 g2 c c1 c2 old last after taken n buffer far fits zero read end same finished moves none =
-    let ends = subst (λ (b : Bool). StreamMoves r front text (not b) last.rest after w1 w2 u1 u2 g1 g2 c1 c2) finished moves in
-    let from = subst (λ (l : List ℕ). StreamMoves r front text false l after w1 w2 u1 u2 g1 g2 c1 c2) same ends in
-    let whole = moves_on r front text false far.bytes old.rest after w w1 w2 u u1 u2 g g1 g2 c c1 c2 (moves_last r front text far.bytes old.rest w w1 u u1 g g1 c c1 far.moves) from in
-    let done = moves_to r front text false far.bytes after [] w w2 u u2 g g2 c c2 (none finished) whole in
+pieces_all r prefix text left l1 l2 w w1 w2 u u1 u2 g g1 g2 c c1 c2 old last after taken n buffer far fits zero read end same finished moves none =
+    let ends = subst (λ (b : Bool). StreamMoves r prefix text (not b) last.rest after w1 w2 u1 u2 g1 g2 c1 c2) finished moves in
+    let from = subst (λ (l : List ℕ). StreamMoves r prefix text false l after w1 w2 u1 u2 g1 g2 c1 c2) same ends in
+    let whole = moves_on r prefix text false far.bytes old.rest after w w1 w2 u u1 u2 g g1 g2 c c1 c2 (moves_last r prefix text far.bytes old.rest w w1 u u1 g g1 c c1 far.moves) from in
+    let done = moves_to r prefix text false far.bytes after [] w w2 u u2 g g2 c c2 (none finished) whole in
     record {
       taken = far.bytes;
       consumes = takes_none left l1 l2 far.bytes n buffer far.consumes zero read;
       end = end;
       fits = omega (arith, far.size, fits);
       moves = done;
-      settles = begins_all far.bytes done.frames_are from.frames_are
-          (ap (λ (l : List (List ℕ)). l ++ from.frames_are) (far_settled r front text left l1 w w1 u u1 g g1 c c1 old taken far));
+      flushes = begins_all far.bytes done.frames_are from.frames_are
+          (ap (λ (l : List (List ℕ)). l ++ from.frames_are) (far_flushed r prefix text left l1 w w1 u u1 g g1 c c1 old taken far));
     }
 
 -- a read failed: exactly the decided frames were taken
-pub part_of_read : (r : ℕ) (front : List ℕ) (text : NavItem → List ℕ) (left l1 l2 w w1 u u1 : Option (List ℕ)) (g g1 : GivenState) (c c1 : StreamCounts) (state : DeframerState) (taken : ℕ)
-    → PiecesSoFar r front text left l1 w w1 u u1 g g1 c c1 state taken → Keeps l1 l2 → StreamPart r front text left l2 w w1 u u1 g g1 c c1 ReadFault
+pub part_of_read : (r : ℕ) (prefix : List ℕ) (text : NavItem → List ℕ) (left l1 l2 w w1 u u1 : Option (List ℕ)) (g g1 : GivenState) (c c1 : StreamCounts) (state : DeframerState) (taken : ℕ)
+    → PiecesSoFar r prefix text left l1 w w1 u u1 g g1 c c1 state taken → Keeps l1 l2 → StreamPart r prefix text left l2 w w1 u u1 g g1 c c1 ReadFault
 unfolding stops_last stops_of_moves
-part_of_read r front text left l1 l2 w w1 u u1 g g1 c c1 state taken far kept =
-    let settled = far_settled r front text left l1 w w1 u u1 g g1 c c1 state taken far in
+part_of_read r prefix text left l1 l2 w w1 u u1 g g1 c c1 state taken far kept =
+    let flushed = far_flushed r prefix text left l1 w w1 u u1 g g1 c c1 state taken far in
     record {
       taken = far.bytes;
       consumes = Consumes-kept left l1 l2 far.bytes far.consumes kept;
-      stops = stops_last r front text far.bytes w w1 u u1 g c (stops_of_moves r front text true far.bytes state.rest w w1 u u1 g g1 c c1 far.moves);
-      settles = begins_all far.bytes far.moves.frames_are [] (settled ∙ sym (append-nil (decided far.bytes)));
+      stops = stops_last r prefix text far.bytes w w1 u u1 g c (stops_of_moves r prefix text true far.bytes state.rest w w1 u u1 g g1 c c1 far.moves);
+      flushes = begins_all far.bytes far.moves.frames_are [] (flushed ∙ sym (append-nil (decided far.bytes)));
       too_long = λ never. cc;
       form = λ never. cc;
-      exact = λ same. subst (λ (l : List (List ℕ)). StreamGoes r front text l w w1 u u1 g g1 c c1) settled far.moves.goes;
+      exact = λ same. subst (λ (l : List (List ℕ)). StreamGoes r prefix text l w w1 u u1 g g1 c c1) flushed far.moves.goes;
     }
 
 -- too many bytes were there
-pub part_of_long : (r : ℕ) (front : List ℕ) (text : NavItem → List ℕ) (left l1 w w1 u u1 : Option (List ℕ)) (g g1 : GivenState) (c c1 : StreamCounts) (state : DeframerState) (taken : ℕ)
-    → PiecesSoFar r front text left l1 w w1 u u1 g g1 c c1 state taken → taken ≡ 2 ^ 32 → StreamPart r front text left l1 w w1 u u1 g g1 c c1 TooLong
+pub part_of_long : (r : ℕ) (prefix : List ℕ) (text : NavItem → List ℕ) (left l1 w w1 u u1 : Option (List ℕ)) (g g1 : GivenState) (c c1 : StreamCounts) (state : DeframerState) (taken : ℕ)
+    → PiecesSoFar r prefix text left l1 w w1 u u1 g g1 c c1 state taken → taken ≡ 2 ^ 32 → StreamPart r prefix text left l1 w w1 u u1 g g1 c c1 TooLong
 unfolding stops_last stops_of_moves
-part_of_long r front text left l1 w w1 u u1 g g1 c c1 state taken far long = record {
+part_of_long r prefix text left l1 w w1 u u1 g g1 c c1 state taken far long = record {
   taken = far.bytes;
   consumes = far.consumes;
-  stops = stops_last r front text far.bytes w w1 u u1 g c (stops_of_moves r front text true far.bytes state.rest w w1 u u1 g g1 c c1 far.moves);
-  settles = begins_all far.bytes far.moves.frames_are [] (far_settled r front text left l1 w w1 u u1 g g1 c c1 state taken far ∙ sym (append-nil (decided far.bytes)));
+  stops = stops_last r prefix text far.bytes w w1 u u1 g c (stops_of_moves r prefix text true far.bytes state.rest w w1 u u1 g g1 c c1 far.moves);
+  flushes = begins_all far.bytes far.moves.frames_are [] (far_flushed r prefix text left l1 w w1 u u1 g g1 c c1 state taken far ∙ sym (append-nil (decided far.bytes)));
   too_long = λ same. far.size ∙ long;
   form = λ never. cc;
   exact = λ never. cc;
 }
 
 -- a frame of a piece is not taken to its end
-pub part_of_piece : (r : ℕ) (front : List ℕ) (text : NavItem → List ℕ) (left l1 l2 w w1 w2 u u1 u2 : Option (List ℕ)) (g g1 g2 : GivenState) (c c1 c2 : StreamCounts) (old : DeframerState) (taken : ℕ) (piece : List ℕ) (fault : BridgeFault)
-    → PiecesSoFar r front text left l1 w w1 u u1 g g1 c c1 old taken → Consumes l1 l2 piece → length piece ≤ 16384
-    → StreamStops r front text true (old.rest ++ piece) w1 w2 u1 u2 g1 c1 → IsStreamFault fault
-    → StreamPart r front text left l2 w w2 u u2 g g2 c c2 fault
+pub part_of_piece : (r : ℕ) (prefix : List ℕ) (text : NavItem → List ℕ) (left l1 l2 w w1 w2 u u1 u2 : Option (List ℕ)) (g g1 g2 : GivenState) (c c1 c2 : StreamCounts) (old : DeframerState) (taken : ℕ) (piece : List ℕ) (fault : BridgeFault)
+    → PiecesSoFar r prefix text left l1 w w1 u u1 g g1 c c1 old taken → Consumes l1 l2 piece → length piece ≤ 16384
+    → StreamStops r prefix text true (old.rest ++ piece) w1 w2 u1 u2 g1 c1 → IsStreamFault fault
+    → StreamPart r prefix text left l2 w w2 u u2 g g2 c c2 fault
 unfolding stops_last stops_on moves_fed
-part_of_piece r front text left l1 l2 w w1 w2 u u1 u2 g g1 g2 c c1 c2 old taken piece fault far read few stops kind = record {
+part_of_piece r prefix text left l1 l2 w w1 w2 u u1 u2 g g1 g2 c c1 c2 old taken piece fault far read few stops kind = record {
   taken = far.bytes ++ piece;
   consumes = Consumes-trans left l1 l2 far.bytes piece far.consumes read;
-  stops = stops_last r front text (far.bytes ++ piece) w w2 u u2 g c
-      (stops_on r front text true (far.bytes ++ piece) (old.rest ++ piece) w w1 w2 u u1 u2 g g1 c c1
-      (moves_fed r front text far.bytes old.rest piece w w1 u u1 g g1 c c1 far.moves) stops);
-  settles = begins_settled far.bytes piece (far.moves.frames_are ++ stops.done) stops.done few
-      (ap (λ (l : List (List ℕ)). l ++ stops.done) (far_settled r front text left l1 w w1 u u1 g g1 c c1 old taken far));
+  stops = stops_last r prefix text (far.bytes ++ piece) w w2 u u2 g c
+      (stops_on r prefix text true (far.bytes ++ piece) (old.rest ++ piece) w w1 w2 u u1 u2 g g1 c c1
+      (moves_fed r prefix text far.bytes old.rest piece w w1 u u1 g g1 c c1 far.moves) stops);
+  flushes = begins_flushed far.bytes piece (far.moves.frames_are ++ stops.done) stops.done few
+      (ap (λ (l : List (List ℕ)). l ++ stops.done) (far_flushed r prefix text left l1 w w1 u u1 g g1 c c1 old taken far));
   too_long = λ is. absurd (subst IsStreamFault is kind);
   form = λ is. subst IsStreamFault is kind;
   exact = λ is. absurd (subst IsStreamFault is kind);
 }
 
 -- a frame that the end decides is not taken to its end
-pub part_of_last : (r : ℕ) (front : List ℕ) (text : NavItem → List ℕ) (left l1 l2 w w1 w2 u u1 u2 : Option (List ℕ)) (g g1 g2 : GivenState) (c c1 c2 : StreamCounts) (old last : DeframerState) (taken n : ℕ) (buffer : List ℕ) (fault : BridgeFault)
-    → PiecesSoFar r front text left l1 w w1 u u1 g g1 c c1 old taken → n ≡ 0 → Consumes l1 l2 (take n buffer)
+pub part_of_last : (r : ℕ) (prefix : List ℕ) (text : NavItem → List ℕ) (left l1 l2 w w1 w2 u u1 u2 : Option (List ℕ)) (g g1 g2 : GivenState) (c c1 c2 : StreamCounts) (old last : DeframerState) (taken n : ℕ) (buffer : List ℕ) (fault : BridgeFault)
+    → PiecesSoFar r prefix text left l1 w w1 u u1 g g1 c c1 old taken → n ≡ 0 → Consumes l1 l2 (take n buffer)
     → last.rest ≡ old.rest → last.finished ≡ true
-    → StreamStops r front text (not last.finished) last.rest w1 w2 u1 u2 g1 c1 → IsStreamFault fault
-    → StreamPart r front text left l2 w w2 u u2 g g2 c c2 fault
+    → StreamStops r prefix text (not last.finished) last.rest w1 w2 u1 u2 g1 c1 → IsStreamFault fault
+    → StreamPart r prefix text left l2 w w2 u u2 g g2 c c2 fault
 unfolding stops_on moves_last
-part_of_last r front text left l1 l2 w w1 w2 u u1 u2 g g1 g2 c c1 c2 old last taken n buffer fault far zero read same finished stops kind =
-    let ends = subst (λ (b : Bool). StreamStops r front text (not b) last.rest w1 w2 u1 u2 g1 c1) finished stops in
-    let from = subst (λ (l : List ℕ). StreamStops r front text false l w1 w2 u1 u2 g1 c1) same ends in
+part_of_last r prefix text left l1 l2 w w1 w2 u u1 u2 g g1 g2 c c1 c2 old last taken n buffer fault far zero read same finished stops kind =
+    let ends = subst (λ (b : Bool). StreamStops r prefix text (not b) last.rest w1 w2 u1 u2 g1 c1) finished stops in
+    let from = subst (λ (l : List ℕ). StreamStops r prefix text false l w1 w2 u1 u2 g1 c1) same ends in
     record {
       taken = far.bytes;
       consumes = takes_none left l1 l2 far.bytes n buffer far.consumes zero read;
-      stops = stops_on r front text false far.bytes old.rest w w1 w2 u u1 u2 g g1 c c1 (moves_last r front text far.bytes old.rest w w1 u u1 g g1 c c1 far.moves) from;
-      settles = begins_all far.bytes (far.moves.frames_are ++ from.done) from.done
-          (ap (λ (l : List (List ℕ)). l ++ from.done) (far_settled r front text left l1 w w1 u u1 g g1 c c1 old taken far));
+      stops = stops_on r prefix text false far.bytes old.rest w w1 w2 u u1 u2 g g1 c c1 (moves_last r prefix text far.bytes old.rest w w1 u u1 g g1 c c1 far.moves) from;
+      flushes = begins_all far.bytes (far.moves.frames_are ++ from.done) from.done
+          (ap (λ (l : List (List ℕ)). l ++ from.done) (far_flushed r prefix text left l1 w w1 u u1 g g1 c c1 old taken far));
       too_long = λ is. absurd (subst IsStreamFault is kind);
       form = λ is. subst IsStreamFault is kind;
       exact = λ is. absurd (subst IsStreamFault is kind);

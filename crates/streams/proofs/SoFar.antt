@@ -6,18 +6,18 @@ use Rattle.std.specs.Io.KnownBytes.{Appends, Consumes, IsAtEnd, Keeps}
 use Rattle.std.proofs.KnownBytes.{Appends-trans, Consumes-nil, Consumes-trans, Consumes-kept}
 use Rattle.std.proofs.lemmas.Grind.{flat_map-append}
 use Rattle.nav_io.specs.Causes.{Rose}
-use Rattle.nav_io.specs.Front.{AppendsFront, IsFront}
+use Rattle.nav_io.specs.Prefix.{AppendsPrefix, IsPrefix}
 use Rattle.rtcm_frame.specs.Frames.{decided, frames}
 use Rattle.rtcm_frame.specs.State.{DeframerState, MayFeed}
 use Rattle.one_run.specs.declared.fault.BridgeFault.TheVariants.{ReadFault, WriteFault, TooLong}
 use Rattle.one_run.specs.declared.fault.BridgeFault.{BridgeFault}
 use Rattle.one_run.specs.Runs.{AppendsBetween, Broke, Done, Leaves, Says, World}
-use Rattle.one_run.proofs.Surface.{front_trans, no_front, whole_front}
+use Rattle.one_run.proofs.Surface.{prefix_trans, no_prefix, whole_prefix}
 use Rattle.streams.specs.declared.frame_run.FrameCounts.{FrameCounts}
 use Rattle.streams.specs.FrameLines.{frames_meaning, line_of}
-use Rattle.streams.specs.FrameRuns.{Goes, Breaks, least_of, output_of, settled_of}
+use Rattle.streams.specs.FrameRuns.{Goes, Breaks, least_of, output_of, flushed_of}
 use Rattle.streams.proofs.Goings.{goes_nowhere, goes_on, goes_fed}
-use Rattle.streams.proofs.PieceEnds.{before_last, decided_front, settled_frames}
+use Rattle.streams.proofs.PieceEnds.{before_last, decided_prefix, flushed_frames}
 
 -- The bytes taken, and what they decide, so far.
 pub record RunsSoFar (line : List ℕ → List ℕ) (left left_new written written_new : Option (List ℕ)) (state : DeframerState) (taken count : ℕ) : Type 0 where
@@ -95,29 +95,29 @@ leaves b a silent = record { unread = λ never. cc; silent = λ same. silent.rep
 
 -- exactly the lines of the decided frames were written
 far_given : (left l1 w w1 : Option (List ℕ)) (state : DeframerState) (taken count : ℕ) → (far : RunsSoFar line_of left l1 w w1 state taken count) → far.goes.given ≡ decided far.bytes
-far_given left l1 w w1 state taken count far = settled_frames far.bytes state.rest far.goes.given (far.goes.decides [] refl) far.may_feed.1
+far_given left l1 w w1 state taken count far = flushed_frames far.bytes state.rest far.goes.given (far.goes.decides [] refl) far.may_feed.1
 
-far_text : (left l1 w w1 : Option (List ℕ)) (state : DeframerState) (taken count : ℕ) → (far : RunsSoFar line_of left l1 w w1 state taken count) → Appends w w1 (settled_of line_of far.bytes)
+far_text : (left l1 w w1 : Option (List ℕ)) (state : DeframerState) (taken count : ℕ) → (far : RunsSoFar line_of left l1 w w1 state taken count) → Appends w w1 (flushed_of line_of far.bytes)
 far_text left l1 w w1 state taken count far = subst (λ (l : List (List ℕ)). Appends w w1 (flat_map line_of l)) (far_given left l1 w w1 state taken count far) far.goes.text
 
--- the least that is written with a piece more is a front of that
-least_before : (bytes piece : List ℕ) → length piece ≤ 16384 → IsFront (least_of line_of (bytes ++ piece)) (settled_of line_of bytes)
+-- the least that is written with a piece more is a prefix of that
+least_before : (bytes piece : List ℕ) → length piece ≤ 16384 → IsPrefix (least_of line_of (bytes ++ piece)) (flushed_of line_of bytes)
 least_before bytes piece few =
     let n = length (bytes ++ piece) - 16384 in
-    let first = decided_front n bytes in (
+    let first = decided_prefix n bytes in (
       flat_map line_of first.0,
       ap (flat_map line_of) first.1 ∙ flat_map-append line_of (decided (take n bytes)) first.0
           ∙ ap (λ (l : List ℕ). flat_map line_of (decided l) ++ flat_map line_of first.0) (sym (before_last bytes piece few)),
     )
 
--- a text was written, and then a front of what is written of more bytes
-written_between : (line : List ℕ → List ℕ) (bytes : List ℕ) (w w1 w2 : Option (List ℕ)) (least done more : List ℕ) → IsFront least done → Appends w w1 done → AppendsFront w1 w2 more
+-- a text was written, and then a prefix of what is written of more bytes
+written_between : (line : List ℕ → List ℕ) (bytes : List ℕ) (w w1 w2 : Option (List ℕ)) (least done more : List ℕ) → IsPrefix least done → Appends w w1 done → AppendsPrefix w1 w2 more
     → output_of line bytes ≡ done ++ more → AppendsBetween w w2 least (output_of line bytes)
-written_between line bytes w w1 w2 least done more low text (front, (rest, within), grew) whole = record {
-  front = done ++ front;
-  within = (rest, whole ∙ ap (λ (l : List ℕ). done ++ l) within ∙ sym (append_assoc done front rest));
-  no_less = front_trans least done (done ++ front) low (front, refl);
-  grew = Appends-trans w w1 w2 done front text grew;
+written_between line bytes w w1 w2 least done more low text (prefix, (rest, within), grew) whole = record {
+  prefix = done ++ prefix;
+  within = (rest, whole ∙ ap (λ (l : List ℕ). done ++ l) within ∙ sym (append_assoc done prefix rest));
+  no_less = prefix_trans least done (done ++ prefix) low (prefix, refl);
+  grew = Appends-trans w w1 w2 done prefix text grew;
 }
 
 -- the run broke off
@@ -127,12 +127,12 @@ broke b a fault taken silent consumes text says = record {
   taken = taken;
   consumes = consumes;
   text = text;
-  told = whole_front b.reported a.reported [] silent.told;
+  told = whole_prefix b.reported a.reported [] silent.told;
   leaves = leaves b a silent;
   says = says;
 }
 
--- the counts of so many frames
+-- the counts for this number of frames
 abbrev counts_of : ℕ → FrameCounts
 counts_of n = record { frames = n }
 
@@ -162,26 +162,26 @@ done_frames b a l1 w1 old last after taken count counted n buffer silent far fit
       reports = silent.failed;
     }
 
--- the lines of more bytes stand behind those of the decided frames
+-- the lines of more bytes begin with those of the decided frames
 more_lines : (left l1 w w1 : Option (List ℕ)) (state : DeframerState) (taken count : ℕ) → (far : RunsSoFar line_of left l1 w w1 state taken count) → (piece : List ℕ)
-    → output_of line_of (far.bytes ++ piece) ≡ settled_of line_of far.bytes ++ output_of line_of (state.rest ++ piece)
+    → output_of line_of (far.bytes ++ piece) ≡ flushed_of line_of far.bytes ++ output_of line_of (state.rest ++ piece)
 more_lines left l1 w w1 state taken count far piece =
     ap (flat_map line_of) (far.goes.stream piece (λ never. cc)) ∙ flat_map-append line_of far.goes.given (frames (state.rest ++ piece))
     ∙ ap (λ (l : List (List ℕ)). flat_map line_of l ++ output_of line_of (state.rest ++ piece)) (far_given left l1 w w1 state taken count far)
 
 last_lines : (left l1 w w1 : Option (List ℕ)) (state : DeframerState) (taken count : ℕ) → (far : RunsSoFar line_of left l1 w w1 state taken count)
-    → output_of line_of far.bytes ≡ settled_of line_of far.bytes ++ output_of line_of (state.rest ++ [])
+    → output_of line_of far.bytes ≡ flushed_of line_of far.bytes ++ output_of line_of (state.rest ++ [])
 last_lines left l1 w w1 state taken count far = ap (output_of line_of) (sym (append-nil far.bytes)) ∙ more_lines left l1 w w1 state taken count far []
 
-least_all : (bytes : List ℕ) → IsFront (least_of line_of bytes) (settled_of line_of bytes)
-least_all bytes = subst (λ (l : List ℕ). IsFront (least_of line_of l) (settled_of line_of bytes)) (append-nil bytes) (least_before bytes [] (omega arith))
+least_all : (bytes : List ℕ) → IsPrefix (least_of line_of bytes) (flushed_of line_of bytes)
+least_all bytes = subst (λ (l : List ℕ). IsPrefix (least_of line_of l) (flushed_of line_of bytes)) (append-nil bytes) (least_before bytes [] (omega arith))
 
--- nothing was written behind them
+-- nothing was written after them
 far_between : (left l1 w w1 : Option (List ℕ)) (state : DeframerState) (taken count : ℕ) → (far : RunsSoFar line_of left l1 w w1 state taken count)
     → AppendsBetween w w1 (least_of line_of far.bytes) (output_of line_of far.bytes)
 far_between left l1 w w1 state taken count far =
-    written_between line_of far.bytes w w1 w1 (least_of line_of far.bytes) (settled_of line_of far.bytes) (output_of line_of (state.rest ++ [])) (least_all far.bytes)
-    (far_text left l1 w w1 state taken count far) (no_front w1 _) (last_lines left l1 w w1 state taken count far)
+    written_between line_of far.bytes w w1 w1 (least_of line_of far.bytes) (flushed_of line_of far.bytes) (output_of line_of (state.rest ++ [])) (least_all far.bytes)
+    (far_text left l1 w w1 state taken count far) (no_prefix w1 _) (last_lines left l1 w w1 state taken count far)
 
 -- a read failed
 pub broke_read : {S T U : Type 0} (b a : World S T U) (l1 : Option (List ℕ)) (state : DeframerState) (taken count : ℕ)
@@ -196,10 +196,10 @@ pub broke_piece : {S T U : Type 0} (b a : World S T U) (l1 w1 : Option (List ℕ
     → IsSilent b a → RunsSoFar line_of b.left l1 b.written w1 old taken count → Consumes l1 a.left piece → length piece ≤ 16384 → Breaks line_of true (old.rest ++ piece) w1 a.written
     → Rose b.writes_failed a.writes_failed → Broke frames_meaning b a WriteFault
 broke_piece b a l1 w1 old taken count piece silent far read few breaks rose =
-    let front = subst (λ (l : List ℕ). AppendsFront w1 a.written (output_of line_of l)) (append-nil (old.rest ++ piece)) (breaks.text [] (λ never. refl)) in
+    let prefix = subst (λ (l : List ℕ). AppendsPrefix w1 a.written (output_of line_of l)) (append-nil (old.rest ++ piece)) (breaks.text [] (λ never. refl)) in
     broke b a WriteFault (far.bytes ++ piece) silent (Consumes-trans b.left l1 a.left far.bytes piece far.consumes read)
-    (written_between line_of (far.bytes ++ piece) b.written w1 a.written (least_of line_of (far.bytes ++ piece)) (settled_of line_of far.bytes) (output_of line_of (old.rest ++ piece))
-    (least_before far.bytes piece few) (far_text b.left l1 b.written w1 old taken count far) front (more_lines b.left l1 b.written w1 old taken count far piece))
+    (written_between line_of (far.bytes ++ piece) b.written w1 a.written (least_of line_of (far.bytes ++ piece)) (flushed_of line_of far.bytes) (output_of line_of (old.rest ++ piece))
+    (least_before far.bytes piece few) (far_text b.left l1 b.written w1 old taken count far) prefix (more_lines b.left l1 b.written w1 old taken count far piece))
     (rose, accepts b.left)
 
 -- a write failed after the last byte
@@ -210,7 +210,7 @@ broke_last b a l1 w1 old last taken count n buffer silent far zero read same fin
     let ends = subst (λ (x : Bool). Breaks line_of (not x) last.rest w1 a.written) finished breaks in
     let from = subst (λ (l : List ℕ). Breaks line_of false l w1 a.written) same ends in
     broke b a WriteFault far.bytes silent (takes_none b.left l1 a.left far.bytes n buffer far.consumes zero read)
-    (written_between line_of far.bytes b.written w1 a.written (least_of line_of far.bytes) (settled_of line_of far.bytes) (output_of line_of (old.rest ++ []))
+    (written_between line_of far.bytes b.written w1 a.written (least_of line_of far.bytes) (flushed_of line_of far.bytes) (output_of line_of (old.rest ++ []))
     (least_all far.bytes) (far_text b.left l1 b.written w1 old taken count far) (from.text [] (λ last. refl)) (last_lines b.left l1 b.written w1 old taken count far))
     (rose, accepts b.left)
 

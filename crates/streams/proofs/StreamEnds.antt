@@ -4,7 +4,7 @@ use Rattle.std.specs.Prelude.{Option, None, Some, IfSome, IsErrOf, IsSome, IsTru
 use Rattle.std.specs.Io.KnownBytes.{Appends, Consumes}
 use Rattle.std.proofs.KnownBytes.{Appends-nil, Appends-trans, Consumes-nil}
 use Rattle.nav_io.specs.Causes.{Rose}
-use Rattle.nav_io.specs.Front.{AppendsFront, IsFront}
+use Rattle.nav_io.specs.Prefix.{AppendsPrefix, IsPrefix}
 use Rattle.nav_eph.specs.declared.items.NavItem.{NavItem}
 use Rattle.rtcm_frame.specs.Frames.{decided, frames}
 use Rattle.rtcm_frame.specs.State.{payload_of}
@@ -14,9 +14,9 @@ use Rattle.one_run.specs.declared.fault.BridgeFault.TheVariants.{ReadFault, Writ
 use Rattle.one_run.specs.Causes.{HasItsCause, faults_of}
 use Rattle.one_run.specs.Runs.{AppendsBetween, Broke, Done, Leaves, Says, World}
 use Rattle.streams.specs.declared.counts.StreamCounts.{StreamCounts}
-use Rattle.streams.specs.Streams.{Reading, counts_of_readings, has, items_in, least_output_by, reading_report, readings, readings_output, readings_report, stream_counts, stream_counts_text, stream_meaning_by, stream_output_by, stream_report}
-use Rattle.streams.specs.Mirrors.{BeginsSettled, GivenState, NothingKept, StreamAll, StreamPart, StreamSoFar, is_given, once_text}
-use Rattle.one_run.proofs.Surface.{between, front_behind, front_longer, front_same, front_trans, front_within, no_front}
+use Rattle.streams.specs.Streams.{Reading, counts_of_readings, has, items_of_readings, least_output_by, reading_report, readings, readings_output, readings_report, stream_counts, stream_counts_text, stream_meaning_by, stream_output_by, stream_report}
+use Rattle.streams.specs.Mirrors.{BeginsFlushed, GivenState, NothingKept, StreamAll, StreamPart, StreamSoFar, is_given, once_text}
+use Rattle.one_run.proofs.Surface.{between, prefix_behind, prefix_longer, prefix_same, prefix_trans, prefix_within, no_prefix}
 use Rattle.streams.proofs.KnownLemmas.{none_known}
 use Rattle.streams.proofs.StreamLemmas.{between_whole, output_fault, output_item}
 
@@ -27,42 +27,42 @@ readings_append r [] ys = refl
 readings_append r (x ∷ xs) ys = ap (λ (l : List Reading). item_in r (payload_of x) ∷ l) (readings_append r xs ys)
 
 -- the report of fewer
-report_longer : (n : ℕ) (xs ys : List Reading) → IsFront (readings_report n xs) (readings_report n (xs ++ ys))
+report_longer : (n : ℕ) (xs ys : List Reading) → IsPrefix (readings_report n xs) (readings_report n (xs ++ ys))
 report_longer n [] ys = (readings_report n ys, refl)
 report_longer n (x ∷ xs) ys =
     let rest = report_longer (n + 1) xs ys in
     (rest.0, ap (λ (l : List ℕ). reading_report n x ++ l) rest.1 ∙ sym (append_assoc (reading_report n x) (readings_report (n + 1) xs) rest.0))
 
 -- the output of one more
-output_one : (front : List ℕ) (text : NavItem → List ℕ) (rs : List Reading) (x : Reading) → IsFront (readings_output front text rs) (readings_output front text (rs ++ x ∷ []))
-output_one front text rs (Ok item) = (once_text text (has (items_in rs) item) item, output_item front text rs item)
-output_one front text rs (Err fault) = ([], output_fault front text rs fault ∙ sym (append-nil (readings_output front text rs)))
+output_one : (prefix : List ℕ) (text : NavItem → List ℕ) (rs : List Reading) (x : Reading) → IsPrefix (readings_output prefix text rs) (readings_output prefix text (rs ++ x ∷ []))
+output_one prefix text rs (Ok item) = (once_text text (has (items_of_readings rs) item) item, output_item prefix text rs item)
+output_one prefix text rs (Err fault) = ([], output_fault prefix text rs fault ∙ sym (append-nil (readings_output prefix text rs)))
 
 -- the output of fewer
-output_longer : (front : List ℕ) (text : NavItem → List ℕ) (ys xs : List Reading) → IsFront (readings_output front text xs) (readings_output front text (xs ++ ys))
-output_longer front text [] xs = subst (λ (l : List Reading). IsFront (readings_output front text xs) (readings_output front text l)) (sym (append-nil xs)) ([], sym (append-nil (readings_output front text xs)))
-output_longer front text (y ∷ ys) xs =
-    subst (λ (l : List Reading). IsFront (readings_output front text xs) (readings_output front text l)) (append_assoc xs (y ∷ []) ys)
-    (front_trans (readings_output front text xs) (readings_output front text (xs ++ y ∷ [])) (readings_output front text ((xs ++ y ∷ []) ++ ys))
-    (output_one front text xs y) (output_longer front text ys (xs ++ y ∷ [])))
+output_longer : (prefix : List ℕ) (text : NavItem → List ℕ) (ys xs : List Reading) → IsPrefix (readings_output prefix text xs) (readings_output prefix text (xs ++ ys))
+output_longer prefix text [] xs = subst (λ (l : List Reading). IsPrefix (readings_output prefix text xs) (readings_output prefix text l)) (sym (append-nil xs)) ([], sym (append-nil (readings_output prefix text xs)))
+output_longer prefix text (y ∷ ys) xs =
+    subst (λ (l : List Reading). IsPrefix (readings_output prefix text xs) (readings_output prefix text l)) (append_assoc xs (y ∷ []) ys)
+    (prefix_trans (readings_output prefix text xs) (readings_output prefix text (xs ++ y ∷ [])) (readings_output prefix text ((xs ++ y ∷ []) ++ ys))
+    (output_one prefix text xs y) (output_longer prefix text ys (xs ++ y ∷ [])))
 
--- what grew by no less than a text and at most another one did so by no less than a front of the one, and at most what the other begins
-between_within : (w w1 : Option (List ℕ)) (least some more whole : List ℕ) → IsFront least some → IsFront more whole → AppendsBetween w w1 some more → AppendsBetween w w1 least whole
+-- what grew by a text between two others grew by one between a prefix of the first and any text that the second begins
+between_within : (w w1 : Option (List ℕ)) (least some more whole : List ℕ) → IsPrefix least some → IsPrefix more whole → AppendsBetween w w1 some more → AppendsBetween w w1 least whole
 between_within w w1 least some more whole low high grew = record {
-  front = grew.front;
-  within = front_trans grew.front more whole grew.within high;
-  no_less = front_trans least some grew.front low grew.no_less;
+  prefix = grew.prefix;
+  within = prefix_trans grew.prefix more whole grew.within high;
+  no_less = prefix_trans least some grew.prefix low grew.no_less;
   grew = grew.grew;
 }
 
--- the least that is written is a front of what frames give that begin with those that were decided before the last piece
-least_front : (r : ℕ) (front : List ℕ) (text : NavItem → List ℕ) (taken : List ℕ) (them : List (List ℕ))
-    → BeginsSettled them taken → IsFront (least_output_by front text r taken) (readings_output front text (readings r them))
-least_front r front text [] them begins = (readings_output front text (readings r them), refl)
-least_front r front text (b ∷ bs) them (rest, is) =
+-- the least that is written is a prefix of what frames give that begin with those that were decided before the last piece
+least_prefix : (r : ℕ) (prefix : List ℕ) (text : NavItem → List ℕ) (taken : List ℕ) (them : List (List ℕ))
+    → BeginsFlushed them taken → IsPrefix (least_output_by prefix text r taken) (readings_output prefix text (readings r them))
+least_prefix r prefix text [] them begins = (readings_output prefix text (readings r them), refl)
+least_prefix r prefix text (b ∷ bs) them (rest, is) =
     let first = decided (take (length (b ∷ bs) - 16384) (b ∷ bs)) in
-    subst (λ (l : List Reading). IsFront (readings_output front text (readings r first)) (readings_output front text l))
-    (sym (ap (readings r) is ∙ readings_append r first rest)) (output_longer front text (readings r rest) (readings r first))
+    subst (λ (l : List Reading). IsPrefix (readings_output prefix text (readings r first)) (readings_output prefix text l))
+    (sym (ap (readings r) is ∙ readings_append r first rest)) (output_longer prefix text (readings r rest) (readings r first))
 
 -- ---- a stream begins
 
@@ -70,11 +70,11 @@ least_front r front text (b ∷ bs) them (rest, is) =
 abbrev pub NoneGiven : GivenState → Type 0
 NoneGiven g = ((other : NavItem) → is_given g other ≡ false) × NothingKept g
 
--- the text in front was written, and no frame was taken
-begins : (r : ℕ) (front : List ℕ) (text : NavItem → List ℕ) (w w1 u : Option (List ℕ)) (g : GivenState) (c : StreamCounts)
-    → Appends w w1 front → NoneGiven g → c ≡ counts_of_readings [] → Appends u u [] → StreamSoFar r front text [] w w1 u u g c
-begins r front text w w1 u g c grew none nothing same = record {
-  output = subst (Appends w w1) (sym (append-nil front)) grew;
+-- the leading text was written, and no frame was processed
+begins : (r : ℕ) (prefix : List ℕ) (text : NavItem → List ℕ) (w w1 u : Option (List ℕ)) (g : GivenState) (c : StreamCounts)
+    → Appends w w1 prefix → NoneGiven g → c ≡ counts_of_readings [] → Appends u u [] → StreamSoFar r prefix text [] w w1 u u g c
+begins r prefix text w w1 u g c grew none nothing same = record {
+  output = subst (Appends w w1) (sym (append-nil prefix)) grew;
   report = same;
   counts_are = nothing;
   holds = none.0;
@@ -87,13 +87,13 @@ begins r front text w w1 u g c grew none nothing same = record {
 all_frames : (taken : List ℕ) (them : List (List ℕ)) → frames (taken ++ []) ≡ them ++ frames [] → frames taken ≡ them
 all_frames taken them is = ap frames (sym (append-nil taken)) ∙ is ∙ append-nil them
 
-all_so_far : (r : ℕ) (front : List ℕ) (text : NavItem → List ℕ) (left l1 w w1 w2 u u1 : Option (List ℕ)) (g g1 : GivenState) (c c1 : StreamCounts)
-    → Appends w w1 front → NoneGiven g → c ≡ counts_of_readings [] → Appends u u []
-    → (all : StreamAll r front text left l1 w1 w2 u u1 g g1 c c1)
-    → StreamSoFar r front text (frames all.taken) w w2 u u1 g1 c1
-all_so_far r front text left l1 w w1 w2 u u1 g g1 c c1 grew none nothing same all =
-    subst (λ (l : List (List ℕ)). StreamSoFar r front text l w w2 u u1 g1 c1) (sym (all_frames all.taken all.moves.frames_are (all.moves.stream [] (λ last. refl))))
-    (all.moves.goes [] w u (begins r front text w w1 u g c grew none nothing same))
+all_so_far : (r : ℕ) (prefix : List ℕ) (text : NavItem → List ℕ) (left l1 w w1 w2 u u1 : Option (List ℕ)) (g g1 : GivenState) (c c1 : StreamCounts)
+    → Appends w w1 prefix → NoneGiven g → c ≡ counts_of_readings [] → Appends u u []
+    → (all : StreamAll r prefix text left l1 w1 w2 u u1 g g1 c c1)
+    → StreamSoFar r prefix text (frames all.taken) w w2 u u1 g1 c1
+all_so_far r prefix text left l1 w w1 w2 u u1 g g1 c c1 grew none nothing same all =
+    subst (λ (l : List (List ℕ)). StreamSoFar r prefix text l w w2 u u1 g1 c1) (sym (all_frames all.taken all.moves.frames_are (all.moves.stream [] (λ last. refl))))
+    (all.moves.goes [] w u (begins r prefix text w w1 u g c grew none nothing same))
 
 -- ---- and its run
 
@@ -102,96 +102,96 @@ accepts : (r : ℕ) (left : Option (List ℕ)) → IfSome left (λ bytes. IsSome
 accepts r None = tt
 accepts r (Some bytes) = refl
 
--- a run that reads and reports leaves nothing alone
-leaves : {S T U : Type 0} (front : List ℕ) (text : NavItem → List ℕ) (r : ℕ) (before after : World S T U) → Leaves (stream_meaning_by front text r) before after
-leaves front text r before after = record { unread = λ never. cc; silent = λ never. cc }
+-- a run that reads and reports has no object that stays untouched
+leaves : {S T U : Type 0} (prefix : List ℕ) (text : NavItem → List ℕ) (r : ℕ) (before after : World S T U) → Leaves (stream_meaning_by prefix text r) before after
+leaves prefix text r before after = record { unread = λ never. cc; silent = λ never. cc }
 
--- the text in front is not written to its end
-pub broke_begin : {S T U : Type 0} (r : ℕ) (front : List ℕ) (text : NavItem → List ℕ) (b a : World S T U)
-    → AppendsFront b.written a.written front → Rose b.writes_failed a.writes_failed → a.left ≡ b.left → a.reported ≡ b.reported
-    → Broke (stream_meaning_by front text r) b a WriteFault
-broke_begin r front text b a grew rose left reported = record {
+-- the leading text is not written to its end
+pub broke_begin : {S T U : Type 0} (r : ℕ) (prefix : List ℕ) (text : NavItem → List ℕ) (b a : World S T U)
+    → AppendsPrefix b.written a.written prefix → Rose b.writes_failed a.writes_failed → a.left ≡ b.left → a.reported ≡ b.reported
+    → Broke (stream_meaning_by prefix text r) b a WriteFault
+broke_begin r prefix text b a grew rose left reported = record {
   taken = [];
   consumes = subst (λ (l : Option (List ℕ)). Consumes b.left l []) (sym left) (Consumes-nil b.left);
-  text = between b.written a.written (stream_output_by front text r []) (front_longer b.written a.written front [] grew);
-  told = subst (λ (l : Option (List ℕ)). AppendsFront b.reported l (stream_report r [])) (sym reported) (no_front b.reported (stream_report r []));
-  leaves = leaves front text r b a;
+  text = between b.written a.written (stream_output_by prefix text r []) (prefix_longer b.written a.written prefix [] grew);
+  told = subst (λ (l : Option (List ℕ)). AppendsPrefix b.reported l (stream_report r [])) (sym reported) (no_prefix b.reported (stream_report r []));
+  leaves = leaves prefix text r b a;
   says = (rose, accepts r b.left);
 }
 
 -- what the frames say where they break off, by the fault
-says_by : {S T U : Type 0} (r : ℕ) (front : List ℕ) (text : NavItem → List ℕ) (b a : World S T U) (w1 : Option (List ℕ)) (writes : ℕ) (g g1 : GivenState) (c c1 : StreamCounts) (fault : BridgeFault)
-    → Appends b.written w1 front → writes ≡ b.writes_failed → NoneGiven g → c ≡ counts_of_readings []
-    → (part : StreamPart r front text b.left a.left w1 a.written b.reported a.reported g g1 c c1 fault)
+says_by : {S T U : Type 0} (r : ℕ) (prefix : List ℕ) (text : NavItem → List ℕ) (b a : World S T U) (w1 : Option (List ℕ)) (writes : ℕ) (g g1 : GivenState) (c c1 : StreamCounts) (fault : BridgeFault)
+    → Appends b.written w1 prefix → writes ≡ b.writes_failed → NoneGiven g → c ≡ counts_of_readings []
+    → (part : StreamPart r prefix text b.left a.left w1 a.written b.reported a.reported g g1 c c1 fault)
     → HasItsCause {T = Unit {0}} (faults_of b.reads_failed writes b.reports_failed) (faults_of a.reads_failed a.writes_failed a.reports_failed) (Err fault)
     → (IsTrue b.never_fails → IsErrOf {T = Unit {0}} (Err fault) ReadFault → ⊥)
-    → Says (stream_meaning_by front text r) part.taken b a fault
-says_by r front text b a w1 writes g g1 c c1 ReadFault grew same none nothing part cause never =
-    let far = part.exact refl [] b.written b.reported (begins r front text b.written w1 b.reported g c grew none nothing (Appends-nil b.reported)) in
+    → Says (stream_meaning_by prefix text r) part.taken b a fault
+says_by r prefix text b a w1 writes g g1 c c1 ReadFault grew same none nothing part cause never =
+    let far = part.exact refl [] b.written b.reported (begins r prefix text b.written w1 b.reported g c grew none nothing (Appends-nil b.reported)) in
     (refl, cause, λ quiet. never quiet refl, (far.output, far.report))
-says_by r front text b a w1 writes g g1 c c1 WriteFault grew same none nothing part cause never =
+says_by r prefix text b a w1 writes g g1 c c1 WriteFault grew same none nothing part cause never =
     (subst (λ (n : ℕ). Rose n a.writes_failed) same cause, accepts r b.left)
-says_by r front text b a w1 writes g g1 c c1 ReportFault grew same none nothing part cause never = (refl, cause, accepts r b.left)
-says_by r front text b a w1 writes g g1 c c1 NotThisForm grew same none nothing part cause never = absurd (part.form refl)
-says_by r front text b a w1 writes g g1 c c1 TooLong grew same none nothing part cause never = part.too_long refl
-says_by r front text b a w1 writes g g1 c c1 NoMemory grew same none nothing part cause never = (refl, accepts r b.left)
+says_by r prefix text b a w1 writes g g1 c c1 ReportFault grew same none nothing part cause never = (refl, cause, accepts r b.left)
+says_by r prefix text b a w1 writes g g1 c c1 NotThisForm grew same none nothing part cause never = absurd (part.form refl)
+says_by r prefix text b a w1 writes g g1 c c1 TooLong grew same none nothing part cause never = part.too_long refl
+says_by r prefix text b a w1 writes g g1 c c1 NoMemory grew same none nothing part cause never = (refl, accepts r b.left)
 
 -- the frames break off
-pub broke_stream : {S T U : Type 0} (r : ℕ) (front : List ℕ) (text : NavItem → List ℕ) (b a : World S T U) (w1 : Option (List ℕ)) (writes : ℕ) (g g1 : GivenState) (c c1 : StreamCounts) (fault : BridgeFault)
-    → Appends b.written w1 front → writes ≡ b.writes_failed → NoneGiven g → c ≡ counts_of_readings []
-    → StreamPart r front text b.left a.left w1 a.written b.reported a.reported g g1 c c1 fault
+pub broke_stream : {S T U : Type 0} (r : ℕ) (prefix : List ℕ) (text : NavItem → List ℕ) (b a : World S T U) (w1 : Option (List ℕ)) (writes : ℕ) (g g1 : GivenState) (c c1 : StreamCounts) (fault : BridgeFault)
+    → Appends b.written w1 prefix → writes ≡ b.writes_failed → NoneGiven g → c ≡ counts_of_readings []
+    → StreamPart r prefix text b.left a.left w1 a.written b.reported a.reported g g1 c c1 fault
     → HasItsCause {T = Unit {0}} (faults_of b.reads_failed writes b.reports_failed) (faults_of a.reads_failed a.writes_failed a.reports_failed) (Err fault)
     → (IsTrue b.never_fails → IsErrOf {T = Unit {0}} (Err fault) ReadFault → ⊥)
-    → Broke (stream_meaning_by front text r) b a fault
-broke_stream r front text b a w1 writes g g1 c c1 fault grew same none nothing part cause never =
+    → Broke (stream_meaning_by prefix text r) b a fault
+broke_stream r prefix text b a w1 writes g g1 c c1 fault grew same none nothing part cause never =
     let some = part.stops.frames_are in
     let more = part.stops.stream [] (λ last. refl) in
     let is : frames part.taken ≡ some ++ more.0 = ap frames (sym (append-nil part.taken)) ∙ more.1 in
     let read : readings r (frames part.taken) ≡ readings r some ++ readings r more.0 = ap (readings r) is ∙ readings_append r some more.0 in
-    let broke = part.stops.breaks [] b.written b.reported (begins r front text b.written w1 b.reported g c grew none nothing (Appends-nil b.reported)) in
-    let out : AppendsBetween b.written a.written (least_output_by front text r part.taken) (readings_output front text (readings r some ++ readings r more.0)) =
-    between_within b.written a.written (least_output_by front text r part.taken) (readings_output front text (readings r part.stops.done)) (readings_output front text (readings r some)) _
-    (least_front r front text part.taken part.stops.done part.settles) (output_longer front text (readings r more.0) (readings r some)) broke.output in
-    let told : AppendsFront b.reported a.reported (readings_report 1 (readings r some ++ readings r more.0)) =
-    front_within b.reported a.reported (readings_report 1 (readings r some)) _ (report_longer 1 (readings r some) (readings r more.0)) broke.report in
+    let broke = part.stops.breaks [] b.written b.reported (begins r prefix text b.written w1 b.reported g c grew none nothing (Appends-nil b.reported)) in
+    let out : AppendsBetween b.written a.written (least_output_by prefix text r part.taken) (readings_output prefix text (readings r some ++ readings r more.0)) =
+    between_within b.written a.written (least_output_by prefix text r part.taken) (readings_output prefix text (readings r part.stops.done)) (readings_output prefix text (readings r some)) _
+    (least_prefix r prefix text part.taken part.stops.done part.flushes) (output_longer prefix text (readings r more.0) (readings r some)) broke.output in
+    let told : AppendsPrefix b.reported a.reported (readings_report 1 (readings r some ++ readings r more.0)) =
+    prefix_within b.reported a.reported (readings_report 1 (readings r some)) _ (report_longer 1 (readings r some) (readings r more.0)) broke.report in
     record {
       taken = part.taken;
       consumes = part.consumes;
-      text = subst (λ (l : List Reading). AppendsBetween b.written a.written (least_output_by front text r part.taken) (readings_output front text l)) (sym read) out;
-      told = front_longer b.reported a.reported (readings_report 1 (readings r (frames part.taken))) _ (subst (λ (l : List Reading). AppendsFront b.reported a.reported (readings_report 1 l)) (sym read) told);
-      leaves = leaves front text r b a;
-      says = says_by r front text b a w1 writes g g1 c c1 fault grew same none nothing part cause never;
+      text = subst (λ (l : List Reading). AppendsBetween b.written a.written (least_output_by prefix text r part.taken) (readings_output prefix text l)) (sym read) out;
+      told = prefix_longer b.reported a.reported (readings_report 1 (readings r (frames part.taken))) _ (subst (λ (l : List Reading). AppendsPrefix b.reported a.reported (readings_report 1 l)) (sym read) told);
+      leaves = leaves prefix text r b a;
+      says = says_by r prefix text b a w1 writes g g1 c c1 fault grew same none nothing part cause never;
     }
 
 -- the counts are not reported to their end
-pub broke_counts : {S T U : Type 0} (r : ℕ) (front : List ℕ) (text : NavItem → List ℕ) (b a : World S T U) (w1 u1 : Option (List ℕ)) (g g1 : GivenState) (c c1 : StreamCounts)
-    → Appends b.written w1 front → NoneGiven g → c ≡ counts_of_readings []
-    → StreamAll r front text b.left a.left w1 a.written b.reported u1 g g1 c c1
-    → AppendsFront u1 a.reported (stream_counts_text c1) → Rose b.reports_failed a.reports_failed
-    → Broke (stream_meaning_by front text r) b a ReportFault
-broke_counts r front text b a w1 u1 g g1 c c1 grew none nothing all counts rose =
-    let far = all_so_far r front text b.left a.left b.written w1 a.written b.reported u1 g g1 c c1 grew none nothing (Appends-nil b.reported) all in
-    let least = subst (λ (l : List (List ℕ)). IsFront (least_output_by front text r all.taken) (readings_output front text (readings r l)))
-    (sym (all_frames all.taken all.moves.frames_are (all.moves.stream [] (λ last. refl)))) (least_front r front text all.taken all.moves.frames_are all.settles) in
+pub broke_counts : {S T U : Type 0} (r : ℕ) (prefix : List ℕ) (text : NavItem → List ℕ) (b a : World S T U) (w1 u1 : Option (List ℕ)) (g g1 : GivenState) (c c1 : StreamCounts)
+    → Appends b.written w1 prefix → NoneGiven g → c ≡ counts_of_readings []
+    → StreamAll r prefix text b.left a.left w1 a.written b.reported u1 g g1 c c1
+    → AppendsPrefix u1 a.reported (stream_counts_text c1) → Rose b.reports_failed a.reports_failed
+    → Broke (stream_meaning_by prefix text r) b a ReportFault
+broke_counts r prefix text b a w1 u1 g g1 c c1 grew none nothing all counts rose =
+    let far = all_so_far r prefix text b.left a.left b.written w1 a.written b.reported u1 g g1 c c1 grew none nothing (Appends-nil b.reported) all in
+    let least = subst (λ (l : List (List ℕ)). IsPrefix (least_output_by prefix text r all.taken) (readings_output prefix text (readings r l)))
+    (sym (all_frames all.taken all.moves.frames_are (all.moves.stream [] (λ last. refl)))) (least_prefix r prefix text all.taken all.moves.frames_are all.flushes) in
     record {
       taken = all.taken;
       consumes = all.consumes;
-      text = between_within b.written a.written (least_output_by front text r all.taken) _ _ _ least (front_same (stream_output_by front text r all.taken))
-          (between_whole b.written a.written (stream_output_by front text r all.taken) far.output);
-      told = front_behind b.reported u1 a.reported _ _ far.report (subst (λ (x : StreamCounts). AppendsFront u1 a.reported (stream_counts_text x)) far.counts_are counts);
-      leaves = leaves front text r b a;
+      text = between_within b.written a.written (least_output_by prefix text r all.taken) _ _ _ least (prefix_same (stream_output_by prefix text r all.taken))
+          (between_whole b.written a.written (stream_output_by prefix text r all.taken) far.output);
+      told = prefix_behind b.reported u1 a.reported _ _ far.report (subst (λ (x : StreamCounts). AppendsPrefix u1 a.reported (stream_counts_text x)) far.counts_are counts);
+      leaves = leaves prefix text r b a;
       says = (refl, rose, accepts r b.left);
     }
 
 -- the run is done
-pub done_stream : {S T U : Type 0} (r : ℕ) (front : List ℕ) (text : NavItem → List ℕ) (b a : World S T U) (w1 u1 : Option (List ℕ)) (g g1 : GivenState) (c c1 : StreamCounts)
-    → Appends b.written w1 front → NoneGiven g → c ≡ counts_of_readings []
-    → StreamAll r front text b.left a.left w1 a.written b.reported u1 g g1 c c1
+pub done_stream : {S T U : Type 0} (r : ℕ) (prefix : List ℕ) (text : NavItem → List ℕ) (b a : World S T U) (w1 u1 : Option (List ℕ)) (g g1 : GivenState) (c c1 : StreamCounts)
+    → Appends b.written w1 prefix → NoneGiven g → c ≡ counts_of_readings []
+    → StreamAll r prefix text b.left a.left w1 a.written b.reported u1 g g1 c c1
     → Appends u1 a.reported (stream_counts_text c1)
     → a.reads_failed ≡ b.reads_failed → a.writes_failed ≡ b.writes_failed → a.reports_failed ≡ b.reports_failed
-    → Done (stream_meaning_by front text r) b a c1
-done_stream r front text b a w1 u1 g g1 c c1 grew none nothing all counts reads writes reports =
-    let far = all_so_far r front text b.left a.left b.written w1 a.written b.reported u1 g g1 c c1 grew none nothing (Appends-nil b.reported) all in
+    → Done (stream_meaning_by prefix text r) b a c1
+done_stream r prefix text b a w1 u1 g g1 c c1 grew none nothing all counts reads writes reports =
+    let far = all_so_far r prefix text b.left a.left b.written w1 a.written b.reported u1 g g1 c c1 grew none nothing (Appends-nil b.reported) all in
     record {
       taken = all.taken;
       consumes = all.consumes;
@@ -200,7 +200,7 @@ done_stream r front text b a w1 u1 g g1 c c1 grew none nothing all counts reads 
       counted = ap (λ (x : StreamCounts). Some x) (sym far.counts_are);
       text = far.output;
       told = Appends-trans b.reported u1 a.reported _ _ far.report (subst (λ (x : StreamCounts). Appends u1 a.reported (stream_counts_text x)) far.counts_are counts);
-      leaves = leaves front text r b a;
+      leaves = leaves prefix text r b a;
       reads = reads;
       writes = writes;
       reports = reports;

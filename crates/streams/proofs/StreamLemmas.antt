@@ -6,7 +6,7 @@ use Rattle.std.specs.Io.KnownBytes.{Appends}
 use Rattle.std.proofs.KnownBytes.{Appends-nil, Appends-trans}
 use Rattle.std.proofs.lemmas.Grind.{flat_map-append}
 use Rattle.std.proofs.lemmas.List.Sums.{sum-map, sum_by-append}
-use Rattle.nav_io.specs.Front.{AppendsFront}
+use Rattle.nav_io.specs.Prefix.{AppendsPrefix}
 use Rattle.nav_eph.specs.Items.{same_item}
 use Rattle.nav_eph.specs.declared.items.NavItem.{NavItem}
 use Rattle.rtcm_eph.specs.declared.fault.MessageFault.{MessageFault}
@@ -15,25 +15,25 @@ use Rattle.rtcm_eph.specs.Reading.{item_in}
 use Rattle.rtcm_frame.specs.State.{payload_of}
 use Rattle.one_run.specs.Runs.{AppendsBetween}
 use Rattle.streams.specs.declared.counts.StreamCounts.{StreamCounts}
-use Rattle.streams.specs.Streams.{Reading, readings, has, items_in, first_places, first_places_behind, reading_report, readings_report, counts_of_readings, is_refused, is_unused, readings_output}
+use Rattle.streams.specs.Streams.{Reading, readings, has, items_of_readings, first_places, first_places_behind, reading_report, readings_report, counts_of_readings, is_refused, is_unused, readings_output}
 use Rattle.streams.specs.Mirrors.{GivenState, KeptPlaces, StandsIn, StreamBroke, StreamSoFar, any_alike, is_given, once_text, sent_alike, with_fault, with_item, with_refusal, with_unused}
 use Rattle.streams.proofs.AlikeLemmas.{Laws, looked_for, read_own}
 use Rattle.streams.proofs.KnownLemmas.{adds_nothing, is_known, known_more}
-use Rattle.one_run.proofs.Surface.{front_behind, whole_front}
+use Rattle.one_run.proofs.Surface.{prefix_behind, whole_prefix}
 
--- what grew by a text and a front of another one
-between_behind : (w w1 w2 : Option (List ℕ)) (some more : List ℕ) → Appends w w1 some → AppendsFront w1 w2 more → AppendsBetween w w2 some (some ++ more)
-between_behind w w1 w2 some more whole (front, (rest, is), grew) = record {
-  front = some ++ front;
-  within = (rest, ap (λ (l : List ℕ). some ++ l) is ∙ sym (append_assoc some front rest));
-  no_less = (front, refl);
-  grew = Appends-trans w w1 w2 some front whole grew;
+-- what grew by a text and a prefix of another one
+between_behind : (w w1 w2 : Option (List ℕ)) (some more : List ℕ) → Appends w w1 some → AppendsPrefix w1 w2 more → AppendsBetween w w2 some (some ++ more)
+between_behind w w1 w2 some more whole (prefix, (rest, is), grew) = record {
+  prefix = some ++ prefix;
+  within = (rest, ap (λ (l : List ℕ). some ++ l) is ∙ sym (append_assoc some prefix rest));
+  no_less = (prefix, refl);
+  grew = Appends-trans w w1 w2 some prefix whole grew;
 }
 
 -- what grew by a whole text
 pub between_whole : (w w1 : Option (List ℕ)) (text : List ℕ) → Appends w w1 text → AppendsBetween w w1 text text
 between_whole w w1 text whole = record {
-  front = text;
+  prefix = text;
   within = ([], sym (append-nil text));
   no_less = ([], sym (append-nil text));
   grew = whole;
@@ -73,12 +73,12 @@ first_places_more is item = places_more [] is item
 
 -- ---- readings
 
-items_more : (rs : List Reading) (item : NavItem) → items_in (rs ++ Ok item ∷ []) ≡ items_in rs ++ item ∷ []
+items_more : (rs : List Reading) (item : NavItem) → items_of_readings (rs ++ Ok item ∷ []) ≡ items_of_readings rs ++ item ∷ []
 items_more [] item = refl
 items_more (Ok i ∷ rs) item = ap (λ (l : List NavItem). i ∷ l) (items_more rs item)
 items_more (Err fault ∷ rs) item = items_more rs item
 
-items_same : (rs : List Reading) (fault : MessageFault) → items_in (rs ++ Err fault ∷ []) ≡ items_in rs
+items_same : (rs : List Reading) (fault : MessageFault) → items_of_readings (rs ++ Err fault ∷ []) ≡ items_of_readings rs
 items_same [] fault = refl
 items_same (Ok i ∷ rs) fault = ap (λ (l : List NavItem). i ∷ l) (items_same rs fault)
 items_same (Err other ∷ rs) fault = items_same rs fault
@@ -117,15 +117,15 @@ once_count : (b : Bool) (item : NavItem) (n : ℕ) → (if b then n else n + 1) 
 once_count true item n = omega arith
 once_count false item n = omega arith
 
-counts_item : (rs : List Reading) (item : NavItem) → with_item (counts_of_readings rs) (has (items_in rs) item) ≡ counts_of_readings (rs ++ Ok item ∷ [])
+counts_item : (rs : List Reading) (item : NavItem) → with_item (counts_of_readings rs) (has (items_of_readings rs) item) ≡ counts_of_readings (rs ++ Ok item ∷ [])
 counts_item rs item =
-    counts_are (with_item (counts_of_readings rs) (has (items_in rs) item)) _ _ _ _
+    counts_are (with_item (counts_of_readings rs) (has (items_of_readings rs) item)) _ _ _ _
     (omega (arith, length-append rs (Ok item ∷ [])))
     (omega (arith, count-append is_refused rs (Ok item ∷ [])))
     (omega (arith, count-append is_unused rs (Ok item ∷ [])))
-    (once_count (has (items_in rs) item) item (length (first_places (items_in rs)))
-    ∙ sym (length-append (first_places (items_in rs)) (once (has (items_in rs) item) item))
-    ∙ ap length (sym (first_places_more (items_in rs) item)) ∙ ap (λ (l : List NavItem). length (first_places l)) (sym (items_more rs item)))
+    (once_count (has (items_of_readings rs) item) item (length (first_places (items_of_readings rs)))
+    ∙ sym (length-append (first_places (items_of_readings rs)) (once (has (items_of_readings rs) item) item))
+    ∙ ap length (sym (first_places_more (items_of_readings rs) item)) ∙ ap (λ (l : List NavItem). length (first_places l)) (sym (items_more rs item)))
 
 counts_refused : (rs : List Reading) (fault : MessageFault) → is_refused (Err fault) ≡ 1 → is_unused (Err fault) ≡ 0
     → with_refusal (counts_of_readings rs) ≡ counts_of_readings (rs ++ Err fault ∷ [])
@@ -158,115 +158,115 @@ once_is text true item = refl
 once_is text false item = append-nil (text item)
 
 -- what is written with an item more
-pub output_item : (front : List ℕ) (text : NavItem → List ℕ) (rs : List Reading) (item : NavItem)
-    → readings_output front text (rs ++ Ok item ∷ []) ≡ readings_output front text rs ++ once_text text (has (items_in rs) item) item
-output_item front text rs item =
-    ap (λ (l : List NavItem). front ++ flat_map text l) (ap first_places (items_more rs item) ∙ first_places_more (items_in rs) item)
-    ∙ ap (λ (l : List ℕ). front ++ l) (flat_map-append text (first_places (items_in rs)) (once (has (items_in rs) item) item)
-    ∙ ap (λ (l : List ℕ). flat_map text (first_places (items_in rs)) ++ l) (once_is text (has (items_in rs) item) item))
-    ∙ sym (append_assoc front (flat_map text (first_places (items_in rs))) (once_text text (has (items_in rs) item) item))
+pub output_item : (prefix : List ℕ) (text : NavItem → List ℕ) (rs : List Reading) (item : NavItem)
+    → readings_output prefix text (rs ++ Ok item ∷ []) ≡ readings_output prefix text rs ++ once_text text (has (items_of_readings rs) item) item
+output_item prefix text rs item =
+    ap (λ (l : List NavItem). prefix ++ flat_map text l) (ap first_places (items_more rs item) ∙ first_places_more (items_of_readings rs) item)
+    ∙ ap (λ (l : List ℕ). prefix ++ l) (flat_map-append text (first_places (items_of_readings rs)) (once (has (items_of_readings rs) item) item)
+    ∙ ap (λ (l : List ℕ). flat_map text (first_places (items_of_readings rs)) ++ l) (once_is text (has (items_of_readings rs) item) item))
+    ∙ sym (append_assoc prefix (flat_map text (first_places (items_of_readings rs))) (once_text text (has (items_of_readings rs) item) item))
 
-pub output_fault : (front : List ℕ) (text : NavItem → List ℕ) (rs : List Reading) (fault : MessageFault)
-    → readings_output front text (rs ++ Err fault ∷ []) ≡ readings_output front text rs
-output_fault front text rs fault = ap (λ (l : List NavItem). front ++ flat_map text (first_places l)) (items_same rs fault)
+pub output_fault : (prefix : List ℕ) (text : NavItem → List ℕ) (rs : List Reading) (fault : MessageFault)
+    → readings_output prefix text (rs ++ Err fault ∷ []) ≡ readings_output prefix text rs
+output_fault prefix text rs fault = ap (λ (l : List NavItem). prefix ++ flat_map text (first_places l)) (items_same rs fault)
 
 readings_more : (r : ℕ) (past : List (List ℕ)) (frame : List ℕ) (x : Reading) → item_in r (payload_of frame) ≡ x
     → readings r (past ++ frame ∷ []) ≡ readings r past ++ x ∷ []
 readings_more r [] frame x is = ap (λ (y : Reading). y ∷ []) is
 readings_more r (p ∷ past) frame x is = ap (λ (l : List Reading). item_in r (payload_of p) ∷ l) (readings_more r past frame x is)
 
--- a frame that brings an item
-pub so_far_item : (r : ℕ) (front : List ℕ) (text : NavItem → List ℕ) (past : List (List ℕ)) (frame : List ℕ) (item : NavItem)
+-- a frame that yields an item
+pub so_far_item : (r : ℕ) (prefix : List ℕ) (text : NavItem → List ℕ) (past : List (List ℕ)) (frame : List ℕ) (item : NavItem)
     (w w1 w2 u u1 : Option (List ℕ)) (given given_new : GivenState) (c c1 : StreamCounts) (before : Bool)
     → item_in r (payload_of frame) ≡ Ok item → before ≡ is_given given item
-    → any_alike (items_in (readings r past)) item ≡ has (items_in (readings r past)) item
-    → StreamSoFar r front text past w w1 u u1 given c
+    → any_alike (items_of_readings (readings r past)) item ≡ has (items_of_readings (readings r past)) item
+    → StreamSoFar r prefix text past w w1 u u1 given c
     → Appends w1 w2 (once_text text before item) → c1 ≡ with_item c before
     → ((other : NavItem) → is_given given_new other ≡ (sent_alike item other || is_given given other))
     → sent_alike item item ≡ true → KeptPlaces given given_new (payload_of frame)
-    → StreamSoFar r front text (past ++ frame ∷ []) w w2 u u1 given_new c1
-so_far_item r front text past frame item w w1 w2 u u1 given given_new c c1 before is was looked far output counts adds own kept =
+    → StreamSoFar r prefix text (past ++ frame ∷ []) w w2 u u1 given_new c1
+so_far_item r prefix text past frame item w w1 w2 u u1 given given_new c c1 before is was looked far output counts adds own kept =
     let rs = readings r past in
     let more = readings_more r past frame (Ok item) is in
-    let there : before ≡ has (items_in rs) item = was ∙ far.holds item ∙ looked in
+    let there : before ≡ has (items_of_readings rs) item = was ∙ far.holds item ∙ looked in
     record {
-      output = subst (Appends w w2) (sym (ap (readings_output front text) more ∙ output_item front text rs item))
+      output = subst (Appends w w2) (sym (ap (readings_output prefix text) more ∙ output_item prefix text rs item))
           (Appends-trans w w1 w2 _ _ far.output (subst (λ (b : Bool). Appends w1 w2 (once_text text b item)) there output));
       report = subst (Appends u u1) (sym (ap (readings_report 1) more ∙ report_more 1 rs (Ok item) ∙ append-nil (readings_report 1 rs))) far.report;
       counts_are = counts ∙ ap (λ (x : StreamCounts). with_item x before) far.counts_are ∙ ap (λ (b : Bool). with_item (counts_of_readings rs) b) there
           ∙ counts_item rs item ∙ ap counts_of_readings (sym more);
-      holds = λ other. adds other ∙ ap (λ (b : Bool). sent_alike item other || b) (far.holds other) ∙ sym (any_more (items_in rs) item other)
-          ∙ ap (λ (l : List NavItem). any_alike l other) (sym (items_more rs item)) ∙ ap (λ (l : List Reading). any_alike (items_in l) other) (sym more);
+      holds = λ other. adds other ∙ ap (λ (b : Bool). sent_alike item other || b) (far.holds other) ∙ sym (any_more (items_of_readings rs) item other)
+          ∙ ap (λ (l : List NavItem). any_alike l other) (sym (items_more rs item)) ∙ ap (λ (l : List Reading). any_alike (items_of_readings l) other) (sym more);
       known = known_more r given given_new (payload_of frame) item is own adds kept far.known;
     }
 
 -- a frame whose payload is kept
-pub so_far_again : (r : ℕ) (front : List ℕ) (text : NavItem → List ℕ) (past : List (List ℕ)) (frame : List ℕ)
+pub so_far_again : (r : ℕ) (prefix : List ℕ) (text : NavItem → List ℕ) (past : List (List ℕ)) (frame : List ℕ)
     (w w1 u u1 : Option (List ℕ)) (given : GivenState) (c c1 : StreamCounts) (laws : Laws r)
-    → StandsIn given (payload_of frame) → StreamSoFar r front text past w w1 u u1 given c → c1 ≡ with_item c true
-    → StreamSoFar r front text (past ++ frame ∷ []) w w1 u u1 given c1
-so_far_again r front text past frame w w1 u u1 given c c1 laws stands far counts =
+    → StandsIn given (payload_of frame) → StreamSoFar r prefix text past w w1 u u1 given c → c1 ≡ with_item c true
+    → StreamSoFar r prefix text (past ++ frame ∷ []) w w1 u u1 given c1
+so_far_again r prefix text past frame w w1 u u1 given c c1 laws stands far counts =
     let known = is_known r given (payload_of frame) stands far.known in
-    so_far_item r front text past frame known.item w w1 w1 u u1 given given c c1 true known.is (sym known.given)
+    so_far_item r prefix text past frame known.item w w1 w1 u u1 given given c c1 true known.is (sym known.given)
     (looked_for r past (payload_of frame) known.item laws known.is) far (Appends-nil w1) counts
     (adds_nothing given known.item known.given) (read_own r (payload_of frame) known.item laws known.is) (inl refl, inl refl)
 
 -- a frame that is refused or not used
-pub so_far_fault : (r : ℕ) (front : List ℕ) (text : NavItem → List ℕ) (past : List (List ℕ)) (frame : List ℕ) (fault : MessageFault)
+pub so_far_fault : (r : ℕ) (prefix : List ℕ) (text : NavItem → List ℕ) (past : List (List ℕ)) (frame : List ℕ) (fault : MessageFault)
     (w w1 u u1 u2 : Option (List ℕ)) (given : GivenState) (c c1 : StreamCounts) (number : ℕ)
     → item_in r (payload_of frame) ≡ Err fault → number ≡ c.frames + 1
-    → StreamSoFar r front text past w w1 u u1 given c
+    → StreamSoFar r prefix text past w w1 u u1 given c
     → Appends u1 u2 (reading_report number (Err fault)) → c1 ≡ with_fault c fault
-    → StreamSoFar r front text (past ++ frame ∷ []) w w1 u u2 given c1
-so_far_fault r front text past frame fault w w1 u u1 u2 given c c1 number is nth far report counts =
+    → StreamSoFar r prefix text (past ++ frame ∷ []) w w1 u u2 given c1
+so_far_fault r prefix text past frame fault w w1 u u1 u2 given c c1 number is nth far report counts =
     let rs = readings r past in
     let more = readings_more r past frame (Err fault) is in
     let frames : c.frames ≡ length rs = ap (λ (x : StreamCounts). x.frames) far.counts_are in
     let place : number ≡ 1 + length rs = omega (arith, nth, frames) in
     record {
-      output = subst (Appends w w1) (sym (ap (readings_output front text) more ∙ output_fault front text rs fault)) far.output;
+      output = subst (Appends w w1) (sym (ap (readings_output prefix text) more ∙ output_fault prefix text rs fault)) far.output;
       report = subst (Appends u u2) (sym (ap (readings_report 1) more ∙ report_more 1 rs (Err fault)))
           (Appends-trans u u1 u2 _ _ far.report (subst (λ n. Appends u1 u2 (reading_report n (Err fault))) place report));
       counts_are = counts ∙ ap (λ (x : StreamCounts). with_fault x fault) far.counts_are ∙ counts_fault rs fault ∙ ap counts_of_readings (sym more);
-      holds = λ other. far.holds other ∙ ap (λ (l : List NavItem). any_alike l other) (sym (items_same rs fault)) ∙ ap (λ (l : List Reading). any_alike (items_in l) other) (sym more);
+      holds = λ other. far.holds other ∙ ap (λ (l : List NavItem). any_alike l other) (sym (items_same rs fault)) ∙ ap (λ (l : List Reading). any_alike (items_of_readings l) other) (sym more);
       known = far.known;
     }
 
 -- a frame whose item is not written to its end
-pub broke_item : (r : ℕ) (front : List ℕ) (text : NavItem → List ℕ) (past : List (List ℕ)) (frame : List ℕ) (item : NavItem)
+pub broke_item : (r : ℕ) (prefix : List ℕ) (text : NavItem → List ℕ) (past : List (List ℕ)) (frame : List ℕ) (item : NavItem)
     (w w1 w2 u u1 : Option (List ℕ)) (given : GivenState) (c : StreamCounts) (before : Bool)
     → item_in r (payload_of frame) ≡ Ok item → before ≡ is_given given item
-    → any_alike (items_in (readings r past)) item ≡ has (items_in (readings r past)) item
-    → StreamSoFar r front text past w w1 u u1 given c
-    → AppendsFront w1 w2 (once_text text before item)
-    → StreamBroke r front text past (past ++ frame ∷ []) w w2 u u1
-broke_item r front text past frame item w w1 w2 u u1 given c before is was looked far output =
+    → any_alike (items_of_readings (readings r past)) item ≡ has (items_of_readings (readings r past)) item
+    → StreamSoFar r prefix text past w w1 u u1 given c
+    → AppendsPrefix w1 w2 (once_text text before item)
+    → StreamBroke r prefix text past (past ++ frame ∷ []) w w2 u u1
+broke_item r prefix text past frame item w w1 w2 u u1 given c before is was looked far output =
     let rs = readings r past in
     let more = readings_more r past frame (Ok item) is in
-    let there : before ≡ has (items_in rs) item = was ∙ far.holds item ∙ looked in
+    let there : before ≡ has (items_of_readings rs) item = was ∙ far.holds item ∙ looked in
     record {
-      output = subst (AppendsBetween w w2 (readings_output front text rs)) (sym (ap (readings_output front text) more ∙ output_item front text rs item))
-          (between_behind w w1 w2 _ _ far.output (subst (λ (b : Bool). AppendsFront w1 w2 (once_text text b item)) there output));
-      report = whole_front u u1 _ (subst (Appends u u1) (sym (ap (readings_report 1) more ∙ report_more 1 rs (Ok item) ∙ append-nil (readings_report 1 rs))) far.report);
+      output = subst (AppendsBetween w w2 (readings_output prefix text rs)) (sym (ap (readings_output prefix text) more ∙ output_item prefix text rs item))
+          (between_behind w w1 w2 _ _ far.output (subst (λ (b : Bool). AppendsPrefix w1 w2 (once_text text b item)) there output));
+      report = whole_prefix u u1 _ (subst (Appends u u1) (sym (ap (readings_report 1) more ∙ report_more 1 rs (Ok item) ∙ append-nil (readings_report 1 rs))) far.report);
     }
 
 -- a frame whose refusal is not reported to its end
-pub broke_fault : (r : ℕ) (front : List ℕ) (text : NavItem → List ℕ) (past : List (List ℕ)) (frame : List ℕ) (fault : MessageFault)
+pub broke_fault : (r : ℕ) (prefix : List ℕ) (text : NavItem → List ℕ) (past : List (List ℕ)) (frame : List ℕ) (fault : MessageFault)
     (w w1 u u1 u2 : Option (List ℕ)) (given : GivenState) (c : StreamCounts) (number : ℕ)
     → item_in r (payload_of frame) ≡ Err fault → number ≡ c.frames + 1
-    → StreamSoFar r front text past w w1 u u1 given c
-    → AppendsFront u1 u2 (reading_report number (Err fault))
-    → StreamBroke r front text past (past ++ frame ∷ []) w w1 u u2
-broke_fault r front text past frame fault w w1 u u1 u2 given c number is nth far report =
+    → StreamSoFar r prefix text past w w1 u u1 given c
+    → AppendsPrefix u1 u2 (reading_report number (Err fault))
+    → StreamBroke r prefix text past (past ++ frame ∷ []) w w1 u u2
+broke_fault r prefix text past frame fault w w1 u u1 u2 given c number is nth far report =
     let rs = readings r past in
     let more = readings_more r past frame (Err fault) is in
     let frames : c.frames ≡ length rs = ap (λ (x : StreamCounts). x.frames) far.counts_are in
     let place : number ≡ 1 + length rs = omega (arith, nth, frames) in
     record {
-      output = subst (AppendsBetween w w1 (readings_output front text rs)) (sym (ap (readings_output front text) more ∙ output_fault front text rs fault))
+      output = subst (AppendsBetween w w1 (readings_output prefix text rs)) (sym (ap (readings_output prefix text) more ∙ output_fault prefix text rs fault))
           (between_whole w w1 _ far.output);
-      report = subst (AppendsFront u u2) (sym (ap (readings_report 1) more ∙ report_more 1 rs (Err fault)))
-          (front_behind u u1 u2 _ _ far.report (subst (λ n. AppendsFront u1 u2 (reading_report n (Err fault))) place report));
+      report = subst (AppendsPrefix u u2) (sym (ap (readings_report 1) more ∙ report_more 1 rs (Err fault)))
+          (prefix_behind u u1 u2 _ _ far.report (subst (λ n. AppendsPrefix u1 u2 (reading_report n (Err fault))) place report));
     }
 
 pub on_ok4 : {T E P Q S V R : Type 0} (r : Result T E) → OnOk r P → OnOk r Q → OnOk r S → OnOk r V → (P → Q → S → V → R) → OnOk r R

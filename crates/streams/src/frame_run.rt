@@ -4,22 +4,22 @@ ghost use Rattle.std.specs.Prelude.{◌≡◌, ◌+◌, ◌^◌, ◌<◌, ◌≤
 ghost use Rattle.std.specs.Prelude.{length, take, IfOk, OnOk, OnErr, Some};
 ghost use Rattle.std.specs.Io.KnownBytes.{Appends};
 ghost use Rattle.nav_io.specs.Causes.{HasCause};
-ghost use Rattle.nav_io.specs.Front.{AppendsFront};
+ghost use Rattle.nav_io.specs.Prefix.{AppendsPrefix};
 ghost use Rattle.rtcm_frame.specs.State.{MayFeed, IsWaiting};
 ghost use Rattle.one_run.specs.Runs.{Ran};
 ghost use Rattle.streams.specs.FrameLines.{frames_meaning, line_of};
 ghost use Rattle.streams.specs.FrameRuns.{Goes, Breaks, Gathers};
 
-use crate::line::{Line, frame_line};
+use crate::line::{FrameLine, frame_line};
 use arrayvec::ArrayVec;
 use nav_io::{Failed, MOST_TAKEN, Sink, Source, read_piece};
 use one_run::BridgeFault;
 use rtcm_frame::Deframer;
 
-// How many bytes are asked for at once.
+// The number of bytes that one read asks for.
 const PIECE: usize = 16_384;
 
-// Lines that are written together, those of the frames that one feeding decides.
+// Lines that are written together: those of the frames that one feed of bytes decides.
 type Gathered = ArrayVec<u8, 1024>;
 
 /// What a run over the frames of a stream counts.
@@ -29,18 +29,18 @@ pub struct FrameCounts {
     pub frames: u64,
 }
 
-/// Reads a stream to its end, and writes a line for each frame: [`frame_line`] says which.
+/// Reads a stream to its end, and writes a line for each frame, as [`frame_line`] states.
 ///
-/// The frames are those of RTCM 10403.3, section 4, whatever bytes stand between them. The answer is
-/// one of the faults `ReadFault`, `WriteFault` and `TooLong`, or the count of the frames. After a
-/// fault the output has a front of the lines of the bytes that were taken: after a failed read
-/// exactly those of the frames that are decided by these bytes, whatever bytes follow, and after any
-/// fault no less than those that all of the bytes but the last 16,384 decide.
+/// The frames are those of RTCM 10403.3, section 4, whatever bytes stand between them. The result is
+/// the number of frames, or one of the faults `ReadFault`, `WriteFault` and `TooLong`. After a fault
+/// the output is a prefix of the lines of the bytes read: after a failed read exactly the lines of
+/// the frames that these bytes decide, whatever bytes follow, and after any fault at least those that
+/// all but the last 16,384 bytes decide.
 pub fn run_frames<S: Source, T: Sink>(
     input: &mut S,
     output: &mut T,
 ) -> Result<FrameCounts, BridgeFault>
-    // There is no report: of one, nothing could be known but that nothing is written.
+    // There is no report: the clause takes one to which nothing is written.
     ensures ended { Ran frames_meaning S.left S.never_fails S.faults T.written T.faults
         (λ _. Some []) (λ _. 0) input.old input.new output.old output.new (tt {0}) (tt {0}) result }
 {
@@ -53,14 +53,14 @@ pub fn run_frames<S: Source, T: Sink>(
             Err(Failed) => return Err(BridgeFault::ReadFault),
             Ok(0) => {
                 deframer.finish();
-                return match take_frames(&mut deframer, output, &mut frames) {
+                return match process_frames(&mut deframer, output, &mut frames) {
                     Ok(()) => Ok(FrameCounts { frames }),
                     Err(Failed) => Err(BridgeFault::WriteFault),
                 };
             }
             Ok(count) => {
                 taken += count as u64;
-                match take_piece(&mut deframer, &buffer[..count], output, &mut frames) {
+                match process_piece(&mut deframer, &buffer[..count], output, &mut frames) {
                     Ok(()) => {}
                     Err(Failed) => return Err(BridgeFault::WriteFault),
                 }
@@ -71,7 +71,7 @@ pub fn run_frames<S: Source, T: Sink>(
 }
 
 // Feeds a piece, and writes the lines of the frames that it decides.
-fn take_piece<T: Sink>(
+fn process_piece<T: Sink>(
     deframer: &mut Deframer,
     piece: &[u8],
     output: &mut T,
@@ -90,13 +90,13 @@ fn take_piece<T: Sink>(
 {
     let mut fed = 0;
     while fed < piece.len() {
-        fed += take_some(deframer, &piece[fed..], output, frames)?;
+        fed += process_some(deframer, &piece[fed..], output, frames)?;
     }
     Ok(())
 }
 
-// Feeds what there is room for, and writes the lines of the frames that it decides; how many bytes were fed.
-fn take_some<T: Sink>(
+// Feeds what there is room for, writes the lines of the frames that it decides, and returns how many bytes were fed.
+fn process_some<T: Sink>(
     deframer: &mut Deframer,
     piece: &[u8],
     output: &mut T,
@@ -117,16 +117,16 @@ fn take_some<T: Sink>(
     ensures cause { HasCause (T.faults output.old) (T.faults output.new) result }
 {
     let count = deframer.feed_some(piece);
-    take_frames(deframer, output, frames)?;
+    process_frames(deframer, output, frames)?;
     Ok(count)
 }
 
-// Writes the lines that were gathered, where there are any.
+// Writes the lines that were gathered, if any.
 fn write_gathered<T: Sink>(lines: &Gathered, output: &mut T) -> Result<(), Failed>
     ensures text { OnOk result
         (Appends (T.written output.old) (T.written output.new) lines.now.items) }
     ensures part { OnErr result
-        (AppendsFront (T.written output.old) (T.written output.new) lines.now.items) }
+        (AppendsPrefix (T.written output.old) (T.written output.new) lines.now.items) }
     ensures cause { HasCause (T.faults output.old) (T.faults output.new) result }
 {
     if lines.is_empty() {
@@ -135,12 +135,12 @@ fn write_gathered<T: Sink>(lines: &Gathered, output: &mut T) -> Result<(), Faile
     output.write(lines.as_slice())
 }
 
-// Gathers a line behind others. Where there is no room for it, those are written first.
-fn gather<T: Sink>(line: &Line, lines: &mut Gathered, output: &mut T) -> Result<(), Failed>
+// Appends a line to the gathered ones; where there is no room for it, those are written first.
+fn gather<T: Sink>(line: &FrameLine, lines: &mut Gathered, output: &mut T) -> Result<(), Failed>
     ensures gathers { OnOk result (Gathers (T.written output.old) (T.written output.new)
         lines.old.items lines.new.items line.now.items) }
     ensures part { OnErr result
-        (AppendsFront (T.written output.old) (T.written output.new) lines.old.items) }
+        (AppendsPrefix (T.written output.old) (T.written output.new) lines.old.items) }
     ensures cause { HasCause (T.faults output.old) (T.faults output.new) result }
 {
     if lines.remaining_capacity() < line.len() {
@@ -153,8 +153,8 @@ fn gather<T: Sink>(line: &Line, lines: &mut Gathered, output: &mut T) -> Result<
     Ok(())
 }
 
-// Writes the lines of the frames that are decided, gathered.
-fn take_frames<T: Sink>(
+// Writes the lines of the decided frames, several by one write.
+fn process_frames<T: Sink>(
     deframer: &mut Deframer,
     output: &mut T,
     frames: &mut u64,

@@ -1,11 +1,11 @@
-//! The frames of a stream, one after another.
+//! The frames of a stream, in order.
 
 ghost use Rattle.std.specs.Prelude.{◌≡◌, ◌⊎◌, ◌+◌, ◌^◌, ◌<◌, ◌≤◌, ◌∷◌, ◌++◌, ◌||◌, [], ℕ, List, Option, true, not, codes, Err, length, take, IsErrOf, IfOk, IfErr, IfSome, OnOk, OnErr, IsTrue};
 ghost use Rattle.std.specs.Io.KnownBytes.{Appends};
 ghost use Rattle.nav_eph.specs.declared.items.NavItem.{NavItem};
-ghost use Rattle.nav_io.specs.Front.{AppendsFront};
+ghost use Rattle.nav_io.specs.Prefix.{AppendsPrefix};
 ghost use Rattle.rtcm_frame.specs.State.{MayFeed, IsWaiting, payload_of};
-ghost use Rattle.outlets.specs.Targets.{front_text, item_text};
+ghost use Rattle.outlets.specs.Targets.{prefix_text, item_text};
 ghost use Rattle.rtcm_eph.specs.declared.fault.MessageFault.{MessageFault};
 ghost use Rattle.one_run.specs.Causes.{HasItsCause, faults_of};
 ghost use Rattle.one_run.specs.Reports.{report_line};
@@ -13,7 +13,7 @@ ghost use Rattle.streams.specs.Streams.{reading_report};
 ghost use Rattle.streams.specs.Mirrors.{AreFew, HasRoom, IsReadOf, IsStreamFault, KeptPlaces, StreamBreaks, StreamGoes, StreamMoves, StreamStops, is_given, once_text, sent_alike, with_fault, with_item, with_refusal, with_unused};
 
 use crate::counts::StreamCounts;
-use crate::given::Given;
+use crate::given::ItemsGiven;
 use gnss_week::RefWeek;
 use nav_eph::{NavItem, equality_is_decided};
 use nav_io::{Failed, Sink};
@@ -24,7 +24,7 @@ use rtcm_eph::{
 };
 use rtcm_frame::{Deframer, Frame};
 
-// Reports a frame with this number that is refused, and counts it.
+// Reports that the frame with this number is refused, and counts it.
 fn refuse<U: Sink>(
     number: u64,
     reason: &[u8],
@@ -36,7 +36,7 @@ fn refuse<U: Sink>(
     ensures report { OnOk result (Appends (U.written report.old) (U.written report.new)
         (report_line (codes "frame") number reason.now)) }
     ensures counts { OnOk result (counts.new ≡ with_refusal counts.old) }
-    ensures part { OnErr result (AppendsFront (U.written report.old) (U.written report.new)
+    ensures part { OnErr result (AppendsPrefix (U.written report.old) (U.written report.new)
         (report_line (codes "frame") number reason.now)) }
     ensures cause { HasItsCause (faults_of 0 0 (U.faults report.old))
         (faults_of 0 0 (U.faults report.new)) result }
@@ -61,7 +61,7 @@ fn pass(counts: &mut StreamCounts)
     counts.frames += 1;
 }
 
-// Reports a frame with this number that is refused, or is not used, and counts it.
+// Counts the frame with this number as refused or not used, and reports it where it is refused.
 fn tell_fault<U: Sink>(
     fault: MessageFault,
     number: u64,
@@ -72,7 +72,7 @@ fn tell_fault<U: Sink>(
     ensures report { OnOk result (Appends (U.written report.old) (U.written report.new)
         (reading_report number (Err fault))) }
     ensures counts { OnOk result (counts.new ≡ with_fault counts.old fault) }
-    ensures part { OnErr result (AppendsFront (U.written report.old) (U.written report.new)
+    ensures part { OnErr result (AppendsPrefix (U.written report.old) (U.written report.new)
         (reading_report number (Err fault))) }
     ensures cause { HasItsCause (faults_of 0 0 (U.faults report.old))
         (faults_of 0 0 (U.faults report.new)) result }
@@ -94,12 +94,12 @@ fn tell_fault<U: Sink>(
     }
 }
 
-// Writes an item that was read of a payload, where it was not given before, and counts it.
+// Counts an item that was read from a payload, and writes it unless it was given before.
 fn give_item<T: Sink>(
     to: &Target,
     item: &NavItem,
     payload: &[u8],
-    given: &mut Given,
+    given: &mut ItemsGiven,
     output: &mut T,
     counts: &mut StreamCounts,
 ) -> Result<(), BridgeFault>
@@ -112,7 +112,7 @@ fn give_item<T: Sink>(
     ensures given { OnOk result ((other : NavItem) → is_given given.new other
         ≡ (sent_alike item.now other || is_given given.old other)) }
     ensures kept { OnOk result (KeptPlaces given.old given.new payload.now) }
-    ensures part { OnErr result (AppendsFront (T.written output.old) (T.written output.new)
+    ensures part { OnErr result (AppendsPrefix (T.written output.old) (T.written output.new)
         (once_text (item_text to.now 0) (is_given given.old item.now) item.now)) }
     ensures cause { HasItsCause (faults_of 0 (T.faults output.old) 0)
         (faults_of 0 (T.faults output.new) 0) result }
@@ -136,21 +136,21 @@ fn give_item<T: Sink>(
     }
 }
 
-// Takes a frame.
-fn take_frame<T: Sink, U: Sink>(
+// Processes a frame.
+fn convert_frame<T: Sink, U: Sink>(
     to: &Target,
     r: RefWeek,
     frame: &Frame,
-    given: &mut Given,
+    given: &mut ItemsGiven,
     output: &mut T,
     report: &mut U,
     counts: &mut StreamCounts,
 ) -> Result<(), BridgeFault>
     requires room { HasRoom counts.old }
-    ensures goes { OnOk result (StreamGoes r (front_text to.now) (item_text to.now 0)
+    ensures goes { OnOk result (StreamGoes r (prefix_text to.now) (item_text to.now 0)
         (frame.now ∷ []) (T.written output.old) (T.written output.new)
         (U.written report.old) (U.written report.new) given.old given.new counts.old counts.new) }
-    ensures breaks { OnErr result (StreamBreaks r (front_text to.now) (item_text to.now 0)
+    ensures breaks { OnErr result (StreamBreaks r (prefix_text to.now) (item_text to.now 0)
         (frame.now ∷ []) (T.written output.old) (T.written output.new)
         (U.written report.old) (U.written report.new) given.old counts.old) }
     ensures cause { HasItsCause (faults_of 0 (T.faults output.old) (U.faults report.old))
@@ -176,23 +176,23 @@ fn take_frame<T: Sink, U: Sink>(
     }
 }
 
-// Takes the frames that are decided: an item is written as soon as its frame is there.
-pub(crate) fn take_frames<T: Sink, U: Sink>(
+// Processes the decided frames: an item is written as soon as its frame is complete.
+pub(crate) fn process_frames<T: Sink, U: Sink>(
     to: &Target,
     r: RefWeek,
     deframer: &mut Deframer,
-    given: &mut Given,
+    given: &mut ItemsGiven,
     output: &mut T,
     report: &mut U,
     counts: &mut StreamCounts,
 ) -> Result<(), BridgeFault>
     requires some { AreFew counts.old }
     requires room { counts.old.frames + length deframer.old.rest < 2 ^ 64 }
-    ensures goes { OnOk result (StreamMoves r (front_text to.now) (item_text to.now 0)
+    ensures goes { OnOk result (StreamMoves r (prefix_text to.now) (item_text to.now 0)
         (not deframer.old.finished) deframer.old.rest deframer.new.rest
         (T.written output.old) (T.written output.new)
         (U.written report.old) (U.written report.new) given.old given.new counts.old counts.new) }
-    ensures breaks { OnErr result (StreamStops r (front_text to.now) (item_text to.now 0)
+    ensures breaks { OnErr result (StreamStops r (prefix_text to.now) (item_text to.now 0)
         (not deframer.old.finished) deframer.old.rest
         (T.written output.old) (T.written output.new)
         (U.written report.old) (U.written report.new) given.old counts.old) }
@@ -207,18 +207,18 @@ pub(crate) fn take_frames<T: Sink, U: Sink>(
         ≤ counts.old.frames + length deframer.old.rest) }
 {
     while let Some(frame) = deframer.next_frame() {
-        take_frame(to, r, &frame, given, output, report, counts)?;
+        convert_frame(to, r, &frame, given, output, report, counts)?;
     }
     Ok(())
 }
 
-// Feeds what there is room for, and takes the frames that it decides; how many bytes were fed.
-fn take_some<T: Sink, U: Sink>(
+// Feeds what there is room for, processes the frames that it decides, and returns how many bytes were fed.
+fn process_some<T: Sink, U: Sink>(
     to: &Target,
     r: RefWeek,
     deframer: &mut Deframer,
     piece: &[u8],
-    given: &mut Given,
+    given: &mut ItemsGiven,
     output: &mut T,
     report: &mut U,
     counts: &mut StreamCounts,
@@ -229,11 +229,11 @@ fn take_some<T: Sink, U: Sink>(
     requires room { counts.old.frames + length deframer.old.rest + length piece.now < 2 ^ 64 }
     ensures bytes { IfOk result (λ count. 0 < count) }
     ensures within { IfOk result (λ count. count ≤ length piece.now) }
-    ensures goes { IfOk result (λ count. StreamMoves r (front_text to.now) (item_text to.now 0)
+    ensures goes { IfOk result (λ count. StreamMoves r (prefix_text to.now) (item_text to.now 0)
         true (deframer.old.rest ++ take count piece.now) deframer.new.rest
         (T.written output.old) (T.written output.new)
         (U.written report.old) (U.written report.new) given.old given.new counts.old counts.new) }
-    ensures breaks { OnErr result (StreamStops r (front_text to.now) (item_text to.now 0)
+    ensures breaks { OnErr result (StreamStops r (prefix_text to.now) (item_text to.now 0)
         true (deframer.old.rest ++ piece.now) (T.written output.old) (T.written output.new)
         (U.written report.old) (U.written report.new) given.old counts.old) }
     ensures may_feed { OnOk result (MayFeed deframer.new) }
@@ -245,17 +245,17 @@ fn take_some<T: Sink, U: Sink>(
         ≤ counts.old.frames + length deframer.old.rest + count) }
 {
     let count = deframer.feed_some(piece);
-    take_frames(to, r, deframer, given, output, report, counts)?;
+    process_frames(to, r, deframer, given, output, report, counts)?;
     Ok(count)
 }
 
-// Feeds a piece, and takes the frames that it decides.
-pub(crate) fn take_piece<T: Sink, U: Sink>(
+// Feeds a piece, and processes the frames that it decides.
+pub(crate) fn process_piece<T: Sink, U: Sink>(
     to: &Target,
     r: RefWeek,
     deframer: &mut Deframer,
     piece: &[u8],
-    given: &mut Given,
+    given: &mut ItemsGiven,
     output: &mut T,
     report: &mut U,
     counts: &mut StreamCounts,
@@ -263,11 +263,11 @@ pub(crate) fn take_piece<T: Sink, U: Sink>(
     requires may_feed { MayFeed deframer.old }
     requires some { AreFew counts.old }
     requires room { counts.old.frames + length deframer.old.rest + length piece.now < 2 ^ 64 }
-    ensures goes { OnOk result (StreamMoves r (front_text to.now) (item_text to.now 0)
+    ensures goes { OnOk result (StreamMoves r (prefix_text to.now) (item_text to.now 0)
         true (deframer.old.rest ++ piece.now) deframer.new.rest
         (T.written output.old) (T.written output.new)
         (U.written report.old) (U.written report.new) given.old given.new counts.old counts.new) }
-    ensures breaks { OnErr result (StreamStops r (front_text to.now) (item_text to.now 0)
+    ensures breaks { OnErr result (StreamStops r (prefix_text to.now) (item_text to.now 0)
         true (deframer.old.rest ++ piece.now) (T.written output.old) (T.written output.new)
         (U.written report.old) (U.written report.new) given.old counts.old) }
     ensures may_feed { OnOk result (MayFeed deframer.new) }
@@ -280,7 +280,7 @@ pub(crate) fn take_piece<T: Sink, U: Sink>(
 {
     let mut fed = 0;
     while fed < piece.len() {
-        fed += take_some(
+        fed += process_some(
             to,
             r,
             deframer,

@@ -1,4 +1,4 @@
-//! What was given of a stream, so that each item is given at its first place only.
+//! The items that a stream gave so far: each is written at its first occurrence only.
 
 ghost use Rattle.std.specs.Prelude.{◌≡◌, ◌||◌, not, false, ℕ, List, None, OnOk, OnErr, IfOk, IsTrue, replicate};
 ghost use Rattle.nav_eph.specs.declared.items.NavItem.{NavItem};
@@ -6,23 +6,23 @@ ghost use Rattle.rtcm_eph.specs.Writing.{bytes_1019, bytes_1046};
 ghost use Rattle.streams.specs.Mirrors.{IsReadOf, KeptMore, KeptPlaces, NothingKept, StandsIn, has_key, is_given, sent_alike};
 
 use crate::messages::Messages;
-use crate::seen::{Seen, place_of};
+use crate::seen::{RecentMessages, place_of};
 use crate::sent::{sent_1019, sent_1046};
 use nav_eph::NavItem;
 use std::alloc::{AllocError, Global};
 use std::marker::Model;
 
-// The messages of the ephemerides that were given, each once. Two ephemerides of a stream are equal where the same message
-// is sent for them. Beside them stand payloads as they came, so that most repeats need not be read.
+// The RTCM messages of the ephemerides that were given, each once: two ephemerides of a stream are equal where the same message
+// encodes them. A cache of payloads as they came saves the decoding of most repeats.
 #[derive(Drop)]
-pub(crate) struct Given {
+pub(crate) struct ItemsGiven {
     gps: Messages<61>,
     gal: Messages<63>,
-    gps_seen: Seen<61>,
-    gal_seen: Seen<63>,
+    gps_seen: RecentMessages<61>,
+    gal_seen: RecentMessages<63>,
 }
 
-impl Model for Given {
+impl Model for ItemsGiven {
     ghost use Rattle.streams.specs.Mirrors.{GivenState};
 
     ghost Value = { GivenState };
@@ -35,21 +35,21 @@ impl Model for Given {
     } };
 }
 
-impl Given {
+impl ItemsGiven {
     // Nothing was given.
-    pub(crate) fn new(alloc: Global) -> Given
+    pub(crate) fn new(alloc: Global) -> ItemsGiven
         ensures none { (other : NavItem) → is_given result other ≡ false }
         ensures kept { NothingKept result }
     {
-        Given {
+        ItemsGiven {
             gps: Messages::new(alloc),
             gal: Messages::new(alloc),
-            gps_seen: Seen::new(),
-            gal_seen: Seen::new(),
+            gps_seen: RecentMessages::new(),
+            gal_seen: RecentMessages::new(),
         }
     }
 
-    // Whether this payload is kept: then its item was given.
+    // Whether this payload is in the cache; its item was given then.
     pub(crate) fn knows(&self, payload: &[u8]) -> bool
         ensures { IsTrue result → StandsIn self.now payload.now }
     {
@@ -59,7 +59,7 @@ impl Given {
         payload.len() == 63 && self.gal_seen.holds(payload, place_of(payload, 4))
     }
 
-    // Keeps a payload whose item was given, where it is no longer than its message.
+    // Caches a payload whose item was given, if it is as long as its message: 61 or 63 bytes.
     fn keep(&mut self, payload: &[u8])
         ensures { KeptMore self.old self.new payload.now }
     {
@@ -70,8 +70,7 @@ impl Given {
         }
     }
 
-    // Adds the item that was read of a payload, by the message that is sent for it; whether that
-    // was not there.
+    // Adds the item that was read from a payload, by the message that encodes it; whether the item is new.
     fn add_item(&mut self, item: &NavItem, payload: &[u8]) -> Result<bool, AllocError>
         requires read { IsReadOf payload.now item.now }
         ensures added { IfOk result (λ added. added ≡ not (is_given self.old item.now)) }
@@ -87,7 +86,7 @@ impl Given {
         }
     }
 
-    // Adds the item that was read of a payload, and keeps the payload; whether the item was not there.
+    // Adds the item that was read from a payload, and caches the payload; whether the item is new.
     pub(crate) fn add(&mut self, item: &NavItem, payload: &[u8]) -> Result<bool, AllocError>
         requires read { IsReadOf payload.now item.now }
         ensures added { IfOk result (λ added. added ≡ not (is_given self.old item.now)) }

@@ -9,17 +9,17 @@ use itoa::Buffer;
 use rtcm_frame::Frame;
 
 /// A line, which is built in place and takes no memory.
-pub type Line = ArrayVec<u8, 96>;
+pub type FrameLine = ArrayVec<u8, 96>;
 
 /// The line of a frame: `<number> <length>` and LF. The number is the payload's first 12 bits, the
 /// message number (RTCM 10403.3, section 3.4), and `-` where the payload has fewer than two bytes;
 /// the length is that of the payload in bytes.
 #[tactic(auto, unfolding(crate::specs::FrameLines::line_of))]
-pub fn frame_line(frame: &Frame) -> Line
+pub fn frame_line(frame: &Frame) -> FrameLine
     ensures { result.items ≡ line_of frame.now }
 {
     let payload = frame.payload();
-    let mut line = Line::new();
+    let mut line = FrameLine::new();
     append_number(&mut line, payload);
     append(&mut line, b" ");
     append_decimal(&mut line, payload.len());
@@ -28,7 +28,7 @@ pub fn frame_line(frame: &Frame) -> Line
 }
 
 // Appends the number of the message, or a dash.
-fn append_number(line: &mut Line, payload: &[u8])
+fn append_number(line: &mut FrameLine, payload: &[u8])
     requires { array_vec_len line.old ≤ 40 }
     ensures items { line.new.items ≡ line.old.items ++ number_text payload.now }
     ensures short { array_vec_len line.new ≤ array_vec_len line.old + 40 }
@@ -42,7 +42,7 @@ fn append_number(line: &mut Line, payload: &[u8])
 }
 
 // Appends the decimal digits of a number.
-fn append_decimal(line: &mut Line, number: usize)
+fn append_decimal(line: &mut FrameLine, number: usize)
     requires { array_vec_len line.old ≤ 56 }
     ensures items { line.new.items ≡ line.old.items ++ decimal number }
     ensures short { array_vec_len line.new ≤ array_vec_len line.old + 40 }
@@ -52,7 +52,7 @@ fn append_decimal(line: &mut Line, number: usize)
 }
 
 // Appends a piece, for which there is room.
-fn append(line: &mut Line, piece: &[u8])
+fn append(line: &mut FrameLine, piece: &[u8])
     requires { array_vec_len line.old + length piece.now ≤ 96 }
     ensures items { line.new.items ≡ line.old.items ++ piece.now }
     ensures len { array_vec_len line.new ≡ array_vec_len line.old + length piece.now }

@@ -1,38 +1,38 @@
-//! The bytes of a stream, a piece after another.
+//! The bytes of a stream, read piece by piece.
 
 ghost use Rattle.std.specs.Prelude.{◌≡◌, ◌+◌, ◌^◌, ◌<◌, ◌≤◌, [], false, length, IsTrue, IsErrOf, IfErr, OnOk};
-ghost use Rattle.outlets.specs.Targets.{front_text, item_text};
+ghost use Rattle.outlets.specs.Targets.{prefix_text, item_text};
 ghost use Rattle.one_run.specs.Causes.{HasItsCause, faults_of};
 ghost use Rattle.streams.specs.Mirrors.{StreamAll, StreamPart};
 ghost use Rattle.streams.specs.Streams.{counts_of_readings};
 
 use crate::counts::StreamCounts;
-use crate::frames::{take_frames, take_piece};
-use crate::given::Given;
+use crate::frames::{process_frames, process_piece};
+use crate::given::ItemsGiven;
 use gnss_week::RefWeek;
 use nav_io::{Failed, MOST_TAKEN, Sink, Source, read_piece};
 use one_run::BridgeFault;
 use outlets::Target;
 use rtcm_frame::Deframer;
 
-// How many bytes are asked for at once.
+// The number of bytes that one read asks for.
 const PIECE: usize = 16_384;
 
-// Takes the frames of a stream up to its end.
-pub(crate) fn follow_pieces<S: Source, T: Sink, U: Sink>(
+// Processes the frames of a stream up to its end.
+pub(crate) fn process_pieces<S: Source, T: Sink, U: Sink>(
     to: &Target,
     r: RefWeek,
-    given: &mut Given,
+    given: &mut ItemsGiven,
     input: &mut S,
     output: &mut T,
     report: &mut U,
     counts: &mut StreamCounts,
 ) -> Result<(), BridgeFault>
     requires nothing { counts.old ≡ counts_of_readings [] }
-    ensures all { OnOk result (StreamAll r (front_text to.now) (item_text to.now 0)
+    ensures all { OnOk result (StreamAll r (prefix_text to.now) (item_text to.now 0)
         (S.left input.old) (S.left input.new) (T.written output.old) (T.written output.new)
         (U.written report.old) (U.written report.new) given.old given.new counts.old counts.new) }
-    ensures part { IfErr result (StreamPart r (front_text to.now) (item_text to.now 0)
+    ensures part { IfErr result (StreamPart r (prefix_text to.now) (item_text to.now 0)
         (S.left input.old) (S.left input.new) (T.written output.old) (T.written output.new)
         (U.written report.old) (U.written report.new) given.old given.new counts.old counts.new) }
     ensures cause { HasItsCause
@@ -48,12 +48,12 @@ pub(crate) fn follow_pieces<S: Source, T: Sink, U: Sink>(
             Err(Failed) => return Err(BridgeFault::ReadFault),
             Ok(0) => {
                 deframer.finish();
-                return take_frames(to, r, &mut deframer, given, output, report, counts);
+                return process_frames(to, r, &mut deframer, given, output, report, counts);
             }
             Ok(count) => {
                 taken += count as u64;
                 let piece = &buffer[..count];
-                take_piece(to, r, &mut deframer, piece, given, output, report, counts)?;
+                process_piece(to, r, &mut deframer, piece, given, output, report, counts)?;
             }
         }
     }

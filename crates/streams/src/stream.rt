@@ -1,20 +1,20 @@
 //! The run over a stream.
 
-ghost use Rattle.outlets.specs.Targets.{front_text, item_text};
+ghost use Rattle.outlets.specs.Targets.{prefix_text, item_text};
 ghost use Rattle.one_run.specs.Runs.{Ran};
 ghost use Rattle.streams.specs.Streams.{stream_meaning_by};
 
 use crate::counts::{StreamCounts, stream_counts_text};
-use crate::given::Given;
-use crate::pieces::follow_pieces;
+use crate::given::ItemsGiven;
+use crate::pieces::process_pieces;
 use gnss_week::RefWeek;
 use nav_io::{Failed, Sink, Source};
 use one_run::BridgeFault;
 use outlets::Target;
 use std::alloc::Global;
 
-// Reads a stream to its end, and writes what its items become while it reads.
-pub(crate) fn follow_stream<S: Source, T: Sink, U: Sink>(
+// Reads a stream to its end, and writes the conversion of its items while it reads.
+pub(crate) fn convert_stream<S: Source, T: Sink, U: Sink>(
     alloc: Global,
     r: RefWeek,
     to: &Target,
@@ -22,7 +22,7 @@ pub(crate) fn follow_stream<S: Source, T: Sink, U: Sink>(
     output: &mut T,
     report: &mut U,
 ) -> Result<StreamCounts, BridgeFault>
-    ensures ended { Ran (stream_meaning_by (front_text to.now) (item_text to.now 0) r)
+    ensures ended { Ran (stream_meaning_by (prefix_text to.now) (item_text to.now 0) r)
         S.left S.never_fails S.faults T.written T.faults U.written U.faults
         input.old input.new output.old output.new report.old report.new result }
 {
@@ -30,9 +30,9 @@ pub(crate) fn follow_stream<S: Source, T: Sink, U: Sink>(
         Ok(()) => {}
         Err(Failed) => return Err(BridgeFault::WriteFault),
     }
-    let mut given = Given::new(alloc);
+    let mut given = ItemsGiven::new(alloc);
     let mut counts = StreamCounts::new();
-    follow_pieces(to, r, &mut given, input, output, report, &mut counts)?;
+    process_pieces(to, r, &mut given, input, output, report, &mut counts)?;
     match report.write(stream_counts_text(&counts).as_slice()) {
         Ok(()) => Ok(counts),
         Err(Failed) => Err(BridgeFault::ReportFault),

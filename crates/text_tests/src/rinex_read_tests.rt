@@ -267,7 +267,7 @@ fn judged(bytes: &[u8]) -> Judged {
     lines.judge()
 }
 
-// What a changed record is to stand for: an item of zeroes with this second of sending, or none.
+// What a changed record is to stand for: an item of zeroes with this transmission time, or none.
 #[derive(Clone, Copy)]
 enum Want {
     Item(SentSecond),

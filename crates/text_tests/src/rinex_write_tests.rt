@@ -124,7 +124,7 @@ G28 2024 01 03 19 23 12 0.000000000000D+00-3.047034624615D-09-5.551115123126D-17
 ];
 
 // Ephemerides of GPS of an independent program, and one of zeroes: accuracies 0, 1 and 15, both fit
-// intervals, known and unknown seconds of sending.
+// intervals, known and unknown transmission times.
 #[test]
 fn ephemerides_of_gps(rt: HostRuntime) -> Result<(), Fail> {
     for (numbers, sent, record) in &GPS_ROWS {

@@ -1,4 +1,4 @@
--- The form of UBX is a heading.
+-- UBX has a heading.
 use Rattle.std.proofs.Common.{◌≡◌, ℕ, ◌+◌, ◌*◌, ◌%◌, ◌≤◌, List, ◌++◌, length, get_or, refl, ap, ◌∙◌}
 use Rattle.std.proofs.Common.{arith}
 use Rattle.std.proofs.lemmas.List.{get_or_append_left}
@@ -19,8 +19,8 @@ ubx_is_sync = record {
   within = omega arith;
   some = λ xs. omega arith;
   most = λ xs. omega arith;
-  size_front = announced-append;
-  fits_front = λ xs ys h. refl;
+  size_prefix = announced-append;
+  fits_prefix = λ xs ys h. refl;
 }
 
 pub ubx_is_heading : IsHeading ubx

@@ -1,4 +1,4 @@
-use Rattle.capture_laws.proofs.Marks.{late_lines, malformed_lines}
+use Rattle.capture_laws.proofs.Watermarks.{late_lines, malformed_lines}
 use Rattle.capture_laws.proofs.laws.late_lines_are_told.Goals as goal
 
 pub returns-clause-late : goal.returns-clause-late

@@ -9,5 +9,5 @@ pub returns-else-number-lt10-clause-text : goal.returns-else-number-lt10-clause-
 returns-else-number-lt10-clause-text t c =
     let last = last_digit c.args.number (omega arith) (omega arith) in
     let pushed = c.push-else-number-lt10.ensures.items in
-    let front = c.push_decimal.ensures.text in
-    rw (pushed, front, last, append_assoc) refl
+    let prefix = c.push_decimal.ensures.text in
+    rw (pushed, prefix, last, append_assoc) refl

@@ -4,21 +4,21 @@ use Rattle.nav_eph.specs.Values.{HasPartRanges}
 use Rattle.periods.specs.PeriodLists.{items_in}
 use Rattle.periods.proofs.Surface.{IsClosed-same}
 use Rattle.capture_log.specs.Heard.{IsPartHeard}
-use Rattle.capture_log.specs.Log.{items_of, parts_of}
+use Rattle.capture_log.specs.Log.{line_items_of, parts_of}
 use Rattle.capture_log.proofs.HeardItems.{items_of_whole}
 use Rattle.capture_log.proofs.Lists.{all_in, contains_from_in}
 use Rattle.capture_log.proofs.heard_laws.periods_heard.Goals as goal
 
 pub returns-clause-some : goal.returns-clause-some
-returns-clause-some c = c.lines_bring_what_is_heard.ensures.periods
+returns-clause-some c = c.lines_yield_what_is_heard.ensures.periods
 
 pub returns-clause-only : goal.returns-clause-only
-returns-clause-only c = c.lines_bring_what_is_heard.ensures.only
+returns-clause-only c = c.lines_yield_what_is_heard.ensures.only
 
 pub returns-clause-items : goal.returns-clause-items
 returns-clause-items c = λ r window lines periods reference are.
     let parts = parts_of window lines in
-    let heard = c.lines_bring_what_is_heard.ensures.parts window lines in
+    let heard = c.lines_yield_what_is_heard.ensures.parts window lines in
     let ranges = all_in HasPartRanges parts
     (λ part here. c.parts_heard_have_ranges.ensures window lines part ((heard part).0 (contains_from_in parts part here))) in
     all_in IsItem (items_in periods)
@@ -26,7 +26,7 @@ returns-clause-items c = λ r window lines periods reference are.
     (λ closed own here whole.
     c.items_fit_together.ensures r window parts closed own reference (c.parts_of_lines_are_values.ensures window lines)
     (c.parts_of_lines_are_sendable.ensures window lines) ranges
-    (IsClosed-same r window (IsPartHeard window (items_of lines)) (Contains parts) closed
+    (IsClosed-same r window (IsPartHeard window (line_items_of lines)) (Contains parts) closed
     (record { to = λ p. (heard p).1; from = λ p. (heard p).0 }) (are.each closed (contains_from_in periods closed here)))
     whole)
     item there)

@@ -6,5 +6,5 @@ use Rattle.crc24q.proofs.message.crc_bits.Goals as goal
 
 pub returns-clause-value : goal.returns-clause-value
 returns-clause-value g c =
-    let is : IsCrc (number_at c.args.bits.now c.args.from c.args.count) c.from_digits.result = search rules in
-    run_has_crc c.args.bits.now c.args.from c.args.count c.from_digits.result is
+    let is : IsCrc (number_at c.args.bits.now c.args.from c.args.count) c.from_bits.result = search rules in
+    run_has_crc c.args.bits.now c.args.from c.args.count c.from_bits.result is

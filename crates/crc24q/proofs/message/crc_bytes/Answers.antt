@@ -7,5 +7,5 @@ use Rattle.crc24q.proofs.message.crc_bytes.Goals as goal
 
 pub returns-clause-crc : goal.returns-clause-crc
 returns-clause-crc c =
-    let value : c.from_digits.result ≡ crc_from 0 c.args.bytes.now = cc in
+    let value : c.from_bits.result ≡ crc_from 0 c.args.bytes.now = cc in
     subst (IsCrc (number_at c.args.bytes.now 0 (8 * length c.args.bytes.now))) (sym value) (crc_of_bytes c.args.bytes.now)

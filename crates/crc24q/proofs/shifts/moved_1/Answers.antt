@@ -1,6 +1,6 @@
 use Rattle.std.proofs.Common.{◌<◌, ◌^◌, subst, sym}
 use Rattle.crc24q.proofs.LookupLemmas.{one_place, one_place_back}
-use Rattle.crc24q.proofs.RegisterLaws.{turned-lt}
+use Rattle.crc24q.proofs.RegisterLaws.{stepped-lt}
 use Rattle.crc24q.proofs.shifts.moved_1.Goals as goal
 
 pub returns-then-longer-clause-value : goal.returns-then-longer-clause-value
@@ -11,4 +11,4 @@ returns-else-longer-clause-value c = one_place_back c.args.state c.if-longer.fal
 
 pub returns-else-longer-clause-fits : goal.returns-else-longer-clause-fits
 returns-else-longer-clause-fits c =
-    subst (λ n. n < 2 ^ 24) (sym (one_place_back c.args.state c.if-longer.false c.requires)) (turned-lt c.args.state c.requires)
+    subst (λ n. n < 2 ^ 24) (sym (one_place_back c.args.state c.if-longer.false c.requires)) (stepped-lt c.args.state c.requires)

@@ -2,7 +2,7 @@ use Rattle.std.proofs.Common.{◌≡◌, ◌+◌, ◌*◌, ◌%◌, ◌^◌, sub
 use Rattle.std.specs.Int.Bits.{bit_xor}
 use Rattle.std.proofs.lemmas.Nat.{xor_lt}
 use Rattle.crc24q.specs.Division.{IsCrc}
-use Rattle.crc24q.specs.Register.{turned}
+use Rattle.crc24q.specs.Register.{stepped}
 use Rattle.crc24q.proofs.DivisionLemmas.{with_digit}
 use Rattle.crc24q.proofs.shifts.with_bit.Goals as goal
 
@@ -12,5 +12,5 @@ moved_1-requires c = xor_lt 24 c.args.state (c.args.bit * 2 ^ 23 % 2 ^ 32) c.req
 pub returns-clause-grows : goal.returns-clause-grows
 returns-clause-grows c p is =
     let digit : c.args.bit * 2 ^ 23 % 2 ^ 32 ≡ c.args.bit * 2 ^ 23 = omega arith in
-    subst (IsCrc (p * 2 + c.args.bit)) (sym (c.moved_1.ensures.value ∙ ap (λ n. turned (bit_xor c.args.state n)) digit))
+    subst (IsCrc (p * 2 + c.args.bit)) (sym (c.moved_1.ensures.value ∙ ap (λ n. stepped (bit_xor c.args.state n)) digit))
     (with_digit p c.args.state c.args.bit c.requires.bit is)

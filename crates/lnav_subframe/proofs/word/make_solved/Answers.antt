@@ -13,6 +13,6 @@ returns c =
     let d23 = (parity + d24) % 2 in
     let shifted : c.value-source.result * 4 % 18446744073709551616 ≡ bits * 4 = omega arith in
     let is : IsParity (bits * 4) last parity = rw (shifted, c.value.ensures.same) at c.parity_of-parity.ensures in
-    let all : c.from_digits.result ≡ bits * 4 + (2 * d23 + d24) = omega arith in
+    let all : c.from_bits.result ≡ bits * 4 + (2 * d23 + d24) = omega arith in
     let from : IsSource c.make_word.result last (bits * 4 + (2 * d23 + d24)) = rw all at c.make_word.ensures.bits in
     solved c.make_word.result last bits parity d23 d24 is refl refl c.make_word.ensures.good from

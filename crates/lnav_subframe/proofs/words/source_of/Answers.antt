@@ -14,13 +14,13 @@ loop-k-init c = record {
   fits = omega arith;
 }
 
-pub from_digits-requires : goal.from_digits-requires
-from_digits-requires c = omega (arith, c.get-word.ensures, number_at-lt c.args.bits.now (30 * c.loop-k.k) 30)
+pub from_bits-requires : goal.from_bits-requires
+from_bits-requires c = omega (arith, c.get-word.ensures, number_at-lt c.args.bits.now (30 * c.loop-k.k) 30)
 
 pub returns-in-None-clause-fault : goal.returns-in-None-clause-fault
 returns-in-None-clause-fault c =
-    let word : c.from_digits.result ≡ word_of c.args.bits.now c.loop-k.k = c.from_digits.ensures ∙ c.get-word.ensures in
-    let last : c.from_digits-in-loop-k.result ≡ last_before c.args.bits.now c.loop-k.k = c.from_digits-in-loop-k.ensures ∙ c.loop-k.invariant.last in
+    let word : c.from_bits.result ≡ word_of c.args.bits.now c.loop-k.k = c.from_bits.ensures ∙ c.get-word.ensures in
+    let last : c.from_bits-in-loop-k.result ≡ last_before c.args.bits.now c.loop-k.k = c.from_bits-in-loop-k.ensures ∙ c.loop-k.invariant.last in
     let bad : IsGood (word_of c.args.bits.now c.loop-k.k) (last_before c.args.bits.now c.loop-k.k) → ⊥ =
     rw (← word, ← last) (λ good. let no = c.in-None.ensures.good.1 good in cc) in
     let e : c.loop-k.k + 1 - 1 ≡ c.loop-k.k = omega arith in
@@ -33,8 +33,8 @@ returns-in-None-clause-fault c =
 
 pub loop-k-preserved : goal.loop-k-preserved
 loop-k-preserved c =
-    let word : c.from_digits.result ≡ word_of c.args.bits.now c.loop-k.k = c.from_digits.ensures ∙ c.get-word.ensures in
-    let last : c.from_digits-in-loop-k.result ≡ last_before c.args.bits.now c.loop-k.k = c.from_digits-in-loop-k.ensures ∙ c.loop-k.invariant.last in
+    let word : c.from_bits.result ≡ word_of c.args.bits.now c.loop-k.k = c.from_bits.ensures ∙ c.get-word.ensures in
+    let last : c.from_bits-in-loop-k.result ≡ last_before c.args.bits.now c.loop-k.k = c.from_bits-in-loop-k.ensures ∙ c.loop-k.invariant.last in
     record {
       good = goods_more c.args.bits.now c.loop-k.k c.loop-k.invariant.good (rw (← word, ← last) (c.in-Some.ensures.good.0 refl));
       source = sources_more c.args.bits.now c.loop-k.source c.put.new.self c.loop-k.k c.value.result c.loop-k.invariant.source c.put.ensures (rw (← word, ← last, c.value.ensures.same) c.in-Some.ensures.bits);

@@ -1,7 +1,7 @@
 use Rattle.std.proofs.Common.{◌∙◌}
 use Rattle.std.proofs.lemmas.Result.{err_from_is_err_and}
 use Rattle.outlets.specs.ItemTexts.{rinex_item}
-use Rattle.nav_files.proofs.KeptLemmas.{cause_behind, wrote_front, wrote_more}
+use Rattle.nav_files.proofs.KeptLemmas.{cause_behind, wrote_prefix, wrote_more}
 use Rattle.nav_files.proofs.merge.write_items.Goals as goal
 
 pub items-preserved : goal.items-preserved
@@ -14,6 +14,6 @@ pub returns-in_err-write_item : goal.returns-in_err-write_item
 returns-in_err-write_item g c =
     let p = err_from_is_err_and c.from_residual.result c.from_residual.ensures.1 in
     rw (p.1, p.2) (record {
-      bytes = wrote_front rinex_item _ _ _ _ _ _ _ c.in-Some.ensures.first c.items.invariant.wrote c.in_err-write_item.ensures.bytes;
+      bytes = wrote_prefix rinex_item _ _ _ _ _ _ _ c.in-Some.ensures.first c.items.invariant.wrote c.in_err-write_item.ensures.bytes;
       cause = cause_behind _ _ _ _ c.items.invariant.faults c.in_err-write_item.ensures.cause;
     })

@@ -4,9 +4,9 @@ use Rattle.std.proofs.KnownBytes.{Appends-nil, Appends-trans}
 use Rattle.std.specs.Prelude.{Err}
 use Rattle.std.specs.Io.KnownBytes.{Appends}
 use Rattle.nav_io.specs.Causes.{Rose}
-use Rattle.nav_io.specs.Front.{AppendsFront, IsFront}
+use Rattle.nav_io.specs.Prefix.{AppendsPrefix, IsPrefix}
 use Rattle.rinex_read.specs.declared.judged.ItemRead.{ItemRead}
-use Rattle.one_run.proofs.Surface.{front_behind, front_same, whole_front}
+use Rattle.one_run.proofs.Surface.{prefix_behind, prefix_same, whole_prefix}
 use Rattle.nav_files.proofs.FileEnds.{broke_begin, broke_end, broke_header, broke_taken, done_file, fails_of, fails_report, fails_write, header_rose}
 use Rattle.nav_files.proofs.taker.run_file.Goals as goal
 
@@ -20,13 +20,13 @@ returns-in_err-pass_header g c =
 pub returns-in-Err : goal.returns-in-Err
 returns-in-Err g c =
     broke_begin g.F.FileForm.form g.K.Taker.memory _ _ _ _ _ _ _ _ _ (g.K.Taker.text c.args.taker.now []) c.readers_begin_with_the_file.ensures c.new-records.ensures c.in_ok-pass_header.ensures.header
-    (c.steps_follow_one_another.ensures.none _ _) c.in-Err.ensures.bytes (c.begins.ensures.text [] _) refl (fails_write _ _ c.in-Err.ensures.cause.failed)
+    (c.steps_compose.ensures.none _ _) c.in-Err.ensures.bytes (c.begins.ensures.text [] _) refl (fails_write _ _ c.in-Err.ensures.cause.failed)
 
-pub returns-in_err-take_records : goal.returns-in_err-take_records
-returns-in_err-take_records g c =
-    let p = err_from_is_err_and c.from_residual-in_err-take_records.result c.from_residual-in_err-take_records.ensures.1 in
+pub returns-in_err-process_records : goal.returns-in_err-process_records
+returns-in_err-process_records g c =
+    let p = err_from_is_err_and c.from_residual-in_err-process_records.result c.from_residual-in_err-process_records.ensures.1 in
     let header = c.in_ok-pass_header.ensures in
-    let records = c.in_err-take_records.ensures in
+    let records = c.in_err-process_records.ensures in
     let part = records.broken in
     rw (p.1, p.2) (broke_taken g.F.FileForm.form g.K.Taker.memory _ _ _ _ _ _ _ _ _ _ _ part.given (g.K.Taker.text c.args.taker.now part.given) (g.K.Taker.told c.args.taker.now part.given) _
     c.readers_begin_with_the_file.ensures c.whole_records_are_given.ensures.records c.new-records.ensures header.header part.steps
@@ -38,23 +38,23 @@ returns-in_err-take_records g c =
 pub returns-in-Err-finish : goal.returns-in-Err-finish
 returns-in-Err-finish g c =
     let header = c.in_ok-pass_header.ensures in
-    let records = c.in_ok-take_records.ensures in
+    let records = c.in_ok-process_records.ensures in
     let all = records.all in
     let told = all.report (g.U.Sink.written c.args.report.now) (subst (Appends (g.U.Sink.written c.args.report.now) (g.U.Sink.written c.args.report.now)) (sym c.begins.ensures.silent) (Appends-nil _)) in
     broke_end g.F.FileForm.form g.K.Taker.memory _ _ _ _ _ _ _ _ _ _ _ all.given (g.K.Taker.whole c.args.taker.now all.given) (g.K.Taker.told c.args.taker.now all.given) _
     c.readers_begin_with_the_file.ensures c.new-records.ensures header.header all.steps all.end
-    (c.in-Err-finish.ensures.output all.given _ all.held (all.output _ c.in-Ok.ensures.bytes)) (front_same _)
-    (whole_front _ _ _ told) (subst (λ (l : List ItemRead). IsFront (g.K.Taker.told c.args.taker.now all.given) (g.K.Taker.reported c.args.taker.now l)) (append-nil all.given) (c.begins.ensures.told all.given []))
+    (c.in-Err-finish.ensures.output all.given _ all.held (all.output _ c.in-Ok.ensures.bytes)) (prefix_same _)
+    (whole_prefix _ _ _ told) (subst (λ (l : List ItemRead). IsPrefix (g.K.Taker.told c.args.taker.now all.given) (g.K.Taker.reported c.args.taker.now l)) (append-nil all.given) (c.begins.ensures.told all.given []))
     (fails_write _ _ (subst (λ n. Rose n (g.T.Sink.faults c.finish.new.output)) (ap (λ f. f.output) records.cause ∙ c.in-Ok.ensures.cause.stays) c.in-Err-finish.ensures.cause.failed)) (λ long. cc) (λ wants. absurd (cc)) (λ over. cc)
 
 pub returns-in-Ok-write : goal.returns-in-Ok-write
 returns-in-Ok-write g c =
     let header = c.in_ok-pass_header.ensures in
-    let records = c.in_ok-take_records.ensures in
+    let records = c.in_ok-process_records.ensures in
     let all = records.all in
     let told = all.report (g.U.Sink.written c.args.report.now) (subst (Appends (g.U.Sink.written c.args.report.now) (g.U.Sink.written c.args.report.now)) (sym c.begins.ensures.silent) (Appends-nil _)) in
     let counted = c.counts-counts.ensures all.given all.held in
-    let text = subst (λ (l : List ℕ). Appends (g.U.Sink.written c.take_records.new.report) (g.U.Sink.written c.write.new.self) l) c.as_slice.ensures.value c.in-Ok-write.ensures.bytes in
+    let text = subst (λ (l : List ℕ). Appends (g.U.Sink.written c.process_records.new.report) (g.U.Sink.written c.write.new.self) l) c.as_slice.ensures.value c.in-Ok-write.ensures.bytes in
     done_file g.F.FileForm.form g.K.Taker.memory _ _ _ _ _ _ _ _ _ _ _ all.given _
     c.readers_begin_with_the_file.ensures c.new-records.ensures header.header all.steps all.end
     (c.in-Ok-finish.ensures.output all.given _ all.held (all.output _ c.in-Ok.ensures.bytes))
@@ -65,13 +65,13 @@ returns-in-Ok-write g c =
 pub returns-in-Err-write : goal.returns-in-Err-write
 returns-in-Err-write g c =
     let header = c.in_ok-pass_header.ensures in
-    let records = c.in_ok-take_records.ensures in
+    let records = c.in_ok-process_records.ensures in
     let all = records.all in
     let told = all.report (g.U.Sink.written c.args.report.now) (subst (Appends (g.U.Sink.written c.args.report.now) (g.U.Sink.written c.args.report.now)) (sym c.begins.ensures.silent) (Appends-nil _)) in
     let counted = c.counts-counts.ensures all.given all.held in
-    let text = subst (λ (l : List ℕ). AppendsFront (g.U.Sink.written c.take_records.new.report) (g.U.Sink.written c.write.new.self) l) c.as_slice.ensures.value c.in-Err-write.ensures.bytes in
+    let text = subst (λ (l : List ℕ). AppendsPrefix (g.U.Sink.written c.process_records.new.report) (g.U.Sink.written c.write.new.self) l) c.as_slice.ensures.value c.in-Err-write.ensures.bytes in
     broke_end g.F.FileForm.form g.K.Taker.memory _ _ _ _ _ _ _ _ _ _ _ all.given (g.K.Taker.whole c.args.taker.now all.given) (g.K.Taker.reported c.args.taker.now all.given) _
     c.readers_begin_with_the_file.ensures c.new-records.ensures header.header all.steps all.end
-    (whole_front _ _ _ (c.in-Ok-finish.ensures.output all.given _ all.held (all.output _ c.in-Ok.ensures.bytes))) (front_same _)
-    (subst (AppendsFront (g.U.Sink.written c.args.report.now) (g.U.Sink.written c.write.new.self)) (sym (c.counts_text.ensures all.given counted)) (front_behind _ _ _ _ _ told text)) (front_same _)
+    (whole_prefix _ _ _ (c.in-Ok-finish.ensures.output all.given _ all.held (all.output _ c.in-Ok.ensures.bytes))) (prefix_same _)
+    (subst (AppendsPrefix (g.U.Sink.written c.args.report.now) (g.U.Sink.written c.write.new.self)) (sym (c.counts_text.ensures all.given counted)) (prefix_behind _ _ _ _ _ told text)) (prefix_same _)
     (fails_report _ _ (subst (λ n. Rose n (g.U.Sink.faults c.write.new.self)) (ap (λ f. f.report) records.cause) c.in-Err-write.ensures.cause.failed)) (λ long. cc) (λ wants. absurd (cc)) (λ over. cc)

@@ -10,7 +10,7 @@ use Rattle.periods.proofs.EndSurface.{In-from_contains, contains_from_In}
 use Rattle.periods.specs.PeriodLists.{items_in}
 use Rattle.periods.specs.PeriodsOf.{periods_of}
 use Rattle.capture_log.specs.Heard.{IsPartHeard, NoneLate, SameItems}
-use Rattle.capture_log.specs.Log.{items_of, parts_of}
+use Rattle.capture_log.specs.Log.{line_items_of, parts_of}
 use Rattle.page_send.specs.Sendable.{sendable, sent_lines, slots_items}
 use Rattle.page_send.specs.SentItems.{sent_items}
 use Rattle.nav_laws.specs.SentCapture.{IsOfLines, IsStillHeard, sent_capture}
@@ -25,9 +25,9 @@ record Laws : Type 0 where
   order : (r window : ℕ) (some other : List Part) → All IsPartValue some → ((p : Part) → Contains some p ↔ Contains other p)
       → periods_of r window some ≡ periods_of r window other
   values : (window : ℕ) (lines : List Line) → All IsPartValue (parts_of window lines)
-  heard : (window : ℕ) (lines : List Line) (part : Part) → Contains (parts_of window lines) part ↔ IsPartHeard window (items_of lines) part
+  heard : (window : ℕ) (lines : List Line) (part : Part) → Contains (parts_of window lines) part ↔ IsPartHeard window (line_items_of lines) part
   back : (r : ℕ) (items : List NavItem) → All IsItem items → items_in (periods_of r 7200 (slots_parts 0 (sendable r 0 items))) ≡ sent_items r items
-  items : (r : ℕ) (items : List NavItem) → All IsItem items → items_of (sent_capture r items) ≡ sent_lines r items
+  items : (r : ℕ) (items : List NavItem) → All IsItem items → line_items_of (sent_capture r items) ≡ sent_lines r items
   parts : (r : ℕ) (items : List NavItem) (part : Part) → All IsItem items
       → Contains (parts_of 7200 (sent_capture r items)) part ↔ Contains (slots_parts 0 (sendable r 0 items)) part
 
@@ -43,7 +43,7 @@ by_parts laws r items lines all same =
 
 -- a line of what is sent is accepted there
 accepted_there : (laws : Laws) (r : ℕ) (items : List NavItem) (item : LineItem) (s : ℕ) → All IsItem items → stamp_of item ≡ Some s
-    → Contains (items_of (sent_capture r items)) item → IsAccepted 7200 (items_of (sent_capture r items)) item
+    → Contains (line_items_of (sent_capture r items)) item → IsAccepted 7200 (line_items_of (sent_capture r items)) item
 accepted_there laws r items item s all stamp i =
     let same = laws.items r items all in
     let lines = slots_items 0 (sendable r 0 items) in
@@ -54,9 +54,9 @@ no_more : (laws : Laws) (r : ℕ) (items : List NavItem) (lines : List Line) (pa
     → Contains (parts_of 7200 lines) part → Contains (parts_of 7200 (sent_capture r items)) part
 no_more laws r items lines part all of i =
     (laws.heard 7200 (sent_capture r items) part).1
-    (heard_to 7200 (items_of lines) (items_of (sent_capture r items)) part
+    (heard_to 7200 (line_items_of lines) (line_items_of (sent_capture r items)) part
     (λ item h. accepted_there laws r items item h.stamp all h.stamp_is
-    (of item h.stamp h.stamp_is (contains_from_In (items_of lines) item (accepted_in 7200 (items_of lines) item h))))
+    (of item h.stamp h.stamp_is (contains_from_In (line_items_of lines) item (accepted_in 7200 (line_items_of lines) item h))))
     ((laws.heard 7200 lines part).0 i))
 
 by_loss : (laws : Laws) (r : ℕ) (items : List NavItem) (lines : List Line) → All IsItem items
@@ -66,22 +66,22 @@ by_loss laws r items lines all of still =
     by_parts laws r items lines all (λ part. (λ i. no_more laws r items lines part all of i, λ i. still part i))
 
 by_turning : (laws : Laws) (r : ℕ) (items : List NavItem) (lines : List Line) → All IsItem items
-    → SameItems (items_of lines) (items_of (sent_capture r items)) → NoneLate 7200 (items_of lines)
+    → SameItems (line_items_of lines) (line_items_of (sent_capture r items)) → NoneLate 7200 (line_items_of lines)
     → items_in (periods_of r 7200 (parts_of 7200 lines)) ≡ sent_items r items
 by_turning laws r items lines all same none =
     by_loss laws r items lines all (λ item s stamp i. (same item s stamp).0 i) (λ part i.
     (laws.heard 7200 lines part).1
-    (heard_to 7200 (items_of (sent_capture r items)) (items_of lines) part
+    (heard_to 7200 (line_items_of (sent_capture r items)) (line_items_of lines) part
     (λ item h. none item h.stamp h.stamp_is ((same item h.stamp h.stamp_is).1
-    (contains_from_In (items_of (sent_capture r items)) item (accepted_in 7200 (items_of (sent_capture r items)) item h))))
+    (contains_from_In (line_items_of (sent_capture r items)) item (accepted_in 7200 (line_items_of (sent_capture r items)) item h))))
     ((laws.heard 7200 (sent_capture r items) part).0 i)))
 
 pub returns : goal.returns
 returns c =
     let laws : Laws = record {
-      order = c.order_is_nothing.ensures;
+      order = c.order_does_not_matter.ensures;
       values = c.parts_of_lines_are_values.ensures;
-      heard = c.lines_bring_what_is_heard.ensures.parts;
+      heard = c.lines_yield_what_is_heard.ensures.parts;
       back = c.parts_of_slots_come_back.ensures;
       items = c.what_is_sent_is_heard.ensures.items;
       parts = c.what_is_sent_is_heard.ensures.parts;
@@ -90,5 +90,5 @@ returns c =
       itself = λ r items all. by_parts laws r items (sent_capture r items) all (λ part. (λ i. i, λ i. i));
       parts = λ r items lines all same. by_parts laws r items lines all same;
       lost = λ r items lines all of still. by_loss laws r items lines all of still;
-      turned = λ r items lines all same none. by_turning laws r items lines all same none;
+      reordered = λ r items lines all same none. by_turning laws r items lines all same none;
     }

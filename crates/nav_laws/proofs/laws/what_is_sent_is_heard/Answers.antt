@@ -8,7 +8,7 @@ use Rattle.capture_lines.specs.declared.item.LineItem.{LineItem}
 use Rattle.inav_word.specs.Writing.{word1_bytes, word2_bytes, word3_bytes, word4_bytes, word5_bytes}
 use Rattle.periods.proofs.EndSurface.{In-from_contains, contains_from_In}
 use Rattle.capture_log.specs.Heard.{IsPartHeard}
-use Rattle.capture_log.specs.Log.{items_of, parts_of}
+use Rattle.capture_log.specs.Log.{line_items_of, parts_of}
 use Rattle.page_send.specs.Slots.{text_of_items}
 use Rattle.page_send.specs.Sendable.{sendable, sent_lines, sent_text}
 use Rattle.nav_laws.specs.SentCapture.{sent_capture}
@@ -30,11 +30,11 @@ window_is : head_of plain_head ≡ Some (record { window = 7200; week = None })
 unfolding head_of
 window_is = refl
 
-items_are : (lines : LineLaws) (reads : ReadLaws) (r : ℕ) (items : List NavItem) → All IsItem items → items_of (sent_capture r items) ≡ sent_lines r items
+items_are : (lines : LineLaws) (reads : ReadLaws) (r : ℕ) (items : List NavItem) → All IsItem items → line_items_of (sent_capture r items) ≡ sent_lines r items
 items_are lines reads r items all = sent_lines_are lines r items (slots_spelt reads r 0 (sendable r 0 items) (in_slots r 0 items all))
 
 parts_are : (lines : LineLaws) (reads : ReadLaws) (pages : PageLaws)
-    → ((window : ℕ) (lines : List Line) (part : Part) → Contains (parts_of window lines) part ↔ IsPartHeard window (items_of lines) part)
+    → ((window : ℕ) (lines : List Line) (part : Part) → Contains (parts_of window lines) part ↔ IsPartHeard window (line_items_of lines) part)
     → (r : ℕ) (items : List NavItem) (part : Part) → All IsItem items
     → Contains (parts_of 7200 (sent_capture r items)) part ↔ Contains (slots_parts 0 (sendable r 0 items)) part
 parts_are lines reads pages heard r items part all =
@@ -83,5 +83,5 @@ returns c =
       head = λ r items. head_is lines r items;
       window = window_is;
       items = λ r items all. items_are lines reads r items all;
-      parts = λ r items part all. parts_are lines reads pages c.lines_bring_what_is_heard.ensures.parts r items part all;
+      parts = λ r items part all. parts_are lines reads pages c.lines_yield_what_is_heard.ensures.parts r items part all;
     }

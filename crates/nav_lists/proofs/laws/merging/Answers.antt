@@ -1,4 +1,4 @@
-use Rattle.nav_lists.proofs.MergeLemmas.{is_merged, merged_only, merged_set, merged_turned, merged_twice, merged_again}
+use Rattle.nav_lists.proofs.MergeLemmas.{is_merged, merged_only, merged_set, merged_swapped, merged_twice, merged_again}
 use Rattle.nav_lists.proofs.laws.merging.Goals as goal
 
 pub returns-clause-are : goal.returns-clause-are
@@ -10,8 +10,8 @@ returns-clause-only c = merged_only
 pub returns-clause-set : goal.returns-clause-set
 returns-clause-set c = merged_set
 
-pub returns-clause-turned : goal.returns-clause-turned
-returns-clause-turned c = merged_turned
+pub returns-clause-swapped : goal.returns-clause-swapped
+returns-clause-swapped c = merged_swapped
 
 pub returns-clause-twice : goal.returns-clause-twice
 returns-clause-twice c = merged_twice

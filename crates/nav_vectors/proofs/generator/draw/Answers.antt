@@ -2,6 +2,6 @@ use Rattle.std.proofs.Common.{◌-◌, ◌/◌, ◌^◌, ◌<◌, sym, subst, li
 use Rattle.nav_vectors.proofs.States.{draw-lt}
 use Rattle.nav_vectors.proofs.generator.draw.Goals as goal
 
-pub from_digits-requires : goal.from_digits-requires
-from_digits-requires g c =
+pub from_bits-requires : goal.from_bits-requires
+from_bits-requires g c =
     (lit< tt, subst (λ x. x / 2 ^ (64 - g.row.W) < 2 ^ g.row.W) (sym c.next_state.ensures) (draw-lt c.args.state.now g.row.W c.requires.most))

@@ -5,6 +5,6 @@ pub returns : goal.returns
 returns c = record {
   are = λ r w parts all. periods_of-are r w parts (all_values parts all);
   only = λ r w parts xs all h. periods_of-only r w parts xs (all_values parts all) h;
-  closed = λ r w mark parts all. closed_of-are r w mark parts (all_values parts all);
-  only_closed = λ r w mark parts xs all h. closed_of-only r w mark parts xs (all_values parts all) h;
+  closed = λ r w watermark parts all. closed_of-are r w watermark parts (all_values parts all);
+  only_closed = λ r w watermark parts xs all h. closed_of-only r w watermark parts xs (all_values parts all) h;
 }

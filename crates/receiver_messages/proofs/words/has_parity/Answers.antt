@@ -8,7 +8,7 @@ use Rattle.receiver_messages.proofs.words.has_parity.Goals as goal
 pub returns : goal.returns
 returns c =
     let last = c.args.last % 4 in
-    let same = c.from_digits.ensures in
+    let same = c.from_bits.ensures in
     same_from_decides c.is_some.result (is_good c.args.word last) (
       λ e. subst (IsGood c.args.word) same
           (c.check_word.ensures.good.0 (sym c.is_some.ensures ∙ e)),

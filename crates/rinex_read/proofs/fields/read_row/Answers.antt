@@ -7,7 +7,7 @@ use Rattle.rinex_write.proofs.Surface.{no_column}
 use Rattle.rinex_read.specs.declared.reason.Reason.{Reason}
 use Rattle.rinex_read.specs.Lines.{columns}
 use Rattle.rinex_read.specs.Fields.{taken, field_at, read_row}
-use Rattle.rinex_read.specs.Mirrors.{with_front}
+use Rattle.rinex_read.specs.Mirrors.{with_prefix}
 use Rattle.rinex_read.proofs.FieldLemmas.{good_at}
 use Rattle.rinex_read.proofs.RowLemmas.{row_more}
 use Rattle.rinex_read.proofs.fields.read_row.Goals as goal
@@ -31,6 +31,6 @@ loop-i-preserved c =
     let step = row_more _ cs c.loop-i.fields.items i no_column place line c.in_ok-field.field c.loop-i-test.true is c.loop-i.invariant.0 in
     let fits : SFits w64 c.in_ok-field.field = search rules in
     let same : to_z w64 (of_z w64 c.in_ok-field.field) ≡ c.in_ok-field.field = to_z-of_z w64 c.in_ok-field.field fits in (
-      step ∙ ap (λ z. with_front (c.loop-i.fields.items ++ z ∷ []) (read_row (drop (i + 1) cs) (place + 19 * (i + 1)) line)) (sym same) ∙ ap (λ xs. with_front xs (read_row (drop (i + 1) cs) (place + 19 * (i + 1)) line)) (sym c.push.ensures.items),
+      step ∙ ap (λ z. with_prefix (c.loop-i.fields.items ++ z ∷ []) (read_row (drop (i + 1) cs) (place + 19 * (i + 1)) line)) (sym same) ∙ ap (λ xs. with_prefix xs (read_row (drop (i + 1) cs) (place + 19 * (i + 1)) line)) (sym c.push.ensures.items),
       omega (arith, c.loop-i.invariant.1, c.push.ensures.len),
     )

@@ -15,10 +15,10 @@ pub loop-i-preserved : goal.loop-i-preserved
 loop-i-preserved c =
     let column : Column = slice_index_or c.args.columns.now c.loop-i.i no_column in
     let field : FitsSigned w64 (slice_index_or c.args.fields.now c.loop-i.i (pos 0)) = search rules in
-    let number : FitsSigned w64 c.number_of.result = search rules in
-    let shown : c.number_of.result ≡ shown column.rule (slice_index_or c.args.fields.now c.loop-i.i (pos 0)) = simp to_z-of_z at c.number_of.ensures.shown in
-    let printed : c.print.result ≡ number_text (size_of column.scale) c.number_of.result = simp to_z-of_z at c.print.ensures in (
+    let number : FitsSigned w64 c.field_number.result = search rules in
+    let shown : c.field_number.result ≡ shown column.rule (slice_index_or c.args.fields.now c.loop-i.i (pos 0)) = simp to_z-of_z at c.field_number.ensures.shown in
+    let printed : c.print.result ≡ number_text (size_of column.scale) c.field_number.result = simp to_z-of_z at c.print.ensures in (
       row_after _ _ _ _ c.args.columns.now c.args.fields.now c.loop-i.i c.loop-i.invariant.0 c.loop-i-test.true c.append.ensures.items
           (printed ∙ ap (number_text (size_of column.scale)) shown),
-      omega (arith, c.append.ensures.len, ap length printed, length-number_text (size_of column.scale) c.number_of.result, c.loop-i.invariant.1),
+      omega (arith, c.append.ensures.len, ap length printed, length-number_text (size_of column.scale) c.field_number.result, c.loop-i.invariant.1),
     )

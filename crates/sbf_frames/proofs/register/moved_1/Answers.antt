@@ -1,6 +1,6 @@
 use Rattle.std.proofs.Common.{◌<◌, ◌^◌, subst, sym}
 use Rattle.sbf_frames.proofs.LookupLemmas.{one_place, one_place_back}
-use Rattle.sbf_frames.proofs.RegisterLaws.{turned-lt}
+use Rattle.sbf_frames.proofs.RegisterLaws.{stepped-lt}
 use Rattle.sbf_frames.proofs.register.moved_1.Goals as goal
 
 pub returns-then-longer-clause-value : goal.returns-then-longer-clause-value
@@ -12,4 +12,4 @@ returns-else-longer-clause-value c = one_place_back c.args.state c.if-longer.fal
 pub returns-else-longer-clause-fits : goal.returns-else-longer-clause-fits
 returns-else-longer-clause-fits c =
     subst (λ n. n < 2 ^ 16) (sym (one_place_back c.args.state c.if-longer.false c.requires))
-    (turned-lt c.args.state c.requires)
+    (stepped-lt c.args.state c.requires)

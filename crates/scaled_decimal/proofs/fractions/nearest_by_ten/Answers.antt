@@ -1,5 +1,5 @@
 use Rattle.std.proofs.Common.{◌≡◌, ◌*◌, ◌+◌, ◌%◌, ◌^◌, ◌∙◌, arith}
-use Rattle.scaled_decimal.proofs.QuotientLemmas.{five_pos, fits_whole, two_by_ten, IsDivided, front_divided, nearest_of}
+use Rattle.scaled_decimal.proofs.QuotientLemmas.{five_pos, fits_whole, two_by_ten, IsDivided, prefix_divided, nearest_of}
 use Rattle.scaled_decimal.proofs.fractions.nearest_by_ten.Goals as goal
 use Rattle.scaled_decimal.proofs.fractions.nearest_by_ten.Goals.{After-quotient_by_five-whole}
 
@@ -10,7 +10,7 @@ under_is c =
 
 divided : (c : After-quotient_by_five-whole) → IsDivided c.args.over (c.from.result * 2 ^ (c.args.bits + c.args.tens) % 2 ^ 128) c.quotient_by_five-whole.result
 divided c =
-    front_divided c.args.over c.args.bits c.args.tens c.power_of_five-five.result c.quotient_by_five-whole.result _
+    prefix_divided c.args.over c.args.bits c.args.tens c.power_of_five-five.result c.quotient_by_five-whole.result _
     c.power_of_five-five.ensures c.quotient_by_five-whole.ensures (under_is c)
 
 pub quotient_by_five-whole-requires : goal.quotient_by_five-whole-requires
@@ -33,6 +33,6 @@ returns c =
     let whole : c.from.result * 2 ^ (c.args.bits + c.args.tens) ≡ 2 ^ c.args.bits * 10 ^ c.args.tens
     = two_by_ten c.args.bits c.args.tens c.from.result (c.from.ensures ∙ c.power_of_five-five.ensures) in
     let under = fits_whole (c.from.result * 2 ^ (c.args.bits + c.args.tens)) (2 ^ c.args.bits * 10 ^ c.args.tens) c.args.over whole c.requires.fits (omega arith) in
-    let parts = front_divided c.args.over c.args.bits c.args.tens c.power_of_five-five.result c.quotient_by_five-whole.result _
+    let parts = prefix_divided c.args.over c.args.bits c.args.tens c.power_of_five-five.result c.quotient_by_five-whole.result _
     c.power_of_five-five.ensures c.quotient_by_five-whole.ensures under in
     nearest_of c.args.over c.quotient_by_five-whole.result _ _ c.rounded.result under parts.low c.rounded.ensures

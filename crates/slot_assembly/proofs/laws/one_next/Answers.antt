@@ -4,7 +4,7 @@ use Rattle.periods.proofs.Surface.{IsClosed-one, all_values, period_key, same_pl
 use Rattle.slot_assembly.proofs.laws.one_next.Goals as goal
 
 pub returns : goal.returns
-returns c = λ r w mark parts last a b all h k.
+returns c = λ r w watermark parts last a b all h k.
     let values = all_values parts all in
     let u = period_key w (Contains parts) (closed_place a) values h.due.period in
     let v = period_key w (Contains parts) (closed_place b) values k.due.period in

@@ -1,7 +1,7 @@
 use Rattle.std.proofs.Common.{◌≡◌, ℕ, None, List, subst, ◌∙◌, refl, take_all}
 use Rattle.nav_eph.specs.declared.part.Part.{Part}
 use Rattle.periods.specs.PeriodsOf.{closed_of}
-use Rattle.slot_assembly.proofs.SettleLemmas.{standing, settled_parts, closed_of-last}
+use Rattle.slot_assembly.proofs.FlushLemmas.{standing, flushed_parts, closed_of-last}
 use Rattle.slot_assembly.proofs.run.add_periods.Goals as goal
 
 pub returns : goal.returns
@@ -15,5 +15,5 @@ returns g c =
     let gave : c.give_all.new.given.items ≡ closed_of r w m parts =
     subst (λ (x : ℕ). c.give_all.new.given.items ≡ closed_of r x m parts) c.taking.invariant.window
     (subst (λ (x : ℕ). c.give_all.new.given.items ≡ closed_of x (g.A.Assembly.window c.taking.assembly) m parts) c.taking.invariant.reference
-    (c.in_ok-give_all.ensures parts (settled_parts now (g.A.Assembly.reference c.taking.assembly) (g.A.Assembly.window c.taking.assembly) parts stands))) in
+    (c.in_ok-give_all.ensures parts (flushed_parts now (g.A.Assembly.reference c.taking.assembly) (g.A.Assembly.window c.taking.assembly) parts stands))) in
     gave ∙ closed_of-last r w m parts (g.met.A.Assembly.parts_are_values c.taking.assembly (standing parts 0 None) stands) c.requires.window refl

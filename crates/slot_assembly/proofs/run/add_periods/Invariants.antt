@@ -1,5 +1,5 @@
 use Rattle.std.proofs.Common.{◌≡◌, take, None}
-use Rattle.slot_assembly.proofs.SettleLemmas.{standing}
+use Rattle.slot_assembly.proofs.FlushLemmas.{standing}
 use Rattle.slot_assembly.proofs.run.add_periods.Given as goal
 
 abbrev pub invariant-taking : goal.invariant-taking

@@ -1,7 +1,7 @@
 use Rattle.std.proofs.Common.{ℕ, Contains, refl, sym, subst, ◌∙◌, arith}
 use Rattle.periods.specs.Verdicts.{closed_place}
 use Rattle.slot_assembly.specs.Standing.{Tells, Carries, IsNext, NoneDue, giving, reaching}
-use Rattle.slot_assembly.proofs.SettleLemmas.{Gives, closed_of-none, gives_start, gives_more, gives_all, next_at, none_at, stood_giving}
+use Rattle.slot_assembly.proofs.FlushLemmas.{Gives, closed_of-none, gives_start, gives_more, gives_all, next_at, none_at, stood_giving}
 use Rattle.slot_assembly.proofs.run.give_all.Goals as goal
 
 pub giving-init : goal.giving-init

@@ -20,37 +20,37 @@ returns-in-Err g c = record {
       (λ quiet. let none : false ≡ true = (c.in-Err.ensures.never (c.loop-taken.invariant.never quiet)).0 in cc);
 }
 
-pub returns-in-Ok-take_frames : goal.returns-in-Ok-take_frames
-returns-in-Ok-take_frames g c = record {
+pub returns-in-Ok-process_frames : goal.returns-in-Ok-process_frames
+returns-in-Ok-process_frames g c = record {
   ended =
       done_frames _ _ _ _ _ _ _ _ _ _ _ _ (record { report = refl; told = refl; failed = refl }) c.loop-taken.invariant.so_far (omega arith) c.in-Ok-eq0.field-0-test c.in-Ok-eq0.ensures.bytes.0
-      (c.in-Ok-eq0.ensures.bytes.1 c.in-Ok-eq0.field-0-test) c.finish.ensures.rest c.finish.ensures.finished c.in-Ok-take_frames.ensures.last c.in-Ok-take_frames.ensures.goes
-      (c.in-Ok-eq0.ensures.cause.stays ∙ c.loop-taken.invariant.read) (c.in-Ok-take_frames.ensures.cause.stays ∙ c.loop-taken.invariant.write);
+      (c.in-Ok-eq0.ensures.bytes.1 c.in-Ok-eq0.field-0-test) c.finish.ensures.rest c.finish.ensures.finished c.in-Ok-process_frames.ensures.last c.in-Ok-process_frames.ensures.goes
+      (c.in-Ok-eq0.ensures.cause.stays ∙ c.loop-taken.invariant.read) (c.in-Ok-process_frames.ensures.cause.stays ∙ c.loop-taken.invariant.write);
 }
 
-pub returns-in-Err-take_frames : goal.returns-in-Err-take_frames
-returns-in-Err-take_frames g c = record {
+pub returns-in-Err-process_frames : goal.returns-in-Err-process_frames
+returns-in-Err-process_frames g c = record {
   ended =
       broke_last _ _ _ _ _ _ _ _ _ _ (record { report = refl; told = refl; failed = refl }) c.loop-taken.invariant.so_far c.in-Ok-eq0.field-0-test c.in-Ok-eq0.ensures.bytes.0 c.finish.ensures.rest
-      c.finish.ensures.finished c.in-Err-take_frames.ensures.breaks
-      (subst (λ (n : ℕ). Rose n (g.T.Sink.faults c.take_frames.new.output)) c.loop-taken.invariant.write c.in-Err-take_frames.ensures.cause.failed);
+      c.finish.ensures.finished c.in-Err-process_frames.ensures.breaks
+      (subst (λ (n : ℕ). Rose n (g.T.Sink.faults c.process_frames.new.output)) c.loop-taken.invariant.write c.in-Err-process_frames.ensures.cause.failed);
 }
 
 pub loop-taken-preserved : goal.loop-taken-preserved
 loop-taken-preserved g c = record {
   so_far = so_far_piece line_of _ _ _ _ _ _ _ _ _ _ _ _ _ c.loop-taken.invariant.so_far c.in-Ok.ensures.bytes.0 c.in-Ok.ensures.count (omega (arith, c.in-Ok.ensures.most))
-      c.in-Ok-take_piece.ensures.goes c.in-Ok-take_piece.ensures.may_feed c.in-Ok-take_piece.ensures.room;
+      c.in-Ok-process_piece.ensures.goes c.in-Ok-process_piece.ensures.may_feed c.in-Ok-process_piece.ensures.room;
   read = c.in-Ok.ensures.cause.stays ∙ c.loop-taken.invariant.read;
-  write = c.in-Ok-take_piece.ensures.cause.stays ∙ c.loop-taken.invariant.write;
+  write = c.in-Ok-process_piece.ensures.cause.stays ∙ c.loop-taken.invariant.write;
   never = λ quiet. (c.in-Ok.ensures.never (c.loop-taken.invariant.never quiet)).1;
 }
 
-pub returns-in-Err-take_piece : goal.returns-in-Err-take_piece
-returns-in-Err-take_piece g c = record {
+pub returns-in-Err-process_piece : goal.returns-in-Err-process_piece
+returns-in-Err-process_piece g c = record {
   ended =
       broke_piece _ _ _ _ _ _ _ _ (record { report = refl; told = refl; failed = refl }) c.loop-taken.invariant.so_far c.in-Ok.ensures.bytes.0
-      (omega (arith, c.in-Ok.ensures.count, c.in-Ok.ensures.within)) c.in-Err-take_piece.ensures.breaks
-      (subst (λ (n : ℕ). Rose n (g.T.Sink.faults c.take_piece.new.output)) c.loop-taken.invariant.write c.in-Err-take_piece.ensures.cause.failed);
+      (omega (arith, c.in-Ok.ensures.count, c.in-Ok.ensures.within)) c.in-Err-process_piece.ensures.breaks
+      (subst (λ (n : ℕ). Rose n (g.T.Sink.faults c.process_piece.new.output)) c.loop-taken.invariant.write c.in-Err-process_piece.ensures.cause.failed);
 }
 
 pub returns : goal.returns

@@ -14,7 +14,7 @@ returns c =
       long = omega (arith, size.count_is);
       fields = c.message_bytes.ensures.fields_1019 e c.gps_ranges.ensures;
     } in
-    let front = c.read_1019_is_sent.ensures e payload sent c.requires.read.0
+    let prefix = c.read_1019_is_sent.ensures e payload sent c.requires.read.0
     (record { each = λ k. omega (arith, c.type_inv.payload k) }) (record { each = size.fit })
     c.requires.read.1 begins size.count_is in
-    c.bits_of.ensures ∙ whole 61 payload sent c.if-payload-ne61.false front
+    c.bits_of.ensures ∙ whole 61 payload sent c.if-payload-ne61.false prefix

@@ -13,7 +13,7 @@ pub event-requires-clause-open : goal.event-requires-clause-open
 event-requires-clause-open g c =
     let within : c.taking.event-index < length c.args.events.now = omega (arith, c.taking-test.true) in
     let s = open_after c.args.self.now c.taking.self _ _ _ (λ (m : ℕ). AreFrom m c.args.events.now) c.taking.invariant.heard c.requires.open in
-    (s.0, s.1, (from_one s.0.mark c.args.events.now c.taking.event-index c.event-item.result within c.event-item.is s.2, tt))
+    (s.0, s.1, (from_one s.0.watermark c.args.events.now c.taking.event-index c.event-item.result within c.event-item.is s.2, tt))
 
 pub event-requires-clause-room : goal.event-requires-clause-room
 event-requires-clause-room g c =

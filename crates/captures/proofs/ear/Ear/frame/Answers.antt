@@ -7,7 +7,7 @@ use Rattle.capture_log.specs.Log.{noted}
 use Rattle.capture_log.specs.declared.event.Event.{Event}
 use Rattle.capture_log.specs.declared.event.Event.TheVariants.{Heard}
 use Rattle.captures.proofs.Ears.{heard_as, open_for}
-use Rattle.captures.proofs.FrameEvents.{frame_brings, frame_refused, heard_from}
+use Rattle.captures.proofs.FrameEvents.{frame_yields, frame_refused, heard_from}
 use Rattle.captures.proofs.ear.Ear.frame.Goals as goal
 
 pub event-requires-clause-open : goal.event-requires-clause-open
@@ -30,11 +30,11 @@ events-requires-clause-open g c =
 pub returns-in-Ok-Gps : goal.returns-in-Ok-Gps
 returns-in-Ok-Gps g c =
     let is : c.read_message.result ≡ Ok (GpsParts c.in-Ok-Gps.clock c.in-Ok-Gps.a c.in-Ok-Gps.b) = c.in-Ok-Gps.is ∙ ap Ok c.in-Ok-Gps.field-0-is in
-    let brings =
+    let yields =
     sym (ap of_message is)
-    ∙ frame_brings c.args.stamp c.args.bytes.now c.in-Some.frame c.payload.result.now c.read_message.result (c.in-Some.ensures.whole.0 refl) c.in-Some.ensures.frame
+    ∙ frame_yields c.args.stamp c.args.bytes.now c.in-Some.frame c.payload.result.now c.read_message.result (c.in-Some.ensures.whole.0 refl) c.in-Some.ensures.frame
     c.payload.ensures.value c.read_message.ensures.answer in
-    heard_as _ _ _ _ _ _ _ _ c.events.result (ap (noted c.args.number) brings) c.events.ensures
+    heard_as _ _ _ _ _ _ _ _ c.events.result (ap (noted c.args.number) yields) c.events.ensures
 
 pub events-requires-in-Ok-Gal-clause-open : goal.events-requires-in-Ok-Gal-clause-open
 events-requires-in-Ok-Gal-clause-open g c =
@@ -48,16 +48,16 @@ events-requires-in-Ok-Gal-clause-open g c =
 pub returns-in-Ok-Gal : goal.returns-in-Ok-Gal
 returns-in-Ok-Gal g c =
     let is : c.read_message.result ≡ Ok (GalParts c.in-Ok-Gal.w1 c.in-Ok-Gal.w2 c.in-Ok-Gal.w3 c.in-Ok-Gal.w4 c.in-Ok-Gal.health) = c.in-Ok-Gal.is ∙ ap Ok c.in-Ok-Gal.field-0-is in
-    let brings =
+    let yields =
     sym (ap of_message is)
-    ∙ frame_brings c.args.stamp c.args.bytes.now c.in-Some.frame c.payload.result.now c.read_message.result (c.in-Some.ensures.whole.0 refl) c.in-Some.ensures.frame
+    ∙ frame_yields c.args.stamp c.args.bytes.now c.in-Some.frame c.payload.result.now c.read_message.result (c.in-Some.ensures.whole.0 refl) c.in-Some.ensures.frame
     c.payload.ensures.value c.read_message.ensures.answer in
-    heard_as _ _ _ _ _ _ _ _ c.events-in-Ok-Gal.result (ap (noted c.args.number) brings) c.events-in-Ok-Gal.ensures
+    heard_as _ _ _ _ _ _ _ _ c.events-in-Ok-Gal.result (ap (noted c.args.number) yields) c.events-in-Ok-Gal.ensures
 
 pub returns-in-Err : goal.returns-in-Err
 returns-in-Err g c =
-    let brings =
+    let yields =
     ap (λ (event : Event). event ∷ []) c.message_event-event.ensures ∙ sym (ap of_message c.in-Err.is)
-    ∙ frame_brings c.args.stamp c.args.bytes.now c.in-Some.frame c.payload.result.now c.read_message.result (c.in-Some.ensures.whole.0 refl) c.in-Some.ensures.frame
+    ∙ frame_yields c.args.stamp c.args.bytes.now c.in-Some.frame c.payload.result.now c.read_message.result (c.in-Some.ensures.whole.0 refl) c.in-Some.ensures.frame
     c.payload.ensures.value c.read_message.ensures.answer in
-    heard_as _ _ _ _ _ _ _ _ c.event-in-Err.result (ap (noted c.args.number) brings) c.event-in-Err.ensures
+    heard_as _ _ _ _ _ _ _ _ c.event-in-Err.result (ap (noted c.args.number) yields) c.event-in-Err.ensures

@@ -7,7 +7,7 @@ use Rattle.capture_log.specs.Log.{noted}
 use Rattle.captures.specs.Notes.{of_heard}
 use Rattle.captures.proofs.Ears.{weights_heard}
 use Rattle.captures.proofs.Keeping.{half_events, half_words, took_alert, took_half}
-use Rattle.captures.proofs.Noting.{front_none}
+use Rattle.captures.proofs.Noting.{prefix_none}
 use Rattle.captures.proofs.Takings.{alert_events, took_heard}
 use Rattle.captures.proofs.hearing.Hearing.half.Goals as goal
 
@@ -42,4 +42,4 @@ returns-in-Ok-take g c known keeps at near =
 
 pub returns-in-Err : goal.returns-in-Err
 returns-in-Err g c known keeps at near =
-    (front_none (g.U.Sink.written c.args.report.now) (noted c.args.number (of_half known.halves c.args.stamp c.args.sat c.args.signal c.args.bits.now)), refl)
+    (prefix_none (g.U.Sink.written c.args.report.now) (noted c.args.number (of_half known.halves c.args.stamp c.args.sat c.args.signal c.args.bits.now)), refl)

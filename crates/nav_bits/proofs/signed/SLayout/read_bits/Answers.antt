@@ -2,6 +2,6 @@ use Rattle.std.proofs.Common.{lit<, arith}
 use Rattle.nav_bits.specs.Laws.{number_at-lt}
 use Rattle.nav_bits.proofs.signed.SLayout.read_bits.Goals as goal
 
-pub from_digits-requires : goal.from_digits-requires
-from_digits-requires g c =
+pub from_bits-requires : goal.from_bits-requires
+from_bits-requires g c =
     (lit< tt, (c.requires.usable.0, (c.requires.usable.1, omega (arith, number_at-lt c.args.from.now c.args.at g.row.W))))

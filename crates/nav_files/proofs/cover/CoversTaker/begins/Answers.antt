@@ -1,12 +1,12 @@
 use Rattle.std.proofs.Common.{◌++◌}
 use Rattle.std.specs.List.{flat_map}
-use Rattle.one_run.proofs.Surface.{front_more, front_nil, front_trans}
+use Rattle.one_run.proofs.Surface.{prefix_more, prefix_nil, prefix_trans}
 use Rattle.nav_files.specs.Files.{read_report}
-use Rattle.nav_files.proofs.Surface.{texts_front}
+use Rattle.nav_files.proofs.Surface.{texts_prefix}
 use Rattle.nav_files.proofs.cover.CoversTaker.begins.Goals as goal
 
 pub returns-clause-text : goal.returns-clause-text
-returns-clause-text c = λ some more. front_nil _
+returns-clause-text c = λ some more. prefix_nil _
 
 pub returns-clause-told : goal.returns-clause-told
-returns-clause-told c = λ some more. front_trans _ _ _ (texts_front read_report some more) (front_more (flat_map read_report (some ++ more)) _)
+returns-clause-told c = λ some more. prefix_trans _ _ _ (texts_prefix read_report some more) (prefix_more (flat_map read_report (some ++ more)) _)

@@ -1,13 +1,13 @@
 use Rattle.std.proofs.Common.{◌++◌}
 use Rattle.std.specs.List.{flat_map}
-use Rattle.one_run.proofs.Surface.{front_more, front_trans}
+use Rattle.one_run.proofs.Surface.{prefix_more, prefix_trans}
 use Rattle.nav_files.specs.Sends.{told_report, tolds}
-use Rattle.nav_files.proofs.SentLemmas.{sent_front, text_front}
+use Rattle.nav_files.proofs.SentLemmas.{sent_prefix, text_prefix}
 use Rattle.nav_files.proofs.sending.SendingTaker.begins.Goals as goal
 
 pub returns-clause-text : goal.returns-clause-text
-returns-clause-text c = λ some more. sent_front c.args.self.now.r some more
+returns-clause-text c = λ some more. sent_prefix c.args.self.now.r some more
 
 pub returns-clause-told : goal.returns-clause-told
 returns-clause-told c = λ some more.
-    front_trans _ _ _ (text_front c.args.self.now.r told_report some more) (front_more (flat_map told_report (tolds c.args.self.now.r 0 (some ++ more))) _)
+    prefix_trans _ _ _ (text_prefix c.args.self.now.r told_report some more) (prefix_more (flat_map told_report (tolds c.args.self.now.r 0 (some ++ more))) _)

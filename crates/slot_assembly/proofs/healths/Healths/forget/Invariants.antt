@@ -6,7 +6,7 @@ use Rattle.slot_assembly.proofs.healths.Healths.forget.Given as goal
 abbrev pub invariant-forgetting : goal.invariant-forgetting
 invariant-forgetting l = record {
   stamped : AreStamped l.self.heard.entries l.self.stamps.keys;
-  thinned : IsThinned l.window l.mark l.fn.self.heard.entries l.self.heard.entries;
+  thinned : IsThinned l.window l.watermark l.fn.self.heard.entries l.self.heard.entries;
 }
 
 abbrev pub decreases-forgetting : goal.decreases-forgetting

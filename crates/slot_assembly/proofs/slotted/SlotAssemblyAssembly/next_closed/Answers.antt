@@ -14,8 +14,8 @@ returns-in-Err-clause-err c = λ at h.
 
 pub returns-in-None-clause-reached : goal.returns-in-None-clause-reached
 returns-in-None-clause-reached c = λ at h.
-    let l = subst (λ (m : ℕ). m ≤ c.args.mark) (sym c.requires.1.at_mark ∙ h.at_mark) c.requires.2 in
-    stands_reached (the_view c.self.inside) at c.args.mark c.forget.new.self.heard.entries c.forget.new.self.stamps.keys (subst (λ (s : SlotsState). SlotsStandFor s at) (sym c.self.view_is) h) l c.in-None.ensures c.forget.ensures.forgotten
+    let l = subst (λ (m : ℕ). m ≤ c.args.watermark) (sym c.requires.1.at_watermark ∙ h.at_watermark) c.requires.2 in
+    stands_reached (the_view c.self.inside) at c.args.watermark c.forget.new.self.heard.entries c.forget.new.self.stamps.keys (subst (λ (s : SlotsState). SlotsStandFor s at) (sym c.self.view_is) h) l c.in-None.ensures c.forget.ensures.forgotten
     c.forget.ensures.stamped
 
 pub returns-in-Ok-clause-next : goal.returns-in-Ok-clause-next
@@ -25,16 +25,16 @@ returns-in-Ok-clause-next c = λ at h.
     let slot = c.in-Some.slot in
     let said : c.judge-verdict.result ≡ verdict_of (known_for slot.key s.known) (digest_finding s.reference slot.key slot.digest c.choose-health.result) =
     c.judge-verdict.ensures ∙ (λ i. verdict_of (c.item_before-before.ensures i) (c.finding-finding.ensures i)) in
-    subst (λ (x : SlotsState). IsNext x.reference x.window (Contains at.parts) c.args.mark at.last (record { end = slot.end; key = slot.key; verdict = c.judge-verdict.result })) c.self.view_is
-    (subst (λ (v : Verdict). IsNext s.reference s.window (Contains at.parts) c.args.mark at.last (record { end = slot.end; key = slot.key; verdict = v })) (sym said)
-    (next_is s at c.args.mark slot c.choose-health.result k c.in-Some.ensures c.choose-health.ensures))
+    subst (λ (x : SlotsState). IsNext x.reference x.window (Contains at.parts) c.args.watermark at.last (record { end = slot.end; key = slot.key; verdict = c.judge-verdict.result })) c.self.view_is
+    (subst (λ (v : Verdict). IsNext s.reference s.window (Contains at.parts) c.args.watermark at.last (record { end = slot.end; key = slot.key; verdict = v })) (sym said)
+    (next_is s at c.args.watermark slot c.choose-health.result k c.in-Some.ensures c.choose-health.ensures))
 
 pub returns-in-Ok-clause-given : goal.returns-in-Ok-clause-given
 returns-in-Ok-clause-given c = λ at h.
     let s = the_view c.self.inside in
-    let l = subst (λ (m : ℕ). m ≤ c.args.mark) (sym c.requires.1.at_mark ∙ h.at_mark) c.requires.2 in
+    let l = subst (λ (m : ℕ). m ≤ c.args.watermark) (sym c.requires.1.at_watermark ∙ h.at_watermark) c.requires.2 in
     let k = subst (λ (x : SlotsState). SlotsStandFor x at) (sym c.self.view_is) h in
-    stands_given s at c.args.mark c.in-Some.slot c.choose-health.result c.finding-finding.result c.drop_slot.new.self.slots.entries c.drop_slot.new.self.ends.keys c.remember.new.known.entries k l c.in-Some.ensures c.choose-health.ensures
+    stands_given s at c.args.watermark c.in-Some.slot c.choose-health.result c.finding-finding.result c.drop_slot.new.self.slots.entries c.drop_slot.new.self.ends.keys c.remember.new.known.entries k l c.in-Some.ensures c.choose-health.ensures
     c.finding-finding.ensures c.drop_slot.ensures.gone c.drop_slot.ensures.indexed c.in-Ok.ensures.ok c.in-Ok.ensures.ordered
 
 pub returns-in-Ok-clause-fewer : goal.returns-in-Ok-clause-fewer

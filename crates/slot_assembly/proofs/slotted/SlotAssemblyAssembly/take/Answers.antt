@@ -10,7 +10,7 @@ returns-in-Err-clause-err c = λ at h.
 
 pub returns-in-Ok-clause-ok : goal.returns-in-Ok-clause-ok
 returns-in-Ok-clause-ok c = λ at h.
-    let l = subst (λ (m : ℕ). m ≤ c.args.part.now.stamp) (sym c.requires.1.at_mark ∙ h.at_mark) c.requires.2 in
+    let l = subst (λ (m : ℕ). m ≤ c.args.part.now.stamp) (sym c.requires.1.at_watermark ∙ h.at_watermark) c.requires.2 in
     stands_taken (the_view c.self.inside) at c.args.part.now c.in-Some.one c.take.new.self.slots.entries c.take.new.self.ends.keys (subst (λ (s : SlotsState). SlotsStandFor s at) (sym c.self.view_is) h) l c.note_value.ensures c.in-Some.ensures
     c.in-Ok.ensures.ok c.in-Ok.ensures.indexed
 
@@ -20,6 +20,6 @@ returns-in-Err-take-clause-err c = λ at h.
 
 pub returns-in-Ok-take-clause-ok : goal.returns-in-Ok-take-clause-ok
 returns-in-Ok-take-clause-ok c = λ at h.
-    let l = subst (λ (m : ℕ). m ≤ c.args.part.now.stamp) (sym c.requires.1.at_mark ∙ h.at_mark) c.requires.2 in
+    let l = subst (λ (m : ℕ). m ≤ c.args.part.now.stamp) (sym c.requires.1.at_watermark ∙ h.at_watermark) c.requires.2 in
     stands_heard (the_view c.self.inside) at c.args.part.now c.take-in-None.new.self.heard.entries c.take-in-None.new.self.stamps.keys (subst (λ (s : SlotsState). SlotsStandFor s at) (sym c.self.view_is) h) l c.note_value.ensures c.in-None.ensures
     c.in-Ok-take.ensures.ok c.in-Ok-take.ensures.stamped

@@ -10,8 +10,8 @@ returns-clause-adds g c =
     elim c.match-insert.branch [
       | in-Ok-insert w ↦ after_ok _ c.match-insert.result _ w.result-is
           (adds_first_to c.args.self.now before.firsts c.insert.new.self
-          before.list.items c.push.new.self.items before.others c.args.message.now c.args.mix _
-          (sym c.self.view_is) c.self.invariant c.requires.none c.requires.mix
+          before.list.items c.push.new.self.items before.others c.args.message.now c.args.hash _
+          (sym c.self.view_is) c.self.invariant c.requires.none c.requires.hash
           at_end c.in-Ok.ensures.items w.in-Ok-insert.ensures.updates)
       | in-Err-insert w ↦ after_err _ c.match-insert.result _ w.result-is
     ]

@@ -1,0 +1,327 @@
+-- The lines of a capture, one after another: what holds between two of them, and how they end.
+use Rattle.std.proofs.Common.{◌≡◌, ℕ, ◌+◌, ◌<◌, ◌≤◌, ◌^◌, true, false, List, [], ◌∷◌, ◌++◌, length, refl, sym, ap, subst, ◌∙◌, arith, append_assoc, append-nil, length-append}
+use Rattle.std.specs.Prelude.{Option, Contains, MatchResult, Result, Ok, Err}
+use Rattle.std.proofs.lemmas.Bool.{true≢false}
+use Rattle.std.specs.Io.KnownBytes.{Appends}
+use Rattle.std.proofs.KnownBytes.{Appends-nil}
+use Rattle.nav_io.specs.Causes.{Rose}
+use Rattle.nav_io.specs.Prefix.{AppendsPrefix}
+use Rattle.nav_io.specs.Lines.{Line, ends, lines_by, pieces}
+use Rattle.nav_io.specs.LinesState.{LinesState, Reads, GivesEnd}
+use Rattle.nav_io.specs.LineAnswers.{Breaks}
+use Rattle.nav_io.specs.declared.lines.LineFault.{LineFault}
+use Rattle.nav_io.specs.declared.lines.LineFault.TheVariants as lines
+use Rattle.nav_io.proofs.Surface.{reads_none, reads_more}
+use Rattle.inav_page.specs.Heard.{StampedHalf}
+use Rattle.inav_page.specs.Keeping.{Keeping}
+use Rattle.capture_lines.specs.declared.item.LineItem.{LineItem}
+use Rattle.periods.specs.declared.closed.Closed.{Closed}
+use Rattle.periods.specs.PeriodsOf.{closed_of, periods_of}
+use Rattle.slot_assembly.specs.Given.{flushed}
+use Rattle.slot_assembly.proofs.Surface.{closed_of-none, flushed_nothing}
+use Rattle.slot_assembly.specs.SlotStanding.{SlotsStandFor}
+use Rattle.capture_log.specs.Events.{nothing_known}
+use Rattle.capture_log.specs.Log.{log_of, watermark_after, parts_of}
+use Rattle.one_run.specs.Causes.{Faults, HasItsCause, fault_by, faults_of}
+use Rattle.one_run.specs.Runs.{AppendsBetween}
+use Rattle.one_run.specs.declared.fault.BridgeFault.{BridgeFault}
+use Rattle.one_run.specs.declared.fault.BridgeFault.TheVariants.{ReadFault, WriteFault, ReportFault, TooLong, NoMemory, NotThisForm}
+use Rattle.outlets.specs.declared.target.Target.{Target}
+use Rattle.captures.specs.declared.accept.Accepted.{Accepted}
+use Rattle.captures.specs.declared.hearing.Hearing.{Hearing}
+use Rattle.captures.specs.Captures.{texts_of}
+use Rattle.captures.specs.Converts.{ConvertsAll, ConversionBroke, ConversionSays, closed_texts, no_tally, period_texts}
+use Rattle.captures.specs.Hearings.{Finished, IsNew, IsStepFault, Stands, StepBroke}
+use Rattle.captures.specs.Notes.{GivesItem, KeepsHalves, line_report, tallied, total}
+use Rattle.captures.specs.Flushed.{IsWriting, said_of}
+use Rattle.captures.proofs.Prefixes.{LogLaws, appends_whole, written_closed}
+use Rattle.captures.proofs.LineCounts.{ended_before, no_lines, no_pieces, recent_ended, recent_lines, recent_within, sum_pieces}
+
+-- ---- the lines of what was held and taken
+
+pub all_lines : (left left_new : Option (List ℕ)) (old new : LinesState) (lines : List Line) (reads : Reads left left_new old new lines)
+    → lines_by false (old.rest ++ reads.taken) ≡ lines ++ lines_by false new.rest
+all_lines left left_new old new lines reads =
+    ap (λ (l : List ℕ). lines_by false (old.rest ++ l)) (sym (append-nil reads.taken))
+    ∙ reads.stream false [] (λ ended. (refl, refl))
+    ∙ ap (λ (l : List ℕ). lines ++ lines_by false l) (append-nil new.rest)
+
+pub ended_lines : (left left_new : Option (List ℕ)) (old new : LinesState) (lines : List Line) (reads : Reads left left_new old new lines)
+    → new.ended ≡ false → ends new.rest ≡ false → lines_by true (old.rest ++ reads.taken) ≡ lines
+ended_lines left left_new old new lines reads more none =
+    ap (λ (l : List ℕ). lines_by true (old.rest ++ l)) (sym (append-nil reads.taken))
+    ∙ reads.stream true [] (λ ended. absurd (true≢false (sym ended ∙ more)))
+    ∙ ap (λ (l : List ℕ). lines ++ lines_by true l) (append-nil new.rest)
+    ∙ ap (λ (l : List Line). lines ++ l) (no_lines new.rest none)
+    ∙ append-nil lines
+
+-- ---- between two lines
+
+-- The lines given were processed, and what they close was written. The bytes held and taken are those lines and the rest.
+pub record Between (to : Target) (head : Accepted) (left left_new : Option (List ℕ)) (old new : LinesState) (h : Hearing) (start written told reported : Option (List ℕ)) : Type 0 where
+  pub given : List Line
+  pub reads : Reads left left_new old new given
+  pub prefix : List ℕ
+  pub split : old.rest ++ reads.taken ≡ prefix ++ new.rest
+  pub held : length new.rest ≤ 4096
+  pub low : new.taken < 2 ^ 32
+  pub number : new.number ≡ old.number + length given
+  pub few : new.number < 2 ^ 32
+  pub stands : Stands to head given h start written told reported
+
+pub between_start : (to : Target) (head : Accepted) (left : Option (List ℕ)) (state : LinesState) (h : Hearing) (start told : Option (List ℕ))
+    → length state.rest ≤ 4096 → state.taken < 2 ^ 32 → state.number < 2 ^ 32 → Stands to head [] h start start told told → Between to head left left state state h start start told told
+between_start to head left state h start told held low few stands = record {
+  given = [];
+  reads = reads_none left state;
+  prefix = [];
+  split = append-nil state.rest;
+  held = held;
+  low = low;
+  number = omega arith;
+  few = few;
+  stands = stands;
+}
+
+-- what stands up to a line, and the rest
+split_more : (rest taken prefix middle more behind next : List ℕ) → rest ++ taken ≡ prefix ++ middle → middle ++ more ≡ behind ++ next
+    → rest ++ (taken ++ more) ≡ (prefix ++ behind) ++ next
+split_more rest taken prefix middle more behind next e f =
+    sym (append_assoc rest taken more) ∙ ap (λ (l : List ℕ). l ++ more) e ∙ append_assoc prefix middle more
+    ∙ ap (λ (l : List ℕ). prefix ++ l) f ∙ sym (append_assoc prefix behind next)
+
+-- a line more
+pub between_more : (to : Target) (head : Accepted) (left left1 left2 : Option (List ℕ)) (old middle state : LinesState) (h new : Hearing) (start written written_new told reported reported_new : Option (List ℕ)) (item : LineItem)
+    (b : Between to head left left1 old middle h start written told reported) (gives : GivesItem left1 left2 middle state item)
+    → Stands to head (b.given ++ gives.line ∷ []) new start written_new told reported_new → Between to head left left2 old state new start written_new told reported_new
+between_more to head left left1 left2 old middle state h new start written written_new told reported reported_new item b gives stands = record {
+  given = b.given ++ gives.line ∷ [];
+  reads = reads_more left left1 left2 old middle state b.given (gives.line ∷ []) b.reads gives.gives.reads;
+  prefix = b.prefix ++ gives.gives.prefix;
+  split = split_more old.rest b.reads.taken b.prefix middle.rest gives.gives.reads.taken gives.gives.prefix state.rest b.split gives.gives.split;
+  held = gives.gives.short b.held;
+  low = gives.gives.low;
+  number = omega (arith, gives.gives.number, b.number, length-append b.given (gives.line ∷ []));
+  few = omega (arith, gives.gives.numbered, gives.gives.low);
+  stands = stands;
+}
+
+-- ---- ends
+
+reported_nil : (window : ℕ) (given : List Line) (told reported : Option (List ℕ)) → Appends told reported (line_report (log_of window given))
+    → AppendsPrefix told reported (line_report (log_of window (given ++ [])))
+reported_nil window given told reported text =
+    subst (λ (l : List Line). AppendsPrefix told reported (line_report (log_of window l))) (sym (append-nil given))
+    (appends_whole told reported (line_report (log_of window given)) text)
+
+-- the input ended so
+broke_lines : (laws : LogLaws) (to : Target) (head : Accepted) (left left1 left2 : Option (List ℕ)) (old middle state : LinesState) (h : Hearing) (start written told reported : Option (List ℕ)) (fault : LineFault)
+    → Between to head left left1 old middle h start written told reported → Breaks fault left1 left2 middle state
+    → ConversionBroke to head left left2 old state start written told reported (fault_by fault)
+broke_lines laws to head left left1 left2 old middle state h start written told reported lines.ReadFault b breaks =
+    let reads = reads_more left left1 left2 old middle state b.given [] b.reads breaks.reads in
+    record {
+      given = b.given;
+      last = [];
+      few = omega arith;
+      reads = reads;
+      recent = recent_ended (old.rest ++ reads.taken) (b.given ++ []) (ended_lines left left2 old state (b.given ++ []) reads breaks.more breaks.none);
+      text = λ more none.
+          written_closed laws head.week head.window to b.given more ((b.given ++ []) ++ more) start written (ap (λ (l : List Line). l ++ more) (append-nil b.given)) b.stands.flushed.text;
+      report = reported_nil head.window b.given told reported b.stands.report;
+      says = (refl, breaks.more, breaks.none, b.stands.flushed.text, b.stands.report);
+    }
+broke_lines laws to head left left1 left2 old middle state h start written told reported lines.TooLong b breaks =
+    let reads = reads_more left left1 left2 old middle state b.given [] b.reads breaks.reads in
+    let whole : old.rest ++ reads.taken ≡ (b.prefix ++ breaks.prefix) ++ breaks.last =
+    split_more old.rest b.reads.taken b.prefix middle.rest breaks.reads.taken breaks.prefix breaks.last b.split breaks.split in
+    let before : length (pieces true b.prefix) ≤ length b.given =
+    ended_before b.prefix middle.rest b.given (ap (lines_by false) (sym b.split) ∙ all_lines left left1 old middle b.given b.reads) in
+    let none = ap length (no_pieces breaks.prefix breaks.none) in
+    let few : length (pieces true (b.prefix ++ breaks.prefix)) ≤ length (b.given ++ []) =
+    omega (arith, sum_pieces b.prefix breaks.prefix, before, none, length-append b.given []) in
+    record {
+      given = b.given;
+      last = [];
+      few = omega arith;
+      reads = reads;
+      recent = recent_within (old.rest ++ reads.taken) (b.prefix ++ breaks.prefix) breaks.last (length (b.given ++ [])) whole (breaks.few b.low) few;
+      text = λ more none.
+          written_closed laws head.week head.window to b.given more ((b.given ++ []) ++ more) start written (ap (λ (l : List Line). l ++ more) (append-nil b.given)) b.stands.flushed.text;
+      report = reported_nil head.window b.given told reported b.stands.report;
+      says = breaks.too_many;
+    }
+
+pub broke_input : (laws : LogLaws) (to : Target) (head : Accepted) (left left1 left2 : Option (List ℕ)) (old middle state : LinesState) (h : Hearing) (start written told reported : Option (List ℕ)) (fault : LineFault) (answer : BridgeFault)
+    → answer ≡ fault_by fault → Between to head left left1 old middle h start written told reported → Breaks fault left1 left2 middle state
+    → ConversionBroke to head left left2 old state start written told reported answer
+broke_input laws to head left left1 left2 old middle state h start written told reported fault answer e b breaks =
+    subst (ConversionBroke to head left left2 old state start written told reported) (sym e)
+    (broke_lines laws to head left left1 left2 old middle state h start written told reported fault b breaks)
+
+-- a line was not taken whole
+step_says : (to : Target) (head : Accepted) (given last : List Line) (new : LinesState) (start written told reported : Option (List ℕ)) (before now : Faults) (fault : BridgeFault)
+    → IsStepFault before now fault → ConversionSays to head given last new start written told reported fault
+step_says to head given last new start written told reported before now ReadFault h = absurd h
+step_says to head given last new start written told reported before now WriteFault h = tt
+step_says to head given last new start written told reported before now ReportFault h = tt
+step_says to head given last new start written told reported before now TooLong h = absurd h
+step_says to head given last new start written told reported before now NoMemory h = tt
+step_says to head given last new start written told reported before now NotThisForm h = absurd h
+
+pub broke_step : (to : Target) (head : Accepted) (left left1 left2 : Option (List ℕ)) (old middle state : LinesState) (h : Hearing) (start written written_new told reported reported_new : Option (List ℕ)) (item : LineItem) (before now : Faults) (fault : BridgeFault)
+    (b : Between to head left left1 old middle h start written told reported) (gives : GivesItem left1 left2 middle state item)
+    → StepBroke to head b.given gives.line start written_new told reported_new before now fault
+    → ConversionBroke to head left left2 old state start written_new told reported_new fault
+broke_step to head left left1 left2 old middle state h start written written_new told reported reported_new item before now fault b gives broke =
+    let reads = reads_more left left1 left2 old middle state b.given (gives.line ∷ []) b.reads gives.gives.reads in
+    let whole = split_more old.rest b.reads.taken b.prefix middle.rest gives.gives.reads.taken gives.gives.prefix state.rest b.split gives.gives.split in
+    record {
+      given = b.given;
+      last = gives.line ∷ [];
+      few = omega arith;
+      reads = reads;
+      recent = recent_lines (old.rest ++ reads.taken) (b.prefix ++ gives.gives.prefix) state.rest (b.given ++ gives.line ∷ []) whole (gives.gives.short b.held)
+          (all_lines left left2 old state (b.given ++ gives.line ∷ []) reads);
+      text = λ more none. broke.text more;
+      report = broke.report;
+      says = step_says to head b.given (gives.line ∷ []) state start written_new told reported_new before now fault broke.cause;
+    }
+
+-- all was taken and written
+pub all_written : (to : Target) (head : Accepted) (left left1 left2 : Option (List ℕ)) (old middle state : LinesState) (h new : Hearing) (start written written_new told reported : Option (List ℕ))
+    (b : Between to head left left1 old middle h start written told reported) → GivesEnd left1 left2 middle state → Finished to head b.given h new start written_new
+    → ConvertsAll to head left left2 old state start written_new told reported new.ear.tally new.said
+all_written to head left left1 left2 old middle state h new start written written_new told reported b ends_now done =
+    let nil = sym (append-nil b.given) in
+    record {
+      given = b.given ++ [];
+      reads = reads_more left left1 left2 old middle state b.given [] b.reads ends_now.reads;
+      rest = ends_now.rest;
+      ended = ends_now.ended;
+      low = ends_now.low;
+      number = omega (arith, ends_now.number, b.number, ap length nil);
+      text = subst (λ (l : List Line). Appends start written_new (period_texts to head l)) nil done.text;
+      report = subst (λ (l : List Line). Appends told reported (line_report (log_of head.window l))) nil b.stands.report;
+      counts = done.tally ∙ b.stands.counted.counts ∙ ap (λ (l : List Line). tallied no_tally (log_of head.window l)) nil;
+      verdicts = done.verdicts ∙ ap (λ (l : List Line). said_of (periods_of head.week head.window (parts_of head.window l))) nil;
+    }
+
+-- all was taken, and not all was written
+finish_says : (to : Target) (head : Accepted) (given last : List Line) (new : LinesState) (start written told reported : Option (List ℕ)) (before now : ℕ) (fault : BridgeFault)
+    → IsWriting {T = Unit {0}} before now (Err fault) → ConversionSays to head given last new start written told reported fault
+finish_says to head given last new start written told reported before now ReadFault h = absurd h
+finish_says to head given last new start written told reported before now WriteFault h = tt
+finish_says to head given last new start written told reported before now ReportFault h = absurd h
+finish_says to head given last new start written told reported before now TooLong h = absurd h
+finish_says to head given last new start written told reported before now NoMemory h = tt
+finish_says to head given last new start written told reported before now NotThisForm h = absurd h
+
+pub broke_finish : (to : Target) (head : Accepted) (left left1 left2 : Option (List ℕ)) (old middle state : LinesState) (h : Hearing) (start written written_new told reported : Option (List ℕ)) (before now : ℕ) (fault : BridgeFault)
+    (b : Between to head left left1 old middle h start written told reported) → GivesEnd left1 left2 middle state
+    → AppendsBetween start written_new (closed_texts to head b.given) (period_texts to head b.given) → IsWriting {T = Unit {0}} before now (Err fault)
+    → ConversionBroke to head left left2 old state start written_new told reported fault
+broke_finish to head left left1 left2 old middle state h start written written_new told reported before now fault b ends_now between cause =
+    let reads = reads_more left left1 left2 old middle state b.given [] b.reads ends_now.reads in
+    let rest : old.rest ++ reads.taken ≡ (old.rest ++ reads.taken) ++ [] = sym (append-nil (old.rest ++ reads.taken)) in
+    let lines : lines_by false (old.rest ++ reads.taken) ≡ (b.given ++ []) ++ lines_by false [] =
+    all_lines left left2 old state (b.given ++ []) reads ∙ ap (λ (l : List ℕ). (b.given ++ []) ++ lines_by false l) ends_now.rest in
+    record {
+      given = b.given;
+      last = [];
+      few = omega arith;
+      reads = reads;
+      recent = recent_lines (old.rest ++ reads.taken) (old.rest ++ reads.taken) [] (b.given ++ []) rest (omega arith) lines;
+      text = λ more none.
+          let same : b.given ≡ (b.given ++ []) ++ more =
+          sym (append-nil b.given) ∙ sym (append-nil (b.given ++ [])) ∙ ap (λ (l : List Line). (b.given ++ []) ++ l) (sym (none ends_now.ended ends_now.rest)) in
+          subst (λ (l : List Line). AppendsBetween start written_new (closed_texts to head b.given) (period_texts to head l)) same between;
+      report = reported_nil head.window b.given told reported b.stands.report;
+      says = finish_says to head b.given [] state start written_new told reported before now fault cause;
+    }
+
+-- the last answer, by what finishing answers
+pub converted_end : {T : Type 0} (to : Target) (head : Accepted) (left left1 left2 : Option (List ℕ)) (old middle state : LinesState) (h new : Hearing) (start written written_new told reported : Option (List ℕ)) (before now : ℕ) (result : Result T BridgeFault)
+    (b : Between to head left left1 old middle h start written told reported) → GivesEnd left1 left2 middle state
+    → MatchResult result (λ x. Finished to head b.given h new start written_new × (now ≡ before))
+    (λ fault. AppendsBetween start written_new (closed_texts to head b.given) (period_texts to head b.given) × IsWriting {T = Unit {0}} before now (Err fault))
+    → MatchResult result (λ x. ConvertsAll to head left left2 old state start written_new told reported new.ear.tally new.said)
+    (λ fault. ConversionBroke to head left left2 old state start written_new told reported fault)
+converted_end to head left left1 left2 old middle state h new start written written_new told reported before now (Ok x) b ends_now done =
+    all_written to head left left1 left2 old middle state h new start written written_new told reported b ends_now done.0
+converted_end to head left left1 left2 old middle state h new start written written_new told reported before now (Err fault) b ends_now done =
+    broke_finish to head left left1 left2 old middle state h start written written_new told reported before now fault b ends_now done.0 done.1
+
+-- ---- causes
+
+pub step_cause : (reads reads_new writes writes_new writes1 reports reports_new reports1 : ℕ) (fault : BridgeFault) → IsStepFault (faults_of 0 writes1 reports1) (faults_of 0 writes_new reports_new) fault
+    → writes1 ≡ writes → reports1 ≡ reports → HasItsCause {T = Unit {0}} (faults_of reads writes reports) (faults_of reads_new writes_new reports_new) (Err fault)
+step_cause reads reads_new writes writes_new writes1 reports reports_new reports1 WriteFault h e f = subst (λ (n : ℕ). Rose n writes_new) e h
+step_cause reads reads_new writes writes_new writes1 reports reports_new reports1 ReportFault h e f = subst (λ (n : ℕ). Rose n reports_new) f h
+step_cause reads reads_new writes writes_new writes1 reports reports_new reports1 NoMemory h e f = tt
+step_cause reads reads_new writes writes_new writes1 reports reports_new reports1 ReadFault h e f = absurd h
+step_cause reads reads_new writes writes_new writes1 reports reports_new reports1 TooLong h e f = absurd h
+step_cause reads reads_new writes writes_new writes1 reports reports_new reports1 NotThisForm h e f = absurd h
+
+pub finish_cause : {T : Type 0} (to : Target) (head : Accepted) (lines : List Line) (h new : Hearing) (start written : Option (List ℕ)) (before : ℕ) (result : Result T BridgeFault)
+    (reads reads1 reads_new writes writes_new reports reports1 : ℕ) → reads_new ≡ reads1 → reads1 ≡ reads → before ≡ writes → reports1 ≡ reports
+    → MatchResult result (λ x. Finished to head lines h new start written × (writes_new ≡ before))
+    (λ fault. AppendsBetween start written (closed_texts to head lines) (period_texts to head lines) × IsWriting {T = Unit {0}} before writes_new (Err fault))
+    → HasItsCause (faults_of reads writes reports) (faults_of reads_new writes_new reports1) result
+finish_cause to head lines h new start written before (Ok x) reads reads1 reads_new writes writes_new reports reports1 a b d e done = rw (a, b, done.1, d, e) refl
+finish_cause to head lines h new start written before (Err ReadFault) reads reads1 reads_new writes writes_new reports reports1 a b d e done = absurd done.1
+finish_cause to head lines h new start written before (Err WriteFault) reads reads1 reads_new writes writes_new reports reports1 a b d e done = subst (λ (n : ℕ). Rose n writes_new) d done.1
+finish_cause to head lines h new start written before (Err ReportFault) reads reads1 reads_new writes writes_new reports reports1 a b d e done = absurd done.1
+finish_cause to head lines h new start written before (Err TooLong) reads reads1 reads_new writes writes_new reports reports1 a b d e done = absurd done.1
+finish_cause to head lines h new start written before (Err NoMemory) reads reads1 reads_new writes writes_new reports reports1 a b d e done = tt
+finish_cause to head lines h new start written before (Err NotThisForm) reads reads1 reads_new writes writes_new reports reports1 a b d e done = absurd done.1
+
+pub finish_never : {T : Type 0} (to : Target) (head : Accepted) (lines : List Line) (h new : Hearing) (start written : Option (List ℕ)) (before now : ℕ) (result : Result T BridgeFault)
+    → MatchResult result (λ x. Finished to head lines h new start written × (now ≡ before))
+    (λ fault. AppendsBetween start written (closed_texts to head lines) (period_texts to head lines) × IsWriting {T = Unit {0}} before now (Err fault))
+    → result ≡ Err ReadFault → ⊥
+finish_never to head lines h new start written before now result done e =
+    (subst (λ r. MatchResult r (λ x. Finished to head lines h new start written × (now ≡ before))
+    (λ fault. AppendsBetween start written (closed_texts to head lines) (period_texts to head lines) × IsWriting {T = Unit {0}} before now (Err fault))) e done).1
+
+-- ---- before the first line
+
+none_held : (h : StampedHalf) → Contains [] h → ⊥
+none_held h there = absurd (omega (arith, there.1))
+
+keeps_nothing : (keeping : Keeping) (window : ℕ) → keeping.window ≡ window → keeping.greatest ≡ 0 → keeping.kept ≡ [] → KeepsHalves keeping window nothing_known
+keeps_nothing keeping window same greatest kept = record {
+  window_is = same;
+  kept_to = λ h there. absurd (none_held h (subst (λ (l : List StampedHalf). Contains l h) kept there));
+  kept_from = λ h there recent. absurd (none_held h there);
+  recent = λ h there. absurd (none_held h (subst (λ (l : List StampedHalf). Contains l h) kept there));
+  low = omega (arith, greatest);
+}
+
+pub stands_start : (to : Target) (head : Accepted) (h : Hearing) (start told : Option (List ℕ)) → head.window ≤ 14400 → IsNew h head.week head.window → Stands to head [] h start start told told
+stands_start to head h start told low new =
+    let watermark : 0 ≡ watermark_after head.window [] = omega arith in
+    let closed : [] ≡ closed_of head.week head.window (watermark_after head.window []) [] =
+    sym (closed_of-none head.week head.window []) ∙ ap (λ (m : ℕ). closed_of head.week head.window m []) watermark in
+    let now = SlotsStandFor h.ear.assembly in
+    record {
+      low = low;
+      own = new.own;
+      week = new.week_is;
+      window = new.window_is;
+      flushed = record {
+        stands = subst (λ (m : ℕ). now (flushed head.week head.window [] m)) watermark (flushed_nothing now head.week head.window new.stands);
+        text = subst (λ (cs : List Closed). Appends start start (texts_of to cs)) closed (Appends-nil start);
+        counts = new.said ∙ ap said_of closed;
+      };
+      report = Appends-nil told;
+      counted = record {
+        keeps = keeps_nothing h.halves head.window new.keeping.0 new.keeping.1 new.keeping.2;
+        greatest_is = new.greatest;
+        counts = new.tally;
+        few = omega (arith, ap length new.keeping.2);
+        room = omega (arith, ap total new.tally);
+        halves = omega arith;
+        parts = omega arith;
+      };
+    }

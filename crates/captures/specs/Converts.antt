@@ -1,0 +1,137 @@
+-- A capture while its lines after the first are read. Private functions cite these.
+use Rattle.std.specs.Prelude.{◌≡◌, ℕ, ◌+◌, ◌-◌, ◌*◌, ◌^◌, ◌<◌, ◌≤◌, ◌⊎◌, true, false, List, [], ◌++◌, length, take, Option, Some, None, IsSome, IfSome}
+use Rattle.std.specs.Io.KnownBytes.{Appends, Consumes}
+use Rattle.nav_io.specs.Prefix.{AppendsPrefix}
+use Rattle.nav_io.specs.Lines.{Line, ends, lines_by}
+use Rattle.nav_io.specs.LinesState.{LinesState, Reads, GivesLine, GivesEnd, BreaksRead, BreaksLong}
+use Rattle.inav_page.specs.Keeping.{Keeping}
+use Rattle.periods.specs.PeriodsOf.{periods_of, closed_of}
+use Rattle.capture_log.specs.Events.{nothing_known}
+use Rattle.capture_log.specs.Log.{line_items_of, known_from, log_of, watermark_after, parts_of}
+use Rattle.outlets.specs.declared.target.Target.{Target}
+use Rattle.outlets.specs.declared.target.Target.TheVariants.{Count}
+use Rattle.captures.specs.declared.counts.Tally.{Tally}
+use Rattle.captures.specs.declared.counts.Said.{Said}
+use Rattle.one_run.specs.declared.fault.BridgeFault.{BridgeFault}
+use Rattle.one_run.specs.declared.fault.BridgeFault.TheVariants.{ReadFault, WriteFault, ReportFault, TooLong, NoMemory, NotThisForm}
+use Rattle.captures.specs.Captures.{accepted_line, capture_of, counts_in, least_output, output_of, report_of_capture, flushed_output, flushed_report, texts_of}
+use Rattle.captures.specs.declared.accept.Accepted.{Accepted}
+use Rattle.captures.specs.Notes.{KeepsHalves, line_report, tallied, total}
+use Rattle.one_run.specs.Runs.{AppendsBetween}
+use Rattle.captures.specs.Runs.{WritesLast}
+use Rattle.captures.specs.Flushed.{said_of}
+
+-- nothing was counted
+abbrev pub no_tally : Tally
+no_tally = record { malformed = 0; late = 0; refused = 0; unused = 0 }
+
+-- what is kept, counted and known after the lines so far
+pub record Counted (window : ℕ) (lines : List Line) (keeping : Keeping) (tally : Tally) (greatest : ℕ) : Type 0 where
+  pub keeps : KeepsHalves keeping window (known_from window nothing_known (line_items_of lines))
+  pub greatest_is : greatest ≡ (known_from window nothing_known (line_items_of lines)).greatest
+  pub counts : tally ≡ tallied no_tally (log_of window lines)
+  pub few : length keeping.kept ≤ length lines
+  pub room : 2 * total tally ≤ length lines * (length lines + 3)
+  pub halves : length (known_from window nothing_known (line_items_of lines)).halves ≤ length lines
+  pub parts : length (parts_of window lines) ≤ length lines * (length lines + 4)
+
+-- the texts of the periods that lines close
+abbrev pub closed_texts : Target → Accepted → List Line → List ℕ
+closed_texts to head lines = texts_of to (closed_of head.week head.window (watermark_after head.window lines) (parts_of head.window lines))
+
+-- the texts of all periods of lines
+abbrev pub period_texts : Target → Accepted → List Line → List ℕ
+period_texts to head lines = texts_of to (periods_of head.week head.window (parts_of head.window lines))
+
+-- All lines were read and processed, all periods were written, and all events were reported and counted.
+pub record ConvertsAll (to : Target) (head : Accepted) (left left_new : Option (List ℕ)) (old new : LinesState) (start written told reported : Option (List ℕ)) (tally : Tally) (said : Said) : Type 0 where
+  pub given : List Line
+  pub reads : Reads left left_new old new given
+  pub rest : new.rest ≡ []
+  pub ended : new.ended ≡ true
+  pub low : new.taken < 2 ^ 32
+  pub number : new.number ≡ old.number + length given
+  pub text : Appends start written (period_texts to head given)
+  pub report : Appends told reported (line_report (log_of head.window given))
+  pub counts : tally ≡ tallied no_tally (log_of head.window given)
+  pub verdicts : said ≡ said_of (periods_of head.week head.window (parts_of head.window given))
+
+-- What a fault says besides. After a failed read the complete lines were processed, exactly the periods that they close were
+-- written, and all their events were reported. At `TooLong` 2^32 bytes were counted.
+abbrev pub ConversionSays : Target → Accepted → List Line → List Line → LinesState → Option (List ℕ) → Option (List ℕ) → Option (List ℕ) → Option (List ℕ) → BridgeFault → Type 0
+ConversionSays to head given last new start written told reported ReadFault =
+    (last ≡ []) × (new.ended ≡ false) × (ends new.rest ≡ false) × Appends start written (closed_texts to head given) × Appends told reported (line_report (log_of head.window given))
+ConversionSays to head given last new start written told reported TooLong = new.taken ≡ 2 ^ 32
+ConversionSays to head given last new start written told reported NotThisForm = ⊥
+ConversionSays to head given last new start written told reported WriteFault = Unit {0}
+ConversionSays to head given last new start written told reported ReportFault = Unit {0}
+ConversionSays to head given last new start written told reported NoMemory = Unit {0}
+
+-- A fault. The lines `given` were processed, and `last`, at most one, perhaps in part; no more lines are complete before the last
+-- 4,096 bytes. A prefix was written of what these lines and any that follow give, no less than what `given` close; and a prefix
+-- of the report of these lines was reported.
+pub record ConversionBroke (to : Target) (head : Accepted) (left left_new : Option (List ℕ)) (old new : LinesState) (start written told reported : Option (List ℕ)) (fault : BridgeFault) : Type 0 where
+  pub given : List Line
+  pub last : List Line
+  pub few : length last ≤ 1
+  pub reads : Reads left left_new old new (given ++ last)
+  pub recent : length (lines_by true (take (length (old.rest ++ reads.taken) - 4096) (old.rest ++ reads.taken))) ≤ length (given ++ last)
+  pub text : (more : List Line) → (new.ended ≡ true → new.rest ≡ [] → more ≡ []) → AppendsBetween start written (closed_texts to head given) (period_texts to head ((given ++ last) ++ more))
+  pub report : AppendsPrefix told reported (line_report (log_of head.window (given ++ last)))
+  pub says : ConversionSays to head given last new start written told reported fault
+
+-- the first line was read and is accepted
+pub record GivesHead (week : Option ℕ) (left left_new : Option (List ℕ)) (old new : LinesState) (head : Accepted) : Type 0 where
+  pub line : Line
+  pub gives : GivesLine left left_new old new line
+  pub accepted : accepted_line week line ≡ Some head
+
+-- the first line was read and is not accepted, or the input has none, or breaks off in it
+abbrev pub GivesNoHead : Option ℕ → Option (List ℕ) → Option (List ℕ) → LinesState → LinesState → BridgeFault → Type 0
+GivesNoHead week left left_new old new NotThisForm =
+    ((line : Line) × GivesLine left left_new old new line × (accepted_line week line ≡ None)) ⊎ GivesEnd left left_new old new
+GivesNoHead week left left_new old new ReadFault = BreaksRead left left_new old new
+GivesNoHead week left left_new old new TooLong = BreaksLong left left_new old new
+GivesNoHead week left left_new old new _ = ⊥
+
+-- the output and the report are prefixes of what the whole input gives
+abbrev pub CapturePrefix : Target → Option ℕ → Option (List ℕ) → Option (List ℕ) → Option (List ℕ) → Option (List ℕ) → Option (List ℕ) → Type 0
+CapturePrefix to week left written written_new reported reported_new =
+    IfSome left (λ bytes. AppendsPrefix written written_new (output_of to week bytes) × AppendsPrefix reported reported_new (report_of_capture week bytes))
+
+-- counts are written only after the input was read to its end
+abbrev pub CountsLast : Target → Option ℕ → Option (List ℕ) → Option (List ℕ) → Option (List ℕ) → Option (List ℕ) → Type 0
+CountsLast Count week left left_new written written_new = WritesLast (output_of Count week) left left_new written written_new
+CountsLast to week left left_new written written_new = Unit {0}
+
+-- after a fault, what is known with regard to the whole input, unread bytes included
+abbrev pub CaptureAhead : Target → Option ℕ → Option (List ℕ) → Option (List ℕ) → Option (List ℕ) → Option (List ℕ) → Option (List ℕ) → Option (List ℕ) → Type 0
+CaptureAhead to week left left_new written written_new reported reported_new =
+    CapturePrefix to week left written written_new reported reported_new × CountsLast to week left left_new written written_new
+
+-- the first line of the whole input is accepted
+abbrev pub AcceptsHead : Option ℕ → Option (List ℕ) → Type 0
+AcceptsHead week left = IfSome left (λ bytes. IsSome (counts_in (capture_of week bytes)))
+
+-- the first line of the whole input is refused
+abbrev pub Refuses : Option ℕ → Option (List ℕ) → Type 0
+Refuses week left = IfSome left (λ bytes. counts_in (capture_of week bytes) ≡ None)
+
+-- what a fault says besides, of a run that took these bytes
+abbrev pub StopSays : Target → Option ℕ → Option (List ℕ) → List ℕ → Option (List ℕ) → Option (List ℕ) → Option (List ℕ) → Option (List ℕ) → BridgeFault → Type 0
+StopSays to week left taken written written_new reported reported_new ReadFault =
+    Appends written written_new (flushed_output to week taken) × Appends reported reported_new (flushed_report week taken)
+StopSays to week left taken written written_new reported reported_new TooLong = length taken ≡ 2 ^ 32
+StopSays to week left taken written written_new reported reported_new NotThisForm = (counts_in (capture_of week taken) ≡ None) × Refuses week left
+StopSays to week left taken written written_new reported reported_new WriteFault = AcceptsHead week left
+StopSays to week left taken written written_new reported reported_new ReportFault = AcceptsHead week left
+StopSays to week left taken written written_new reported reported_new NoMemory = AcceptsHead week left
+
+-- the run broke off: a prefix was written of what the bytes taken give, no less than the least, and a prefix was reported
+pub record Stop (to : Target) (week : Option ℕ) (left left_new written written_new reported reported_new : Option (List ℕ)) (fault : BridgeFault) : Type 0 where
+  pub taken : List ℕ
+  pub consumes : Consumes left left_new taken
+  pub text : AppendsBetween written written_new (least_output to week taken) (output_of to week taken)
+  pub report : AppendsPrefix reported reported_new (report_of_capture week taken)
+  pub ahead : CaptureAhead to week left left_new written written_new reported reported_new
+  pub says : StopSays to week left taken written written_new reported reported_new fault

@@ -1,5 +1,0 @@
-use Rattle.periods.proofs.ListLemmas.{items_append}
-use Rattle.periods.proofs.laws.items_follow.Goals as goal
-
-pub returns : goal.returns
-returns c = items_append

@@ -1,5 +1,0 @@
-use Rattle.rinex_write.proofs.WrittenLemmas.{text_more}
-use Rattle.rinex_write.proofs.laws.texts_follow_one_another.Goals as goal
-
-pub returns : goal.returns
-returns c = text_more

@@ -1,0 +1,56 @@
+use Rattle.std.proofs.Common.{◌∙◌, refl, ap, arith}
+use Rattle.std.proofs.lemmas.Result.{err_from_is_err_and}
+use Rattle.streams.proofs.PieceLemmas.{so_far_piece, so_far_start}
+use Rattle.streams.proofs.PieceEnds.{if_err2, part_of_last, part_of_long, part_of_piece, part_of_read, pieces_all}
+use Rattle.streams.proofs.StreamLemmas.{on_ok2}
+use Rattle.streams.proofs.pieces.process_pieces.Goals as goal
+
+pub returns-in-Err-clause-part : goal.returns-in-Err-clause-part
+returns-in-Err-clause-part g c = part_of_read c.args.r _ _ _ _ _ _ _ _ _ _ _ _ _ _ _ c.loop-taken.invariant.so_far c.in-Err.ensures.bytes
+
+pub returns-in-Ok-eq0-clause-all : goal.returns-in-Ok-eq0-clause-all
+returns-in-Ok-eq0-clause-all g c =
+    on_ok2 c.process_frames.result c.process_frames.ensures.goes c.process_frames.ensures.last
+    (λ goes last.
+    pieces_all c.args.r _ _ _ _ _ _ _ _ _ _ _ _ _ _ _ _ _ _ _ _ _ _ _ c.loop-taken.invariant.so_far (omega arith) c.in-Ok-eq0.field-0-test c.in-Ok-eq0.ensures.bytes.0
+    (c.in-Ok-eq0.ensures.bytes.1 c.in-Ok-eq0.field-0-test) c.finish.ensures.rest c.finish.ensures.finished goes last)
+
+pub returns-in-Ok-eq0-clause-part : goal.returns-in-Ok-eq0-clause-part
+returns-in-Ok-eq0-clause-part g c =
+    if_err2 c.process_frames.result c.process_frames.ensures.breaks c.process_frames.ensures.kinds
+    (λ fault breaks kind.
+    part_of_last c.args.r _ _ _ _ _ _ _ _ _ _ _ _ _ _ _ _ _ _ _ _ _ _ fault c.loop-taken.invariant.so_far c.in-Ok-eq0.field-0-test c.in-Ok-eq0.ensures.bytes.0
+    c.finish.ensures.rest c.finish.ensures.finished breaks kind)
+
+pub loop-taken-init : goal.loop-taken-init
+loop-taken-init g c = record {
+  so_far = so_far_start c.args.r _ _ _ _ _ _ _ _ c.new-deframer.ensures.rest c.new-deframer.ensures.finished (ap (λ x. x.frames) c.requires.nothing);
+  few = rw c.requires.nothing (omega arith);
+  limit = omega arith;
+  read = refl;
+  write = refl;
+  told = refl;
+  never = λ quiet. quiet;
+}
+
+pub loop-taken-preserved : goal.loop-taken-preserved
+loop-taken-preserved g c =
+    let took = c.in_ok-process_piece-in-Ok.ensures in
+    record {
+      so_far = so_far_piece c.args.r _ _ _ _ _ _ _ _ _ _ _ _ _ _ _ _ _ _ _ _ _ _ c.loop-taken.invariant.so_far c.in-Ok.ensures.bytes.0 c.in-Ok.ensures.count took.goes took.may_feed took.room;
+      few = took.some;
+      limit = omega (arith, c.in-Ok.ensures.most);
+      read = c.in-Ok.ensures.cause.stays ∙ c.loop-taken.invariant.read;
+      write = ap (λ f. f.output) took.cause ∙ c.loop-taken.invariant.write;
+      told = ap (λ f. f.report) took.cause ∙ c.loop-taken.invariant.told;
+      never = λ quiet. (c.in-Ok.ensures.never (c.loop-taken.invariant.never quiet)).1;
+    }
+
+pub returns-in_err-process_piece-in-Ok-clause-part : goal.returns-in_err-process_piece-in-Ok-clause-part
+returns-in_err-process_piece-in-Ok-clause-part g c =
+    let p = err_from_is_err_and c.from_residual.result c.from_residual.ensures.1 in
+    rw (p.1, p.2) (part_of_piece c.args.r _ _ _ _ _ _ _ _ _ _ _ _ _ _ _ _ _ _ _ _ _ c.loop-taken.invariant.so_far c.in-Ok.ensures.bytes.0 (omega (arith, c.in-Ok.ensures.count, c.in-Ok.ensures.within))
+    c.in_err-process_piece-in-Ok.ensures.breaks c.in_err-process_piece-in-Ok.ensures.kinds)
+
+pub returns-clause-part : goal.returns-clause-part
+returns-clause-part g c = part_of_long c.args.r _ _ _ _ _ _ _ _ _ _ _ _ _ _ c.loop-taken.invariant.so_far (omega (arith, c.loop-taken.invariant.limit))
