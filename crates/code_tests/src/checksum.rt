@@ -6,95 +6,115 @@ use crc24q::{
 };
 use nav_bits::Bits;
 
+// Bytes and their CRC.
+struct BytesRow {
+    bytes: &'static [u8],
+    crc: u64,
+}
+
+static BYTES: [BytesRow; 8] = [
+    BytesRow {
+        bytes: b"123456789",
+        crc: 0xcde703,
+    },
+    BytesRow {
+        bytes: b"\xd3\x00\x00",
+        crc: 0x47ea4b,
+    },
+    BytesRow {
+        bytes: b"",
+        crc: 0x000000,
+    },
+    BytesRow {
+        bytes: b"\x65",
+        crc: 0x00d821,
+    },
+    BytesRow {
+        bytes: b"\xbf\xf9",
+        crc: 0x5b5e43,
+    },
+    BytesRow {
+        bytes: b"\x71\x25\xf4",
+        crc: 0x912862,
+    },
+    BytesRow {
+        bytes: b"\xdf\xfc\x12\x3b\x01\x8d\xb0\xa5\xd4\xd8\x2b\x4b\x40\xd7\xb6\x8d\x80\xf9\xd4\x85\
+                 \x40\xcf\x37\x12\x67\x98\xbe\x77\xe1\x76\xb0\x3d\xec\x60\xdc\x87\x70\x93\x73\xb2\
+                 \x19\xbd\xad\x24\xde\x0a\x01\xbd\xb0\x5c\x30\x88\xbd\xe7\x89\xf2\x2a\xbe\x74\x7e\
+                 \x3c\xcb\x96\xe5",
+        crc: 0xc983ab,
+    },
+    BytesRow {
+        bytes: b"\xb7\x08\x87\xdc\xbc\x73\x95\x5a\x2d\x37\x9b\x63\xed\x5e\x38\xc2\x47\x82\x39\xa6\
+                 \xf6\x0f\xe8\xb1\xf3\xb0\x26\x35\xff\xef\x15\x3b\x94\xd6\xaf\x50\x99\x39\xb0\x4c\
+                 \x27\x73\x82\xbb\x89\xc7\x55\xd4\xe2\xdd\xca\x3d\x06\xa2\x16\x71\x9a\xd2\x1a\x93\
+                 \x7f\xae\x6b\xc0\xfc\x0e\xad\xa4\xeb\xad",
+        crc: 0x5fd3fd,
+    },
+];
+
+// The bytes of a page of I/NAV, the bit from which its 196 bits stand, and what stands in its CRC field.
+struct PageRow {
+    bytes: &'static [u8; 25],
+    from: usize,
+    crc: u64,
+}
+
+// Three nominal pages.
+static PAGES: [PageRow; 3] = [
+    PageRow {
+        bytes: b"\x01\x88\xc0\x00\x7f\xff\xff\xff\x5d\x98\x68\x38\x42\xd0\xab\x18\x00\x00\x00\x00\
+                 \x00\x00\x00\x00\x0f",
+        from: 0,
+        crc: 0xcdd2f1,
+    },
+    PageRow {
+        bytes: b"\xe0\x42\xee\xeb\x0c\x34\x0f\xff\xff\xff\xff\xff\xff\xff\xfc\xff\xf8\x00\x00\x00\
+                 \x00\x00\x00\x00\x01",
+        from: 3,
+        crc: 0xfdca70,
+    },
+    PageRow {
+        bytes: b"\xf0\x3f\x63\xb8\x51\x39\xff\xff\xed\xef\xff\xfe\x89\x45\xfe\xff\xff\x00\x00\x00\
+                 \x00\x00\x00\x00\x00",
+        from: 4,
+        crc: 0x5b8491,
+    },
+];
+
+fn is_page(row: &PageRow) -> bool {
+    let bits = Bits::<25>::from_bytes(*row.bytes);
+    row.from <= 4 && crc_bits(&bits, row.from, 196).value() == row.crc
+}
+
 #[test]
-fn bytes_have_their_crc(rt: HostRuntime) {
+fn bytes_and_pages_have_their_crc(rt: HostRuntime) {
     one_crc();
     every_polynomial_has_a_crc();
     the_register_holds_the_crc();
     crc_of_joined_bytes();
     bits_of_bytes_have_their_crc();
-    let rows: [(&[u8], u64); 8] = [
-        (b"123456789", 0xcde703),
-        (&[0xd3, 0, 0], 0x47ea4b),
-        (&[], 0x000000),
-        (&[0x65], 0x00d821),
-        (&[0xbf, 0xf9], 0x5b5e43),
-        (&[0x71, 0x25, 0xf4], 0x912862),
-        (
-            &[
-                0xdf, 0xfc, 0x12, 0x3b, 0x01, 0x8d, 0xb0, 0xa5, 0xd4, 0xd8, 0x2b, 0x4b, 0x40, 0xd7,
-                0xb6, 0x8d, 0x80, 0xf9, 0xd4, 0x85, 0x40, 0xcf, 0x37, 0x12, 0x67, 0x98, 0xbe, 0x77,
-                0xe1, 0x76, 0xb0, 0x3d, 0xec, 0x60, 0xdc, 0x87, 0x70, 0x93, 0x73, 0xb2, 0x19, 0xbd,
-                0xad, 0x24, 0xde, 0x0a, 0x01, 0xbd, 0xb0, 0x5c, 0x30, 0x88, 0xbd, 0xe7, 0x89, 0xf2,
-                0x2a, 0xbe, 0x74, 0x7e, 0x3c, 0xcb, 0x96, 0xe5,
-            ],
-            0xc983ab,
-        ),
-        (
-            &[
-                0xb7, 0x08, 0x87, 0xdc, 0xbc, 0x73, 0x95, 0x5a, 0x2d, 0x37, 0x9b, 0x63, 0xed, 0x5e,
-                0x38, 0xc2, 0x47, 0x82, 0x39, 0xa6, 0xf6, 0x0f, 0xe8, 0xb1, 0xf3, 0xb0, 0x26, 0x35,
-                0xff, 0xef, 0x15, 0x3b, 0x94, 0xd6, 0xaf, 0x50, 0x99, 0x39, 0xb0, 0x4c, 0x27, 0x73,
-                0x82, 0xbb, 0x89, 0xc7, 0x55, 0xd4, 0xe2, 0xdd, 0xca, 0x3d, 0x06, 0xa2, 0x16, 0x71,
-                0x9a, 0xd2, 0x1a, 0x93, 0x7f, 0xae, 0x6b, 0xc0, 0xfc, 0x0e, 0xad, 0xa4, 0xeb, 0xad,
-            ],
-            0x5fd3fd,
-        ),
-    ];
-    for (bytes, crc) in rows {
-        assert!(rt; crc_bytes(bytes).value() == crc, "at {bytes:?}");
+    let mut all = true;
+    for row in &BYTES {
+        all = all && crc_bytes(row.bytes).value() == row.crc;
     }
-}
-
-// The 196 bits of three nominal pages of I/NAV, and what stands in their CRC fields.
-#[test]
-fn pages_have_their_crc(rt: HostRuntime) {
-    let rows = [
-        (
-            [
-                0x01, 0x88, 0xc0, 0x00, 0x7f, 0xff, 0xff, 0xff, 0x5d, 0x98, 0x68, 0x38, 0x42, 0xd0,
-                0xab, 0x18, 0x00, 0x00, 0x00, 0x00, 0x00, 0x00, 0x00, 0x00, 0x0f,
-            ],
-            0,
-            0xcdd2f1,
-        ),
-        (
-            [
-                0xe0, 0x42, 0xee, 0xeb, 0x0c, 0x34, 0x0f, 0xff, 0xff, 0xff, 0xff, 0xff, 0xff, 0xff,
-                0xfc, 0xff, 0xf8, 0x00, 0x00, 0x00, 0x00, 0x00, 0x00, 0x00, 0x01,
-            ],
-            3,
-            0xfdca70,
-        ),
-        (
-            [
-                0xf0, 0x3f, 0x63, 0xb8, 0x51, 0x39, 0xff, 0xff, 0xed, 0xef, 0xff, 0xfe, 0x89, 0x45,
-                0xfe, 0xff, 0xff, 0x00, 0x00, 0x00, 0x00, 0x00, 0x00, 0x00, 0x00,
-            ],
-            4,
-            0x5b8491,
-        ),
-    ];
-    for (bytes, from, crc) in rows {
-        let bits = Bits::<25>::from_bytes(bytes);
-        assert!(rt; crc_bits(&bits, from, 196).value() == crc, "from {from}");
+    for row in &PAGES {
+        all = all && is_page(row);
     }
+    assert!(rt; all);
 }
 
-#[test]
-fn the_register_moves_past_zeros(rt: HostRuntime) {
-    let state = with_byte(0, 0xd3);
-    let twice = with_byte(with_byte(state, 0), 0);
-    assert!(rt; twice == 0x47ea4b && shifted(state, 2) == 0x47ea4b && shifted(state, 0) == state);
-}
-
-// The empty frame of RTCM, and the check value by its first bytes and its last ones.
+// The register moves past zeros. The empty frame of RTCM, and the check value by its first bytes and its last ones.
 #[test]
 fn a_mover_moves_past_its_zeros(rt: HostRuntime) {
+    let state = with_byte(0, 0xd3);
+    let twice = with_byte(with_byte(state, 0), 0);
+    let register = twice == 0x47ea4b && shifted(state, 2) == 0x47ea4b && shifted(state, 0) == state;
     let mut mover = Mover::new(2);
     let empty = mover.moved(with_byte(0, 0xd3)) == 0x47ea4b;
     mover.set_count(4);
     let first = crc_bytes(b"12345").value() as u32;
     let last = crc_bytes(b"6789").value() as u32;
-    assert!(rt; empty && mover.count() == 4 && mover.moved(first) ^ last == 0xcde703);
+    let whole = mover.count() == 4 && mover.moved(first) ^ last == 0xcde703;
+    assert!(rt; register && empty && whole);
 }

@@ -1,11 +1,8 @@
 //! Streams and their frames: worked rows, an example of the standard, and the time of a long one.
 
-ghost use Rattle.std.specs.Prelude.{◌≡◌, []};
-
 use arrayvec::ArrayVec;
 use rtcm_frame::{Deframer, frame_of, write_frame};
 use std::alloc::{AllocError, Global};
-use std::process::Abort;
 use std::test::Fail;
 
 // The frame of an empty payload.
@@ -16,6 +13,51 @@ const STATION: &[u8] =
     b"\xd3\x00\x13\x3e\xd7\xd3\x02\x02\x98\x0e\xde\xef\x34\xb4\xbd\x62\xac\x09\x41\x98\x6f\x33\x36\
      \x0b\x98";
 
+// A stream, and its frames, concatenated.
+struct StreamRow {
+    bytes: &'static [u8],
+    frames: &'static [u8],
+}
+
+static STREAMS: [StreamRow; 8] = [
+    StreamRow {
+        bytes: b"",
+        frames: b"",
+    },
+    StreamRow {
+        bytes: EMPTY,
+        frames: EMPTY,
+    },
+    // A preamble in front announces a frame that does not end.
+    StreamRow {
+        bytes: b"\xd3\xd3\x00\x00\x47\xea\x4b",
+        frames: EMPTY,
+    },
+    StreamRow {
+        bytes: b"\xd3\x00\x00\x47\xea",
+        frames: b"",
+    },
+    StreamRow {
+        bytes: b"\xd3\x00\x00\x47\xea\x4a",
+        frames: b"",
+    },
+    // A whole frame inside one of wrong checksum.
+    StreamRow {
+        bytes: b"\xd3\x00\x07\xd3\x00\x00\x47\xea\x4b\x00\x00\x00\x00",
+        frames: EMPTY,
+    },
+    // Reserved bits are not looked at.
+    StreamRow {
+        bytes: b"\x00\xd3\xfc\x00\x32\xc2\x4f\x00",
+        frames: b"\xd3\xfc\x00\x32\xc2\x4f",
+    },
+    // A preamble inside a payload.
+    StreamRow {
+        bytes: STATION,
+        frames: STATION,
+    },
+];
+
 // Appends the frames that a deframer gives.
 fn write_frames(deframer: &mut Deframer, frames: &mut Vec<u8>) -> Result<(), AllocError> {
     while let Some(frame) = deframer.next_frame() {
@@ -24,87 +66,72 @@ fn write_frames(deframer: &mut Deframer, frames: &mut Vec<u8>) -> Result<(), All
     Ok(())
 }
 
-// The frames of some bytes, concatenated.
-fn frames_of(rt: &impl Abort, alloc: Global, bytes: &[u8]) -> Result<Vec<u8>, AllocError> {
+// Whether a stream has these frames, concatenated, and may be fed up to its end alone.
+fn gives(alloc: Global, bytes: &[u8], wanted: &[u8]) -> Result<bool, AllocError> {
     let mut frames = Vec::new(alloc);
     let mut deframer = Deframer::new();
+    let mut fed = true;
     for byte in bytes {
-        assert!(rt; deframer.may_feed(), "more bytes may come");
-        deframer.feed(*byte);
+        if deframer.may_feed() {
+            deframer.feed(*byte);
+        } else {
+            fed = false;
+        }
         write_frames(&mut deframer, &mut frames)?;
     }
     deframer.finish();
     write_frames(&mut deframer, &mut frames)?;
-    assert!(rt; !deframer.may_feed(), "no byte may come");
-    Ok(frames)
-}
-
-#[test]
-fn finds_the_frames_of_a_stream(rt: HostRuntime) -> Result<(), Fail> {
-    let rows: [(&[u8], &[u8]); 8] = [
-        (b"", b""),
-        (EMPTY, EMPTY),
-        // a preamble in front announces a frame that does not end
-        (b"\xd3\xd3\x00\x00\x47\xea\x4b", EMPTY),
-        (b"\xd3\x00\x00\x47\xea", b""),
-        (b"\xd3\x00\x00\x47\xea\x4a", b""),
-        // a whole frame inside one of wrong checksum
-        (
-            b"\xd3\x00\x07\xd3\x00\x00\x47\xea\x4b\x00\x00\x00\x00",
-            EMPTY,
-        ),
-        // reserved bits are not looked at
-        (
-            b"\x00\xd3\xfc\x00\x32\xc2\x4f\x00",
-            b"\xd3\xfc\x00\x32\xc2\x4f",
-        ),
-        // a preamble inside a payload
-        (STATION, STATION),
-    ];
-    for (bytes, frames) in rows {
-        assert!(rt;
-            frames_of(&rt, rt.alloc(), bytes)?.as_slice() == frames,
-            "in {bytes:?}"
-        );
-    }
-    Ok(())
+    Ok(fed && !deframer.may_feed() && frames.as_slice() == wanted)
 }
 
 // A stream of one byte alone announces a frame of 985 bytes at each place. The one at place 300 is
 // right, since the checksum of 982 bytes D3 follows there, and a frame stands behind it.
-#[test]
-fn finds_a_frame_behind_many_false_starts(rt: HostRuntime) -> Result<(), Fail> {
-    let mut bytes = vec![in rt.alloc(); 0xd3u8; 1282]?;
+fn finds_a_frame_behind_many_false_starts(alloc: Global) -> Result<bool, AllocError> {
+    let mut bytes = vec![in alloc; 0xd3u8; 1282]?;
     bytes.extend_from_slice(b"\x48\x1d\x21")?;
     bytes.extend_from_slice(EMPTY)?;
-    let frames = frames_of(&rt, rt.alloc(), bytes.as_slice())?;
-    assert!(rt; frames.as_slice() == &bytes.as_slice()[300..]);
-    Ok(())
+    gives(alloc, bytes.as_slice(), &bytes.as_slice()[300..])
 }
 
 #[test]
-fn writes_and_reads_one_frame(rt: HostRuntime) -> Result<(), Fail> {
+fn streams(rt: HostRuntime) -> Result<(), Fail> {
+    let mut all = finds_a_frame_behind_many_false_starts(rt.alloc())?;
+    for row in &STREAMS {
+        all = gives(rt.alloc(), row.bytes, row.frames)? && all;
+    }
+    assert!(rt; all);
+    Ok(())
+}
+
+// Whether frames are written and read, and none is read with a byte behind it.
+fn one_frame_is_written_and_read() -> Option<bool> {
     let mut bytes = ArrayVec::new();
     write_frame(&STATION[3..22], &mut bytes);
-    let written = bytes.as_slice() == STATION;
-    let frame = frame_of(STATION).ok_or("a whole frame")?;
+    let frame = frame_of(STATION)?;
+    let empty = frame_of(EMPTY)?;
+    let longer = frame_of(b"\xd3\x00\x00\x47\xea\x4b\x00");
     let read = frame.payload() == &STATION[3..22] && frame.bytes() == STATION;
-    let empty = frame_of(EMPTY).ok_or("a whole frame")?;
     let nothing = empty.payload() == b"".as_slice();
-    // a byte behind the frame
-    let longer = frame_of(b"\xd3\x00\x00\x47\xea\x4b\x00").is_some();
-    assert!(rt; written && read && nothing && !longer);
-    Ok(())
+    Some(bytes.as_slice() == STATION && read && nothing && longer.is_none())
 }
 
 // A stream in which a frame of the longest kind is announced at each byte, and none is right: 20 MB
 // go in a second only where no byte is gone over twice.
-#[test]
-fn goes_over_no_byte_twice(rt: HostRuntime) {
+fn no_byte_is_gone_over_twice() -> bool {
     let mut deframer = Deframer::new();
+    let mut none = true;
     for _ in 0..20_000_000u32 {
-        assert!(rt; deframer.may_feed(), "more bytes may come");
-        deframer.feed(0xd3);
-        assert!(rt; deframer.next_frame().is_none(), "no frame is right");
+        if deframer.may_feed() {
+            deframer.feed(0xd3);
+        } else {
+            none = false;
+        }
+        none = deframer.next_frame().is_none() && none;
     }
+    none
+}
+
+#[test]
+fn frames(rt: HostRuntime) {
+    assert!(rt; one_frame_is_written_and_read() == Some(true) && no_byte_is_gone_over_twice());
 }

@@ -5,95 +5,189 @@ use nav_io::{LineFault, LineKind, Lines, MemSource};
 use std::alloc::{AllocError, Global};
 use std::test::Fail;
 
-// A line: its kind and its text.
-type Want<'a> = (LineKind, &'a [u8]);
+// An input, and the texts of its lines, which are all of one kind. Where it is full, the 2,200 bytes of the longest line
+// stand in front of it, and are its first line, which the row leaves empty.
+struct InputRow {
+    is_full: bool,
+    bytes: &'static [u8],
+    kind: LineKind,
+    lines: &'static [&'static [u8]],
+}
 
-// Whether the source gives these lines, numbered from 1, and from then on the end.
-fn gives(source: &mut MemSource, want: &[Want<'_>]) -> bool {
+const LONGEST: usize = 2_200;
+
+static INPUTS: [InputRow; 14] = [
+    InputRow {
+        is_full: false,
+        bytes: b"",
+        kind: LineKind::Text,
+        lines: &[],
+    },
+    InputRow {
+        is_full: false,
+        bytes: b"a\nbc\n",
+        kind: LineKind::Text,
+        lines: &[b"a", b"bc"],
+    },
+    InputRow {
+        is_full: false,
+        bytes: b"a\r\nbc\r\n",
+        kind: LineKind::Text,
+        lines: &[b"a", b"bc"],
+    },
+    InputRow {
+        is_full: false,
+        bytes: b"a\nbc",
+        kind: LineKind::Text,
+        lines: &[b"a", b"bc"],
+    },
+    InputRow {
+        is_full: false,
+        bytes: b"a\nbc\r",
+        kind: LineKind::Text,
+        lines: &[b"a", b"bc"],
+    },
+    InputRow {
+        is_full: false,
+        bytes: b"a\n\r",
+        kind: LineKind::Text,
+        lines: &[b"a", b""],
+    },
+    InputRow {
+        is_full: false,
+        bytes: b"\n\na",
+        kind: LineKind::Text,
+        lines: &[b"", b"", b"a"],
+    },
+    InputRow {
+        is_full: false,
+        bytes: b"a\r\r\n",
+        kind: LineKind::Text,
+        lines: &[b"a\r"],
+    },
+    InputRow {
+        is_full: false,
+        bytes: b"a\rbc\n",
+        kind: LineKind::Text,
+        lines: &[b"a\rbc"],
+    },
+    InputRow {
+        is_full: true,
+        bytes: b"\ny",
+        kind: LineKind::Text,
+        lines: &[b"", b"y"],
+    },
+    InputRow {
+        is_full: true,
+        bytes: b"\r\n",
+        kind: LineKind::Text,
+        lines: &[b""],
+    },
+    InputRow {
+        is_full: true,
+        bytes: b"x\n",
+        kind: LineKind::Long,
+        lines: &[b""],
+    },
+    InputRow {
+        is_full: true,
+        bytes: b"x\r",
+        kind: LineKind::Long,
+        lines: &[b""],
+    },
+    InputRow {
+        is_full: true,
+        bytes: b"x",
+        kind: LineKind::Long,
+        lines: &[b""],
+    },
+];
+
+// Whether the source gives the lines of the row, numbered from 1, and from then on the end.
+fn gives(source: &mut MemSource, row: &InputRow) -> bool {
+    let full: &[u8] = &[b'x'; LONGEST];
     let mut lines = Lines::new();
-    for (place, (kind, text)) in want.iter().enumerate() {
-        if lines.next(source) != Ok(*kind) {
+    for (place, text) in row.lines.iter().enumerate() {
+        let want = if row.is_full && place == 0 {
+            full
+        } else {
+            *text
+        };
+        if lines.next(source) != Ok(row.kind) {
             return false;
         }
-        if lines.text() != *text || lines.number() as usize != place + 1 {
+        if lines.text() != want || lines.number() as usize != place + 1 {
             return false;
         }
     }
     let first = lines.next(source) == Ok(LineKind::End);
     let second = lines.next(source) == Ok(LineKind::End);
-    first && second && lines.text().is_empty() && lines.number() as usize == want.len()
+    first && second && lines.text().is_empty() && lines.number() as usize == row.lines.len()
 }
 
-// Whether the bytes in these pieces give these lines.
-fn gives_cut(
-    alloc: Global,
-    bytes: &[u8],
-    cuts: &[u32],
-    want: &[Want<'_>],
-) -> Result<bool, AllocError> {
-    let mut source = source_of(alloc, bytes, cuts, &[])?;
-    Ok(gives(&mut source, want))
+// Whether the input in these pieces gives its lines.
+fn gives_cut(alloc: Global, row: &InputRow, cuts: &[u32]) -> Result<bool, AllocError> {
+    let front = if row.is_full { LONGEST } else { 0 };
+    let mut bytes = vec![in alloc; b'x'; front]?;
+    bytes.extend_from_slice(row.bytes)?;
+    let mut source = MemSource::new(bytes, cuts.to_vec(alloc)?, Vec::new(alloc));
+    Ok(gives(&mut source, row))
 }
 
-// The bytes whole, and in pieces of one byte.
-fn gives_both(alloc: Global, bytes: &[u8], want: &[Want<'_>]) -> Result<bool, AllocError> {
-    Ok(gives_cut(alloc, bytes, &[], want)? && gives_cut(alloc, bytes, &[1; 2300], want)?)
+// An answer, with the text and the number of lines behind it.
+struct AnswerRow {
+    answer: Result<LineKind, LineFault>,
+    text: &'static [u8],
+    number: u32,
+}
+
+static ANSWERS: [AnswerRow; 5] = [
+    AnswerRow {
+        answer: Err(LineFault::ReadFault),
+        text: b"",
+        number: 0,
+    },
+    AnswerRow {
+        answer: Ok(LineKind::Text),
+        text: b"ab",
+        number: 1,
+    },
+    AnswerRow {
+        answer: Ok(LineKind::Text),
+        text: b"cd",
+        number: 2,
+    },
+    AnswerRow {
+        answer: Err(LineFault::ReadFault),
+        text: b"",
+        number: 2,
+    },
+    AnswerRow {
+        answer: Ok(LineKind::End),
+        text: b"",
+        number: 2,
+    },
+];
+
+// Whether the lines of two short ones, where the reads 1 and 4 fail, are these answers.
+fn goes_on_after_a_failed_read(alloc: Global) -> Result<bool, AllocError> {
+    let mut source = source_of(alloc, b"ab\ncd\n", &[1, 1], &[1, 4])?;
+    let mut lines = Lines::new();
+    let mut all = true;
+    for row in &ANSWERS {
+        let next = lines.next(&mut source);
+        all = all && next == row.answer && lines.text() == row.text && lines.number() == row.number;
+    }
+    Ok(all)
 }
 
 #[test]
 fn gives_lines(rt: HostRuntime) -> Result<(), Fail> {
-    let text = LineKind::Text;
-    let rows: [(&[u8], &[Want<'_>]); 9] = [
-        (b"", &[]),
-        (b"a\nbc\n", &[(text, b"a"), (text, b"bc")]),
-        (b"a\r\nbc\r\n", &[(text, b"a"), (text, b"bc")]),
-        (b"a\nbc", &[(text, b"a"), (text, b"bc")]),
-        (b"a\nbc\r", &[(text, b"a"), (text, b"bc")]),
-        (b"a\n\r", &[(text, b"a"), (text, b"")]),
-        (b"\n\na", &[(text, b""), (text, b""), (text, b"a")]),
-        (b"a\r\r\n", &[(text, b"a\r")]),
-        (b"a\rbc\n", &[(text, b"a\rbc")]),
-    ];
-    for (bytes, want) in rows.iter() {
-        assert!(rt; gives_both(rt.alloc(), bytes, want)?);
+    let mut all = goes_on_after_a_failed_read(rt.alloc())?;
+    for row in &INPUTS {
+        all = gives_cut(rt.alloc(), row, &[])? && all;
+        all = gives_cut(rt.alloc(), row, &[1; 2300])? && all;
     }
-    Ok(())
-}
-
-#[test]
-fn cuts_long_lines(rt: HostRuntime) -> Result<(), Fail> {
-    let full: &[u8] = &[b'x'; 2200];
-    // what stands behind 2,200 bytes
-    let rows: [(&[u8], &[Want<'_>]); 5] = [
-        (b"\ny", &[(LineKind::Text, full), (LineKind::Text, b"y")]),
-        (b"\r\n", &[(LineKind::Text, full)]),
-        (b"x\n", &[(LineKind::Long, full)]),
-        (b"x\r", &[(LineKind::Long, full)]),
-        (b"x", &[(LineKind::Long, full)]),
-    ];
-    for (end, want) in rows.iter() {
-        let mut bytes = full.to_vec(rt.alloc())?;
-        bytes.extend_from_slice(end)?;
-        assert!(rt; gives_both(rt.alloc(), bytes.as_slice(), want)?);
-    }
-    Ok(())
-}
-
-#[test]
-fn goes_on_after_a_failed_read(rt: HostRuntime) -> Result<(), Fail> {
-    let mut source = source_of(rt.alloc(), b"ab\ncd\n", &[1, 1], &[1, 4])?;
-    let mut lines = Lines::new();
-    // the answers, with the text and the number of lines
-    let rows: [(Result<LineKind, LineFault>, &[u8], u32); 5] = [
-        (Err(LineFault::ReadFault), b"", 0),
-        (Ok(LineKind::Text), b"ab", 1),
-        (Ok(LineKind::Text), b"cd", 2),
-        (Err(LineFault::ReadFault), b"", 2),
-        (Ok(LineKind::End), b"", 2),
-    ];
-    for (answer, text, number) in rows.iter() {
-        let next = lines.next(&mut source);
-        assert!(rt; next == *answer && lines.text() == *text && lines.number() == *number);
-    }
+    assert!(rt; all);
     Ok(())
 }

@@ -2,6 +2,7 @@
 
 use crate::samples::source_of;
 use nav_io::{Failed, MemSink, ReadSource, Sink, Source, WriteSink};
+use std::alloc::{AllocError, Global};
 use std::io;
 use std::io::{ErrorKind, Read, Write};
 use std::test::Fail;
@@ -44,80 +45,196 @@ impl Write for Faltering {
     }
 }
 
-// The answers of so many reads into a buffer of four bytes, each with the first byte of the buffer.
-fn reads<S: Source>(source: &mut S) -> [(Result<usize, Failed>, u8); 5] {
-    let mut answers = [(Ok(0), 0); 5];
+// The answer of a read into a buffer of four bytes, with the first byte of the buffer behind it.
+struct Reading {
+    answer: Result<usize, Failed>,
+    first: u8,
+}
+
+// Whether the reads of a source are answered so.
+fn reads<S: Source>(source: &mut S, readings: &[Reading]) -> bool {
     let mut buffer = [0; 4];
-    for answer in answers.iter_mut() {
-        let result = source.read(&mut buffer);
-        *answer = (result, buffer[0]);
+    let mut all = true;
+    for reading in readings {
+        let answer = source.read(&mut buffer);
+        all = all && answer == reading.answer && buffer[0] == reading.first;
     }
-    answers
+    all
 }
 
-// The answers of writes of these pieces, in their order.
-fn writes<S: Sink>(sink: &mut S, pieces: [&[u8]; 5]) -> [Result<(), Failed>; 5] {
-    let mut answers = [Ok(()); 5];
-    for (answer, piece) in answers.iter_mut().zip(pieces) {
-        *answer = sink.write(piece);
+// The write of a piece, and its answer.
+struct Writing {
+    piece: &'static [u8],
+    answer: Result<(), Failed>,
+}
+
+// Whether the writes to a sink are answered so.
+fn writes<S: Sink>(sink: &mut S, writings: &[Writing]) -> bool {
+    let mut all = true;
+    for writing in writings {
+        let answer = sink.write(writing.piece);
+        all = all && answer == writing.answer;
     }
-    answers
+    all
+}
+
+static MEMORY_READINGS: [Reading; 5] = [
+    Reading {
+        answer: Ok(1),
+        first: b'a',
+    },
+    Reading {
+        answer: Ok(1),
+        first: b'b',
+    },
+    Reading {
+        answer: Err(Failed),
+        first: b'b',
+    },
+    Reading {
+        answer: Ok(1),
+        first: b'c',
+    },
+    Reading {
+        answer: Ok(1),
+        first: b'd',
+    },
+];
+
+static MEMORY_WRITINGS: [Writing; 5] = [
+    Writing {
+        piece: b"ab",
+        answer: Ok(()),
+    },
+    Writing {
+        piece: b"cd",
+        answer: Err(Failed),
+    },
+    Writing {
+        piece: b"efgh",
+        answer: Err(Failed),
+    },
+    Writing {
+        piece: b"ijk",
+        answer: Ok(()),
+    },
+    Writing {
+        piece: b"",
+        answer: Ok(()),
+    },
+];
+
+static EDGE_READINGS: [Reading; 5] = [
+    Reading {
+        answer: Ok(4),
+        first: b'a',
+    },
+    Reading {
+        answer: Ok(1),
+        first: b'e',
+    },
+    Reading {
+        answer: Ok(0),
+        first: b'e',
+    },
+    Reading {
+        answer: Ok(0),
+        first: b'e',
+    },
+    Reading {
+        answer: Ok(0),
+        first: b'e',
+    },
+];
+
+static EDGE_WRITINGS: [Writing; 2] = [
+    Writing {
+        piece: b"ab",
+        answer: Ok(()),
+    },
+    Writing {
+        piece: b"cd",
+        answer: Ok(()),
+    },
+];
+
+static FALTERING_READINGS: [Reading; 5] = [
+    Reading {
+        answer: Ok(1),
+        first: 1,
+    },
+    Reading {
+        answer: Ok(1),
+        first: 2,
+    },
+    Reading {
+        answer: Err(Failed),
+        first: 2,
+    },
+    Reading {
+        answer: Ok(1),
+        first: 4,
+    },
+    Reading {
+        answer: Ok(1),
+        first: 5,
+    },
+];
+
+static FALTERING_WRITINGS: [Writing; 5] = [
+    Writing {
+        piece: b"ab",
+        answer: Ok(()),
+    },
+    Writing {
+        piece: b"cd",
+        answer: Err(Failed),
+    },
+    Writing {
+        piece: b"ef",
+        answer: Ok(()),
+    },
+    Writing {
+        piece: b"g",
+        answer: Err(Failed),
+    },
+    Writing {
+        piece: b"h",
+        answer: Ok(()),
+    },
+];
+
+// Memory is read in pieces.
+fn memory_is_read(alloc: Global) -> Result<bool, AllocError> {
+    let mut source = source_of(alloc, b"abcd", &[1, 0, 1], &[2])?;
+    Ok(reads(&mut source, &MEMORY_READINGS) && source.left().len() == 0)
+}
+
+// Memory is written as far as there is room.
+fn memory_is_written(alloc: Global) -> Result<bool, AllocError> {
+    let mut sink = MemSink::new(alloc, 5, [1].to_vec(alloc)?)?;
+    Ok(writes(&mut sink, &MEMORY_WRITINGS) && sink.bytes() == b"abijk".as_slice())
 }
 
 #[test]
-fn reads_memory_in_pieces(rt: HostRuntime) -> Result<(), Fail> {
-    let mut source = source_of(rt.alloc(), b"abcd", &[1, 0, 1], &[2])?;
-    let want = [
-        (Ok(1), b'a'),
-        (Ok(1), b'b'),
-        (Err(Failed), b'b'),
-        (Ok(1), b'c'),
-        (Ok(1), b'd'),
-    ];
-    assert!(rt; reads(&mut source) == want && source.left().len() == 0);
+fn memory(rt: HostRuntime) -> Result<(), Fail> {
+    let read = memory_is_read(rt.alloc())?;
+    assert!(rt; memory_is_written(rt.alloc())? && read);
     Ok(())
 }
 
+// At the edge: bytes that are read and written whole, and a reader and a writer that fail in mid-stream.
 #[test]
-fn writes_memory_in_its_room(rt: HostRuntime) -> Result<(), Fail> {
-    let fails = [1].to_vec(rt.alloc())?;
-    let mut sink = MemSink::new(rt.alloc(), 5, fails)?;
-    let answers = writes(&mut sink, [b"ab", b"cd", b"efgh", b"ijk", b""]);
-    let want = [Ok(()), Err(Failed), Err(Failed), Ok(()), Ok(())];
-    assert!(rt; answers == want && sink.bytes() == b"abijk".as_slice());
-    Ok(())
-}
-
-#[test]
-fn reads_and_writes_at_the_edge(rt: HostRuntime) {
+fn edge(rt: HostRuntime) {
     let mut source = ReadSource::new(b"abcde".as_slice());
-    let want = [
-        (Ok(4), b'a'),
-        (Ok(1), b'e'),
-        (Ok(0), b'e'),
-        (Ok(0), b'e'),
-        (Ok(0), b'e'),
-    ];
-    let read = reads(&mut source) == want;
+    let read = reads(&mut source, &EDGE_READINGS);
     let mut out = Vec::new(rt.alloc());
     let mut sink = WriteSink::new(&mut out);
-    let written = sink.write(b"ab") == Ok(()) && sink.write(b"cd") == Ok(());
+    let written = writes(&mut sink, &EDGE_WRITINGS);
     let _ = sink;
-    assert!(rt; read && written && out.as_slice() == b"abcd".as_slice());
-}
-
-#[test]
-fn fails_in_mid_stream(rt: HostRuntime) {
     let mut source = ReadSource::new(Faltering { calls: 0 });
-    let want = [
-        (Ok(1), 1),
-        (Ok(1), 2),
-        (Err(Failed), 2),
-        (Ok(1), 4),
-        (Ok(1), 5),
-    ];
-    let read = reads(&mut source) == want;
+    let reads_on = reads(&mut source, &FALTERING_READINGS);
     let mut sink = WriteSink::new(Faltering { calls: 0 });
-    let answers = writes(&mut sink, [b"ab", b"cd", b"ef", b"g", b"h"]);
-    assert!(rt; read && answers == [Ok(()), Err(Failed), Ok(()), Err(Failed), Ok(())]);
+    let writes_on = writes(&mut sink, &FALTERING_WRITINGS);
+    assert!(rt; read && written && out.as_slice() == b"abcd".as_slice() && reads_on && writes_on);
 }

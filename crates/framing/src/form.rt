@@ -1,7 +1,7 @@
 //! One message, at the start of some bytes.
 
 ghost use Rattle.std.specs.Prelude.{◌≡◌, ℕ, ◌+◌, ◌-◌, ◌<◌, ◌≤◌, ◌&&◌, ◌↔◌, IsTrue, length, take};
-ghost use Rattle.std.specs.Prelude.{drop, slice_index, Bool};
+ghost use Rattle.std.specs.Prelude.{drop, slice_index, Bool, nat_eq, if◌then◌else◌};
 ghost use Rattle.framing.specs.Headings.{format_of, opens_by, size_by};
 ghost use Rattle.framing.specs.State.{IsWaiting};
 ghost use Rattle.framing.specs.Mirrors.{from_first, Promises};
@@ -44,6 +44,7 @@ pub fn next_start<J: Judge>(bytes: &[u8], from: usize) -> usize
 // The count of bytes below which no message is decided, for bytes that begin with these.
 pub fn wanted_of<J: Judge>(rest: &[u8]) -> usize
     requires { IsWaiting (format_of J.heading) rest.now }
+    ensures value { result ≡ (if nat_eq (length rest.now) 0 then 1 else J.heading.wanted rest.now) }
     ensures promise { Promises (format_of J.heading) rest.now result }
     ensures most { result ≤ 98304 }
 {

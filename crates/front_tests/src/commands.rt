@@ -14,36 +14,67 @@ fn words_of(alloc: Global, text: &str) -> Result<Vec<String>, AllocError> {
     Ok(words)
 }
 
-// The kind of the mistake in a command line.
-fn mistake_in(alloc: Global, text: &str) -> Result<Option<ErrorKind>, AllocError> {
-    let words = words_of(alloc, text)?;
+// Whether a command line has this mistake, or none.
+fn has_mistake(alloc: Global, case: &Mistake) -> Result<bool, AllocError> {
+    let words = words_of(alloc, case.words)?;
     Ok(match read_words(alloc, &words) {
-        Ok(_) => None,
-        Err(error) => Some(error.kind()),
+        Ok(_) => case.kind.is_none(),
+        Err(error) => case.kind == Some(error.kind()),
+    })
+}
+
+// Whether the options of a command line are read.
+fn are_options_read(alloc: Global) -> Result<bool, AllocError> {
+    let words = words_of(alloc, "a.navcap|-t|rtcm|-o|out|b.navcap|--week=2295|-q")?;
+    Ok(match read_words(alloc, &words) {
+        Ok(asked) => {
+            let is_form = asked.to() == Target::Rtcm && asked.from().is_none();
+            let is_time = asked.week() == Some("2295") && asked.leap() == "18";
+            is_form && is_time && asked.is_quiet() && !asked.overwrites()
+        }
+        Err(_) => false,
     })
 }
 
 #[test]
 fn options_are_read(rt: HostRuntime) -> Result<(), Fail> {
-    let words = words_of(
-        rt.alloc(),
-        "a.navcap|-t|rtcm|-o|out|b.navcap|--week=2295|-q",
-    )?;
-    let Ok(asked) = read_words(rt.alloc(), &words) else {
-        return Err("a command line")?;
-    };
-    assert!(rt; asked.to() == Target::Rtcm && asked.from().is_none() && asked.is_quiet());
-    assert!(rt; asked.week() == Some("2295") && asked.leap() == "18" && !asked.overwrites());
+    assert!(rt; are_options_read(rt.alloc())?);
     Ok(())
 }
 
+// A command line, and the kind of the mistake in it.
+struct Mistake {
+    words: &'static str,
+    kind: Option<ErrorKind>,
+}
+
+static MISTAKES: [Mistake; 5] = [
+    Mistake {
+        words: "a|--to|rinx",
+        kind: Some(ErrorKind::InvalidValue),
+    },
+    Mistake {
+        words: "a|--overwrit",
+        kind: Some(ErrorKind::UnknownArgument),
+    },
+    Mistake {
+        words: "a|--week|1023",
+        kind: Some(ErrorKind::ValueValidation),
+    },
+    Mistake {
+        words: "-q",
+        kind: Some(ErrorKind::MissingRequiredArgument),
+    },
+    Mistake {
+        words: "--list-forms",
+        kind: None,
+    },
+];
+
 #[test]
 fn mistakes_are_told_apart(rt: HostRuntime) -> Result<(), Fail> {
-    let alloc = rt.alloc();
-    assert!(rt; mistake_in(alloc, "a|--to|rinx")? == Some(ErrorKind::InvalidValue));
-    assert!(rt; mistake_in(alloc, "a|--overwrit")? == Some(ErrorKind::UnknownArgument));
-    assert!(rt; mistake_in(alloc, "a|--week|1023")? == Some(ErrorKind::ValueValidation));
-    assert!(rt; mistake_in(alloc, "-q")? == Some(ErrorKind::MissingRequiredArgument));
-    assert!(rt; mistake_in(alloc, "--list-forms")?.is_none());
+    for case in &MISTAKES {
+        assert!(rt; has_mistake(rt.alloc(), case)?, "{}", case.words);
+    }
     Ok(())
 }

@@ -7,73 +7,180 @@ use std::alloc::{AllocError, Global};
 use std::test::Fail;
 
 // How a step ended.
-#[derive(Clone, Copy, PartialEq, Eq, Debug)]
+#[derive(Clone, Copy, PartialEq, Eq)]
 enum End {
     Done,
-    Open(FileFault),
-    Begin(FileFault),
-    Run(Broken),
-    Publish(FileFault),
+    NoInput,
+    PartThere,
+    Refused,
+    Other,
 }
 
 // How a step ended.
 fn end_of(done: Result<(), StepFault<Broken>>) -> End {
     match done {
         Ok(()) => End::Done,
-        Err(StepFault::Open(fault)) => End::Open(fault),
-        Err(StepFault::Begin(fault)) => End::Begin(fault),
-        Err(StepFault::Run(fault, _)) => End::Run(fault),
-        Err(StepFault::Publish(fault)) => End::Publish(fault),
+        Err(StepFault::Open(FileFault::NotFound)) => End::NoInput,
+        Err(StepFault::Begin(FileFault::AlreadyThere)) => End::PartThere,
+        Err(StepFault::Run(Broken::Refused, _)) => End::Refused,
+        Err(_) => End::Other,
     }
 }
 
-// The step from one name to another.
-fn step(alloc: Global, folder: &mut MemFolder, from: &str, name: &str) -> Result<End, AllocError> {
-    let part = part_of(alloc, name)?;
-    Ok(end_of(convert_file(folder, &mut Seven, from, part.as_str(), name)))
+// A file of a folder.
+struct File {
+    name: &'static str,
+    bytes: &'static [u8],
 }
 
-// Whether the file of this name has these bytes, or none is there.
-fn has(folder: &MemFolder, name: &str, bytes: Option<&[u8]>) -> bool {
-    match (folder.get(name), bytes) {
-        (Some(there), Some(wanted)) => there == wanted,
-        (None, None) => true,
-        _ => false,
+// A step from one name to another, and how it ends.
+struct Step {
+    from: &'static str,
+    name: &'static str,
+    end: End,
+}
+
+// The files of a folder, the steps over it, which files are there behind them, and which are not.
+struct Case {
+    files: &'static [File],
+    steps: &'static [Step],
+    there: &'static [File],
+    absent: &'static [&'static str],
+}
+
+const DONE: Step = Step {
+    from: "a.nav",
+    name: "a.rnx",
+    end: End::Done,
+};
+
+const PART_THERE: Step = Step {
+    from: "a.nav",
+    name: "a.rnx",
+    end: End::PartThere,
+};
+
+const INPUT: File = File {
+    name: "a.nav",
+    bytes: b"one",
+};
+
+const OUTPUT: File = File {
+    name: "a.rnx",
+    bytes: b"seven b",
+};
+
+const OLD: File = File {
+    name: "b.rnx",
+    bytes: b"old",
+};
+
+const PART: File = File {
+    name: "a.rnx.part",
+    bytes: b"half",
+};
+
+static CASES: [Case; 4] = [
+    // the second of two files is refused
+    Case {
+        files: &[
+            INPUT,
+            File {
+                name: "b.nav",
+                bytes: b"?two",
+            },
+            OLD,
+        ],
+        steps: &[
+            DONE,
+            Step {
+                from: "b.nav",
+                name: "b.rnx",
+                end: End::Refused,
+            },
+        ],
+        there: &[OUTPUT, OLD],
+        absent: &["a.rnx.part", "b.rnx.part"],
+    },
+    // a file that is there is replaced
+    Case {
+        files: &[
+            INPUT,
+            File {
+                name: "a.rnx",
+                bytes: b"old",
+            },
+        ],
+        steps: &[DONE],
+        there: &[OUTPUT, INPUT],
+        absent: &[],
+    },
+    // a part that is there is kept
+    Case {
+        files: &[INPUT, PART],
+        steps: &[PART_THERE],
+        there: &[PART],
+        absent: &["a.rnx"],
+    },
+    // there is no input of that name
+    Case {
+        files: &[INPUT, PART],
+        steps: &[
+            PART_THERE,
+            Step {
+                from: "c.nav",
+                name: "c.rnx",
+                end: End::NoInput,
+            },
+        ],
+        there: &[PART],
+        absent: &["a.rnx"],
+    },
+];
+
+// Whether the steps over a folder end so.
+fn end_so(alloc: Global, folder: &mut MemFolder, steps: &[Step]) -> Result<bool, AllocError> {
+    let mut holds = true;
+    for step in steps {
+        let part = part_of(alloc, step.name)?;
+        let done = convert_file(folder, &mut Seven, step.from, part.as_str(), step.name);
+        holds = holds && end_of(done) == step.end;
     }
+    Ok(holds)
+}
+
+// Whether a folder has these files.
+fn has_all(folder: &MemFolder, files: &[File]) -> bool {
+    let mut holds = true;
+    for file in files {
+        holds = holds && folder.get(file.name) == Some(file.bytes);
+    }
+    holds
+}
+
+// Whether a folder has no file of these names.
+fn has_none(folder: &MemFolder, names: &[&str]) -> bool {
+    let mut holds = true;
+    for name in names {
+        holds = holds && folder.get(name).is_none();
+    }
+    holds
+}
+
+// Whether the steps of a case end so, and leave these files.
+fn holds(alloc: Global, case: &Case) -> Result<bool, AllocError> {
+    let mut folder = MemFolder::new(alloc);
+    for file in case.files {
+        folder.put(file.name, file.bytes)?;
+    }
+    let is_ended = end_so(alloc, &mut folder, case.steps)?;
+    Ok(is_ended && has_all(&folder, case.there) && has_none(&folder, case.absent))
 }
 
 #[test]
-fn second_of_two_files_is_refused(rt: HostRuntime) -> Result<(), Fail> {
-    let mut folder = MemFolder::new(rt.alloc());
-    folder.put("a.nav", b"one")?;
-    folder.put("b.nav", b"?two")?;
-    folder.put("b.rnx", b"old")?;
-    assert!(rt; step(rt.alloc(), &mut folder, "a.nav", "a.rnx")? == End::Done);
-    assert!(rt; step(rt.alloc(), &mut folder, "b.nav", "b.rnx")? == End::Run(Broken::Refused));
-    assert!(rt; has(&folder, "a.rnx", Some(b"seven b")) && has(&folder, "a.rnx.part", None));
-    assert!(rt; has(&folder, "b.rnx", Some(b"old")) && has(&folder, "b.rnx.part", None));
-    Ok(())
-}
-
-#[test]
-fn file_that_is_there_is_replaced(rt: HostRuntime) -> Result<(), Fail> {
-    let mut folder = MemFolder::new(rt.alloc());
-    folder.put("a.nav", b"one")?;
-    folder.put("a.rnx", b"old")?;
-    assert!(rt; step(rt.alloc(), &mut folder, "a.nav", "a.rnx")? == End::Done);
-    assert!(rt; has(&folder, "a.rnx", Some(b"seven b")) && has(&folder, "a.nav", Some(b"one")));
-    Ok(())
-}
-
-#[test]
-fn part_that_is_there_is_kept(rt: HostRuntime) -> Result<(), Fail> {
-    let mut folder = MemFolder::new(rt.alloc());
-    folder.put("a.nav", b"one")?;
-    folder.put("a.rnx.part", b"half")?;
-    let there = End::Begin(FileFault::AlreadyThere);
-    assert!(rt; step(rt.alloc(), &mut folder, "a.nav", "a.rnx")? == there);
-    assert!(rt; has(&folder, "a.rnx", None) && has(&folder, "a.rnx.part", Some(b"half")));
-    let missing = End::Open(FileFault::NotFound);
-    assert!(rt; step(rt.alloc(), &mut folder, "c.nav", "c.rnx")? == missing);
+fn steps_over_a_folder_end_as_the_table_says(rt: HostRuntime) -> Result<(), Fail> {
+    for case in &CASES {
+        assert!(rt; holds(rt.alloc(), case)?);
+    }
     Ok(())
 }

@@ -24,36 +24,43 @@ fn source_of(alloc: Global, bytes: &[u8], fails: u32) -> Result<MemSource, Alloc
     ))
 }
 
-// Reads so often, and gives the bytes.
-fn read_all<S: Source>(alloc: Global, source: &mut S) -> Result<Vec<u8>, AllocError> {
-    let mut bytes = Vec::new(alloc);
+// Reads so often, and appends the bytes.
+fn read_all<S: Source>(source: &mut S, bytes: &mut Vec<u8>) -> Result<(), AllocError> {
     let mut piece = [0; 4];
     for _ in 0..20 {
         if let Ok(count) = source.read(&mut piece) {
             bytes.extend_from_slice(&piece[..count])?;
         }
     }
-    Ok(bytes)
+    Ok(())
+}
+
+static TEXT: &[u8] = b"0123456789abc";
+
+// Whether the bytes of which at most so many were looked at come again, and are counted.
+fn come_again(alloc: Global, most: usize) -> Result<bool, AllocError> {
+    let Ok(peeked) = peek(alloc, source_of(alloc, TEXT, 99)?, most) else {
+        return Ok(false);
+    };
+    let is_prefix = peeked.prefix() == &TEXT[..most.min(TEXT.len())];
+    let mut counted = Counted::new(peeked, Last(0));
+    let mut bytes = Vec::new(alloc);
+    read_all(&mut counted, &mut bytes)?;
+    let is_whole = bytes.as_slice() == TEXT && counted.count() == 13;
+    Ok(is_prefix && is_whole && counted.into_parts().1.0 == 13)
 }
 
 #[test]
 fn bytes_that_were_looked_at_come_again(rt: HostRuntime) -> Result<(), Fail> {
-    let text = b"0123456789abc".as_slice();
     for most in [0, 1, 3, 7, 13, 80] {
-        let source = source_of(rt.alloc(), text, 99)?;
-        let peeked = peek(rt.alloc(), source, most).map_err(|_| "looked at")?;
-        assert!(rt; peeked.prefix() == &text[..most.min(text.len())]);
-        let mut counted = Counted::new(peeked, Last(0));
-        let bytes = read_all(rt.alloc(), &mut counted)?;
-        assert!(rt; bytes.as_slice() == text && counted.count() == 13);
-        assert!(rt; counted.into_parts().1.0 == 13);
+        assert!(rt; come_again(rt.alloc(), most)?, "{most}");
     }
     Ok(())
 }
 
 #[test]
 fn read_that_fails_is_told(rt: HostRuntime) -> Result<(), Fail> {
-    let source = source_of(rt.alloc(), b"0123456789abc", 1)?;
+    let source = source_of(rt.alloc(), TEXT, 1)?;
     assert!(rt; peek(rt.alloc(), source, 7).err() == Some(PeekFault::ReadFault));
     Ok(())
 }

@@ -10,7 +10,7 @@ use nav_io::{Sink, Source};
 pub(crate) struct Seven;
 
 /// Why it breaks off.
-#[derive(Clone, Copy, PartialEq, Eq, Debug)]
+#[derive(Clone, Copy)]
 pub(crate) enum Broken {
     /// A read or a write failed.
     Failed,

@@ -4,6 +4,7 @@ use file_form::Kind;
 use file_step::FileFault;
 use file_texts::{Refusal, is_site, long_name, output_name};
 use gnss_week::Moment;
+use std::alloc::{AllocError, Global};
 use std::test::Fail;
 
 // A name by the convention, and the moments in seconds from 1980-01-06.
@@ -48,16 +49,31 @@ static LONG: [LongCase; 5] = [
     },
 ];
 
+// Names of sites that are none.
+static NO_SITES: [&str; 3] = ["algo00can", "ALGO00CA", "ALGO0ACAN"];
+
+// Whether a name by the convention is that of the case.
+fn is_long_name(alloc: Global, case: &LongCase) -> Result<bool, AllocError> {
+    let (Some(first), Some(last)) = (Moment::new(case.first), Moment::new(case.last)) else {
+        return Ok(false);
+    };
+    let name = long_name(alloc, case.site, first, last)?;
+    Ok(is_site(case.site) && name.as_str() == case.name)
+}
+
 #[test]
 fn long_names_follow_the_convention(rt: HostRuntime) -> Result<(), Fail> {
     for case in &LONG {
-        let first = Moment::new(case.first).ok_or("a moment")?;
-        let last = Moment::new(case.last).ok_or("a moment")?;
-        let name = long_name(rt.alloc(), case.site, first, last)?;
-        assert!(rt; is_site(case.site) && name.as_str() == case.name);
+        assert!(rt; is_long_name(rt.alloc(), case)?, "{}", case.name);
     }
-    assert!(rt; !is_site("algo00can") && !is_site("ALGO00CA") && !is_site("ALGO0ACAN"));
     Ok(())
+}
+
+#[test]
+fn sites_have_nine_characters(rt: HostRuntime) {
+    for site in &NO_SITES {
+        assert!(rt; !is_site(site), "{site}");
+    }
 }
 
 // An input, a folder, an ending, and the name of the output.
@@ -107,12 +123,19 @@ static NAMES: [NameCase; 6] = [
     },
 ];
 
+// Whether the output has the name of the case, or none.
+fn has_name(alloc: Global, case: &NameCase) -> Result<bool, AllocError> {
+    let path = output_name(alloc, case.input, case.folder, case.ending)?;
+    Ok(match &path {
+        Some(path) => case.name == Some(path.as_path().as_str()),
+        None => case.name.is_none(),
+    })
+}
+
 #[test]
 fn outputs_have_the_name_of_their_input(rt: HostRuntime) -> Result<(), Fail> {
     for case in &NAMES {
-        let path = output_name(rt.alloc(), case.input, case.folder, case.ending)?;
-        let name = path.as_ref().map(|path| path.as_path().as_str());
-        assert!(rt; name == case.name);
+        assert!(rt; has_name(rt.alloc(), case)?, "{}", case.input);
     }
     Ok(())
 }
@@ -167,11 +190,16 @@ static SENTENCES: [Sentence; 8] = [
     },
 ];
 
+// Whether a reason has its status and its sentence.
+fn has_sentence(alloc: Global, case: &Sentence) -> Result<bool, AllocError> {
+    let text = case.refusal.to_string(alloc)?;
+    Ok(text.as_str() == case.text && case.refusal.status() == case.status)
+}
+
 #[test]
 fn refusals_have_sentences(rt: HostRuntime) -> Result<(), Fail> {
     for case in &SENTENCES {
-        let text = case.refusal.to_string(rt.alloc())?;
-        assert!(rt; text.as_str() == case.text && case.refusal.status() == case.status);
+        assert!(rt; has_sentence(rt.alloc(), case)?, "{}", case.text);
     }
     Ok(())
 }

@@ -47,7 +47,7 @@ const COUNTS: &str = concat!(
 );
 
 // The header and two records are written, and the counts reported.
-const FAULTS: [Fault; 6] = [
+static FAULTS: [Fault; 6] = [
     Fault {
         writes: &[0],
         reports: &[],

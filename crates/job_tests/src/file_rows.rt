@@ -2,8 +2,8 @@
 
 use crate::bits::expand;
 use crate::over_memory::{
-    ANYTHING, Failing, NOTHING_FAILS, Outcome, PREFIX, REPORT_FAILS, around, ends, ends_failing,
-    run_over,
+    ANYTHING, Failing, NOTHING_FAILS, Outcome, PREFIX, REPORT_FAILS, RUN, Run, around, ends,
+    run_over, runs_that_end_so,
 };
 use crate::samples::{FILE_TO_LIST, FILE_TO_RINEX, GALILEO, HEADER, ONE_ITEM, RECORD};
 use std::alloc::{AllocError, Global};
@@ -11,25 +11,72 @@ use std::test::Fail;
 
 const TO_RTCM: &str = "--from=rinex;--to=rtcm";
 
+// Runs over a file of one record.
+static CONVERTED: [Run; 6] = [
+    Run {
+        words: FILE_TO_RINEX,
+        input: [HEADER, RECORD, ""],
+        output: [HEADER, RECORD, ""],
+        report: [ONE_ITEM, "", ""],
+        ..RUN
+    },
+    Run {
+        words: TO_RTCM,
+        input: [HEADER, RECORD, ""],
+        output: ["{GPS_FRAME}", "", ""],
+        report: [ONE_ITEM, "", ""],
+        ..RUN
+    },
+    Run {
+        words: FILE_TO_LIST,
+        input: [HEADER, RECORD, ""],
+        output: ["5 EPH G05 0 2295 0\n", "", ""],
+        report: [ONE_ITEM, "", ""],
+        ..RUN
+    },
+    // calls that fail
+    Run {
+        words: FILE_TO_RINEX,
+        input: [HEADER, RECORD, ""],
+        failing: Failing {
+            cuts: &[300],
+            reads: &[1],
+            ..NOTHING_FAILS
+        },
+        status: 3,
+        output: [PREFIX, HEADER, ""],
+        report: ["", "", ""],
+        ..RUN
+    },
+    Run {
+        words: FILE_TO_RINEX,
+        input: [HEADER, RECORD, ""],
+        failing: Failing {
+            writes: &[0],
+            ..NOTHING_FAILS
+        },
+        status: 4,
+        ..RUN
+    },
+    Run {
+        words: FILE_TO_RINEX,
+        input: [HEADER, RECORD, ""],
+        failing: REPORT_FAILS,
+        status: 7,
+        output: [HEADER, RECORD, ""],
+        report: ["", "", ""],
+        ..RUN
+    },
+];
+
 #[test]
 fn converts_a_file_of_one_record(rt: HostRuntime) -> Result<(), Fail> {
-    let file = [HEADER, RECORD];
-    let cases = [
-        (FILE_TO_RINEX, file),
-        (TO_RTCM, ["{GPS_FRAME}", ""]),
-        (FILE_TO_LIST, ["5 EPH G05 0 2295 0\n", ""]),
-    ];
-    for (words, want) in cases {
-        assert!(rt;
-            ends(rt.alloc(), words, &file, 0, &want, &[ONE_ITEM])?,
-            "{words}"
-        );
-    }
+    let count = runs_that_end_so(rt.alloc(), &CONVERTED)?;
+    assert!(rt; count == CONVERTED.len(), "{count}");
     Ok(())
 }
 
 // What stands in a file in place of some words of a record, and what its conversion has there.
-#[derive(Clone, Copy)]
 struct Reading {
     record: &'static str,
     old: &'static str,
@@ -46,7 +93,7 @@ const ANOMALY: &str =
 const ANOMALY_1: &str =
     "\n     0.000000000000D+00 0.000000000000D+00 0.000000000000D+00 1.462918079267D-09\n";
 
-const READINGS: [Reading; 15] = [
+static READINGS: [Reading; 15] = [
     Reading {
         record: RECORD,
         old: ANOMALY,
@@ -158,37 +205,79 @@ fn reads_fields_in_any_spelling(rt: HostRuntime) -> Result<(), Fail> {
 }
 
 // What stands in the record of GPS, what stands in its place, and why that is refused.
-const REFUSED: [(&str, &str, &str); 10] = [
-    ("> EPH G05", "> EPH G33", "satellite"),
-    (
-        "     0.000000000000D+00 0.000000000000D+00 2.295",
-        "> 2.295",
-        "short",
-    ),
-    ("G05 2023 12 31", "G05 2023 12 32", "date"),
-    ("G05 2023 12 31", "G05 2024 01 08", "far"),
-    ("12 31 00 00 00", "12 31 00 00 01", "step"),
-    (
-        "0.000000000000D+00\n     0.000000000000D+00 4",
-        "1024\n     0.000000000000D+00 4",
-        "range",
-    ),
-    (ISSUE, "\n               1.0D 05", "number"),
-    (ISSUE, "\n                       ", "blank"),
-    (ISSUE, "\n                    256", "range"),
-    (" 4.000000000000D+00", "                  2", "fit"),
+struct Refused {
+    old: &'static str,
+    new: &'static str,
+    reason: &'static str,
+}
+
+static REFUSED: [Refused; 10] = [
+    Refused {
+        old: "> EPH G05",
+        new: "> EPH G33",
+        reason: "satellite",
+    },
+    Refused {
+        old: "     0.000000000000D+00 0.000000000000D+00 2.295",
+        new: "> 2.295",
+        reason: "short",
+    },
+    Refused {
+        old: "G05 2023 12 31",
+        new: "G05 2023 12 32",
+        reason: "date",
+    },
+    Refused {
+        old: "G05 2023 12 31",
+        new: "G05 2024 01 08",
+        reason: "far",
+    },
+    Refused {
+        old: "12 31 00 00 00",
+        new: "12 31 00 00 01",
+        reason: "step",
+    },
+    Refused {
+        old: "0.000000000000D+00\n     0.000000000000D+00 4",
+        new: "1024\n     0.000000000000D+00 4",
+        reason: "range",
+    },
+    Refused {
+        old: ISSUE,
+        new: "\n               1.0D 05",
+        reason: "number",
+    },
+    Refused {
+        old: ISSUE,
+        new: "\n                       ",
+        reason: "blank",
+    },
+    Refused {
+        old: ISSUE,
+        new: "\n                    256",
+        reason: "range",
+    },
+    Refused {
+        old: " 4.000000000000D+00",
+        new: "                  2",
+        reason: "fit",
+    },
 ];
+
+impl Refused {
+    // Whether the record is refused so.
+    fn is_refused(&self, alloc: Global) -> Result<bool, AllocError> {
+        let (prefix, rest) = around(RECORD, self.old);
+        let input = [HEADER, prefix, self.new, rest];
+        let report = ["line 5 ", self.reason, ANYTHING];
+        ends(alloc, FILE_TO_LIST, &input, 0, &[], &report)
+    }
+}
 
 #[test]
 fn refuses_records(rt: HostRuntime) -> Result<(), Fail> {
-    for &(old, new, reason) in &REFUSED {
-        let (prefix, rest) = around(RECORD, old);
-        let input = [HEADER, prefix, new, rest];
-        let report = ["line 5 ", reason, ANYTHING];
-        assert!(rt;
-            ends(rt.alloc(), FILE_TO_LIST, &input, 0, &[], &report)?,
-            "{new}"
-        );
+    for case in &REFUSED {
+        assert!(rt; case.is_refused(rt.alloc())?, "{}", case.new);
     }
     Ok(())
 }
@@ -227,31 +316,11 @@ const FOREIGN: &str = concat!(
     "     9.999000000000e+08\r\n",
 );
 
-#[test]
-fn takes_files_of_other_programs(rt: HostRuntime) -> Result<(), Fail> {
-    let frames = ["{GPS_FRAME}{GALILEO_FRAME}"];
-    let report = "records 4\nrefused 0\npassed 2\nitems 2\n";
-    let is_sent = ends(rt.alloc(), TO_RTCM, &[FOREIGN], 0, &frames, &[report])?;
+// The frames of the file, and their conversion to such a file.
+const FRAMES: &str = "{GPS_FRAME}{GALILEO_FRAME}";
 
-    // The frames give the same file as the file itself.
-    let words = "--from=stream;--to=rinex;--week=2295;--date=20240101 000000 UTC;--leap=18";
-    let is_same = are_converted_alike(rt.alloc(), (FILE_TO_RINEX, FOREIGN), (words, frames[0]))?;
-    assert!(rt; is_sent && is_same);
-    Ok(())
-}
-
-// Whether two runs, of which the second answers 0, write the same.
-fn are_converted_alike(
-    alloc: Global,
-    one: (&str, &str),
-    other: (&str, &str),
-) -> Result<bool, AllocError> {
-    let (words, input) = one;
-    let first = converted(alloc, words, input)?;
-    let (words, input) = other;
-    let second = converted(alloc, words, input)?;
-    Ok(second.status == 0 && first.output.bytes() == second.output.bytes())
-}
+const FRAMES_TO_RINEX: &str =
+    "--from=stream;--to=rinex;--week=2295;--date=20240101 000000 UTC;--leap=18";
 
 // A run over a text.
 fn converted(alloc: Global, words: &str, input: &str) -> Result<Outcome, AllocError> {
@@ -259,68 +328,71 @@ fn converted(alloc: Global, words: &str, input: &str) -> Result<Outcome, AllocEr
     run_over(alloc, words, bytes.as_slice(), &NOTHING_FAILS)
 }
 
-// What stands in the header, what stands in its place, and the status.
-const HEADERS: [(&str, &str, u8); 5] = [
-    ("     4.01", "     4.00", 0),
-    ("     4.01", "     3.05", 5),
-    ("N: GNSS", "O: GNSS", 5),
-    ("END OF HEADER", "END OF HEADERS", 0),
-    ("END OF HEADER", "", 5),
-];
+// Whether the frames give the same file as the file itself.
+fn are_converted_alike(alloc: Global) -> Result<bool, AllocError> {
+    let first = converted(alloc, FILE_TO_RINEX, FOREIGN)?;
+    let second = converted(alloc, FRAMES_TO_RINEX, FRAMES)?;
+    Ok(second.status == 0 && first.output.bytes() == second.output.bytes())
+}
 
 #[test]
-fn judges_the_header(rt: HostRuntime) -> Result<(), Fail> {
-    for &(old, new, status) in &HEADERS {
-        let (prefix, rest) = around(HEADER, old);
-        let input = [prefix, new, rest, RECORD];
-        let said = if status == 0 { ANYTHING } else { "" };
-        let holds = ends(rt.alloc(), FILE_TO_LIST, &input, status, &[said], &[said])?;
-        assert!(rt; holds, "{new}");
-    }
+fn takes_files_of_other_programs(rt: HostRuntime) -> Result<(), Fail> {
+    let report = "records 4\nrefused 0\npassed 2\nitems 2\n";
+    let is_sent = ends(rt.alloc(), TO_RTCM, &[FOREIGN], 0, &[FRAMES], &[report])?;
+    let is_same = are_converted_alike(rt.alloc())?;
+    assert!(rt; is_sent && is_same);
     Ok(())
 }
 
-// What fails in a run over the file of one record, its status, and what it writes and reports.
-const FAULTS: [(Failing<'static>, u8, [&str; 2], &str); 3] = [
-    (
-        Failing {
-            cuts: &[300],
-            reads: &[1],
-            writes: &[],
-            reports: &[],
-        },
-        3,
-        [PREFIX, HEADER],
-        "",
-    ),
-    (
-        Failing {
-            cuts: &[],
-            reads: &[],
-            writes: &[0],
-            reports: &[],
-        },
-        4,
-        ["", ""],
-        ANYTHING,
-    ),
-    (REPORT_FAILS, 7, [HEADER, RECORD], ""),
+// What stands in the header, what stands in its place, and the status.
+struct Headed {
+    old: &'static str,
+    new: &'static str,
+    status: u8,
+}
+
+static HEADERS: [Headed; 5] = [
+    Headed {
+        old: "     4.01",
+        new: "     4.00",
+        status: 0,
+    },
+    Headed {
+        old: "     4.01",
+        new: "     3.05",
+        status: 5,
+    },
+    Headed {
+        old: "N: GNSS",
+        new: "O: GNSS",
+        status: 5,
+    },
+    Headed {
+        old: "END OF HEADER",
+        new: "END OF HEADERS",
+        status: 0,
+    },
+    Headed {
+        old: "END OF HEADER",
+        new: "",
+        status: 5,
+    },
 ];
 
+impl Headed {
+    // Whether a run over the file ends so.
+    fn is_judged(&self, alloc: Global) -> Result<bool, AllocError> {
+        let (prefix, rest) = around(HEADER, self.old);
+        let input = [prefix, self.new, rest, RECORD];
+        let said = if self.status == 0 { ANYTHING } else { "" };
+        ends(alloc, FILE_TO_LIST, &input, self.status, &[said], &[said])
+    }
+}
+
 #[test]
-fn answers_faults_of_a_file(rt: HostRuntime) -> Result<(), Fail> {
-    let file = [HEADER, RECORD];
-    for &(failing, status, output, report) in &FAULTS {
-        let holds = ends_failing(
-            rt.alloc(),
-            FILE_TO_RINEX,
-            &file,
-            &failing,
-            status,
-            &output,
-            &[report],
-        )?;
-        assert!(rt; holds, "{status}");
+fn judges_the_header(rt: HostRuntime) -> Result<(), Fail> {
+    for case in &HEADERS {
+        assert!(rt; case.is_judged(rt.alloc())?, "{}", case.new);
     }
     Ok(())
 }

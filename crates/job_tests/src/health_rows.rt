@@ -25,7 +25,6 @@ const TWO_BEHIND: &str = concat!(
 
 // Two blocks of lines, their list, whether the ionosphere stands first, and the accuracy and the
 // health of the record.
-#[derive(Clone, Copy)]
 struct Taken {
     prefix: &'static str,
     back: &'static str,
@@ -34,7 +33,7 @@ struct Taken {
     health: &'static str,
 }
 
-const TAKEN: [Taken; 3] = [
+static TAKEN: [Taken; 3] = [
     Taken {
         prefix: ONE_BEFORE,
         back: LATER,

@@ -157,6 +157,57 @@ pub(crate) fn ends_failing(
     )
 }
 
+/// A run over a text: the parts of its input, what fails in it, its status, and what it writes and
+/// reports.
+#[derive(Clone, Copy)]
+pub(crate) struct Run {
+    pub(crate) words: &'static str,
+    pub(crate) input: [&'static str; 3],
+    pub(crate) failing: Failing<'static>,
+    pub(crate) status: u8,
+    pub(crate) output: [&'static str; 3],
+    pub(crate) report: [&'static str; 3],
+}
+
+/// A run over nothing, in which nothing fails, whose report is not looked at.
+pub(crate) const RUN: Run = Run {
+    words: "",
+    input: ["", "", ""],
+    failing: NOTHING_FAILS,
+    status: 0,
+    output: ["", "", ""],
+    report: ["", "", ANYTHING],
+};
+
+impl Run {
+    // Whether it ends so.
+    fn ends_so(&self, alloc: Global) -> Result<bool, AllocError> {
+        let Run { words, status, .. } = *self;
+        let failing = &self.failing;
+        ends_failing(
+            alloc,
+            words,
+            &self.input,
+            failing,
+            status,
+            &self.output,
+            &self.report,
+        )
+    }
+}
+
+/// How many of the runs end as they must, up to the first that does not.
+pub(crate) fn runs_that_end_so(alloc: Global, runs: &[Run]) -> Result<usize, AllocError> {
+    let mut count = 0usize;
+    for run in runs {
+        if !run.ends_so(alloc)? {
+            return Ok(count);
+        }
+        count = count.saturating_add(1);
+    }
+    Ok(count)
+}
+
 /// The same where nothing fails.
 pub(crate) fn ends(
     alloc: Global,

@@ -1,7 +1,8 @@
 //! RINEX 3 navigation files, converted over memory.
 
-use crate::over_memory::{ANYTHING, around, ends};
-use crate::samples::{FIRST, GALILEO, GPS, HEADER, OLDER_HEADER, ONE_ITEM, ORBIT_LINE, RECORD};
+use crate::over_memory::{ANYTHING, RUN, Run, around, ends, runs_that_end_so};
+use crate::samples::{FIRST, GALILEO, GPS, HEADER, OLDER_HEADER, ONE_ITEM, ORBIT, RECORD};
+use std::alloc::{AllocError, Global};
 use std::test::Fail;
 
 // The words behind the form, with `;` between them.
@@ -15,71 +16,131 @@ const TO_RTCM: &str = "--from=rinex3;--to=rtcm";
 
 const TO_LIST: &str = "--from=rinex3;--to=list";
 
-#[test]
-fn converts_a_file_to_the_older_form_and_back(rt: HostRuntime) -> Result<(), Fail> {
-    let (_, orbit) = around(RECORD, ORBIT_LINE);
-    let (file, older) = ([HEADER, RECORD], [OLDER_HEADER, orbit]);
-    let cases = [
-        (TO_RINEX3, file, older),
-        (BACK_TO_RINEX, older, file),
-        (AGAIN, older, older),
-        (TO_RTCM, older, ["{GPS_FRAME}", ""]),
-        (TO_LIST, older, ["5 EPH G05 0 2295 0\n", ""]),
-    ];
-    for (words, input, want) in cases {
-        let holds = ends(rt.alloc(), words, &input, 0, &want, &[ONE_ITEM])?;
-        assert!(rt; holds, "{words}");
-    }
-    Ok(())
-}
+const CAPTURE_TO_RINEX3: &str =
+    "--from=capture;--to=rinex3;--week=2295;--date=20240101 000000 UTC;--leap=18";
 
-#[test]
-fn converts_a_capture_to_the_older_form(rt: HostRuntime) -> Result<(), Fail> {
-    let words = "--from=capture;--to=rinex3;--week=2295;--date=20240101 000000 UTC;--leap=18";
-    let own_week = "--from=capture;--to=rinex3;--date=20240101 000000 UTC;--leap=18";
-    let (_, orbit) = around(RECORD, ORBIT_LINE);
-    let file = [OLDER_HEADER, orbit];
-    let cases = [
-        (words, [FIRST, GPS], file, 0),
-        (own_week, ["NAVCAP 2 2295 60\n", GPS], file, 0),
-        (own_week, [FIRST, GPS], ["", ""], 5),
-        (
-            words,
-            [FIRST, "18 L G05 {PAGE_18}\n"],
-            [OLDER_HEADER, ""],
-            0,
-        ),
-    ];
-    for (words, input, want, status) in cases {
-        let holds = ends(rt.alloc(), words, &input, status, &want, &[ANYTHING])?;
-        assert!(rt; holds, "{words} {status}");
-    }
-    Ok(())
-}
+const OWN_WEEK_TO_RINEX3: &str = "--from=capture;--to=rinex3;--date=20240101 000000 UTC;--leap=18";
 
-// Versions, and the status of a run over a file of each.
-const VERSIONS: [(&str, u8); 5] = [
-    ("4.01", 5),
-    ("3.01", 5),
-    ("3.02", 0),
-    ("3.04", 0),
-    ("3.05", 0),
+// Files and captures, converted to the older form, and back.
+static CONVERTED: [Run; 9] = [
+    Run {
+        words: TO_RINEX3,
+        input: [HEADER, RECORD, ""],
+        output: [OLDER_HEADER, ORBIT, ""],
+        report: [ONE_ITEM, "", ""],
+        ..RUN
+    },
+    Run {
+        words: BACK_TO_RINEX,
+        input: [OLDER_HEADER, ORBIT, ""],
+        output: [HEADER, RECORD, ""],
+        report: [ONE_ITEM, "", ""],
+        ..RUN
+    },
+    Run {
+        words: AGAIN,
+        input: [OLDER_HEADER, ORBIT, ""],
+        output: [OLDER_HEADER, ORBIT, ""],
+        report: [ONE_ITEM, "", ""],
+        ..RUN
+    },
+    Run {
+        words: TO_RTCM,
+        input: [OLDER_HEADER, ORBIT, ""],
+        output: ["{GPS_FRAME}", "", ""],
+        report: [ONE_ITEM, "", ""],
+        ..RUN
+    },
+    Run {
+        words: TO_LIST,
+        input: [OLDER_HEADER, ORBIT, ""],
+        output: ["5 EPH G05 0 2295 0\n", "", ""],
+        report: [ONE_ITEM, "", ""],
+        ..RUN
+    },
+    // captures
+    Run {
+        words: CAPTURE_TO_RINEX3,
+        input: [FIRST, GPS, ""],
+        output: [OLDER_HEADER, ORBIT, ""],
+        ..RUN
+    },
+    Run {
+        words: OWN_WEEK_TO_RINEX3,
+        input: ["NAVCAP 2 2295 60\n", GPS, ""],
+        output: [OLDER_HEADER, ORBIT, ""],
+        ..RUN
+    },
+    Run {
+        words: OWN_WEEK_TO_RINEX3,
+        input: [FIRST, GPS, ""],
+        status: 5,
+        ..RUN
+    },
+    Run {
+        words: CAPTURE_TO_RINEX3,
+        input: [FIRST, "18 L G05 {PAGE_18}\n", ""],
+        output: [OLDER_HEADER, "", ""],
+        ..RUN
+    },
 ];
 
 #[test]
-fn takes_versions_of_its_form_alone(rt: HostRuntime) -> Result<(), Fail> {
-    let (prefix, rest) = around(HEADER, "4.01");
-    for &(version, status) in &VERSIONS {
-        let input = [prefix, version, rest, RECORD];
-        let holds = ends(
-            rt.alloc(),
+fn converts_to_the_older_form_and_back(rt: HostRuntime) -> Result<(), Fail> {
+    let count = runs_that_end_so(rt.alloc(), &CONVERTED)?;
+    assert!(rt; count == CONVERTED.len(), "{count}");
+    Ok(())
+}
+
+// A version, and the status of a run over a file of it.
+struct Version {
+    text: &'static str,
+    status: u8,
+}
+
+static VERSIONS: [Version; 5] = [
+    Version {
+        text: "4.01",
+        status: 5,
+    },
+    Version {
+        text: "3.01",
+        status: 5,
+    },
+    Version {
+        text: "3.02",
+        status: 0,
+    },
+    Version {
+        text: "3.04",
+        status: 0,
+    },
+    Version {
+        text: "3.05",
+        status: 0,
+    },
+];
+
+impl Version {
+    // Whether a run over a file of the version has the status.
+    fn is_taken(&self, alloc: Global) -> Result<bool, AllocError> {
+        let (prefix, rest) = around(HEADER, "4.01");
+        let input = [prefix, self.text, rest, RECORD];
+        ends(
+            alloc,
             TO_LIST,
             &input,
-            status,
+            self.status,
             &[ANYTHING],
             &[ANYTHING],
-        )?;
-        assert!(rt; holds, "{version}");
+        )
+    }
+}
+
+#[test]
+fn takes_versions_of_its_form_alone(rt: HostRuntime) -> Result<(), Fail> {
+    for version in &VERSIONS {
+        assert!(rt; version.is_taken(rt.alloc())?, "{}", version.text);
     }
     Ok(())
 }

@@ -79,5 +79,17 @@ pub(crate) const GALILEO: &str = concat!(
 /// The first line of the record of the ephemeris of GPS, which the older form doesn't have.
 pub(crate) const ORBIT_LINE: &str = "> EPH G05 LNAV\n";
 
+/// The other lines of that record.
+pub(crate) const ORBIT: &str = concat!(
+    "G05 2023 12 31 00 00 00 0.000000000000D+00 0.000000000000D+00 0.000000000000D+00\n",
+    "     0.000000000000D+00 0.000000000000D+00 0.000000000000D+00 0.000000000000D+00\n",
+    "     0.000000000000D+00 0.000000000000D+00 0.000000000000D+00 0.000000000000D+00\n",
+    "     0.000000000000D+00 0.000000000000D+00 0.000000000000D+00 0.000000000000D+00\n",
+    "     0.000000000000D+00 0.000000000000D+00 0.000000000000D+00 0.000000000000D+00\n",
+    "     0.000000000000D+00 0.000000000000D+00 2.295000000000D+03 0.000000000000D+00\n",
+    "     2.000000000000D+00 0.000000000000D+00 0.000000000000D+00 0.000000000000D+00\n",
+    "     0.000000000000D+00 4.000000000000D+00\n",
+);
+
 /// The report of one record that is an item.
 pub(crate) const ONE_ITEM: &str = "records 1\nrefused 0\npassed 0\nitems 1\n";

@@ -1,6 +1,6 @@
 //! Captures that are made, and their counts, over memory.
 
-use crate::over_memory::{ANYTHING, Failing, NOTHING_FAILS, ends_failing, run_over};
+use crate::over_memory::{ANYTHING, Failing, NOTHING_FAILS, RUN, Run, run_over, runs_that_end_so};
 use std::alloc::{AllocError, Global};
 use std::test::Fail;
 
@@ -57,28 +57,36 @@ fn writes_a_capture_that_counts_the_same(rt: HostRuntime) -> Result<(), Fail> {
     Ok(())
 }
 
+// What fails in a run.
+static FAULTS: [Run; 2] = [
+    // A read that would fail is not made.
+    Run {
+        words: ONE_TO_COUNT,
+        failing: Failing {
+            reads: &[0],
+            reports: &[0],
+            ..NOTHING_FAILS
+        },
+        status: 7,
+        output: ["", "", ANYTHING],
+        report: ["", "", ""],
+        ..RUN
+    },
+    Run {
+        words: TO_CAPTURE,
+        failing: Failing {
+            writes: &[0],
+            ..NOTHING_FAILS
+        },
+        status: 4,
+        report: ["", "", ""],
+        ..RUN
+    },
+];
+
 #[test]
 fn answers_faults_of_a_seed(rt: HostRuntime) -> Result<(), Fail> {
-    // A read that would fail is not made.
-    let report_fails = Failing {
-        cuts: &[],
-        reads: &[0],
-        writes: &[],
-        reports: &[0],
-    };
-    let write_fails = Failing {
-        cuts: &[],
-        reads: &[],
-        writes: &[0],
-        reports: &[],
-    };
-    let cases = [
-        (ONE_TO_COUNT, report_fails, 7, ANYTHING),
-        (TO_CAPTURE, write_fails, 4, ""),
-    ];
-    for (words, failing, status, output) in cases {
-        let holds = ends_failing(rt.alloc(), words, &[], &failing, status, &[output], &[])?;
-        assert!(rt; holds, "{words}");
-    }
+    let count = runs_that_end_so(rt.alloc(), &FAULTS)?;
+    assert!(rt; count == FAULTS.len(), "{count}");
     Ok(())
 }

@@ -1,8 +1,8 @@
 //! Navigation files that are sent as captures, over memory, and the captures that come back.
 
-use crate::over_memory::{ANYTHING, around, ends};
+use crate::over_memory::{ANYTHING, RUN, Run, around, ends, runs_that_end_so};
 use crate::samples::{
-    FIRST, GALILEO, GPS, HEADER, OLDER_HEADER, ONE_ITEM, ORBIT_LINE, RECORD, TO_LIST, TO_RINEX,
+    FIRST, GALILEO, GPS, HEADER, OLDER_HEADER, ONE_ITEM, ORBIT, RECORD, TO_LIST, TO_RINEX,
 };
 use std::alloc::{AllocError, Global};
 use std::test::Fail;
@@ -15,7 +15,7 @@ const SEND_3000: &str = "--from=rinex;--to=capture;--week=3000";
 const SEND_OLDER: &str = "--from=rinex3;--to=capture;--week=2295";
 
 // The lines of the ephemeris of Galileo: the five words, of which word 5 says the second of toe.
-const LINES: [&str; 10] = [
+static LINES: [&str; 10] = [
     "0 P E11 B {EVEN_1}\n",
     "1 P E11 B {ODD_1}\n",
     "2 P E11 B {EVEN_2}\n",
@@ -31,21 +31,47 @@ const LINES: [&str; 10] = [
 // What is reported of a file with an ephemeris and an ionosphere that are sent.
 const TWO_ITEMS: &str = "records 2\nrefused 0\npassed 0\nitems 2\n";
 
+// Files of one ephemeris of GPS, and of none.
+static SENT: [Run; 4] = [
+    Run {
+        words: SEND,
+        input: [HEADER, RECORD, ""],
+        output: [FIRST, GPS, ""],
+        report: [ONE_ITEM, "", ""],
+        ..RUN
+    },
+    Run {
+        words: SEND_OLDER,
+        input: [OLDER_HEADER, ORBIT, ""],
+        output: [FIRST, GPS, ""],
+        report: [ONE_ITEM, "", ""],
+        ..RUN
+    },
+    // no header
+    Run {
+        words: SEND,
+        input: ["no header\n", "", ""],
+        status: 5,
+        report: ["", "", ""],
+        ..RUN
+    },
+    Run {
+        words: SEND_OLDER,
+        input: ["no header\n", "", ""],
+        status: 5,
+        report: ["", "", ""],
+        ..RUN
+    },
+];
+
 #[test]
 fn sends_an_ephemeris_of_gps(rt: HostRuntime) -> Result<(), Fail> {
-    let (_, orbit) = around(RECORD, ORBIT_LINE);
-    for (words, input) in [
-        (SEND, [HEADER, RECORD]),
-        (SEND_OLDER, [OLDER_HEADER, orbit]),
-    ] {
-        let holds = ends(rt.alloc(), words, &input, 0, &[FIRST, GPS], &[ONE_ITEM])?;
-        assert!(rt; holds, "{words}");
-    }
+    let count = runs_that_end_so(rt.alloc(), &SENT)?;
+    assert!(rt; count == SENT.len(), "{count}");
     Ok(())
 }
 
 // A file of one record in which some words stand in place of others, and what is reported of it.
-#[derive(Clone, Copy)]
 struct Withheld {
     words: &'static str,
     old: &'static str,
@@ -53,7 +79,7 @@ struct Withheld {
     report: &'static str,
 }
 
-const WITHHELD: [Withheld; 3] = [
+static WITHHELD: [Withheld; 3] = [
     Withheld {
         words: SEND,
         old: "     2.000000000000D+00 0.000000000000D+00 0.000000000000D+00 0.000000000000D+00\n",
@@ -74,20 +100,26 @@ const WITHHELD: [Withheld; 3] = [
     },
 ];
 
+impl Withheld {
+    // Whether the file is reported so, and nothing is sent of it.
+    fn is_withheld(&self, alloc: Global) -> Result<bool, AllocError> {
+        let (prefix, rest) = around(RECORD, self.old);
+        let input = [HEADER, prefix, self.new, rest];
+        ends(alloc, self.words, &input, 0, &[FIRST], &[self.report])
+    }
+}
+
 #[test]
 fn says_why_an_ephemeris_is_not_sent(rt: HostRuntime) -> Result<(), Fail> {
     for case in &WITHHELD {
-        let (prefix, rest) = around(RECORD, case.old);
-        let input = [HEADER, prefix, case.new, rest];
-        let holds = ends(rt.alloc(), case.words, &input, 0, &[FIRST], &[case.report])?;
-        assert!(rt; holds, "{}", case.report);
+        assert!(rt; case.is_withheld(rt.alloc())?, "{}", case.report);
     }
     Ok(())
 }
 
 // The lines of Galileo in three orders, each line at least once: backwards and again backwards, and
 // by the digits of two numbers.
-const ORDERS: [&[u8]; 3] = [
+static ORDERS: [&[u8]; 3] = [
     b"98765432109876543210",
     b"314159265358979323846264338327950",
     b"271828182845904523536",
@@ -117,30 +149,23 @@ fn comes_back(alloc: Global, order: &[u8]) -> Result<bool, AllocError> {
     ends(alloc, TO_RINEX, &input, 0, &back, &[ANYTHING])
 }
 
-#[test]
-fn comes_back_in_any_order(rt: HostRuntime) -> Result<(), Fail> {
+// Whether the file is sent as these lines, and they list so.
+fn is_sent(alloc: Global) -> Result<bool, AllocError> {
     let mut sent = [FIRST; 11];
     for (line, known) in sent[1..].iter_mut().zip(LINES) {
         *line = known;
     }
     let list = ["7 EPH E11 5 whole\n9 ION E 00000000000 whole\n"];
-    let is_sent = ends(rt.alloc(), SEND, &[HEADER, GALILEO], 0, &sent, &[TWO_ITEMS])?;
-    let is_listed = ends(rt.alloc(), TO_LIST, &sent, 0, &list, &[ANYTHING])?;
-    let mut is_back = true;
-    for order in &ORDERS {
-        is_back &= comes_back(rt.alloc(), order)?;
-    }
-    assert!(rt; is_sent && is_listed && is_back);
-    Ok(())
+    let is_sent = ends(alloc, SEND, &[HEADER, GALILEO], 0, &sent, &[TWO_ITEMS])?;
+    Ok(is_sent && ends(alloc, TO_LIST, &sent, 0, &list, &[ANYTHING])?)
 }
 
 #[test]
-fn answers_faults_of_a_file_that_is_sent(rt: HostRuntime) -> Result<(), Fail> {
-    for words in [SEND, SEND_OLDER] {
-        assert!(rt;
-            ends(rt.alloc(), words, &["no header\n"], 5, &[], &[])?,
-            "{words}"
-        );
+fn comes_back_in_any_order(rt: HostRuntime) -> Result<(), Fail> {
+    let mut holds = is_sent(rt.alloc())?;
+    for order in &ORDERS {
+        holds = holds && comes_back(rt.alloc(), order)?;
     }
+    assert!(rt; holds);
     Ok(())
 }

@@ -1,6 +1,8 @@
 //! Streams of RTCM frames, converted over memory.
 
-use crate::over_memory::{ANYTHING, Failing, PREFIX, REPORT_FAILS, ends, ends_failing};
+use crate::over_memory::{
+    Failing, NOTHING_FAILS, PREFIX, REPORT_FAILS, RUN, Run, runs_that_end_so,
+};
 use crate::samples::{HEADER, OLDER_HEADER, ORBIT_LINE};
 use std::test::Fail;
 
@@ -24,132 +26,135 @@ const ORBIT: &str = concat!(
     "     9.999000000000D+08 4.000000000000D+00\n",
 );
 
-// A stream, the record and the frame that its conversions have, and their report.
-#[derive(Clone, Copy)]
-struct Reported {
-    frames: &'static str,
-    record: [&'static str; 2],
-    frame: &'static str,
-    report: &'static str,
-}
-
-const REPORTED: [Reported; 4] = [
-    Reported {
-        frames: "{GPS_FRAME}{GPS_FRAME}{GPS_FRAME}",
-        record: [ORBIT_LINE, ORBIT],
-        frame: "{GPS_FRAME}",
-        report: "frames 3\nrefused 0\nunused 0\nitems 1\n",
+// Streams, and what their conversions write: each ephemeris once.
+static CONVERTED: [Run; 9] = [
+    Run {
+        words: TO_RINEX,
+        input: ["{GPS_FRAME}{GPS_FRAME}{GPS_FRAME}", "", ""],
+        output: [HEADER, ORBIT_LINE, ORBIT],
+        report: ["frames 3\nrefused 0\nunused 0\nitems 1\n", "", ""],
+        ..RUN
     },
-    Reported {
-        frames: "{SHORT_FRAME}",
-        record: ["", ""],
-        frame: "",
-        report: "frame 1 short\nframes 1\nrefused 1\nunused 0\nitems 0\n",
+    Run {
+        words: TO_RTCM,
+        input: ["{GPS_FRAME}{GPS_FRAME}{GPS_FRAME}", "", ""],
+        output: ["{GPS_FRAME}", "", ""],
+        report: ["frames 3\nrefused 0\nunused 0\nitems 1\n", "", ""],
+        ..RUN
     },
-    Reported {
-        frames: "{EMPTY_FRAME}",
-        record: ["", ""],
-        frame: "",
-        report: "frames 1\nrefused 0\nunused 1\nitems 0\n",
+    Run {
+        words: TO_RINEX,
+        input: ["{SHORT_FRAME}", "", ""],
+        output: [HEADER, "", ""],
+        report: [
+            "frame 1 short\nframes 1\nrefused 1\nunused 0\nitems 0\n",
+            "",
+            "",
+        ],
+        ..RUN
     },
-    Reported {
-        frames: "{NOISE}{SHORT_FRAME}{GPS_FRAME}",
-        record: [ORBIT_LINE, ORBIT],
-        frame: "{GPS_FRAME}",
-        report: "frame 1 short\nframes 2\nrefused 1\nunused 0\nitems 1\n",
+    Run {
+        words: TO_RTCM,
+        input: ["{SHORT_FRAME}", "", ""],
+        output: ["", "", ""],
+        report: [
+            "frame 1 short\nframes 1\nrefused 1\nunused 0\nitems 0\n",
+            "",
+            "",
+        ],
+        ..RUN
+    },
+    Run {
+        words: TO_RINEX,
+        input: ["{EMPTY_FRAME}", "", ""],
+        output: [HEADER, "", ""],
+        report: ["frames 1\nrefused 0\nunused 1\nitems 0\n", "", ""],
+        ..RUN
+    },
+    Run {
+        words: TO_RTCM,
+        input: ["{EMPTY_FRAME}", "", ""],
+        output: ["", "", ""],
+        report: ["frames 1\nrefused 0\nunused 1\nitems 0\n", "", ""],
+        ..RUN
+    },
+    Run {
+        words: TO_RINEX,
+        input: ["{NOISE}{SHORT_FRAME}{GPS_FRAME}", "", ""],
+        output: [HEADER, ORBIT_LINE, ORBIT],
+        report: [
+            "frame 1 short\nframes 2\nrefused 1\nunused 0\nitems 1\n",
+            "",
+            "",
+        ],
+        ..RUN
+    },
+    Run {
+        words: TO_RTCM,
+        input: ["{NOISE}{SHORT_FRAME}{GPS_FRAME}", "", ""],
+        output: ["{GPS_FRAME}", "", ""],
+        report: [
+            "frame 1 short\nframes 2\nrefused 1\nunused 0\nitems 1\n",
+            "",
+            "",
+        ],
+        ..RUN
+    },
+    Run {
+        words: TO_RINEX3,
+        input: ["{GPS_FRAME}", "", ""],
+        output: [OLDER_HEADER, ORBIT, ""],
+        report: ["frames 1\nrefused 0\nunused 0\nitems 1\n", "", ""],
+        ..RUN
     },
 ];
 
 #[test]
 fn converts_a_stream_once_for_each_ephemeris(rt: HostRuntime) -> Result<(), Fail> {
-    for case in &REPORTED {
-        let [first, orbit] = case.record;
-        for (words, want) in [
-            (TO_RINEX, [HEADER, first, orbit]),
-            (TO_RTCM, [case.frame, "", ""]),
-        ] {
-            let input = [case.frames];
-            let holds = ends(rt.alloc(), words, &input, 0, &want, &[case.report])?;
-            assert!(rt; holds, "{words} {}", case.frames);
-        }
-    }
+    let count = runs_that_end_so(rt.alloc(), &CONVERTED)?;
+    assert!(rt; count == CONVERTED.len(), "{count}");
     Ok(())
 }
 
-#[test]
-fn converts_a_stream_to_the_older_form(rt: HostRuntime) -> Result<(), Fail> {
-    let want = [OLDER_HEADER, ORBIT];
-    let report = ["frames 1\nrefused 0\nunused 0\nitems 1\n"];
-    assert!(rt; ends(rt.alloc(), TO_RINEX3, &["{GPS_FRAME}"], 0, &want, &report)?);
-    Ok(())
-}
-
-// What fails in a run over two frames, its words and its status, and what it writes and reports.
-#[derive(Clone, Copy)]
-struct Fault {
-    failing: Failing<'static>,
-    words: &'static str,
-    status: u8,
-    output: [&'static str; 2],
-    report: &'static str,
-}
-
-const FAULTS: [Fault; 3] = [
-    Fault {
+// What fails in a run over two frames.
+static FAULTS: [Run; 3] = [
+    Run {
+        words: TO_RINEX,
+        input: ["{GPS_FRAME}{SHORT_FRAME}", "", ""],
         failing: Failing {
-            cuts: &[],
             reads: &[0],
-            writes: &[],
-            reports: &[],
+            ..NOTHING_FAILS
         },
-        words: TO_RINEX,
         status: 3,
-        output: [PREFIX, HEADER],
-        report: "",
+        output: [PREFIX, HEADER, ""],
+        report: ["", "", ""],
+        ..RUN
     },
-    Fault {
-        failing: Failing {
-            cuts: &[],
-            reads: &[],
-            writes: &[1],
-            reports: &[],
-        },
+    Run {
         words: TO_RINEX,
+        input: ["{GPS_FRAME}{SHORT_FRAME}", "", ""],
+        failing: Failing {
+            writes: &[1],
+            ..NOTHING_FAILS
+        },
         status: 4,
-        output: [HEADER, ""],
-        report: ANYTHING,
+        output: [HEADER, "", ""],
+        ..RUN
     },
-    Fault {
-        failing: REPORT_FAILS,
+    Run {
         words: TO_RTCM,
+        input: ["{GPS_FRAME}{SHORT_FRAME}", "", ""],
+        failing: REPORT_FAILS,
         status: 7,
-        output: ["{GPS_FRAME}", ""],
-        report: "",
+        output: ["{GPS_FRAME}", "", ""],
+        report: ["", "", ""],
+        ..RUN
     },
 ];
 
 #[test]
 fn answers_faults_of_a_stream(rt: HostRuntime) -> Result<(), Fail> {
-    for case in &FAULTS {
-        let Fault {
-            failing,
-            words,
-            status,
-            output,
-            report,
-        } = *case;
-        let input = ["{GPS_FRAME}{SHORT_FRAME}"];
-        let report = [report];
-        let holds = ends_failing(
-            rt.alloc(),
-            words,
-            &input,
-            &failing,
-            status,
-            &output,
-            &report,
-        )?;
-        assert!(rt; holds, "{status}");
-    }
+    let count = runs_that_end_so(rt.alloc(), &FAULTS)?;
+    assert!(rt; count == FAULTS.len(), "{count}");
     Ok(())
 }

@@ -1,156 +1,211 @@
 //! Whole jobs over memory: what they write, and their statuses.
 
-use crate::over_memory::{ANYTHING, Failing, NOTHING_FAILS, ends, ends_failing};
+use crate::over_memory::{ANYTHING, Failing, NOTHING_FAILS, RUN, Run, ends, runs_that_end_so};
 use nav_io::{MemSink, MemSource};
 use one_run::BridgeFault;
+use std::alloc::{AllocError, Global};
 use std::test::Fail;
 use streams::{FrameCounts, run_frames};
 
 const FRAMES: &str = "--from=stream;--to=frames";
 
 // Reads of one byte.
-const BYTES: &[u32] = &[1, 1, 1, 1, 1, 1, 1, 1, 1, 1, 1, 1];
-
 const IN_BYTES: Failing<'static> = Failing {
-    cuts: BYTES,
-    reads: &[],
-    writes: &[],
-    reports: &[],
+    cuts: &[1, 1, 1, 1, 1, 1, 1, 1, 1, 1, 1, 1],
+    ..NOTHING_FAILS
 };
 
 // Bytes, and the lines of their frames.
-const FRAMED: [(&str, &str); 4] = [
-    ("{EMPTY_FRAME}", "- 0\n"),
-    ("{START}{EMPTY_FRAME}", "- 0\n"),
-    ("{CUT_FRAME}", ""),
-    ("", ""),
+static FRAMED: [Run; 11] = [
+    Run {
+        words: FRAMES,
+        input: ["{EMPTY_FRAME}", "", ""],
+        output: ["- 0\n", "", ""],
+        report: ["", "", ""],
+        ..RUN
+    },
+    Run {
+        words: FRAMES,
+        input: ["{EMPTY_FRAME}", "", ""],
+        failing: IN_BYTES,
+        output: ["- 0\n", "", ""],
+        report: ["", "", ""],
+        ..RUN
+    },
+    Run {
+        words: FRAMES,
+        input: ["{START}{EMPTY_FRAME}", "", ""],
+        output: ["- 0\n", "", ""],
+        report: ["", "", ""],
+        ..RUN
+    },
+    Run {
+        words: FRAMES,
+        input: ["{START}{EMPTY_FRAME}", "", ""],
+        failing: IN_BYTES,
+        output: ["- 0\n", "", ""],
+        report: ["", "", ""],
+        ..RUN
+    },
+    Run {
+        words: FRAMES,
+        input: ["{CUT_FRAME}", "", ""],
+        output: ["", "", ""],
+        report: ["", "", ""],
+        ..RUN
+    },
+    Run {
+        words: FRAMES,
+        input: ["{CUT_FRAME}", "", ""],
+        failing: IN_BYTES,
+        output: ["", "", ""],
+        report: ["", "", ""],
+        ..RUN
+    },
+    Run {
+        words: FRAMES,
+        input: ["", "", ""],
+        output: ["", "", ""],
+        report: ["", "", ""],
+        ..RUN
+    },
+    Run {
+        words: FRAMES,
+        input: ["", "", ""],
+        failing: IN_BYTES,
+        output: ["", "", ""],
+        report: ["", "", ""],
+        ..RUN
+    },
+    // a read, and a write of a line, that fail
+    Run {
+        words: FRAMES,
+        input: ["{EMPTY_FRAME}{EMPTY_FRAME}", "", ""],
+        failing: Failing {
+            reads: &[8],
+            ..IN_BYTES
+        },
+        status: 3,
+        output: ["- 0\n", "", ""],
+        report: ["", "", ""],
+        ..RUN
+    },
+    Run {
+        words: FRAMES,
+        input: ["{EMPTY_FRAME}{EMPTY_FRAME}", "", ""],
+        failing: Failing {
+            writes: &[1],
+            ..IN_BYTES
+        },
+        status: 4,
+        output: ["- 0\n", "", ""],
+        report: ["", "", ""],
+        ..RUN
+    },
+    // The lines of one piece are one write.
+    Run {
+        words: FRAMES,
+        input: ["{EMPTY_FRAME}{EMPTY_FRAME}", "", ""],
+        failing: Failing {
+            writes: &[1],
+            ..NOTHING_FAILS
+        },
+        output: ["- 0\n- 0\n", "", ""],
+        report: ["", "", ""],
+        ..RUN
+    },
 ];
 
 #[test]
 fn writes_a_line_for_each_frame(rt: HostRuntime) -> Result<(), Fail> {
-    for &(input, want) in &FRAMED {
-        for failing in [&NOTHING_FAILS, &IN_BYTES] {
-            let holds = ends_failing(rt.alloc(), FRAMES, &[input], failing, 0, &[want], &[])?;
-            assert!(rt; holds, "{input}");
-        }
-    }
+    let count = runs_that_end_so(rt.alloc(), &FRAMED)?;
+    assert!(rt; count == FRAMED.len(), "{count}");
     Ok(())
 }
 
-// What fails in a run over two frames, its status, and what it writes.
-const FAULTS: [(Failing<'static>, u8, &str); 3] = [
-    (
-        Failing {
-            cuts: BYTES,
-            reads: &[8],
-            writes: &[],
-            reports: &[],
-        },
-        3,
-        "- 0\n",
-    ),
-    (
-        Failing {
-            cuts: BYTES,
-            reads: &[],
-            writes: &[1],
-            reports: &[],
-        },
-        4,
-        "- 0\n",
-    ),
-    // The lines of one piece are one write.
-    (
-        Failing {
-            cuts: &[],
-            reads: &[],
-            writes: &[1],
-            reports: &[],
-        },
-        0,
-        "- 0\n- 0\n",
-    ),
+// Words, with `;` between them, that are refused.
+static REFUSED: [&str; 42] = [
+    "",
+    "--from;stream",
+    "--from;stream;--to;frames;--week;2295",
+    "--from;stream;--from;stream;--to;frames",
+    "--from;capture;--to;list;--week;1023",
+    "--from;stream;--to;frames;--",
+    "--from;stream;--to;-frames",
+    "--help",
+    "-h",
+    "--version",
+    "--from;capture;--to;list;--week;00000002295",
+    "--from;capture;--to;list;--week;4294969591",
+    "--from;capture;--to;list;--week=",
+    "--from;capture;--to;list;--week",
+    "--from;stream;--from;capture;--to;list",
+    "--from;capture;--to;list;--leap;18",
+    "--from;stream;--to;rtcm",
+    "--from;stream;--to;list;--week;2295",
+    "--from;stream;--to;rinex;--week;2295;--leap;18",
+    "--from;rinex;--to;rtcm;--week;2295",
+    "--from;rinex;--to;rinex;--leap;18",
+    "--from;rinex;--to;list;--leap;18",
+    "--from;rinex;--to;count",
+    "--from;rinex3;--to;rinex",
+    "--from;rinex2;--to;list",
+    "--from;rinex;--to;capture",
+    "--from;rinex;--to;capture;--week;2295;--leap;18",
+    "--from;rinex3;--to;capture;--week;1023",
+    "--from;capture;--to;rinex3;--leap;18",
+    "--from;capture;--to;capture;--week;2295",
+    "--from;seed;--to;capture;--seed;7;--sats;1",
+    "--from;rinex;--to;cover;--leap;18",
+    "--from;rinex;--to;cover;--week;2295",
+    "--from;rinex3;--to;cover",
+    "--from;rinex;--to;merged",
+    "--from;seed;--to;capture;--seed;7;--week;2295",
+    "--from;seed;--to;list;--seed;7;--sats;1;--week;2295",
+    "--from;seed;--to;count;--seed;7;--sats;0;--week;2295",
+    "--from;capture;--to;count;--seed;7",
+    "--from;rinex;--to;list;--sats;1",
+    "--from;seed;--to;capture;--seed;7;--sats;33;--week;2295",
+    "--from;seed;--to;capture;--seed;4294967296;--sats;1;--week;2295",
 ];
 
-#[test]
-fn answers_faults_in_mid_stream(rt: HostRuntime) -> Result<(), Fail> {
-    let two = "{EMPTY_FRAME}{EMPTY_FRAME}";
-    for &(failing, status, want) in &FAULTS {
-        let holds = ends_failing(rt.alloc(), FRAMES, &[two], &failing, status, &[want], &[])?;
-        assert!(rt; holds, "{status}");
+// Words of jobs that take no bytes for a whole input.
+static TAKEN: [&str; 3] = [
+    "--from=stream;--to=frames",
+    "--to;frames;--from=stream",
+    "--from;stream;--to;rtcm;--week;2295",
+];
+
+// Words of jobs that do not.
+static NOT_TAKEN: [&str; 11] = [
+    "--from;capture;--to;list",
+    "--week=2295;--to;list;--from;capture",
+    "--to=rtcm;--from;capture;--week;2295",
+    "--from=capture;--to;count;--week=0000002295",
+    "--from;rinex;--to;list",
+    "--to;rtcm;--from=rinex",
+    "--from;rinex3;--to;rtcm",
+    "--from=rinex3;--to=list",
+    "--from;rinex;--to;capture;--week;2295",
+    "--to=capture;--week=2295;--from;rinex3",
+    "--from;rinex;--to;cover",
+];
+
+// Whether a run by each of these words over no bytes answers this status.
+fn are_judged(alloc: Global, words: &[&str], status: u8) -> Result<bool, AllocError> {
+    let mut holds = true;
+    for these in words {
+        holds = holds && ends(alloc, these, &[], status, &[ANYTHING], &[ANYTHING])?;
     }
-    Ok(())
+    Ok(holds)
 }
-
-// Words, with `;` between them, and the status of a run over no bytes.
-const JUDGED: [(&str, u8); 56] = [
-    ("", 2),
-    ("--from;stream", 2),
-    ("--from=stream;--to=frames", 0),
-    ("--to;frames;--from=stream", 0),
-    ("--from;stream;--to;frames;--week;2295", 2),
-    ("--from;stream;--from;stream;--to;frames", 2),
-    ("--from;capture;--to;list;--week;1023", 2),
-    ("--from;stream;--to;frames;--", 2),
-    ("--from;stream;--to;-frames", 2),
-    ("--help", 2),
-    ("-h", 2),
-    ("--version", 2),
-    ("--from;capture;--to;list", 5),
-    ("--week=2295;--to;list;--from;capture", 5),
-    ("--to=rtcm;--from;capture;--week;2295", 5),
-    ("--from=capture;--to;count;--week=0000002295", 5),
-    ("--from;capture;--to;list;--week;00000002295", 2),
-    ("--from;capture;--to;list;--week;4294969591", 2),
-    ("--from;capture;--to;list;--week=", 2),
-    ("--from;capture;--to;list;--week", 2),
-    ("--from;stream;--from;capture;--to;list", 2),
-    ("--from;capture;--to;list;--leap;18", 2),
-    ("--from;stream;--to;rtcm;--week;2295", 0),
-    ("--from;stream;--to;rtcm", 2),
-    ("--from;stream;--to;list;--week;2295", 2),
-    ("--from;stream;--to;rinex;--week;2295;--leap;18", 2),
-    ("--from;rinex;--to;list", 5),
-    ("--to;rtcm;--from=rinex", 5),
-    ("--from;rinex;--to;rtcm;--week;2295", 2),
-    ("--from;rinex;--to;rinex;--leap;18", 2),
-    ("--from;rinex;--to;list;--leap;18", 2),
-    ("--from;rinex;--to;count", 2),
-    ("--from;rinex3;--to;rtcm", 5),
-    ("--from=rinex3;--to=list", 5),
-    ("--from;rinex3;--to;rinex", 2),
-    ("--from;rinex2;--to;list", 2),
-    ("--from;rinex;--to;capture;--week;2295", 5),
-    ("--to=capture;--week=2295;--from;rinex3", 5),
-    ("--from;rinex;--to;capture", 2),
-    ("--from;rinex;--to;capture;--week;2295;--leap;18", 2),
-    ("--from;rinex3;--to;capture;--week;1023", 2),
-    ("--from;capture;--to;rinex3;--leap;18", 2),
-    ("--from;capture;--to;capture;--week;2295", 2),
-    ("--from;seed;--to;capture;--seed;7;--sats;1", 2),
-    ("--from;rinex;--to;cover", 5),
-    ("--from;rinex;--to;cover;--leap;18", 2),
-    ("--from;rinex;--to;cover;--week;2295", 2),
-    ("--from;rinex3;--to;cover", 2),
-    ("--from;rinex;--to;merged", 2),
-    ("--from;seed;--to;capture;--seed;7;--week;2295", 2),
-    ("--from;seed;--to;list;--seed;7;--sats;1;--week;2295", 2),
-    ("--from;seed;--to;count;--seed;7;--sats;0;--week;2295", 2),
-    ("--from;capture;--to;count;--seed;7", 2),
-    ("--from;rinex;--to;list;--sats;1", 2),
-    ("--from;seed;--to;capture;--seed;7;--sats;33;--week;2295", 2),
-    (
-        "--from;seed;--to;capture;--seed;4294967296;--sats;1;--week;2295",
-        2,
-    ),
-];
 
 #[test]
 fn judges_the_words(rt: HostRuntime) -> Result<(), Fail> {
-    for &(words, status) in &JUDGED {
-        let holds = ends(rt.alloc(), words, &[], status, &[ANYTHING], &[ANYTHING])?;
-        assert!(rt; holds, "{words}");
-    }
+    let is_refused = are_judged(rt.alloc(), &REFUSED, 2)?;
+    let is_taken = are_judged(rt.alloc(), &TAKEN, 0)?;
+    let is_not_taken = are_judged(rt.alloc(), &NOT_TAKEN, 5)?;
+    assert!(rt; is_refused && is_taken && is_not_taken);
     Ok(())
 }
 
@@ -165,19 +220,50 @@ fn counts_frames(rt: HostRuntime) -> Result<(), Fail> {
     Ok(())
 }
 
+// A fault, and its name.
+struct Named {
+    fault: BridgeFault,
+    name: &'static str,
+}
+
+static NAMED: [Named; 6] = [
+    Named {
+        fault: BridgeFault::ReadFault,
+        name: "ReadFault",
+    },
+    Named {
+        fault: BridgeFault::WriteFault,
+        name: "WriteFault",
+    },
+    Named {
+        fault: BridgeFault::ReportFault,
+        name: "ReportFault",
+    },
+    Named {
+        fault: BridgeFault::NotThisForm,
+        name: "NotThisForm",
+    },
+    Named {
+        fault: BridgeFault::TooLong,
+        name: "TooLong",
+    },
+    Named {
+        fault: BridgeFault::NoMemory,
+        name: "NoMemory",
+    },
+];
+
+impl Named {
+    // Whether the fault has the name.
+    fn is_named(&self, alloc: Global) -> Result<bool, AllocError> {
+        Ok(self.fault.to_string(alloc)?.as_str() == self.name)
+    }
+}
+
 #[test]
 fn names_its_faults(rt: HostRuntime) -> Result<(), Fail> {
-    let cases = [
-        (BridgeFault::ReadFault, "ReadFault"),
-        (BridgeFault::WriteFault, "WriteFault"),
-        (BridgeFault::ReportFault, "ReportFault"),
-        (BridgeFault::NotThisForm, "NotThisForm"),
-        (BridgeFault::TooLong, "TooLong"),
-        (BridgeFault::NoMemory, "NoMemory"),
-    ];
-    for (fault, want) in cases {
-        let text = fault.to_string(rt.alloc())?;
-        assert!(rt; text.as_str() == want);
+    for case in &NAMED {
+        assert!(rt; case.is_named(rt.alloc())?, "{}", case.name);
     }
     Ok(())
 }

@@ -4,68 +4,68 @@ use nav_io::{MemSink, MemSource};
 use receiver_log::{Receiver, run_log};
 use sbf_frames::SbfJudge;
 use std::alloc::{AllocError, Global};
-use std::test::Fail;
 use ubx_frames::UbxJudge;
 
 // The two forms of logs.
-#[derive(Clone, Copy, PartialEq, Eq)]
+#[derive(Clone, Copy)]
 pub(crate) enum Form {
     Ubx,
     Sbf,
 }
 
-// The calls of the input, of the output and of the report that fail, counted from 0.
+// After how many bytes each read of the log ends, and the calls of the input, of the output and of
+// the report that fail, counted from 0.
 #[derive(Clone, Copy)]
-pub(crate) struct Failing {
-    pub(crate) read: Option<u32>,
-    pub(crate) write: Option<u32>,
-    pub(crate) report: Option<u32>,
+pub(crate) struct Failing<'a> {
+    pub(crate) cuts: &'a [u32],
+    pub(crate) reads: &'a [u32],
+    pub(crate) writes: &'a [u32],
+    pub(crate) reports: &'a [u32],
 }
 
-// None of them.
-pub(crate) const NOTHING_FAILS: Failing = Failing {
-    read: None,
-    write: None,
-    report: None,
+// No read is cut, and no call fails.
+pub(crate) const NOTHING_FAILS: Failing<'static> = Failing {
+    cuts: &[],
+    reads: &[],
+    writes: &[],
+    reports: &[],
 };
 
-// How a run ends, and what it writes and reports.
-#[derive(Clone, Copy)]
-pub(crate) struct End {
-    pub(crate) status: u8,
-    pub(crate) capture: &'static str,
-    pub(crate) report: &'static str,
+// A report that is not looked at.
+pub(crate) const ANYTHING: &str = "{*}";
+
+// A source over these bytes.
+pub(crate) fn source_of(
+    alloc: Global,
+    bytes: &[u8],
+    cuts: &[u32],
+    fails: &[u32],
+) -> Result<MemSource, AllocError> {
+    let bytes = bytes.to_vec(alloc)?;
+    let cuts = cuts.to_vec(alloc)?;
+    Ok(MemSource::new(bytes, cuts, fails.to_vec(alloc)?))
 }
 
-// A list of one number, or of none.
-fn listed(alloc: Global, number: Option<u32>) -> Result<Vec<u32>, AllocError> {
-    let mut list = Vec::new(alloc);
-    if let Some(number) = number {
-        list.push(number)?;
-    }
-    Ok(list)
+// An empty sink.
+fn sink_of(alloc: Global, fails: &[u32]) -> Result<MemSink, AllocError> {
+    MemSink::new(alloc, 1000, fails.to_vec(alloc)?)
 }
 
-// Whether a run over these bytes, read in two pieces of which the first has so many, ends so.
+// Whether a run over these bytes ends with this status, and writes and reports so.
 fn ends_as<J: Receiver>(
     alloc: Global,
     bytes: &[u8],
-    cut: u32,
     failing: &Failing,
-    end: &End,
-) -> Result<bool, Fail> {
-    let mut held = Vec::new(alloc);
-    held.extend_from_slice(bytes)?;
-    let cuts = listed(alloc, Some(cut))?;
-    let mut input = MemSource::new(held, cuts, listed(alloc, failing.read)?);
-    let mut output = MemSink::new(alloc, 1000, listed(alloc, failing.write)?)?;
-    let mut report = MemSink::new(alloc, 1000, listed(alloc, failing.report)?)?;
-    let status = run_log::<J, _, _, _>(&mut input, &mut output, &mut report);
-    Ok(
-        status == end.status
-            && output.bytes() == end.capture.as_bytes()
-            && report.bytes() == end.report.as_bytes(),
-    )
+    status: u8,
+    capture: &str,
+    report: &str,
+) -> Result<bool, AllocError> {
+    let mut input = source_of(alloc, bytes, failing.cuts, failing.reads)?;
+    let mut output = sink_of(alloc, failing.writes)?;
+    let mut told = sink_of(alloc, failing.reports)?;
+    let ended = run_log::<J, _, _, _>(&mut input, &mut output, &mut told);
+    let is_reported = report == ANYTHING || told.bytes() == report.as_bytes();
+    Ok(ended == status && output.bytes() == capture.as_bytes() && is_reported)
 }
 
 // The same for a log of a form.
@@ -73,23 +73,13 @@ pub(crate) fn ends(
     alloc: Global,
     form: Form,
     bytes: &[u8],
-    cut: u32,
     failing: &Failing,
-    end: &End,
-) -> Result<bool, Fail> {
+    status: u8,
+    capture: &str,
+    report: &str,
+) -> Result<bool, AllocError> {
     match form {
-        Form::Ubx => ends_as::<UbxJudge>(alloc, bytes, cut, failing, end),
-        Form::Sbf => ends_as::<SbfJudge>(alloc, bytes, cut, failing, end),
+        Form::Ubx => ends_as::<UbxJudge>(alloc, bytes, failing, status, capture, report),
+        Form::Sbf => ends_as::<SbfJudge>(alloc, bytes, failing, status, capture, report),
     }
-}
-
-// Whether a run over a log of UBX ends with 0, and writes so.
-pub(crate) fn writes(alloc: Global, bytes: &[u8], capture: &str) -> Result<bool, Fail> {
-    let mut held = Vec::new(alloc);
-    held.extend_from_slice(bytes)?;
-    let mut input = MemSource::new(held, Vec::new(alloc), Vec::new(alloc));
-    let mut output = MemSink::new(alloc, 1000, Vec::new(alloc))?;
-    let mut report = MemSink::new(alloc, 1000, Vec::new(alloc))?;
-    let status = run_log::<UbxJudge, _, _, _>(&mut input, &mut output, &mut report);
-    Ok(status == 0 && output.bytes() == capture.as_bytes())
 }

@@ -1,7 +1,6 @@
 //! What messages of UBX say: times, refusals, and subframes in each form.
 
 use receiver_messages::{Content, Reason, Said, ubx_said};
-use std::test::Fail;
 
 // A time message, and the second that it gives, or 0 where it gives none.
 struct TimeCase {
@@ -11,245 +10,173 @@ struct TimeCase {
     second: u64,
 }
 
-const TIMES: [TimeCase; 24] = [
+static TIMES: [TimeCase; 24] = [
     // a time of NAV-TIMEGPS
     TimeCase {
         class: 1,
         number: 32,
-        payload: [
-            0x00, 0xdd, 0x6d, 0x00, 0x00, 0x00, 0x00, 0x00, 0xf7, 0x08, 0x12, 0x07, 0x00, 0x00,
-            0x00, 0x00,
-        ],
+        payload: *b"\x00\xdd\x6d\x00\x00\x00\x00\x00\xf7\x08\x12\x07\x00\x00\x00\x00",
         second: 1388023200,
     },
     // to the nearest second, halves upwards
     TimeCase {
         class: 1,
         number: 32,
-        payload: [
-            0xf4, 0xde, 0x6d, 0x00, 0x00, 0x00, 0x00, 0x00, 0xf7, 0x08, 0x12, 0x03, 0x00, 0x00,
-            0x00, 0x00,
-        ],
+        payload: *b"\xf4\xde\x6d\x00\x00\x00\x00\x00\xf7\x08\x12\x03\x00\x00\x00\x00",
         second: 1388023201,
     },
     // over the week rollover
     TimeCase {
         class: 1,
         number: 32,
-        payload: [
-            0xff, 0x83, 0x0c, 0x24, 0x00, 0x00, 0x00, 0x00, 0xf7, 0x08, 0x12, 0x03, 0x00, 0x00,
-            0x00, 0x00,
-        ],
+        payload: *b"\xff\x83\x0c\x24\x00\x00\x00\x00\xf7\x08\x12\x03\x00\x00\x00\x00",
         second: 1388620800,
     },
     // no week
     TimeCase {
         class: 1,
         number: 32,
-        payload: [
-            0x00, 0xdd, 0x6d, 0x00, 0x00, 0x00, 0x00, 0x00, 0xf7, 0x08, 0x12, 0x01, 0x00, 0x00,
-            0x00, 0x00,
-        ],
+        payload: *b"\x00\xdd\x6d\x00\x00\x00\x00\x00\xf7\x08\x12\x01\x00\x00\x00\x00",
         second: 0,
     },
     // no second of the week
     TimeCase {
         class: 1,
         number: 32,
-        payload: [
-            0x00, 0x84, 0x0c, 0x24, 0x00, 0x00, 0x00, 0x00, 0xf7, 0x08, 0x12, 0x03, 0x00, 0x00,
-            0x00, 0x00,
-        ],
+        payload: *b"\x00\x84\x0c\x24\x00\x00\x00\x00\xf7\x08\x12\x03\x00\x00\x00\x00",
         second: 0,
     },
     // week 1024
     TimeCase {
         class: 1,
         number: 32,
-        payload: [
-            0x00, 0x00, 0x00, 0x00, 0x00, 0x00, 0x00, 0x00, 0x00, 0x04, 0x12, 0x03, 0x00, 0x00,
-            0x00, 0x00,
-        ],
+        payload: *b"\x00\x00\x00\x00\x00\x00\x00\x00\x00\x04\x12\x03\x00\x00\x00\x00",
         second: 0,
     },
     // week 8191
     TimeCase {
         class: 1,
         number: 32,
-        payload: [
-            0x00, 0x00, 0x00, 0x00, 0x00, 0x00, 0x00, 0x00, 0xff, 0x1f, 0x12, 0x03, 0x00, 0x00,
-            0x00, 0x00,
-        ],
+        payload: *b"\x00\x00\x00\x00\x00\x00\x00\x00\xff\x1f\x12\x03\x00\x00\x00\x00",
         second: 4953916800,
     },
     // a negative week
     TimeCase {
         class: 1,
         number: 32,
-        payload: [
-            0x00, 0x00, 0x00, 0x00, 0x00, 0x00, 0x00, 0x00, 0xff, 0xff, 0x12, 0x03, 0x00, 0x00,
-            0x00, 0x00,
-        ],
+        payload: *b"\x00\x00\x00\x00\x00\x00\x00\x00\xff\xff\x12\x03\x00\x00\x00\x00",
         second: 0,
     },
     // a date of NAV-PVT
     TimeCase {
         class: 1,
         number: 7,
-        payload: [
-            0x50, 0x7f, 0x94, 0x05, 0xe8, 0x07, 0x01, 0x01, 0x02, 0x00, 0x00, 0x03, 0x00, 0x00,
-            0x00, 0x00,
-        ],
+        payload: *b"\x50\x7f\x94\x05\xe8\x07\x01\x01\x02\x00\x00\x03\x00\x00\x00\x00",
         second: 1388109618,
     },
     // a date in the week before that of the time
     TimeCase {
         class: 1,
         number: 7,
-        payload: [
-            0x68, 0x42, 0x00, 0x00, 0xe7, 0x07, 0x0c, 0x1e, 0x17, 0x3b, 0x3b, 0x03, 0x00, 0x00,
-            0x00, 0x00,
-        ],
+        payload: *b"\x68\x42\x00\x00\xe7\x07\x0c\x1e\x17\x3b\x3b\x03\x00\x00\x00\x00",
         second: 1388016017,
     },
     // a second 60
     TimeCase {
         class: 1,
         number: 7,
-        payload: [
-            0x68, 0x42, 0x00, 0x00, 0xe7, 0x07, 0x0c, 0x1e, 0x17, 0x3b, 0x3c, 0x03, 0x00, 0x00,
-            0x00, 0x00,
-        ],
+        payload: *b"\x68\x42\x00\x00\xe7\x07\x0c\x1e\x17\x3b\x3c\x03\x00\x00\x00\x00",
         second: 1388016017,
     },
     // a second 61
     TimeCase {
         class: 1,
         number: 7,
-        payload: [
-            0x68, 0x42, 0x00, 0x00, 0xe7, 0x07, 0x0c, 0x1e, 0x17, 0x3b, 0x3d, 0x03, 0x00, 0x00,
-            0x00, 0x00,
-        ],
+        payload: *b"\x68\x42\x00\x00\xe7\x07\x0c\x1e\x17\x3b\x3d\x03\x00\x00\x00\x00",
         second: 0,
     },
     // a day that is none
     TimeCase {
         class: 1,
         number: 7,
-        payload: [
-            0x50, 0x7f, 0x94, 0x05, 0xe7, 0x07, 0x02, 0x1d, 0x02, 0x00, 0x00, 0x03, 0x00, 0x00,
-            0x00, 0x00,
-        ],
+        payload: *b"\x50\x7f\x94\x05\xe7\x07\x02\x1d\x02\x00\x00\x03\x00\x00\x00\x00",
         second: 0,
     },
     // no valid date
     TimeCase {
         class: 1,
         number: 7,
-        payload: [
-            0x50, 0x7f, 0x94, 0x05, 0xe8, 0x07, 0x01, 0x01, 0x02, 0x00, 0x00, 0x02, 0x00, 0x00,
-            0x00, 0x00,
-        ],
+        payload: *b"\x50\x7f\x94\x05\xe8\x07\x01\x01\x02\x00\x00\x02\x00\x00\x00\x00",
         second: 0,
     },
     // a time of RXM-RAWX before its second
     TimeCase {
         class: 2,
         number: 21,
-        payload: [
-            0x68, 0x91, 0xed, 0x7c, 0xff, 0x1f, 0xbc, 0x40, 0xf7, 0x08, 0x00, 0x00, 0x00, 0x00,
-            0x00, 0x00,
-        ],
+        payload: *b"\x68\x91\xed\x7c\xff\x1f\xbc\x40\xf7\x08\x00\x00\x00\x00\x00\x00",
         second: 1388023200,
     },
     // a half
     TimeCase {
         class: 2,
         number: 21,
-        payload: [
-            0x00, 0x00, 0x00, 0x00, 0x80, 0x1f, 0xbc, 0x40, 0xf7, 0x08, 0x00, 0x00, 0x00, 0x00,
-            0x00, 0x00,
-        ],
+        payload: *b"\x00\x00\x00\x00\x80\x1f\xbc\x40\xf7\x08\x00\x00\x00\x00\x00\x00",
         second: 1388023200,
     },
     // below a half
     TimeCase {
         class: 2,
         number: 21,
-        payload: [
-            0x08, 0x39, 0xef, 0xff, 0x7f, 0x1f, 0xbc, 0x40, 0xf7, 0x08, 0x00, 0x00, 0x00, 0x00,
-            0x00, 0x00,
-        ],
+        payload: *b"\x08\x39\xef\xff\x7f\x1f\xbc\x40\xf7\x08\x00\x00\x00\x00\x00\x00",
         second: 1388023199,
     },
     // the last of the week
     TimeCase {
         class: 2,
         number: 21,
-        payload: [
-            0x00, 0x00, 0x00, 0x80, 0xff, 0x74, 0x22, 0x41, 0xf7, 0x08, 0x00, 0x00, 0x00, 0x00,
-            0x00, 0x00,
-        ],
+        payload: *b"\x00\x00\x00\x80\xff\x74\x22\x41\xf7\x08\x00\x00\x00\x00\x00\x00",
         second: 1388620800,
     },
     // the next week
     TimeCase {
         class: 2,
         number: 21,
-        payload: [
-            0x00, 0x00, 0x00, 0x00, 0x00, 0x75, 0x22, 0x41, 0xf7, 0x08, 0x00, 0x00, 0x00, 0x00,
-            0x00, 0x00,
-        ],
+        payload: *b"\x00\x00\x00\x00\x00\x75\x22\x41\xf7\x08\x00\x00\x00\x00\x00\x00",
         second: 0,
     },
     // a zero with a sign
     TimeCase {
         class: 2,
         number: 21,
-        payload: [
-            0x00, 0x00, 0x00, 0x00, 0x00, 0x00, 0x00, 0x80, 0xf7, 0x08, 0x00, 0x00, 0x00, 0x00,
-            0x00, 0x00,
-        ],
+        payload: *b"\x00\x00\x00\x00\x00\x00\x00\x80\xf7\x08\x00\x00\x00\x00\x00\x00",
         second: 1388016000,
     },
     // below zero
     TimeCase {
         class: 2,
         number: 21,
-        payload: [
-            0x95, 0xd6, 0x26, 0xe8, 0x0b, 0x2e, 0x11, 0xbe, 0xf7, 0x08, 0x00, 0x00, 0x00, 0x00,
-            0x00, 0x00,
-        ],
+        payload: *b"\x95\xd6\x26\xe8\x0b\x2e\x11\xbe\xf7\x08\x00\x00\x00\x00\x00\x00",
         second: 0,
     },
     // the least number
     TimeCase {
         class: 2,
         number: 21,
-        payload: [
-            0x01, 0x00, 0x00, 0x00, 0x00, 0x00, 0x00, 0x00, 0xf7, 0x08, 0x00, 0x00, 0x00, 0x00,
-            0x00, 0x00,
-        ],
+        payload: *b"\x01\x00\x00\x00\x00\x00\x00\x00\xf7\x08\x00\x00\x00\x00\x00\x00",
         second: 1388016000,
     },
     // no number
     TimeCase {
         class: 2,
         number: 21,
-        payload: [
-            0x00, 0x00, 0x00, 0x00, 0x00, 0x00, 0xf8, 0x7f, 0xf7, 0x08, 0x00, 0x00, 0x00, 0x00,
-            0x00, 0x00,
-        ],
+        payload: *b"\x00\x00\x00\x00\x00\x00\xf8\x7f\xf7\x08\x00\x00\x00\x00\x00\x00",
         second: 0,
     },
     // without end
     TimeCase {
         class: 2,
         number: 21,
-        payload: [
-            0x00, 0x00, 0x00, 0x00, 0x00, 0x00, 0xf0, 0x7f, 0xf7, 0x08, 0x00, 0x00, 0x00, 0x00,
-            0x00, 0x00,
-        ],
+        payload: *b"\x00\x00\x00\x00\x00\x00\xf0\x7f\xf7\x08\x00\x00\x00\x00\x00\x00",
         second: 0,
     },
 ];
@@ -273,11 +200,10 @@ fn gives(case: &TimeCase) -> bool {
 }
 
 #[test]
-fn times_are_those_of_the_table(rt: HostRuntime) -> Result<(), Fail> {
+fn times_are_those_of_the_table(rt: HostRuntime) {
     for case in &TIMES {
         assert!(rt; gives(case));
     }
-    Ok(())
 }
 
 // The head of RXM-SFRBX with so many bytes of payload behind it, and the reason why it is refused.
@@ -290,7 +216,7 @@ struct RefusedCase {
     refused: Option<Reason>,
 }
 
-const REFUSED: [RefusedCase; 12] = [
+static REFUSED: [RefusedCase; 12] = [
     RefusedCase {
         system: 0,
         satellite: 1,
@@ -409,9 +335,8 @@ fn is_refused_so(case: &RefusedCase) -> bool {
 }
 
 #[test]
-fn words_are_refused_as_the_table_says(rt: HostRuntime) -> Result<(), Fail> {
+fn words_are_refused_as_the_table_says(rt: HostRuntime) {
     for case in &REFUSED {
         assert!(rt; is_refused_so(case));
     }
-    Ok(())
 }

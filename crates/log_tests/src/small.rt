@@ -1,20 +1,17 @@
 //! A small log: every cut of it, every byte of it damaged, and every fault.
 
-use crate::runs::{End, Failing, Form, NOTHING_FAILS, ends, writes};
+use crate::runs::{ANYTHING, Failing, Form, NOTHING_FAILS, ends};
+use std::alloc::{AllocError, Global};
 use std::test::Fail;
 
 // A time, a page and a subframe. They end behind so many bytes.
-pub(crate) static LOG: [u8; 132] = [
-    0xb5, 0x62, 0x01, 0x20, 0x10, 0x00, 0x00, 0xdd, 0x6d, 0x00, 0x00, 0x00, 0x00, 0x00, 0xf6, 0x08,
-    0x12, 0x07, 0x05, 0x00, 0x00, 0x00, 0x97, 0x08, 0xb5, 0x62, 0x02, 0x13, 0x2c, 0x00, 0x02, 0x04,
-    0x05, 0x00, 0x09, 0x09, 0x02, 0x00, 0x55, 0x55, 0x95, 0x00, 0x55, 0x55, 0x55, 0x55, 0x55, 0x55,
-    0x55, 0x55, 0x00, 0x00, 0xdc, 0x53, 0xf7, 0x92, 0x07, 0x87, 0xc2, 0x19, 0x14, 0xeb, 0xf3, 0x17,
-    0x24, 0x57, 0x00, 0x00, 0xd5, 0x89, 0xaa, 0xaa, 0xaa, 0xaa, 0xf2, 0xd2, 0xb5, 0x62, 0x02, 0x13,
-    0x30, 0x00, 0x00, 0x03, 0x00, 0x00, 0x0a, 0x07, 0x02, 0x00, 0x0b, 0x8d, 0xc4, 0x22, 0xc8, 0x16,
-    0x98, 0x34, 0x53, 0x00, 0x00, 0x00, 0x3c, 0x00, 0x00, 0x00, 0x81, 0x15, 0x8d, 0x04, 0x3f, 0x00,
-    0x00, 0x20, 0xd5, 0xff, 0xff, 0x1f, 0x5f, 0x69, 0x69, 0x29, 0xff, 0xff, 0xff, 0x3f, 0x19, 0x84,
-    0x0c, 0x15, 0xde, 0x86,
-];
+pub(crate) static LOG: [u8; 132] = *b"\
+    \xb5\x62\x01\x20\x10\x00\x00\xdd\x6d\x00\x00\x00\x00\x00\xf6\x08\x12\x07\x05\x00\x00\x00\x97\x08\
+    \xb5\x62\x02\x13\x2c\x00\x02\x04\x05\x00\x09\x09\x02\x00\x55\x55\x95\x00\x55\x55\x55\x55\x55\x55\x55\x55\
+    \x00\x00\xdc\x53\xf7\x92\x07\x87\xc2\x19\x14\xeb\xf3\x17\x24\x57\x00\x00\xd5\x89\xaa\xaa\xaa\xaa\xf2\xd2\
+    \xb5\x62\x02\x13\x30\x00\x00\x03\x00\x00\x0a\x07\x02\x00\x0b\x8d\xc4\x22\xc8\x16\x98\x34\x53\x00\x00\x00\
+    \x3c\x00\x00\x00\x81\x15\x8d\x04\x3f\x00\x00\x20\xd5\xff\xff\x1f\x5f\x69\x69\x29\xff\xff\xff\x3f\x19\x84\
+    \x0c\x15\xde\x86";
 
 static ENDS: [usize; 3] = [24, 76, 132];
 
@@ -53,6 +50,19 @@ fn of_the_first(count: usize) -> &'static str {
     }
 }
 
+// Whether a run over these bytes ends with 0, and writes so.
+fn writes(alloc: Global, bytes: &[u8], capture: &str) -> Result<bool, AllocError> {
+    ends(
+        alloc,
+        Form::Ubx,
+        bytes,
+        &NOTHING_FAILS,
+        0,
+        capture,
+        ANYTHING,
+    )
+}
+
 #[test]
 fn a_log_that_is_cut_gives_what_is_whole(rt: HostRuntime) -> Result<(), Fail> {
     for count in 0..=LOG.len() {
@@ -87,13 +97,12 @@ fn a_damaged_byte_costs_its_message(rt: HostRuntime) -> Result<(), Fail> {
 
 #[test]
 fn a_log_gives_its_capture_in_any_pieces(rt: HostRuntime) -> Result<(), Fail> {
-    let end = End {
-        status: 0,
-        capture: ALL,
-        report: REPORT,
-    };
     for cut in 1..140 {
-        let holds = ends(rt.alloc(), Form::Ubx, &LOG, cut, &NOTHING_FAILS, &end)?;
+        let failing = Failing {
+            cuts: &[cut],
+            ..NOTHING_FAILS
+        };
+        let holds = ends(rt.alloc(), Form::Ubx, &LOG, &failing, 0, ALL, REPORT)?;
         assert!(rt; holds);
     }
     Ok(())
@@ -101,83 +110,95 @@ fn a_log_gives_its_capture_in_any_pieces(rt: HostRuntime) -> Result<(), Fail> {
 
 // Calls that fail, and how the run ends then. The first piece has the time and the page.
 struct Fault {
-    failing: Failing,
-    end: End,
+    failing: Failing<'static>,
+    status: u8,
+    capture: &'static str,
+    report: &'static str,
 }
 
 static FAULTS: [Fault; 5] = [
     // the first read
     Fault {
         failing: Failing {
-            read: Some(0),
-            write: None,
-            report: None,
+            cuts: &[76],
+            reads: &[0],
+            writes: &[],
+            reports: &[],
         },
-        end: End {
-            status: 3,
-            capture: "",
-            report: "",
-        },
+        status: 3,
+        capture: "",
+        report: "",
     },
     // the read behind the page
     Fault {
         failing: Failing {
-            read: Some(1),
-            write: None,
-            report: None,
+            cuts: &[76],
+            reads: &[1],
+            writes: &[],
+            reports: &[],
         },
-        end: End {
-            status: 3,
-            capture: PAGE,
-            report: "",
-        },
+        status: 3,
+        capture: PAGE,
+        report: "",
     },
     // the first write
     Fault {
         failing: Failing {
-            read: None,
-            write: Some(0),
-            report: None,
+            cuts: &[76],
+            reads: &[],
+            writes: &[0],
+            reports: &[],
         },
-        end: End {
-            status: 4,
-            capture: "",
-            report: "",
-        },
+        status: 4,
+        capture: "",
+        report: "",
     },
     // the write of the subframe
     Fault {
         failing: Failing {
-            read: None,
-            write: Some(1),
-            report: None,
+            cuts: &[76],
+            reads: &[],
+            writes: &[1],
+            reports: &[],
         },
-        end: End {
-            status: 4,
-            capture: PAGE,
-            report: "",
-        },
+        status: 4,
+        capture: PAGE,
+        report: "",
     },
     // the report of the counts
     Fault {
         failing: Failing {
-            read: None,
-            write: None,
-            report: Some(0),
+            cuts: &[76],
+            reads: &[],
+            writes: &[],
+            reports: &[0],
         },
-        end: End {
-            status: 7,
-            capture: ALL,
-            report: "",
-        },
+        status: 7,
+        capture: ALL,
+        report: "",
     },
 ];
+
+impl Fault {
+    // Whether the run ends so.
+    fn ends_so(&self, alloc: Global) -> Result<bool, AllocError> {
+        let (status, capture) = (self.status, self.capture);
+        ends(
+            alloc,
+            Form::Ubx,
+            &LOG,
+            &self.failing,
+            status,
+            capture,
+            self.report,
+        )
+    }
+}
 
 #[test]
 fn faults_end_as_the_table_says(rt: HostRuntime) -> Result<(), Fail> {
     for fault in &FAULTS {
-        let holds = ends(rt.alloc(), Form::Ubx, &LOG, 76, &fault.failing, &fault.end)?;
-        assert!(rt; holds);
+        assert!(rt; fault.ends_so(rt.alloc())?);
     }
     Ok(())
 }

@@ -1,8 +1,9 @@
 //! The capture of a log, read from a source over the log.
 
+use crate::runs::source_of;
 use crate::small::{ALL, LOG, PAGE};
 use log_source::LogSource;
-use nav_io::{Failed, MemSource, Source};
+use nav_io::Source;
 use std::alloc::{AllocError, Global};
 use std::test::Fail;
 use ubx_frames::UbxJudge;
@@ -10,98 +11,88 @@ use ubx_frames::UbxJudge;
 // How the small log is read, and what the source over it gives.
 struct Reading {
     // how many bytes the first piece of the log has
-    cut: u32,
+    cuts: &'static [u32],
     // how many bytes are asked for at a time
     size: usize,
     // the read of the log that fails, counted from 0
-    fails: Option<u32>,
+    fails: &'static [u32],
     // what is given before the end or the fault
     capture: &'static str,
 }
 
 static READINGS: [Reading; 6] = [
     Reading {
-        cut: 132,
+        cuts: &[132],
         size: 400,
-        fails: None,
+        fails: &[],
         capture: ALL,
     },
     Reading {
-        cut: 1,
+        cuts: &[1],
         size: 1,
-        fails: None,
+        fails: &[],
         capture: ALL,
     },
     Reading {
-        cut: 75,
+        cuts: &[75],
         size: 7,
-        fails: None,
+        fails: &[],
         capture: ALL,
     },
     // the end of the log can't be read
     Reading {
-        cut: 132,
+        cuts: &[132],
         size: 64,
-        fails: Some(1),
+        fails: &[1],
         capture: ALL,
     },
     // the first piece has the time and the page
     Reading {
-        cut: 76,
+        cuts: &[76],
         size: 64,
-        fails: Some(1),
+        fails: &[1],
         capture: PAGE,
     },
     Reading {
-        cut: 76,
+        cuts: &[76],
         size: 64,
-        fails: Some(0),
+        fails: &[0],
         capture: "",
     },
 ];
 
-// The call alone, where there is one.
-fn listed(alloc: Global, call: Option<u32>) -> Result<Vec<u32>, AllocError> {
-    let mut calls = Vec::new(alloc);
-    if let Some(call) = call {
-        calls.push(call)?;
+// Reads so many bytes at a time, and says whether that ended, or failed.
+fn read_all<S: Source>(
+    source: &mut S,
+    size: usize,
+    capture: &mut Vec<u8>,
+) -> Result<Option<bool>, AllocError> {
+    let mut bytes = [0u8; 400];
+    let size = size.min(400);
+    for _ in 0..1000 {
+        match source.read(&mut bytes[..size]) {
+            Ok(0) => return Ok(Some(true)),
+            Ok(count) => capture.extend_from_slice(&bytes[..count])?,
+            Err(_) => return Ok(Some(false)),
+        }
     }
-    Ok(calls)
+    Ok(None)
 }
 
 // Whether a source over the log gives this and then ends, or fails where a read of the log does.
-fn gives(alloc: Global, reading: &Reading) -> Result<bool, Fail> {
-    let mut held = Vec::new(alloc);
-    held.extend_from_slice(&LOG)?;
-    let cuts = listed(alloc, Some(reading.cut))?;
-    let fails = listed(alloc, reading.fails)?;
-    let mut source = LogSource::<UbxJudge, _>::new(MemSource::new(held, cuts, fails));
+fn gives(alloc: Global, reading: &Reading) -> Result<bool, AllocError> {
+    let log = source_of(alloc, &LOG, reading.cuts, reading.fails)?;
+    let mut source = LogSource::<UbxJudge, _>::new(log);
     let mut capture = Vec::new(alloc);
-    let mut bytes = [0u8; 400];
-    let size = reading.size.min(400);
-    for _ in 0..1000 {
-        match source.read(&mut bytes[..size]) {
-            Ok(0) => {
-                return Ok(
-                    reading.fails.is_none() && capture.as_slice() == reading.capture.as_bytes(),
-                );
-            }
-            Ok(count) => capture.extend_from_slice(&bytes[..count])?,
-            Err(Failed) => {
-                return Ok(
-                    reading.fails.is_some() && capture.as_slice() == reading.capture.as_bytes(),
-                );
-            }
-        }
-    }
-    Ok(false)
+    let ended = read_all(&mut source, reading.size, &mut capture)?;
+    let is_given = capture.as_slice() == reading.capture.as_bytes();
+    Ok(is_given && ended == Some(reading.fails.is_empty()))
 }
 
 #[test]
 fn a_source_over_a_log_gives_its_capture(rt: HostRuntime) -> Result<(), Fail> {
     for reading in &READINGS {
-        let holds = gives(rt.alloc(), reading)?;
-        assert!(rt; holds);
+        assert!(rt; gives(rt.alloc(), reading)?);
     }
     Ok(())
 }

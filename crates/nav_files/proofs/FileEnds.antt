@@ -1,6 +1,6 @@
 -- How a run over a file ends: in the header, after it, after its records, or well. What is written, reported and counted of the
 -- records is the job's.
-use Rattle.std.proofs.Common.{◌≡◌, ◌⊎◌, inl, inr, ◌^◌, ℕ, Bool, true, false, List, [], ◌++◌, length, refl, sym, ap, subst, ◌∙◌, arith, append-nil, length-append}
+use Rattle.std.proofs.Common.{◌≡◌, ◌⊎◌, inl, inr, ◌^◌, ℕ, Bool, true, false, List, [], ◌∷◌, ◌++◌, length, refl, sym, ap, subst, ◌∙◌, arith, append-nil, length-append}
 use Rattle.std.specs.Prelude.{Option, None, Some, Result, Err, IfSome, IsSome, IsTrue, IsErrOf}
 use Rattle.std.specs.List.{flat_map}
 use Rattle.std.specs.Io.KnownBytes.{Appends, Consumes, IsAtEnd}
@@ -9,22 +9,24 @@ use Rattle.std.proofs.lemmas.Grind.{flat_map-append}
 use Rattle.nav_io.specs.Causes.{Rose}
 use Rattle.nav_io.specs.Prefix.{AppendsPrefix, IsPrefix}
 use Rattle.rinex_read.specs.Forms.{Form}
-use Rattle.rinex_read.specs.Files.{file_reads, whole_reads}
+use Rattle.rinex_read.specs.Files.{BeginWith, but_last, early_reads, file_reads, whole_reads}
 use Rattle.rinex_read.specs.Lines.{told_lines}
-use Rattle.rinex_read.specs.States.{RecordsState, Steps, HeaderSteps, PassesHeader, IsNew, IsPaused, MayCome, file_by, file_to_come, records_to_come}
+use Rattle.rinex_read.specs.States.{AreEarly, NearSteps, RecordsState, Steps, HeaderSteps, PassesHeader, IsNew, IsPaused, MayCome, file_by, file_to_come, is_waiting, records_to_come}
 use Rattle.rinex_read.specs.declared.judged.HeaderState.{HeaderState}
-use Rattle.rinex_read.specs.declared.judged.HeaderState.TheVariants.{NotRinexNav, OtherVersion}
+use Rattle.rinex_read.specs.declared.judged.HeaderState.TheVariants.{NotRinexNav, OtherVersion, Passed}
 use Rattle.rinex_read.specs.declared.judged.HeaderFault.{HeaderFault}
 use Rattle.rinex_read.specs.declared.judged.ItemRead.{ItemRead}
 use Rattle.one_run.specs.declared.fault.BridgeFault.{BridgeFault}
 use Rattle.one_run.specs.declared.fault.BridgeFault.TheVariants.{ReadFault, WriteFault, ReportFault, NotThisForm, TooLong, NoMemory}
 use Rattle.one_run.specs.Causes.{Faults, HasItsCause, faults_of}
 use Rattle.one_run.specs.Runs.{AppendsBetween, Broke, Done, Leaves, Meaning, Says, World}
-use Rattle.one_run.proofs.Surface.{between, prefix_nil, prefix_within, no_prefix}
-use Rattle.nav_files.specs.Files.{counted_in, file_meaning, text_in}
+use Rattle.one_run.proofs.Surface.{between, prefix_nil, prefix_trans, prefix_within, no_prefix}
+use Rattle.nav_files.specs.Files.{counted_in, file_meaning, text_before, text_in}
 use Rattle.nav_files.specs.Mirrors.{HeaderFaultOf, NoHeader}
 use Rattle.nav_files.specs.Taken.{AtEnd}
-use Rattle.nav_files.proofs.FileLemmas.{Begins, Opens, Wholes, ends_there, file_prefix, file_whole, none_left}
+use Rattle.nav_files.proofs.RecordLemmas.{AreNear}
+use Rattle.nav_files.proofs.TakenLemmas.{least_all, least_before}
+use Rattle.nav_files.proofs.FileLemmas.{Begins, Earlies, NoEarlies, Opens, Wholes, ends_there, file_prefix, file_whole, none_left}
 
 -- ---- what failed
 
@@ -182,18 +184,46 @@ says_header f memory wrote tells output report count b a s0 s1 WriteFault begins
 says_header f memory wrote tells output report count b a s0 s1 ReportFault begins new steps by rose never out told flushed = absurd by
 says_header f memory wrote tells output report count b a s0 s1 NoMemory begins new steps by rose never out told flushed = absurd by
 
+-- a header with a fault was not passed
+not_passed : (fault : BridgeFault) (s : RecordsState) → HeaderFaultOf fault s → s.header ≡ Passed → ⊥
+not_passed ReadFault s by is = let none : is_waiting s.header ≡ false = ap is_waiting is in let waits : is_waiting s.header ≡ true = by.0 in cc
+not_passed TooLong s by is = let none : is_waiting s.header ≡ false = ap is_waiting is in let waits : is_waiting s.header ≡ true = by.0 in cc
+not_passed NotThisForm s (inl refused) is = let none : Passed ≡ NotRinexNav = sym is ∙ refused in cc
+not_passed NotThisForm s (inr other) is = let none : Passed ≡ OtherVersion = sym is ∙ other in cc
+not_passed WriteFault s by is = absurd by
+not_passed ReportFault s by is = absurd by
+not_passed NoMemory s by is = absurd by
+
+-- between texts that have one another as prefixes
+between_within : (w w1 : Option (List ℕ)) (least some more whole : List ℕ) → IsPrefix least some → IsPrefix more whole → AppendsBetween w w1 some more → AppendsBetween w w1 least whole
+between_within w w1 least some more whole low high b = record {
+  prefix = b.prefix;
+  within = prefix_trans b.prefix more whole b.within high;
+  no_less = prefix_trans least some b.prefix low b.no_less;
+  grew = b.grew;
+}
+
+-- nothing was written, and nothing is the least
+between_none : (w w1 : Option (List ℕ)) (least whole : List ℕ) → w1 ≡ w → least ≡ [] → AppendsBetween w w1 least whole
+between_none w w1 least whole same none = record {
+  prefix = [];
+  within = prefix_nil whole;
+  no_less = subst (λ (l : List ℕ). IsPrefix l []) (sym none) (prefix_nil []);
+  grew = subst (λ (x : Option (List ℕ)). Appends w x []) (sym same) (Appends-nil w);
+}
+
 -- the header is refused, or the input breaks off in it
 pub broke_header : {C S T U : Type 0} (f : Form) (memory : Bool) (wrote tells output report : List ItemRead → List ℕ) (count : List ItemRead → C) (b a : World S T U) (s0 s1 : RecordsState) (fault : BridgeFault)
-    → Begins f → Opens f → IsNew s0 → NoHeader f b.left a.left s0 s1 fault
+    → Begins f → Opens f → NoEarlies f → IsNew s0 → NoHeader f b.left a.left s0 s1 fault
     → (fault ≡ ReadFault → Rose b.reads_failed a.reads_failed) → (IsTrue b.never_fails → fault ≡ ReadFault → ⊥)
     → a.output ≡ b.output → a.report ≡ b.report → a.written ≡ b.written → a.reported ≡ b.reported
     → Broke (file_meaning f memory wrote tells output report count) b a fault
-broke_header f memory wrote tells output report count b a s0 s1 fault begins opens new broken rose never out told written reported =
+broke_header f memory wrote tells output report count b a s0 s1 fault begins opens none new broken rose never out told written reported =
     let taken = broken.steps.reads.taken in
     let m = file_meaning f memory wrote tells output report count in record {
       taken = taken;
       consumes = broken.steps.reads.consumes;
-      text = subst (λ (w : Option (List ℕ)). AppendsBetween b.written w [] (text_in output (file_reads f taken))) (sym written) (between b.written b.written _ (no_prefix b.written _));
+      text = between_none b.written a.written _ _ written (ap (text_before wrote) (none b.left a.left s0 s1 new broken.steps broken.early (not_passed fault s1 broken.by)));
       told = subst (λ (u : Option (List ℕ)). AppendsPrefix b.reported u (text_in report (file_reads f taken))) (sym reported) (no_prefix b.reported _);
       leaves = reading m b a refl refl;
       says = says_header f memory wrote tells output report count b a s0 s1 fault begins new broken.steps broken.by rose never out told
@@ -214,58 +244,74 @@ says_behind f memory wrote tells output report count b a taken NoMemory some fai
 
 -- the run breaks off after the header, once these records were read: a prefix was written and reported of what these give
 pub broke_file : {C S T U : Type 0} (f : Form) (memory : Bool) (wrote tells output report : List ItemRead → List ℕ) (count : List ItemRead → C) (b a : World S T U) (l1 : Option (List ℕ)) (s0 s1 s2 : RecordsState)
-    (given : List ItemRead) (text told : List ℕ) (fault : BridgeFault)
+    (given : List ItemRead) (some text told : List ℕ) (fault : BridgeFault)
     → Begins f → IsNew s0 → (header : PassesHeader f b.left l1 s0 s1) → (steps : Steps f l1 a.left s1 s2 given)
-    → AppendsPrefix b.written a.written text → IsPrefix text (output (given ++ records_to_come f s2 []))
+    → IsPrefix (text_before wrote (early_reads f (header.steps.reads.taken ++ steps.reads.taken))) some
+    → AppendsBetween b.written a.written some text → IsPrefix text (output (given ++ records_to_come f s2 []))
     → AppendsPrefix b.reported a.reported told → IsPrefix told (report (given ++ records_to_come f s2 []))
     → Fails b a fault → (fault ≡ TooLong → s2.lines.taken ≡ 2 ^ 32) → (fault ≡ NoMemory → memory ≡ true)
     → Flushed f wrote tells (header.steps.reads.taken ++ steps.reads.taken) b a fault
     → Broke (file_meaning f memory wrote tells output report count) b a fault
-broke_file f memory wrote tells output report count b a l1 s0 s1 s2 given text told fault begins new header steps written text_is reported told_is fails long wants flushed =
+broke_file f memory wrote tells output report count b a l1 s0 s1 s2 given some text told fault begins new header steps least written text_is reported told_is fails long wants flushed =
     let m = file_meaning f memory wrote tells output report count in
     let is = file_prefix f b.left l1 a.left s0 s1 s2 given begins new header steps in
     let taken = header.steps.reads.taken ++ steps.reads.taken in record {
       taken = taken;
       consumes = Consumes-trans b.left l1 a.left _ _ header.steps.reads.consumes steps.reads.consumes;
-      text = between b.written a.written _ (prefix_within b.written a.written text _ (subst (λ r. IsPrefix text (text_in output r)) (sym is) text_is) written);
+      text = between_within b.written a.written _ some text _ least (subst (λ r. IsPrefix text (text_in output r)) (sym is) text_is) written;
       told = prefix_within b.reported a.reported told _ (subst (λ r. IsPrefix told (text_in report r)) (sym is) told_is) reported;
       leaves = reading m b a refl refl;
       says = says_behind f memory wrote tells output report count b a taken fault (accepted f count b.left l1 s0 s1 begins new header) fails
           (λ is_long. omega (arith, length-append header.steps.reads.taken steps.reads.taken, new.taken, header.steps.reads.count, steps.reads.count, long is_long)) wants flushed;
     }
 
--- the same, where a read failed with all of it written and reported
+-- what is written grows with the records
+abbrev pub Grows : (List ItemRead → List ℕ) → Type 0
+Grows text = (some more : List ItemRead) → IsPrefix (text some) (text (some ++ more))
+
+-- the same, where all was written before the last of the records; and where a read failed all of it was written and reported
 pub broke_taken : {C S T U : Type 0} (f : Form) (memory : Bool) (wrote tells output report : List ItemRead → List ℕ) (count : List ItemRead → C) (b a : World S T U) (l1 : Option (List ℕ)) (s0 s1 s2 : RecordsState)
     (given : List ItemRead) (text told : List ℕ) (fault : BridgeFault)
-    → Begins f → Wholes f → IsNew s0 → PassesHeader f b.left l1 s0 s1 → Steps f l1 a.left s1 s2 given
-    → AppendsPrefix b.written a.written text → IsPrefix text (output (given ++ records_to_come f s2 []))
+    → Begins f → Wholes f → Earlies f → Grows wrote → IsNew s0 → PassesHeader f b.left l1 s0 s1 → (steps : Steps f l1 a.left s1 s2 given) → AreEarly s1.lines steps.reads.taken steps.lines
+    → AppendsBetween b.written a.written (wrote (but_last given)) text → IsPrefix text (output (given ++ records_to_come f s2 []))
     → AppendsPrefix b.reported a.reported told → IsPrefix told (report (given ++ records_to_come f s2 []))
     → Fails b a fault → (fault ≡ TooLong → s2.lines.taken ≡ 2 ^ 32) → (fault ≡ NoMemory → memory ≡ true)
     → (fault ≡ ReadFault → IsPaused s2 × Appends b.written a.written (wrote given) × Appends b.reported a.reported (tells given))
     → Broke (file_meaning f memory wrote tells output report count) b a fault
-broke_taken f memory wrote tells output report count b a l1 s0 s1 s2 given text told fault begins wholes new header steps written text_is reported told_is fails long wants exact =
-    broke_file f memory wrote tells output report count b a l1 s0 s1 s2 given text told fault begins new header steps written text_is reported told_is fails long wants
+broke_taken f memory wrote tells output report count b a l1 s0 s1 s2 given text told fault begins wholes earlies grows new header steps early written text_is reported told_is fails long wants exact =
+    broke_file f memory wrote tells output report count b a l1 s0 s1 s2 given (wrote (but_last given)) text told fault begins new header steps
+    (least_before wrote grows given _ (earlies b.left l1 a.left s0 s1 s2 given new header steps early)) written text_is reported told_is fails long wants
     (flushed_file f wrote tells b a l1 s0 s1 s2 given fault wholes new header steps exact)
 
 -- the leading text is not written to its end
 pub broke_begin : {C S T U : Type 0} (f : Form) (memory : Bool) (wrote tells output report : List ItemRead → List ℕ) (count : List ItemRead → C) (b a : World S T U) (s0 s1 : RecordsState) (prefix : List ℕ)
-    → Begins f → IsNew s0 → PassesHeader f b.left a.left s0 s1 → Steps f a.left a.left s1 s1 []
+    → Begins f → Earlies f → AreNear f → IsNew s0 → PassesHeader f b.left a.left s0 s1 → NearSteps f a.left a.left s1 s1 []
     → AppendsPrefix b.written a.written prefix → IsPrefix prefix (output (records_to_come f s1 [])) → a.reported ≡ b.reported → Fails b a WriteFault
     → Broke (file_meaning f memory wrote tells output report count) b a WriteFault
-broke_begin f memory wrote tells output report count b a s0 s1 prefix begins new header none written prefix_is same fails =
-    broke_file f memory wrote tells output report count b a a.left s0 s1 s1 [] prefix [] WriteFault begins new header none written prefix_is
+broke_begin f memory wrote tells output report count b a s0 s1 prefix begins earlies nears new header none written prefix_is same fails =
+    let all = nears a.left a.left s1 s1 [] none in
+    let early = none_begin _ (earlies b.left a.left a.left s0 s1 s1 [] new header all.steps all.early) in
+    broke_file f memory wrote tells output report count b a a.left s0 s1 s1 [] [] prefix [] WriteFault begins new header all.steps
+    (subst (λ (l : List ItemRead). IsPrefix (text_before wrote l) []) (sym early) (prefix_nil []))
+    (between b.written a.written prefix written) prefix_is
     (subst (λ (u : Option (List ℕ)). AppendsPrefix b.reported u []) (sym same) (no_prefix b.reported [])) (prefix_nil _) fails (λ long. cc) (λ wants. cc) (λ is. absurd (let none : WriteFault ≡ ReadFault = is in cc))
+  where
+    none_begin : (xs : List ItemRead) → BeginWith [] xs → xs ≡ []
+    none_begin [] h = refl
+    none_begin (x ∷ xs) (rest, e) = absurd (cc)
 
--- the same where all records were given
+-- the same where all records were given and what is written of them was
 pub broke_end : {C S T U : Type 0} (f : Form) (memory : Bool) (wrote tells output report : List ItemRead → List ℕ) (count : List ItemRead → C) (b a : World S T U) (l1 : Option (List ℕ)) (s0 s1 s2 : RecordsState)
     (given : List ItemRead) (text told : List ℕ) (fault : BridgeFault)
-    → Begins f → IsNew s0 → PassesHeader f b.left l1 s0 s1 → Steps f l1 a.left s1 s2 given → AtEnd s2
-    → AppendsPrefix b.written a.written text → IsPrefix text (output given) → AppendsPrefix b.reported a.reported told → IsPrefix told (report given)
+    → Begins f → Earlies f → AreNear f → Grows wrote → IsNew s0 → PassesHeader f b.left l1 s0 s1 → NearSteps f l1 a.left s1 s2 given → AtEnd s2
+    → AppendsBetween b.written a.written (wrote given) text → IsPrefix text (output given) → AppendsPrefix b.reported a.reported told → IsPrefix told (report given)
     → Fails b a fault → (fault ≡ TooLong → ⊥) → (fault ≡ NoMemory → memory ≡ true) → (fault ≡ ReadFault → ⊥)
     → Broke (file_meaning f memory wrote tells output report count) b a fault
-broke_end f memory wrote tells output report count b a l1 s0 s1 s2 given text told fault begins new header steps end written text_is reported told_is fails short wants over =
+broke_end f memory wrote tells output report count b a l1 s0 s1 s2 given text told fault begins earlies nears grows new header near end written text_is reported told_is fails short wants over =
+    let steps = nears l1 a.left s1 s2 given near in
     let all : given ≡ given ++ records_to_come f s2 [] = sym (ap (λ (l : List ItemRead). given ++ l) (none_left f s2 end.kept end.rest) ∙ append-nil given) in
-    broke_file f memory wrote tells output report count b a l1 s0 s1 s2 given text told fault begins new header steps
+    broke_file f memory wrote tells output report count b a l1 s0 s1 s2 given (wrote given) text told fault begins new header steps.steps
+    (least_all wrote grows given _ (earlies b.left l1 a.left s0 s1 s2 given new header steps.steps steps.early))
     written (subst (λ (l : List ItemRead). IsPrefix text (output l)) all text_is) reported (subst (λ (l : List ItemRead). IsPrefix told (report l)) all told_is)
     fails (λ is. absurd (short is)) wants (λ is. absurd (over is))
 

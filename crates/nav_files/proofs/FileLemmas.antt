@@ -3,8 +3,8 @@ use Rattle.std.proofs.Common.{◌≡◌, ◌⊎◌, inl, inr, ℕ, true, false, 
 use Rattle.std.specs.Prelude.{Option, Result, Ok, Err}
 use Rattle.std.specs.Io.KnownBytes.{IsAtEnd}
 use Rattle.rinex_read.specs.Forms.{Form}
-use Rattle.rinex_read.specs.Files.{file_reads, whole_reads}
-use Rattle.rinex_read.specs.States.{HeaderSteps, IsPaused, RecordsState, Steps, PassesHeader, IsNew, MayCome, file_to_come, is_waiting, records_to_come}
+use Rattle.rinex_read.specs.Files.{BeginWith, early_reads, file_reads, whole_reads}
+use Rattle.rinex_read.specs.States.{AreEarly, HeaderSteps, IsPaused, RecordsState, Steps, PassesHeader, IsNew, MayCome, file_to_come, is_waiting, records_to_come}
 use Rattle.rinex_read.specs.declared.judged.HeaderState.TheVariants.{Passed}
 use Rattle.rinex_read.specs.declared.judged.HeaderFault.TheVariants.{NotRinexNav}
 use Rattle.rinex_read.specs.declared.judged.ItemRead.{ItemRead}
@@ -23,6 +23,16 @@ Wholes f = (left middle left_new : Option (List ℕ)) (old now new : RecordsStat
 abbrev pub Opens : Form → Type 0
 Opens f = (left left_new : Option (List ℕ)) (old new : RecordsState) → IsNew old → (steps : HeaderSteps f left left_new old new)
     → is_waiting new.header ≡ true → IsPaused new → whole_reads f steps.reads.taken ≡ Err NotRinexNav
+
+-- the records that are whole in all bytes but the last 4,096 were given, and in the header there are none
+abbrev pub Earlies : Form → Type 0
+Earlies f = (left middle left_new : Option (List ℕ)) (old now new : RecordsState) (given : List ItemRead) → IsNew old
+    → (header : PassesHeader f left middle old now) → (steps : Steps f middle left_new now new given) → AreEarly now.lines steps.reads.taken steps.lines
+    → BeginWith given (early_reads f (header.steps.reads.taken ++ steps.reads.taken))
+
+abbrev pub NoEarlies : Form → Type 0
+NoEarlies f = (left left_new : Option (List ℕ)) (old new : RecordsState) → IsNew old → (steps : HeaderSteps f left left_new old new)
+    → AreEarly old.lines steps.reads.taken steps.lines → (new.header ≡ Passed → ⊥) → early_reads f steps.reads.taken ≡ []
 
 -- after the header its records are to come
 pub passed_file : (f : Form) (s : RecordsState) (bytes : List ℕ) → s.header ≡ Passed → file_to_come f s bytes ≡ Ok (records_to_come f s bytes)

@@ -14,7 +14,9 @@ use Rattle.nav_lists.specs.declared.range.CoverRange.{CoverRange}
 use Rattle.nav_lists.specs.Covering.{AreCovering, AreCovers, AreRanges, CoversSecond, IsIn}
 use Rattle.rinex_read.specs.declared.judged.ItemRead.{ItemRead}
 use Rattle.rinex_read.specs.declared.judged.ItemRead.TheVariants.{Item, Refused, PassedOver, End}
+use Rattle.one_run.specs.Runs.{AppendsBetween}
 use Rattle.one_run.proofs.Surface.{prefix_behind}
+use Rattle.nav_files.proofs.ConvertLemmas.{between_behind}
 use Rattle.nav_files.specs.declared.counts.RinexCounts.{RinexCounts}
 use Rattle.nav_files.specs.Files.{counts_of_reads}
 use Rattle.nav_files.specs.Mirrors.{AreCounted}
@@ -88,6 +90,6 @@ nothing_counted c nothing = rw nothing (omega arith)
 -- ---- the end
 
 pub finish_as : {E : Type 0} (prefix text whole : List ℕ) (start w w1 : Option (List ℕ)) (f f1 : ℕ) (r : Result (Unit {0}) E) → text ≡ whole
-    → Appends start w prefix → Writes w w1 f f1 r text → MatchResult r (λ _. Appends start w1 (prefix ++ whole)) (λ _. AppendsPrefix start w1 (prefix ++ whole))
+    → Appends start w prefix → Writes w w1 f f1 r text → MatchResult r (λ _. Appends start w1 (prefix ++ whole)) (λ _. AppendsBetween start w1 prefix (prefix ++ whole))
 finish_as prefix text whole start w w1 f f1 (Ok x) is so_far writes = Appends-trans start w w1 prefix whole so_far (subst (Appends w w1) is writes.bytes)
-finish_as prefix text whole start w w1 f f1 (Err x) is so_far writes = prefix_behind start w w1 prefix whole so_far (subst (AppendsPrefix w w1) is writes.bytes)
+finish_as prefix text whole start w w1 f f1 (Err x) is so_far writes = between_behind start w w1 prefix whole so_far (subst (AppendsPrefix w w1) is writes.bytes)

@@ -4,17 +4,24 @@ use Rattle.std.specs.Prelude.{Option, Some, None, IfSome, IfNone}
 use Rattle.std.specs.List.{sum_by}
 use Rattle.std.proofs.lemmas.List.Sums.{sum-map, sum_by-append}
 use Rattle.rinex_read.specs.Forms.{Form}
-use Rattle.rinex_read.specs.States.{RecordsState, Steps, GivesRead, GivesRecord, GivesNone, held_count, lines_left}
+use Rattle.rinex_read.specs.States.{EarlySteps, NearSteps, RecordsState, GivesRead, GivesRecord, GivesNone, held_count, lines_left}
 use Rattle.rinex_read.specs.declared.judged.ItemRead.{ItemRead}
 use Rattle.rinex_read.specs.declared.judged.ItemRead.TheVariants.{Item, Refused, PassedOver, End}
 use Rattle.nav_files.specs.declared.counts.RinexCounts.{RinexCounts}
 use Rattle.nav_files.specs.Files.{counts_of_reads, is_refused_read, is_passed, is_item}
 use Rattle.nav_files.specs.Mirrors.{IsRecord, counted}
 
--- steps of a reader, one after another
+-- steps of a reader, one after another, and those in which all was given that has ended early
 abbrev pub Follow : Form → Type 0
 Follow f = (left middle left_new : Option (List ℕ)) (old now new : RecordsState) (some more : List ItemRead)
-    → Steps f left middle old now some → Steps f middle left_new now new more → Steps f left left_new old new (some ++ more)
+    → NearSteps f left middle old now some → NearSteps f middle left_new now new more → NearSteps f left left_new old new (some ++ more)
+
+abbrev pub FollowEarly : Form → Type 0
+FollowEarly f = (left middle left_new : Option (List ℕ)) (old now new : RecordsState) (some more : List ItemRead)
+    → NearSteps f left middle old now some → EarlySteps f middle left_new now new more → EarlySteps f left left_new old new (some ++ more)
+
+abbrev pub AreNear : Form → Type 0
+AreNear f = (left left_new : Option (List ℕ)) (old new : RecordsState) (given : List ItemRead) → NearSteps f left left_new old new given → EarlySteps f left left_new old new given
 
 -- ---- counts
 

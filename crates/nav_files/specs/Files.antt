@@ -1,8 +1,8 @@
 -- What is written and reported of a RINEX navigation file: its items in the order of its records, repeats included.
-use Rattle.std.specs.Prelude.{ℕ, Bool, true, false, List, [], ◌++◌, length, codes, map, sum, Option, None, Some, Result, Ok, Err}
+use Rattle.std.specs.Prelude.{ℕ, Bool, true, false, List, [], ◌∷◌, ◌++◌, length, codes, map, sum, Option, None, Some, Result, Ok, Err}
 use Rattle.std.specs.List.{flat_map}
 use Rattle.nav_eph.specs.declared.items.NavItem.{NavItem}
-use Rattle.rinex_read.specs.Files.{file_reads, whole_reads}
+use Rattle.rinex_read.specs.Files.{but_last, early_reads, file_reads, whole_reads}
 use Rattle.rinex_read.specs.Forms.{Form}
 use Rattle.rinex_read.specs.declared.judged.HeaderFault.{HeaderFault}
 use Rattle.rinex_read.specs.declared.judged.ItemRead.{ItemRead}
@@ -12,7 +12,7 @@ use Rattle.rinex_read.specs.declared.reason.Reason.TheVariants.{BadSat, Short, N
 use Rattle.outlets.specs.Targets.{prefix_text, item_text}
 use Rattle.outlets.specs.declared.target.Target.{Target}
 use Rattle.one_run.specs.Reports.{report_line, count_line}
-use Rattle.one_run.specs.Runs.{Meaning, no_least}
+use Rattle.one_run.specs.Runs.{Meaning}
 use Rattle.nav_files.specs.declared.counts.RinexCounts.{RinexCounts}
 
 -- the report's word for why a record is refused
@@ -88,8 +88,14 @@ abbrev pub text_in : (List ItemRead → List ℕ) → Result (List ItemRead) Hea
 text_in text (Ok reads) = text reads
 text_in text (Err fault) = []
 
+-- what is written before the last of these records; nothing where there is none
+abbrev pub text_before : (List ItemRead → List ℕ) → List ItemRead → List ℕ
+text_before text [] = []
+text_before text (r ∷ rs) = text (but_last (r ∷ rs))
+
 -- A run over a file of a form: whether it takes memory, what it has written and reported after some records, what it writes and
--- reports of all records, and what it counts. After a failed read it has processed the records that are complete in the bytes.
+-- reports of all records, and what it counts. After a failed read it has processed the records that are complete in the bytes; after
+-- any fault it has written at least what is written before the last of the records complete in all bytes but the last 4,096.
 abbrev pub file_meaning : {C : Type 0} → Form → Bool → (List ItemRead → List ℕ) → (List ItemRead → List ℕ) → (List ItemRead → List ℕ) → (List ItemRead → List ℕ)
     → (List ItemRead → C) → Meaning C
 file_meaning f memory text told output report count = record {
@@ -98,7 +104,7 @@ file_meaning f memory text told output report count = record {
   memory = memory;
   counts = λ bytes. counted_in count (file_reads f bytes);
   whole = record { output = λ bytes. text_in output (file_reads f bytes); report = λ bytes. text_in report (file_reads f bytes) };
-  least = no_least;
+  least = λ bytes. text_before text (early_reads f bytes);
   flushed = Some (record { output = λ bytes. text_in text (whole_reads f bytes); report = λ bytes. text_in told (whole_reads f bytes) });
 }
 

@@ -1,8 +1,8 @@
 -- A file while it is read. Private functions cite these.
-use Rattle.std.specs.Prelude.{◌≡◌, ◌+◌, ◌-◌, ◌^◌, ◌⊎◌, ℕ, List, Option, true}
+use Rattle.std.specs.Prelude.{◌≡◌, ◌+◌, ◌⊎◌, ℕ, List, Option, true}
 use Rattle.rinex_read.specs.Forms.{Form}
 use Rattle.nav_io.specs.declared.lines.LineFault.TheVariants as lines
-use Rattle.rinex_read.specs.States.{RecordsState, HeaderSteps, BreaksRecord, BrokeBy, is_waiting}
+use Rattle.rinex_read.specs.States.{AreEarly, RecordsState, HeaderSteps, BreaksRecord, BrokeBy, is_waiting}
 use Rattle.rinex_read.specs.declared.judged.HeaderState.TheVariants.{NotRinexNav, OtherVersion}
 use Rattle.rinex_read.specs.declared.judged.ItemRead.{ItemRead}
 use Rattle.rinex_read.specs.declared.judged.ItemRead.TheVariants.{Item, Refused, PassedOver, End}
@@ -47,4 +47,5 @@ BreaksRead f left left_new old new _ = ⊥
 -- The header is refused, whatever bytes follow, or the reader breaks off in it.
 pub record NoHeader (f : Form) (left left_new : Option (List ℕ)) (old new : RecordsState) (fault : BridgeFault) : Type 0 where
   pub steps : HeaderSteps f left left_new old new
+  pub early : AreEarly old.lines steps.reads.taken steps.lines
   pub by : HeaderFaultOf fault new

@@ -2,9 +2,11 @@
 use Rattle.std.specs.Prelude.{◌≡◌, ◌+◌, ◌^◌, ◌<◌, ◌≤◌, ℕ, Bool, true, List, [], length, Option}
 use Rattle.std.specs.Io.KnownBytes.{Appends}
 use Rattle.nav_io.specs.Prefix.{AppendsPrefix}
+use Rattle.rinex_read.specs.Files.{but_last}
 use Rattle.rinex_read.specs.Forms.{Form}
-use Rattle.rinex_read.specs.States.{IsPaused, RecordsState, Steps, lines_left}
+use Rattle.rinex_read.specs.States.{AreEarly, HoldsEnd, IsPaused, RecordsState, Steps, lines_left}
 use Rattle.rinex_read.specs.declared.judged.ItemRead.{ItemRead}
+use Rattle.one_run.specs.Runs.{AppendsBetween}
 use Rattle.one_run.specs.declared.fault.BridgeFault.{BridgeFault}
 use Rattle.one_run.specs.declared.fault.BridgeFault.TheVariants.{ReadFault, NotThisForm, TooLong, NoMemory}
 
@@ -12,6 +14,7 @@ use Rattle.one_run.specs.declared.fault.BridgeFault.TheVariants.{ReadFault, NotT
 pub record TakenReads (f : Form) (text told : List ItemRead → List ℕ) (holds : List ItemRead → Type 0) (left left_new : Option (List ℕ)) (old new : RecordsState) (written written_new reported reported_new : Option (List ℕ)) : Type 0 where
   pub given : List ItemRead
   pub steps : Steps f left left_new old new given
+  pub near : HoldsEnd old.lines new.lines steps.reads.taken
   pub held : holds given
   pub output : (start : Option (List ℕ)) → Appends start written (text []) → Appends start written_new (text given)
   pub report : (start : Option (List ℕ)) → Appends start reported (told []) → Appends start reported_new (told given)
@@ -28,16 +31,19 @@ pub record AtEnd (s : RecordsState) : Type 0 where
 pub record TakesAll (f : Form) (text told : List ItemRead → List ℕ) (holds : List ItemRead → Type 0) (left left_new : Option (List ℕ)) (old new : RecordsState) (written written_new reported reported_new : Option (List ℕ)) : Type 0 where
   pub given : List ItemRead
   pub steps : Steps f left left_new old new given
+  pub near : HoldsEnd old.lines new.lines steps.reads.taken
   pub held : holds given
   pub output : (start : Option (List ℕ)) → Appends start written (text []) → Appends start written_new (text given)
   pub report : (start : Option (List ℕ)) → Appends start reported (told []) → Appends start reported_new (told given)
   pub end : AtEnd new
 
--- These records were read, and a prefix was written and reported of what belongs to them; after a failed read all of it.
+-- These records were read, and a prefix was written and reported of what belongs to them: all of it after a failed read, and else at
+-- least what is written before the last of them.
 pub record TakesPart (f : Form) (text told : List ItemRead → List ℕ) (memory : Bool) (left left_new : Option (List ℕ)) (old new : RecordsState) (written written_new reported reported_new : Option (List ℕ)) (fault : BridgeFault) : Type 0 where
   pub given : List ItemRead
   pub steps : Steps f left left_new old new given
-  pub output : (start : Option (List ℕ)) → Appends start written (text []) → AppendsPrefix start written_new (text given)
+  pub early : AreEarly old.lines steps.reads.taken steps.lines
+  pub output : (start : Option (List ℕ)) → Appends start written (text []) → AppendsBetween start written_new (text (but_last given)) (text given)
   pub report : (start : Option (List ℕ)) → Appends start reported (told []) → AppendsPrefix start reported_new (told given)
   pub form : fault ≡ NotThisForm → ⊥
   pub too_long : fault ≡ TooLong → new.lines.taken ≡ 2 ^ 32

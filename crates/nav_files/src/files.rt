@@ -25,7 +25,8 @@ use rinex_read::{Rinex3, Rinex4};
 /// - `NotThisForm` exactly where the header is refused; nothing is written then.
 /// - `ReadFault`, `WriteFault`, `ReportFault` only where the fault count of the input, the output or the report rose, or is at
 ///   its maximum. After a failed read exactly what the records give that are complete in the bytes read was written and
-///   reported: those that are followed by the complete first line of another.
+///   reported: those that are followed by the complete first line of another. After any other fault at least what is written
+///   before the last of the records that are complete in all bytes read but the last 4,096.
 /// - `TooLong` only where 4,294,967,295 bytes were read and there was one more.
 ///
 /// It allocates no memory.

@@ -27,7 +27,8 @@ use std::alloc::Global;
 /// - `NotThisForm` exactly where the header is refused; nothing is written then.
 /// - `ReadFault`, `WriteFault`, `ReportFault` only where the fault count of the input, the output or the report rose, or is
 ///   at its maximum. After a failed read only the header was written, and exactly the refusals of the records that are
-///   complete in the bytes read were reported.
+///   complete in the bytes read were reported. After any other fault the header was written where a record is complete in
+///   all bytes read but the last 4,096.
 /// - `TooLong` only where 4,294,967,295 bytes were read and there was one more.
 /// - `NoMemory` when memory for the items is missing.
 pub fn run_merge<S: Source, T: Sink, U: Sink>(

@@ -10,7 +10,7 @@ ghost use Rattle.rinex_read.specs.RoundTrip.{IsWholeRead};
 ghost use Rattle.rinex_read.specs.declared.judged.HeaderState.TheVariants.{Passed};
 ghost use Rattle.rinex_read.specs.declared.judged.ItemRead.{ItemRead};
 ghost use Rattle.one_run.specs.Causes.{HasItsCause, faults_of};
-ghost use Rattle.one_run.specs.Runs.{Ran};
+ghost use Rattle.one_run.specs.Runs.{AppendsBetween, Ran};
 ghost use Rattle.nav_files.specs.Files.{file_meaning};
 ghost use Rattle.nav_files.specs.Mirrors.{IsRecord};
 ghost use Rattle.nav_files.specs.Taken.{TakesAll, TakesPart};
@@ -20,8 +20,8 @@ use crate::records::next_read;
 use nav_io::{Failed, Sink, Source};
 use one_run::{BridgeFault, Text};
 use rinex_read::{
-    FileForm, ItemRead, RecordReader, readers_begin_with_the_file, steps_compose,
-    whole_records_are_given,
+    FileForm, ItemRead, RecordReader, early_records_are_given, readers_begin_with_the_file,
+    steps_compose, whole_records_are_given,
 };
 
 /// What a run does with the records of a file, in order. Its settings do not change; what it holds of the records is its state.
@@ -48,8 +48,11 @@ pub trait Taker {
     // The state is that after these records.
     ghost holds: { Self → Self.State → List ItemRead → Type 0 };
 
-    // What was written and reported is a prefix of the whole; at first nothing is reported.
+    // What was written and reported is a prefix of the whole, and of what is written of more records; at first nothing is
+    // reported.
     fn begins(&self)
+        ensures grows { (some more : List ItemRead)
+            → IsPrefix (text self.now some) (text self.now (some ++ more)) }
         ensures text { (some more : List ItemRead)
             → IsPrefix (text self.now some) (whole self.now (some ++ more)) }
         ensures told { (some more : List ItemRead)
@@ -61,7 +64,7 @@ pub trait Taker {
         ensures { Writes (T.written output.old) (T.written output.new)
             (T.faults output.old) (T.faults output.new) result (text self.now []) };
 
-    // Processes a record.
+    // Processes a record. Where that fails, all that belongs to the records before it was written.
     fn take<T: Sink, U: Sink>(
         &self,
         state: &mut Self::State,
@@ -80,7 +83,7 @@ pub trait Taker {
             → Appends start (T.written output.old) (text self.now reads)
             → MatchResult result
             (λ _. Appends start (T.written output.new) (text self.now (reads ++ read.now ∷ [])))
-            (λ _. AppendsPrefix start (T.written output.new)
+            (λ _. AppendsBetween start (T.written output.new) (text self.now reads)
             (text self.now (reads ++ read.now ∷ []))) }
         ensures report { (reads : List ItemRead) (start : Option (List ℕ))
             → holds self.now state.old reads
@@ -100,14 +103,15 @@ pub trait Taker {
         ensures { (reads : List ItemRead) → holds self.now state.now reads
             → result ≡ count self.now reads };
 
-    // Writes the text at the end of a file.
+    // Writes the text at the end of a file. Where that fails, all that belongs to its records was written before.
     fn finish<T: Sink>(&self, state: &mut Self::State, output: &mut T) -> Result<(), Failed>
         ensures output { (reads : List ItemRead) (start : Option (List ℕ))
             → holds self.now state.old reads
             → Appends start (T.written output.old) (text self.now reads)
             → MatchResult result
             (λ _. Appends start (T.written output.new) (whole self.now reads))
-            (λ _. AppendsPrefix start (T.written output.new) (whole self.now reads)) }
+            (λ _. AppendsBetween start (T.written output.new) (text self.now reads)
+            (whole self.now reads)) }
         ensures cause { HasCause (T.faults output.old) (T.faults output.new) result };
 
     // The text of counts.
@@ -127,6 +131,8 @@ fn process_records<F: FileForm, K: Taker, S: Source, T: Sink, U: Sink>(
 ) -> Result<(), BridgeFault>
     requires header { records.old.header ≡ Passed }
     requires nothing { K.holds taker.now state.old [] }
+    requires grows { (some more : List ItemRead)
+        → IsPrefix (K.text taker.now some) (K.text taker.now (some ++ more)) }
     ensures all { OnOk result (TakesAll F.form (K.text taker.now) (K.told taker.now)
         (K.holds taker.now state.new) (S.left input.old) (S.left input.new)
         records.old records.new (T.written output.old) (T.written output.new)
@@ -169,6 +175,7 @@ pub fn run_file<F: FileForm, K: Taker, S: Source, T: Sink, U: Sink>(
     readers_begin_with_the_file::<F>();
     steps_compose::<F>();
     whole_records_are_given::<F>();
+    early_records_are_given::<F>();
     taker.begins();
     let mut records: RecordReader<F> = RecordReader::new();
     pass_header::<F, S>(&mut records, input)?;

@@ -7,7 +7,6 @@ use nav_eph::{
     NavItem, Part, Sat, SentSecond, SentTag, Sisa, Step16, Step60, System, gal_transmission_number,
     gps_transmission_number,
 };
-use std::test::Fail;
 
 fn side() -> GpsSide {
     GpsSide {
@@ -51,48 +50,32 @@ fn galileo_ionosphere() -> GalIon {
     }
 }
 
-#[test]
-fn small_values(rt: HostRuntime) -> Result<(), Fail> {
-    let step16 = Step16::new(37_799).ok_or("steps")?;
-    let step60 = Step60::new(10_079).ok_or("steps")?;
-    let sisa = Sisa::new(255).ok_or("an index")?;
-    let last = Sat::new(System::Gps, 32).ok_or("a satellite")?;
-    let first = Sat::new(System::Gal, 1).ok_or("a satellite")?;
-    let values = (step16.value(), step60.value(), sisa.value());
-    let name = (last.system(), last.number());
-    let order = last < first && last.is_before(&first);
-    assert!(rt; values == (37_799, 10_079, 255) && name == (System::Gps, 32) && order);
-    Ok(())
+fn small_values() -> Option<bool> {
+    let step16 = Step16::new(37_799)?;
+    let step60 = Step60::new(10_079)?;
+    let sisa = Sisa::new(255)?;
+    let last = Sat::new(System::Gps, 32)?;
+    let first = Sat::new(System::Gal, 1)?;
+    let values = step16.value() == 37_799 && step60.value() == 10_079 && sisa.value() == 255;
+    let name = last.system() == System::Gps && last.number() == 32;
+    Some(values && name && last < first && last.is_before(&first))
 }
 
-#[test]
-fn numbers(rt: HostRuntime) -> Result<(), Fail> {
+// The numbers by which values are compared.
+fn numbers() -> Option<bool> {
     let wn = U::from_bits(247);
-    let second = Second::new(604_799).ok_or("a second")?;
+    let second = Second::new(604_799)?;
     let sent = SentTag::Sent { wn, second };
     let toe = SentTag::Toe { wn, second };
-    let numbers = [
-        side().number(),
-        sent.number(),
-        toe.number(),
-        health().number_with(&sent) >> 33,
-        IonContent::Gps(gps_ionosphere()).number(),
-        IonContent::Gal(galileo_ionosphere()).number(),
-        gps_transmission_number(second),
-        gal_transmission_number(U::from_bits(0xFFF), second),
-    ];
-    let wanted = [
-        0b01_0010_111111_1,
-        0x0_0F7_93A7F,
-        0x1_0F7_93A7F,
-        0b1111111111_0000000001_10_11_1_0,
-        0xFF7F_0000_0000_0080,
-        0b11111111111_11111111111_00000000000000_10000,
-        604_799,
-        0xFFF_93A7F,
-    ];
-    assert!(rt; numbers == wanted);
-    Ok(())
+    let tags = sent.number() == 0x0_0F7_93A7F && toe.number() == 0x1_0F7_93A7F;
+    let side = side().number() == 0b01_0010_111111_1;
+    let health = health().number_with(&sent) >> 33 == 0b1111111111_0000000001_10_11_1_0;
+    let gps = IonContent::Gps(gps_ionosphere()).number() == 0xFF7F_0000_0000_0080;
+    let galileo = IonContent::Gal(galileo_ionosphere()).number()
+        == 0b11111111111_11111111111_00000000000000_10000;
+    let of_gps = gps_transmission_number(second) == 604_799;
+    let of_galileo = gal_transmission_number(U::from_bits(0xFFF), second) == 0xFFF_93A7F;
+    Some(tags && side && health && gps && galileo && of_gps && of_galileo)
 }
 
 // A clock of issue 7 and a health of Galileo, sent in the second 0 of a week number.
@@ -107,65 +90,69 @@ fn health_body(wn: U<12>) -> Option<Body> {
     Some(Body::GalHealth(health(), SentTag::Sent { wn, second }))
 }
 
-#[test]
-fn parts(rt: HostRuntime) -> Result<(), Fail> {
+fn parts() -> Option<bool> {
+    let _inside: Option<SentTag> = None;
     let sat = gps(5)?;
     let (last, next) = (U::from_bits(1_023), U::from_bits(1_024));
-    let part = Part::new(60, sat, clock_body(last).ok_or("a clock")?);
-    let long = Part::new(60, sat, clock_body(next).ok_or("a clock")?);
-    let other = Part::new(60, sat, health_body(next).ok_or("a health")?);
-    assert!(rt; part.ok_or("a part")?.stamp == 60 && long.is_none() && other.is_none());
-    Ok(())
+    let part = Part::new(60, sat, clock_body(last)?)?;
+    let long = Part::new(60, sat, clock_body(next)?);
+    let other = Part::new(60, sat, health_body(next)?);
+    Some(part.stamp == 60 && long.is_none() && other.is_none())
 }
 
 // The ephemeris of issue 7 of G05.
-fn ephemeris(sent: SentSecond) -> Result<Option<GpsEph>, Fail> {
-    let zero = Step16::new(0).ok_or("steps")?;
+fn ephemeris(sent: SentSecond) -> Option<GpsEph> {
+    let zero = Step16::new(0)?;
     let clock = clock(U::from_bits(7), zero);
     let a = orbit_a(U::from_bits(7), S::from_bits(0), zero);
     let b = orbit_b(U::from_bits(7));
-    let week = Week::new(2_295).ok_or("a week")?;
+    let week = Week::new(2_295)?;
     let fit = U::from_bits(0);
-    Ok(GpsEph::new(gps(5)?, clock, side(), a, fit, b, week, sent))
+    GpsEph::new(gps(5)?, clock, side(), a, fit, b, week, sent)
 }
 
 // The ionosphere that G05 says at a moment.
-fn ionosphere(seconds: u64) -> Result<Option<IonEph>, Fail> {
-    let moment = Moment::new(seconds).ok_or("a moment")?;
-    Ok(IonEph::new(gps(5)?, moment, IonContent::Gps(gps_ionosphere())))
+fn ionosphere(seconds: u64) -> Option<IonEph> {
+    IonEph::new(
+        gps(5)?,
+        Moment::new(seconds)?,
+        IonContent::Gps(gps_ionosphere()),
+    )
 }
 
-#[test]
-fn items(rt: HostRuntime) -> Result<(), Fail> {
-    let late = NavItem::Gps(ephemeris(SentSecond::At(907_199))?.ok_or("an ephemeris")?);
-    let early = NavItem::Gps(ephemeris(SentSecond::At(-302_400))?.ok_or("an ephemeris")?);
-    let eph = ephemeris(SentSecond::Unknown)?.ok_or("an ephemeris")?;
+fn items() -> Option<bool> {
+    let late = NavItem::Gps(ephemeris(SentSecond::At(907_199))?);
+    let early = NavItem::Gps(ephemeris(SentSecond::At(-302_400))?);
+    let eph = ephemeris(SentSecond::Unknown)?;
     let b = orbit_b(U::from_bits(8));
     late.ranges();
     let whole = late.is_whole() && !NavItem::Gps(GpsEph { b, ..eph }).is_whole();
     let alike = late.is_alike(&early) && !late.is_same(&early);
-    let too_late = ephemeris(SentSecond::At(907_200))?;
-    assert!(rt; whole && alike && too_late.is_none());
-    let ion = ionosphere(604_800)?.ok_or("an ionosphere")?;
-    assert!(rt; ion.sat == gps(5)? && ionosphere(604_799)?.is_none());
-    Ok(())
+    let too_late = ephemeris(SentSecond::At(907_200));
+    let of_g05 = ionosphere(604_800)?.sat == gps(5)?;
+    Some(whole && alike && too_late.is_none() && of_g05 && ionosphere(604_799).is_none())
 }
 
 // The ephemeris of issue 63 of E05 with another second word.
-fn galileo_ephemeris(w2: GalWord2) -> Result<Option<GalEph>, Fail> {
+fn galileo_ephemeris(w2: GalWord2) -> Option<GalEph> {
     let issue = U::from_bits(63);
-    let zero = Step60::new(0).ok_or("steps")?;
-    let sisa = Sisa::new(107).ok_or("an index")?;
+    let zero = Step60::new(0)?;
+    let sisa = Sisa::new(107)?;
     let (w1, w3, w4) = (word1(issue, zero), word3(issue, sisa), word4(issue, zero));
-    let week = Week::new(2_295).ok_or("a week")?;
+    let week = Week::new(2_295)?;
     let sent = SentSecond::Unknown;
-    Ok(GalEph::new(samples::galileo(5)?, w1, w2, w3, w4, health(), week, sent))
+    GalEph::new(samples::galileo(5)?, w1, w2, w3, w4, health(), week, sent)
+}
+
+fn galileo() -> Option<bool> {
+    let eph = galileo_ephemeris(word2(U::from_bits(63)))?;
+    let other = galileo_ephemeris(word2(U::from_bits(64)));
+    Some(eph.w3.sisa.value() == 107 && other.is_none())
 }
 
 #[test]
-fn galileo(rt: HostRuntime) -> Result<(), Fail> {
-    let eph = galileo_ephemeris(word2(U::from_bits(63)))?.ok_or("an ephemeris")?;
-    let other = galileo_ephemeris(word2(U::from_bits(64)))?;
-    assert!(rt; eph.w3.sisa.value() == 107 && other.is_none());
-    Ok(())
+fn values(rt: HostRuntime) {
+    let small = small_values() == Some(true) && numbers() == Some(true);
+    let whole = parts() == Some(true) && items() == Some(true) && galileo() == Some(true);
+    assert!(rt; small && whole);
 }

@@ -1,7 +1,7 @@
 //! Tests of weeks, ephemerides and the periods in which they are heard.
 //!
 //! A module for each library below: `gnss_week`, `nav_eph`, `nav_lists`, `periods`,
-//! `slot_assembly`, `slot_assembly`, `nav_vectors`. The expected values come from
+//! `slot_assembly`, `nav_vectors`. The expected values come from
 //! outside: from the interface documents, or from programs written apart from these libraries.
 #![tactic(auto)]
 
@@ -12,13 +12,13 @@ mod covers;
 #[cfg(test)]
 mod ephemerides;
 #[cfg(test)]
+mod laws;
+#[cfg(test)]
 mod merges;
 #[cfg(test)]
 mod parts;
 #[cfg(test)]
 mod period_rows;
-#[cfg(test)]
-mod period_sets;
 #[cfg(test)]
 mod runs;
 #[cfg(test)]

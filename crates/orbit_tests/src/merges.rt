@@ -6,7 +6,7 @@ use std::test::Fail;
 
 // An ephemeris of a toe, with a mean anomaly.
 fn gps(toe: u64, m0: S<32>, sent: SentSecond) -> Result<NavItem, Fail> {
-    ephemeris(toe, m0, U::from_bits(0), sent)
+    Ok(ephemeris(toe, m0, U::from_bits(0), sent).ok_or("an ephemeris")?)
 }
 
 // Adds the items of a file.
@@ -37,7 +37,7 @@ fn three_files(rt: HostRuntime) -> Result<(), Fail> {
     let unknown = gps(0, zero, SentSecond::Unknown)?;
     let negative = gps(0, below, SentSecond::Unknown)?;
     let next = gps(450, zero, SentSecond::At(7_200))?;
-    let ion = ionosphere()?;
+    let ion = ionosphere().ok_or("an ionosphere")?;
     let files: [[NavItem; 3]; 3] = [
         [next, late, ion],
         [first, ion, first],

@@ -3,12 +3,11 @@
 ghost use Rattle.std.specs.Prelude.{◌≤◌, OnOk};
 ghost use Rattle.slot_assembly.specs.Standing.{Stood};
 
-use crate::parts::{A, B, C, parts_of};
+use crate::parts::{A, B, C, Heard, parts_of};
 use nav_eph::Part;
 use periods::{Closed, Verdict};
 use slot_assembly::Assembly;
 use std::alloc::{AllocError, Global};
-use std::test::Fail;
 
 // A window of two hours, and the week of 2023-12-31.
 pub(crate) const WINDOW: u32 = 7_200;
@@ -70,16 +69,22 @@ pub(crate) fn run<T: Assembly>(
 pub(crate) fn gives_a_period_once<T: Assembly>(
     alloc: Global,
     assembly: &mut T,
-) -> Result<bool, Fail>
+) -> Result<bool, AllocError>
     requires { Stood (T.stands_for assembly.old) (λ at. at.watermark ≤ 0) }
 {
-    let parts = parts_of(alloc, &[(0, A), (6, B), (12, C)])?;
+    let heard = [
+        Heard { stamp: 0, kind: A },
+        Heard { stamp: 6, kind: B },
+        Heard { stamp: 12, kind: C },
+    ];
+    let parts = parts_of(alloc, &heard)?;
     let mut given = Vec::new(alloc);
     let watermarks = [7_212, 7_213, 7_213, u64::MAX];
     run(assembly, parts.as_slice(), &watermarks, &mut given)?;
     Ok(match given.as_slice() {
-        [(watermark, closed)] => (*watermark, closed.end, letter(&closed.verdict))
-            == (7_213, 12, 'w'),
+        [(watermark, closed)] => {
+            *watermark == 7_213 && closed.end == 12 && letter(&closed.verdict) == 'w'
+        }
         _ => false,
     })
 }

@@ -6,14 +6,13 @@ use nav_eph::{
     GalWord1, GalWord2, GalWord3, GalWord4, GpsClock, GpsEph, GpsIon, GpsOrbitA, GpsOrbitB,
     GpsSide, IonContent, IonEph, NavItem, Sat, SentSecond, Sisa, Step16, Step60, System,
 };
-use std::test::Fail;
 
-pub(crate) fn gps(number: u8) -> Result<Sat, Fail> {
-    Ok(Sat::new(System::Gps, number).ok_or("a satellite")?)
+pub(crate) fn gps(number: u8) -> Option<Sat> {
+    Sat::new(System::Gps, number)
 }
 
-pub(crate) fn galileo(number: u8) -> Result<Sat, Fail> {
-    Ok(Sat::new(System::Gal, number).ok_or("a satellite")?)
+pub(crate) fn galileo(number: u8) -> Option<Sat> {
+    Sat::new(System::Gal, number)
 }
 
 pub(crate) fn clock(issue: U<10>, toc: Step16) -> GpsClock {
@@ -123,25 +122,25 @@ pub(crate) fn gps_ionosphere() -> GpsIon {
 }
 
 // The ephemeris of G05 of a toe in steps of week 2295.
-pub(crate) fn ephemeris(toe: u64, m0: S<32>, fit: U<1>, sent: SentSecond) -> Result<NavItem, Fail> {
-    let toe = Step16::new(toe).ok_or("a time")?;
-    Ok(NavItem::Gps(GpsEph {
+pub(crate) fn ephemeris(toe: u64, m0: S<32>, fit: U<1>, sent: SentSecond) -> Option<NavItem> {
+    let toe = Step16::new(toe)?;
+    Some(NavItem::Gps(GpsEph {
         sat: gps(5)?,
         clock: clock(U::from_bits(0), toe),
         side: side(U::from_bits(0), U::from_bits(0)),
         a: orbit_a(U::from_bits(0), m0, toe),
         fit,
         b: orbit_b(U::from_bits(0)),
-        toe_week: Week::new(2_295).ok_or("a week")?,
+        toe_week: Week::new(2_295)?,
         sent,
     }))
 }
 
 // The ionosphere that G07 says at the start of week 2295.
-pub(crate) fn ionosphere() -> Result<NavItem, Fail> {
-    Ok(NavItem::Ion(IonEph {
+pub(crate) fn ionosphere() -> Option<NavItem> {
+    Some(NavItem::Ion(IonEph {
         sat: gps(7)?,
-        moment: Moment::new(1_388_016_000).ok_or("a moment")?,
+        moment: Moment::new(1_388_016_000)?,
         content: IonContent::Gps(gps_ionosphere()),
     }))
 }

@@ -3,144 +3,170 @@ use gnss_week::{
     is_near_gps, moment_of, nearest_moment,
 };
 use nav_bits::U;
-use std::test::Fail;
 
-fn gps(reference: u32, number: u64) -> Option<u32> {
-    Some(gps_week(RefWeek::new(reference)?, U::new(number)?).value())
+// A reference week, the bits of a week in a message, and the week.
+struct WeekRow {
+    reference: u32,
+    bits: u64,
+    week: u32,
 }
 
-fn galileo(reference: u32, number: u64) -> Option<u32> {
-    Some(gal_week(RefWeek::new(reference)?, U::new(number)?).value())
+static GPS_WEEKS: [WeekRow; 9] = [
+    WeekRow {
+        reference: 2295,
+        bits: 247,
+        week: 2295,
+    },
+    WeekRow {
+        reference: 2295,
+        bits: 758,
+        week: 2806,
+    },
+    WeekRow {
+        reference: 2295,
+        bits: 759,
+        week: 1783,
+    },
+    WeekRow {
+        reference: 1024,
+        bits: 934,
+        week: 934,
+    },
+    WeekRow {
+        reference: 1024,
+        bits: 46,
+        week: 1070,
+    },
+    WeekRow {
+        reference: 2300,
+        bits: 842,
+        week: 1866,
+    },
+    WeekRow {
+        reference: 5928,
+        bits: 829,
+        week: 5949,
+    },
+    WeekRow {
+        reference: 8191,
+        bits: 549,
+        week: 7717,
+    },
+    WeekRow {
+        reference: 8191,
+        bits: 348,
+        week: 8540,
+    },
+];
+
+fn is_gps_week(row: &WeekRow) -> Option<bool> {
+    Some(gps_week(RefWeek::new(row.reference)?, U::new(row.bits)?).value() == row.week)
 }
 
-fn nearest(near: u64, second: u32) -> Option<u64> {
-    let near = Moment::new(near)?;
-    let _week = Week::new(near.week())?;
-    Some(nearest_moment(near, Second::new(second)?).value())
+static GALILEO_WEEKS: [WeekRow; 9] = [
+    WeekRow {
+        reference: 2295,
+        bits: 1271,
+        week: 2295,
+    },
+    WeekRow {
+        reference: 2295,
+        bits: 0,
+        week: 1024,
+    },
+    WeekRow {
+        reference: 2295,
+        bits: 4095,
+        week: 5119,
+    },
+    WeekRow {
+        reference: 8191,
+        bits: 1023,
+        week: 6143,
+    },
+    WeekRow {
+        reference: 8191,
+        bits: 1022,
+        week: 10238,
+    },
+    WeekRow {
+        reference: 1024,
+        bits: 208,
+        week: 1232,
+    },
+    WeekRow {
+        reference: 2300,
+        bits: 829,
+        week: 1853,
+    },
+    WeekRow {
+        reference: 5928,
+        bits: 3546,
+        week: 4570,
+    },
+    WeekRow {
+        reference: 8191,
+        bits: 4002,
+        week: 9122,
+    },
+];
+
+fn is_galileo_week(row: &WeekRow) -> Option<bool> {
+    Some(gal_week(RefWeek::new(row.reference)?, U::new(row.bits)?).value() == row.week)
 }
 
-fn at(year: u16, month: u8, day: u8, hour: u8, minute: u8, second: u8) -> Civil {
-    Civil {
-        year,
-        month,
-        day,
-        hour,
-        minute,
-        second,
-    }
-}
-
-fn moment(date: Civil) -> Result<u64, WeekFault> {
-    Ok(moment_of(&date)?.value())
-}
-
-#[test]
-fn numbers(rt: HostRuntime) -> Result<(), Fail> {
-    let week = Week::new(2295).ok_or("a week")?;
-    let last = Moment::new(9_909_043_199).ok_or("a moment")?;
-    let first = Moment::new(0).ok_or("a moment")?;
-    let of_last = (last.week(), last.second().value());
-    assert!(rt; week.value() == 2295 && of_last == (16383, 604_799) && last > first);
-    Ok(())
-}
-
-#[test]
-fn gps_weeks(rt: HostRuntime) {
-    for (reference, number, week) in [
-        (2295, 247, 2295),
-        (2295, 758, 2806),
-        (2295, 759, 1783),
-        (1024, 934, 934),
-        (1024, 46, 1070),
-        (2300, 842, 1866),
-        (5928, 829, 5949),
-        (8191, 549, 7717),
-        (8191, 348, 8540),
-    ] {
-        assert!(rt; gps(reference, number) == Some(week));
-    }
-}
-
-#[test]
-fn galileo_weeks(rt: HostRuntime) {
-    for (reference, number, week) in [
-        (2295, 1271, 2295),
-        (2295, 0, 1024),
-        (2295, 4095, 5119),
-        (8191, 1023, 6143),
-        (8191, 1022, 10238),
-        (1024, 208, 1232),
-        (2300, 829, 1853),
-        (5928, 3546, 4570),
-        (8191, 4002, 9122),
-    ] {
-        assert!(rt; galileo(reference, number) == Some(week));
-    }
-}
-
-#[test]
-fn nearest_moments(rt: HostRuntime) {
-    for (near, second, m) in [
-        (1_388_016_000, 302_400, 1_388_318_400),
-        (1_388_015_999, 302_400, 1_387_713_600),
-        (15_522_530, 449_342, 15_569_342),
-        (8_451_963_684, 240_453, 8_451_715_653),
-        (6_742_384_050, 0, 6_742_310_400),
-        (7_703_721_481, 604_799, 7_703_942_399),
-        (3_024_013_360, 0, 3_024_000_000),
-        (4_533_125_507, 604_799, 4_532_975_999),
-    ] {
-        assert!(rt; nearest(near, second) == Some(m));
-    }
-}
-
-// The date of a moment, and the moment of the date.
-fn is_date(seconds: u64, date: Civil) -> bool {
-    match Moment::new(seconds) {
-        Some(m) => civil(m) == date && moment(date) == Ok(seconds),
-        None => false,
-    }
-}
-
-#[test]
-fn dates(rt: HostRuntime) {
-    for (seconds, date) in [
-        (0, at(1980, 1, 6, 0, 0, 0)),
-        (604_799, at(1980, 1, 12, 23, 59, 59)),
-        (639_417_120, at(2000, 4, 10, 15, 52, 0)),
-        (1_388_016_000, at(2023, 12, 31, 0, 0, 0)),
-        (2_729_493_859, at(2066, 7, 4, 8, 44, 19)),
-        (5_498_939_984, at(2154, 4, 8, 3, 19, 44)),
-        (7_705_851_570, at(2224, 3, 15, 2, 19, 30)),
-        (9_909_043_199, at(2294, 1, 6, 23, 59, 59)),
-    ] {
-        assert!(rt; is_date(seconds, date));
-    }
-}
-
-#[test]
-fn dates_without_a_moment(rt: HostRuntime) {
-    for (date, fault) in [
-        (at(2023, 2, 29, 0, 0, 0), WeekFault::NoSuchDate),
-        (at(2023, 12, 31, 23, 59, 60), WeekFault::NoSuchDate),
-        (at(0, 2, 30, 0, 0, 0), WeekFault::NoSuchDate),
-        (at(10_000, 1, 1, 0, 0, 0), WeekFault::NoSuchDate),
-        (at(0, 2, 29, 0, 0, 0), WeekFault::BeforeEpoch),
-        (at(1980, 1, 5, 23, 59, 59), WeekFault::BeforeEpoch),
-        (at(2294, 1, 7, 0, 0, 0), WeekFault::TooFar),
-    ] {
-        assert!(rt; moment(date) == Err(fault));
-    }
-}
-
-// A reference week, a week, and whether the digits of GPS and of Galileo tell it apart there.
-#[derive(Clone, Copy)]
+// A reference week, a week, and whether the bits of GPS and of Galileo tell it apart there.
 struct NearRow {
     reference: u32,
     week: u32,
     gps: bool,
     galileo: bool,
 }
+
+static NEAR_WEEKS: [NearRow; 7] = [
+    NearRow {
+        reference: 2295,
+        week: 1783,
+        gps: true,
+        galileo: true,
+    },
+    NearRow {
+        reference: 2295,
+        week: 1782,
+        gps: false,
+        galileo: true,
+    },
+    NearRow {
+        reference: 2295,
+        week: 2806,
+        gps: true,
+        galileo: true,
+    },
+    NearRow {
+        reference: 2295,
+        week: 2807,
+        gps: false,
+        galileo: true,
+    },
+    NearRow {
+        reference: 2295,
+        week: 1023,
+        gps: false,
+        galileo: false,
+    },
+    NearRow {
+        reference: 2295,
+        week: 5119,
+        gps: false,
+        galileo: true,
+    },
+    NearRow {
+        reference: 2295,
+        week: 5120,
+        gps: false,
+        galileo: false,
+    },
+];
 
 fn is_near(row: &NearRow) -> Option<bool> {
     let reference = RefWeek::new(row.reference)?;
@@ -150,52 +176,275 @@ fn is_near(row: &NearRow) -> Option<bool> {
 }
 
 #[test]
-fn weeks_near_a_reference_week(rt: HostRuntime) {
-    let rows = [
-        NearRow {
-            reference: 2295,
-            week: 1783,
-            gps: true,
-            galileo: true,
-        },
-        NearRow {
-            reference: 2295,
-            week: 1782,
-            gps: false,
-            galileo: true,
-        },
-        NearRow {
-            reference: 2295,
-            week: 2806,
-            gps: true,
-            galileo: true,
-        },
-        NearRow {
-            reference: 2295,
-            week: 2807,
-            gps: false,
-            galileo: true,
-        },
-        NearRow {
-            reference: 2295,
-            week: 1023,
-            gps: false,
-            galileo: false,
-        },
-        NearRow {
-            reference: 2295,
-            week: 5119,
-            gps: false,
-            galileo: true,
-        },
-        NearRow {
-            reference: 2295,
-            week: 5120,
-            gps: false,
-            galileo: false,
-        },
-    ];
-    for row in &rows {
-        assert!(rt; is_near(row) == Some(true));
+fn weeks(rt: HostRuntime) {
+    let mut all = true;
+    for row in &GPS_WEEKS {
+        all = all && is_gps_week(row) == Some(true);
     }
+    for row in &GALILEO_WEEKS {
+        all = all && is_galileo_week(row) == Some(true);
+    }
+    for row in &NEAR_WEEKS {
+        all = all && is_near(row) == Some(true);
+    }
+    assert!(rt; all);
+}
+
+// A moment, a second of a week, and the nearest moment with that second.
+struct NearestRow {
+    near: u64,
+    second: u32,
+    moment: u64,
+}
+
+static NEAREST: [NearestRow; 8] = [
+    NearestRow {
+        near: 1_388_016_000,
+        second: 302_400,
+        moment: 1_388_318_400,
+    },
+    NearestRow {
+        near: 1_388_015_999,
+        second: 302_400,
+        moment: 1_387_713_600,
+    },
+    NearestRow {
+        near: 15_522_530,
+        second: 449_342,
+        moment: 15_569_342,
+    },
+    NearestRow {
+        near: 8_451_963_684,
+        second: 240_453,
+        moment: 8_451_715_653,
+    },
+    NearestRow {
+        near: 6_742_384_050,
+        second: 0,
+        moment: 6_742_310_400,
+    },
+    NearestRow {
+        near: 7_703_721_481,
+        second: 604_799,
+        moment: 7_703_942_399,
+    },
+    NearestRow {
+        near: 3_024_013_360,
+        second: 0,
+        moment: 3_024_000_000,
+    },
+    NearestRow {
+        near: 4_533_125_507,
+        second: 604_799,
+        moment: 4_532_975_999,
+    },
+];
+
+fn is_nearest(row: &NearestRow) -> Option<bool> {
+    let near = Moment::new(row.near)?;
+    let _week = Week::new(near.week())?;
+    Some(nearest_moment(near, Second::new(row.second)?).value() == row.moment)
+}
+
+// A date, and the moment that it names, or why it names none.
+struct DateRow {
+    date: Civil,
+    moment: Result<u64, WeekFault>,
+}
+
+static DATES: [DateRow; 15] = [
+    DateRow {
+        date: Civil {
+            year: 1980,
+            month: 1,
+            day: 6,
+            hour: 0,
+            minute: 0,
+            second: 0,
+        },
+        moment: Ok(0),
+    },
+    DateRow {
+        date: Civil {
+            year: 1980,
+            month: 1,
+            day: 12,
+            hour: 23,
+            minute: 59,
+            second: 59,
+        },
+        moment: Ok(604_799),
+    },
+    DateRow {
+        date: Civil {
+            year: 2000,
+            month: 4,
+            day: 10,
+            hour: 15,
+            minute: 52,
+            second: 0,
+        },
+        moment: Ok(639_417_120),
+    },
+    DateRow {
+        date: Civil {
+            year: 2023,
+            month: 12,
+            day: 31,
+            hour: 0,
+            minute: 0,
+            second: 0,
+        },
+        moment: Ok(1_388_016_000),
+    },
+    DateRow {
+        date: Civil {
+            year: 2066,
+            month: 7,
+            day: 4,
+            hour: 8,
+            minute: 44,
+            second: 19,
+        },
+        moment: Ok(2_729_493_859),
+    },
+    DateRow {
+        date: Civil {
+            year: 2154,
+            month: 4,
+            day: 8,
+            hour: 3,
+            minute: 19,
+            second: 44,
+        },
+        moment: Ok(5_498_939_984),
+    },
+    DateRow {
+        date: Civil {
+            year: 2224,
+            month: 3,
+            day: 15,
+            hour: 2,
+            minute: 19,
+            second: 30,
+        },
+        moment: Ok(7_705_851_570),
+    },
+    DateRow {
+        date: Civil {
+            year: 2294,
+            month: 1,
+            day: 6,
+            hour: 23,
+            minute: 59,
+            second: 59,
+        },
+        moment: Ok(9_909_043_199),
+    },
+    DateRow {
+        date: Civil {
+            year: 2023,
+            month: 2,
+            day: 29,
+            hour: 0,
+            minute: 0,
+            second: 0,
+        },
+        moment: Err(WeekFault::NoSuchDate),
+    },
+    DateRow {
+        date: Civil {
+            year: 2023,
+            month: 12,
+            day: 31,
+            hour: 23,
+            minute: 59,
+            second: 60,
+        },
+        moment: Err(WeekFault::NoSuchDate),
+    },
+    DateRow {
+        date: Civil {
+            year: 0,
+            month: 2,
+            day: 30,
+            hour: 0,
+            minute: 0,
+            second: 0,
+        },
+        moment: Err(WeekFault::NoSuchDate),
+    },
+    DateRow {
+        date: Civil {
+            year: 10_000,
+            month: 1,
+            day: 1,
+            hour: 0,
+            minute: 0,
+            second: 0,
+        },
+        moment: Err(WeekFault::NoSuchDate),
+    },
+    DateRow {
+        date: Civil {
+            year: 0,
+            month: 2,
+            day: 29,
+            hour: 0,
+            minute: 0,
+            second: 0,
+        },
+        moment: Err(WeekFault::BeforeEpoch),
+    },
+    DateRow {
+        date: Civil {
+            year: 1980,
+            month: 1,
+            day: 5,
+            hour: 23,
+            minute: 59,
+            second: 59,
+        },
+        moment: Err(WeekFault::BeforeEpoch),
+    },
+    DateRow {
+        date: Civil {
+            year: 2294,
+            month: 1,
+            day: 7,
+            hour: 0,
+            minute: 0,
+            second: 0,
+        },
+        moment: Err(WeekFault::TooFar),
+    },
+];
+
+// Whether the date names the moment, and the moment has the date.
+fn is_date(row: &DateRow) -> bool {
+    match (moment_of(&row.date), row.moment) {
+        (Ok(moment), Ok(seconds)) => moment.value() == seconds && civil(moment) == row.date,
+        (Err(fault), Err(wanted)) => fault == wanted,
+        _ => false,
+    }
+}
+
+fn numbers() -> Option<bool> {
+    let week = Week::new(2295)?;
+    let last = Moment::new(9_909_043_199)?;
+    let first = Moment::new(0)?;
+    let of_last = last.week() == 16383 && last.second().value() == 604_799;
+    Some(week.value() == 2295 && of_last && last > first)
+}
+
+#[test]
+fn moments(rt: HostRuntime) {
+    let mut all = numbers() == Some(true);
+    for row in &NEAREST {
+        all = all && is_nearest(row) == Some(true);
+    }
+    for row in &DATES {
+        all = all && is_date(row);
+    }
+    assert!(rt; all);
 }

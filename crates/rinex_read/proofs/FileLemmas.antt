@@ -1,5 +1,5 @@
 -- The text of a header and of a list of items is read as that list, where each record gives its item.
-use Rattle.std.proofs.Common.{◌≡◌, ℕ, ◌+◌, ◌==◌, Bool, true, false, if◌then◌else◌, List, [], ◌∷◌, ◌++◌, length, map, codes, Ok, refl, ap, sym, ◌∙◌, arith, append_assoc, append-nil, length-append, ne_eqb}
+use Rattle.std.proofs.Common.{◌≡◌, ℕ, ◌+◌, true, false, if◌then◌else◌, List, [], ◌∷◌, ◌++◌, length, map, codes, Ok, refl, ap, sym, ◌∙◌, arith, append_assoc, append-nil, length-append, ne_eqb}
 use Rattle.std.specs.List.{flat_map}
 use Rattle.scaled_decimal.specs.NumberText.{AreShown}
 use Rattle.nav_io.specs.Lines.{ends, without_cr}
@@ -12,9 +12,9 @@ use Rattle.rinex_write.proofs.Surface.{lines_more, header_shown, length-header}
 use Rattle.rinex_read.specs.declared.judged.ItemRead.{ItemRead}
 use Rattle.rinex_read.specs.declared.judged.ItemRead.TheVariants.{Item}
 use Rattle.rinex_read.specs.Lines.{lines_of}
-use Rattle.rinex_read.specs.Forms.{Form, begins, rinex4}
+use Rattle.rinex_read.specs.Forms.{Form, rinex4}
 use Rattle.rinex_read.specs.Files.{header_of, up_to_next, read_at, reads, reads_behind, file_reads, items_of, items_read, rinex_list}
-use Rattle.rinex_read.specs.RoundTrip.{AreItems, NoneBegins, AreRecordLines, StandFor, AllStand, AreHeaderLines, numbered_by, numbered}
+use Rattle.rinex_read.specs.RoundTrip.{AreItems, NoneBegins, StandFor, AllStand, AreHeaderLines, numbered_by, numbered}
 use Rattle.rinex_read.proofs.RecordLemmas.{item_again}
 use Rattle.rinex_read.proofs.WrittenLemmas.{record_lines_are, header_begins, header_again}
 

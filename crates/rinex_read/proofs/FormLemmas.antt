@@ -1,11 +1,11 @@
 -- What a form looks at: the kept lines, and long lines as they are cut.
-use Rattle.std.proofs.Common.{◌≡◌, ℕ, zero, suc, ◌+◌, ◌<◌, ◌≤◌, ◌==◌, ◌&&◌, Bool, true, false, if◌then◌else◌, List, [], ◌∷◌, ◌++◌, length, get_or, take, map, codes, Ok, Err, refl, ap, sym, ◌∙◌, ⊎_elim, arith, append_assoc}
+use Rattle.std.proofs.Common.{◌≡◌, ℕ, zero, suc, ◌+◌, ◌<◌, ◌≤◌, Bool, true, false, if◌then◌else◌, List, [], ◌∷◌, ◌++◌, length, take, map, codes, Ok, Err, refl, ap, sym, ◌∙◌, ⊎_elim, arith, append_assoc}
 use Rattle.std.proofs.lemmas.Bool.{cases_lt, lt-ltb, le-ltb}
 use Rattle.std.proofs.lemmas.List.{get_or-take}
 use Rattle.scaled_decimal.specs.NumberReading.{trim_start, trim_end}
 use Rattle.nav_io.specs.Lines.{line_of, lines_by, pieces, without_cr}
 use Rattle.rinex_read.specs.declared.judged.HeaderFault.TheVariants.{NotRinexNav, Version}
-use Rattle.rinex_read.specs.Lines.{stands_at, ended_lines, lines_of, text_of_line, told_lines}
+use Rattle.rinex_read.specs.Lines.{ended_lines, lines_of, text_of_line, told_lines}
 use Rattle.rinex_read.specs.Kept.{padded, kept_with}
 use Rattle.rinex_read.specs.Forms.{Form, LooksAtKept, is_version, begins}
 use Rattle.rinex_read.specs.Files.{is_navigation, ends_header, header_passed, header_of, up_to_next, read_at, reads, reads_behind}

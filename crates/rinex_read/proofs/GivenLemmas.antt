@@ -1,19 +1,18 @@
 -- A reader that has paused has given what the whole records of the bytes give.
-use Rattle.std.proofs.Common.{◌≡◌, ℕ, ◌==◌, Bool, true, false, if◌then◌else◌, List, [], ◌∷◌, ◌++◌, map, Ok, Err, refl, sym, ap, subst, ◌∙◌, append-nil}
-use Rattle.std.specs.Prelude.{Option, Result}
+use Rattle.std.proofs.Common.{◌≡◌, ℕ, ◌==◌, Bool, true, false, if◌then◌else◌, List, [], ◌∷◌, ◌++◌, map, Ok, Err, refl, sym, ap, ◌∙◌, append-nil}
+use Rattle.std.specs.Prelude.{Option}
 use Rattle.std.proofs.lemmas.List.{map-append}
 use Rattle.nav_io.specs.Lines.{Line, ends, lines_by, pieces, with_prefix, line_of}
-use Rattle.nav_io.specs.LinesState.{LinesState, Reads}
+use Rattle.nav_io.specs.LinesState.{Reads}
 use Rattle.nav_io.proofs.Surface.{reads_more}
 use Rattle.rinex_read.specs.declared.judged.ItemRead.{ItemRead}
 use Rattle.rinex_read.specs.declared.judged.HeaderState.{HeaderState}
 use Rattle.rinex_read.specs.declared.judged.HeaderState.TheVariants.{New, Open, Passed, NotRinexNav, OtherVersion}
-use Rattle.rinex_read.specs.declared.judged.HeaderFault.{HeaderFault}
 use Rattle.rinex_read.specs.declared.judged.HeaderFault.TheVariants as faults
 use Rattle.rinex_read.specs.Lines.{text_of_line}
 use Rattle.rinex_read.specs.Forms.{Form, LooksAtKept}
 use Rattle.rinex_read.specs.Files.{but_last, header_of, reads_behind, whole_behind, whole_reads}
-use Rattle.rinex_read.specs.States.{HeaderSteps, IsNew, IsOver, IsPaused, MayStand, PassesHeader, RecordsState, Steps, file_by, held_reads, is_waiting}
+use Rattle.rinex_read.specs.States.{HeaderSteps, IsNew, IsPaused, MayStand, PassesHeader, RecordsState, Steps, file_by, held_reads, is_waiting}
 use Rattle.rinex_read.proofs.FormLemmas.{ended_told}
 use Rattle.rinex_read.proofs.StepLemmas.{none_behind}
 use Rattle.rinex_read.proofs.TakeLemmas.{none_whole}

@@ -12,6 +12,9 @@ pub mod GivenLemmas
 pub mod HeaderLemmas
 pub mod ItemLemmas
 pub mod LineLemmas
+pub mod NearLemmas
+pub mod NearSteps
+pub mod EarlyLemmas
 pub mod ListedLemmas
 pub mod RangeLemmas
 pub mod RecordLemmas

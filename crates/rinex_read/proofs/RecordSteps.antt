@@ -15,8 +15,9 @@ use Rattle.rinex_read.specs.declared.judged.Judged.TheVariants as judgments
 use Rattle.rinex_read.specs.Lines.{text_of_line, told_lines}
 use Rattle.rinex_read.specs.Forms.{Form}
 use Rattle.rinex_read.specs.Files.{but_last, read_at}
-use Rattle.rinex_read.specs.States.{RecordsState, held_reads, Steps, held_count, lines_left, GivesRecord, GivesRead, BreaksRecord}
-use Rattle.rinex_read.proofs.StepLemmas.{steps_more}
+use Rattle.rinex_read.specs.States.{RecordsState, held_reads, NearSteps, Steps, held_count, lines_left, GivesRecord, GivesRead, BreaksRecord}
+use Rattle.rinex_read.proofs.NearLemmas.{early_long, early_read, near_end, near_line}
+use Rattle.rinex_read.proofs.NearSteps.{early_steps_more, near_steps_more}
 use Rattle.rinex_read.proofs.TakeLemmas.{line_whole}
 use Rattle.rinex_read.specs.Mirrors.{TakesLine, TakesEnd, EndsWith, IsRecord}
 
@@ -33,7 +34,7 @@ line_given End p q s t other g = absurd (other refl)
 pub end_given : (kind : LineKind) (p q : Option (List ℕ)) (s t : LinesState) → kind ≡ End → Answers kind p q s t → GivesEnd p q s t
 end_given kind p q s t e g = subst (λ k. Answers k p q s t) e g
 
-line_step : (f : Form) (p q : Option (List ℕ)) (s t : RecordsState) (given : List ItemRead) (h : HasLine p q s.lines t.lines) → TakesLine f s.kept s.first t.kept t.first t.lines.text t.lines.number given
+abbrev line_step : (f : Form) (p q : Option (List ℕ)) (s t : RecordsState) (given : List ItemRead) (h : HasLine p q s.lines t.lines) → TakesLine f s.kept s.first t.kept t.first t.lines.text t.lines.number given
     → t.header ≡ s.header → Steps f p q s t given
 line_step f p q s t given h takes header = record {
   lines = record { text = t.lines.text; long = h.long } ∷ [];
@@ -45,7 +46,7 @@ line_step f p q s t given h takes header = record {
   whole = λ over next. line_whole f s.kept s.first t.kept t.first t.lines.text t.lines.number given takes s.lines.number next h.gives.number;
 }
 
-end_step : (f : Form) (p q : Option (List ℕ)) (s t : RecordsState) (given : List ItemRead) (g : GivesEnd p q s.lines t.lines) → TakesEnd f s.kept s.first given → t.kept ≡ [] → t.header ≡ s.header → Steps f p q s t given
+abbrev end_step : (f : Form) (p q : Option (List ℕ)) (s t : RecordsState) (given : List ItemRead) (g : GivesEnd p q s.lines t.lines) → TakesEnd f s.kept s.first given → t.kept ≡ [] → t.header ≡ s.header → Steps f p q s t given
 end_step f p q s t given g takes none header = record {
   lines = [];
   reads = g.reads;
@@ -61,7 +62,7 @@ end_step f p q s t given g takes none header = record {
   whole = λ over next. absurd (over (record { kept = none; rest = g.rest; ended = g.ended }));
 }
 
-read_step : (f : Form) (p q : Option (List ℕ)) (s t : RecordsState) → Reads p q s.lines t.lines [] → t.kept ≡ s.kept → t.first ≡ s.first → t.lines.number ≡ s.lines.number → t.header ≡ s.header → Steps f p q s t []
+abbrev read_step : (f : Form) (p q : Option (List ℕ)) (s t : RecordsState) → Reads p q s.lines t.lines [] → t.kept ≡ s.kept → t.first ≡ s.first → t.lines.number ≡ s.lines.number → t.header ≡ s.header → Steps f p q s t []
 read_step f p q s t r kept first number header = record {
   lines = [];
   reads = r;
@@ -76,6 +77,13 @@ read_step f p q s t r kept first number header = record {
       ∙ ap (λ (k : ℕ). but_last (held_reads f t.kept k s.lines.number next)) (sym first)
       ∙ ap (λ (n : ℕ). but_last (held_reads f t.kept t.first n next)) (sym number);
 }
+
+line_near : (f : Form) (p q : Option (List ℕ)) (s t : RecordsState) (given : List ItemRead) (h : HasLine p q s.lines t.lines) → TakesLine f s.kept s.first t.kept t.first t.lines.text t.lines.number given
+    → t.header ≡ s.header → NearSteps f p q s t given
+line_near f p q s t given h takes header = record { steps = line_step f p q s t given h takes header; near = near_line p q s.lines t.lines _ h.gives }
+
+end_near : (f : Form) (p q : Option (List ℕ)) (s t : RecordsState) (given : List ItemRead) (g : GivesEnd p q s.lines t.lines) → TakesEnd f s.kept s.first given → t.kept ≡ [] → t.header ≡ s.header → NearSteps f p q s t given
+end_near f p q s t given g takes none header = record { steps = end_step f p q s t given g takes none header; near = near_end p q s.lines t.lines g }
 
 held_few : (ks : List (List ℕ)) → held_count ks ≤ 1
 held_few [] = omega arith
@@ -97,31 +105,35 @@ read_is_record n (judgments.Refused reason) = tt
 read_is_record n judgments.PassedOver = tt
 
 -- a line that ended a record
-pub line_gives : (f : Form) (o p q : Option (List ℕ)) (old now new : RecordsState) (read : ItemRead) → Steps f o p old now [] → lines_left now ≤ lines_left old → HasLine p q now.lines new.lines
+pub line_gives : (f : Form) (o p q : Option (List ℕ)) (old now new : RecordsState) (read : ItemRead) → NearSteps f o p old now [] → lines_left now ≤ lines_left old → HasLine p q now.lines new.lines
     → TakesLine f now.kept now.first new.kept new.first new.lines.text new.lines.number (read ∷ []) → IsRecord read → new.header ≡ now.header → GivesRead f read o q old new
 line_gives f o p q old now new read steps near h takes is header =
+    let all = near_steps_more f o p q old now new [] (read ∷ []) steps (line_near f p q now new (read ∷ []) h takes header) in
     gives_record f read o q old new is (record {
-      steps = steps_more f o p q old now new [] (read ∷ []) steps (line_step f p q now new (read ∷ []) h takes header);
+      steps = all.steps;
+      near = all.near;
       low = h.gives.low;
       nearer = omega (arith, held_few new.kept, h.gives.number, h.gives.numbered, h.gives.low, near);
     })
 
 -- a line that ended none
-pub line_keeps : (f : Form) (o p q : Option (List ℕ)) (old now new : RecordsState) → Steps f o p old now [] → lines_left now ≤ lines_left old → HasLine p q now.lines new.lines
-    → TakesLine f now.kept now.first new.kept new.first new.lines.text new.lines.number [] → new.header ≡ now.header → Steps f o q old new [] × (lines_left new ≤ lines_left old)
+pub line_keeps : (f : Form) (o p q : Option (List ℕ)) (old now new : RecordsState) → NearSteps f o p old now [] → lines_left now ≤ lines_left old → HasLine p q now.lines new.lines
+    → TakesLine f now.kept now.first new.kept new.first new.lines.text new.lines.number [] → new.header ≡ now.header → NearSteps f o q old new [] × (lines_left new ≤ lines_left old)
 line_keeps f o p q old now new steps near h takes header =
-    (steps_more f o p q old now new [] [] steps (line_step f p q now new [] h takes header), omega (arith, held_few new.kept, h.gives.number, h.gives.numbered, h.gives.low, near))
+    (near_steps_more f o p q old now new [] [] steps (line_near f p q now new [] h takes header), omega (arith, held_few new.kept, h.gives.number, h.gives.numbered, h.gives.low, near))
 
 -- the end
-pub end_gives : (f : Form) (o p q : Option (List ℕ)) (old now new : RecordsState) (read : ItemRead) → Steps f o p old now [] → lines_left now ≤ lines_left old → GivesEnd p q now.lines new.lines
+pub end_gives : (f : Form) (o p q : Option (List ℕ)) (old now new : RecordsState) (read : ItemRead) → NearSteps f o p old now [] → lines_left now ≤ lines_left old → GivesEnd p q now.lines new.lines
     → EndsWith f now.kept now.first read → new.kept ≡ [] → new.header ≡ now.header → GivesRead f read o q old new
 end_gives f o p q old now new read steps near g ends none header = go now.kept refl ends
   where
     go : (ks : List (List ℕ)) → now.kept ≡ ks → EndsWith f ks now.first read → GivesRead f read o q old new
     go [] e same =
         let takes : TakesEnd f now.kept now.first [] = record { answers = λ n. ap (λ (ks : List (List ℕ)). held_reads f ks now.first n []) e } in
+        let all = near_steps_more f o p q old now new [] [] steps (end_near f p q now new [] g takes none header) in
         subst (λ r. GivesRead f r o q old new) (sym same) (record {
-          steps = steps_more f o p q old now new [] [] steps (end_step f p q now new [] g takes none header);
+          steps = all.steps;
+          near = all.near;
           kept = none;
           rest = g.rest;
           ended = g.ended;
@@ -133,23 +145,29 @@ end_gives f o p q old now new read steps near g ends none header = go now.kept r
               ∙ ap (λ (xs : List (List ℕ)). read_at now.first (f.judged xs) ∷ []) (append-nil (k ∷ ks)) ∙ ap (λ r. r ∷ []) (sym same);
         } in
         let held : held_count now.kept ≡ 1 = ap held_count e in
+        let all = near_steps_more f o p q old now new [] (read ∷ []) steps (end_near f p q now new (read ∷ []) g takes none header) in
         gives_record f read o q old new (subst IsRecord (sym same) (read_is_record now.first (f.judged (k ∷ ks)))) (record {
-          steps = steps_more f o p q old now new [] (read ∷ []) steps (end_step f p q now new (read ∷ []) g takes none header);
+          steps = all.steps;
+          near = all.near;
           low = g.low;
           nearer = omega (arith, held, held_none new.kept none, g.number, near);
         })
 
 -- a fault
-pub breaks : (f : Form) (fault : LineFault) (o p q : Option (List ℕ)) (old now new : RecordsState) → Steps f o p old now [] → Breaks fault p q now.lines new.lines
+pub breaks : (f : Form) (fault : LineFault) (o p q : Option (List ℕ)) (old now new : RecordsState) → NearSteps f o p old now [] → Breaks fault p q now.lines new.lines
     → new.kept ≡ now.kept → new.first ≡ now.first → new.header ≡ now.header → BreaksRecord f o q old new fault
-breaks f ReadFault o p q old now new steps b kept first header = record {
-  steps = steps_more f o p q old now new [] [] steps (read_step f p q now new b.reads kept first b.number header);
-  by = (b.more, b.low, b.none);
-}
-breaks f TooLong o p q old now new steps b kept first header = record {
-  steps = steps_more f o p q old now new [] [] steps (read_step f p q now new b.reads kept first b.number header);
-  by = b.too_many;
-}
+breaks f ReadFault o p q old now new steps b kept first header =
+    let all = early_steps_more f o p q old now new [] [] steps (record {
+      steps = read_step f p q now new b.reads kept first b.number header;
+      early = early_read p q now.lines new.lines b;
+    }) in
+    record { steps = all.steps; early = all.early; by = (b.more, b.low, b.none) }
+breaks f TooLong o p q old now new steps b kept first header =
+    let all = early_steps_more f o p q old now new [] [] steps (record {
+      steps = read_step f p q now new b.reads kept first b.number header;
+      early = early_long p q now.lines new.lines b;
+    }) in
+    record { steps = all.steps; early = all.early; by = b.too_many }
 
 -- there are at most as many lines as bytes
 pub break_numbered : (fault : LineFault) (p q : Option (List ℕ)) (s t : LinesState) → Breaks fault p q s t → s.number ≤ s.taken → t.number ≤ t.taken

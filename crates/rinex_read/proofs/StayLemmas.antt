@@ -9,8 +9,8 @@ use Rattle.rinex_read.specs.declared.judged.HeaderFault.{HeaderFault}
 use Rattle.rinex_read.specs.declared.judged.HeaderFault.TheVariants as faults
 use Rattle.rinex_read.specs.Lines.{told_lines}
 use Rattle.rinex_read.specs.Forms.{Form, LooksAtKept}
-use Rattle.rinex_read.specs.Files.{header_of, reads, reads_behind, file_reads}
-use Rattle.rinex_read.specs.States.{RecordsState, held_reads, records_to_come, file_by, file_to_come, is_waiting, IsNew, GivesRecord, GivesRead, BreaksRecord, PassesHeader, BreaksHeader}
+use Rattle.rinex_read.specs.Files.{header_of, reads_behind, file_reads}
+use Rattle.rinex_read.specs.States.{RecordsState, records_to_come, file_by, file_to_come, is_waiting, IsNew, GivesRecord, GivesRead, BreaksRecord, PassesHeader, BreaksHeader}
 use Rattle.rinex_read.proofs.FormLemmas.{file_told}
 use Rattle.rinex_read.proofs.StepLemmas.{nothing_to_come}
 

@@ -12,14 +12,14 @@ use Rattle.rinex_read.specs.Files.{but_last, reads}
 use Rattle.rinex_read.specs.States.{IsOver, MayStand, RecordsState, held_reads, records_to_come, file_by, file_to_come, Steps, HeaderSteps}
 use Rattle.rinex_read.proofs.TakeLemmas.{held_nil}
 
-pub steps_none : (f : Form) (o : Option (List ℕ)) (s : RecordsState) → Steps f o o s s []
+abbrev pub steps_none : (f : Form) (o : Option (List ℕ)) (s : RecordsState) → Steps f o o s s []
 steps_none f o s = record { lines = []; reads = reads_none o s.lines; header = refl; stream = λ following may. refl; whole = λ over next. refl }
 
 none_after : (a b : List ℕ) → a ≡ [] → b ≡ [] → a ++ b ≡ []
 none_after a b x y = rw (x, y) refl
 
 -- the bytes of two steps concatenated
-may_before : (p q : Option (List ℕ)) (s t : LinesState) (g : List Line) (r : Reads p q s t g) (following : List ℕ) → (t.ended ≡ true → following ≡ []) → s.ended ≡ true → r.taken ++ following ≡ []
+pub may_before : (p q : Option (List ℕ)) (s t : LinesState) (g : List Line) (r : Reads p q s t g) (following : List ℕ) → (t.ended ≡ true → following ≡ []) → s.ended ≡ true → r.taken ++ following ≡ []
 may_before p q s t g r following may ended =
     let after = r.after_end ended in
     none_after r.taken following after.1 (may after.0)
@@ -48,7 +48,7 @@ none_behind p q s t lines r ended rest =
     let none = both_none lines (lines_by false (t.rest ++ [])) (ap (lines_by false) (sym nothing) ∙ r.stream false [] (λ e. (refl, refl))) in
     (none.0, sym (append-nil t.rest) ∙ nothing_there (t.rest ++ []) none.1, after.0)
 
-may_stand : (p q : Option (List ℕ)) (s t : RecordsState) (lines : List Line) → Reads p q s.lines t.lines lines → (next : List (List ℕ)) → MayStand t next → MayStand s (map text_of_line lines ++ next)
+pub may_stand : (p q : Option (List ℕ)) (s t : RecordsState) (lines : List Line) → Reads p q s.lines t.lines lines → (next : List (List ℕ)) → MayStand t next → MayStand s (map text_of_line lines ++ next)
 may_stand p q s t lines r next may ended rest =
     let none = none_behind p q s.lines t.lines lines r ended rest in
     ap (λ (ls : List Line). map text_of_line ls ++ next) none.0 ∙ may none.2 none.1
@@ -60,7 +60,7 @@ nothing_to_come f s taken kept rest none =
     ∙ ap (λ (t : List ℕ). reads f s.lines.number (told_lines (t ++ []))) none
 
 -- the end stays
-over_stays : (f : Form) (p q : Option (List ℕ)) (s t : RecordsState) (given : List ItemRead) → Steps f p q s t given → IsOver s → IsOver t
+pub over_stays : (f : Form) (p q : Option (List ℕ)) (s t : RecordsState) (given : List ItemRead) → Steps f p q s t given → IsOver s → IsOver t
 over_stays f p q s t given steps over =
     let none = none_behind p q s.lines t.lines steps.lines steps.reads over.ended over.rest in
     let nothing = both_none given (records_to_come f t [])
@@ -70,11 +70,11 @@ over_stays f p q s t given steps over =
 -- ---- concatenated
 
 -- lines after lines
-lines_behind : (some more : List Line) (next : List (List ℕ)) → map text_of_line (some ++ more) ++ next ≡ map text_of_line some ++ (map text_of_line more ++ next)
+pub lines_behind : (some more : List Line) (next : List (List ℕ)) → map text_of_line (some ++ more) ++ next ≡ map text_of_line some ++ (map text_of_line more ++ next)
 lines_behind some more next =
     ap (λ (ls : List (List ℕ)). ls ++ next) (map-append text_of_line some more) ∙ append_assoc (map text_of_line some) (map text_of_line more) next
 
-pub steps_more : (f : Form) (o p q : Option (List ℕ)) (s t u : RecordsState) (g h : List ItemRead) → Steps f o p s t g → Steps f p q t u h → Steps f o q s u (g ++ h)
+abbrev pub steps_more : (f : Form) (o p q : Option (List ℕ)) (s t u : RecordsState) (g h : List ItemRead) → Steps f o p s t g → Steps f p q t u h → Steps f o q s u (g ++ h)
 steps_more f o p q s t u g h a b = record {
   lines = a.lines ++ b.lines;
   reads = reads_more o p q s.lines t.lines u.lines a.lines b.lines a.reads b.reads;
@@ -91,10 +91,10 @@ steps_more f o p q s t u g h a b = record {
       ∙ sym (append_assoc g h (but_last (held_reads f u.kept u.first u.lines.number next)));
 }
 
-pub header_steps_none : (f : Form) (o : Option (List ℕ)) (s : RecordsState) → HeaderSteps f o o s s
+abbrev pub header_steps_none : (f : Form) (o : Option (List ℕ)) (s : RecordsState) → HeaderSteps f o o s s
 header_steps_none f o s = record { lines = []; reads = reads_none o s.lines; stream = λ following may. refl; told = λ next may. refl }
 
-pub header_steps_more : (f : Form) (o p q : Option (List ℕ)) (s t u : RecordsState) → HeaderSteps f o p s t → HeaderSteps f p q t u → HeaderSteps f o q s u
+abbrev pub header_steps_more : (f : Form) (o p q : Option (List ℕ)) (s t u : RecordsState) → HeaderSteps f o p s t → HeaderSteps f p q t u → HeaderSteps f o q s u
 header_steps_more f o p q s t u a b = record {
   lines = a.lines ++ b.lines;
   reads = reads_more o p q s.lines t.lines u.lines a.lines b.lines a.reads b.reads;

@@ -1,9 +1,9 @@
 -- The lines that are written of an item and of a header, as lines of the form of version 4.
-use Rattle.std.proofs.Common.{◌≡◌, ℕ, ◌+◌, ◌==◌, ◌/◌, true, false, if◌then◌else◌, List, [], ◌∷◌, ◌++◌, length, get_or, codes, Ok, nat_lt, refl, ap, ◌∙◌, arith}
+use Rattle.std.proofs.Common.{◌≡◌, ℕ, true, false, List, [], ◌∷◌, ◌++◌, length, get_or, codes, Ok, refl, ap, ◌∙◌, arith}
 use Rattle.std.proofs.lemmas.List.{get_or-append-add}
 use Rattle.nav_eph.specs.declared.items.NavItem.{NavItem}
 use Rattle.rinex_write.specs.declared.words.HeaderWords.{HeaderWords}
-use Rattle.rinex_write.specs.Texts.{IsHeader, NoneTitled, begins_record, item_lines, title_of, body_lines, leap_text, header_lines, header_lines_by}
+use Rattle.rinex_write.specs.Texts.{IsHeader, NoneTitled, item_lines, title_of, body_lines, leap_text, header_lines, header_lines_by}
 use Rattle.rinex_write.proofs.Surface.{title_and_body, title_begins, body_untitled, item_shown, header_untitled}
 use Rattle.rinex_read.specs.Lines.{columns, stands_at}
 use Rattle.rinex_read.specs.Forms.{is_version, rinex4}

@@ -1,6 +1,6 @@
 -- Navigation files of a form as read: the header, the records with their line numbers, and the list of items (RINEX 4.01 and
 -- 3.05, header section and navigation records).
-use Rattle.std.specs.Prelude.{ℕ, ◌+◌, ◌&&◌, Bool, if◌then◌else◌, List, [], ◌∷◌, codes, Result, Ok, Err}
+use Rattle.std.specs.Prelude.{◌≡◌, ℕ, ◌+◌, ◌-◌, ◌&&◌, Bool, if◌then◌else◌, List, [], ◌∷◌, ◌++◌, codes, length, take, Result, Ok, Err}
 use Rattle.nav_eph.specs.declared.items.NavItem.{NavItem}
 use Rattle.rinex_read.specs.declared.judged.Judged.{Judged}
 use Rattle.rinex_read.specs.declared.judged.Judged.TheVariants as judgments
@@ -80,6 +80,19 @@ whole_in f lines = whole_behind (reads_behind f (header_of f 0 lines))
 -- the same of the first bytes of a file
 abbrev pub whole_reads : Form → List ℕ → Result (List ItemRead) HeaderFault
 whole_reads f bytes = whole_in f (ended_lines bytes)
+
+-- the records of a file, none where its header is refused
+abbrev pub records_in : Result (List ItemRead) HeaderFault → List ItemRead
+records_in (Ok rs) = rs
+records_in (Err fault) = []
+
+-- the records that are complete in all bytes but the last 4,096
+abbrev pub early_reads : Form → List ℕ → List ItemRead
+early_reads f bytes = records_in (whole_reads f (take (length bytes - 4096) bytes))
+
+-- the records begin with these
+abbrev pub BeginWith : List ItemRead → List ItemRead → Type 0
+BeginWith all some = (rest : List ItemRead) × (all ≡ some ++ rest)
 
 -- the items of the records
 abbrev pub items_of : List ItemRead → List NavItem

@@ -1,5 +1,5 @@
 -- Invariants and helper definitions of private functions; no public clause cites them.
-use Rattle.std.specs.Prelude.{◌≡◌, ℕ, ◌+◌, ◌-◌, ◌*◌, ◌/◌, ◌^◌, ◌<◌, ◌≤◌, nat_lt, nat_le, ◌&&◌, Bool, true, false, if◌then◌else◌, List, [], ◌∷◌, ◌++◌, length, take, drop, sum, Result, Ok, Err, ℤ, pos, negsuc, ◌≤ℤ◌}
+use Rattle.std.specs.Prelude.{◌≡◌, ℕ, ◌+◌, ◌-◌, ◌*◌, ◌/◌, ◌^◌, ◌<◌, ◌≤◌, nat_lt, nat_le, ◌&&◌, Bool, true, if◌then◌else◌, List, [], ◌∷◌, ◌++◌, length, take, drop, sum, Result, Ok, Err, ℤ, pos, negsuc, ◌≤ℤ◌}
 use Rattle.nav_eph.specs.Steps.{IsSisa}
 use Rattle.nav_bits.specs.Signed.{IsSigned}
 use Rattle.rinex_write.specs.declared.columns.Column.{Column}

@@ -1,6 +1,6 @@
 -- What contracts see of a reader of records, and what its calls do.
-use Rattle.std.specs.Prelude.{◌≡◌, ◌+◌, ◌-◌, ◌*◌, ◌^◌, ◌<◌, ◌++◌, ℕ, Bool, true, false, List, [], ◌∷◌, Option, Result, Ok, Err, map}
-use Rattle.nav_io.specs.Lines.{Line, ends}
+use Rattle.std.specs.Prelude.{◌≡◌, ◌+◌, ◌-◌, ◌*◌, ◌^◌, ◌<◌, ◌≤◌, ◌++◌, ℕ, Bool, true, false, List, [], ◌∷◌, Option, Result, Ok, Err, length, map, take}
+use Rattle.nav_io.specs.Lines.{Line, ends, lines_by}
 use Rattle.nav_io.specs.LinesState.{LinesState, Reads}
 use Rattle.nav_io.specs.declared.lines.LineFault.{LineFault}
 use Rattle.nav_io.specs.declared.lines.LineFault.TheVariants.{ReadFault, TooLong}
@@ -94,6 +94,29 @@ pub record Steps (f : Form) (left left_new : Option (List ℕ)) (old new : Recor
       → but_last (held_reads f old.kept old.first old.lines.number (map text_of_line lines ++ next))
       ≡ given ++ but_last (held_reads f new.kept new.first new.lines.number next)
 
+-- What is held of the bytes held before and taken is their end, at most 4,096 of them where no more were held before; and not too
+-- many were taken.
+pub record HoldsEnd (old new : LinesState) (taken : List ℕ) : Type 0 where
+  pub prefix : List ℕ
+  pub split : old.rest ++ taken ≡ prefix ++ new.rest
+  pub short : length old.rest ≤ 4096 → length new.rest ≤ 4096
+  pub low : old.taken < 2 ^ 32 → new.taken < 2 ^ 32
+
+-- Of the bytes held before and taken all but the last 4,096 have no more lines that ended than these, where not more were held before.
+abbrev pub AreEarly : LinesState → List ℕ → List Line → Type 0
+AreEarly old taken lines = length old.rest ≤ 4096 → old.taken < 2 ^ 32
+    → length (lines_by true (take (length (old.rest ++ taken) - 4096) (old.rest ++ taken))) ≤ length lines
+
+-- Steps behind which what is held is the end of the bytes.
+pub record NearSteps (f : Form) (left left_new : Option (List ℕ)) (old new : RecordsState) (given : List ItemRead) : Type 0 where
+  pub steps : Steps f left left_new old new given
+  pub near : HoldsEnd old.lines new.lines steps.reads.taken
+
+-- Steps in which all lines were given that have ended before the last 4,096 bytes.
+pub record EarlySteps (f : Form) (left left_new : Option (List ℕ)) (old new : RecordsState) (given : List ItemRead) : Type 0 where
+  pub steps : Steps f left left_new old new given
+  pub early : AreEarly old.lines steps.reads.taken steps.lines
+
 -- a bound on the calls still to come; it falls with each record that is read
 abbrev pub held_count : List (List ℕ) → ℕ
 held_count [] = 0
@@ -105,12 +128,14 @@ lines_left s = 2 * (2 ^ 32 - s.lines.number) + held_count s.kept
 -- A record was read.
 pub record GivesRecord (f : Form) (left left_new : Option (List ℕ)) (old new : RecordsState) (read : ItemRead) : Type 0 where
   pub steps : Steps f left left_new old new (read ∷ [])
+  pub near : HoldsEnd old.lines new.lines steps.reads.taken
   pub low : new.lines.taken < 2 ^ 32
   pub nearer : lines_left new < lines_left old
 
 -- No record is left, and a read gave no byte.
 pub record GivesNone (f : Form) (left left_new : Option (List ℕ)) (old new : RecordsState) : Type 0 where
   pub steps : Steps f left left_new old new []
+  pub near : HoldsEnd old.lines new.lines steps.reads.taken
   pub kept : new.kept ≡ []
   pub rest : new.lines.rest ≡ []
   pub ended : new.lines.ended ≡ true
@@ -131,6 +156,7 @@ BrokeBy TooLong new = new.lines.taken ≡ 2 ^ 32
 -- No record was read, and nothing is lost.
 pub record BreaksRecord (f : Form) (left left_new : Option (List ℕ)) (old new : RecordsState) (fault : LineFault) : Type 0 where
   pub steps : Steps f left left_new old new []
+  pub early : AreEarly old.lines steps.reads.taken steps.lines
   pub by : BrokeBy fault new
 
 -- Lines of the header were read; the rest gives the same file, whatever bytes or lines follow.
@@ -142,6 +168,16 @@ pub record HeaderSteps (f : Form) (left left_new : Option (List ℕ)) (old new :
   pub told : (next : List (List ℕ)) → MayStand new next
       → file_by f old.header old (map text_of_line lines ++ next) ≡ file_by f new.header new next
 
+-- Header steps behind which what is held is the end of the bytes.
+pub record NearHeader (f : Form) (left left_new : Option (List ℕ)) (old new : RecordsState) : Type 0 where
+  pub steps : HeaderSteps f left left_new old new
+  pub near : HoldsEnd old.lines new.lines steps.reads.taken
+
+-- Header steps in which all lines were given that have ended before the last 4,096 bytes.
+pub record EarlyHeader (f : Form) (left left_new : Option (List ℕ)) (old new : RecordsState) : Type 0 where
+  pub steps : HeaderSteps f left left_new old new
+  pub early : AreEarly old.lines steps.reads.taken steps.lines
+
 -- where lines of the header were read, there were at most 4,294,967,295 bytes so far
 abbrev pub ReadLow : RecordsState → RecordsState → Type 0
 ReadLow old new = is_waiting old.header ≡ true → new.lines.taken < 2 ^ 32
@@ -149,6 +185,7 @@ ReadLow old new = is_waiting old.header ≡ true → new.lines.taken < 2 ^ 32
 -- The header was read: the rest of the file is its records.
 pub record PassesHeader (f : Form) (left left_new : Option (List ℕ)) (old new : RecordsState) : Type 0 where
   pub steps : HeaderSteps f left left_new old new
+  pub near : HoldsEnd old.lines new.lines steps.reads.taken
   pub header : new.header ≡ Passed
   pub low : ReadLow old new
 
@@ -161,4 +198,5 @@ RefusedBy (faults.Line fault) old new = (is_waiting new.header ≡ true) × Brok
 -- The header is refused, or can be read on.
 pub record BreaksHeader (f : Form) (left left_new : Option (List ℕ)) (old new : RecordsState) (fault : HeaderFault) : Type 0 where
   pub steps : HeaderSteps f left left_new old new
+  pub early : AreEarly old.lines steps.reads.taken steps.lines
   pub by : RefusedBy fault old new

@@ -7,7 +7,8 @@ ghost use Rattle.nav_io.specs.declared.lines.LineFault.TheVariants.{ReadFault, T
 ghost use Rattle.rinex_read.specs.declared.judged.ItemRead.{ItemRead};
 ghost use Rattle.rinex_read.specs.declared.judged.ItemRead.TheVariants.{End};
 ghost use Rattle.rinex_read.specs.Kept.{padded};
-ghost use Rattle.rinex_read.specs.States.{BreaksHeader, BreaksRecord, GivesRead};
+ghost use Rattle.rinex_read.specs.States.{AreEarly, BreaksHeader, BreaksRecord, EarlySteps};
+ghost use Rattle.rinex_read.specs.States.{GivesRead, NearSteps};
 ghost use Rattle.rinex_read.specs.States.{HeaderSteps, IsNew, IsPaused, PassesHeader, RecordsState};
 ghost use Rattle.rinex_read.specs.States.{Steps, file_to_come, is_waiting, records_to_come};
 ghost use Rattle.rinex_read.specs.Forms.{rinex4};
@@ -20,7 +21,9 @@ ghost use Rattle.rinex_write.specs.declared.words.HeaderWords.{HeaderWords};
 ghost use Rattle.rinex_write.specs.Texts.{IsHeader, header_lines, item_lines, rinex_text, text_of};
 ghost use Rattle.rinex_read.specs.declared.judged.Judged.TheVariants as judgments;
 ghost use Rattle.rinex_read.specs.Judging.{judged};
-ghost use Rattle.rinex_read.specs.Files.{file_reads, items_of, list_by, reads, rinex_list, whole_reads};
+ghost use Rattle.rinex_read.specs.Files.{BeginWith, early_reads, file_reads, items_of, list_by};
+ghost use Rattle.rinex_read.specs.Files.{reads, rinex_list, whole_reads};
+ghost use Rattle.rinex_read.specs.declared.judged.HeaderState.TheVariants.{Passed};
 ghost use Rattle.rinex_read.specs.RoundTrip.{AllStand, AreHeaderLines, AreItems};
 ghost use Rattle.rinex_read.specs.RoundTrip.{StandFor, numbered, numbered_by};
 
@@ -112,6 +115,19 @@ pub fn steps_compose<F: FileForm>()
         (some more : List ItemRead) → Steps F.form left middle old now some
         → Steps F.form middle left_new now new more
         → Steps F.form left left_new old new (some ++ more) }
+    ensures near_none { (left : Option (List ℕ)) (state : RecordsState)
+        → NearSteps F.form left left state state [] }
+    ensures near { (left middle left_new : Option (List ℕ)) (old now new : RecordsState)
+        (some more : List ItemRead) → NearSteps F.form left middle old now some
+        → NearSteps F.form middle left_new now new more
+        → NearSteps F.form left left_new old new (some ++ more) }
+    ensures early { (left middle left_new : Option (List ℕ)) (old now new : RecordsState)
+        (some more : List ItemRead) → NearSteps F.form left middle old now some
+        → EarlySteps F.form middle left_new now new more
+        → EarlySteps F.form left left_new old new (some ++ more) }
+    ensures early_near { (left left_new : Option (List ℕ)) (old new : RecordsState)
+        (given : List ItemRead) → NearSteps F.form left left_new old new given
+        → EarlySteps F.form left left_new old new given }
     ensures header_none { (left : Option (List ℕ)) (state : RecordsState)
         → HeaderSteps F.form left left state state }
     ensures header { (left middle left_new : Option (List ℕ)) (old now new : RecordsState)
@@ -129,6 +145,22 @@ pub fn whole_records_are_given<F: FileForm>()
     ensures header { (left left_new : Option (List ℕ)) (old new : RecordsState) → IsNew old
         → (steps : HeaderSteps F.form left left_new old new) → is_waiting new.header ≡ true
         → IsPaused new → whole_reads F.form steps.reads.taken ≡ Err faults.NotRinexNav }
+{
+    F::looks_at_kept();
+}
+
+/// The records that are whole in all bytes taken but the last 4,096 were given, also where the reader broke off; before the
+/// end of a header there are none.
+pub fn early_records_are_given<F: FileForm>()
+    ensures records { (left middle left_new : Option (List ℕ)) (old now new : RecordsState)
+        (given : List ItemRead) → IsNew old → (header : PassesHeader F.form left middle old now)
+        → (steps : Steps F.form middle left_new now new given)
+        → AreEarly now.lines steps.reads.taken steps.lines
+        → BeginWith given (early_reads F.form (header.steps.reads.taken ++ steps.reads.taken)) }
+    ensures header { (left left_new : Option (List ℕ)) (old new : RecordsState) → IsNew old
+        → (steps : HeaderSteps F.form left left_new old new)
+        → AreEarly old.lines steps.reads.taken steps.lines → (new.header ≡ Passed → ⊥)
+        → early_reads F.form steps.reads.taken ≡ [] }
 {
     F::looks_at_kept();
 }

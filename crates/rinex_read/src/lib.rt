@@ -50,10 +50,10 @@ pub use crate::form::{FileForm, Rinex4};
 pub use crate::form3::Rinex3;
 pub use crate::judged::{HeaderFault, HeaderState, ItemRead, Judged};
 pub use crate::laws::{
-    columns_behind_the_last_are_not_looked_at, files_are_read, header_lines_are_read,
-    items_are_whole, joined_files_are_read, listed_items_are_whole, readers_begin_with_the_file,
-    record_lines_stand, records_are_read, steps_compose, the_end_stays,
-    too_many_bytes_stay_too_many, whole_records_are_given, written_files_are_read,
+    columns_behind_the_last_are_not_looked_at, early_records_are_given, files_are_read,
+    header_lines_are_read, items_are_whole, joined_files_are_read, listed_items_are_whole,
+    readers_begin_with_the_file, record_lines_stand, records_are_read, steps_compose,
+    the_end_stays, too_many_bytes_stay_too_many, whole_records_are_given, written_files_are_read,
 };
 pub use crate::laws3::{files3_are_read, headers3_are_read, records3_are_read};
 pub use crate::line::columns;

@@ -8,7 +8,7 @@ ghost use Rattle.rinex_read.specs.Files.{read_at};
 ghost use Rattle.rinex_read.specs.Mirrors.{EndsWith, HeaderRefused, IsRecord, TakesLine, state_of};
 ghost use Rattle.rinex_read.specs.RoundTrip.{IsWholeRead};
 ghost use Rattle.rinex_read.specs.States.{BreaksRecord, GivesRead};
-ghost use Rattle.rinex_read.specs.States.{HeaderSteps, RefusedBy, is_waiting};
+ghost use Rattle.rinex_read.specs.States.{EarlyHeader, NearHeader, RefusedBy, is_waiting};
 ghost use Rattle.rinex_read.specs.declared.judged.HeaderState.{HeaderState};
 
 use crate::form::{FileForm, Rinex4};
@@ -158,8 +158,11 @@ fn pass_header<F: FileForm, S: Source>(
 ) -> Result<(), HeaderFault>
     requires waiting { is_waiting header.old ≡ true }
     requires numbered { lines.old.number ≤ lines.old.taken }
-    ensures steps { (first : ℕ) → HeaderSteps F.form (S.left source.old) (S.left source.new)
-        (state_of header.old [] first lines.old) (state_of header.new [] first lines.new) }
+    ensures steps { (first : ℕ) → MatchResult result
+        (λ _. NearHeader F.form (S.left source.old) (S.left source.new)
+        (state_of header.old [] first lines.old) (state_of header.new [] first lines.new))
+        (λ _. EarlyHeader F.form (S.left source.old) (S.left source.new)
+        (state_of header.old [] first lines.old) (state_of header.new [] first lines.new)) }
     ensures answer { MatchResult result (λ _. (header.new ≡ Passed) × (lines.new.taken < 2 ^ 32))
         (λ fault. RefusedBy fault (state_of header.old [] 0 lines.old)
         (state_of header.new [] 0 lines.new)) }

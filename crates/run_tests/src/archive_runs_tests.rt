@@ -90,28 +90,107 @@ const A_STEP_MORE: Record = Record {
     last: b"0.000000000000D+00 4.000000000000D+00\n",
 };
 
-// A file of one ephemeris of G05.
-fn file_of(alloc: Global, record: &Record) -> Result<Vec<u8>, AllocError> {
-    let name: &[u8] = b"> EPH G05 LNAV\nG05 2023 12 31 ";
-    [
-        HEADER,
-        name,
-        record.time,
-        CLOCK,
-        record.toe,
-        ORBIT,
-        record.last,
-    ]
-    .concat(alloc)
+// What a record of G05 begins with.
+const NAME: &[u8] = b"> EPH G05 LNAV\nG05 2023 12 31 ";
+
+// A file: its header, a record of G05, and what stands behind that.
+#[derive(Clone, Copy)]
+struct File {
+    header: &'static [u8],
+    record: Option<Record>,
+    rest: &'static [u8],
+}
+
+const GPS: File = File {
+    header: HEADER,
+    record: Some(START),
+    rest: b"",
+};
+
+const UNKNOWN_SENT: File = File {
+    header: HEADER,
+    record: Some(UNKNOWN),
+    rest: b"",
+};
+
+const LONG_FIT: File = File {
+    header: HEADER,
+    record: Some(SIX_HOURS),
+    rest: b"",
+};
+
+const LATER: File = File {
+    header: HEADER,
+    record: Some(FOUR_HOURS_LATER),
+    rest: b"",
+};
+
+const APART: File = File {
+    header: HEADER,
+    record: Some(A_STEP_MORE),
+    rest: b"",
+};
+
+const OF_GALILEO: File = File {
+    header: HEADER,
+    record: None,
+    rest: GALILEO,
+};
+
+const OF_BOTH: File = File {
+    header: HEADER,
+    record: Some(START),
+    rest: GALILEO,
+};
+
+const ONE_REFUSED: File = File {
+    header: b"",
+    record: None,
+    rest: REFUSED,
+};
+
+const NO_HEADER: File = File {
+    header: b"no header",
+    record: None,
+    rest: b"",
+};
+
+const NOTHING: File = File {
+    header: b"",
+    record: None,
+    rest: b"",
+};
+
+impl File {
+    // The bytes of the file.
+    fn bytes(&self, alloc: Global) -> Result<Vec<u8>, AllocError> {
+        match &self.record {
+            None => [self.header, self.rest].concat(alloc),
+            Some(record) => [
+                self.header,
+                NAME,
+                record.time,
+                CLOCK,
+                record.toe,
+                ORBIT,
+                record.last,
+                self.rest,
+            ]
+            .concat(alloc),
+        }
+    }
+
+    // Whether these are the bytes of the file.
+    fn has(&self, alloc: Global, bytes: &[u8]) -> Result<bool, AllocError> {
+        Ok(self.bytes(alloc)?.as_slice() == bytes)
+    }
 }
 
 // A source over two files, concatenated.
-fn source_of(alloc: Global, first: &[u8], second: &[u8]) -> Result<MemSource, AllocError> {
-    Ok(MemSource::new(
-        [first, second].concat(alloc)?,
-        Vec::new(alloc),
-        Vec::new(alloc),
-    ))
+fn source_of(alloc: Global, first: &File, second: &File) -> Result<MemSource, AllocError> {
+    let mut bytes = first.bytes(alloc)?;
+    bytes.extend_from_slice(second.bytes(alloc)?.as_slice())?;
+    Ok(MemSource::new(bytes, Vec::new(alloc), Vec::new(alloc)))
 }
 
 // An empty sink.
@@ -119,97 +198,98 @@ fn sink_of(alloc: Global) -> Result<MemSink, AllocError> {
     MemSink::new(alloc, 4000, Vec::new(alloc))
 }
 
-// Two files, what is written of them and what is reported.
-#[derive(Clone, Copy)]
-struct Row<'a> {
-    first: &'a [u8],
-    second: &'a [u8],
-    output: &'a [u8],
-    report: &'a [u8],
+// What a run that merges two files ends with.
+fn merge(
+    alloc: Global,
+    first: &File,
+    second: &File,
+    output: &mut MemSink,
+    report: &mut MemSink,
+) -> Result<Result<MergeCounts, BridgeFault>, AllocError> {
+    let mut input = source_of(alloc, first, second)?;
+    Ok(run_merge(alloc, &WORDS, &mut input, output, report))
 }
 
-// Whether two files are merged and reported so.
-fn is_merged(alloc: Global, row: &Row) -> Result<bool, AllocError> {
-    let mut output = sink_of(alloc)?;
-    let mut report = sink_of(alloc)?;
-    let mut input = source_of(alloc, row.first, row.second)?;
-    let counts = run_merge(alloc, &WORDS, &mut input, &mut output, &mut report);
-    Ok(counts.is_ok() && output.bytes() == row.output && report.bytes() == row.report)
+// What a run that looks for ranges in two files ends with.
+fn cover(
+    alloc: Global,
+    first: &File,
+    second: &File,
+    output: &mut MemSink,
+    report: &mut MemSink,
+) -> Result<Result<RinexCounts, BridgeFault>, AllocError> {
+    let mut input = source_of(alloc, first, second)?;
+    Ok(run_cover(alloc, &mut input, output, report))
 }
 
-// Whether two files cover these ranges, and are reported so.
-fn is_covered(alloc: Global, row: &Row) -> Result<bool, AllocError> {
-    let mut output = sink_of(alloc)?;
-    let mut report = sink_of(alloc)?;
-    let mut input = source_of(alloc, row.first, row.second)?;
-    let counts = run_cover(alloc, &mut input, &mut output, &mut report);
-    Ok(counts.is_ok() && output.bytes() == row.output && report.bytes() == row.report)
+// Two files, what they are merged to, and what is reported.
+struct Merged {
+    first: File,
+    second: File,
+    output: File,
+    report: &'static [u8],
 }
+
+const ONE_KEPT: &[u8] = b"records 2\nrefused 0\npassed 0\nitems 2\nkept 1\n";
 
 // A file twice, and two that differ in the transmission time, both ways round: the one that was sent first is kept.
 // Two systems, in the order of rank, whatever comes first.
+static MERGED: [Merged; 5] = [
+    Merged {
+        first: GPS,
+        second: GPS,
+        output: GPS,
+        report: ONE_KEPT,
+    },
+    Merged {
+        first: UNKNOWN_SENT,
+        second: GPS,
+        output: GPS,
+        report: ONE_KEPT,
+    },
+    Merged {
+        first: GPS,
+        second: UNKNOWN_SENT,
+        output: GPS,
+        report: ONE_KEPT,
+    },
+    Merged {
+        first: OF_GALILEO,
+        second: GPS,
+        output: OF_BOTH,
+        report: b"records 3\nrefused 0\npassed 0\nitems 3\nkept 3\n",
+    },
+    Merged {
+        first: GPS,
+        second: ONE_REFUSED,
+        output: GPS,
+        report: b"line 14 satellite\nrecords 2\nrefused 1\npassed 0\nitems 1\nkept 1\n",
+    },
+];
+
+// Whether two files are merged and reported so.
+fn is_merged(alloc: Global, row: &Merged) -> Result<bool, AllocError> {
+    let mut output = sink_of(alloc)?;
+    let mut report = sink_of(alloc)?;
+    let counts = merge(alloc, &row.first, &row.second, &mut output, &mut report)?;
+    let is_reported = counts.is_ok() && report.bytes() == row.report;
+    Ok(is_reported && row.output.has(alloc, output.bytes())?)
+}
+
 #[test]
 fn merges_two_files(rt: HostRuntime) -> Result<(), Fail> {
-    let gps = file_of(rt.alloc(), &START)?;
-    let unknown = file_of(rt.alloc(), &UNKNOWN)?;
-    let galileo = [HEADER, GALILEO].concat(rt.alloc())?;
-    let both = [gps.as_slice(), GALILEO].concat(rt.alloc())?;
-    let one: &[u8] = b"records 2\nrefused 0\npassed 0\nitems 2\nkept 1\n";
-    let rows: [Row; 5] = [
-        Row {
-            first: &gps,
-            second: &gps,
-            output: &gps,
-            report: one,
-        },
-        Row {
-            first: &unknown,
-            second: &gps,
-            output: &gps,
-            report: one,
-        },
-        Row {
-            first: &gps,
-            second: &unknown,
-            output: &gps,
-            report: one,
-        },
-        Row {
-            first: &galileo,
-            second: &gps,
-            output: &both,
-            report: b"records 3\nrefused 0\npassed 0\nitems 3\nkept 3\n",
-        },
-        Row {
-            first: &gps,
-            second: REFUSED,
-            output: &gps,
-            report: b"line 14 satellite\nrecords 2\nrefused 1\npassed 0\nitems 1\nkept 1\n",
-        },
-    ];
-    for row in &rows {
+    for row in &MERGED {
         assert!(rt; is_merged(rt.alloc(), row)?);
     }
     Ok(())
 }
 
-// What a run that merges two inputs ends with.
-fn merge_counts(
-    alloc: Global,
-    first: &[u8],
-    second: &[u8],
-) -> Result<Result<MergeCounts, BridgeFault>, AllocError> {
+// Whether a file twice is counted so, and no file is none.
+fn are_kept_counted(alloc: Global) -> Result<bool, AllocError> {
     let mut output = sink_of(alloc)?;
     let mut report = sink_of(alloc)?;
-    let mut input = source_of(alloc, first, second)?;
-    Ok(run_merge(alloc, &WORDS, &mut input, &mut output, &mut report))
-}
-
-#[test]
-fn counts_what_is_kept(rt: HostRuntime) -> Result<(), Fail> {
-    let file = file_of(rt.alloc(), &START)?;
-    let counts = merge_counts(rt.alloc(), &file, &file)?;
-    let none = merge_counts(rt.alloc(), b"no header", b"")?;
+    let none = merge(alloc, &NO_HEADER, &NOTHING, &mut output, &mut report)?;
+    let counts = merge(alloc, &GPS, &GPS, &mut output, &mut report)?;
     let want = MergeCounts {
         records: 2,
         refused: 0,
@@ -217,81 +297,94 @@ fn counts_what_is_kept(rt: HostRuntime) -> Result<(), Fail> {
         items: 2,
         kept: 1,
     };
-    assert!(rt; counts == Ok(want) && none == Err(BridgeFault::NotThisForm));
+    Ok(counts == Ok(want) && none == Err(BridgeFault::NotThisForm))
+}
+
+#[test]
+fn counts_what_is_kept(rt: HostRuntime) -> Result<(), Fail> {
+    assert!(rt; are_kept_counted(rt.alloc())?);
     Ok(())
 }
 
+// Two files, the ranges that they cover, and what is reported.
+struct Covered {
+    first: File,
+    second: File,
+    ranges: &'static [u8],
+    report: &'static [u8],
+}
+
+const ONE_ITEM: &[u8] = b"records 1\nrefused 0\npassed 0\nitems 1\n";
+
+const TWO_ITEMS: &[u8] = b"records 2\nrefused 0\npassed 0\nitems 2\n";
+
 // One ephemeris of each system; two whose times touch; two with a gap of 16 s; a fit interval of six hours.
+static COVERED: [Covered; 5] = [
+    Covered {
+        first: GPS,
+        second: NOTHING,
+        ranges: b"G05 1388008800 1388023200\n",
+        report: ONE_ITEM,
+    },
+    Covered {
+        first: OF_GALILEO,
+        second: NOTHING,
+        ranges: b"E11 1388008800 1388023200\n",
+        report: TWO_ITEMS,
+    },
+    Covered {
+        first: LATER,
+        second: GPS,
+        ranges: b"G05 1388008800 1388037600\n",
+        report: TWO_ITEMS,
+    },
+    Covered {
+        first: GPS,
+        second: APART,
+        ranges: b"G05 1388008800 1388023200\nG05 1388023216 1388037616\n",
+        report: TWO_ITEMS,
+    },
+    Covered {
+        first: LONG_FIT,
+        second: NOTHING,
+        ranges: b"G05 1388005200 1388026800\n",
+        report: ONE_ITEM,
+    },
+];
+
+// Whether two files cover these ranges, and are reported so.
+fn is_covered(alloc: Global, row: &Covered) -> Result<bool, AllocError> {
+    let mut output = sink_of(alloc)?;
+    let mut report = sink_of(alloc)?;
+    let counts = cover(alloc, &row.first, &row.second, &mut output, &mut report)?;
+    Ok(counts.is_ok() && output.bytes() == row.ranges && report.bytes() == row.report)
+}
+
 #[test]
 fn covers_ranges(rt: HostRuntime) -> Result<(), Fail> {
-    let gps = file_of(rt.alloc(), &START)?;
-    let later = file_of(rt.alloc(), &FOUR_HOURS_LATER)?;
-    let apart = file_of(rt.alloc(), &A_STEP_MORE)?;
-    let long = file_of(rt.alloc(), &SIX_HOURS)?;
-    let galileo = [HEADER, GALILEO].concat(rt.alloc())?;
-    let one: &[u8] = b"records 1\nrefused 0\npassed 0\nitems 1\n";
-    let two: &[u8] = b"records 2\nrefused 0\npassed 0\nitems 2\n";
-    let rows: [Row; 5] = [
-        Row {
-            first: &gps,
-            second: b"",
-            output: b"G05 1388008800 1388023200\n",
-            report: one,
-        },
-        Row {
-            first: &galileo,
-            second: b"",
-            output: b"E11 1388008800 1388023200\n",
-            report: two,
-        },
-        Row {
-            first: &later,
-            second: &gps,
-            output: b"G05 1388008800 1388037600\n",
-            report: two,
-        },
-        Row {
-            first: &gps,
-            second: &apart,
-            output: b"G05 1388008800 1388023200\nG05 1388023216 1388037616\n",
-            report: two,
-        },
-        Row {
-            first: &long,
-            second: b"",
-            output: b"G05 1388005200 1388026800\n",
-            report: one,
-        },
-    ];
-    for row in &rows {
+    for row in &COVERED {
         assert!(rt; is_covered(rt.alloc(), row)?);
     }
     Ok(())
 }
 
-// What a run that looks for ranges in two inputs ends with.
-fn cover_counts(
-    alloc: Global,
-    first: &[u8],
-    second: &[u8],
-) -> Result<Result<RinexCounts, BridgeFault>, AllocError> {
+// Whether a file twice is counted so, and no file is none.
+fn are_items_counted(alloc: Global) -> Result<bool, AllocError> {
     let mut output = sink_of(alloc)?;
     let mut report = sink_of(alloc)?;
-    let mut input = source_of(alloc, first, second)?;
-    Ok(run_cover(alloc, &mut input, &mut output, &mut report))
-}
-
-#[test]
-fn counts_what_covers(rt: HostRuntime) -> Result<(), Fail> {
-    let file = file_of(rt.alloc(), &START)?;
-    let counts = cover_counts(rt.alloc(), &file, &file)?;
-    let none = cover_counts(rt.alloc(), b"no header", b"")?;
+    let none = cover(alloc, &NO_HEADER, &NOTHING, &mut output, &mut report)?;
+    let counts = cover(alloc, &GPS, &GPS, &mut output, &mut report)?;
     let want = RinexCounts {
         records: 2,
         refused: 0,
         passed: 0,
         items: 2,
     };
-    assert!(rt; counts == Ok(want) && none == Err(BridgeFault::NotThisForm));
+    Ok(counts == Ok(want) && none == Err(BridgeFault::NotThisForm))
+}
+
+#[test]
+fn counts_what_covers(rt: HostRuntime) -> Result<(), Fail> {
+    assert!(rt; are_items_counted(rt.alloc())?);
     Ok(())
 }

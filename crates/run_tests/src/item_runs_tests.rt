@@ -10,8 +10,10 @@ use std::test::Fail;
 use streams::{StreamCounts, StreamTo, run_stream};
 
 // Message 1019 of an ephemeris of G05 in week 2295 whose other fields are 0, as a frame.
-const FRAME: &[u8] =
-    b"\xd3\x00\x3d\x3f\xb1\x4f\x70\0\0\0\0\0\0\0\0\0\0\0\0\0\0\0\0\0\0\0\0\0\0\0\0\0\0\0\0\0\0\0\0\0\0\0\0\0\0\0\0\0\0\0\0\0\0\0\0\0\0\0\0\0\0\0\0\0\xd1\xac\x12";
+const FRAME: &[u8] = b"\xd3\x00\x3d\x3f\xb1\x4f\x70\
+    \0\0\0\0\0\0\0\0\0\0\0\0\0\0\0\0\0\0\0\0\0\0\0\0\0\0\0\0\0\
+    \0\0\0\0\0\0\0\0\0\0\0\0\0\0\0\0\0\0\0\0\0\0\0\0\0\0\0\0\
+    \xd1\xac\x12";
 
 // A frame with no payload.
 const EMPTY_FRAME: &[u8] = b"\xd3\x00\x00\x47\xea\x4b";
@@ -33,17 +35,25 @@ fn sink_of(alloc: Global) -> Result<MemSink, AllocError> {
     MemSink::new(alloc, 4000, Vec::new(alloc))
 }
 
-// Runs over a stream, and what it ended with.
+// Runs over a stream, and what it ended with, if well.
 fn stream_run(
     alloc: Global,
     to: &StreamTo,
     bytes: &[u8],
     output: &mut MemSink,
     report: &mut MemSink,
-) -> Result<Result<StreamCounts, BridgeFault>, Fail> {
-    let r = RefWeek::new(2295).ok_or("a reference week")?;
+) -> Result<Option<StreamCounts>, AllocError> {
+    let Some(r) = RefWeek::new(2295) else {
+        return Ok(None);
+    };
     let mut input = source_of(alloc, bytes)?;
-    Ok(run_stream(alloc, r, to, &mut input, output, report))
+    Ok(run_stream(alloc, r, to, &mut input, output, report).ok())
+}
+
+// Whether a stream of one frame becomes a file.
+fn becomes_file(alloc: Global, to: &StreamTo, file: &mut MemSink) -> Result<bool, AllocError> {
+    let mut report = sink_of(alloc)?;
+    Ok(stream_run(alloc, to, FRAME, file, &mut report)?.is_some())
 }
 
 // Runs over a file of either form, and what it ended with.
@@ -99,52 +109,54 @@ fn stays(alloc: Global, bytes: &[u8]) -> Result<bool, AllocError> {
     )
 }
 
-#[test]
-fn gives_an_ephemeris_of_a_stream_once(rt: HostRuntime) -> Result<(), Fail> {
-    let bytes = [FRAME, EMPTY_FRAME, FRAME].concat(rt.alloc())?;
-    let mut output = sink_of(rt.alloc())?;
-    let mut report = sink_of(rt.alloc())?;
-    let counts = stream_run(
-        rt.alloc(),
-        &StreamTo::Rtcm,
-        &bytes,
-        &mut output,
-        &mut report,
-    )?;
+// Whether two equal frames, and one with no payload, become one.
+fn is_given_once(alloc: Global) -> Result<bool, AllocError> {
+    let bytes = [FRAME, EMPTY_FRAME, FRAME].concat(alloc)?;
+    let mut output = sink_of(alloc)?;
+    let mut report = sink_of(alloc)?;
+    let counts = stream_run(alloc, &StreamTo::Rtcm, &bytes, &mut output, &mut report)?;
     let want = StreamCounts {
         frames: 3,
         refused: 0,
         unused: 1,
         items: 1,
     };
-    assert!(rt;
-        counts == Ok(want)
-            && output.bytes() == FRAME
-            && report.bytes() == b"frames 3\nrefused 0\nunused 1\nitems 1\n".as_slice()
-    );
+    let text: &[u8] = b"frames 3\nrefused 0\nunused 1\nitems 1\n";
+    let is_reported = report.bytes() == text;
+    Ok(counts == Some(want) && output.bytes() == FRAME && is_reported)
+}
+
+#[test]
+fn gives_an_ephemeris_of_a_stream_once(rt: HostRuntime) -> Result<(), Fail> {
+    assert!(rt; is_given_once(rt.alloc())?);
     Ok(())
+}
+
+// Whether a stream becomes a file, and that the list and the stream again.
+fn comes_back(alloc: Global) -> Result<bool, AllocError> {
+    let one: &[u8] = b"records 1\nrefused 0\npassed 0\nitems 1\n";
+    let line: &[u8] = b"5 EPH G05 0 2295 0\n";
+    let mut file = sink_of(alloc)?;
+    let is_file = becomes_file(alloc, &StreamTo::Rinex(WORDS), &mut file)?;
+    let list = file_becomes(alloc, &RinexTo::ToList, file.bytes(), line, one)?;
+    Ok(is_file && list && file_becomes(alloc, &RinexTo::Rtcm, file.bytes(), FRAME, one)?)
 }
 
 #[test]
 fn converts_a_stream_to_files_and_back(rt: HostRuntime) -> Result<(), Fail> {
-    let mut file = sink_of(rt.alloc())?;
-    let mut report = sink_of(rt.alloc())?;
-    let to = StreamTo::Rinex(WORDS);
-    let counts = stream_run(rt.alloc(), &to, FRAME, &mut file, &mut report)?;
-    let one: &[u8] = b"records 1\nrefused 0\npassed 0\nitems 1\n";
-    let line: &[u8] = b"5 EPH G05 0 2295 0\n";
-    let list = file_becomes(rt.alloc(), &RinexTo::ToList, file.bytes(), line, one)?;
-    let frames = file_becomes(rt.alloc(), &RinexTo::Rtcm, file.bytes(), FRAME, one)?;
-    assert!(rt; counts.is_ok() && list && frames);
+    assert!(rt; comes_back(rt.alloc())?);
     Ok(())
+}
+
+// Whether a stream becomes a file of the older form, and that itself again.
+fn is_of_older_form(alloc: Global) -> Result<bool, AllocError> {
+    let mut file = sink_of(alloc)?;
+    let is_file = becomes_file(alloc, &StreamTo::Rinex3(WORDS), &mut file)?;
+    Ok(is_file && stays(alloc, file.bytes())?)
 }
 
 #[test]
 fn converts_a_file_of_the_older_form(rt: HostRuntime) -> Result<(), Fail> {
-    let mut file = sink_of(rt.alloc())?;
-    let mut report = sink_of(rt.alloc())?;
-    let to = StreamTo::Rinex3(WORDS);
-    let counts = stream_run(rt.alloc(), &to, FRAME, &mut file, &mut report)?;
-    assert!(rt; counts.is_ok() && stays(rt.alloc(), file.bytes())?);
+    assert!(rt; is_of_older_form(rt.alloc())?);
     Ok(())
 }

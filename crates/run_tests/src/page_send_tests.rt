@@ -11,14 +11,25 @@ use nav_eph::{
 };
 use nav_io::MemSink;
 use page_send::{SendFault, can_send, send_item};
-use std::alloc::Global;
+use std::alloc::{AllocError, Global};
 use std::test::Fail;
 
-const GPS_LINES: &[u8] =
-    b"0 L G05 8b00004800021043dc000580000029ffffff580000029ffffff580000029ffffff58000008c0\n6 L G05 8b00004800042940000000000000000000000000000000000000000000000000000000000000\n12 L G05 8b000048000631c0000000000000000000000000000000000000000000000000000000000000\n";
+const GPS_LINES: &[u8] = b"\
+    0 L G05 8b00004800021043dc000580000029ffffff580000029ffffff580000029ffffff58000008c0\n\
+    6 L G05 8b00004800042940000000000000000000000000000000000000000000000000000000000000\n\
+    12 L G05 8b000048000631c0000000000000000000000000000000000000000000000000000000000000\n";
 
-const GALILEO_LINES: &[u8] =
-    b"21600 P E11 B 010140000000000000000000000000\n21601 P E11 B 8000000000000000000038a9288000\n21602 P E11 B 020140000000000000000000000000\n21603 P E11 B 8000000000000000000008b5104000\n21604 P E11 B 030140000000000000000000000000\n21605 P E11 B 801ac0000000000000001aca444000\n21606 P E11 B 04014b000000000000000000000000\n21607 P E11 B 80000000000000000000371c7fc000\n21608 P E11 B 05000000000000000009ee00000000\n21609 P E11 B 80000000000000000000244dbcc000\n";
+const GALILEO_LINES: &[u8] = b"\
+    21600 P E11 B 010140000000000000000000000000\n\
+    21601 P E11 B 8000000000000000000038a9288000\n\
+    21602 P E11 B 020140000000000000000000000000\n\
+    21603 P E11 B 8000000000000000000008b5104000\n\
+    21604 P E11 B 030140000000000000000000000000\n\
+    21605 P E11 B 801ac0000000000000001aca444000\n\
+    21606 P E11 B 04014b000000000000000000000000\n\
+    21607 P E11 B 80000000000000000000371c7fc000\n\
+    21608 P E11 B 05000000000000000009ee00000000\n\
+    21609 P E11 B 80000000000000000000244dbcc000\n";
 
 // The item is an ephemeris.
 fn is_ephemeris(item: &NavItem) -> bool
@@ -135,40 +146,32 @@ fn galileo(week: u32) -> Option<NavItem> {
 }
 
 // Whether an item is sent in a slot as these lines.
-fn is_sent_as(item: &NavItem, slot: u32, lines: &[u8], alloc: Global) -> Result<bool, Fail> {
-    let r = RefWeek::new(2295).ok_or("a week")?;
+fn is_sent_as(
+    alloc: Global,
+    item: Option<NavItem>,
+    slot: u32,
+    lines: &[u8],
+) -> Result<bool, AllocError> {
+    let (Some(item), Some(r)) = (item, RefWeek::new(2295)) else {
+        return Ok(false);
+    };
+    if !is_ephemeris(&item) || !item.is_whole() || can_send(&item, r, slot).is_err() {
+        return Ok(false);
+    }
     let mut out = MemSink::new(alloc, 600, Vec::new(alloc))?;
-    if !is_ephemeris(item) {
-        return Ok(false);
-    }
-    if !item.is_whole() {
-        return Ok(false);
-    }
-    if can_send(item, r, slot).is_err() {
-        return Ok(false);
-    }
-    if send_item(item, r, slot, &mut out).is_err() {
-        return Ok(false);
-    }
-    Ok(out.bytes() == lines)
+    let sent = send_item(&item, r, slot, &mut out);
+    Ok(sent.is_ok() && out.bytes() == lines)
 }
 
 #[test]
-fn sends_subframes(rt: HostRuntime) -> Result<(), Fail> {
-    let item = gps(0, 2295).ok_or("an ephemeris")?;
-    assert!(rt; is_sent_as(&item, 0, GPS_LINES, rt.alloc())?);
-    Ok(())
-}
-
-#[test]
-fn sends_pages(rt: HostRuntime) -> Result<(), Fail> {
-    let item = galileo(2295).ok_or("an ephemeris")?;
-    assert!(rt; is_sent_as(&item, 1, GALILEO_LINES, rt.alloc())?);
+fn sends_subframes_and_pages(rt: HostRuntime) -> Result<(), Fail> {
+    let is_gps_sent = is_sent_as(rt.alloc(), gps(0, 2295), 0, GPS_LINES)?;
+    let is_galileo_sent = is_sent_as(rt.alloc(), galileo(2295), 1, GALILEO_LINES)?;
+    assert!(rt; is_gps_sent && is_galileo_sent);
     Ok(())
 }
 
 // What a test asks of an ephemeris of GPS.
-#[derive(Clone, Copy)]
 struct Case {
     iodc: u64,
     week: u32,

@@ -4,6 +4,7 @@ use captures::{CaptureCounts, SeedCounts, SeedTo, run_seed};
 use gnss_week::RefWeek;
 use nav_io::MemSink;
 use one_run::BridgeFault;
+use std::alloc::{AllocError, Global};
 use std::test::Fail;
 
 // The counts of the capture of two satellites of each system from the seed 7 in week 2295, computed
@@ -65,19 +66,50 @@ fn counts_the_capture(rt: HostRuntime) -> Result<(), Fail> {
     Ok(())
 }
 
+// What there is room for in a run, and what it ends with.
+struct Fault {
+    to: SeedTo,
+    room: usize,
+    report_room: usize,
+    fault: BridgeFault,
+}
+
+static FAULTS: [Fault; 3] = [
+    Fault {
+        to: SeedTo::Capture,
+        room: 0,
+        report_room: 0,
+        fault: BridgeFault::WriteFault,
+    },
+    Fault {
+        to: SeedTo::Count,
+        room: 0,
+        report_room: 200,
+        fault: BridgeFault::WriteFault,
+    },
+    Fault {
+        to: SeedTo::Count,
+        room: 200,
+        report_room: 0,
+        fault: BridgeFault::ReportFault,
+    },
+];
+
+// Whether a run ends with the fault.
+fn is_answered(alloc: Global, case: &Fault) -> Result<bool, AllocError> {
+    let Some(week) = RefWeek::new(2295) else {
+        return Ok(false);
+    };
+    let mut output = MemSink::new(alloc, case.room, Vec::new(alloc))?;
+    let mut report = MemSink::new(alloc, case.report_room, Vec::new(alloc))?;
+    let counts = run_seed(alloc, 7, 1, week, case.to, &mut output, &mut report);
+    Ok(counts == Err(case.fault))
+}
+
 #[test]
 fn answers_faults(rt: HostRuntime) -> Result<(), Fail> {
-    let week = RefWeek::new(2295).ok_or("a week")?;
-    let cases = [
-        (SeedTo::Capture, 0, 0, BridgeFault::WriteFault),
-        (SeedTo::Count, 0, 200, BridgeFault::WriteFault),
-        (SeedTo::Count, 200, 0, BridgeFault::ReportFault),
-    ];
-    for (to, room, report_room, want) in cases {
-        let mut output = MemSink::new(rt.alloc(), room, Vec::new(rt.alloc()))?;
-        let mut report = MemSink::new(rt.alloc(), report_room, Vec::new(rt.alloc()))?;
-        let counts = run_seed(rt.alloc(), 7, 1, week, to, &mut output, &mut report);
-        assert!(rt; counts == Err(want));
+    for case in &FAULTS {
+        assert!(rt; is_answered(rt.alloc(), case)?);
     }
     Ok(())
 }

@@ -104,8 +104,12 @@ impl Model for Powers {
 }
 
 impl Powers {
+    ghost use Rattle.std.specs.Prelude.{◌≡◌, ◌∷◌, []};
+
     // Holds x^0 only.
-    pub fn new() -> Self {
+    pub fn new() -> Self
+        ensures { result ≡ 1 ∷ [] }
+    {
         let mut powers = ArrayVec::new();
         powers.push(1);
         Powers { powers }

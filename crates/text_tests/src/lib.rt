@@ -1,7 +1,7 @@
 //! Tests of the crates that read and write texts: numbers of 19 columns, navigation files of RINEX 4 and RINEX 3, the
 //! lines of lists and reports, and the words of the command line.
 //!
-//! They see what those crates hand out to everyone. Items that several tests need stand in `samples`.
+//! They see what those crates hand out to everyone..
 #![tactic(auto)]
 
 #[cfg(test)]
@@ -11,10 +11,6 @@ mod outlets_tests;
 #[cfg(test)]
 mod rinex3_tests;
 #[cfg(test)]
-mod rinex_read_tests;
-#[cfg(test)]
-mod rinex_write_tests;
-#[cfg(test)]
-mod samples;
+mod rinex4_tests;
 #[cfg(test)]
 mod scaled_decimal_tests;

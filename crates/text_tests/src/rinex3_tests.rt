@@ -212,210 +212,262 @@ G32 2024 01 14 00 00 00 2.853730693460D-04-3.347508936713D-09 1.193489751472D-15
      .9071990000000D+06 4.000000000000D+00\r
 ";
 
-// What a test wants of one record: its line, and what is read of it.
+// What is to be read of one record.
 #[derive(Clone, Copy)]
 enum Want {
-    Item(u32),
-    Refused(u32, Reason),
-    PassedOver(u32),
+    Item { line: u32 },
+    Refused { line: u32, reason: Reason },
+    PassedOver { line: u32 },
 }
 
 fn is_wanted(read: &ItemRead, want: &Want) -> bool {
     match (read, want) {
-        (ItemRead::Item { line, .. }, Want::Item(at)) => line == at,
-        (ItemRead::Refused { line, reason }, Want::Refused(at, why)) => line == at && reason == why,
-        (ItemRead::PassedOver { line }, Want::PassedOver(at)) => line == at,
+        (ItemRead::Item { line, .. }, Want::Item { line: at }) => line == at,
+        (
+            ItemRead::Refused { line, reason },
+            Want::Refused {
+                line: at,
+                reason: why,
+            },
+        ) => { line == at && reason == why }
+        (ItemRead::PassedOver { line }, Want::PassedOver { line: at }) => line == at,
         _ => false,
     }
 }
 
-fn source_of(alloc: Global, bytes: &[u8]) -> Result<MemSource, AllocError> {
-    Ok(MemSource::new(bytes.to_vec(alloc)?, Vec::new(alloc), Vec::new(alloc)))
+// A file, what is read of it, and its items as they are written in version 4 and in version 3; `None` where that is not
+// looked at.
+struct FileRow {
+    bytes: &'static [u8],
+    reads: &'static [Want],
+    four: Option<&'static [u8]>,
+    three: Option<&'static [u8]>,
+}
+
+static FILES: [FileRow; 2] = [
+    // A file of an independent program, with numbers in several spellings, and its items as that program writes them.
+    FileRow {
+        bytes: FILE,
+        reads: &[
+            Want::PassedOver { line: 5 },
+            Want::Item { line: 6 },
+            Want::Item { line: 14 },
+            Want::PassedOver { line: 22 },
+            Want::PassedOver { line: 27 },
+            Want::PassedOver { line: 28 },
+        ],
+        four: Some(FOUR),
+        three: Some(THREE),
+    },
+    // Another one, with records that are refused and data sources that are no number.
+    FileRow {
+        bytes: REFUSED,
+        reads: &[
+            Want::Item { line: 6 },
+            Want::Refused {
+                line: 15,
+                reason: Reason::NotANumber,
+            },
+            Want::PassedOver { line: 23 },
+            Want::Refused {
+                line: 31,
+                reason: Reason::Short,
+            },
+            Want::Item { line: 36 },
+            Want::Item { line: 44 },
+        ],
+        four: None,
+        three: None,
+    },
+];
+
+// Single records behind a header.
+static RECORDS: [FileRow; 7] = [
+    FileRow {
+        bytes: GPS,
+        reads: &[Want::Item { line: 5 }],
+        four: None,
+        three: Some(GPS),
+    },
+    FileRow {
+        bytes: ODD_GPS,
+        reads: &[Want::Item { line: 5 }],
+        four: None,
+        three: Some(GPS),
+    },
+    FileRow {
+        bytes: GALILEO,
+        reads: &[Want::Item { line: 5 }],
+        four: None,
+        three: Some(GALILEO),
+    },
+    FileRow {
+        bytes: FNAV,
+        reads: &[Want::PassedOver { line: 5 }],
+        four: None,
+        three: Some(b""),
+    },
+    FileRow {
+        bytes: GLONASS,
+        reads: &[Want::PassedOver { line: 5 }],
+        four: None,
+        three: Some(b""),
+    },
+    FileRow {
+        bytes: SIX_LINES,
+        reads: &[Want::Refused {
+            line: 5,
+            reason: Reason::Short,
+        }],
+        four: None,
+        three: Some(b""),
+    },
+    FileRow {
+        bytes: FIVE_LINES,
+        reads: &[Want::PassedOver { line: 5 }],
+        four: None,
+        three: Some(b""),
+    },
+];
+
+fn source_of(alloc: Global, start: &[u8], rest: &[u8]) -> Result<MemSource, AllocError> {
+    let mut bytes = start.to_vec(alloc)?;
+    bytes.extend_from_slice(rest)?;
+    Ok(MemSource::new(bytes, Vec::new(alloc), Vec::new(alloc)))
 }
 
 // Whether the records of a file are those that are wanted; its items are written in both versions.
 fn reads_to(
-    bytes: &[u8],
+    source: &mut MemSource,
     wants: &[Want],
     four: &mut MemSink,
     three: &mut MemSink,
-    alloc: Global,
-) -> Result<bool, Fail> {
-    let mut source = source_of(alloc, bytes)?;
+) -> bool {
     let mut records = Records3::new();
-    match records.read_header3(&mut source) {
+    match records.read_header3(source) {
         Ok(()) => {}
-        Err(_) => return Ok(false),
+        Err(_) => return false,
     }
+    let mut all = true;
     for want in wants {
-        let read = match records.next_item3(&mut source) {
-            Ok(read) => read,
-            Err(_) => return Ok(false),
-        };
-        if !is_wanted(&read, want) {
-            return Ok(false);
-        }
-        if let ItemRead::Item { item, .. } = read {
-            if write_item(&item, four).is_err() || write_item3(&item, three).is_err() {
-                return Ok(false);
+        match records.next_item3(source) {
+            Ok(read) => {
+                all = all && is_wanted(&read, want);
+                if let ItemRead::Item { item, .. } = read {
+                    all = write_item(&item, four) == Ok(()) && all;
+                    all = write_item3(&item, three) == Ok(()) && all;
+                }
             }
+            Err(_) => all = false,
         }
     }
-    Ok(records.next_item3(&mut source) == Ok(ItemRead::End))
+    all && records.next_item3(source) == Ok(ItemRead::End)
 }
 
-// A file of an independent program, with numbers in several spellings, and its items as that
-// program writes them.
-#[test]
-fn a_file_of_another_program(rt: HostRuntime) -> Result<(), Fail> {
-    let wants = [
-        Want::PassedOver(5),
-        Want::Item(6),
-        Want::Item(14),
-        Want::PassedOver(22),
-        Want::PassedOver(27),
-        Want::PassedOver(28),
-    ];
-    let mut four = MemSink::new(rt.alloc(), 2_000, [].to_vec(rt.alloc())?)?;
-    let mut three = MemSink::new(rt.alloc(), 2_000, [].to_vec(rt.alloc())?)?;
-    let reads = reads_to(FILE, &wants, &mut four, &mut three, rt.alloc())?;
-    assert!(rt; reads && four.bytes() == FOUR && three.bytes() == THREE);
-    Ok(())
-}
-
-// Another one, with records that are refused and data sources that are no number.
-#[test]
-fn a_file_with_refused_records(rt: HostRuntime) -> Result<(), Fail> {
-    let wants = [
-        Want::Item(6),
-        Want::Refused(15, Reason::NotANumber),
-        Want::PassedOver(23),
-        Want::Refused(31, Reason::Short),
-        Want::Item(36),
-        Want::Item(44),
-    ];
-    let mut four = MemSink::new(rt.alloc(), 3_000, [].to_vec(rt.alloc())?)?;
-    let mut three = MemSink::new(rt.alloc(), 3_000, [].to_vec(rt.alloc())?)?;
-    assert!(rt; reads_to(REFUSED, &wants, &mut four, &mut three, rt.alloc())?);
-    Ok(())
-}
-
-// Whether one record behind a header, and no further one, is read as is wanted, and its item written as the text.
-fn is_rewritten_as(
-    alloc: Global,
-    record: &[u8],
-    want: &Want,
-    text: &[u8],
-) -> Result<bool, AllocError> {
-    let mut bytes = HEADER.to_vec(alloc)?;
-    bytes.extend_from_slice(record)?;
-    let mut sink = MemSink::new(alloc, 1_000, Vec::new(alloc))?;
-    let mut source = MemSource::new(bytes, Vec::new(alloc), Vec::new(alloc));
-    let mut records = Records3::new();
-    match records.read_header3(&mut source) {
-        Ok(()) => {}
-        Err(_) => return Ok(false),
+// Whether a text is the one that is looked at.
+fn is_text(text: &[u8], want: Option<&[u8]>) -> bool {
+    match want {
+        Some(want) => text == want,
+        None => true,
     }
-    let read = match records.next_item3(&mut source) {
-        Ok(read) => read,
-        Err(_) => return Ok(false),
-    };
-    let written = match &read {
-        ItemRead::Item { item, .. } => write_item3(item, &mut sink) == Ok(()),
-        _ => true,
-    };
-    let next = records.next_item3(&mut source);
-    Ok(is_wanted(&read, want) && written && sink.bytes() == text && next == Ok(ItemRead::End))
 }
 
-static RECORDS: [(&[u8], Want, &[u8]); 7] = [
-    (GPS, Want::Item(5), GPS),
-    (ODD_GPS, Want::Item(5), GPS),
-    (GALILEO, Want::Item(5), GALILEO),
-    (FNAV, Want::PassedOver(5), b""),
-    (GLONASS, Want::PassedOver(5), b""),
-    (SIX_LINES, Want::Refused(5, Reason::Short), b""),
-    (FIVE_LINES, Want::PassedOver(5), b""),
+// Whether the file, behind such a start, is read and its items written so.
+fn is_file(alloc: Global, start: &[u8], row: &FileRow) -> Result<bool, AllocError> {
+    let mut four = MemSink::new(alloc, 3_000, Vec::new(alloc))?;
+    let mut three = MemSink::new(alloc, 3_000, Vec::new(alloc))?;
+    let mut source = source_of(alloc, start, row.bytes)?;
+    let read = reads_to(&mut source, row.reads, &mut four, &mut three);
+    Ok(read && is_text(four.bytes(), row.four) && is_text(three.bytes(), row.three))
+}
+
+#[test]
+fn files(rt: HostRuntime) -> Result<(), Fail> {
+    let mut all = true;
+    for row in &FILES {
+        all = is_file(rt.alloc(), b"", row)? && all;
+    }
+    for row in &RECORDS {
+        all = is_file(rt.alloc(), HEADER, row)? && all;
+    }
+    assert!(rt; all);
+    Ok(())
+}
+
+// Bytes, and what a reader answers when it is asked for their header, once and again.
+struct HeaderRow {
+    bytes: &'static [u8],
+    answer: Result<(), HeaderFault>,
+}
+
+// The versions that are read, and others.
+static HEADERS: [HeaderRow; 7] = [
+    HeaderRow {
+        bytes: b"     3.05           N: GNSS NAV DATA    M: MIXED            RINEX VERSION / TYPE
+                                                            END OF HEADER
+",
+        answer: Ok(()),
+    },
+    HeaderRow {
+        bytes: b"3.02                N: GNSS NAV DATA    M: MIXED            RINEX VERSION / TYPE
+                                                            END OF HEADER
+",
+        answer: Ok(()),
+    },
+    HeaderRow {
+        bytes: b"  3.04              N: GNSS NAV DATA    M: MIXED            RINEX VERSION / TYPE
+                                                            END OF HEADER
+",
+        answer: Ok(()),
+    },
+    HeaderRow {
+        bytes: b"     3.01           N: GNSS NAV DATA    M: MIXED            RINEX VERSION / TYPE
+                                                            END OF HEADER
+",
+        answer: Err(HeaderFault::Version),
+    },
+    HeaderRow {
+        bytes: b"     3.06           N: GNSS NAV DATA    M: MIXED            RINEX VERSION / TYPE
+                                                            END OF HEADER
+",
+        answer: Err(HeaderFault::Version),
+    },
+    HeaderRow {
+        bytes: b"     4.01           N: GNSS NAV DATA    M: MIXED            RINEX VERSION / TYPE
+                                                            END OF HEADER
+",
+        answer: Err(HeaderFault::Version),
+    },
+    HeaderRow {
+        bytes: b"NAVCAP 1\n",
+        answer: Err(HeaderFault::NotRinexNav),
+    },
 ];
 
-// Single records behind a header: what they stand for, and what is written of them.
-#[test]
-fn records_of_each_kind(rt: HostRuntime) -> Result<(), Fail> {
-    for (record, want, text) in &RECORDS {
-        assert!(rt; is_rewritten_as(rt.alloc(), record, want, text)?);
-    }
-    Ok(())
-}
-
-static HEADERS: [(&[u8], Result<(), HeaderFault>); 7] = [
-    (
-        b"     3.05           N: GNSS NAV DATA    M: MIXED            RINEX VERSION / TYPE
-                                                            END OF HEADER
-",
-        Ok(()),
-    ),
-    (
-        b"3.02                N: GNSS NAV DATA    M: MIXED            RINEX VERSION / TYPE
-                                                            END OF HEADER
-",
-        Ok(()),
-    ),
-    (
-        b"  3.04              N: GNSS NAV DATA    M: MIXED            RINEX VERSION / TYPE
-                                                            END OF HEADER
-",
-        Ok(()),
-    ),
-    (
-        b"     3.01           N: GNSS NAV DATA    M: MIXED            RINEX VERSION / TYPE
-                                                            END OF HEADER
-",
-        Err(HeaderFault::Version),
-    ),
-    (
-        b"     3.06           N: GNSS NAV DATA    M: MIXED            RINEX VERSION / TYPE
-                                                            END OF HEADER
-",
-        Err(HeaderFault::Version),
-    ),
-    (
-        b"     4.01           N: GNSS NAV DATA    M: MIXED            RINEX VERSION / TYPE
-                                                            END OF HEADER
-",
-        Err(HeaderFault::Version),
-    ),
-    (b"NAVCAP 1\n", Err(HeaderFault::NotRinexNav)),
-];
-
-// Whether a reader answers so when it is asked for the header of the bytes, and when it is asked again.
-fn answers_twice(
-    alloc: Global,
-    bytes: &[u8],
-    want: &Result<(), HeaderFault>,
-) -> Result<bool, AllocError> {
-    let mut source = source_of(alloc, bytes)?;
+fn answers_twice(alloc: Global, row: &HeaderRow) -> Result<bool, AllocError> {
+    let mut source = source_of(alloc, row.bytes, b"")?;
     let mut records = Records3::new();
     let first = records.read_header3(&mut source);
     let second = records.read_header3(&mut source);
-    Ok(first == *want && second == *want)
+    Ok(first == row.answer && second == row.answer)
 }
 
-// Whether the header of these words is written as the bytes.
-fn is_written_as(alloc: Global, words: &HeaderWords, bytes: &[u8]) -> Result<bool, AllocError> {
-    let mut sink = MemSink::new(alloc, 1_000, Vec::new(alloc))?;
-    Ok(write_header3(words, &mut sink) == Ok(()) && sink.bytes() == bytes)
-}
-
-// The header that is written, and the versions that are read.
-#[test]
-fn headers(rt: HostRuntime) -> Result<(), Fail> {
+// Whether the header is written.
+fn is_written(alloc: Global) -> Result<bool, AllocError> {
     let words = HeaderWords {
         date: *b"20240101 000000 UTC",
         leap: 18,
     };
-    assert!(rt; is_written_as(rt.alloc(), &words, HEADER)?);
-    for (bytes, want) in &HEADERS {
-        assert!(rt; answers_twice(rt.alloc(), bytes, want)?);
+    let mut sink = MemSink::new(alloc, 1_000, Vec::new(alloc))?;
+    Ok(write_header3(&words, &mut sink) == Ok(()) && sink.bytes() == HEADER)
+}
+
+#[test]
+fn headers(rt: HostRuntime) -> Result<(), Fail> {
+    let mut all = is_written(rt.alloc())?;
+    for row in &HEADERS {
+        all = answers_twice(rt.alloc(), row)? && all;
     }
+    assert!(rt; all);
     Ok(())
 }

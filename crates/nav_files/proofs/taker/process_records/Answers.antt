@@ -6,9 +6,11 @@ use Rattle.nav_files.proofs.taker.process_records.Goals as goal
 
 pub records-init : goal.records-init
 records-init g c = record {
-  follow = c.steps_compose.ensures.records;
+  follow = c.steps_compose.ensures.near;
+  follow_early = c.steps_compose.ensures.early;
+  nears = c.steps_compose.ensures.early_near;
   header = c.requires.header;
-  taken = taken_start g.F.FileForm.form _ _ _ _ _ _ _ (c.steps_compose.ensures.none _ _) c.requires.nothing;
+  taken = taken_start g.F.FileForm.form _ _ _ _ _ _ _ (c.steps_compose.ensures.near_none _ _) c.requires.nothing;
   read = refl;
   write = refl;
   report = refl;
@@ -17,7 +19,7 @@ records-init g c = record {
 
 pub returns-in-Err-clause-broken : goal.returns-in-Err-clause-broken
 returns-in-Err-clause-broken g c =
-    part_of_break g.F.FileForm.form _ _ _ g.K.Taker.memory _ _ _ _ _ _ _ _ _ _ _ c.records.invariant.follow c.records.invariant.taken c.in-Err.ensures.broken
+    part_of_break g.F.FileForm.form _ _ _ g.K.Taker.memory _ _ _ _ _ _ _ _ _ _ _ c.records.invariant.follow_early c.requires.grows c.records.invariant.taken c.in-Err.ensures.broken
 
 pub returns-in-Ok-None-clause-all : goal.returns-in-Ok-None-clause-all
 returns-in-Ok-None-clause-all g c =
@@ -29,7 +31,7 @@ returns-in_err-take-in-Ok-Some-clause-broken g c =
     let p = err_from_is_err_and c.from_residual.result c.from_residual.ensures.1 in
     let gives = some_read g.F.FileForm.form _ _ _ _ _ _ c.in-Ok-Some.field-0-is c.in-Ok-Some.ensures.read in
     let take = c.in_err-take-in-Ok-Some.ensures in
-    rw (p.1, p.2) (part_of_take g.F.FileForm.form _ _ _ g.K.Taker.memory _ _ _ _ _ _ _ _ _ _ _ _ _ _ c.records.invariant.follow c.records.invariant.taken gives take.output take.report take.kinds)
+    rw (p.1, p.2) (part_of_take g.F.FileForm.form _ _ _ g.K.Taker.memory _ _ _ _ _ _ _ _ _ _ _ _ _ _ c.records.invariant.follow c.records.invariant.nears c.records.invariant.taken gives take.output take.report take.kinds)
 
 pub records-preserved : goal.records-preserved
 records-preserved g c =
@@ -37,6 +39,8 @@ records-preserved g c =
     let take = c.in_ok-take-in-Ok-Some.ensures in
     record {
       follow = c.records.invariant.follow;
+      follow_early = c.records.invariant.follow_early;
+      nears = c.records.invariant.nears;
       header = c.next_read.ensures.header;
       taken = taken_more g.F.FileForm.form _ _ _ _ _ _ _ _ _ _ _ _ _ _ _ _ _ c.records.invariant.follow c.records.invariant.taken gives take.held take.output take.report;
       read = ap (λ f. f.input) c.in-Ok-Some.ensures.cause ∙ c.records.invariant.read;

@@ -3,12 +3,14 @@ use Rattle.std.specs.Prelude.{IsTrue}
 use Rattle.rinex_read.specs.States.{lines_left}
 use Rattle.rinex_read.specs.declared.judged.HeaderState.TheVariants.{Passed}
 use Rattle.nav_files.specs.Taken.{TakenReads}
-use Rattle.nav_files.proofs.RecordLemmas.{Follow}
+use Rattle.nav_files.proofs.RecordLemmas.{AreNear, Follow, FollowEarly}
 use Rattle.nav_files.proofs.taker.process_records.Given as goal
 
 abbrev pub invariant-records : goal.invariant-records
 invariant-records g l = record {
   follow : Follow g.F.FileForm.form;
+  follow_early : FollowEarly g.F.FileForm.form;
+  nears : AreNear g.F.FileForm.form;
   header : l.records.header ≡ Passed;
   taken : TakenReads g.F.FileForm.form (g.K.Taker.text l.taker) (g.K.Taker.told l.taker) (g.K.Taker.holds l.taker l.state) (g.S.Source.left l.fn.input) (g.S.Source.left l.input) l.fn.records l.records
       (g.T.Sink.written l.fn.output) (g.T.Sink.written l.output) (g.U.Sink.written l.fn.report) (g.U.Sink.written l.report);

@@ -2,7 +2,7 @@ use Rattle.std.proofs.Common.{◌≡◌, ℕ, List, true, refl, subst, ◌∙◌
 use Rattle.nav_io.specs.declared.lines.LineKind.TheVariants.{End}
 use Rattle.rinex_read.specs.declared.judged.HeaderState.TheVariants.{Passed}
 use Rattle.rinex_read.specs.declared.judged.ItemRead.{ItemRead}
-use Rattle.rinex_read.proofs.StepLemmas.{steps_none}
+use Rattle.rinex_read.proofs.NearSteps.{near_steps_none}
 use Rattle.rinex_read.specs.Forms.{Form}
 use Rattle.rinex_read.specs.Mirrors.{TakesLine, state_of}
 use Rattle.rinex_read.proofs.RecordSteps.{line_given, end_given, line_gives, line_keeps, end_gives, breaks}
@@ -15,7 +15,7 @@ takes_at f kept first new first_new line text number place given e same takes =
 
 pub records-init : goal.records-init
 records-init g c = record {
-  steps = λ header. steps_none g.F.FileForm.form _ _;
+  steps = λ header. near_steps_none g.F.FileForm.form _ _;
   near = omega arith;
   numbered = c.requires.numbered;
   faults = refl;

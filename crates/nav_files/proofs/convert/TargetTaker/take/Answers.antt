@@ -2,13 +2,13 @@ use Rattle.std.proofs.Common.{[]}
 use Rattle.std.proofs.lemmas.Result.{err_from_is_err_and}
 use Rattle.outlets.specs.Targets.{prefix_text, item_text}
 use Rattle.nav_files.specs.Files.{read_report, read_text}
-use Rattle.nav_files.proofs.ConvertLemmas.{grew_prefix, grew_more}
+use Rattle.nav_files.proofs.ConvertLemmas.{grew_between, grew_prefix, grew_more}
 use Rattle.nav_files.proofs.convert.TargetTaker.take.Goals as goal
 
 pub returns-in_err-tell_read-clause-output : goal.returns-in_err-tell_read-clause-output
 returns-in_err-tell_read-clause-output g c =
     let p = err_from_is_err_and c.from_residual.result c.from_residual.ensures.1 in
-    rw p.1 (λ reads start held so_far. grew_prefix (prefix_text c.args.self.now) (read_text (item_text c.args.self.now)) reads c.args.read.now start _ _ so_far c.in_err-tell_read.ensures.part)
+    rw p.1 (λ reads start held so_far. grew_between (prefix_text c.args.self.now) (read_text (item_text c.args.self.now)) reads c.args.read.now start _ _ so_far c.in_err-tell_read.ensures.part)
 
 pub returns-in_err-tell_read-clause-report : goal.returns-in_err-tell_read-clause-report
 returns-in_err-tell_read-clause-report g c =

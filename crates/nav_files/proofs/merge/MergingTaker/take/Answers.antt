@@ -4,7 +4,7 @@ use Rattle.nav_lists.specs.Merging.{merged_of}
 use Rattle.one_run.proofs.Surface.{whole_prefix}
 use Rattle.nav_files.specs.Files.{read_report}
 use Rattle.nav_files.specs.Mirrors.{counted}
-use Rattle.nav_files.proofs.Surface.{counts_more, grew_prefix, grew_more}
+use Rattle.nav_files.proofs.Surface.{between_same, counts_more, grew_prefix, grew_more}
 use Rattle.rinex_read.specs.Files.{items_of}
 use Rattle.nav_files.proofs.KeptLemmas.{items_more}
 use Rattle.nav_files.proofs.merge.MergingTaker.take.Goals as goal
@@ -12,7 +12,7 @@ use Rattle.nav_files.proofs.merge.MergingTaker.take.Goals as goal
 pub returns-in_err-report_read-clause-output : goal.returns-in_err-report_read-clause-output
 returns-in_err-report_read-clause-output g c =
     let p = err_from_is_err_and c.from_residual.result c.from_residual.ensures.1 in
-    rw p.1 (λ reads start held so_far. whole_prefix start _ _ so_far)
+    rw p.1 (λ reads start held so_far. between_same start _ _ so_far)
 
 pub returns-in_err-report_read-clause-report : goal.returns-in_err-report_read-clause-report
 returns-in_err-report_read-clause-report g c =
@@ -22,7 +22,7 @@ returns-in_err-report_read-clause-report g c =
 pub returns-in_err-merge_read-clause-output : goal.returns-in_err-merge_read-clause-output
 returns-in_err-merge_read-clause-output g c =
     let p = err_from_is_err_and c.from_residual-in_err-merge_read.result c.from_residual-in_err-merge_read.ensures.1 in
-    rw p.1 (λ reads start held so_far. whole_prefix start _ _ so_far)
+    rw p.1 (λ reads start held so_far. between_same start _ _ so_far)
 
 pub returns-in_err-merge_read-clause-report : goal.returns-in_err-merge_read-clause-report
 returns-in_err-merge_read-clause-report g c =

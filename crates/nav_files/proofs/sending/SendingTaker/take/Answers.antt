@@ -1,15 +1,15 @@
-use Rattle.std.proofs.Common.{[], ap, ◌∙◌}
+use Rattle.std.proofs.Common.{[], ◌∙◌}
 use Rattle.std.proofs.lemmas.Result.{err_from_is_err_and}
 use Rattle.page_send.specs.Sendable.{sent_head}
 use Rattle.nav_files.specs.Sends.{told_report, told_text}
-use Rattle.nav_files.proofs.SentLemmas.{counts_room, counts_with, slot_with, told_prefix, told_more}
+use Rattle.nav_files.proofs.SentLemmas.{counts_room, counts_with, slot_with, told_between, told_prefix, told_more}
 use Rattle.nav_files.proofs.Tolds.{room_for}
 use Rattle.nav_files.proofs.sending.SendingTaker.take.Goals as goal
 
 pub returns-in_err-tell-clause-output : goal.returns-in_err-tell-clause-output
 returns-in_err-tell-clause-output g c =
     let p = err_from_is_err_and c.from_residual.result c.from_residual.ensures.1 in
-    rw p.1 (λ reads start held so_far. told_prefix sent_head told_text c.args.self.now.r _ reads c.args.read.now _ start _ _ held.1 c.told_of-told.ensures.told so_far c.in_err-tell.ensures.part)
+    rw p.1 (λ reads start held so_far. told_between sent_head told_text c.args.self.now.r _ reads c.args.read.now _ start _ _ held.1 c.told_of-told.ensures.told so_far c.in_err-tell.ensures.part)
 
 pub returns-in_err-tell-clause-report : goal.returns-in_err-tell-clause-report
 returns-in_err-tell-clause-report g c =

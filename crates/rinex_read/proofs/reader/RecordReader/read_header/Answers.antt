@@ -16,12 +16,12 @@ pub returns-clause-header : goal.returns-clause-header
 returns-clause-header g c =
     let waits : is_waiting c.self.inside.header ≡ true = sym c.is_waiting.ensures ∙ c.if-not-is_waiting.false in
     passed_by g.F.FileForm.form c.pass_header.result _ _ c.args.self.now (state_of c.pass_header.new.header c.new-self-inside.result c.self.inside.first c.pass_header.new.lines) c.self.inside.header c.self.inside.lines
-    (header_all g.F.FileForm.form _ _ c.args.self.now c.self.inside.header c.pass_header.new.header c.self.inside.kept c.new-self-inside.result c.self.inside.first c.self.inside.lines c.pass_header.new.lines
+    (header_all g.F.FileForm.form c.pass_header.result _ _ c.args.self.now c.self.inside.header c.pass_header.new.header c.self.inside.kept c.new-self-inside.result c.self.inside.first c.self.inside.lines c.pass_header.new.lines
     c.self.view_is c.new-self-inside.ensures waits (c.pass_header.ensures.steps c.self.inside.first)) c.pass_header.ensures.answer
 
 pub returns-clause-fault : goal.returns-clause-fault
 returns-clause-fault g c =
     let waits : is_waiting c.self.inside.header ≡ true = sym c.is_waiting.ensures ∙ c.if-not-is_waiting.false in
     refused_by g.F.FileForm.form c.pass_header.result _ _ c.args.self.now (state_of c.pass_header.new.header c.new-self-inside.result c.self.inside.first c.pass_header.new.lines) c.self.inside.header c.self.inside.lines waits
-    (header_all g.F.FileForm.form _ _ c.args.self.now c.self.inside.header c.pass_header.new.header c.self.inside.kept c.new-self-inside.result c.self.inside.first c.self.inside.lines c.pass_header.new.lines
+    (header_all g.F.FileForm.form c.pass_header.result _ _ c.args.self.now c.self.inside.header c.pass_header.new.header c.self.inside.kept c.new-self-inside.result c.self.inside.first c.self.inside.lines c.pass_header.new.lines
     c.self.view_is c.new-self-inside.ensures waits (c.pass_header.ensures.steps c.self.inside.first)) c.pass_header.ensures.answer

@@ -1,0 +1,87 @@
+#!/usr/bin/env bash
+# Builds the library for C of the archive that bindings/archive.sh makes, and tests it from outside: the examples compiled as C99
+# and as C++, each run of examples/runs.txt by nb_convert, rooms of many sizes, four threads, memory refused at each request,
+# and the Python module.
+#
+#   bindings/check.sh [--archive FILE] [--sanitize] [--valgrind]
+#
+#   --archive FILE   libnavbridge_c.a (crates/navbridge_c/out/libnavbridge_c.a)
+#   --sanitize       the C side with AddressSanitizer and UBSan
+#   --valgrind       one conversion under valgrind
+#
+# Status: 0 all as it should be; 1 something differs; 2 the words are wrong, or a compiler or the archive is not there.
+set -u
+archive='' sanitize='' valgrind=''
+while [ $# -gt 0 ]; do
+  case $1 in
+    -h | --help)
+      sed -n '2,/^set /{/^set /d;s/^# \{0,1\}//;p}' "$0"
+      exit 0
+      ;;
+    --sanitize) sanitize='-fsanitize=address,undefined -fno-sanitize-recover=all -g' ;;
+    --valgrind) valgrind='valgrind -q --error-exitcode=9 --leak-check=full' ;;
+    --archive)
+      [ $# -ge 2 ] || { echo "check: $1 wants a value" >&2; exit 2; }
+      archive=$(readlink -f -- "$2")
+      shift
+      ;;
+    *)
+      echo "check: $1 is no option; --help" >&2
+      exit 2
+      ;;
+  esac
+  shift
+done
+cd "$(dirname "$(readlink -f "$0")")/.." || exit 2
+archive=${archive:-$PWD/crates/navbridge_c/out/libnavbridge_c.a}
+[ -f "$archive" ] || { echo "check: no archive $archive: bindings/archive.sh makes it" >&2; exit 2; }
+for tool in cc c++ ar make; do
+  command -v "$tool" > /dev/null || { echo "check: no $tool" >&2; exit 2; }
+done
+out=$(mktemp -d)
+trap 'rm -rf "$out"' EXIT
+made=$out/made
+wrong=0
+differs() {
+  wrong=$((wrong + 1))
+  echo "differs: $*"
+}
+if ! make -s -C bindings/c LIB="$archive" OUT="$made" CFLAGS="-O2 $sanitize" > "$out/make.log" 2>&1; then
+  cat "$out/make.log"
+  echo "check: not built" >&2
+  exit 1
+fi
+runs=0
+for program in convert convert++; do
+  while IFS='|' read -r status input output report words; do
+    case $status in '' | '#'*) continue ;; esac
+    eval "set -- $words"
+    case $output in -) output=/dev/null ;; *) output=examples/$output ;; esac
+    case $report in -) report=/dev/null ;; *) report=examples/$report ;; esac
+    (cd examples && "$made/$program" "$@" < "$input" > "$out/output" 2> "$out/report")
+    got=$?
+    runs=$((runs + 1))
+    [ "$got" = "$status" ] || differs "status $got: $program $words < $input"
+    cmp -s "$out/output" "$output" || differs "output: $program $words < $input"
+    cmp -s "$out/report" "$report" || differs "report: $program $words < $input"
+  done < examples/runs.txt
+done
+echo "convert: $runs runs"
+for suffix in '' ++; do
+  "$made/rooms$suffix" examples/three.navcap examples/expected/three.rnx examples/expected/three.report --from=capture --to=rinex \
+    --week=2295 '--date=20240101 000000 UTC' --leap=18 || differs "rooms$suffix"
+  "$made/threads$suffix" examples/station.navcap examples/station.rnx --from=capture --to=rinex '--date=20240101 000000 UTC' \
+    --leap=18 || differs "threads$suffix"
+  "$made/memory_refused$suffix" examples/station.navcap examples/station.rnx --from=capture --to=rinex \
+    '--date=20240101 000000 UTC' --leap=18 || differs "memory_refused$suffix"
+done
+if [ -n "$valgrind" ]; then
+  $valgrind "$made/convert" --from=stream --to=frames < examples/station.rtcm3 | cmp -s - examples/expected/station.frames \
+    || differs 'convert under valgrind'
+fi
+if command -v python3 > /dev/null && [ -z "$sanitize" ]; then
+  NAVBRIDGE_LIBRARY=$made/libnavbridge.so PYTHONDONTWRITEBYTECODE=1 python3 -m doctest bindings/python/navbridge.py || differs 'navbridge.py'
+  echo 'navbridge.py: its example was run'
+fi
+echo "bindings: $wrong differ"
+[ "$wrong" = 0 ]
