@@ -17,7 +17,7 @@ use Rattle.one_run.specs.Runs.{Ended, World}
 use Rattle.one_run.specs.declared.fault.BridgeFault.{BridgeFault}
 use Rattle.one_run.proofs.Surface.{accepted_of, done_by, end_of, no_prefix, text_of}
 use Rattle.captures.specs.Captures.{Capture as CaptureOf, capture_meaning, capture_of, counts_in, output_of, periods as periods_in, target_of}
-use Rattle.captures.specs.Converts.{CaptureAhead, CapturePrefix, CountsLast}
+use Rattle.captures.specs.Follows.{CaptureAhead, CapturePrefix, CountsLast}
 use Rattle.captures.specs.declared.target.CaptureTo.TheVariants.{Rinex}
 use Rattle.outlets.specs.declared.target.Target.{Target}
 use Rattle.outlets.specs.declared.target.Target.TheVariants as targets

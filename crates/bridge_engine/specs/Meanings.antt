@@ -10,7 +10,7 @@ use Rattle.nav_files.specs.Targets.{target_of_file}
 use Rattle.nav_files.specs.Sends.{send_meaning}
 use Rattle.nav_files.specs.Archives.{cover_meaning, merge_meaning}
 use Rattle.captures.specs.Captures.{capture_meaning, target_of}
-use Rattle.captures.specs.Converts.{CaptureAhead}
+use Rattle.captures.specs.Follows.{CaptureAhead}
 use Rattle.streams.specs.FrameLines.{frames_meaning}
 use Rattle.captures.specs.Seeds.{seed_meaning}
 use Rattle.bridge_engine.specs.Job.{row_of}

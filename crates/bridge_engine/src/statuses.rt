@@ -11,7 +11,7 @@ ghost use Rattle.periods.specs.declared.closed.Closed.{Closed};
 ghost use Rattle.capture_log.specs.Heard.{IsPartHeard};
 ghost use Rattle.one_run.specs.Ends.{RanBy};
 ghost use Rattle.captures.specs.Captures.{Capture, target_of};
-ghost use Rattle.captures.specs.Converts.{CaptureAhead};
+ghost use Rattle.captures.specs.Follows.{CaptureAhead};
 ghost use Rattle.captures.specs.declared.target.CaptureTo.TheVariants.{Rinex};
 ghost use Rattle.bridge_engine.specs.CaptureBytes.{IsCapture, StandFor};
 ghost use Rattle.bridge_engine.specs.Job.{IsJob, GivesJob};

@@ -31,7 +31,7 @@ key_cmp_total = then_total (on_total (λ (k : ℕ × ℕ). k.0) nat_cmp_total) (
 pub key_cmp_exact : CmpEqualImpliesEq key_cmp
 key_cmp_exact = exact_pairs nat_cmp nat_cmp exact_unsigned exact_unsigned
 
--- a key that is not above another has no greater bucket
+-- a key that is not above another has no greater slot
 pub first_le : (a b : ℕ × ℕ) → is_gt (key_cmp a b) ≡ false → a.0 ≤ b.0
 first_le a b h =
     ⊎_elim

@@ -13,7 +13,7 @@ use Rattle.inav_page.specs.declared.seconds.Second.{Second}
 use Rattle.inav_page.specs.declared.seconds.Seconds.{Seconds}
 use Rattle.nav_eph.specs.declared.signal.Signal.{Signal}
 use Rattle.nav_eph.specs.declared.signal.Signal.TheVariants.{E1b, E5b}
-use Rattle.inav_page.specs.Pages.{bits_at, kind_of, page_crc}
+use Rattle.inav_page.specs.Pages.{digits_at, kind_of, page_crc}
 use Rattle.inav_page.specs.Heard.{StampedHalf, word_by}
 use Rattle.inav_page.specs.Keeping.{IsRecent}
 
@@ -43,21 +43,21 @@ half_at place bits = record {
 -- contribution; that of an odd part is the contribution that its CRC demands of the even part.
 abbrev pub remainder_by : HalfKind → ℕ → ℕ
 remainder_by Even half = page_crc half 0
-remainder_by Odd half = bit_xor (page_crc 0 half) (bits_at half 82 24)
+remainder_by Odd half = bit_xor (page_crc 0 half) (digits_at half 82 24)
 
 -- the CRC remainder of a page part
 abbrev pub remainder_of : ℕ → ℕ
 remainder_of half = remainder_by (kind_of half) half
 
--- the bucket: the number of stamp, satellite and signal, followed by the CRC remainder
-abbrev pub bucket_of : ℕ → ℕ → ℕ
-bucket_of place remainder = place * 2 ^ 24 + remainder
+-- the slot: the number of stamp, satellite and signal, followed by the CRC remainder
+abbrev pub slot_of : ℕ → ℕ → ℕ
+slot_of place remainder = place * 2 ^ 24 + remainder
 
--- the page part with this key, its bucket and its bits
+-- the page part with this key, its slot and its bits
 abbrev pub half_of : ℕ × ℕ → StampedHalf
 half_of key = half_at (key.0 / 2 ^ 24) key.1
 
--- the bucket of a key is below 2^63, as for stamps below 2^32, and ends with the CRC remainder of the bits
+-- the slot of a key is below 2^63, as for stamps below 2^32, and ends with the CRC remainder of the bits
 pub record IsKey (key : ℕ × ℕ) : Type 0 where
   pub fits : key.0 < 2 ^ 63
   pub remainder : key.0 % 2 ^ 24 ≡ remainder_of key.1
@@ -131,29 +131,29 @@ abbrev pub HasPartnerStamp : HalfKind → ℕ → Option ℕ → Type 0
 HasPartnerStamp Even stamp other = SomeIff other (stamp + 1 < 2 ^ 32) (stamp + 1)
 HasPartnerStamp Odd stamp other = SomeIff other (1 ≤ stamp) (stamp - 1)
 
--- the first key of the other kind in a bucket
+-- the first key of the other kind in a slot
 abbrev pub first_partner : ℕ → HalfKind → ℕ × ℕ
-first_partner bucket Even = (bucket, 2 ^ 119)
-first_partner bucket Odd = (bucket, 0)
+first_partner slot Even = (slot, 2 ^ 119)
+first_partner slot Odd = (slot, 0)
 
--- the end of the keys of the other kind in a bucket, excluded
+-- the end of the keys of the other kind in a slot, excluded
 abbrev pub end_of_partners : ℕ → HalfKind → ℕ × ℕ
-end_of_partners bucket Even = (bucket + 1, 0)
-end_of_partners bucket Odd = (bucket, 2 ^ 119)
+end_of_partners slot Even = (slot + 1, 0)
+end_of_partners slot Odd = (slot, 2 ^ 119)
 
--- the order of keys: by bucket, then by bits
+-- the order of keys: by slot, then by bits
 abbrev pub key_cmp : ℕ × ℕ → ℕ × ℕ → Ordering
 key_cmp a b = ordering_then (nat_cmp a.0 b.0) (nat_cmp a.1 b.1)
 
--- the keys of the other kind in a bucket
-unfoldable pub keys_in_bucket : List (ℕ × ℕ) → ℕ → HalfKind → List (ℕ × ℕ)
-keys_in_bucket keys bucket kind =
-    filter (range_contains key_cmp (Included (first_partner bucket kind)) (Excluded (end_of_partners bucket kind))) keys
+-- the keys of the other kind in a slot
+unfoldable pub keys_in_slot : List (ℕ × ℕ) → ℕ → HalfKind → List (ℕ × ℕ)
+keys_in_slot keys slot kind =
+    filter (range_contains key_cmp (Included (first_partner slot kind)) (Excluded (end_of_partners slot kind))) keys
 
 -- the words of a page part with the page parts of some keys
 abbrev pub words_by : HalfKind → ℕ → List (ℕ × ℕ) → List (List ℕ)
 words_by kind half keys = map (λ key. word_by kind half key.1) keys
 
--- the words of a page part with those in a bucket
-abbrev pub words_in_bucket : List (ℕ × ℕ) → ℕ → ℕ → List (List ℕ)
-words_in_bucket keys bucket half = words_by (kind_of half) half (keys_in_bucket keys bucket (kind_of half))
+-- the words of a page part with those in a slot
+abbrev pub words_in_slot : List (ℕ × ℕ) → ℕ → ℕ → List (List ℕ)
+words_in_slot keys slot half = words_by (kind_of half) half (keys_in_slot keys slot (kind_of half))

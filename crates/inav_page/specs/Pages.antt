@@ -9,8 +9,8 @@ use Rattle.inav_page.specs.declared.half.HalfKind.{HalfKind}
 use Rattle.inav_page.specs.declared.half.HalfKind.TheVariants.{Even, Odd}
 
 -- the field of that width at bit offset `at` of a page part
-abbrev pub bits_at : ℕ → ℕ → ℕ → ℕ
-bits_at part at width = part / 2 ^ (120 - at - width) % 2 ^ width
+abbrev pub digits_at : ℕ → ℕ → ℕ → ℕ
+digits_at part at width = part / 2 ^ (120 - at - width) % 2 ^ width
 
 -- the even/odd bit, the first, is 0 in an even part and 1 in an odd one
 abbrev pub kind_of : ℕ → HalfKind
@@ -23,7 +23,7 @@ kept_of part = if nat_lt part (2 ^ 119) then part / 2 ^ 6 * 2 ^ 6 else part / 2 
 -- a valid page part: 120 bits, page type (the second bit) nominal, and unused bits 0
 pub record IsHalf (half : ℕ) : Type 0 where
   pub fits : half < 2 ^ 120
-  pub nominal : bits_at half 1 1 ≡ 0
+  pub nominal : digits_at half 1 1 ≡ 0
   pub kept : kept_of half ≡ half
 
 -- the 15 bytes of 120 bits
@@ -32,11 +32,11 @@ bytes_of_half half = bytes_high_first 15 half
 
 -- the bits protected by the CRC of a page: 114 of the even part, then 82 of the odd part
 abbrev pub protected_of : ℕ → ℕ → ℕ
-protected_of even odd = bits_at even 0 114 * 2 ^ 82 + bits_at odd 0 82
+protected_of even odd = digits_at even 0 114 * 2 ^ 82 + digits_at odd 0 82
 
 -- the CRC-24Q of these 196 bits is the one in the odd part
 abbrev pub HasRightCrc : ℕ → ℕ → Type 0
-HasRightCrc even odd = IsCrc (protected_of even odd) (bits_at odd 82 24)
+HasRightCrc even odd = IsCrc (protected_of even odd) (digits_at odd 82 24)
 
 -- the CRC-24Q of a page, by the register over 25 bytes of which the first four bits are 0
 unfoldable pub page_crc : ℕ → ℕ → ℕ
@@ -44,11 +44,11 @@ page_crc even odd = crc_from 0 (bytes_high_first 25 (protected_of even odd))
 
 -- that CRC is the one in the odd part
 abbrev pub has_right_crc : ℕ → ℕ → Bool
-has_right_crc even odd = page_crc even odd == bits_at odd 82 24
+has_right_crc even odd = page_crc even odd == digits_at odd 82 24
 
 -- the word of a page: the 112 data bits of the even part, then the 16 of the odd part
 abbrev pub data_of : ℕ → ℕ → ℕ
-data_of even odd = bits_at even 2 112 * 2 ^ 16 + bits_at odd 2 16
+data_of even odd = digits_at even 2 112 * 2 ^ 16 + digits_at odd 2 16
 
 -- the 16 bytes of the word
 unfoldable pub word_of : ℕ → ℕ → List ℕ
@@ -58,7 +58,7 @@ word_of even odd = bytes_high_first 16 (data_of even odd)
 -- of the page, tail 0
 pub record IsSplit (word : List ℕ) (even odd : ℕ) : Type 0 where
   pub even_is : even ≡ number_at word 0 112 * 2 ^ 6
-  pub odd_is : odd ≡ 2 ^ 119 + number_at word 112 16 * 2 ^ 102 + bits_at odd 82 24 * 2 ^ 14
+  pub odd_is : odd ≡ 2 ^ 119 + number_at word 112 16 * 2 ^ 102 + digits_at odd 82 24 * 2 ^ 14
   pub crc : HasRightCrc even odd
 
 -- the even part of a word

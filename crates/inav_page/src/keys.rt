@@ -9,8 +9,8 @@ ghost use Rattle.inav_page.specs.Pages.{kind_of};
 ghost use Rattle.inav_page.specs.Heard.{AreWordsWith, stamp_by, word_by};
 ghost use Rattle.inav_page.specs.Keeping.{stamped};
 ghost use Rattle.inav_page.specs.Mirrors.{end_of_partners, first_partner, half_of, key_cmp};
-ghost use Rattle.inav_page.specs.Mirrors.{keys_held, keys_in, place_of, remainder_of, bucket_of};
-ghost use Rattle.inav_page.specs.Mirrors.{words_in_bucket, AreSeconds, HasPartnerStamp, IsKey};
+ghost use Rattle.inav_page.specs.Mirrors.{keys_held, keys_in, place_of, remainder_of, slot_of};
+ghost use Rattle.inav_page.specs.Mirrors.{words_in_slot, AreSeconds, HasPartnerStamp, IsKey};
 ghost use Rattle.inav_page.specs.Mirrors.{HoldsKey, PutsKey};
 
 use crate::half::{Half, HalfKind, ODD};
@@ -24,15 +24,15 @@ use std::alloc::{AllocError, Global};
 use std::collections::BTreeSet;
 use std::ops::Range;
 
-// The bucket of a page part (the number of its stamp, satellite and signal, followed by its CRC
+// The slot of a page part (the number of its stamp, satellite and signal, followed by its CRC
 // remainder), and its bits.
 pub(crate) type Key = (u64, u128);
 
-// The bucket of a stamp, Galileo satellite number, signal, and CRC remainder.
-fn bucket(stamp: u32, number: u8, signal: Signal, remainder: u64) -> u64
+// The slot of a stamp, Galileo satellite number, signal, and CRC remainder.
+fn slot(stamp: u32, number: u8, signal: Signal, remainder: u64) -> u64
     requires number { number < 64 }
     requires remainder { remainder < 2 ^ 24 }
-    ensures same { result ≡ bucket_of (place_of stamp number signal) remainder }
+    ensures same { result ≡ slot_of (place_of stamp number signal) remainder }
     ensures fits { result < 2 ^ 63 }
 {
     let place = u64::from(stamp) * 128 + u64::from(number) * 2 + signal_code(signal);
@@ -55,15 +55,15 @@ fn partner_stamp(kind: HalfKind, stamp: u32) -> Option<u32>
     }
 }
 
-// The range of the page parts of the other kind in a bucket.
-fn others_in(bucket: u64, kind: HalfKind) -> Range<Key>
-    requires { bucket < 2 ^ 63 }
-    ensures start { result.start ≡ first_partner bucket kind }
-    ensures end { result.end ≡ end_of_partners bucket kind }
+// The range of the page parts of the other kind in a slot.
+fn others_in(slot: u64, kind: HalfKind) -> Range<Key>
+    requires { slot < 2 ^ 63 }
+    ensures start { result.start ≡ first_partner slot kind }
+    ensures end { result.end ≡ end_of_partners slot kind }
 {
     match kind {
-        HalfKind::Even => (bucket, ODD)..(bucket + 1, 0),
-        HalfKind::Odd => (bucket, 0)..(bucket, ODD),
+        HalfKind::Even => (slot, ODD)..(slot + 1, 0),
+        HalfKind::Odd => (slot, 0)..(slot, ODD),
     }
 }
 
@@ -77,22 +77,22 @@ fn word_of_two(kind: HalfKind, one: u128, other: u128) -> Bits<16>
     }
 }
 
-// The words of a page part with those stored in a bucket.
+// The words of a page part with those stored in a slot.
 fn words_with(
     alloc: Global,
     kept: &BTreeSet<Key>,
-    bucket: u64,
+    slot: u64,
     half: &Half,
 ) -> Result<Vec<Bits<16>>, AllocError>
-    requires { bucket < 2 ^ 63 }
-    ensures words { IfOk result (λ words. words.items ≡ words_in_bucket kept.now.keys bucket half.now) }
+    requires { slot < 2 ^ 63 }
+    ensures words { IfOk result (λ words. words.items ≡ words_in_slot kept.now.keys slot half.now) }
     ensures ordered { IsStrictlySortedBy key_cmp kept.now.keys }
 {
     let kind = half.kind();
     let number = half.number();
     let mut words = Vec::new(alloc);
     let _length = kept.len();
-    for key in kept.range(others_in(bucket, kind)) {
+    for key in kept.range(others_in(slot, kind)) {
         words.push(word_of_two(kind, number, key.1))?;
     }
     Ok(words)
@@ -125,12 +125,7 @@ fn joined_with(
     let Some(second) = kept.find(other) else {
         return Ok(Joined::none(alloc));
     };
-    let words = words_with(
-        alloc,
-        second,
-        bucket(other, number, signal, remainder),
-        half,
-    )?;
+    let words = words_with(alloc, second, slot(other, number, signal, remainder), half)?;
     let heard = match kind {
         HalfKind::Even => other,
         HalfKind::Odd => stamp,
@@ -149,7 +144,7 @@ fn key_of(stamp: u32, number: u8, signal: Signal, half: &Half) -> (Key, u64)
 {
     let remainder = remainder(half);
     (
-        (bucket(stamp, number, signal, remainder), half.number()),
+        (slot(stamp, number, signal, remainder), half.number()),
         remainder,
     )
 }

@@ -4,7 +4,7 @@ ghost use Rattle.std.specs.Prelude.{◌≡◌, ℕ, ◌+◌, List, ◌∷◌, �
 ghost use Rattle.nav_bits.specs.Bits.{number_at};
 ghost use Rattle.nav_bits.specs.Packed.{AreBytes};
 ghost use Rattle.inav_page.specs.declared.half.HalfKind.TheVariants.{Even, Odd};
-ghost use Rattle.inav_page.specs.Pages.{bytes_of_half, bits_at, even_of, has_right_crc, kept_of};
+ghost use Rattle.inav_page.specs.Pages.{bytes_of_half, digits_at, even_of, has_right_crc, kept_of};
 ghost use Rattle.inav_page.specs.Pages.{kind_of, odd_of, word_of, HasRightCrc, IsHalf, IsSplit};
 ghost use Rattle.inav_page.specs.Heard.{StampedHalf, ArePartners, AreWordsWith, IsHeard};
 ghost use Rattle.inav_page.specs.Heard.{IsHeardWith};
@@ -13,7 +13,7 @@ ghost use Rattle.inav_page.specs.Heard.{MakeWord, are_partners, has_half, makes_
 /// The bits of a page part, as a number, are those of its bytes.
 pub fn parts_are_their_bits()
     ensures { (bits : List ℕ) (at width rest : ℕ) → at + width + rest ≡ 120 →
-        bits_at (number_at bits 0 120) at width ≡ number_at bits at width }
+        digits_at (number_at bits 0 120) at width ≡ number_at bits at width }
 {}
 
 /// `has_right_crc` decides whether the CRC of a page is right.

@@ -3,7 +3,7 @@
 ghost use Rattle.std.specs.Prelude.{◌≡◌, ℕ, ◌+◌, ◌*◌, ◌^◌, ◌<◌, ◌↔◌, IsSome, IfSome, slice_index};
 ghost use Rattle.nav_bits.specs.Bits.{number_at};
 ghost use Rattle.inav_page.specs.declared.half.HalfKind.TheVariants.{Even, Odd};
-ghost use Rattle.inav_page.specs.Pages.{bits_at, even_of, has_right_crc, kind_of, odd_of};
+ghost use Rattle.inav_page.specs.Pages.{digits_at, even_of, has_right_crc, kind_of, odd_of};
 ghost use Rattle.inav_page.specs.Pages.{page_crc, word_of, HasRightCrc, IsHalf, IsSplit};
 ghost use Rattle.inav_page.specs.Mirrors.{remainder_of};
 

@@ -40,7 +40,7 @@ impl Layout for Word1 {
                 (6, 1),
                 (10, self.iodnav.value()),
                 (14, self.toe.value()),
-                (32, self.m0.bit_pattern()),
+                (32, self.m0.digits()),
                 (32, self.e.value()),
                 (32, self.root_a.value()),
                 (2, 0),

@@ -39,10 +39,10 @@ impl Layout for Word2 {
             &[
                 (6, 2),
                 (10, self.iodnav.value()),
-                (32, self.omega0.bit_pattern()),
-                (32, self.i0.bit_pattern()),
-                (32, self.omega.bit_pattern()),
-                (14, self.idot.bit_pattern()),
+                (32, self.omega0.digits()),
+                (32, self.i0.digits()),
+                (32, self.omega.digits()),
+                (14, self.idot.digits()),
                 (2, 0),
             ],
         );

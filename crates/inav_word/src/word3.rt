@@ -45,12 +45,12 @@ impl Layout for Word3 {
             &[
                 (6, 3),
                 (10, self.iodnav.value()),
-                (24, self.omega_dot.bit_pattern()),
-                (16, self.delta_n.bit_pattern()),
-                (16, self.cuc.bit_pattern()),
-                (16, self.cus.bit_pattern()),
-                (16, self.crc.bit_pattern()),
-                (16, self.crs.bit_pattern()),
+                (24, self.omega_dot.digits()),
+                (16, self.delta_n.digits()),
+                (16, self.cuc.digits()),
+                (16, self.cus.digits()),
+                (16, self.crc.digits()),
+                (16, self.crs.digits()),
                 (8, self.sisa.value()),
             ],
         );

@@ -6,7 +6,7 @@ use Rattle.std.proofs.lemmas.Nat.Bits.{bit_at-lt, same_from_bits_below}
 use Rattle.lnav_subframe.specs.Parity.{sent, source, d30_star, IsGood, IsSource}
 use Rattle.lnav_subframe.specs.ParityMirrors.{IsParity, masked_sum}
 use Rattle.lnav_subframe.proofs.Sums.{SameSums, same_sums, masked_sum-row_25, masked_sum-row_26, masked_sum-row_27, masked_sum-row_28, masked_sum-row_29, masked_sum-row_30}
-use Rattle.lnav_subframe.proofs.WordBits.{all_star, all_source, inverted_same}
+use Rattle.lnav_subframe.proofs.Digits.{all_star, all_source, inverted_same}
 
 -- one row: of the masked bits, the parity bit
 row_parity : (r masked star star' s t : ℕ) → r ≡ masked % 2 → masked ≡ star + s → star ≡ star' → s ≡ t → r ≡ (star' + t) % 2

@@ -9,7 +9,7 @@ use Rattle.lnav_subframe.specs.Parity.{d30_star, IsGood, IsSource, IsSolved}
 use Rattle.lnav_subframe.specs.ParityFunctions.{chosen_23, chosen_24, is_good, made_of, parity_number, solved_of, source_of, inverted_by}
 use Rattle.lnav_subframe.specs.ParityMirrors.{IsParity}
 use Rattle.lnav_subframe.proofs.Choice.{solved}
-use Rattle.lnav_subframe.proofs.WordBits.{data_bit}
+use Rattle.lnav_subframe.proofs.Digits.{data_bit}
 use Rattle.lnav_subframe.proofs.Equations.{six_bits}
 use Rattle.lnav_subframe.proofs.ParityWords.{made_good, made_source}
 

@@ -5,7 +5,7 @@ use Rattle.std.proofs.lemmas.Nat.{mod_below}
 use Rattle.std.proofs.lemmas.Nat.Bits.{bit_at-lt, same_from_bits_below}
 use Rattle.lnav_subframe.specs.Parity.{d30_star, IsGood, IsSource}
 use Rattle.lnav_subframe.specs.ParityMirrors.{IsParity}
-use Rattle.lnav_subframe.proofs.WordBits.{data_bit, parity_bit, made_data, made_parity, inverted_twice}
+use Rattle.lnav_subframe.proofs.Digits.{data_bit, parity_bit, made_data, made_parity, inverted_twice}
 use Rattle.lnav_subframe.proofs.Equations.{SameParity, good_from_parity, parity_from_good}
 
 -- the data bits of a word, inverted where D30* is 1, are its source bits

@@ -3,7 +3,7 @@ use Rattle.std.proofs.Common.{◌≡◌, ℕ, ◌+◌, ◌-◌, ◌<◌, ◌≤�
 use Rattle.nav_bits.specs.Bits.{bit, number_at, SameOutside, Puts}
 use Rattle.nav_bits.specs.Fields.{AreFields, Stand, total_width}
 use Rattle.nav_bits.specs.Laws.{number_at-same}
-use Rattle.nav_bits.proofs.BitPatterns.{SameOutside-more, SameOutside-none}
+use Rattle.nav_bits.proofs.Digits.{SameOutside-more, SameOutside-none}
 
 -- first became now by the fields before rest: once rest is written from place on, all fields are
 pub record ArePut (first now : List ℕ) (at place : ℕ) (fields rest : List (ℕ × ℕ)) : Type 0 where

@@ -31,15 +31,15 @@ width_of (signed w z) = w
 width_of (reserved w) = w
 
 -- the bits of a field as an unsigned value
-abbrev pub bit_pattern_of : Field → ℕ
-bit_pattern_of (unsigned w n) = n
-bit_pattern_of (signed w z) = unsigned_of w z
-bit_pattern_of (reserved w) = 0
+abbrev pub digits_of : Field → ℕ
+digits_of (unsigned w n) = n
+digits_of (signed w z) = unsigned_of w z
+digits_of (reserved w) = 0
 
 -- the unsigned value of the bits of n followed by the bits of the fields
 abbrev pub pack : ℕ → List Field → ℕ
 pack n [] = n
-pack n (f ∷ fs) = pack (n * 2 ^ width_of f + bit_pattern_of f) fs
+pack n (f ∷ fs) = pack (n * 2 ^ width_of f + digits_of f) fs
 
 -- the fields packed into count bytes
 abbrev pub packed : ℕ → List Field → List ℕ

@@ -41,17 +41,17 @@ fn magnitude(value: i64) -> u64
 }
 
 // The two's complement value of `width` bits, by sign extension to 64 bits.
-pub(crate) fn sign_extended(bit_pattern: u64, width: u32) -> i64
+pub(crate) fn sign_extended(digits: u64, width: u32) -> i64
     requires some { 1 ≤ width }
     requires most { width ≤ 64 }
-    requires fits { bit_pattern < 2 ^ width }
-    ensures { result ≡ signed_of width bit_pattern }
+    requires fits { digits < 2 ^ width }
+    ensures { result ≡ signed_of width digits }
 {
-    if bit_pattern >> (width - 1) == 0 {
-        return bit_pattern as i64;
+    if digits >> (width - 1) == 0 {
+        return digits as i64;
     }
     let above = u64::MAX - (u64::MAX >> (64 - width));
-    (bit_pattern + above).cast_signed()
+    (digits + above).cast_signed()
 }
 
 impl<const W: u32> S<W> {
@@ -79,7 +79,7 @@ impl<const W: u32> S<W> {
     }
 
     /// Its `W` bits in two's complement, as an unsigned value.
-    pub fn bit_pattern(&self) -> u64
+    pub fn digits(&self) -> u64
         requires some { 1 ≤ W }
         requires most { W ≤ 64 }
         ensures fits { result < 2 ^ W }
@@ -89,14 +89,14 @@ impl<const W: u32> S<W> {
     }
 
     /// The two's complement value of `W` bits, given as an unsigned value.
-    pub fn from_bits(bit_pattern: u64) -> Self
+    pub fn from_bits(digits: u64) -> Self
         requires some { 1 ≤ W }
         requires most { W ≤ 64 }
-        requires fits { bit_pattern < 2 ^ W }
-        ensures { result ≡ signed_of W bit_pattern }
+        requires fits { digits < 2 ^ W }
+        ensures { result ≡ signed_of W digits }
     {
         S {
-            raw: sign_extended(bit_pattern, W),
+            raw: sign_extended(digits, W),
         }
     }
 
@@ -108,8 +108,8 @@ impl<const W: u32> S<W> {
         requires most { W ≤ 64 }
         ensures { result ≡ signed_of W (high.entry * 2 ^ L + low.entry) }
     {
-        let bit_pattern: U<W> = U::join(high, low);
-        S::from_bits(bit_pattern.value())
+        let digits: U<W> = U::join(high, low);
+        S::from_bits(digits.value())
     }
 
     /// The `H` high bits and the `L` low bits of its two's complement form.
@@ -120,8 +120,8 @@ impl<const W: u32> S<W> {
         requires most { W ≤ 64 }
         ensures { signed_of W (result.0 * 2 ^ L + result.1) ≡ self.now }
     {
-        let bit_pattern: U<W> = U::from_bits(self.bit_pattern());
-        bit_pattern.split()
+        let digits: U<W> = U::from_bits(self.digits());
+        digits.split()
     }
 }
 
@@ -139,7 +139,7 @@ impl<const W: u32> Layout for S<W> {
     const BITS: u32 = W;
 
     fn write_bits(&self, into: &mut [u8], at: usize) {
-        put_number(into, at, W as usize, self.bit_pattern());
+        put_number(into, at, W as usize, self.digits());
     }
 
     fn read_bits(from: &[u8], at: usize) -> Self {

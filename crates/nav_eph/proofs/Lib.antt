@@ -1,4 +1,5 @@
-pub mod BitPatternLemmas
+pub mod Cells
+pub mod DigitLemmas
 pub mod NumberLemmas
 pub mod SameFields
 pub mod RankLemmas

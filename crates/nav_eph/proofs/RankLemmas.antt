@@ -4,19 +4,9 @@ use Rattle.std.specs.Prelude.{slice_index_or, nat_eq, ◌++◌}
 use Rattle.std.proofs.lemmas.Bool.{true≢false}
 use Rattle.std.specs.Bool.{Decides}
 use Rattle.std.proofs.lemmas.Bool.Decides.{Decides-and, Decides-int_eq, Decides-like}
-use Rattle.nav_bits.specs.Mirrors.{magnitude_of}
 use Rattle.nav_eph.specs.Satellite.{Satellite, place_of}
 use Rattle.nav_eph.specs.declared.sat.System.{System}
 use Rattle.nav_eph.specs.declared.sat.System.TheVariants.{Gps as GpsSystem, Gal as GalSystem}
-use Rattle.nav_eph.specs.declared.gps.GpsClock.{GpsClock}
-use Rattle.nav_eph.specs.declared.gps.GpsSide.{GpsSide}
-use Rattle.nav_eph.specs.declared.gps.GpsOrbitA.{GpsOrbitA}
-use Rattle.nav_eph.specs.declared.gps.GpsOrbitB.{GpsOrbitB}
-use Rattle.nav_eph.specs.declared.galileo.GalWord1.{GalWord1}
-use Rattle.nav_eph.specs.declared.galileo.GalWord2.{GalWord2}
-use Rattle.nav_eph.specs.declared.galileo.GalWord3.{GalWord3}
-use Rattle.nav_eph.specs.declared.galileo.GalWord4.{GalWord4}
-use Rattle.nav_eph.specs.declared.galileo.GalHealth.{GalHealth}
 use Rattle.nav_eph.specs.declared.ion.GpsIon.{GpsIon}
 use Rattle.nav_eph.specs.declared.ion.GalIon.{GalIon}
 use Rattle.nav_eph.specs.declared.ion.IonContent.{IonContent}
@@ -33,17 +23,12 @@ use Rattle.nav_eph.specs.declared.items.GalEph.{GalEph}
 use Rattle.nav_eph.specs.declared.items.IonEph.{IonEph}
 use Rattle.nav_eph.specs.declared.items.NavItem.{NavItem}
 use Rattle.nav_eph.specs.declared.items.NavItem.TheVariants.{Gps, Gal, Ion}
-use Rattle.nav_eph.specs.Ranks.{body_rank, part_rank, rank, same_numbers, transmission_rank, sent_of, whole_rank, content_rank, tag_rank}
+use Rattle.nav_eph.specs.FromNumbers.{n_at, z_at, clock_from, side_from, orbit_a_from, orbit_b_from, word1_from, word2_from, word3_from, word4_from, health_from, gps_from, galileo_from}
+use Rattle.nav_eph.specs.Ranks.{body_rank, part_rank, rank, gps_numbers, galileo_numbers, same_numbers, transmission_rank, sent_of, whole_rank, content_rank, tag_rank}
 use Rattle.nav_eph.specs.Items.{IsAlike, is_alike, same_item, unsent}
 use Rattle.nav_eph.specs.Conditions.{same_part}
 
 -- ---- fields determined by numbers
-
-abbrev n_at : ℕ → List ℤ → ℕ
-n_at k l = magnitude_of (slice_index_or l k (pos 0))
-
-abbrev z_at : ℕ → List ℤ → ℤ
-z_at k l = slice_index_or l k (pos 0)
 
 abbrev system_from : ℕ → System
 system_from n = if nat_eq n 0 then GpsSystem else GalSystem
@@ -54,33 +39,6 @@ system_again GalSystem = refl
 
 abbrev sat_from : ℕ → List ℤ → Satellite
 sat_from k l = record { system = system_from (n_at k l); number = n_at (k + 1) l }
-
-abbrev clock_from : ℕ → List ℤ → GpsClock
-clock_from k l = record { iodc = n_at (k + 0) l; toc = n_at (k + 1) l; af2 = z_at (k + 2) l; af1 = z_at (k + 3) l; af0 = z_at (k + 4) l; tgd = z_at (k + 5) l }
-
-abbrev side_from : ℕ → List ℤ → GpsSide
-side_from k l = record { l2_code = n_at (k + 0) l; ura = n_at (k + 1) l; health = n_at (k + 2) l; l2p = n_at (k + 3) l }
-
-abbrev orbit_a_from : ℕ → List ℤ → GpsOrbitA
-orbit_a_from k l = record { iode = n_at (k + 0) l; crs = z_at (k + 1) l; delta_n = z_at (k + 2) l; m0 = z_at (k + 3) l; cuc = z_at (k + 4) l; e = n_at (k + 5) l; cus = z_at (k + 6) l; root_a = n_at (k + 7) l; toe = n_at (k + 8) l }
-
-abbrev orbit_b_from : ℕ → List ℤ → GpsOrbitB
-orbit_b_from k l = record { iode = n_at (k + 0) l; cic = z_at (k + 1) l; omega0 = z_at (k + 2) l; cis = z_at (k + 3) l; i0 = z_at (k + 4) l; crc = z_at (k + 5) l; omega = z_at (k + 6) l; omega_dot = z_at (k + 7) l; idot = z_at (k + 8) l }
-
-abbrev word1_from : ℕ → List ℤ → GalWord1
-word1_from k l = record { iodnav = n_at (k + 0) l; toe = n_at (k + 1) l; m0 = z_at (k + 2) l; e = n_at (k + 3) l; root_a = n_at (k + 4) l }
-
-abbrev word2_from : ℕ → List ℤ → GalWord2
-word2_from k l = record { iodnav = n_at (k + 0) l; omega0 = z_at (k + 1) l; i0 = z_at (k + 2) l; omega = z_at (k + 3) l; idot = z_at (k + 4) l }
-
-abbrev word3_from : ℕ → List ℤ → GalWord3
-word3_from k l = record { iodnav = n_at (k + 0) l; omega_dot = z_at (k + 1) l; delta_n = z_at (k + 2) l; cuc = z_at (k + 3) l; cus = z_at (k + 4) l; crc = z_at (k + 5) l; crs = z_at (k + 6) l; sisa = n_at (k + 7) l }
-
-abbrev word4_from : ℕ → List ℤ → GalWord4
-word4_from k l = record { iodnav = n_at (k + 0) l; cic = z_at (k + 1) l; cis = z_at (k + 2) l; toc = n_at (k + 3) l; af0 = z_at (k + 4) l; af1 = z_at (k + 5) l; af2 = z_at (k + 6) l }
-
-abbrev health_from : ℕ → List ℤ → GalHealth
-health_from k l = record { bgd_a = z_at (k + 0) l; bgd_b = z_at (k + 1) l; hs_e5b = n_at (k + 2) l; hs_e1b = n_at (k + 3) l; dvs_e5b = n_at (k + 4) l; dvs_e1b = n_at (k + 5) l }
 
 abbrev gps_ion_from : ℕ → List ℤ → GpsIon
 gps_ion_from k l = record { alpha0 = z_at (k + 0) l; alpha1 = z_at (k + 1) l; alpha2 = z_at (k + 2) l; alpha3 = z_at (k + 3) l; beta0 = z_at (k + 4) l; beta1 = z_at (k + 5) l; beta2 = z_at (k + 6) l; beta3 = z_at (k + 7) l }
@@ -136,43 +94,26 @@ part_from l = record { stamp = n_at 0 l; sat = sat_from 1 l; body = body_from (d
 part_again : (p : Part) → part_from (part_rank p) ≡ p
 part_again p = λ i. record { stamp = p.stamp; sat = record { system = system_again p.sat.system i; number = p.sat.number }; body = body_again p.body i }
 
-abbrev gps_from : List ℤ → GpsEph
-gps_from l = record {
-  sat = sat_from 1 l;
-  clock = clock_from 3 l;
-  side = side_from 9 l;
-  a = orbit_a_from 13 l;
-  fit = n_at 22 l;
-  b = orbit_b_from 24 l;
-  toe_week = n_at 23 l;
-  sent = Unknown;
-}
-
-abbrev gal_from : List ℤ → GalEph
-gal_from l = record {
-  sat = sat_from 1 l;
-  w1 = word1_from 3 l;
-  w2 = word2_from 8 l;
-  w3 = word3_from 13 l;
-  w4 = word4_from 21 l;
-  health = health_from 29 l;
-  toe_week = n_at 28 l;
-  sent = Unknown;
-}
-
 abbrev ion_from : List ℤ → IonEph
 ion_from l = record { sat = sat_from 1 l; moment = n_at 3 l; content = content_from (drop 4 l) }
 
 abbrev item_from : List ℤ → NavItem
 item_from l =
-    if nat_eq (n_at 0 l) 0 then Gps (gps_from l)
-    else if nat_eq (n_at 0 l) 1 then Gal (gal_from l)
+    if nat_eq (n_at 0 l) 0 then Gps (gps_from (sat_from 1 l) Unknown (drop 3 l))
+    else if nat_eq (n_at 0 l) 1 then Gal (galileo_from (sat_from 1 l) Unknown (drop 3 l))
     else Ion (ion_from l)
 
 item_again : (x : NavItem) → item_from (rank x) ≡ unsent x
 item_again (Gps e) = λ i. Gps (record e { sat = record { system = system_again e.sat.system i; number = e.sat.number }; sent = Unknown })
 item_again (Gal e) = λ i. Gal (record e { sat = record { system = system_again e.sat.system i; number = e.sat.number }; sent = Unknown })
 item_again (Ion e) = λ i. Ion (record { sat = record { system = system_again e.sat.system i; number = e.sat.number }; moment = e.moment; content = content_again e.content i })
+
+-- an ephemeris from its own numbers
+pub gps_again : (e : GpsEph) → gps_from e.sat e.sent (gps_numbers e) ≡ e
+gps_again e = refl
+
+pub galileo_again : (e : GalEph) → galileo_from e.sat e.sent (galileo_numbers e) ≡ e
+galileo_again e = refl
 
 abbrev transmission_from : List ℤ → SentSecond
 transmission_from l = if nat_eq (n_at 0 l) 0 then Unknown else At (z_at 1 l)

@@ -1,6 +1,6 @@
 -- The numbers by which received values are compared when one is chosen: the bits of their fields, concatenated.
 use Rattle.std.specs.Prelude.{ℕ, List, [], ◌∷◌}
-use Rattle.nav_eph.specs.BitPatterns.{Field, bit_pattern_of, number_of}
+use Rattle.nav_eph.specs.Digits.{Field, digits_of, number_of}
 use Rattle.nav_eph.specs.declared.gps.GpsSide.{GpsSide}
 use Rattle.nav_eph.specs.declared.galileo.GalHealth.{GalHealth}
 use Rattle.nav_eph.specs.declared.ion.GpsIon.{GpsIon}
@@ -26,19 +26,19 @@ tag_number t = number_of (tag_fields t)
 -- the number of a Galileo health and its tag together
 abbrev pub health_number : GalHealth → SentTag → ℕ
 health_number h t =
-    number_of ((10, bit_pattern_of 10 h.bgd_a) ∷ (10, bit_pattern_of 10 h.bgd_b) ∷ (2, h.hs_e5b) ∷ (2, h.hs_e1b)
+    number_of ((10, digits_of 10 h.bgd_a) ∷ (10, digits_of 10 h.bgd_b) ∷ (2, h.hs_e5b) ∷ (2, h.hs_e1b)
     ∷ (1, h.dvs_e5b) ∷ (1, h.dvs_e1b) ∷ tag_fields t)
 
 -- the number of GPS ionospheric parameters
 abbrev pub gps_ion_number : GpsIon → ℕ
 gps_ion_number i =
-    number_of ((8, bit_pattern_of 8 i.alpha0) ∷ (8, bit_pattern_of 8 i.alpha1) ∷ (8, bit_pattern_of 8 i.alpha2) ∷ (8, bit_pattern_of 8 i.alpha3)
-    ∷ (8, bit_pattern_of 8 i.beta0) ∷ (8, bit_pattern_of 8 i.beta1) ∷ (8, bit_pattern_of 8 i.beta2) ∷ (8, bit_pattern_of 8 i.beta3) ∷ [])
+    number_of ((8, digits_of 8 i.alpha0) ∷ (8, digits_of 8 i.alpha1) ∷ (8, digits_of 8 i.alpha2) ∷ (8, digits_of 8 i.alpha3)
+    ∷ (8, digits_of 8 i.beta0) ∷ (8, digits_of 8 i.beta1) ∷ (8, digits_of 8 i.beta2) ∷ (8, digits_of 8 i.beta3) ∷ [])
 
 -- the number of Galileo ionospheric parameters
 abbrev pub gal_ion_number : GalIon → ℕ
 gal_ion_number i =
-    number_of ((11, i.ai0) ∷ (11, bit_pattern_of 11 i.ai1) ∷ (14, bit_pattern_of 14 i.ai2) ∷ (5, i.regions) ∷ [])
+    number_of ((11, i.ai0) ∷ (11, digits_of 11 i.ai1) ∷ (14, digits_of 14 i.ai2) ∷ (5, i.regions) ∷ [])
 
 -- the number of ionospheric parameters
 abbrev pub content_number : IonContent → ℕ

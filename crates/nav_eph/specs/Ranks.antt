@@ -25,6 +25,8 @@ use Rattle.nav_eph.specs.declared.part.Body.TheVariants.{GpsIon as GpsIonBody, G
 use Rattle.nav_eph.specs.declared.part.Part.{Part}
 use Rattle.nav_eph.specs.declared.items.SentSecond.{SentSecond}
 use Rattle.nav_eph.specs.declared.items.SentSecond.TheVariants.{Unknown, At}
+use Rattle.nav_eph.specs.declared.items.GpsEph.{GpsEph}
+use Rattle.nav_eph.specs.declared.items.GalEph.{GalEph}
 use Rattle.nav_eph.specs.declared.items.NavItem.{NavItem}
 use Rattle.nav_eph.specs.declared.items.NavItem.TheVariants.{Gps, Gal, Ion}
 
@@ -122,14 +124,20 @@ body_rank (GalIonBody x wn second) = pos 9 ∷ pos wn ∷ pos second ∷ gal_ion
 abbrev pub part_rank : Part → List ℤ
 part_rank p = pos p.stamp ∷ (sat_rank p.sat ++ body_rank p.body)
 
+-- the 30 numbers of a GPS ephemeris, without satellite and transmission time
+abbrev pub gps_numbers : GpsEph → List ℤ
+gps_numbers e =
+    clock_rank e.clock ++ side_rank e.side ++ orbit_a_rank e.a ++ (pos e.fit ∷ pos e.toe_week ∷ orbit_b_rank e.b)
+
+-- the 32 numbers of a Galileo ephemeris, without satellite and transmission time
+abbrev pub galileo_numbers : GalEph → List ℤ
+galileo_numbers e =
+    word1_rank e.w1 ++ word2_rank e.w2 ++ word3_rank e.w3 ++ word4_rank e.w4 ++ (pos e.toe_week ∷ health_rank e.health)
+
 -- the numbers of an item without the transmission time of an ephemeris: kind and fields
 abbrev pub rank : NavItem → List ℤ
-rank (Gps e) =
-    pos 0 ∷ (sat_rank e.sat ++ clock_rank e.clock ++ side_rank e.side ++ orbit_a_rank e.a
-    ++ (pos e.fit ∷ pos e.toe_week ∷ orbit_b_rank e.b))
-rank (Gal e) =
-    pos 1 ∷ (sat_rank e.sat ++ word1_rank e.w1 ++ word2_rank e.w2 ++ word3_rank e.w3
-    ++ word4_rank e.w4 ++ (pos e.toe_week ∷ health_rank e.health))
+rank (Gps e) = pos 0 ∷ (sat_rank e.sat ++ gps_numbers e)
+rank (Gal e) = pos 1 ∷ (sat_rank e.sat ++ galileo_numbers e)
 rank (Ion e) = pos 2 ∷ (sat_rank e.sat ++ (pos e.moment ∷ content_rank e.content))
 
 -- the numbers of a transmission time: whether it is known, and its value

@@ -2,7 +2,7 @@ ghost use Rattle.std.specs.Prelude.{◌≡◌, ℕ};
 ghost use Rattle.nav_eph.specs.Bodies.{IsGalHealth, IsSentTag};
 ghost use Rattle.nav_eph.specs.Numbers.{health_number};
 
-use crate::bit_pattern::bit_pattern;
+use crate::digits::digits;
 use crate::steps::{Sisa, Step60};
 use crate::tag::SentTag;
 use nav_bits::{S, U};
@@ -103,7 +103,7 @@ impl GalHealth {
         ensures fits { IsGalHealth self.now }
         ensures tag_fits { IsSentTag tag.now }
     {
-        let delays = bit_pattern(&self.bgd_a) * 1_024 + bit_pattern(&self.bgd_b);
+        let delays = digits(&self.bgd_a) * 1_024 + digits(&self.bgd_b);
         let number = (delays * 4 + self.hs_e5b.value()) * 4 + self.hs_e1b.value();
         let number = (number * 2 + self.dvs_e5b.value()) * 2 + self.dvs_e1b.value();
         number * 8_589_934_592 + tag.number()

@@ -2,7 +2,7 @@ ghost use Rattle.std.specs.Prelude.{◌≡◌, ℕ};
 ghost use Rattle.nav_eph.specs.Bodies.{IsGalIon, IsGpsIon, IsIonContent};
 ghost use Rattle.nav_eph.specs.Numbers.{content_number, gal_ion_number, gps_ion_number};
 
-use crate::bit_pattern::bit_pattern;
+use crate::digits::digits;
 use crate::sat::System;
 use nav_bits::{S, U};
 
@@ -56,13 +56,13 @@ impl GpsIon {
         ensures value { result ≡ gps_ion_number self.now }
         ensures fits { IsGpsIon self.now }
     {
-        let number = bit_pattern(&self.alpha0) * 256 + bit_pattern(&self.alpha1);
-        let number = number * 256 + bit_pattern(&self.alpha2);
-        let number = number * 256 + bit_pattern(&self.alpha3);
-        let number = number * 256 + bit_pattern(&self.beta0);
-        let number = number * 256 + bit_pattern(&self.beta1);
-        let number = number * 256 + bit_pattern(&self.beta2);
-        number * 256 + bit_pattern(&self.beta3)
+        let number = digits(&self.alpha0) * 256 + digits(&self.alpha1);
+        let number = number * 256 + digits(&self.alpha2);
+        let number = number * 256 + digits(&self.alpha3);
+        let number = number * 256 + digits(&self.beta0);
+        let number = number * 256 + digits(&self.beta1);
+        let number = number * 256 + digits(&self.beta2);
+        number * 256 + digits(&self.beta3)
     }
 }
 
@@ -73,8 +73,8 @@ impl GalIon {
         ensures value { result ≡ gal_ion_number self.now }
         ensures fits { IsGalIon self.now }
     {
-        let number = self.ai0.value() * 2_048 + bit_pattern(&self.ai1);
-        (number * 16_384 + bit_pattern(&self.ai2)) * 32 + self.regions.value()
+        let number = self.ai0.value() * 2_048 + digits(&self.ai1);
+        (number * 16_384 + digits(&self.ai2)) * 32 + self.regions.value()
     }
 }
 

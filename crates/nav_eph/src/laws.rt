@@ -3,9 +3,12 @@ ghost use Rattle.gnss_week.specs.Weeks.{IsSecond};
 ghost use Rattle.nav_eph.specs.Bodies.{IsGalHealth, IsGalIon, IsGpsIon, IsGpsSide, IsSentTag};
 ghost use Rattle.nav_eph.specs.Conditions.{same_part};
 ghost use Rattle.nav_eph.specs.Items.{IsAlike, is_alike, same_item};
-ghost use Rattle.nav_eph.specs.Ranks.{rank};
+ghost use Rattle.nav_eph.specs.FromNumbers.{galileo_from, gps_from};
+ghost use Rattle.nav_eph.specs.Ranks.{galileo_numbers, gps_numbers, rank};
 ghost use Rattle.nav_eph.specs.Numbers.{gal_ion_number, gal_transmission, gps_ion_number, gps_transmission};
 ghost use Rattle.nav_eph.specs.Numbers.{health_number, side_number, tag_number};
+ghost use Rattle.nav_eph.specs.declared.items.GalEph.{GalEph};
+ghost use Rattle.nav_eph.specs.declared.items.GpsEph.{GpsEph};
 ghost use Rattle.nav_eph.specs.declared.items.NavItem.{NavItem};
 ghost use Rattle.nav_eph.specs.declared.part.Part.{Part};
 ghost use Rattle.nav_eph.specs.declared.gps.GpsSide.{GpsSide};
@@ -65,4 +68,10 @@ pub fn equality_is_decided()
 pub fn alike_is_decided()
     ensures alike { (a b : NavItem) → (is_alike a b ≡ true) ↔ IsAlike a b }
     ensures numbers { (a b : NavItem) → (rank a ≡ rank b) ↔ IsAlike a b }
+{}
+
+/// An ephemeris is that of its satellite, its transmission time and its numbers.
+pub fn numbers_give_an_ephemeris()
+    ensures gps { (e : GpsEph) → gps_from e.sat e.sent (gps_numbers e) ≡ e }
+    ensures galileo { (e : GalEph) → galileo_from e.sat e.sent (galileo_numbers e) ≡ e }
 {}

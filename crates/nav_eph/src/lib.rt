@@ -23,12 +23,13 @@
 //! ```
 #![tactic(auto)]
 
-mod bit_pattern;
+mod digits;
 mod galileo;
 mod gps;
 mod ion;
 mod items;
 mod laws;
+mod numbers;
 mod part;
 mod ranges;
 mod same;
@@ -42,8 +43,9 @@ pub use crate::gps::{GpsClock, GpsOrbitA, GpsOrbitB, GpsSide};
 pub use crate::ion::{GalIon, GpsIon, IonContent};
 pub use crate::items::{GalEph, GpsEph, IonEph, NavItem, SentSecond};
 pub use crate::laws::{
-    alike_is_decided, equality_is_decided, one_galileo_ionosphere, one_galileo_transmission,
-    one_gps_ionosphere, one_gps_transmission, one_health_and_tag, one_side, one_tag,
+    alike_is_decided, equality_is_decided, numbers_give_an_ephemeris, one_galileo_ionosphere,
+    one_galileo_transmission, one_gps_ionosphere, one_gps_transmission, one_health_and_tag,
+    one_side, one_tag,
 };
 pub use crate::part::{Body, Part};
 pub use crate::sat::{Sat, System};

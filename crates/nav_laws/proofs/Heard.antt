@@ -12,7 +12,7 @@ use Rattle.lnav_subframe.specs.Reading.{subframe_of}
 use Rattle.inav_page.specs.declared.half.HalfKind.TheVariants.{Even, Odd}
 use Rattle.nav_eph.specs.declared.signal.Signal.{Signal}
 use Rattle.nav_eph.specs.declared.signal.Signal.TheVariants.{E1b}
-use Rattle.inav_page.specs.Pages.{HasRightCrc, IsHalf, bytes_of_half, bits_at, even_of, kept_of, kind_of, odd_of, word_of}
+use Rattle.inav_page.specs.Pages.{HasRightCrc, IsHalf, bytes_of_half, digits_at, even_of, kept_of, kind_of, odd_of, word_of}
 use Rattle.inav_page.specs.Heard.{IsHeard, StampedHalf}
 use Rattle.inav_page.specs.Keeping.{stamped}
 use Rattle.inav_page.proofs.Surface.{not_both}
@@ -140,13 +140,13 @@ pub record PageLaws : Type 0 where
   pub crc : (word : List ℕ) → HasRightCrc (even_of word) (odd_of word)
   pub word : (word : List ℕ) → AreBytes 16 word → word_of (even_of word) (odd_of word) ≡ word
   pub again : (half : ℕ) → IsHalf half → kept_of (number_at (bytes_of_half half) 0 120) ≡ half
-  pub bits : (bits : List ℕ) (at width rest : ℕ) → at + width + rest ≡ 120 → bits_at (number_at bits 0 120) at width ≡ number_at bits at width
+  pub bits : (bits : List ℕ) (at width rest : ℕ) → at + width + rest ≡ 120 → digits_at (number_at bits 0 120) at width ≡ number_at bits at width
 
 nominal : PageLaws → (half : ℕ) → IsHalf half → is_alert (bytes_of_half half) ≡ false
 nominal laws half h =
     let number : number_at (bytes_of_half half) 0 120 ≡ half = number_at-bytes_of 15 half ∙ mod-eq_of_lt h.fits in
     let bit : number_at (bytes_of_half half) 1 1 ≡ 0 =
-    sym (laws.bits (bytes_of_half half) 1 1 118 refl) ∙ ap (λ n. bits_at n 1 1) number ∙ h.nominal in
+    sym (laws.bits (bytes_of_half half) 1 1 118 refl) ∙ ap (λ n. digits_at n 1 1) number ∙ h.nominal in
     ap (λ n. nat_eq n 1) bit
 
 -- the page parts of a page as they are received

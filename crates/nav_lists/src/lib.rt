@@ -26,7 +26,6 @@ mod cover;
 mod covering_laws;
 mod laws;
 mod merge;
-mod numbers;
 mod range;
 mod ranked;
 mod sweep;

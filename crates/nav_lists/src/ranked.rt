@@ -4,7 +4,7 @@ ghost use Rattle.std.specs.Prelude.{◌≡◌, Some};
 ghost use Rattle.std.proofs.Common.{refl};
 ghost use Rattle.std.specs.Cmp.Lexicographic.{slice_cmp};
 ghost use Rattle.std.specs.Ordering.{is_eq, int_cmp};
-ghost use Rattle.nav_eph.specs.Ranks.{content_rank, rank, sent_of};
+ghost use Rattle.nav_eph.specs.Ranks.{content_rank, rank, sat_rank, sent_of};
 ghost use Rattle.nav_eph.specs.declared.items.NavItem.TheVariants.{Gps as GpsItem};
 ghost use Rattle.nav_eph.specs.declared.items.NavItem.TheVariants.{Gal as GalItem};
 ghost use Rattle.nav_eph.specs.declared.items.NavItem.TheVariants.{Ion as IonItem};
@@ -14,12 +14,7 @@ ghost use Rattle.std.specs.Cmp.{partial_equiv_from_equiv, partial_order_from_agr
 ghost use Rattle.std.specs.Cmp.{eq_by_cmp_equiv, int_cmp_total, on_total};
 ghost use Rattle.std.specs.Cmp.Lexicographic.{lists_total};
 
-use crate::numbers::{
-    clock_numbers, fit_and_week, gal_ion_numbers, gps_ion_numbers, health_numbers, orbit_a_numbers,
-    orbit_b_numbers, sat_numbers, side_numbers, week_number, word1_numbers, word2_numbers,
-    word3_numbers, word4_numbers,
-};
-use nav_eph::{GalEph, GpsEph, IonContent, IonEph, NavItem, SentSecond};
+use nav_eph::{GalEph, GpsEph, IonContent, IonEph, NavItem, Sat, SentSecond, System};
 use std::cmp::Ordering;
 
 // An item, compared by its rank.
@@ -53,17 +48,24 @@ fn class(item: &NavItem) -> u8
     }
 }
 
+// The numbers of a satellite: system and number.
+fn sat_numbers(sat: Sat) -> [i64; 2]
+    ensures { result ≡ sat_rank sat }
+{
+    let system = match sat.system() {
+        System::Gps => 0,
+        System::Gal => 1,
+    };
+    [system, sat.number() as i64]
+}
+
 // Compares GPS ephemerides by their fields, without the transmission time.
 fn compare_gps(a: &GpsEph, b: &GpsEph) -> Ordering
     ensures { result ≡ slice_cmp int_cmp (rank (GpsItem a.now)) (rank (GpsItem b.now)) }
 {
     sat_numbers(a.sat)
         .cmp(&sat_numbers(b.sat))
-        .then(clock_numbers(&a.clock).cmp(&clock_numbers(&b.clock)))
-        .then(side_numbers(&a.side).cmp(&side_numbers(&b.side)))
-        .then(orbit_a_numbers(&a.a).cmp(&orbit_a_numbers(&b.a)))
-        .then(fit_and_week(&a.fit, &a.toe_week).cmp(&fit_and_week(&b.fit, &b.toe_week)))
-        .then(orbit_b_numbers(&a.b).cmp(&orbit_b_numbers(&b.b)))
+        .then(a.numbers().cmp(&b.numbers()))
 }
 
 // Compares Galileo ephemerides by their fields, without the transmission time.
@@ -72,12 +74,7 @@ fn compare_gal(a: &GalEph, b: &GalEph) -> Ordering
 {
     sat_numbers(a.sat)
         .cmp(&sat_numbers(b.sat))
-        .then(word1_numbers(&a.w1).cmp(&word1_numbers(&b.w1)))
-        .then(word2_numbers(&a.w2).cmp(&word2_numbers(&b.w2)))
-        .then(word3_numbers(&a.w3).cmp(&word3_numbers(&b.w3)))
-        .then(word4_numbers(&a.w4).cmp(&word4_numbers(&b.w4)))
-        .then(week_number(&a.toe_week).cmp(&week_number(&b.toe_week)))
-        .then(health_numbers(&a.health).cmp(&health_numbers(&b.health)))
+        .then(a.numbers().cmp(&b.numbers()))
 }
 
 // Compares the parameters of the ionosphere; GPS before Galileo.
@@ -85,10 +82,10 @@ fn compare_content(a: &IonContent, b: &IonContent) -> Ordering
     ensures { result ≡ slice_cmp int_cmp (content_rank a.now) (content_rank b.now) }
 {
     match (a, b) {
-        (IonContent::Gps(x), IonContent::Gps(y)) => gps_ion_numbers(x).cmp(&gps_ion_numbers(y)),
+        (IonContent::Gps(x), IonContent::Gps(y)) => x.numbers().cmp(&y.numbers()),
         (IonContent::Gps(_), IonContent::Gal(_)) => Ordering::Less,
         (IonContent::Gal(_), IonContent::Gps(_)) => Ordering::Greater,
-        (IonContent::Gal(x), IonContent::Gal(y)) => gal_ion_numbers(x).cmp(&gal_ion_numbers(y)),
+        (IonContent::Gal(x), IonContent::Gal(y)) => x.numbers().cmp(&y.numbers()),
     }
 }
 

@@ -49,7 +49,7 @@ no_ionosphere = record { ai0 = 0; ai1 = pos 0; ai2 = pos 0; regions = 0 }
 
 -- a subframe with its TOW count, at a stamp
 unfoldable pub subframe_item : ℕ → Satellite → SubframeOut → ℕ → LineItem
-subframe_item stamp sat body tow_count = Lnav stamp sat (subframe_bytes body tow_count)
+subframe_item stamp sat body count = Lnav stamp sat (subframe_bytes body count)
 
 -- a page part on E1-B, at a stamp
 unfoldable pub half_item : ℕ → Satellite → ℕ → LineItem

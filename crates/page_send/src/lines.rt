@@ -34,18 +34,18 @@ pub(crate) fn push_subframe(
     stamp: u32,
     sat: Sat,
     body: &SubframeOut,
-    tow_count: u32,
+    count: u32,
     text: &mut SlotText,
 )
     requires system { sat.system ≡ Gps }
-    requires week { tow_count < 100800 }
+    requires week { count < 100800 }
     requires page { IsWritable body.now }
     requires room { array_vec_len text.old + 94 ≤ 500 }
     ensures text { text.new.items
-        ≡ text.old.items ++ text_of_item (subframe_item stamp sat body.now tow_count) }
+        ≡ text.old.items ++ text_of_item (subframe_item stamp sat body.now count) }
     ensures len { array_vec_len text.new ≤ array_vec_len text.old + 94 }
 {
-    let bits = write_subframe(body, U::from_bits(u64::from(tow_count)));
+    let bits = write_subframe(body, U::from_bits(u64::from(count)));
     bits.are_bytes();
     let mut line = LineText::new();
     write_lnav(stamp, sat, &bits, &mut line);

@@ -26,7 +26,7 @@ const SLOT_SECONDS: u32 = 21_600;
 const COUNTS: u32 = 100_800;
 
 // The 6 s intervals from the start of the week to the first GPS subframe.
-fn first_tow_count(e: &GpsEph) -> u32
+fn first_count(e: &GpsEph) -> u32
     ensures same { result ≡ gps_transmission e.now / 6 }
     ensures week { result < 100800 }
 {
@@ -34,12 +34,12 @@ fn first_tow_count(e: &GpsEph) -> u32
 }
 
 // The TOW count of a subframe, which is the time of the start of the next one.
-fn tow_count(e: &GpsEph, number: u32) -> u32
+fn count(e: &GpsEph, number: u32) -> u32
     requires { number ≤ 3 }
     ensures same { result ≡ count_of e.now number }
     ensures week { result < 100800 }
 {
-    (first_tow_count(e) + number) % COUNTS
+    (first_count(e) + number) % COUNTS
 }
 
 // Appends the lines of subframes 1, 2 and 3.
@@ -59,9 +59,9 @@ fn push_gps(stamp: u32, e: &GpsEph, text: &mut SlotText)
         fit: e.fit,
     };
     let b = SubframeOut::OrbitB { orbit: e.b };
-    push_subframe(stamp, e.sat, &clock, tow_count(e, 1), text);
-    push_subframe(stamp + 6, e.sat, &a, tow_count(e, 2), text);
-    push_subframe(stamp + 12, e.sat, &b, tow_count(e, 3), text);
+    push_subframe(stamp, e.sat, &clock, count(e, 1), text);
+    push_subframe(stamp + 6, e.sat, &a, count(e, 2), text);
+    push_subframe(stamp + 12, e.sat, &b, count(e, 3), text);
 }
 
 // Ionosphere parameters and disturbance flags that are all 0.

@@ -12,7 +12,7 @@ use Rattle.framing.specs.Headings.{Heading, IsHeading, format_of}
 use Rattle.framing.specs.Messages.{messages, decided}
 use Rattle.framing.specs.State.{TakesMessage, TakesNone}
 use Rattle.one_run.proofs.Surface.{prefix_behind, prefix_longer, no_prefix, whole_prefix}
-use Rattle.framing.proofs.Surface.{decided_message, decided_none}
+use Rattle.framing.proofs.Going.{decided_message, decided_none}
 use Rattle.receiver_messages.specs.declared.said.Said.{Said}
 use Rattle.receiver_log.specs.declared.state.LogState.{LogState}
 use Rattle.receiver_log.specs.Capture.{lines_from, refusal_text, refusals_from, state_after}

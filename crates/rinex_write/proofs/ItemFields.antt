@@ -1,7 +1,6 @@
 -- The fields of items are in the ranges of their columns, and their texts can be written.
-use Rattle.std.proofs.Common.{◌≡◌, ℕ, ◌-◌, ◌^◌, ◌<◌, ◌&&◌, Bool, true, List, [], ◌∷◌, refl, ◌∙◌, ap, inl, inr, arith, ℤ, pos, negsuc, neg_ℤ, ◌≤ℤ◌, FitsSigned, w64, to_z, of_z, rules, false, map, length, lit<, lit≤}
-use lib.Signed.{mag}
-use Rattle.std.proofs.lemmas.Int.{ints, to_z-of_z}
+use Rattle.std.proofs.Common.{◌≡◌, ℕ, ◌-◌, ◌^◌, ◌<◌, ◌&&◌, Bool, true, List, [], ◌∷◌, refl, ap, inl, inr, arith, ℤ, pos, negsuc, neg_ℤ, ◌≤ℤ◌, false, map, length, lit<, lit≤}
+use Rattle.std.proofs.lemmas.Int.{ints}
 use Rattle.std.proofs.lemmas.Bool.Decides.{nat_tests}
 use Rattle.scaled_decimal.specs.declared.scales.Scale.{Scale}
 use Rattle.scaled_decimal.specs.ScaleValue.{AreWithin}
@@ -132,13 +131,6 @@ galileo_ionosphere_kept P i is =
     entry (of_signed 14 _ is.ai2) (
     entry (below _ _ is.regions) (
     tt))))
-
--- a field unchanged by the conversion to `i64`
-pub cell : {x y : ℤ} {xs ys : List ℤ} → mag x < 9223372036854775808 → x ≡ y → xs ≡ ys → to_z w64 (of_z w64 x) ∷ xs ≡ y ∷ ys
-cell {x} {y} {xs} {ys} h e f =
-    let fits : FitsSigned w64 x = search rules in
-    let kept : to_z w64 (of_z w64 x) ≡ y = to_z-of_z w64 x fits ∙ e in
-    λ i. kept i ∷ f i
 
 both : (a b : Bool) → (a && b) ≡ true → (a ≡ true) × (b ≡ true)
 both true b e = (refl, e)

@@ -1,4 +1,5 @@
 mod Worked
+pub mod PickedNumbers
 pub mod Rows
 pub mod ItemFields
 pub mod RowsLeft

@@ -1,50 +1,13 @@
 //! The fields of items, in the order of their columns.
 
-ghost use Rattle.std.specs.Prelude.{◌≡◌, ◌<◌, ◌≤◌, pos};
+ghost use Rattle.std.specs.Prelude.{◌≡◌, [], ◌∷◌, ◌++◌, length, pos};
+ghost use Rattle.nav_eph.specs.FromNumbers.{pick, z_at};
 ghost use Rattle.rinex_write.specs.Accuracies.{health_of};
 ghost use Rattle.rinex_write.specs.Fields.{sent_field, gps_fields, galileo_fields};
 ghost use Rattle.rinex_write.specs.Fields.{gps_ionosphere_fields, galileo_ionosphere_fields};
 ghost use Rattle.rinex_write.specs.Mirrors.{IsSmall};
 
-use gnss_week::Week;
-use nav_bits::U;
-use nav_eph::{GalEph, GalHealth, GalIon, GpsEph, GpsIon, SentSecond, Sisa, Step16, Step60};
-
-// An unsigned number.
-fn unsigned<const W: u32>(number: &U<W>) -> i64
-    requires { W ≤ 32 }
-    ensures { result ≡ pos number.now }
-{
-    number.value() as i64
-}
-
-// A GPS time of week, in steps of 16 s.
-fn steps16(steps: &Step16) -> i64
-    ensures { result ≡ pos steps.now }
-{
-    steps.value() as i64
-}
-
-// A Galileo time of week, in steps of 60 s.
-fn steps60(steps: &Step60) -> i64
-    ensures { result ≡ pos steps.now }
-{
-    steps.value() as i64
-}
-
-// The week of toe.
-fn week(week: &Week) -> i64
-    ensures { result ≡ pos week.now }
-{
-    i64::from(week.value())
-}
-
-// A SISA index.
-fn accuracy(index: &Sisa) -> i64
-    ensures { result ≡ pos index.now }
-{
-    index.value() as i64
-}
+use nav_eph::{GalEph, GalHealth, GalIon, GpsEph, GpsIon, SentSecond};
 
 // The transmission time.
 fn sent_field(sent: &SentSecond) -> i64
@@ -68,76 +31,74 @@ fn health_of(health: &GalHealth) -> i64
     number as i64
 }
 
+// The number at a place of two lists, one after the other; 0 behind both.
+fn number_at(place: usize, numbers: &[i64], own: &[i64]) -> i64
+    ensures { result ≡ z_at place (numbers.now ++ own.now) }
+{
+    if place < numbers.len() {
+        return numbers[place];
+    }
+    match own.get(place - numbers.len()) {
+        Some(number) => *number,
+        None => 0,
+    }
+}
+
+// The numbers at these places.
+fn picked<const N: usize>(places: &[usize], numbers: &[i64], own: &[i64]) -> [i64; N]
+    requires { length places.now ≡ N }
+    ensures { result ≡ pick places.now (numbers.now ++ own.now) }
+{
+    let mut fields = [0; N];
+    for (i, place) in places.iter().enumerate() {
+        fields[i] = number_at(*place, numbers, own);
+    }
+    fields
+}
+
+// The places of the fields among the numbers of a GPS ephemeris and, behind them, the transmission
+// time.
+static GPS_PLACES: [usize; 29] = [
+    4, 3, 2, 10, 11, 12, 13, 14, 15, 16, 17, 18, 22, 23, 24, 25, 26, 27, 28, 29, 6, 20, 9, 7, 8, 5,
+    0, 30, 19,
+];
+
+// What a GPS record has beside the numbers: the transmission time.
+fn gps_own(e: &GpsEph) -> [i64; 1]
+    ensures same { result ≡ sent_field e.now.sent ∷ [] }
+    ensures small { IsSmall (sent_field e.now.sent) }
+{
+    [sent_field(&e.sent)]
+}
+
 pub(crate) fn gps_fields(e: &GpsEph) -> [i64; 29]
     ensures same { result ≡ gps_fields e.now }
     ensures sent { IsSmall (sent_field e.now.sent) }
 {
-    [
-        e.clock.af0.value(),
-        e.clock.af1.value(),
-        e.clock.af2.value(),
-        unsigned(&e.a.iode),
-        e.a.crs.value(),
-        e.a.delta_n.value(),
-        e.a.m0.value(),
-        e.a.cuc.value(),
-        unsigned(&e.a.e),
-        e.a.cus.value(),
-        unsigned(&e.a.root_a),
-        steps16(&e.a.toe),
-        e.b.cic.value(),
-        e.b.omega0.value(),
-        e.b.cis.value(),
-        e.b.i0.value(),
-        e.b.crc.value(),
-        e.b.omega.value(),
-        e.b.omega_dot.value(),
-        e.b.idot.value(),
-        unsigned(&e.side.l2_code),
-        week(&e.toe_week),
-        unsigned(&e.side.l2p),
-        unsigned(&e.side.ura),
-        unsigned(&e.side.health),
-        e.clock.tgd.value(),
-        unsigned(&e.clock.iodc),
-        sent_field(&e.sent),
-        unsigned(&e.fit),
-    ]
+    picked(&GPS_PLACES, &e.numbers(), &gps_own(e))
+}
+
+// The same of Galileo; behind the numbers stand the transmission time, the data sources and the
+// health.
+static GALILEO_PLACES: [usize; 27] = [
+    22, 23, 24, 0, 16, 12, 2, 13, 3, 14, 4, 1, 19, 6, 20, 7, 15, 8, 11, 9, 33, 25, 17, 34, 26, 27,
+    32,
+];
+
+// What a Galileo record has beside the numbers: the transmission time, the data sources and the
+// health.
+fn galileo_own(e: &GalEph) -> [i64; 3]
+    ensures same { result ≡ sent_field e.now.sent ∷ pos 517 ∷ pos (health_of e.now.health) ∷ [] }
+    ensures small { IsSmall (sent_field e.now.sent) }
+{
+    [sent_field(&e.sent), 517, health_of(&e.health)]
 }
 
 pub(crate) fn galileo_fields(e: &GalEph) -> [i64; 27]
     ensures same { result ≡ galileo_fields e.now }
     ensures sent { IsSmall (sent_field e.now.sent) }
 {
-    [
-        e.w4.af0.value(),
-        e.w4.af1.value(),
-        e.w4.af2.value(),
-        unsigned(&e.w1.iodnav),
-        e.w3.crs.value(),
-        e.w3.delta_n.value(),
-        e.w1.m0.value(),
-        e.w3.cuc.value(),
-        unsigned(&e.w1.e),
-        e.w3.cus.value(),
-        unsigned(&e.w1.root_a),
-        steps60(&e.w1.toe),
-        e.w4.cic.value(),
-        e.w2.omega0.value(),
-        e.w4.cis.value(),
-        e.w2.i0.value(),
-        e.w3.crc.value(),
-        e.w2.omega.value(),
-        e.w3.omega_dot.value(),
-        e.w2.idot.value(),
-        517,
-        week(&e.toe_week),
-        accuracy(&e.w3.sisa),
-        health_of(&e.health),
-        e.health.bgd_a.value(),
-        e.health.bgd_b.value(),
-        sent_field(&e.sent),
-    ]
+    picked(&GALILEO_PLACES, &e.numbers(), &galileo_own(e))
 }
 
 pub(crate) fn gps_ionosphere_fields(i: &GpsIon) -> [i64; 9]
@@ -159,10 +120,5 @@ pub(crate) fn gps_ionosphere_fields(i: &GpsIon) -> [i64; 9]
 pub(crate) fn galileo_ionosphere_fields(i: &GalIon) -> [i64; 4]
     ensures { result ≡ galileo_ionosphere_fields i.now }
 {
-    [
-        unsigned(&i.ai0),
-        i.ai1.value(),
-        i.ai2.value(),
-        unsigned(&i.regions),
-    ]
+    i.numbers()
 }

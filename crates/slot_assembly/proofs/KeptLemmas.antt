@@ -62,7 +62,7 @@ kept_keyed w n old new p key heard m e k = kept_none w n old new p heard heard m
 -- two healths at one place are equal
 one_at : (s t : Satellite) (h v : Health) → IsHealthValue h → IsHealthValue v → place_of_health s h ≡ place_of_health t v → h ≡ v
 one_at s t h v a b e =
-    let d = one_health h.1 v.1 h.2 v.2 a.health b.health a.tag b.tag (ap (λ (x : BySat). x.bit_pattern) e) in
+    let d = one_health h.1 v.1 h.2 v.2 a.health b.health a.tag b.tag (ap (λ (x : BySat). x.digits) e) in
     let f = ap (λ (x : BySat). x.stamp) e in
     λ i. (f i, d.0 i, d.1 i)
 

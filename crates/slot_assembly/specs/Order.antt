@@ -33,7 +33,7 @@ is_of_rank r x = (x.class == r.class) && ((x.system == r.system) && ((x.number =
 
 -- a place by satellite, stamp and bits
 abbrev pub by_sat : Satellite → ℕ → ℕ → BySat
-by_sat sat stamp bit_pattern = record { system = place_of sat.system; number = sat.number; stamp = stamp; bit_pattern = bit_pattern }
+by_sat sat stamp digits = record { system = place_of sat.system; number = sat.number; stamp = stamp; digits = digits }
 
 -- the place of a satellite's health
 abbrev pub place_of_health : Satellite → ℕ × GalHealth × SentTag → BySat
@@ -45,8 +45,8 @@ is_of_sat sat x = (x.system == place_of sat.system) && (x.number == sat.number)
 
 -- the place by stamp
 abbrev pub by_stamp : BySat → ByStamp
-by_stamp x = record { stamp = x.stamp; system = x.system; number = x.number; bit_pattern = x.bit_pattern }
+by_stamp x = record { stamp = x.stamp; system = x.system; number = x.number; digits = x.digits }
 
 -- the place by satellite
 abbrev pub sat_place : ByStamp → BySat
-sat_place x = record { system = x.system; number = x.number; stamp = x.stamp; bit_pattern = x.bit_pattern }
+sat_place x = record { system = x.system; number = x.number; stamp = x.stamp; digits = x.digits }

@@ -43,7 +43,7 @@ pub struct BySat {
     pub system: u8,
     pub number: u8,
     pub stamp: u64,
-    pub bit_pattern: u64,
+    pub digits: u64,
 }
 
 /// The place of a health among all: by stamp, the oldest first.
@@ -52,7 +52,7 @@ pub struct ByStamp {
     pub stamp: u64,
     pub system: u8,
     pub number: u8,
-    pub bit_pattern: u64,
+    pub digits: u64,
 }
 
 // Bytes of a place in the map, and in the index.
@@ -147,7 +147,7 @@ impl BySat {
             stamp: self.stamp,
             system: self.system,
             number: self.number,
-            bit_pattern: self.bit_pattern,
+            digits: self.digits,
         }
     }
 }
@@ -161,20 +161,20 @@ impl ByStamp {
             system: self.system,
             number: self.number,
             stamp: self.stamp,
-            bit_pattern: self.bit_pattern,
+            digits: self.digits,
         }
     }
 }
 
 // A place by satellite, stamp and bits.
-pub(crate) fn place_in_sat(sat: Sat, stamp: u64, bit_pattern: u64) -> BySat
-    ensures { result ≡ by_sat sat stamp bit_pattern }
+pub(crate) fn place_in_sat(sat: Sat, stamp: u64, digits: u64) -> BySat
+    ensures { result ≡ by_sat sat stamp digits }
 {
     BySat {
         system: system_number(sat.system()),
         number: sat.number(),
         stamp,
-        bit_pattern,
+        digits,
     }
 }
 

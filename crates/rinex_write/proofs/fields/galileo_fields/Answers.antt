@@ -1,34 +1,7 @@
-use Rattle.std.proofs.Common.{refl, ap, ◌∷◌, pos}
-use Rattle.rinex_write.proofs.ItemFields.{cell}
+use Rattle.std.proofs.Common.{◌++◌, ◌∙◌}
+use Rattle.nav_eph.specs.FromNumbers.{pick}
+use Rattle.rinex_write.specs.Fields.{galileo_places}
 use Rattle.rinex_write.proofs.fields.galileo_fields.Goals as goal
 
 pub returns-clause-same : goal.returns-clause-same
-returns-clause-same c =
-    cell c.value.type_inv c.value.ensures.same (
-    cell c.value-2.type_inv c.value-2.ensures.same (
-    cell c.value-3.type_inv c.value-3.ensures.same (
-    cell c.unsigned.type_inv c.unsigned.ensures (
-    cell c.value-4.type_inv c.value-4.ensures.same (
-    cell c.value-5.type_inv c.value-5.ensures.same (
-    cell c.value-6.type_inv c.value-6.ensures.same (
-    cell c.value-7.type_inv c.value-7.ensures.same (
-    cell c.unsigned-2.type_inv c.unsigned-2.ensures (
-    cell c.value-8.type_inv c.value-8.ensures.same (
-    cell c.unsigned-3.type_inv c.unsigned-3.ensures (
-    cell c.steps60.type_inv c.steps60.ensures (
-    cell c.value-9.type_inv c.value-9.ensures.same (
-    cell c.value-10.type_inv c.value-10.ensures.same (
-    cell c.value-11.type_inv c.value-11.ensures.same (
-    cell c.value-12.type_inv c.value-12.ensures.same (
-    cell c.value-13.type_inv c.value-13.ensures.same (
-    cell c.value-14.type_inv c.value-14.ensures.same (
-    cell c.value-15.type_inv c.value-15.ensures.same (
-    cell c.value-16.type_inv c.value-16.ensures.same (
-    ap (λ zs. pos 517 ∷ zs) (
-    cell c.week.type_inv c.week.ensures (
-    cell c.accuracy.type_inv c.accuracy.ensures (
-    cell c.health_of.type_inv c.health_of.ensures (
-    cell c.value-17.type_inv c.value-17.ensures.same (
-    cell c.value-18.type_inv c.value-18.ensures.same (
-    cell c.sent_field.type_inv c.sent_field.ensures.same (
-    refl)))))))))))))))))))))))))))
+returns-clause-same c = c.picked.ensures ∙ (λ i. pick galileo_places (c.numbers.ensures i ++ c.galileo_own.ensures.same i))

@@ -1,17 +1,17 @@
 ghost use Rattle.std.specs.Prelude.{◌≡◌, ℕ, ◌^◌, ◌<◌, ◌≤◌};
 ghost use Rattle.nav_bits.specs.Signed.{IsSigned};
-ghost use Rattle.nav_eph.specs.BitPatterns.{bit_pattern_of};
+ghost use Rattle.nav_eph.specs.Digits.{digits_of};
 
 use nav_bits::S;
 
 // The bits of a number in two's complement, as an unsigned value.
-pub(crate) fn bit_pattern<const W: u32>(number: &S<W>) -> u64
+pub(crate) fn digits<const W: u32>(number: &S<W>) -> u64
     requires some { 1 ≤ W }
     requires most { W ≤ 64 }
-    ensures value { result ≡ bit_pattern_of W number.now }
+    ensures value { result ≡ digits_of W number.now }
     ensures below { result < 2 ^ W }
     ensures fits { IsSigned W number.now }
 {
     let _value = number.value();
-    number.bit_pattern()
+    number.digits()
 }

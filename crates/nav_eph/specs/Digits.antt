@@ -2,9 +2,9 @@
 use Rattle.std.specs.Prelude.{ℕ, ◌+◌, ◌-◌, ◌*◌, ◌^◌, ℤ, pos, negsuc, List, [], ◌∷◌}
 
 -- the unsigned value of the w bits of z in two's complement
-abbrev pub bit_pattern_of : ℕ → ℤ → ℕ
-bit_pattern_of w (pos n) = n
-bit_pattern_of w (negsuc n) = 2 ^ w - (n + 1)
+abbrev pub digits_of : ℕ → ℤ → ℕ
+digits_of w (pos n) = n
+digits_of w (negsuc n) = 2 ^ w - (n + 1)
 
 -- a field: its width in bits, and its unsigned value
 abbrev pub Field : Type 0

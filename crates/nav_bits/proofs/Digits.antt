@@ -7,26 +7,26 @@ use Rattle.nav_bits.specs.Bits.{bit, number_at, SameOutside, Puts}
 use Rattle.nav_bits.specs.Laws.{shr_more, number_at-append, number_at-before, number_at-lt}
 
 -- the first k bits of the field are the k high bits of the value
-first_bits : (bytes : List ℕ) (at width value k : ℕ) → value < 2 ^ width
+first_digits : (bytes : List ℕ) (at width value k : ℕ) → value < 2 ^ width
     → ((j : ℕ) → j < width → bit bytes (at + j) ≡ bit_at value (width - suc j)) → k ≤ width
     → number_at bytes at k ≡ value / 2 ^ (width - k)
 unfolding number_at
-first_bits bytes at width value zero fits each h =
+first_digits bytes at width value zero fits each h =
     let e : width - 0 ≡ width = omega arith in
     rw e (sym (div-eq_of_lt fits))
-first_bits bytes at width value (suc k) fits each h =
+first_digits bytes at width value (suc k) fits each h =
     let e : width - k ≡ suc (width - suc k) = omega arith in
     let before : number_at bytes at k ≡ value / 2 ^ suc (width - suc k) =
-    first_bits bytes at width value k fits each (omega arith) ∙ ap (λ n. value / 2 ^ n) e in
+    first_digits bytes at width value k fits each (omega arith) ∙ ap (λ n. value / 2 ^ n) e in
     omega (arith, shr_more value (width - suc k), each k h)
 
 -- a field has the value whose bits it holds
-pub number_at-bit_pattern : (bytes : List ℕ) (at width value : ℕ) → value < 2 ^ width
+pub number_at-digits : (bytes : List ℕ) (at width value : ℕ) → value < 2 ^ width
     → ((j : ℕ) → j < width → bit bytes (at + j) ≡ bit_at value (width - suc j)) → number_at bytes at width ≡ value
-number_at-bit_pattern bytes at width value fits each =
+number_at-digits bytes at width value fits each =
     let e : width - width ≡ 0 = omega arith in
     let whole : value / 2 ^ 0 ≡ value = omega arith in
-    first_bits bytes at width value width fits each (omega arith) ∙ ap (λ n. value / 2 ^ n) e ∙ whole
+    first_digits bytes at width value width fits each (omega arith) ∙ ap (λ n. value / 2 ^ n) e ∙ whole
 
 -- one more part of a field read, as the code computes it
 pub number_at-read_more : (bytes : List ℕ) (at place done step value part : ℕ) → done + step ≤ 64 → place ≡ at + done
