@@ -50,7 +50,7 @@ OTHERS = set(
     RT_JOBS NAVBRIDGE_SOURCE NAVBRIDGE_SPAN STATE_DIRECTORY
     perf_event E1 E5b""".split()
 )
-TOPS = ("crates/", "docs/", "examples/", "bench/", "packaging/", ".ci/")
+TOPS = ("crates/", "docs/", "examples/", "bench/", "packaging/", "bindings/", ".ci/")
 
 
 def read(path):
@@ -93,7 +93,7 @@ for path in glob.glob("crates/*/proofs/Surface.antt"):
 for path in glob.glob("crates/*/must-fail/*.edit"):
     known.add(os.path.basename(path).rsplit(".", 1)[0])
 # in scripts and plain programs beside the sources
-for path in glob.glob("bench/*.*") + glob.glob("examples/**/*", recursive=True) + glob.glob("packaging/*.*"):
+for path in glob.glob("bench/*.*") + glob.glob("examples/**/*", recursive=True) + glob.glob("packaging/*.*") + glob.glob("bindings/**/*.*", recursive=True):
     if path.endswith((".sh", ".py", ".c", ".h", ".bash", "-station")) and "names.sh" not in path:
         known |= set(re.findall(r"\w+", read(path)))
 files = {os.path.basename(it) for it in glob.glob("**/*", recursive=True)} | {".edit"}

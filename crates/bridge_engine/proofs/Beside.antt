@@ -1,4 +1,4 @@
--- A run that is given no report, or no input, seen as one whose report or input stays unchanged.
+-- A run that is given no report, or no input, beside one that it leaves as it was.
 use Rattle.std.proofs.Common.{◌≡◌, ℕ, Bool, false, true, List, [], ◌++◌, Option, None, Some, Result, Ok, Err, refl, sym, ap, subst, ◌∙◌}
 use Rattle.std.specs.Prelude.{IfSome, IsSome, if◌then◌else◌}
 use Rattle.std.specs.Io.KnownBytes.{Appends, Consumes, IsAtEnd}
@@ -14,7 +14,7 @@ no_such b is not = cc
 
 -- ---- a report
 
--- the same input and output together with a report
+-- the same input and output beside a report
 abbrev pub with_report : {S T U V : Type 0} → World S T V → U → Option (List ℕ) → ℕ → World S T U
 with_report w report reported failed = world w.input w.left w.never_fails w.reads_failed w.output w.written w.writes_failed report reported failed
 
@@ -22,7 +22,7 @@ with_report w report reported failed = world w.input w.left w.never_fails w.read
 abbrev pub IsSilent : {S T V : Type 0} → World S T V → Type 0
 IsSilent w = w.reported ≡ Some []
 
--- so nothing is reported
+-- so nothing is
 nothing_told : (o o' : Option (List ℕ)) (text : List ℕ) → o ≡ Some [] → o' ≡ Some [] → Appends o o' text → text ≡ []
 nothing_told o o' text is is' grew = sym (subst (λ (x : Option (List ℕ)). Appends (Some []) x text) is' (subst (λ (x : Option (List ℕ)). Appends x o' text) is grew))
 
@@ -69,7 +69,7 @@ beside_report m b a report u failed (Err fault) none before after broke = record
 
 -- ---- an input
 
--- the same output and report together with an input
+-- the same output and report beside an input
 abbrev pub with_input : {R S T U : Type 0} → World R T U → S → Option (List ℕ) → Bool → ℕ → World S T U
 with_input w input left never failed = world input left never failed w.output w.written w.writes_failed w.report w.reported w.reports_failed
 

@@ -1,4 +1,4 @@
--- The value of a text of digits, digit by digit.
+-- The number that digits write, one digit after another.
 use Rattle.std.proofs.Common.{◌≡◌, ℕ, zero, suc, ◌+◌, ◌-◌, ◌*◌, ◌^◌, ◌<◌, ◌≤◌, true, List, [], ◌∷◌, length, take, add-one, arith, nat_le, get_or}
 use Rattle.std.proofs.lemmas.Bool.{and_parts}
 use borrow.Author.Tests.{leb-true}
@@ -8,7 +8,7 @@ use Rattle.std.specs.List.{list_all}
 use Rattle.std.specs.Char.{is_ascii_digit, digit_value}
 use Rattle.std.specs.Str.Parse.{digits_value}
 
--- each byte of a text of digits is a digit
+-- a byte among digits is a digit
 digit_at : (text : List ℕ) (i : ℕ) → list_all is_ascii_digit text ≡ true → i < length text → is_ascii_digit (get_or text i 0) ≡ true
 digit_at [] i all within = absurd (omega arith)
 digit_at (c ∷ cs) zero all within = (and_parts (is_ascii_digit c) (list_all is_ascii_digit cs) all).0
@@ -21,11 +21,11 @@ digit_range c h = let parts = and_parts (nat_le 48 c) (nat_le c 57) h in (leb-tr
 value_of_digit : (c : ℕ) → is_ascii_digit c ≡ true → digit_value c ≡ c - 48
 value_of_digit c h = let range = digit_range c h in grind (arith)
 
--- the range of each byte of a text of digits
+-- the range of a byte among digits
 pub range_at : (text : List ℕ) (i : ℕ) → list_all is_ascii_digit text ≡ true → i < length text → (48 ≤ get_or text i 0) × (get_or text i 0 ≤ 57)
 range_at text i all within = digit_range (get_or text i 0) (digit_at text i all within)
 
--- the value with one more digit
+-- the number of one digit more
 pub next_value : (text : List ℕ) (i value digit : ℕ) → list_all is_ascii_digit text ≡ true → i < length text → value ≡ digits_value 10 (take i text)
     → value < 10 ^ i → digit ≡ get_or text i 0 - 48
     → (value * 10 + digit ≡ digits_value 10 (take (i + 1) text)) × (value * 10 + digit < 10 ^ (i + 1))

@@ -1,4 +1,4 @@
--- What is known of a job that was asked for, and what its end says of a capture.
+-- What a job that was asked for is known to have, and what its end says of a capture.
 use Rattle.std.proofs.Common.{◌≡◌, ◌≤◌, ℕ, List, Option, Some, None, Result, Ok, Err, false, true, refl, sym, subst, inl}
 use Rattle.std.proofs.KnownBytes.{Appends-nil}
 use Rattle.std.specs.Prelude.{◌↔◌, IfErr, IfSome, IsSome, MatchResult, OnErr}
@@ -17,7 +17,7 @@ use Rattle.one_run.specs.Runs.{Ended, World}
 use Rattle.one_run.specs.declared.fault.BridgeFault.{BridgeFault}
 use Rattle.one_run.proofs.Surface.{accepted_of, done_by, end_of, no_prefix, text_of}
 use Rattle.captures.specs.Captures.{Capture as CaptureOf, capture_meaning, capture_of, counts_in, output_of, periods as periods_in, target_of}
-use Rattle.captures.specs.Converts.{CaptureAhead, CapturePrefix, CountsLast}
+use Rattle.captures.specs.Follows.{CaptureAhead, CapturePrefix, CountsLast}
 use Rattle.captures.specs.declared.target.CaptureTo.TheVariants.{Rinex}
 use Rattle.outlets.specs.declared.target.Target.{Target}
 use Rattle.outlets.specs.declared.target.Target.TheVariants as targets
@@ -30,7 +30,7 @@ use Rattle.bridge_engine.specs.Meanings.{HasSats, IsAhead, meaning_of}
 use Rattle.bridge_engine.proofs.Headlines.{headline_text}
 use Rattle.bridge_engine.proofs.OneJob.{one_job}
 
--- a job that words ask for has 1 to 32 satellites, where it has a number of them
+-- the words of a job have 1 to 32 satellites
 in_sats : (text : Option (List ℕ)) (sats : Option ℕ) → Reads IsSatsText text sats → IfSome sats (λ n. (1 ≤ n) × (n ≤ 32))
 in_sats None None reads = tt
 in_sats None (Some sats) reads = absurd reads
@@ -40,7 +40,8 @@ in_sats (Some text) (Some sats) (writes, some, few) = (some, few)
 pub has_sats : (words : List (List ℕ)) (job : Job) → IsJob words job → HasSats job
 has_sats words job is = in_sats is.given.sats (row_of job).values.sats is.asks.values.sats
 
--- the laws cited: bytes and lines of a capture are read as what they are, and parts received have periods
+-- the laws that a reading of the bytes and of the lines of a capture is what they are, and that there are periods of what is
+-- heard
 pub record Readings : Type 0 where
   pub capture : (week : Option ℕ) (bytes : List ℕ) (c : CaptureOf) → (capture_of week bytes ≡ Some c) ↔ IsCapture week bytes c
   pub items : (lines : List Line) (items : List LineItem) → StandFor lines items ↔ (items ≡ line_items_of lines)
@@ -54,7 +55,7 @@ pub readings : ((week : Option ℕ) (bytes : List ℕ) (c : CaptureOf) → (capt
     → Readings
 readings capture items periods = record { capture = capture; items = items; periods = periods }
 
--- the capture that bytes are, the periods of its parts, and the text of their items
+-- the capture that some bytes are, the periods of what is heard in it, and the text of their items
 abbrev Converts : Option ℕ → HeaderWords → List ℕ → Option (List ℕ) → Option (List ℕ) → Option (List ℕ) → Type 0
 Converts week header bytes o w w' =
     (capture : CaptureOf) × (items : List LineItem) × (periods : List Closed)
@@ -94,7 +95,7 @@ some_capture (Some bytes) week some = by_capture (capture_of week bytes) some wh
   by_capture None none = none
   by_capture (Some c) some = refl
 
--- a run from a capture to RINEX with status 0
+-- a run over a capture to RINEX, of the status 0
 pub headline_of : {S T U : Type 0} → Readings
     → (job : Job) (week : Option ℕ) (header : HeaderWords) (b a : World S T U) (status : ℕ)
     → Capture (record { week = week; to = Rinex header }) ≡ job → EndedBy (meaning_of job) b a status → status ≡ 0
@@ -107,13 +108,13 @@ headline_of laws job week header b a status is by zero =
 
 -- ---- what is known of the bytes that were not taken
 
--- the knowledge after a run carries over to one that ended alike
+-- a run that ended as another did knows the same
 pub ahead_as : {C : Type 0} (A : Type 0) (run : Result C BridgeFault) (result : Result (Unit {0}) BridgeFault)
     → MatchResult run (λ counts. result ≡ Ok tt) (λ fault. result ≡ Err fault) → IfErr run (λ fault. A) → OnErr result A
 ahead_as A (Ok counts) result is ahead = subst (λ (r : Result (Unit {0}) BridgeFault). OnErr r A) (sym is) tt
 ahead_as A (Err fault) result is ahead = subst (λ (r : Result (Unit {0}) BridgeFault). OnErr r A) (sym is) ahead
 
--- the headline clause says nothing of other jobs
+-- of other jobs nothing is said
 pub none_ahead : (result : Result (Unit {0}) BridgeFault) → OnErr result (Unit {0})
 none_ahead (Ok done) = tt
 none_ahead (Err fault) = tt
@@ -144,7 +145,7 @@ nothing_ahead to week l w u = (prefix_nothing to week l w u, last_nothing to wee
 
 -- ---- the call
 
--- what the call ensures for a job that the words ask for
+-- what the call says of a job that the words give
 pub record Calls {S T U : Type 0} (words : List (List ℕ)) (b a : World S T U) (status : ℕ) : Type 0 where
   pub ended : (job : Job) × IsJob words job × EndedBy (meaning_of job) b a status
   pub headline : (week : Option ℕ) (header : HeaderWords)

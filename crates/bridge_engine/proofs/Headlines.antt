@@ -14,7 +14,7 @@ use Rattle.outlets.specs.Targets.{verdict_item}
 use Rattle.outlets.specs.ItemTexts.{rinex_item}
 use Rattle.outlets.specs.declared.target.Target.TheVariants.{Rinex}
 
--- the text of concatenated lists of lines
+-- the text of lines and of more behind them
 text_append : (some more : List (List ℕ)) → text_of (some ++ more) ≡ text_of some ++ text_of more
 text_append [] more = refl
 text_append (line ∷ some) more = ap (λ (l : List ℕ). line ++ 10 ∷ l) (text_append some more) ∙ sym (append_assoc line (10 ∷ text_of some) (text_of more))

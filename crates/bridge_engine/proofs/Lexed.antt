@@ -124,7 +124,7 @@ named word n e =
         apart : (w : Text) → ◌≡◌ {A = Option Text} (Some w) None → ⊥
         apart w f = cc
 
--- the converse
+-- and the way back
 pub valued_is : (n v : Text) → Lacks 61 n → long_of (45 ∷ 45 ∷ (n ++ 61 ∷ v)) ≡ Some (n, Some v)
 valued_is [] v h = ap Some (name_and_value-at [] v h)
 valued_is (x ∷ xs) v h = ap Some (name_and_value-at (x ∷ xs) v h)
@@ -198,7 +198,7 @@ other (x ∷ xs) u one two e = go (x == 45) refl
     go false s = inr (plain x xs s)
     go true s = let is : x ≡ 45 = grind (arith, nat_tests) in inl (flag_word x xs is u one two e)
 
--- a word that is not an option is a word of flags, or does not begin with a dash
+-- a word that is no option is of flags, or has no dash at its start
 pub other_word : (word : Text) → IsFit word → long_of word ≡ None → Flags word ⊎ ((short_of word ≡ None) × (BeginsWithDash word → ⊥))
 other_word word fit e =
     let n = neither (bytes_eq word (codes "-")) (bytes_eq word (codes "--")) fit.other in

@@ -1,4 +1,4 @@
--- Words ask for at most one job.
+-- Words give one job at most.
 use Rattle.std.proofs.Common.{◌≡◌, ℕ, List, Option, Some, None, refl, sym, ap, ◌∙◌, subst}
 use Rattle.bridge_engine.specs.declared.job.Job.{Job}
 use Rattle.bridge_engine.specs.declared.values.Values.{Values}

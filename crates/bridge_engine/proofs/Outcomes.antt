@@ -68,7 +68,7 @@ app_faults xs words =
     ∙ ap (λ (k : Kinds). or_else w (or_else s k)) last
     ∙ ap (or_else w) (nothing_after s)
 
--- the table's rows are those of the words
+-- and so are its rows
 app_rows : (xs words : List Text) → matches_of (options_command xs) words ≡ last_rows xs (stand [] None idle) words
 app_rows xs words =
     let end = walked_to xs (stand [] None idle) words in

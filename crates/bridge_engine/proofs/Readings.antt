@@ -57,7 +57,7 @@ module _ (xs : List Text) where
     pub new : AreNew done options
     pub found : last_rows (stand rows p idle) words ≡ rows_for (done ++ options)
 
-  -- the same for words without a fault, from the state in which the options of `done` are settled
+  -- so it is of words without a fault, from where the options of `done` stand settled
   abbrev pub Claim : List Text → Type 0
   Claim words = (rows : List Row) (p : Option (Text × List Text)) (done : List Choice)
       → (settling xs rows p ≡ [] → settled_rows (full_rules xs) p rows ≡ rows_for done)
@@ -75,7 +75,7 @@ module _ (xs : List Text) where
         found = settled settles ∙ ap rows_for (sym (append-nil done));
       }
 
-  -- a word that fails is a fault
+  -- a turn that fails is a fault
   fails : (rows : List Row) (p : Option (Text × List Text)) (waits : Waiting) (word : Text) (words : List Text) (k : ErrorKind)
       → turn xs rows p waits word ≡ k ∷ [] → faults (stand rows p waits) (word ∷ words) ≡ [] → ⊥
   fails rows p waits word words k is none =

@@ -90,7 +90,7 @@ abbrev stream_job : Option ℕ → Target → Option Job
 stream_job None t = Some StreamToFrames
 stream_job (Some week) t = option_map (λ to. Stream (record { week = week; to = to })) (stream_at t)
 
--- of the jobs from a navigation file those that send it have a week
+-- of a navigation file the jobs that send it have a week
 abbrev file_job : Option ℕ → Target → Option Job
 file_job None t =
     if same t.word (codes "merged") then option_map Merge (words_of t.leap t.date) else
@@ -101,7 +101,7 @@ abbrev file3_job : Option ℕ → Target → Option Job
 file3_job None t = option_map Rinex3 (file_at t)
 file3_job (Some week) t = Some (SendRinex3 week)
 
--- the target of a generated capture, and its job
+-- what is written of a capture that is made, and its job
 abbrev seed_at : List ℕ → SeedTo
 seed_at word = if same word (codes "capture") then seeds.Capture else seeds.Count
 

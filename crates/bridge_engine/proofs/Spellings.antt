@@ -9,7 +9,7 @@ contains_here x y xs e = (0, omega arith, e)
 contains_there : (x y : ℕ) (xs : List ℕ) → Contains xs x → Contains (y ∷ xs) x
 contains_there x y xs (k, below, e) = (suc k, omega arith, e)
 
--- the text before the first `=`, and the text after it
+-- what stands before the first `=`, and behind it
 split_once : (name name' value value' : List ℕ) → ¬ Contains name 61 → ¬ Contains name' 61 → (name ++ 61 ∷ []) ++ value ≡ (name' ++ 61 ∷ []) ++ value'
     → (name ≡ name') × (value ≡ value')
 split_once [] [] value value' free free' e = (refl, cc)
@@ -21,7 +21,7 @@ split_once (x ∷ xs) (y ∷ ys) value value' free free' e =
     let rest = split_once xs ys value value' (λ h. free (contains_there 61 x xs h)) (λ h. free' (contains_there 61 y ys h)) more in
     (ap (λ (l : List ℕ). x ∷ l) rest.0 ∙ ap (λ (h : ℕ). h ∷ ys) same, rest.1)
 
--- a text with `=` in it differs from one without
+-- a text with `=` in it is no text without
 never_split : (name name' value : List ℕ) → ¬ Contains name' 61 → (name ++ 61 ∷ []) ++ value ≡ name' → ⊥
 never_split [] [] value free e = cc
 never_split [] (y ∷ ys) value free e = free (contains_here 61 y ys cc)
@@ -98,7 +98,7 @@ lone words rest word body option are dashes free (inr a) =
     let e = sym a.are ∙ are in
     cc
 
--- a name alone does not spell an option
+-- a name alone is no option
 pub no_value : (words : List (List ℕ)) (word body : List ℕ) → words ≡ word ∷ [] → word ≡ 45 ∷ 45 ∷ body → ¬ Contains body 61
     → (option : Choice) (rest : List (List ℕ)) → Begins words option rest → ⊥
 no_value words word body are dashes free option rest b = lone words rest word body option are dashes free (spelling_of words option rest b)
@@ -114,7 +114,7 @@ dashed words more rest word body value option are dashes free dash (inr a) =
     let same : value ≡ option.value = cc in
     a.plain (subst BeginsWithDash same dash)
 
--- nor does a name before a value that begins with a dash
+-- nor is a name before a value that begins with a dash
 pub dashed_value : (words more : List (List ℕ)) (word body value : List ℕ) → words ≡ word ∷ value ∷ more → word ≡ 45 ∷ 45 ∷ body
     → ¬ Contains body 61 → BeginsWithDash value → (option : Choice) (rest : List (List ℕ)) → Begins words option rest → ⊥
 dashed_value words more word body value are dashes free dash option rest b =

@@ -1,4 +1,4 @@
--- `capture_of` reads bytes as the capture that they are, and `line_items_of` its lines as the items that they stand for.
+-- Bytes are read as the capture that they are, and its lines as what they stand for.
 use Rattle.std.proofs.Common.{◌≡◌, inl, inr, ◌∷◌, ℕ, Bool, true, false, List, [], Option, None, Some, refl, sym, ap, subst, ◌∙◌}
 use Rattle.std.specs.Prelude.{◌↔◌, if◌then◌else◌}
 use Rattle.nav_io.specs.Lines.{Line, lines_by}
@@ -59,7 +59,7 @@ told_in heads week bytes c (line ∷ lines) are is = by line.long refl (head_of 
           week_is = some ∙ ap (λ (x : Capture). Some x.week) one;
         }
 
--- a first line that is a head is accepted
+-- and one that is a head is accepted
 read_as : Heads → (week : Option ℕ) (bytes : List ℕ) (c : Capture) → IsCapture week bytes c → capture_of week bytes ≡ Some c
 read_as heads week bytes c is =
     ap (capture_in week) is.lines

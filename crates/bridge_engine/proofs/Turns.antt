@@ -127,7 +127,7 @@ module _ (xs : List Text) where
       let same : bytes_eq n n ≡ true = (bytes_eq-Decides n n).1 refl in
       (rw (dashes, long, short) refl, rw (dashes, long, short, found, same) refl)
 
-  -- a word that is not an option, where no option waits for a value
+  -- a word that is no option, where none waits for a value
   pub stray_word : (rows : List Row) (p : Option (Text × List Text)) (word : Text) → bytes_eq word (45 ∷ 45 ∷ []) ≡ false → long_of word ≡ None
       → short_of word ≡ None → turn rows p idle word ≡ UnknownArgument ∷ []
   stray_word rows p word dashes long short =
@@ -143,7 +143,7 @@ module _ (xs : List Text) where
       let found : arg_by_short (full_rules xs) x ≡ None = no_short xs x in
       rw (sub, dashes, long, short, some, first, found) refl
 
-  -- a name without a value is a fault where it is settled
+  -- a name without a value can't be settled
   pub no_value : (rows : List Row) (n : Text) → is_known xs n ≡ true → settling rows (Some (n, [])) ≡ InvalidValue ∷ []
   no_value rows n known =
       let found : arg_by_id (full_rules xs) n ≡ Some (full_rule n) = id_known xs n known in

@@ -1,10 +1,10 @@
--- The `clap` command that parses the command line. Only private functions cite it.
+-- The command of `clap` that reads the words: for private functions alone.
 use Rattle.std.specs.Prelude.{◌||◌, Bool, true, List, [], ◌∷◌, Option, Some, codes, map, bytes_eq}
 use Rattle.clap.specs.Words.{App, Rule, Text, new_rule}
 use Rattle.clap.specs.Simple.{new_shape}
 use Rattle.bridge_engine.specs.Options.{OptionsGiven}
 
--- the option names
+-- the names that options have
 abbrev pub option_names : List Text
 option_names = codes "from" ∷ codes "to" ∷ codes "week" ∷ codes "leap" ∷ codes "date" ∷ codes "seed" ∷ codes "sats" ∷ []
 
@@ -12,7 +12,7 @@ option_names = codes "from" ∷ codes "to" ∷ codes "week" ∷ codes "leap" ∷
 abbrev pub option_rule : Text → Rule
 option_rule name = record (new_rule name) { long = Some name }
 
--- a command with these options; its words do not start with a program name
+-- a command with these options, and without a program's name before them
 abbrev pub options_command : List Text → App
 options_command names = record {
   top = record (new_shape (codes "navbridge")) {
@@ -27,7 +27,7 @@ options_command names = record {
 abbrev pub is_only_dashes : Text → Bool
 is_only_dashes word = bytes_eq word (codes "-") || bytes_eq word (codes "--")
 
--- the option values, looked up by name
+-- the values, by the names of the options
 abbrev pub values_in : (Text → Option Text) → OptionsGiven
 values_in value = record {
   from = value (codes "from");

@@ -1,4 +1,4 @@
--- The job that a command line asks for: the table of jobs.
+-- The job that the words of the command line give: the table of jobs.
 use Rattle.std.specs.Prelude.{◌≡◌, ◌≤◌, ◌^◌, ◌<◌, ℕ, List, codes, take, drop, length, slice_index, IsTrue, Option, None, Some}
 use Rattle.std.specs.Str.Parse.{digits_value}
 use Rattle.std.specs.Char.{is_ascii_digit}
@@ -19,22 +19,22 @@ use Rattle.bridge_engine.specs.declared.job.Job.TheVariants.{StreamToFrames, Cap
 use Rattle.bridge_engine.specs.declared.values.Values.{Values}
 use Rattle.bridge_engine.specs.Options.{OptionsGiven, GiveValues}
 
--- the text is the number in one to ten decimal digits
+-- one to ten decimal digits write the number
 pub record Writes (text : List ℕ) (number : ℕ) : Type 0 where
   pub some : 1 ≤ length text
   pub few : length text ≤ 10
   pub digits : IsTrue (list_all is_ascii_digit text)
   pub value : digits_value 10 text ≡ number
 
--- a `--week` value: a valid reference week
+-- the text of a week, which is one of the reference weeks
 abbrev pub IsWeekText : List ℕ → ℕ → Type 0
 IsWeekText text week = Writes text week × IsReference week
 
--- a `--leap` value: leap seconds, at most 99
+-- the text of leap seconds: 99 at most
 abbrev pub IsLeapText : List ℕ → ℕ → Type 0
 IsLeapText text leap = Writes text leap × (leap ≤ 99)
 
--- a `--date` value, as in a RINEX header: eight digits, a space, six digits and ` UTC`
+-- the text of a date: eight digits, a space, six digits, and ` UTC`
 pub record IsDateText (text date : List ℕ) : Type 0 where
   pub same : date ≡ text
   pub size : length text ≡ 19
@@ -43,22 +43,22 @@ pub record IsDateText (text date : List ℕ) : Type 0 where
   pub time : IsTrue (list_all is_ascii_digit (take 6 (drop 9 text)))
   pub zone : drop 15 text ≡ codes " UTC"
 
--- a `--seed` value: a number of 32 bits
+-- the text of a seed, a number of 32 bits
 abbrev pub IsSeedText : List ℕ → ℕ → Type 0
 IsSeedText text seed = Writes text seed × (seed < 2 ^ 32)
 
--- a `--sats` value: 1 to 32 satellites
+-- the text of a number of satellites: 1 to 32
 abbrev pub IsSatsText : List ℕ → ℕ → Type 0
 IsSatsText text sats = Writes text sats × (1 ≤ sats) × (sats ≤ 32)
 
--- the option is present and its text writes this value, or both are absent
+-- an option has a value of the kind, or neither is there
 abbrev pub Reads : {A : Type 0} → (List ℕ → A → Type 0) → Option (List ℕ) → Option A → Type 0
 Reads kind None None = Unit {0}
 Reads kind None (Some value) = ⊥
 Reads kind (Some text) None = ⊥
 Reads kind (Some text) (Some value) = kind text value
 
--- the options other than `--from` and `--to` have these values, each in its range
+-- the options, except those that name the forms, have these values, each in its range
 pub record ReadsAs (given : OptionsGiven) (values : Values) : Type 0 where
   pub week : Reads IsWeekText given.week values.week
   pub leap : Reads IsLeapText given.leap values.leap
@@ -66,28 +66,27 @@ pub record ReadsAs (given : OptionsGiven) (values : Values) : Type 0 where
   pub seed : Reads IsSeedText given.seed values.seed
   pub sats : Reads IsSatsText given.sats values.sats
 
--- a row of the table of jobs: the words after `--from` and `--to`, and the other options. `Some` is an option that the job
--- requires and `None` one that it excludes; a variable of type `Option` is an option that it may have.
+-- a row of the table of jobs: what stands behind `--from` and `--to`, and the further options. `Some` is an option that
+-- the row must have, `None` one that it doesn't have, and a name stands for an option that it may have.
 pub record Row : Type 0 where
   pub from : List ℕ
   pub to : List ℕ
   pub values : Values
 
--- what is written: the word after `--to`, and the leap seconds and date of the RINEX header, where it has one
+-- what is written: the word behind `--to`, and the leap seconds and the date of its header, where it has one
 pub record Target : Type 0 where
   pub word : List ℕ
   pub leap : Option ℕ
   pub date : Option (List ℕ)
 
--- a target without a header
+-- a target without a header, and one with a header
 abbrev pub plain : List ℕ → Target
 plain word = record { word = word; leap = None; date = None }
 
--- a target with a RINEX header
 abbrev pub headed : List ℕ → HeaderWords → Target
 headed word words = record { word = word; leap = Some words.leap; date = Some words.date }
 
--- the row with this `--from` word, target and week
+-- the row of a form, a target and a week
 abbrev pub row : List ℕ → Target → Option ℕ → Row
 row from target week = record {
   from = from;
@@ -95,7 +94,7 @@ row from target week = record {
   values = record { week = week; leap = target.leap; date = target.date; seed = None; sats = None };
 }
 
--- the targets of `--from capture`
+-- what a capture is converted to
 abbrev pub capture_target : CaptureTo → Target
 capture_target (captures.Rinex words) = headed (codes "rinex") words
 capture_target (captures.Rinex3 words) = headed (codes "rinex3") words
@@ -103,25 +102,25 @@ capture_target captures.Rtcm = plain (codes "rtcm")
 capture_target captures.ToList = plain (codes "list")
 capture_target captures.Count = plain (codes "count")
 
--- the targets of `--from stream`, which reads the ephemerides of the stream
+-- what the ephemerides of a stream are converted to
 abbrev pub stream_target : StreamTo → Target
 stream_target (streams.Rinex words) = headed (codes "rinex") words
 stream_target (streams.Rinex3 words) = headed (codes "rinex3") words
 stream_target streams.Rtcm = plain (codes "rtcm")
 
--- the targets of `--from rinex` and `--from rinex3` that convert one navigation file
+-- what a navigation file is converted to
 abbrev pub file_target : RinexTo → Target
 file_target (files.Rinex words) = headed (codes "rinex") words
 file_target (files.Rinex3 words) = headed (codes "rinex3") words
 file_target files.Rtcm = plain (codes "rtcm")
 file_target files.ToList = plain (codes "list")
 
--- the `--to` word for a generated capture: the capture itself or its counts
+-- what is written of a capture that is made
 abbrev pub seed_word : SeedTo → List ℕ
 seed_word seeds.Capture = codes "capture"
 seed_word seeds.Count = codes "count"
 
--- the row of a generated capture: its seed, number of satellites and week
+-- the row of a capture that is made: its seed, its number of satellites and its week
 abbrev pub seed_row : SeedJob → Row
 seed_row job = record {
   from = codes "seed";
@@ -129,7 +128,7 @@ seed_row job = record {
   values = record { week = Some job.week; leap = None; date = None; seed = Some job.seed; sats = Some job.sats };
 }
 
--- the table of jobs: a week is optional for a capture, and required for ephemerides of a stream, a file sent and a seed
+-- the table of jobs: a capture may have a week; a stream that is read and a file that is sent must have one
 abbrev pub row_of : Job → Row
 row_of StreamToFrames = row (codes "stream") (plain (codes "frames")) None
 row_of (Capture job) = row (codes "capture") (capture_target job.to) job.week
@@ -142,18 +141,18 @@ row_of (Merge words) = row (codes "rinex") (headed (codes "merged") words) None
 row_of Cover = row (codes "rinex") (plain (codes "cover")) None
 row_of (Seed job) = seed_row job
 
--- the options are exactly those of the job's row, with its values
+-- the options are exactly those of the job's row, and say its values
 pub record Asks (given : OptionsGiven) (job : Job) : Type 0 where
   pub from : given.from ≡ Some (row_of job).from
   pub to : given.to ≡ Some (row_of job).to
   pub values : ReadsAs given (row_of job).values
 
--- the command line asks for this job
+-- the words give the job
 pub record IsJob (words : List (List ℕ)) (job : Job) : Type 0 where
   pub given : OptionsGiven
   pub options : GiveValues words given
   pub asks : Asks given job
 
--- the command line asks for some job
+-- the words give some job
 abbrev pub GivesJob : List (List ℕ) → Type 0
 GivesJob words = (job : Job) × IsJob words job

@@ -1,4 +1,4 @@
--- The output and report of each job, as functions of its input bytes.
+-- What each job makes of the bytes of its input.
 use Rattle.std.specs.Prelude.{◌≤◌, ℕ, List, Option, IfSome}
 use Rattle.rinex_read.specs.Forms.{rinex4}
 use Rattle.rinex_read.specs.Form3.{rinex3}
@@ -10,14 +10,14 @@ use Rattle.nav_files.specs.Targets.{target_of_file}
 use Rattle.nav_files.specs.Sends.{send_meaning}
 use Rattle.nav_files.specs.Archives.{cover_meaning, merge_meaning}
 use Rattle.captures.specs.Captures.{capture_meaning, target_of}
-use Rattle.captures.specs.Converts.{CaptureAhead}
+use Rattle.captures.specs.Follows.{CaptureAhead}
 use Rattle.streams.specs.FrameLines.{frames_meaning}
 use Rattle.captures.specs.Seeds.{seed_meaning}
 use Rattle.bridge_engine.specs.Job.{row_of}
 use Rattle.bridge_engine.specs.declared.job.Job.{Job}
 use Rattle.bridge_engine.specs.declared.job.Job.TheVariants.{StreamToFrames, Capture, Stream, Rinex, Rinex3, SendRinex, SendRinex3, Merge, Cover, Seed}
 
--- the meaning of a job, without what its run counts
+-- whatever it counts of them
 abbrev pub meaning_of : Job → Meaning (Unit {0})
 meaning_of StreamToFrames = uncounted frames_meaning
 meaning_of (Capture job) = uncounted (capture_meaning job.to job.week)
@@ -30,11 +30,11 @@ meaning_of (Merge words) = uncounted (merge_meaning words)
 meaning_of Cover = uncounted cover_meaning
 meaning_of (Seed job) = uncounted (seed_meaning job.to job.seed job.sats job.week)
 
--- a generated capture has 1 to 32 satellites
+-- the satellites of a capture that is made are 1 to 32
 abbrev pub HasSats : Job → Type 0
 HasSats job = IfSome (row_of job).values.sats (λ sats. (1 ≤ sats) × (sats ≤ 32))
 
--- after a fault, how what was written and reported relates to the whole input; stated for captures only
+-- what is known after a fault of the bytes that were not taken: of a capture alone
 abbrev pub IsAhead : Job → Option (List ℕ) → Option (List ℕ) → Option (List ℕ) → Option (List ℕ) → Option (List ℕ)
     → Option (List ℕ) → Type 0
 IsAhead (Capture job) left left_new written written_new reported reported_new =

@@ -1,4 +1,4 @@
--- The options that the words of a command line spell, and their values.
+-- The options that the words of the command line spell, and their values.
 use Rattle.std.specs.Prelude.{◌≡◌, ◌⊎◌, ℕ, List, [], ◌∷◌, ◌++◌, codes, Contains, Option, None, Some}
 
 -- an option: its name and its value
@@ -30,27 +30,27 @@ abbrev pub Spells : List (List ℕ) → List Choice → Type 0
 Spells words [] = words ≡ []
 Spells words (option ∷ options) = (rest : List (List ℕ)) × Begins words option rest × Spells rest options
 
--- the option of this name has this value, or is absent
+-- the options have this value under the name, or none under it
 abbrev pub Holds : List Choice → List ℕ → Option (List ℕ) → Type 0
 Holds options name (Some value) = Contains options (choice name value)
 Holds options name None = (value : List ℕ) → ¬ Contains options (choice name value)
 
--- each name occurs at most once
+-- each name stands at most once
 abbrev pub AreOnce : List Choice → Type 0
 AreOnce [] = Unit {0}
 AreOnce (option ∷ options) = Holds options option.name None × AreOnce options
 
--- the name is one of the seven option names
+-- the name is one of those that options have
 abbrev pub IsName : List ℕ → Type 0
 IsName name = (name ≡ codes "from") ⊎ ((name ≡ codes "to") ⊎ ((name ≡ codes "week") ⊎ ((name ≡ codes "leap")
     ⊎ ((name ≡ codes "date") ⊎ ((name ≡ codes "seed") ⊎ (name ≡ codes "sats"))))))
 
--- every option has one of these names
+-- each option has one of the names
 abbrev pub AreNamed : List Choice → Type 0
 AreNamed [] = Unit {0}
 AreNamed (option ∷ options) = IsName option.name × AreNamed options
 
--- the option values, by name
+-- the values of the options, by their names
 pub record OptionsGiven : Type 0 where
   pub from : Option (List ℕ)
   pub to : Option (List ℕ)
@@ -60,7 +60,7 @@ pub record OptionsGiven : Type 0 where
   pub seed : Option (List ℕ)
   pub sats : Option (List ℕ)
 
--- the words spell options in any order, each name at most once
+-- the words spell options, in any order, each of its name at most once
 pub record AreOptions (words : List (List ℕ)) : Type 0 where
   pub options : List Choice
   pub spelled : Spells words options

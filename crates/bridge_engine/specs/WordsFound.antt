@@ -1,9 +1,9 @@
--- The option values that the parser found, as texts.
+-- What the reader of words found, as texts.
 use Rattle.std.specs.Prelude.{option_map}
 use Rattle.bridge_engine.specs.declared.options.Found.{Found}
 use Rattle.bridge_engine.specs.Options.{OptionsGiven}
 
--- the texts, by option name
+-- the texts by their names
 abbrev pub given_of : Found → OptionsGiven
 given_of found = record {
   from = option_map (λ text. text.now) found.from;

@@ -15,36 +15,36 @@ use rinex_write::HeaderWords;
 use std::alloc::{AllocError, Global};
 use streams::StreamTo;
 
-/// The conversion that a command line asks for.
+/// Which conversion the words ask for.
 #[derive(Clone, Copy)]
 pub enum Job {
     /// `--from stream --to frames`: a line for each RTCM 3 frame of a stream.
     StreamToFrames,
     /// `--from capture`: a capture to a navigation file, to frames, to a list or to counts.
     Capture(CaptureJob),
-    /// `--from stream`: the distinct ephemerides of a stream, to a navigation file or to frames.
+    /// `--from stream`: the ephemerides of a stream, each once, to a navigation file or to frames.
     Stream(StreamJob),
     /// `--from rinex`: a navigation file of RINEX 4 to another one, to frames or to a list.
     Rinex(RinexTo),
     /// `--from rinex3`: the same of a file of RINEX 3.
     Rinex3(RinexTo),
-    /// `--from rinex --to capture`: the capture that transmits the records of a RINEX 4 navigation
-    /// file, with this reference week.
+    /// `--from rinex --to capture`: the capture that is sent of a navigation file of RINEX 4, near
+    /// this week.
     SendRinex(RefWeek),
     /// `--from rinex3 --to capture`: the same of a file of RINEX 3.
     SendRinex3(RefWeek),
-    /// `--from rinex --to merged`: concatenated navigation files of RINEX 4, to one file.
+    /// `--from rinex --to merged`: navigation files of RINEX 4, concatenated, to one.
     Merge(HeaderWords),
-    /// `--from rinex --to cover`: the times for which such files have an ephemeris.
+    /// `--from rinex --to cover`: the times for which they have an ephemeris.
     Cover,
-    /// `--from seed`: a generated capture, or its counts.
+    /// `--from seed`: a capture that is made, or its counts.
     Seed(SeedJob),
 }
 
 /// A conversion of a capture.
 #[derive(Clone, Copy)]
 pub struct CaptureJob {
-    /// The reference week, where the command line names one.
+    /// The reference week by which it is read, where the words name one.
     pub week: Option<RefWeek>,
     /// What it is converted to.
     pub to: CaptureTo,
@@ -53,31 +53,31 @@ pub struct CaptureJob {
 /// A conversion of the ephemerides of a stream.
 #[derive(Clone, Copy)]
 pub struct StreamJob {
-    /// The reference week, against which truncated week numbers are resolved.
+    /// The reference week by which it is read.
     pub week: RefWeek,
     /// What it is converted to.
     pub to: StreamTo,
 }
 
-/// The generation of a capture.
+/// The making of a capture.
 #[derive(Clone, Copy)]
 pub struct SeedJob {
-    /// The seed of the generator.
+    /// The seed of its numbers.
     pub seed: u32,
     /// How many satellites of each system it has, 1 to 32.
     pub sats: u8,
     /// The week in which it begins.
     pub week: RefWeek,
-    /// Whether the capture or its counts are written.
+    /// Whether it is written, or its counts.
     pub to: SeedTo,
 }
 
-/// The job that the words ask for: they spell the options of one row of the table of jobs, in any
-/// order, each once and each in its range. `None` where there is no such row.
+/// The job that the words give, where they give one: they spell the options of one row of the table
+/// of jobs, in any order, each once and each in its range.
 ///
 /// # Errors
 ///
-/// `AllocError` when there is no memory to parse the words.
+/// There was no memory to read the words.
 pub fn job_of(alloc: Global, words: &[String]) -> Result<Option<Job>, AllocError>
     ensures { IfOk result (λ r. MatchOption r (¬ GivesJob (map string_bytes words.now))
         (IsJob (map string_bytes words.now))) }

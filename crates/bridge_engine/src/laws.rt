@@ -9,14 +9,14 @@ ghost use Rattle.bridge_engine.specs.CaptureBytes.{IsCapture, StandFor};
 ghost use Rattle.bridge_engine.specs.declared.job.Job.{Job};
 ghost use Rattle.bridge_engine.specs.Job.{IsJob};
 
-/// A command line asks for at most one job.
+/// Words give one job at most.
 pub fn words_give_one_job()
     ensures { (words : List (List ℕ)) (job other : Job)
         → IsJob words job → IsJob words other → job ≡ other }
 {}
 
-/// `capture_of` finds a capture exactly where the bytes are one, and each line is read as the item that it
-/// stands for: bytes are at most one capture, and its lines stand for one list of items.
+/// Bytes are a capture exactly where they are read as it, and its lines stand for what they are read
+/// as: so bytes are one capture at most, and its lines stand for one list of items.
 pub fn captures_are_told()
     ensures capture { (week : Option ℕ) (bytes : List ℕ) (c : Capture)
         → (capture_of week bytes ≡ Some c) ↔ IsCapture week bytes c }

@@ -1,13 +1,13 @@
-//! The conversions of `navbridge` as jobs: a command line names a job, which reads an input and
-//! writes an output and a report.
+//! The conversions of `navbridge` as jobs: the words of a command line name one, and it is done from
+//! an input to an output and a report.
 //!
-//! [`bridge`] parses the command line, runs the job and returns its status. [`job_of`] only parses: a
-//! [`Job`] is a row of the table of jobs with the values of its options, which [`options_of`] reads
-//! as `--name value` or `--name=value`, each name at most once and in any order. The output and the
-//! report of a job are functions of the input bytes that it read: `specs/Meanings.antt` states them,
-//! one line for each job, and `specs/Job.antt` the table.
+//! [`bridge`] judges the words, does the job that they give, and answers a status, which says how it
+//! ended. [`job_of`] judges the words alone: a [`Job`] is a row of the table of jobs with the values
+//! of its options, which [`options_of`] reads of the words as `--name value` or `--name=value`, each
+//! name at most once and in any order. What a job makes of the bytes that it took is a function of them:
+//! `specs/Meanings.antt` says it, a line for each job, and `specs/Job.antt` the table.
 //!
-//! The runs behind the jobs are re-exported here for other programs.
+//! The runs that jobs stand on are public here too: what other programs call.
 //!
 //! ```rust
 //! use bridge_engine::bridge;

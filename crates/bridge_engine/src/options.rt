@@ -1,4 +1,4 @@
-//! The options that the command-line words spell, and their values.
+//! The options that the words spell, and their values.
 
 ghost use Rattle.std.specs.Prelude.{◌≡◌, MatchOption, IfOk, map, option_map, codes};
 ghost use Rattle.std.specs.List.{list_any};
@@ -13,14 +13,14 @@ use clap::ArgMatches;
 use clap::error::ErrorKind;
 use std::alloc::{AllocError, Global};
 
-/// The texts of the option values, by option name; `None` where the option is absent.
+/// The values of the options, by their names.
 #[derive(Clone, Copy, PartialEq, Eq)]
 pub struct Found<'a> {
-    /// The form that is read.
+    /// What is read.
     pub from: Option<&'a str>,
-    /// The form that is written.
+    /// What is written.
     pub to: Option<&'a str>,
-    /// The GPS reference week.
+    /// A GPS reference week by which it is read.
     pub week: Option<&'a str>,
     /// The leap seconds of a header.
     pub leap: Option<&'a str>,
@@ -28,15 +28,15 @@ pub struct Found<'a> {
     pub date: Option<&'a str>,
     /// The seed of a generated capture.
     pub seed: Option<&'a str>,
-    /// The number of satellites of each system in a generated capture.
+    /// How many satellites a generated capture has.
     pub sats: Option<&'a str>,
 }
 
-/// The values of the options that the words spell; `None` where they spell no options or repeat a name.
+/// The values of the options that the words spell, where they are options, each of its name once.
 ///
 /// # Errors
 ///
-/// `AllocError` when there is no memory to parse the words.
+/// There was no memory to read the words.
 pub fn options_of<'a>(alloc: Global, words: &'a [String]) -> Result<Option<Found<'a>>, AllocError>
     ensures { IfOk result (λ r. MatchOption r
         ((given : OptionsGiven) → ¬ GiveValues (map string_bytes words.now) given)
@@ -53,7 +53,7 @@ pub fn options_of<'a>(alloc: Global, words: &'a [String]) -> Result<Option<Found
     }
 }
 
-// Whether one of the words is `-` or `--`: neither is an option, but `clap` accepts both.
+// Whether one of the words is `-` or `--`, which are no option and which a command would take.
 fn has_only_dashes(words: &[String]) -> bool
     ensures { result ≡ list_any is_only_dashes (map string_bytes words.now) }
 {

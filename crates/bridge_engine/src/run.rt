@@ -12,7 +12,7 @@ use one_run::BridgeFault;
 use std::alloc::Global;
 use streams::{run_frames, run_stream};
 
-// Runs a job: reads the input to its end, and writes and reports what the job makes of its bytes.
+// Does a job: reads the input to its end, and writes and reports what the job makes of its bytes.
 pub(crate) fn run_job<S: Source, T: Sink, U: Sink>(
     alloc: Global,
     job: &Job,
@@ -43,7 +43,7 @@ pub(crate) fn run_job<S: Source, T: Sink, U: Sink>(
     }
 }
 
-// The result of a run, without its counts.
+// How a run ended, without what it counted.
 fn ended<C: Copy>(run: Result<C, BridgeFault>) -> Result<(), BridgeFault>
     ensures { MatchResult run (λ _. result ≡ Ok tt) (λ fault. result ≡ Err fault) }
 {

@@ -1,4 +1,4 @@
-//! The top call: the command-line words, an input, an output and a report give a status.
+//! The top call: the words of the command line, an input, an output and a report, and the status.
 
 ghost use Rattle.std.specs.Prelude.{◌≡◌, ◌⊎◌, ℕ, List, Option, Some, map, IfSome};
 ghost use Rattle.std.specs.String.{string_bytes};
@@ -11,7 +11,7 @@ ghost use Rattle.periods.specs.declared.closed.Closed.{Closed};
 ghost use Rattle.capture_log.specs.Heard.{IsPartHeard};
 ghost use Rattle.one_run.specs.Ends.{RanBy};
 ghost use Rattle.captures.specs.Captures.{Capture, target_of};
-ghost use Rattle.captures.specs.Converts.{CaptureAhead};
+ghost use Rattle.captures.specs.Follows.{CaptureAhead};
 ghost use Rattle.captures.specs.declared.target.CaptureTo.TheVariants.{Rinex};
 ghost use Rattle.bridge_engine.specs.CaptureBytes.{IsCapture, StandFor};
 ghost use Rattle.bridge_engine.specs.Job.{IsJob, GivesJob};
@@ -27,28 +27,28 @@ use nav_io::{Sink, Source};
 use one_run::BridgeFault;
 use std::alloc::{AllocError, Global};
 
-/// Runs the job that the command-line words ask for, and returns the status.
+/// Does the job that the words give, and answers the status.
 ///
-/// | Status | Meaning |
+/// | Status | Comes |
 /// |---|---|
-/// | 0 | the input, if the job reads one, was read to its end, and all output was written |
-/// | 2 | the words ask for no job; nothing is read or written |
-/// | 3 | only when a read failed: the input's fault count rose, or is at its maximum |
-/// | 4 | only when a write failed: the output's fault count rose, or is at its maximum |
-/// | 5 | exactly when the first line of a capture, or the header of a navigation file, is refused and nothing failed before |
-/// | 6 | out of memory |
-/// | 7 | only when a write to the report failed: its fault count rose, or is at its maximum |
-/// | 8 | only when 4,294,967,295 bytes of input were read and there was one more |
+/// | 0 | the input was read to its end, where the job reads one, and all was written |
+/// | 2 | where the words give no job, and only there; nothing is read or written |
+/// | 3 | only where the input failed: its count of faults rose, or stands at its last value |
+/// | 4 | only where the output failed: its count of faults rose, or stands at its last value |
+/// | 5 | exactly where the first line of a capture, or the header of a navigation file, is refused, and nothing failed before |
+/// | 6 | for want of memory |
+/// | 7 | only where the report failed: its count of faults rose, or stands at its last value |
+/// | 8 | only where 4,294,967,295 bytes of input were taken and one more was there |
 ///
-/// The first line of a capture is accepted for the reference week of the command line, where it names one. The header of a
-/// navigation file must be that of the RINEX version that `--from` names.
+/// The first line of a capture is accepted for the week of the words, where they name one; the header of a navigation file
+/// is that of its form, whichever was asked for.
 ///
-/// Parsing the words takes memory: where they ask for no job, the status is 2, or 6 when that memory is missing. Jobs that convert
-/// or send a navigation file, and from a stream to frames, allocate no more: when one ends with 6, nothing was read or written.
+/// The words are read in memory. Where they give no job, the status is 2, or 6 for want of that memory. A job from a navigation
+/// file, and that from a stream to frames, take no more: where one of them ends with 6, nothing was read or written.
 ///
-/// After 3, 4, 6, 7 and 8 the output is a prefix of what the bytes read would give; after 3 in a capture it is exactly what the
-/// complete lines close. The jobs `--from stream --to frames` and `--from seed --to capture` write nothing to the report. Jobs
-/// from a seed read nothing.
+/// After 3, 4, 6, 7 and 8 the output has a prefix of what the bytes that were taken would give; after 3 in a capture exactly
+/// what is closed by the lines that have ended. The jobs `--from stream --to frames` and `--from seed --to capture` write
+/// nothing to the report. The jobs from a seed read nothing.
 pub fn bridge<S: Source, T: Sink, U: Sink>(
     alloc: Global,
     words: &[String],
@@ -56,16 +56,16 @@ pub fn bridge<S: Source, T: Sink, U: Sink>(
     output: &mut T,
     report: &mut U,
 ) -> u8
-    // The job that the words ask for ended with this status. Otherwise nothing was touched: the words ask for no job, or there
-    // was no memory to parse them.
+    // The job that the words give ended with this status. Or nothing was touched: the words give no job, or there was no memory
+    // to read them.
     ensures ended { ((job : Job) × IsJob (map string_bytes words.now) job × RanBy (meaning_of job)
         S.left S.never_fails S.faults T.written T.faults U.written U.faults
         input.old input.new output.old output.new report.old report.new result)
         ⊎ ((((result ≡ 2) × ¬ GivesJob (map string_bytes words.now)) ⊎ (result ≡ 6))
         × (input.new ≡ input.old) × (output.new ≡ output.old) × (report.new ≡ report.old)) }
 
-    // However the reads split a capture, a run with status 0 has written the RINEX text of the items of exactly the periods
-    // of the parts received in it, each once and in order.
+    // Whatever pieces a capture is read in, a run that answers 0 has written the RINEX text of the items of exactly the
+    // periods of the parts that are heard in it, each once, in their order.
     ensures headline { (week : Option ℕ) (header : HeaderWords)
         → IsJob (map string_bytes words.now)
         (Job.Capture (record { week = week; to = Rinex header }))
@@ -77,8 +77,8 @@ pub fn bridge<S: Source, T: Sink, U: Sink>(
         (rinex_text header (items_in periods))
         × IsAtEnd (S.left input.new)) }
 
-    // After any fault of a run over a capture, the output and the report are prefixes of what the whole input gives, unread bytes
-    // included; and counts are written only after the whole input was read.
+    // After any fault of a run over a capture a prefix was written and reported of what the whole input gives, whatever of it
+    // was not taken; and no count is written before the input was read to its end.
     ensures also { (job : CaptureJob) → IsJob (map string_bytes words.now) (Job.Capture job)
         → ¬ (result ≡ 0) → CaptureAhead (target_of job.to) job.week
         (S.left input.old) (S.left input.new) (T.written output.old) (T.written output.new)

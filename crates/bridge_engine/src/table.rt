@@ -1,5 +1,5 @@
-//! The table of jobs as code: the job whose row has the given `--from` and `--to` words and option
-//! values.
+//! The table of jobs, as it is read: the forms and the values of the options, and the job whose row
+//! has them.
 
 ghost use Rattle.std.specs.Prelude.{◌≡◌, ◌↔◌, None, Some, MatchOption, IsFalse, codes};
 ghost use Rattle.rinex_write.specs.declared.words.HeaderWords.{HeaderWords};
@@ -15,7 +15,7 @@ use nav_files::RinexTo;
 use rinex_write::HeaderWords;
 use streams::StreamTo;
 
-// The job with these `--from` and `--to` words and exactly these values.
+// The job between these forms that has exactly these values.
 pub(crate) fn job_in(from: &[u8], to: &[u8], values: &Values) -> Option<Job>
     ensures { MatchOption result ((job : Job) → ¬ IsRow (row_of job) from.now to.now values.now)
         (λ job. IsRow (row_of job) from.now to.now values.now) }
@@ -66,7 +66,7 @@ fn from_seed(to: &[u8], values: &Values) -> Option<Job>
     }))
 }
 
-// What a job from a seed writes.
+// What is written of a capture that is made.
 fn seed_to(to: &[u8]) -> Option<SeedTo>
     ensures { MatchOption result ((target : SeedTo) → ¬ (to.now ≡ seed_word target))
         (λ target. to.now ≡ seed_word target) }
@@ -123,7 +123,7 @@ fn from_rinex(to: &[u8], values: &Values) -> Option<Job>
     }
 }
 
-// The job from a navigation file of RINEX 4 without a week.
+// The job that has no week.
 fn whole_file(to: &[u8], values: &Values) -> Option<Job>
     requires week { values.now.week ≡ None }
     requires seed { values.now.seed ≡ None }
@@ -174,7 +174,7 @@ fn from_rinex3(to: &[u8], values: &Values) -> Option<Job>
     }
 }
 
-// The target of a capture.
+// What a capture is converted to.
 fn capture_to(to: &[u8], values: &Values) -> Option<CaptureTo>
     ensures { MatchOption result
         ((target : CaptureTo) → ¬ IsTarget (capture_target target) to.now values.now)
@@ -207,7 +207,7 @@ fn capture_to(to: &[u8], values: &Values) -> Option<CaptureTo>
     None
 }
 
-// The target of the ephemerides of a stream.
+// What the ephemerides of a stream are converted to.
 fn stream_to(to: &[u8], values: &Values) -> Option<StreamTo>
     ensures { MatchOption result
         ((target : StreamTo) → ¬ IsTarget (stream_target target) to.now values.now)
@@ -230,7 +230,7 @@ fn stream_to(to: &[u8], values: &Values) -> Option<StreamTo>
     None
 }
 
-// The target of a navigation file.
+// What a navigation file is converted to.
 fn file_to(to: &[u8], values: &Values) -> Option<RinexTo>
     ensures { MatchOption result
         ((target : RinexTo) → ¬ IsTarget (file_target target) to.now values.now)
@@ -260,7 +260,7 @@ fn file_to(to: &[u8], values: &Values) -> Option<RinexTo>
     None
 }
 
-// The header's leap seconds and date, where both are given and the leap seconds are at most 99.
+// The words of a header, where both are there and the leap seconds have at most two digits.
 fn header_of(values: &Values) -> Option<HeaderWords>
     ensures { MatchOption result ((words : HeaderWords)
         → ¬ ((values.now.leap ≡ Some words.leap) × (values.now.date ≡ Some words.date)))
@@ -274,7 +274,7 @@ fn header_of(values: &Values) -> Option<HeaderWords>
     Some(HeaderWords { date, leap })
 }
 
-// Whether the leap seconds or the date of a header is given.
+// Whether the values have one of the words of a header.
 fn has_header(values: &Values) -> bool
     ensures { IsFalse result ↔ ((values.now.leap ≡ None) × (values.now.date ≡ None)) }
 {

@@ -10,22 +10,22 @@ ghost use Rattle.bridge_engine.specs.WordsFound.{given_of};
 use crate::Found;
 use gnss_week::RefWeek;
 
-/// The values of the options other than `--from` and `--to`; `None` where the option is absent.
+/// What the options say beside the forms: of each its value, where it is there.
 #[derive(Clone, Copy)]
 pub struct Values {
-    /// The reference week, against which truncated week numbers are resolved.
+    /// The reference week by which times are read.
     pub week: Option<RefWeek>,
     /// The leap seconds between UTC and GPS time, 0 to 99.
     pub leap: Option<u8>,
     /// The date of a header, in 19 characters as `20240101 000000 UTC`.
     pub date: Option<[u8; 19]>,
-    /// The seed of a generated capture.
+    /// The seed of a capture that is made.
     pub seed: Option<u32>,
-    /// Its number of satellites of each system, 1 to 32.
+    /// The number of its satellites, 1 to 32.
     pub sats: Option<u8>,
 }
 
-// The values of the options, where each is in its range; `None` otherwise.
+// The values of the options, where each is in its range.
 pub(crate) fn values_of(found: &Found) -> Option<Values>
     ensures { MatchOption result ((values : Values) → ¬ ReadsAs (given_of found.now) values)
         (ReadsAs (given_of found.now)) }
@@ -47,7 +47,7 @@ pub(crate) fn values_of(found: &Found) -> Option<Values>
     })
 }
 
-// The week of the option, where the option is present.
+// The week that the option says, where it is there.
 fn week_of(text: Option<&str>) -> Option<Option<RefWeek>>
     ensures { MatchOption result
         ((week : Option ℕ) → ¬ Reads IsWeekText (option_map (λ t. t.now) text.entry) week)
@@ -62,7 +62,7 @@ fn week_of(text: Option<&str>) -> Option<Option<RefWeek>>
     }
 }
 
-// The leap seconds of the option.
+// The leap seconds that the option says.
 fn leap_of(text: Option<&str>) -> Option<Option<u8>>
     ensures { MatchOption result
         ((leap : Option ℕ) → ¬ Reads IsLeapText (option_map (λ t. t.now) text.entry) leap)
@@ -81,7 +81,7 @@ fn leap_of(text: Option<&str>) -> Option<Option<u8>>
     }
 }
 
-// The date of the option.
+// The date that the option says.
 fn date_of(text: Option<&str>) -> Option<Option<[u8; 19]>>
     ensures { MatchOption result
         ((date : Option (List ℕ)) → ¬ Reads IsDateText (option_map (λ t. t.now) text.entry) date)
@@ -101,7 +101,7 @@ fn date_of(text: Option<&str>) -> Option<Option<[u8; 19]>>
     }
 }
 
-// The seed of the option.
+// The seed that the option says.
 fn seed_of(text: Option<&str>) -> Option<Option<u32>>
     ensures { MatchOption result
         ((seed : Option ℕ) → ¬ Reads IsSeedText (option_map (λ t. t.now) text.entry) seed)
@@ -113,7 +113,7 @@ fn seed_of(text: Option<&str>) -> Option<Option<u32>>
     }
 }
 
-// The number of satellites of the option.
+// The number of satellites that the option says.
 fn sats_of(text: Option<&str>) -> Option<Option<u8>>
     ensures { MatchOption result
         ((sats : Option ℕ) → ¬ Reads IsSatsText (option_map (λ t. t.now) text.entry) sats)
@@ -148,14 +148,14 @@ fn number_of_text(text: &str) -> Option<u32>
     Some(value as u32)
 }
 
-// Whether all characters are digits.
+// Whether the text has digits alone.
 fn are_digits(text: &[u8]) -> bool
     ensures { result ≡ list_all is_ascii_digit text.now }
 {
     text.iter().all(|byte| byte.is_ascii_digit())
 }
 
-// The value of at most ten digits.
+// The number that ten digits write at most.
 fn value_of_digits(text: &[u8]) -> u64
     requires digits { IsTrue (list_all is_ascii_digit text.now) }
     requires few { length text.now ≤ 10 }

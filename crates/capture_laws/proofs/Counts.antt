@@ -1,4 +1,4 @@
--- The counts of a log are those of its items alone and those of the words of the pairs received.
+-- What is counted of a log is what its items yield by themselves, and the words of the pairs heard.
 use Rattle.std.proofs.Common.{◌≡◌, ℕ, ◌+◌, List, [], ◌∷◌, ◌++◌, map, length, refl, sym, ap, subst, ◌∙◌, append_assoc}
 use Rattle.std.proofs.Common.{append-nil, arith}
 use Rattle.std.specs.Prelude.{sum}
@@ -15,7 +15,7 @@ use Rattle.capture_laws.proofs.Sums.{length_sum, same_sums, sum_mapped}
 use Rattle.capture_laws.proofs.PairLists.{no_pairs}
 use Rattle.capture_laws.proofs.Steps.{step}
 
--- ---- the log of an item and of those after it
+-- ---- the log of an item and of those behind it
 
 noted_weight : (kind : Event → ℕ) (number : ℕ) (events : List Event)
     → weight_in kind (noted number events) ≡ weight_of kind events
@@ -36,7 +36,7 @@ first_weight kind w known number item items =
 
 -- ---- all items
 
--- the pairs of all items, and what the items after the first ones yield with them
+-- the pairs of all items, and what the items behind the first ones yield with them
 pub record IsCounted (w : ℕ) (before items : List LineItem) (known : Known) (pairs : List Pair) : Type 0 where
   pub all : List Pair
   pub are : ArePairsHeard w (before ++ items) all

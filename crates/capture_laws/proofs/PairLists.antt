@@ -1,4 +1,4 @@
--- The pairs received with one more item: those before and, if it yields a new page part, those of it with its partners.
+-- The pairs heard with one more item: those before, and where it yields a new half those of it with its partners.
 use Rattle.std.proofs.Common.{◌≡◌, ℕ, ◌⊎◌, inl, inr, false, List, [], ◌∷◌, ◌++◌, map, Contains, sym, ap, subst, ◌∙◌}
 use Rattle.std.proofs.Common.{⊎_elim}
 use Rattle.std.proofs.lemmas.Bool.{both_ways}
@@ -28,7 +28,7 @@ module _ (w : ℕ) (items : List LineItem) (item : LineItem) where
   keeps : (half : StampedHalf) → IsHalfHeard w items half → IsHalfHeard w (items ++ item ∷ []) half
   keeps half h = half_keeps w items (items ++ item ∷ []) (still_accepted w items item) half h
 
-  -- no new page part is received: they are the same
+  -- no new half is heard: they are the same
   pub pairs_stay : (pairs : List Pair) → ((half : StampedHalf) → IsNewHalf w items item half → IsHalfHeard w items half)
       → ArePairsHeard w items pairs → ArePairsHeard w (items ++ item ∷ []) pairs
   pairs_stay pairs none are =
@@ -43,13 +43,13 @@ module _ (w : ℕ) (items : List LineItem) (item : LineItem) where
         );
       }
 
--- a page part with one of its partners
+-- a half with one of its partners
 pub record IsNewPair (known : Known) (own : StampedHalf) (other : StampedHalf) (p : Pair) : Type 0 where
   pub among : Contains known.halves other
   pub partners : ArePartners own other
   pub is : pair_with own other ≡ p
 
--- one new page part is received
+-- one new half is heard
 module _ (laws : HalfLaws) (w : ℕ) (items : List LineItem) (item : LineItem) (known : Known) (knows : Knows w items known)
     (own : StampedHalf) (heard : IsHalfHeard w (items ++ item ∷ []) own) (fresh : has_half known.halves own ≡ false)
     (one : (half : StampedHalf) → IsNewHalf w items item half → own ≡ half) where
@@ -85,7 +85,7 @@ module _ (laws : HalfLaws) (w : ℕ) (items : List LineItem) (item : LineItem) (
       (record { even_among = there; odd_among = heard; make = make }))
       x.1.partners)
 
-  -- none of them was received before
+  -- none of them was heard before
   new_apart : (p : Pair) → In new_pairs p → IsPair w items p → ⊥
   new_apart p h was =
       let x = of_new p h in

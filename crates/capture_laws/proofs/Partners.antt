@@ -1,4 +1,4 @@
--- The pairs of a page part with its partners: each once, and their words yield what the words of the page part yield.
+-- The pairs of a half with its partners: each once, and their words yield what the words of the half yield.
 use Rattle.std.proofs.Common.{◌≡◌, ℕ, ◌+◌, List, [], ◌∷◌, map, inl, inr, refl, sym, ap, ◌∙◌, ⊎_elim, arith}
 use Rattle.nav_eph.specs.Satellite.{Satellite}
 use Rattle.inav_page.specs.declared.half.HalfKind.{HalfKind}
@@ -13,7 +13,7 @@ use Rattle.capture_log.proofs.Surface.{taken_even, taken_odd}
 use Rattle.capture_laws.specs.Counted.{IsOnce, Pair, pair_events, pairs_weight, weight_of}
 use Rattle.capture_laws.proofs.Sums.{sum_first, sum_mapped, once_first}
 
--- the two page parts as a pair, where the first is of this kind
+-- the two halves as a pair, the first of that kind
 abbrev pair_by : HalfKind → StampedHalf → StampedHalf → Pair
 pair_by Even one other = record { even = one; odd = other }
 pair_by Odd one other = record { even = other; odd = one }
@@ -53,7 +53,7 @@ partners_once one (x ∷ xs) ascending =
 abbrev word_events : List ℕ → Satellite → ℕ → List Event
 word_events word sat stamp = of_word (reading_of word sat stamp)
 
--- the events of the word of a page part and another
+-- what the word of a half and another yields
 abbrev with_other : StampedHalf → StampedHalf → List Event
 with_other one other = word_events (word_with one other) one.sat (stamp_by (kind_of one.half) one.stamp)
 
@@ -76,7 +76,7 @@ module _ (kind : Event → ℕ) (one : StampedHalf) where
       ∙ sym (sum_first (weight_of kind (pair_events (pair_with one x)))
       (map (λ p. weight_of kind (pair_events p)) (map (pair_with one) xs)))
 
--- the events of the words of a page part have the total of its pairs
+-- the events of the words of a half weigh what its pairs do
 pub taken_weight : (kind : Event → ℕ) (among : StampedHalf → Type 0) (one : StampedHalf) (words : List (List ℕ))
     (are : AreWordsWith among one words) → ((x : StampedHalf) → In are.partners x → ArePartners one x)
     → weight_of kind (of_words one words) ≡ pairs_weight kind (map (pair_with one) are.partners)

@@ -1,4 +1,4 @@
--- One item more: its events alone, and the pairs that its page part completes.
+-- One item more: what it yields by itself, and the pairs that its half makes.
 use Rattle.std.proofs.Common.{◌≡◌, ℕ, ◌+◌, inl, true, false, if◌then◌else◌, List, [], ◌∷◌, ◌++◌, map, Contains, refl}
 use Rattle.std.proofs.Common.{sym, ap, subst, ◌∙◌, arith}
 use Rattle.std.specs.Prelude.{Bool, nat_lt}
@@ -21,7 +21,7 @@ use Rattle.capture_laws.specs.Counted.{ArePairsHeard, Pair, own_events, pairs_we
 use Rattle.capture_laws.proofs.Partners.{taken_weight}
 use Rattle.capture_laws.proofs.PairLists.{new_pairs, pairs_more, pairs_stay}
 
--- the pairs received with the item, and what it yields
+-- the pairs heard with the item, and what it yields
 pub record IsStep (w : ℕ) (items : List LineItem) (known : Known) (item : LineItem) (pairs : List Pair) : Type 0 where
   pub more : List Pair
   pub are : ArePairsHeard w (items ++ item ∷ []) (more ++ pairs)
@@ -38,7 +38,7 @@ quiet w items known item pairs are none same = record {
   weighs = λ kind. ap (weight_of kind) same ∙ omega arith;
 }
 
--- ---- the events of a page part, by what is known of it
+-- ---- the events of a half, by what is known of it
 
 abbrev events_by : Bool → Bool → Bool → StampedHalf → List (List ℕ) → List Event
 events_by late alert there own words =
@@ -51,7 +51,7 @@ no_members : {X : Type 0} (xs : List X) → ((x : X) → In xs x → ⊥) → xs
 no_members [] none = refl
 no_members (x ∷ xs) none = absurd (none x (inl refl))
 
--- a page part without a partner makes no word
+-- a half makes no word with none
 no_words : (laws : HalfLaws) (own : StampedHalf) → words_of [] own ≡ []
 no_words laws own =
     let are = laws.words [] own in

@@ -26,7 +26,7 @@ sum_middle f x before after =
     let c = sum_mapped f before after in
     omega arith
 
--- an element of a list stands before an index, at it, or after it
+-- what stands in a list stands in front of a place, at it, or behind it
 module _ {X : Type 0} (x : X) (before after : List X) where
   middle_cases : (y : X) → In (before ++ x ∷ after) y → (x ≡ y) ⊎ In (before ++ after) y
   middle_cases y h = elim (in_append before (x ∷ after) y h) [
@@ -56,7 +56,7 @@ once_joined (x ∷ xs) ys a b apart =
     (λ h. elim (in_append xs ys x h) [ inl own ↦ once_new x xs a own | inr other ↦ apart x (inl refl) other ])
     (once_joined xs ys a.1 b (λ y h k. apart y (inr h) k))
 
--- the list without one of its elements
+-- without one of them
 once_middle : {X : Type 0} (x : X) (before after : List X) → IsOnce (before ++ x ∷ after) → IsOnce (before ++ after)
 once_middle x [] after h = h.1
 once_middle x (b ∷ before) after h =

@@ -1,4 +1,4 @@
--- Late and malformed lines: no event that the content of a line yields is of these kinds.
+-- Late and malformed lines: what readers make of a line says neither.
 use Rattle.std.proofs.Common.{◌≡◌, ℕ, ◌+◌, ◌<◌, ◌↔◌, Bool, List, [], ◌∷◌, Some, Contains, inl, inr, true, false, if◌then◌else◌}
 use Rattle.std.proofs.Common.{refl, sym, subst, lt-ltb, ltb-true, arith}
 use Rattle.std.specs.Prelude.{Option, None, Result, Ok, Err}
@@ -37,7 +37,7 @@ use Rattle.capture_laws.proofs.Yielded.{IsYielded, note, log_to, log_from_yielde
 
 -- ---- what a reader says
 
--- the event is one that the content of a line yields
+-- the event is one that a reader makes of a line
 abbrev IsReading : Event → Type 0
 IsReading (Heard part) = Unit {0}
 IsReading Malformed = ⊥

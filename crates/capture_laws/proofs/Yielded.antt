@@ -1,4 +1,4 @@
--- An event is in the log exactly where one of the items yields it.
+-- An event stands in the log exactly where one of the items yields it.
 use Rattle.std.proofs.Common.{◌≡◌, ℕ, ◌+◌, List, [], ◌∷◌, ◌++◌, length, max, inl, inr}
 use Rattle.std.proofs.Common.{refl, sym, ap, subst, ◌∙◌, arith}
 use Rattle.capture_lines.specs.Late.{greatest_stamp}
@@ -18,7 +18,7 @@ pub record IsYielded (w : ℕ) (known : Known) (first : ℕ) (items : List LineI
   pub at : IsAt first items number item
   pub yields : In (events_of w (known_from w known at.before) item) event
 
--- with one more item before the others
+-- with an item in front
 one_before : (w : ℕ) (known : Known) (first : ℕ) (i : LineItem) (items : List LineItem) (number : ℕ) (event : Event)
     → IsYielded w (known_with w known i) (first + 1) items number event
     → IsYielded w known first (i ∷ items) number event

@@ -1,4 +1,4 @@
--- What is counted of a log: the events of each item alone, and those of each I/NAV word that is received.
+-- What is counted of a log: of each item by itself, and of each word that is heard.
 use Rattle.std.specs.Prelude.{◌↔◌, ℕ, ◌+◌, List, [], ◌∷◌, ◌++◌, map, sum, Contains}
 use Rattle.inav_page.specs.Pages.{word_of}
 use Rattle.inav_page.specs.Heard.{StampedHalf, IsHeard}
@@ -10,44 +10,44 @@ use Rattle.capture_log.specs.Heard.{IsHalfHeard}
 use Rattle.capture_log.specs.Log.{Noted}
 use Rattle.capture_log.specs.declared.event.Event.{Event}
 
--- the two page parts of a word
+-- the two halves of a word
 pub record Pair : Type 0 where
   pub even : StampedHalf
   pub odd : StampedHalf
 
--- the events of its word, received at the second of its odd part
+-- what its word yields, heard at the second of its odd half
 abbrev pub pair_events : Pair → List Event
 pair_events p = of_word (reading_of (word_of p.even.half p.odd.half) p.odd.sat p.odd.stamp)
 
--- no element occurs twice
+-- nothing stands in it twice
 abbrev pub IsOnce : {X : Type 0} → List X → Type 0
 IsOnce [] = Unit {0}
 IsOnce (x ∷ xs) = (Contains xs x → ⊥) × IsOnce xs
 
--- the pairs of page parts that are received in the items, each once
+-- the pairs heard of the items, each once
 pub record ArePairsHeard (window : ℕ) (items : List LineItem) (pairs : List Pair) : Type 0 where
   pub once : IsOnce pairs
   pub each : (p : Pair) → Contains pairs p ↔ IsHeard (IsHalfHeard window items) p.even p.odd
 
--- the events of an item alone, after those before it: all but the words that a page part completes
+-- what an item yields by itself, behind others: all but the words of a half
 abbrev pub own_events : ℕ → List LineItem → LineItem → List Event
 own_events window before item =
     events_of window (record { greatest = greatest_stamp before; halves = [] }) item
 
--- the total of a kind over events
+-- how much of a kind events are
 abbrev pub weight_of : (Event → ℕ) → List Event → ℕ
 weight_of kind events = sum (map kind events)
 
--- the total of a kind over a log
+-- how much of a kind a log has
 abbrev pub weight_in : (Event → ℕ) → List Noted → ℕ
 weight_in kind log = sum (map (λ n. kind n.event) log)
 
--- the total of a kind over the events of each item alone, after those before it
+-- how much of a kind the items yield by themselves, behind others
 abbrev pub own_weight : (Event → ℕ) → ℕ → List LineItem → List LineItem → ℕ
 own_weight kind window before [] = 0
 own_weight kind window before (item ∷ items) =
     weight_of kind (own_events window before item) + own_weight kind window (before ++ item ∷ []) items
 
--- the total of a kind over the words of pairs
+-- how much of a kind the words of pairs yield
 abbrev pub pairs_weight : (Event → ℕ) → List Pair → ℕ
 pairs_weight kind pairs = sum (map (λ p. weight_of kind (pair_events p)) pairs)

@@ -1,4 +1,4 @@
-//! The laws: each is the contract of an empty function.
+//! The laws: each function does nothing, and its contract is the law.
 
 ghost use Rattle.std.specs.Prelude.{◌≡◌, ◌↔◌, ℕ, ◌+◌, List, [], Contains, length, map, sum};
 ghost use Rattle.capture_lines.specs.declared.item.LineItem.{LineItem};
@@ -10,8 +10,8 @@ ghost use Rattle.capture_laws.specs.Places.{IsLateLine, IsMalformedLine};
 ghost use Rattle.capture_laws.specs.Counted.{ArePairsHeard, Pair};
 ghost use Rattle.capture_laws.specs.Counted.{own_weight, pairs_weight, weight_in};
 
-/// The log has a line as late exactly where a line before it, late or not, has a stamp that is later
-/// by more than the window, and as malformed exactly where it is malformed.
+/// A line is said to be late exactly where one before it, late or not, has a stamp that is later by
+/// more than the window, and to be malformed exactly where it is.
 pub fn late_lines_are_told()
     ensures late { (window first : ℕ) (items : List LineItem) (number : ℕ)
         → Contains (log_from window nothing_known first items)
@@ -25,8 +25,8 @@ pub fn late_lines_are_told()
     capture_lines::late_is_behind_the_greatest_stamp();
 }
 
-/// Two lists of the words received have the same length, and the same sum of whatever is counted of
-/// each word.
+/// It does not matter how the words heard are listed: there are as many, and of whatever they count
+/// the sum is the same.
 pub fn pairs_are_counted_once()
     ensures length { (window : ℕ) (items : List LineItem) (some other : List Pair)
         → ArePairsHeard window items some → ArePairsHeard window items other
@@ -36,8 +36,8 @@ pub fn pairs_are_counted_once()
         → (f : Pair → ℕ) → sum (map f some) ≡ sum (map f other) }
 {}
 
-/// The words received can be listed, each by its two page parts; and any count over the events of a
-/// log is the sum over the events of each line alone and over those of each word received.
+/// There is a list of the words heard, each by its two halves; and whatever is counted of the
+/// events of a log, it is what each line yields by itself and what each word heard yields.
 pub fn events_are_counted()
     ensures some { (window : ℕ) (items : List LineItem)
         → (pairs : List Pair) × ArePairsHeard window items pairs }

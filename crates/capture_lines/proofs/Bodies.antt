@@ -1,4 +1,4 @@
--- The text after the stamp, and the item read from it.
+-- What stands behind the stamp, and the item that is read of it.
 use Rattle.std.proofs.Common.{◌≡◌, ℕ, ◌+◌, ◌-◌, ◌*◌, ◌/◌, ◌%◌, ◌<◌, ◌≤◌, ◌==◌, Bool, true, false, ◌&&◌, List, [], ◌∷◌, ◌++◌, length, drop, Option, Some, None, Result, Ok, Err, cond, refl, sym, ap, subst, ◌∙◌, arith, nat_le, nat_eq}
 use Rattle.std.proofs.lemmas.Bool.{eqb-true}
 use borrow.Author.Tests.{leb-true}
@@ -21,7 +21,7 @@ use Rattle.capture_lines.proofs.NumberTexts.{digit_range}
 use Rattle.capture_lines.specs.declared.item.LineItem.{LineItem}
 use Rattle.capture_lines.specs.declared.item.LineItem.TheVariants.{Pass, Lnav, Half, Frame, Malformed}
 
--- the text after the stamp in the line of a subframe
+-- what stands behind the stamp in the line of a subframe
 pub record LnavBody (sat : Satellite) (bits rest : List ℕ) : Type 0 where
   pub digits : List ℕ
   pub rest_is : rest ≡ codes " L G" ++ (two_digits sat.number ++ (codes " " ++ digits))
@@ -45,7 +45,7 @@ pub record FrameBody (bytes rest : List ℕ) : Type 0 where
   pub shortest : 6 ≤ length bytes
   pub longest : length bytes ≤ 1029
 
--- the item of a stamp has this text after it
+-- the item of a stamp has this behind it
 abbrev pub HasBody : ℕ → LineItem → List ℕ → Type 0
 HasBody stamp Pass rest = ⊥
 HasBody stamp (Lnav own sat bits) rest = (own ≡ stamp) × LnavBody sat bits rest
@@ -63,7 +63,7 @@ satellite_of_digits system n h low =
     let whole : (48 + n / 10 - 48) * 10 + (48 + n % 10 - 48) ≡ n = omega arith in
     rw whole (grind (arith))
 
--- a satellite that is read has these two digits
+-- a satellite that was read has these two digits
 pub digits_of_satellite : (system : System) (tens units : ℕ) (sat : Satellite) → satellite_in system tens units ≡ Some sat
     → (sat.system ≡ system) × IsSat system sat.number × (tens ≡ 48 + sat.number / 10) × (units ≡ 48 + sat.number % 10)
 unfolding satellite_in
@@ -96,7 +96,7 @@ unfolding signal_in
 signal_of_letter E1b = refl
 signal_of_letter E5b = refl
 
--- a signal that is read has this letter
+-- a signal that was read has this letter
 pub letter_of_signal : (letter : ℕ) (signal : Signal) → signal_in letter ≡ Some signal → letter ≡ signal_letter signal
 unfolding signal_in
 letter_of_signal letter signal read = by (letter == 66) (letter == 53) refl refl signal read
@@ -108,7 +108,7 @@ letter_of_signal letter signal read = by (letter == 66) (letter == 53) refl refl
     by false true ea eb E5b e = eqb-true letter 53 eb
     by false false ea eb signal e = cc e
 
--- digits that fill that many bytes
+-- digits that fill so many bytes
 pub sized : (digits bytes : List ℕ) (n : ℕ) → decode_of digits ≡ Ok bytes → length bytes ≡ n → decode_sized digits n ≡ Ok bytes
 sized digits bytes n read len = decode_sized-twice digits n (let two = (decode_of-ok digits bytes read).2 in omega arith) ∙ read
 
@@ -119,7 +119,7 @@ filled digits bytes n read =
     let whole = sym (decode_sized-twice digits n two) ∙ read in
     (whole, let len = (decode_of-ok digits bytes whole).2 in omega arith)
 
--- ---- the text after the stamp is read as its item
+-- ---- what stands behind the stamp is read as its item
 
 pub lnav_of_body : (stamp : ℕ) (sat : Satellite) (bits rest : List ℕ) → LnavBody sat bits rest → form_in stamp rest ≡ Lnav stamp sat bits
 unfolding form_in lnav_in
@@ -146,9 +146,9 @@ frame_of_body stamp bytes rest h =
     let two = (decode_of-ok h.digits bytes h.digits_are).2 in
     rw (h.rest_is, h.digits_are) (grind (arith))
 
--- ---- and the item read has such a body
+-- ---- and what is read has such a body
 
--- an item of the words read
+-- an item of the words that were read
 lnav_read : (stamp tens units : ℕ) (digits : List ℕ) (o : Option Satellite) (r : Result (List ℕ) FromHexError)
     → satellite_in Gps tens units ≡ o → decode_sized digits 38 ≡ r
     → HasBody stamp (lnav_with stamp o r) (32 ∷ 76 ∷ 32 ∷ 71 ∷ tens ∷ units ∷ 32 ∷ digits)
@@ -200,7 +200,7 @@ frame_read stamp digits (Ok bytes) low high er =
     let two = (decode_of-ok digits bytes er).2 in
     (refl, record { digits = digits; rest_is = refl; digits_are = er; shortest = omega arith; longest = omega arith })
 
--- the same after each prefix
+-- the same behind each prefix
 body_of_lnav : (stamp : ℕ) (xs : List ℕ) → HasBody stamp (lnav_in stamp (32 ∷ 76 ∷ 32 ∷ 71 ∷ xs)) (32 ∷ 76 ∷ 32 ∷ 71 ∷ xs)
 unfolding lnav_in
 body_of_lnav stamp [] = tt
@@ -254,7 +254,7 @@ body_of_frame stamp digits = by (nat_le 12 (length digits)) (nat_le (length digi
 pub begun : (rest prefix : List ℕ) → starts_with nat_eq rest prefix ≡ true → rest ≡ prefix ++ drop (length prefix) rest
 begun rest prefix h = (starts_is Decides-eqb rest prefix true (sym h)).0 refl
 
--- the item read from the bytes after the stamp has that body
+-- what is read of the bytes behind the stamp has that body
 pub body_of_form : (stamp : ℕ) (rest : List ℕ) → HasBody stamp (form_in stamp rest) rest
 unfolding form_in
 body_of_form stamp rest = by (starts_with nat_eq rest (codes " L G")) (starts_with nat_eq rest (codes " P E")) (starts_with nat_eq rest (codes " R ")) refl refl refl

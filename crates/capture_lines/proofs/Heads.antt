@@ -1,4 +1,4 @@
--- The first line and the head read from it: a line is read as a head exactly where it is a spelling of it.
+-- A first line and the head that is read of it: each determines whether the other fits.
 use Rattle.std.proofs.Common.{◌≡◌, ℕ, ◌+◌, ◌≤◌, ◌==◌, ◌&&◌, nat_eq, nat_le, Bool, true, false, List, [], ◌∷◌, ◌++◌, length, take, drop, Option, Some, None, cond, refl, sym, ap, subst, ◌∙◌, arith}
 use Rattle.std.proofs.lemmas.Bool.{eqb-true}
 use Rattle.std.proofs.lemmas.List.{take-append-drop}
@@ -18,7 +18,7 @@ use Rattle.capture_lines.specs.declared.head.CaptureHead.{CaptureHead}
 use Rattle.capture_lines.proofs.Bodies.{begun}
 use Rattle.capture_lines.proofs.NumberTexts.{digit_passes, passes_digit, digits_in_front, prefix_digits, number_of_text, text_of_number}
 
--- a text of digits only consists of the digits at its start
+-- a text of digits alone has nothing but its digits in front
 all_digits : (text : List ℕ) → AllDigits 10 text → digit_count text ≡ length text
 all_digits [] all = refl
 all_digits (x ∷ xs) all =
@@ -36,7 +36,7 @@ digits_alone (x ∷ xs) h = by (is_ascii_digit x) refl (λ e. digits_alone xs e)
     by true e rest h = (passes_digit x e, rest (omega arith))
     by false e rest h = absurd (omega arith)
 
--- a text of a number is read as the number
+-- a text of a number is read as it
 whole_of_text : (n : ℕ) (text : List ℕ) → IsNumberText n text → whole_number_in text ≡ Some n
 unfolding whole_number_in
 whole_of_text n text h =
@@ -52,7 +52,7 @@ text_of_whole n text read = by (digit_count text == length text) refl read
     by true e h = text_of_number n text (digits_alone text (eqb-true (digit_count text) (length text) e)) h
     by false e h = cc h
 
--- a number read after a space is the number of the text there
+-- a number that was read behind a space is the number of what stands there
 text_behind : (n : ℕ) (rest : List ℕ) → number_behind rest ≡ Some n
     → (text : List ℕ) × (rest ≡ codes " " ++ text) × IsNumberText n text
 unfolding number_behind
@@ -95,7 +95,7 @@ were_in_ranges week window head read =
     by true true false d ea eb ec ed e = cc e
     by true true true false ea eb ec ed e = cc e
 
--- the words after `NAVCAP 2 ` are read as the week and the window
+-- the words behind `NAVCAP 2 ` are read as the week and the window
 own_head_of_texts : (week window : ℕ) (line : List ℕ) (h : NamesWeek week window line)
     → own_head (h.week_text ++ 32 ∷ h.window_text) ≡ Some (record { window = window; week = Some week })
 unfolding own_head number_behind
@@ -120,7 +120,7 @@ head_of_spelling line head h = by head.window head.week h
     by window None h = rw (h.0, h.1) refl
     by window (Some week) h = rw h.line_is (own_head_of_texts week window line h)
 
--- the text read after `NAVCAP 2 ` has such words
+-- what was read behind `NAVCAP 2 ` has such words
 spelling_of_texts : (line rest : List ℕ) (head : CaptureHead) → line ≡ codes "NAVCAP 2 " ++ rest → own_head rest ≡ Some head
     → IsHead head line
 unfolding own_head
@@ -148,7 +148,7 @@ spelling_of_texts line rest head split read =
     by (Some week) None ew en e = cc e
     by None window ew en e = cc e
 
--- a line is a spelling of the head read from it
+-- a head that was read has the line as a spelling
 pub spelling_of_head : (line : List ℕ) (head : CaptureHead) → head_of line ≡ Some head → IsHead head line
 unfolding head_of
 spelling_of_head line head read =
@@ -169,7 +169,7 @@ window_of_spelling : (line : List ℕ) (window : ℕ) (week : Option ℕ) → Na
 window_of_spelling line window None h = let is = h.1 in (omega arith, omega arith)
 window_of_spelling line window (Some week) h = h.window_range
 
--- a head is read exactly for its spellings, and its window is in range
+-- the answer for a first line: there is one exactly for a spelling of a head, and its window is in its range
 pub answered : (line : List ℕ) (o : Option CaptureHead) → o ≡ head_of line
     → (IsSome o ↔ ((head : CaptureHead) × IsHead head line)) × IfSome o (λ head. (60 ≤ head.window) × (head.window ≤ 14400))
 answered line (Some head) is =

@@ -1,4 +1,4 @@
--- Pairs of hexadecimal digits, decoded in order, whether or not all are digits.
+-- Pairs of hexadecimal digits, decoded from the first to the last, whether or not all are digits.
 use Rattle.std.proofs.Common.{◌≡◌, ℕ, ◌+◌, ◌*◌, ◌%◌, ◌<◌, ◌≤◌, ◌&&◌, Bool, true, false, List, length, take, drop, slice_index, slice_set, Option, Some, None, Ok, Err, refl, sym, ap, ◌∙◌, arith}
 use Rattle.std.specs.Prelude.{MatchResult, is_some}
 use Rattle.std.proofs.lemmas.Bool.{true≢false}
@@ -7,7 +7,7 @@ use Rattle.hex.specs.declared.error.FromHexError.{FromHexError}
 use Rattle.hex.specs.declared.error.FromHexError.TheVariants.{InvalidHexCharacter}
 use Rattle.hex.proofs.Pairs.{prepend, decode_step, decode_err, decode_done}
 
--- so far all were digits and the bytes are decoded, or one was not a digit
+-- so far all were digits and the bytes stand there, or one was none
 pub record IsDecoded (digits into : List ℕ) (i : ℕ) (all : Bool) : Type 0 where
   pub good : all ≡ true → decode_pairs 0 digits ≡ prepend (take i into) (decode_pairs (2 * i) (drop (2 * i) digits))
   pub bad : all ≡ false → (e : FromHexError) × (decode_pairs 0 digits ≡ Err e)
@@ -16,11 +16,11 @@ pub record IsDecoded (digits into : List ℕ) (i : ℕ) (all : Bool) : Type 0 wh
 pub below : (c v : ℕ) → hex_digit_value c ≡ Some v → v < 16
 below c v h = grind arith
 
--- once one was not a digit, it stays so
+-- once one was none, it stays so
 still_bad : (digits into more : List ℕ) (i next : ℕ) → IsDecoded digits into i false → IsDecoded digits more next false
 still_bad digits into more i next so = record { good = λ e. absurd (true≢false (sym e)); bad = so.bad }
 
--- one more pair
+-- one pair more
 pub decoded_more : (digits into : List ℕ) (i high low : ℕ) (all : Bool) → IsDecoded digits into i all → 2 * i + 1 < length digits → i < length into
     → ((v : ℕ) → hex_digit_value (slice_index digits (2 * i)) ≡ Some v → high ≡ v)
     → ((v : ℕ) → hex_digit_value (slice_index digits (2 * i + 1)) ≡ Some v → low ≡ v)

@@ -1,4 +1,4 @@
--- The entry of the table of hexadecimal digits for each byte, by computation.
+-- What the table of hexadecimal digits has of each byte, by a test that computes.
 use Rattle.std.proofs.Common.{◌≡◌, ℕ, zero, suc, ◌+◌, ◌<◌, Bool, true, false, nat_eq, nat_lt, ◌&&◌, List, [], ◌∷◌, length, get_or, Option, Some, None, refl, sym, ap, ◌∙◌, arith, add-zero, zero-add}
 use Rattle.std.specs.Prelude.{bit_or, is_some}
 use Rattle.std.proofs.lemmas.Bool.{true≢false, and_parts, eqb-true, lt-ltb, ltb-true}
@@ -7,7 +7,7 @@ use Rattle.hex.specs.Hex.{hex_digit_value, is_hex_digit}
 use Rattle.capture_lines.specs.declared.digits.TheConstants.{VALUES}
 use Rattle.capture_lines.proofs.HexPairs.{below}
 
--- the value of a digit, or 32 for other bytes
+-- a value, or 32 where there is none
 abbrev pub value_or_32 : Option ℕ → ℕ
 value_or_32 None = 32
 value_or_32 (Some v) = v
@@ -42,7 +42,7 @@ digit_is c = by (hex_digit_value c) refl
     by None e = refl
     by (Some v) e = lt-ltb v 16 (below c v e)
 
--- the bitwise or of two numbers is below 16 where both are
+-- two numbers joined bit by bit are below 16 where both are
 pub both_below : (a b : ℕ) → nat_lt (bit_or a b) 16 ≡ (nat_lt a 16 && nat_lt b 16)
 both_below a b = by (nat_lt a 16) (nat_lt b 16) (nat_lt (bit_or a b) 16) refl refl refl
   where

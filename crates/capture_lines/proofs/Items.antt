@@ -1,4 +1,4 @@
--- A line and the item read from it: a line is read as an item exactly where it has that content.
+-- A line and the item that is read of it: each determines whether the other fits.
 use Rattle.std.proofs.Common.{◌≡◌, ℕ, ◌<◌, ◌==◌, nat_le, length, Bool, true, false, ◌&&◌, ◌||◌, inl, inr, List, [], ◌∷◌, ◌++◌, take, drop, slice_index, Option, Some, None, cond, refl, sym, ap, ◌∙◌, arith}
 use Rattle.std.proofs.lemmas.Bool.{and_parts, eqb-true}
 use Rattle.std.proofs.lemmas.List.Elements.{All-cons, All-head, All-nil, All-tail}
@@ -16,16 +16,16 @@ use Rattle.capture_lines.specs.declared.item.LineItem.TheVariants.{Pass, Lnav, H
 use Rattle.capture_lines.proofs.NumberTexts.{digits_in_front, prefix_digits, number_of_text, text_of_number}
 use Rattle.capture_lines.proofs.Bodies.{HasBody, lnav_of_body, half_of_body, frame_of_body, body_of_form}
 
--- the digits at the start of a line, and the text after them
+-- the digits in front of a line, and what stands behind them
 abbrev prefix : List ℕ → List ℕ
 prefix line = take (prefix_len is_ascii_digit line) line
 
 abbrev behind : List ℕ → List ℕ
 behind line = drop (prefix_len is_ascii_digit line) line
 
--- ---- skipped lines
+-- ---- passed lines
 
--- only spaces
+-- blanks alone
 blanks : (line : List ℕ) → list_all (λ c. c == 32) line ≡ true → All (λ c. c ≡ 32) line
 blanks [] h = All-nil (λ c. c ≡ 32)
 blanks (x ∷ xs) h =
@@ -57,7 +57,7 @@ comments line (inr h) = by (slice_index line 0 == 35) (blanks_pass line h)
     by true e = refl
     by false e = e
 
--- a line that is skipped
+-- a line that is passed
 pub passed : (line : List ℕ) → is_passed line ≡ true → IsPassed line
 passed line h =
     let parts = and_parts (nat_le (length line) 2200) (is_comment line) h in
@@ -69,7 +69,7 @@ passes line h = let is = comments line h.1 in let short = h.0 in rw is (grind (a
 
 -- ---- from a spelling to its item
 
--- a line that begins with a digit is not skipped
+-- a line that begins with a digit is not passed
 digit_first : (x : ℕ) (xs : List ℕ) → digit_value x < 10 → is_passed (x ∷ xs) ≡ false
 digit_first x xs h =
     let digit = digit_from_value x h in
@@ -81,7 +81,7 @@ digit_first x xs h =
     no true = refl
     no false = refl
 
--- a stamp and a space before a body
+-- a stamp and a blank in front of a body
 pub item_behind : (stamp : ℕ) (time body : List ℕ) → IsNumberText stamp time → item_of (time ++ 32 ∷ body) ≡ form_in stamp (32 ∷ body)
 unfolding item_of
 item_behind stamp [] body is = absurd (let some = is.numeral.0 in omega arith)
@@ -104,14 +104,14 @@ spelled (Frame stamp bytes) line h =
     ∙ frame_of_body stamp bytes.items _ (record { digits = h.digits; rest_is = refl; digits_are = h.digits_are; shortest = h.shortest; longest = h.longest }))
 spelled Malformed line h = absurd h
 
--- a line that is skipped is read so
+-- a line that is passed is read so
 pub passed_is : (line : List ℕ) → IsPassed line → item_of line ≡ Pass
 unfolding item_of
 passed_is line h = rw (passes line h) refl
 
--- ---- from the item to the content of the line
+-- ---- and from the item to what the line stands for
 
--- a line read as malformed is malformed
+-- what is read as malformed is malformed
 malformed : (line : List ℕ) → item_of line ≡ Malformed → IsMalformed line
 malformed line e = record {
   not_passed = λ h. let is = passed_is line h in cc;
@@ -125,7 +125,7 @@ malformed line e = record {
     no (Frame stamp bytes) h is = cc
     no Malformed h is = h
 
--- an item with its body, after a text of its stamp
+-- an item with its body, behind a text of its stamp
 spelling : (line time rest : List ℕ) (stamp : ℕ) (item : LineItem) → line ≡ time ++ rest → IsNumberText stamp time → item_of line ≡ item
     → HasBody stamp item rest → StandsFor item line
 spelling line time rest stamp Pass split is read body = absurd body
@@ -160,7 +160,7 @@ spelling line time rest stamp (Frame own bytes) split is read body = record {
 }
 spelling line time rest stamp Malformed split is read body = malformed line read
 
--- the item read from a line is its content
+-- a line stands for what is read of it
 pub stands : (line : List ℕ) → StandsFor (item_of line) line
 unfolding item_of
 stands line = by (is_passed line) (number_in (prefix line)) refl refl
@@ -175,7 +175,7 @@ stands line = by (is_passed line) (number_in (prefix line)) refl refl
         spelling line (prefix line) (behind line) stamp (form_in stamp (behind line)) (sym (take-append-drop (prefix_len is_ascii_digit line) line))
         (text_of_number stamp (prefix line) (prefix_digits line) eo) (whole false (Some stamp) ep eo) (body_of_form stamp (behind line))
 
--- and the only one
+-- and for nothing else
 pub only : (line : List ℕ) (item : LineItem) → StandsFor item line → item ≡ item_of line
 only line Pass h = sym (passed_is line h)
 only line (Lnav stamp sat bits) h = sym (spelled (Lnav stamp sat bits) line h)

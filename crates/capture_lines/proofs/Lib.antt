@@ -8,4 +8,3 @@ pub mod Lateness
 pub mod Decimals
 pub mod Written
 pub mod Printed
-pub mod Surface

@@ -1,4 +1,4 @@
--- Stamps and their texts: the digits at the start of a line.
+-- Stamps and the texts of them: the digits that a line begins with.
 use Rattle.std.proofs.Common.{◌≡◌, ℕ, suc, ◌+◌, ◌-◌, ◌*◌, ◌^◌, ◌<◌, ◌≤◌, Bool, true, false, ◌&&◌, List, [], ◌∷◌, ◌++◌, length, take, Some, None, cond, add-one, refl, arith, nat_lt, nat_le, get_or}
 use Rattle.std.proofs.lemmas.Bool.{and_parts}
 use Rattle.std.proofs.lemmas.Str.Parse.{digit_from_value}
@@ -14,7 +14,7 @@ use Rattle.std.specs.Str.Parse.{AllDigits, digits_value}
 use Rattle.capture_lines.specs.Spellings.{IsNumberText}
 use Rattle.capture_lines.specs.Reading.{number_in}
 
--- a decimal digit is an ASCII digit
+-- a decimal digit is one of ASCII
 pub digit_passes : (c : ℕ) → digit_value c < 10 → is_ascii_digit c ≡ true
 digit_passes c h = let r = digit_from_value c h in grind (arith)
 
@@ -30,7 +30,7 @@ digit_range c h = let parts = and_parts (nat_le 48 c) (nat_le c 57) h in (leb-tr
 pub value_of_digit : (c : ℕ) → is_ascii_digit c ≡ true → digit_value c ≡ c - 48
 value_of_digit c h = let range = digit_range c h in grind (arith)
 
--- the digits at the start end where another byte follows
+-- the digits in front end where another byte comes
 pub digits_in_front : (time rest : List ℕ) (c : ℕ) → AllDigits 10 time → is_ascii_digit c ≡ false
     → prefix_len is_ascii_digit (time ++ c ∷ rest) ≡ length time
 digits_in_front [] rest c all other = rw other refl
@@ -39,7 +39,7 @@ digits_in_front (x ∷ xs) rest c all other =
     let ih = digits_in_front xs rest c all.1 other in
     rw (passes, ih) (omega arith)
 
--- the digits at the start are digits
+-- the digits in front are digits
 pub prefix_digits : (line : List ℕ) → AllDigits 10 (take (prefix_len is_ascii_digit line) line)
 prefix_digits [] = tt
 prefix_digits (x ∷ xs) = by (is_ascii_digit x) refl (prefix_digits xs)
@@ -51,7 +51,7 @@ prefix_digits (x ∷ xs) = by (is_ascii_digit x) refl (prefix_digits xs)
         rw one (passes_digit x e, rest)
     by false e rest = tt
 
--- a text of a stamp is read as the stamp
+-- a stamp's text is read as the stamp
 pub number_of_text : (stamp : ℕ) (text : List ℕ) → IsNumberText stamp text → number_in text ≡ Some stamp
 unfolding number_in
 number_of_text stamp text h =
@@ -75,17 +75,17 @@ text_of_number stamp text digits read = by (nat_lt 0 (length text)) (nat_le (len
     by true false c ea eb ec e = cc e
     by true true false ea eb ec e = cc e
 
--- the written text of a stamp is a text of it
+-- what is written of a stamp is a text of it
 pub decimal_is_text : (stamp : ℕ) → stamp < 2 ^ 32 → IsNumberText stamp (decimal stamp)
 decimal_is_text stamp fits =
     let is = decimal_is_IsNumeral stamp (omega arith) in
     record { numeral = is.0; short = length-decimal-le 10 stamp (omega arith) (omega arith) (omega arith); value = is.1; fits = fits }
 
--- a byte among the digits at the start is a digit
+-- a byte among the digits in front is a digit
 pub digit_at : (line : List ℕ) (i : ℕ) → i < prefix_len is_ascii_digit line → is_ascii_digit (get_or line i 0) ≡ true
 digit_at line i h = prefix_len_passes is_ascii_digit line i 0 h
 
--- the number with one more digit
+-- the number of one digit more
 pub next_value : (line : List ℕ) (i value digit : ℕ) → i < prefix_len is_ascii_digit line → value ≡ digits_value 10 (take i line) → value < 10 ^ i
     → digit ≡ get_or line i 0 - 48 → (value * 10 + digit ≡ digits_value 10 (take (i + 1) line)) × (value * 10 + digit < 10 ^ (i + 1))
 next_value line i value digit within is low digit_is =

@@ -1,4 +1,4 @@
--- A spelling has only printable ASCII characters and spaces, and is no longer than a line may be.
+-- A spelling has printed characters of ASCII alone, and is no longer than a line may be.
 use Rattle.std.proofs.Common.{◌≡◌, ℕ, ◌+◌, ◌/◌, ◌%◌, ◌<◌, ◌≤◌, ◌&&◌, nat_le, Bool, true, List, Ok, [], ◌∷◌, ◌++◌, length, refl, sym, ap, subst, ◌∙◌, arith, length-append}
 use borrow.Author.Tests.{leb-true}
 use Rattle.std.proofs.lemmas.Bool.{and_parts}
@@ -40,7 +40,7 @@ two_printed n xs low h =
     All-cons IsPrinted (48 + n / 10) ((48 + n % 10) ∷ xs) (omega arith, omega arith)
     (All-cons IsPrinted (48 + n % 10) xs (omega arith, omega arith) h)
 
--- a text whose characters all pass the test
+-- a text of which each character passes the test
 passes : ℕ → Bool
 passes c = nat_le 32 c && nat_le c 126
 
@@ -52,21 +52,21 @@ tested (c ∷ cs) h =
     let range = and_parts (nat_le 32 c) (nat_le c 126) parts.0 in
     All-cons IsPrinted c cs (leb-true 32 c range.0, leb-true c 126 range.1) (tested cs parts.1)
 
--- a known text at the start
+-- a known text in front
 behind : (text rest : List ℕ) → list_all passes text ≡ true → All IsPrinted rest → All IsPrinted (text ++ rest)
 behind text rest known h = All-append IsPrinted text rest (tested text known) h
 
--- a text of a stamp before the rest of a line
+-- a text of a stamp in front of the rest of a line
 line_printed : (stamp : ℕ) (time rest line : List ℕ) → IsNumberText stamp time → line ≡ time ++ rest → All IsPrinted rest → All IsPrinted line
 line_printed stamp time rest line is split h =
     subst (λ (xs : List ℕ). All IsPrinted xs) (sym split) (All-append IsPrinted time rest (decimal_printed time is.numeral.1) h)
 
--- digits after a space
+-- digits behind a blank
 digits_printed : (digits bytes : List ℕ) → decode_of digits ≡ Ok bytes → All IsPrinted (32 ∷ digits)
 unfolding passes
 digits_printed digits bytes h = behind (32 ∷ []) digits refl (hex_printed digits (decode_of-ok digits bytes h).1)
 
--- a spelling has only printable characters
+-- a spelling has printed characters alone
 pub printed : (item : LineItem) (line : List ℕ) → IsSpelling item line → All IsPrinted line
 unfolding passes
 printed Pass line h = absurd h

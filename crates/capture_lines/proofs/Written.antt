@@ -1,4 +1,4 @@
--- The written texts are spellings of their items followed by LF.
+-- The texts that are written are spellings of their items with LF behind them.
 use Rattle.std.proofs.Common.{◌≡◌, ℕ, ◌^◌, ◌<◌, ◌≤◌, List, length, refl, subst}
 use Rattle.std.specs.Prelude.{decimal}
 use Rattle.hex.specs.Hex.{IsBytes, encode_lower}

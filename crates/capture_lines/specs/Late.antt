@@ -1,9 +1,9 @@
--- Late and accepted lines.
+-- Late and accepted lines. A line of `Lines` has at most 2,200 bytes; a longer one is malformed.
 use Rattle.std.specs.Prelude.{◌≡◌, ℕ, ◌+◌, ◌<◌, max, List, [], ◌∷◌, ◌++◌, Contains, Option, Some, None, unwrap_or}
 use Rattle.capture_lines.specs.declared.item.LineItem.{LineItem}
 use Rattle.capture_lines.specs.declared.item.LineItem.TheVariants.{Pass, Lnav, Half, Frame, Malformed}
 
--- the stamp of an item; a skipped or malformed line has none
+-- the stamp of an item; a line that is passed or malformed has none
 abbrev pub stamp_of : LineItem → Option ℕ
 stamp_of Pass = None
 stamp_of (Lnav stamp sat bits) = Some stamp
@@ -11,7 +11,7 @@ stamp_of (Half stamp sat signal bits) = Some stamp
 stamp_of (Frame stamp bytes) = Some stamp
 stamp_of Malformed = None
 
--- a line with this stamp is late: the stamp plus the window is below the stamp of a line before it
+-- a line with this stamp is late behind the others: one of them has a stamp that is later by more than the window
 pub record IsLate (window : ℕ) (before : List LineItem) (stamp : ℕ) : Type 0 where
   pub other : LineItem
   pub other_stamp : ℕ
@@ -19,7 +19,7 @@ pub record IsLate (window : ℕ) (before : List LineItem) (stamp : ℕ) : Type 0
   pub stamp_is : stamp_of other ≡ Some other_stamp
   pub later : stamp + window < other_stamp
 
--- an item of the lines is accepted: it has a stamp and is not late after those before it
+-- an item stands among those of the lines, and it is not late behind those before it
 pub record IsAccepted (window : ℕ) (items : List LineItem) (item : LineItem) : Type 0 where
   pub before : List LineItem
   pub after : List LineItem

@@ -1,10 +1,10 @@
-//! Decoding of hexadecimal digits by a table: digits of random data are unpredictable, and branches on
-//! them slow.
+//! Hexadecimal digits, read by a table: which digit comes is not to be foreseen, so there is no
+//! branch for each.
 
 ghost use Rattle.std.specs.Prelude.{◌≡◌, ℕ, length, nat_lt, true, false, Some, MatchResult};
 ghost use Rattle.hex.specs.Hex.{decode_sized, hex_digit_value, is_hex_digit};
 
-// The value of a digit of either case; 32 for other bytes.
+// The value of a digit, of either case, and 32 of what is none.
 fn value_of(digit: u8) -> u8
     ensures digit { nat_lt result 16 ≡ is_hex_digit digit }
     ensures value { (value : ℕ) → hex_digit_value digit ≡ Some value → result ≡ value }
@@ -12,8 +12,8 @@ fn value_of(digit: u8) -> u8
     VALUES[digit as usize]
 }
 
-// Decodes hexadecimal digits, two for each byte of `into`; `false` where their number does not fit or
-// one is not a digit, and then the bytes have no meaning.
+// Writes the bytes of the digits, two for each, and says whether it could: where there are not two
+// for each byte, or one is no digit, what is then written means nothing.
 pub(crate) fn decode(digits: &[u8], into: &mut [u8]) -> bool
     ensures { MatchResult (decode_sized digits.now (length into.old))
         (λ bytes. (result ≡ true) × (into.new ≡ bytes)) (λ error. result ≡ false) }
@@ -32,7 +32,7 @@ pub(crate) fn decode(digits: &[u8], into: &mut [u8]) -> bool
     all < 16
 }
 
-// The value of each byte as a digit; 0x20 for other bytes.
+// The values of all bytes.
 const VALUES: [u8; 256] = [
     0x20, 0x20, 0x20, 0x20, 0x20, 0x20, 0x20, 0x20, 0x20, 0x20, 0x20, 0x20, 0x20, 0x20, 0x20, 0x20,
     0x20, 0x20, 0x20, 0x20, 0x20, 0x20, 0x20, 0x20, 0x20, 0x20, 0x20, 0x20, 0x20, 0x20, 0x20, 0x20,

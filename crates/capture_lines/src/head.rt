@@ -9,20 +9,21 @@ ghost use Rattle.capture_lines.specs.declared.head.CaptureHead.{CaptureHead};
 use crate::numbers::{decimal_number, digit_count};
 use gnss_week::RefWeek;
 
-/// The content of the first line of a capture.
+/// What the first line of a capture says.
 #[derive(Clone, Copy, PartialEq, Eq)]
 pub struct CaptureHead {
-    /// The window in seconds: how far a line's stamp may be below a later one's, and the longest gap
-    /// between parts of one period.
+    /// How many seconds a line may come behind a later one, and how long parts of one issue belong
+    /// together.
     pub window: u32,
-    /// The reference week, counted from 1980-01-06; `None` where the line has none.
+    /// The reference week by which the capture was heard, counted from 1980-01-06; `None` where the line
+    /// names none.
     pub week: Option<RefWeek>,
 }
 
-/// Reads the first line, without its line end: `NAVCAP 1`, with a window of 7,200 seconds and no week,
-/// or `NAVCAP 2 <week> <window>`, with a week of 1024 to 8191 and a window of 60 to 14,400 seconds, each
-/// in one to ten decimal digits. Words are separated by one space; there is no space at either end.
-/// `None` for every other line.
+/// What the first line says, without its end: `NAVCAP 1`, which has a window of 7,200 seconds and
+/// no week, or `NAVCAP 2 <week> <window>`, with the week 1024 to 8191 and the window 60 to 14,400
+/// seconds, each in one to ten decimal digits. One space stands between the words, and nothing
+/// before the first or behind the last. `None` exactly for every other line.
 #[tactic(auto, unfolding(crate::specs::Heads::head_of))]
 pub fn read_first(line: &[u8]) -> Option<CaptureHead>
     ensures head { result ≡ head_of line.now }
@@ -41,7 +42,7 @@ pub fn read_first(line: &[u8]) -> Option<CaptureHead>
     week_and_window(&line[9..])
 }
 
-// The head after `NAVCAP 2 `.
+// The head behind `NAVCAP 2 `.
 #[tactic(auto, unfolding(crate::specs::Heads::own_head))]
 fn week_and_window(rest: &[u8]) -> Option<CaptureHead>
     ensures { result ≡ own_head rest.now }
@@ -52,7 +53,7 @@ fn week_and_window(rest: &[u8]) -> Option<CaptureHead>
     in_range(week, window)
 }
 
-// The number after one space, up to the end of the text.
+// The number behind one space.
 #[tactic(auto, unfolding(crate::specs::Heads::number_behind, crate::specs::Heads::whole_number_in))]
 fn number_behind_a_space(rest: &[u8]) -> Option<u32>
     ensures { result ≡ number_behind rest.now }
@@ -68,7 +69,7 @@ fn number_behind_a_space(rest: &[u8]) -> Option<u32>
     decimal_number(text, count)
 }
 
-// The head of a week and a window; `None` where one is out of range.
+// The head of a week and a window, where both are in their ranges.
 #[tactic(auto, unfolding(crate::specs::Heads::ranged))]
 fn in_range(week: u32, window: u32) -> Option<CaptureHead>
     ensures { result ≡ ranged week window }

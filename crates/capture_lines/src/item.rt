@@ -1,41 +1,41 @@
-//! The content of a line.
+//! What a line stands for.
 
 use arrayvec::ArrayVec;
 use nav_bits::Bits;
 use nav_eph::{Sat, Signal};
 
-/// The greatest length of an RTCM frame in bytes (RTCM 10403.3, transport layer).
+/// The most bytes of an RTCM frame (RTCM 10403.3, the transport layer).
 pub(crate) const LONGEST_FRAME: usize = 1029;
 
-/// The content of a line of a capture.
+/// What a line of a capture stands for.
 #[derive(PartialEq, Eq, Drop)]
 pub enum LineItem {
-    /// A skipped line: it has at most 2,200 bytes, and begins with `#`, is empty or has only
-    /// spaces.
+    /// A line that is passed: one of at most 2,200 bytes that begins with `#`, is empty, or has
+    /// blanks alone.
     Pass,
-    /// A subframe of the GPS LNAV message.
+    /// A subframe of the LNAV message of GPS.
     Lnav {
-        /// The stamp at which it was received, in seconds of the logger's clock.
+        /// The second at which it was heard, as the logger counts.
         stamp: u32,
-        /// The GPS satellite.
+        /// The satellite, of GPS.
         sat: Sat,
-        /// The 300 bits, followed by four that are ignored.
+        /// The 300 bits, and behind them four that are not looked at.
         bits: Bits<38>,
     },
-    /// A page part of the Galileo I/NAV message.
+    /// A half of a page of the I/NAV message of Galileo.
     Half {
-        /// The stamp at which it was received, in seconds of the logger's clock.
+        /// The second at which it was heard, as the logger counts.
         stamp: u32,
-        /// The Galileo satellite.
+        /// The satellite, of Galileo.
         sat: Sat,
-        /// The signal on which it was received.
+        /// The signal on which it was heard.
         signal: Signal,
         /// The 120 bits.
         bits: Bits<15>,
     },
-    /// The bytes of an RTCM frame, not checked.
+    /// Bytes that stand where an RTCM frame should.
     Frame {
-        /// The stamp at which it was received, in seconds of the logger's clock.
+        /// The second at which it was heard, as the logger counts.
         stamp: u32,
         /// The bytes, 6 to 1,029.
         bytes: ArrayVec<u8, LONGEST_FRAME>,

@@ -1,4 +1,4 @@
-//! Laws of lines; each function does nothing, and its contract is the law.
+//! Laws of lines: each function does nothing, and its contract is the law.
 
 ghost use Rattle.std.specs.Prelude.{◌≡◌, ◌+◌, ◌^◌, ◌<◌, ◌≤◌, ◌↔◌, ℕ, List, Some, All, length};
 ghost use Rattle.hex.specs.Hex.{IsBytes};
@@ -14,31 +14,31 @@ ghost use Rattle.capture_lines.specs.Texts.{frame_text, half_text, lnav_text};
 ghost use Rattle.capture_lines.specs.declared.head.CaptureHead.{CaptureHead};
 ghost use Rattle.capture_lines.specs.declared.item.LineItem.{LineItem};
 
-/// `head_of` gives a head exactly for its spellings; so a first line is a spelling of at most one
-/// head.
+/// A first line says what a head says exactly where it is one of the spellings of the head; so it
+/// is one of one head at most.
 pub fn each_first_line_is_one_head()
     ensures { (line : List ℕ) (head : CaptureHead) → (head_of line ≡ Some head) ↔ IsHead head line }
 {}
 
-/// Each line has exactly one content: an item of which it is a spelling, a line to be skipped, or
+/// Every line stands for exactly one thing: an item of which it is a spelling, nothing, or it is
 /// malformed.
 pub fn each_line_stands_for_one_thing()
     ensures some { (line : List ℕ) → StandsFor (item_of line) line }
     ensures only { (line : List ℕ) (item : LineItem) → StandsFor item line → item ≡ item_of line }
 {}
 
-/// The stamp of an item is below 2^32.
+/// The stamp of an item is at most 4,294,967,295.
 pub fn stamps_have_32_bits()
     ensures { (line : List ℕ) (stamp : ℕ) → stamp_of (item_of line) ≡ Some stamp → stamp < 2 ^ 32 }
 {}
 
-/// A line is late exactly where its stamp plus the window is below the greatest stamp before it.
+/// A line is late exactly where its stamp and the window are below the greatest stamp before it.
 pub fn late_is_behind_the_greatest_stamp()
     ensures { (window : ℕ) (before : List LineItem) (stamp : ℕ)
         → IsLate window before stamp ↔ (stamp + window < greatest_stamp before) }
 {}
 
-/// A spelling of an item has only printable ASCII characters and spaces, so no line end, and at most
+/// A spelling of an item has printed characters and blanks alone, so no end of a line, and at most
 /// 2,200 of them.
 pub fn spellings_are_lines()
     ensures printed { (item : LineItem) (line : List ℕ) → IsSpelling item line
@@ -46,7 +46,7 @@ pub fn spellings_are_lines()
     ensures short { (item : LineItem) (line : List ℕ) → IsSpelling item line → length line ≤ 2200 }
 {}
 
-/// The written texts of items are their spellings followed by LF.
+/// The texts of items are lines that stand for them, with LF behind.
 pub fn texts_stand_for_their_items()
     ensures lnav { (stamp : ℕ) (sat : Satellite) (bits : List ℕ) → stamp < 2 ^ 32 → sat.system ≡ Gps
         → IsSat sat.system sat.number → IsBytes bits → length bits ≡ 38

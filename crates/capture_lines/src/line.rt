@@ -14,21 +14,21 @@ use arrayvec::ArrayVec;
 use nav_bits::Bits;
 use nav_eph::{Sat, Signal, System};
 
-// The least and greatest number of hexadecimal digits of a frame.
+// The fewest and the most hexadecimal digits of a frame.
 const FEWEST_DIGITS: usize = 12;
 
 const MOST_DIGITS: usize = 2058;
 
-// The greatest length of a skipped line in bytes.
+// The most bytes of a line that is passed.
 const LONGEST_COMMENT: usize = 2200;
 
-/// Reads a line of a capture, without its line end.
+/// What a line of a capture stands for, without its end.
 ///
-/// A line is `stamp L G05 hex` (LNAV subframe, 76 digits), `stamp P E11 B hex` (I/NAV page part, 30
-/// digits; `B` for E1-B, `5` for E5b) or `stamp R hex` (RTCM frame, 12 to 2,058 digits, an even number),
-/// its words separated by one space. The stamp has one to ten decimal digits and is at most
-/// 4,294,967,295; hexadecimal digits are of either case. A line of at most 2,200 bytes that begins with
-/// `#`, is empty or has only spaces is `Pass`; every other line is `Malformed`.
+/// A line is `stamp L G05 hex` (76 digits), `stamp P E11 B hex` (30 digits; `5` for E5b in place of
+/// `B`) or `stamp R hex` (12 to 2,058 digits, an even number), its words separated by one space.
+/// The stamp has one to ten decimal digits and is at most 4,294,967,295; hexadecimal digits are of
+/// either case. A line of at most 2,200 bytes that begins with `#`, is empty or has blanks alone is
+/// `Pass`; every other line is `Malformed`.
 pub fn read_line(line: &[u8]) -> LineItem
     ensures item { result ≡ item_of line.now }
     ensures stands { StandsFor result line.now }
@@ -38,8 +38,8 @@ pub fn read_line(line: &[u8]) -> LineItem
     item
 }
 
-/// [`read_line`] into an item of the caller's, whatever it was before. An item has room for a whole
-/// frame, so this saves a move of that size.
+/// [`read_line`] into an item of the caller's, whatever it was before: an item has room for a whole
+/// frame, and so nothing of that size is moved.
 #[tactic(auto, unfolding(crate::specs::Reading::item_of))]
 pub fn read_line_into(line: &[u8], item: &mut LineItem)
     ensures item { item.new ≡ item_of line.now }
@@ -56,14 +56,14 @@ pub fn read_line_into(line: &[u8], item: &mut LineItem)
     }
 }
 
-// Whether the line is skipped.
+// Whether the line is passed.
 fn is_passed_line(line: &[u8]) -> bool
     ensures { result ≡ is_passed line.now }
 {
     line.len() <= LONGEST_COMMENT && (begins_comment(line) || has_blanks_alone(line))
 }
 
-// Whether the line has only spaces.
+// Whether the line has no byte but blanks.
 fn has_blanks_alone(line: &[u8]) -> bool
     ensures { result ≡ list_all (λ c. c == 32) line.now }
 {
@@ -84,7 +84,7 @@ fn begins(text: &[u8], prefix: &[u8]) -> bool
     text.starts_with(prefix)
 }
 
-// Reads what follows the stamp.
+// What stands behind the stamp.
 #[tactic(auto, unfolding(crate::specs::Reading::form_in))]
 fn read_form(stamp: u32, rest: &[u8], item: &mut LineItem)
     ensures { item.new ≡ form_in stamp rest.now }
@@ -100,7 +100,7 @@ fn read_form(stamp: u32, rest: &[u8], item: &mut LineItem)
     }
 }
 
-// The satellite with a number of two digits; `None` where it is out of range.
+// The satellite of a system whose number two digits write.
 #[tactic(auto, unfolding(crate::specs::Reading::satellite_in))]
 fn satellite(system: System, tens: u8, units: u8) -> Option<Sat>
     ensures { result ≡ satellite_in system tens units }
@@ -111,7 +111,7 @@ fn satellite(system: System, tens: u8, units: u8) -> Option<Sat>
     Sat::new(system, (tens - b'0') * 10 + (units - b'0'))
 }
 
-// The signal of its letter.
+// The signal of a letter.
 #[tactic(auto, unfolding(crate::specs::Reading::signal_in))]
 fn signal_of(letter: u8) -> Option<Signal>
     ensures { result ≡ signal_in letter }
@@ -123,7 +123,7 @@ fn signal_of(letter: u8) -> Option<Signal>
     }
 }
 
-// Reads an LNAV subframe.
+// A subframe.
 #[tactic(auto, unfolding(crate::specs::Reading::lnav_in))]
 fn read_lnav(stamp: u32, rest: &[u8], item: &mut LineItem)
     ensures { item.new ≡ lnav_in stamp rest.now }
@@ -144,8 +144,8 @@ fn read_lnav(stamp: u32, rest: &[u8], item: &mut LineItem)
     put_lnav(stamp, sat, Bits::from_bytes(bytes), item);
 }
 
-// Stores a subframe. A newly written item is cleared to its full size, so where the item is a subframe
-// already only its fields are changed.
+// Puts a subframe. Whatever is put anew is cleared to its full size, so that in a subframe the
+// parts alone are changed.
 fn put_lnav(stamp: u32, sat: Sat, bits: Bits<38>, item: &mut LineItem)
     ensures { item.new ≡ Lnav stamp sat bits }
 {
@@ -163,7 +163,7 @@ fn put_lnav(stamp: u32, sat: Sat, bits: Bits<38>, item: &mut LineItem)
     }
 }
 
-// Reads an I/NAV page part.
+// A page half.
 #[tactic(auto, unfolding(crate::specs::Reading::half_in))]
 fn read_half_line(stamp: u32, rest: &[u8], item: &mut LineItem)
     ensures { item.new ≡ half_in stamp rest.now }
@@ -188,7 +188,7 @@ fn read_half_line(stamp: u32, rest: &[u8], item: &mut LineItem)
     put_half(stamp, sat, signal, Bits::from_bytes(bytes), item);
 }
 
-// Stores a page part, in the same way.
+// Puts a page half, in the same way.
 fn put_half(stamp: u32, sat: Sat, signal: Signal, bits: Bits<15>, item: &mut LineItem)
     ensures { item.new ≡ Half stamp sat signal bits }
 {
@@ -213,7 +213,7 @@ fn put_half(stamp: u32, sat: Sat, signal: Signal, bits: Bits<15>, item: &mut Lin
     }
 }
 
-// Reads a frame from its hexadecimal digits.
+// A frame, of these digits.
 #[tactic(auto, unfolding(crate::specs::Reading::frame_in))]
 fn read_frame(stamp: u32, digits: &[u8], item: &mut LineItem)
     ensures { item.new ≡ frame_in stamp digits.now }
@@ -231,7 +231,7 @@ fn read_frame(stamp: u32, digits: &[u8], item: &mut LineItem)
     put_frame(stamp, &room[..count], item);
 }
 
-// Stores a frame, in the same way.
+// Puts a frame, in the same way.
 fn put_frame(stamp: u32, bytes: &[u8], item: &mut LineItem)
     requires { length bytes.now ≤ 1029 }
     ensures { item.new ≡ Frame stamp (record { items = bytes.now }) }
@@ -251,7 +251,7 @@ fn put_frame(stamp: u32, bytes: &[u8], item: &mut LineItem)
     }
 }
 
-// Replaces the bytes.
+// These bytes in place of others.
 fn refill(into: &mut ArrayVec<u8, LONGEST_FRAME>, bytes: &[u8])
     requires { length bytes.now ≤ 1029 }
     ensures { into.new.items ≡ bytes.now }
@@ -262,7 +262,7 @@ fn refill(into: &mut ArrayVec<u8, LONGEST_FRAME>, bytes: &[u8])
     }
 }
 
-// A copy of the bytes.
+// These bytes.
 fn copied(bytes: &[u8]) -> ArrayVec<u8, LONGEST_FRAME>
     requires { length bytes.now ≤ 1029 }
     ensures { result.items ≡ bytes.now }

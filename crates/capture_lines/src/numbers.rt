@@ -1,5 +1,5 @@
-//! Decimal numbers: stamps in seconds of the logger's clock, and the week and window of the first
-//! line.
+//! Numbers in decimal digits: stamps, which are seconds of the logger, and the week and the window
+//! of a head.
 
 ghost use Rattle.std.specs.Prelude.{◌≡◌, ◌+◌, ◌^◌, ◌<◌, ◌≤◌, ◌++◌, length, take, decimal};
 ghost use Rattle.std.specs.List.{prefix_len};
@@ -10,21 +10,20 @@ ghost use Rattle.capture_lines.specs.Reading.{number_in};
 
 use crate::LineText;
 
-// The greatest number of digits.
+// The most digits of a number.
 const MOST_DIGITS: usize = 10;
 
 // The greatest number.
 const GREATEST: u64 = 4_294_967_295;
 
-// The number of decimal digits at the start of the line.
+// How many digits the line begins with.
 pub(crate) fn digit_count(line: &[u8]) -> usize
     ensures { result ≡ prefix_len is_ascii_digit line.now }
 {
     line.iter().take_while(|byte| byte.is_ascii_digit()).count()
 }
 
-// The number of the digits at the start of the line; `None` for no digit, more than ten, or a value
-// of 2^32 or more.
+// The number of the digits that the line begins with.
 #[tactic(auto, unfolding(crate::specs::Reading::number_in))]
 pub(crate) fn decimal_number(line: &[u8], count: usize) -> Option<u32>
     requires { count ≡ prefix_len is_ascii_digit line.now }
@@ -40,7 +39,7 @@ pub(crate) fn decimal_number(line: &[u8], count: usize) -> Option<u32>
     Some(value as u32)
 }
 
-// The value of the digits at the start of the line, at most ten.
+// The number of the digits that the line begins with, ten at most.
 fn value_of(line: &[u8], count: usize) -> u64
     requires digits { count ≡ prefix_len is_ascii_digit line.now }
     requires short { count ≤ 10 }

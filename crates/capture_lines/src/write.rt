@@ -14,12 +14,12 @@ use hex::encode_to_slice;
 use nav_bits::Bits;
 use nav_eph::{Sat, Signal};
 
-/// A buffer for a line and its line end.
+/// Room for a line and its end.
 pub type LineText = ArrayVec<u8, 2201>;
 
-/// Writes the line of a subframe of a GPS satellite, received at a stamp in seconds of the logger's
-/// clock, into an empty buffer: `stamp L G05 hex` and LF. The stamp has no leading zeros, the 76
-/// hexadecimal digits are in lower case.
+/// Writes the line of a subframe of a satellite of GPS, heard at that second of the logger, into an
+/// empty text: `stamp L G05 hex`, LF at the end. The stamp has no leading zeros, the 76 hexadecimal
+/// digits are in lower case.
 pub fn write_lnav(stamp: u32, sat: Sat, bits: &Bits<38>, into: &mut LineText)
     requires empty { into.old.items ≡ [] }
     requires system { sat.system ≡ Gps }
@@ -34,9 +34,9 @@ pub fn write_lnav(stamp: u32, sat: Sat, bits: &Bits<38>, into: &mut LineText)
     into.push(b'\n');
 }
 
-/// Writes the line of a page part of a Galileo satellite into an empty buffer: `stamp P E11 B hex` and
-/// LF, with `B` for E1-B and `5` for E5b. The stamp has no leading zeros, the 30 hexadecimal digits are
-/// in lower case.
+/// Writes the line of a page half of a satellite of Galileo into an empty text: `stamp P E11 B
+/// hex`, with `5` for E5b in place of `B`, LF at the end. The stamp has no leading zeros, the 30
+/// hexadecimal digits are in lower case.
 pub fn write_half_line(stamp: u32, sat: Sat, signal: Signal, bits: &Bits<15>, into: &mut LineText)
     requires empty { into.old.items ≡ [] }
     requires system { sat.system ≡ Gal }
@@ -53,8 +53,8 @@ pub fn write_half_line(stamp: u32, sat: Sat, signal: Signal, bits: &Bits<15>, in
     into.push(b'\n');
 }
 
-/// Writes the line of a frame of 6 to 1,029 bytes into an empty buffer: `stamp R hex` and LF. The stamp
-/// has no leading zeros, the hexadecimal digits, two for each byte, are in lower case.
+/// Writes the line of a frame of 6 to 1,029 bytes into an empty text: `stamp R hex`, LF at the end.
+/// The stamp has no leading zeros, the hexadecimal digits, two for each byte, are in lower case.
 pub fn write_rtcm(stamp: u32, frame: &[u8], into: &mut LineText)
     requires empty { into.old.items ≡ [] }
     requires shortest { 6 ≤ length frame.now }
@@ -68,7 +68,7 @@ pub fn write_rtcm(stamp: u32, frame: &[u8], into: &mut LineText)
     into.push(b'\n');
 }
 
-// Writes the digits of the stamp into an empty buffer.
+// Writes the digits of the stamp into an empty text.
 #[tactic(auto, using(crate::proofs::Decimals::ten_digits))]
 fn begin(stamp: u32, into: &mut LineText)
     requires { into.old.items ≡ [] }
@@ -99,7 +99,7 @@ fn push_text(text: &[u8], into: &mut LineText)
     }
 }
 
-// Appends a number below 100 in two digits.
+// Appends a number in two digits.
 fn push_two_digits(number: u8, into: &mut LineText)
     requires room { array_vec_len into.old + 2 ≤ 2201 }
     requires fits { number < 100 }

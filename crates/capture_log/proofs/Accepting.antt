@@ -1,4 +1,4 @@
--- What is accepted, and received, with one more item.
+-- What is accepted, and heard, with one more item.
 use Rattle.std.proofs.Common.{◌≡◌, ℕ, ◌⊎◌, max, inl, inr, false, List, [], ◌∷◌, ◌++◌, Some}
 use Rattle.std.proofs.Common.{unwrap_or, refl, sym, ap, subst, ◌∙◌, ⊎_elim, append_assoc, arith}
 use Rattle.nav_eph.specs.Satellite.{Satellite}
@@ -19,14 +19,14 @@ pub greatest_more : (items : List LineItem) (item : LineItem)
 greatest_more [] item = omega arith
 greatest_more (x ∷ xs) item = let rest = greatest_more xs item in omega arith
 
--- the last item is another one, and in time
+-- the last of the items is another, and it is in time
 pub record IsNewest (w : ℕ) (items : List LineItem) (item other : LineItem) : Type 0 where
   pub is : item ≡ other
   pub stamp : ℕ
   pub stamp_is : stamp_of other ≡ Some stamp
   pub in_time : IsLate w items stamp → ⊥
 
--- what is accepted stays accepted with more items after it
+-- what is accepted in front stays accepted
 pub prefix_accepted : (w : ℕ) (items more : List LineItem) (other : LineItem)
     → IsAccepted w items other → IsAccepted w (items ++ more) other
 prefix_accepted w items more other h = record {
@@ -67,7 +67,7 @@ accepted_cases w items item other h = elim (last_or_not items h.before h.after i
   })
 ]
 
--- ---- where more is accepted, more is received
+-- ---- where more is accepted, more is heard
 
 module _ (w : ℕ) (items more : List LineItem) (keeps : (item : LineItem) → IsAccepted w items item → IsAccepted w more item) where
   pub half_keeps : (half : StampedHalf) → IsHalfHeard w items half → IsHalfHeard w more half
@@ -103,9 +103,9 @@ module _ (w : ℕ) (items more : List LineItem) (keeps : (item : LineItem) → I
       inr (⊎_elim (λ (one : IsOfFrame w items part). inl (frame_keeps part one)) (λ (one : IsOfWord w items part). inr (word_keeps part one)) rest))
       h
 
--- ---- a page part that is received with one more item is an earlier one, or the item's
+-- ---- a half that is heard with one more item is an earlier one, or that of the item
 
--- the item is a page part in time, and no alert
+-- the item is a half in time that is no alert
 pub record IsNewHalf (w : ℕ) (items : List LineItem) (item : LineItem) (half : StampedHalf) : Type 0 where
   pub stamp : ℕ
   pub sat : Satellite
@@ -144,12 +144,12 @@ half_cases w items item half h = elim (accepted_cases w items item (Half h.stamp
   })
 ]
 
--- the page part's fields determine the item's
+-- what is made of the fields of a half is made of the item
 pub of_half_item : {X : Type 0} (f : ℕ → Satellite → Signal → List ℕ → X) (s t : ℕ) (a b : Satellite) (g h : Signal) (xs ys : List ℕ)
     → Half s a g xs ≡ Half t b h ys → f s a g xs ≡ f t b h ys
 of_half_item f s t a b g h xs ys e = cc
 
--- all new page parts of an item are one
+-- all new halves of an item are one
 pub new_half_one : (w : ℕ) (items : List LineItem) (item : LineItem) (one other : StampedHalf)
     → IsNewHalf w items item one
     → IsNewHalf w items item other → one ≡ other

@@ -1,4 +1,4 @@
--- The parts in the log of all items are those received in them.
+-- The parts in the log of all items are those heard of them.
 use Rattle.std.proofs.Common.{◌≡◌, ℕ, ◌+◌, ◌⊎◌, ◌↔◌, inl, inr, List, [], ◌∷◌, ◌++◌, Contains, refl}
 use Rattle.std.proofs.Common.{sym, ap, subst, ⊎_elim, append_assoc, append-nil}
 use Rattle.std.proofs.lemmas.List.Concat.{flat_map-append}
@@ -17,7 +17,7 @@ use Rattle.capture_log.proofs.Accepting.{prefix_accepted, part_keeps}
 use Rattle.capture_log.proofs.Knowing.{HalfLaws, Knows, knows_more}
 use Rattle.capture_log.proofs.Bringing.{yielded_heard, heard_cases}
 
--- ---- the parts of logged events
+-- ---- the parts of noted events
 
 event_to : (event : Event) (part : Part) → In (parts_of_event event) part → event ≡ Heard part
 event_to (Heard p) part (inl e) = ap Heard e

@@ -1,4 +1,4 @@
--- What is received depends on the set of items, not on their order.
+-- Which items are heard decides what is heard, and not how they come.
 use Rattle.std.proofs.Common.{◌≡◌, ℕ, ◌↔◌, List, Contains, Some}
 use Rattle.nav_eph.specs.declared.part.Part.{Part}
 use Rattle.periods.specs.PeriodLists.{ArePeriods, AreClosed}
@@ -12,7 +12,7 @@ use Rattle.capture_log.specs.Heard.{IsPartHeard, SameItems, NoneLate}
 use Rattle.capture_log.proofs.Lists.{contains_from_in, in_middle}
 use Rattle.capture_log.proofs.Accepting.{part_keeps}
 
--- what is accepted of some items is accepted of the same set, where none is late
+-- what is accepted of some items is accepted of the same ones, where none is late
 accepted_there : (w : ℕ) (some other : List LineItem)
     → ((item : LineItem) (s : ℕ) → stamp_of item ≡ Some s → Contains some item → Contains other item)
     → NoneLate w other → (item : LineItem) → IsAccepted w some item → IsAccepted w other item
@@ -20,7 +20,7 @@ accepted_there w some other same none item h =
     none item h.stamp h.stamp_is
     (same item h.stamp h.stamp_is (contains_from_in some item (in_middle h.before h.after some item h.place)))
 
--- so the same is received
+-- so the same is heard
 pub heard_there : (w : ℕ) (some other : List LineItem) → SameItems some other → NoneLate w some
     → NoneLate w other → (part : Part)
     → IsPartHeard w some part ↔ IsPartHeard w other part
@@ -29,7 +29,7 @@ heard_there w some other same first second part = (
   λ h. part_keeps w other some (accepted_there w other some (λ item s is there. (same item s is).1 there) first) part h,
 )
 
--- the parts in the log of some items are those received in them
+-- the parts in the log of some items are those heard of them
 abbrev pub TakesHeard : Type 0
 TakesHeard = (w number : ℕ) (items : List LineItem) (part : Part)
     → Contains (parts_in (log_from w nothing_known number items)) part ↔ IsPartHeard w items part
@@ -44,7 +44,7 @@ taken_there taken w m n some other same first second part =
       λ h. (taken w m some part).1 (there.1 ((taken w n other part).0 h)),
     )
 
--- the periods of the log are those of what is received
+-- the periods of the log are those of what is heard
 pub periods_heard : (taken : TakesHeard) (r w number : ℕ) (items : List LineItem)
     → ArePeriods r w (Contains (parts_in (log_from w nothing_known number items))) (periods_of r w (parts_in (log_from w nothing_known number items)))
     → ArePeriods r w (IsPartHeard w items) (periods_of r w (parts_in (log_from w nothing_known number items)))

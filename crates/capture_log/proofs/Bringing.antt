@@ -1,4 +1,4 @@
--- The events of one more item are what is received with it and was not before.
+-- What one more item yields is what is heard with it and was not heard before.
 use Rattle.std.proofs.Common.{◌≡◌, ℕ, ◌⊎◌, inl, inr, true, false, if◌then◌else◌, List, [], ◌∷◌}
 use Rattle.std.proofs.Common.{◌++◌, Contains, Some, refl, sym, ap, subst, ◌∙◌, ⊎_elim}
 use Rattle.std.proofs.lemmas.Bool.{cond_both, both_ways}
@@ -51,7 +51,7 @@ stamp_is : (a b : ℕ) → Some a ≡ Some b → a ≡ b
 stamp_is a b e = cc
 
 module _ (laws : HalfLaws) (w : ℕ) (items : List LineItem) (known : Known) (knows : Knows w items known) (part : Part) where
-  -- a word of a page part and an earlier one is received
+  -- a word of a half and of those before it is heard
   pair_heard : (item : LineItem) (taken even odd : StampedHalf)
       → IsHalfHeard w (items ++ item ∷ []) taken
       → IsHeardWith (Contains known.halves) taken even odd
@@ -67,7 +67,7 @@ module _ (laws : HalfLaws) (w : ℕ) (items : List LineItem) (known : Known) (kn
       record { even_among = still even second.0; odd_among = subst (IsHalfHeard w more) second.1 own; make = h.0 })
       h.1
 
-  -- the words of a page part give what is received
+  -- what the words of a half yield is heard
   words_heard : (item : LineItem) (taken : StampedHalf) → IsHalfHeard w (items ++ item ∷ []) taken
       → In (of_words taken (words_of known.halves taken)) (Heard part)
       → IsPartHeard w (items ++ item ∷ []) part
@@ -81,7 +81,7 @@ module _ (laws : HalfLaws) (w : ℕ) (items : List LineItem) (known : Known) (kn
         is = contains_from_in (word_events (word_of pair.0.half pair.1.half) pair.1.sat pair.1.stamp) (Heard part) pair.3;
       }))
 
-  -- the item gives what is received with it
+  -- what the item yields is heard with it
   pub yielded_heard : (item : LineItem) → In (events_of w known item) (Heard part)
       → IsPartHeard w (items ++ item ∷ []) part
   unfolding events_of
@@ -129,7 +129,7 @@ module _ (laws : HalfLaws) (w : ℕ) (items : List LineItem) (known : Known) (kn
       (λ new k. words_heard item own (half_heard laws w items known knows stamp sat signal bits timely nominal) k)))
       h
 
-  -- ---- what is received with it was received before, or it gives it
+  -- ---- and what is heard with it was heard, or it yields it
 
   in_late : (stamp : ℕ) (events : List Event) → (IsLate w items stamp → ⊥) → In events (Heard part)
       → In (if is_late w known stamp then Late ∷ [] else events) (Heard part)
@@ -170,7 +170,7 @@ module _ (laws : HalfLaws) (w : ℕ) (items : List LineItem) (known : Known) (kn
         inr (subst (λ i. In (events_of w known i) (Heard part)) (sym (new.is ∙ h.item_is)) (yields_frame h.stamp h.bytes timely h.is))
   ]
 
-  -- a new page part gives the words that it completes with earlier ones
+  -- a half that is new yields the words that it makes with those before it
   yields_words : (stamp : ℕ) (sat : Satellite) (signal : Signal) (bits : List ℕ)
       → (IsLate w items stamp → ⊥) → is_alert bits ≡ false
       → has_half known.halves (half_of stamp sat signal bits) ≡ false
@@ -188,7 +188,7 @@ module _ (laws : HalfLaws) (w : ℕ) (items : List LineItem) (known : Known) (kn
       (λ there. absurd (both_ways (has_half known.halves own) new there))
       (λ m. h)))
 
-  -- the pair of a page part that was received before was received
+  -- the pair of a half that was heard was heard
   pair_was : (taken even odd : StampedHalf) → IsHalfHeard w items taken
       → IsHeardWith (IsHalfHeard w items) taken even odd
       → IsHeard (IsHalfHeard w items) even odd
@@ -200,7 +200,7 @@ module _ (laws : HalfLaws) (w : ℕ) (items : List LineItem) (known : Known) (kn
       record { even_among = second.0; odd_among = subst (IsHalfHeard w items) second.1 there; make = h.0 })
       h.1
 
-  -- among the page parts in the state
+  -- among the halves that are known
   pair_known : (taken even odd : StampedHalf) → IsHeardWith (IsHalfHeard w items) taken even odd
       → IsHeardWith (Contains known.halves) taken even odd
   pair_known taken even odd h = (
@@ -211,7 +211,7 @@ module _ (laws : HalfLaws) (w : ℕ) (items : List LineItem) (known : Known) (kn
         h.1,
   )
 
-  -- a word of the item's page part and an earlier one
+  -- a word of the item's half and an earlier one
   pair_new : (item : LineItem) (taken even odd : StampedHalf) → IsNewHalf w items item taken
       → IsHeardWith (IsHalfHeard w items) taken even odd
       → Contains (word_events (word_of even.half odd.half) odd.sat odd.stamp) (Heard part)
@@ -237,7 +237,7 @@ module _ (laws : HalfLaws) (w : ℕ) (items : List LineItem) (known : Known) (kn
       inr (subst (λ i. In (events_of w known i) (Heard part)) (sym new.is)
       (yields_words new.stamp new.sat new.signal new.bits new.in_time new.nominal fresh_own own_words)))
 
-  -- a word of which one page part is the item's
+  -- a word of which one half is the item's
   word_of_new : (item : LineItem) (taken : StampedHalf) → IsNewHalf w items item taken
       → IsOfWord w (items ++ item ∷ []) part
       → IsPartHeard w items part ⊎ In (events_of w known item) (Heard part)
@@ -272,7 +272,7 @@ module _ (laws : HalfLaws) (w : ℕ) (items : List LineItem) (known : Known) (kn
       (λ (new : IsNewHalf w items item h.even). word_of_new item h.even new h)
       (half_cases w items item h.even h.heard.even_among)
 
-  -- what is received with one more item was received before, or the item gives it
+  -- what is heard with one more item was heard before, or the item yields it
   pub heard_cases : (item : LineItem) → IsPartHeard w (items ++ item ∷ []) part
       → IsPartHeard w items part ⊎ In (events_of w known item) (Heard part)
   heard_cases item h =

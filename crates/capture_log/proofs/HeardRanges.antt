@@ -1,4 +1,4 @@
--- Each received part has its fields within their widths, and a satellite of its system.
+-- Each part heard has its fields within their digits, and its satellite is one of its system.
 use Rattle.std.proofs.Common.{◌≡◌, ℕ, ◌⊎◌, List, All, Ok, sym, ap, subst, ◌∙◌, ⊎_elim}
 use Rattle.std.proofs.lemmas.Bool.{cond_both}
 use Rattle.std.proofs.lemmas.List.Elements.{All-contains}
@@ -49,7 +49,7 @@ line_sat : ((line : List ℕ) → StandsFor (item_of line) line) → (line : Lin
 line_sat stands line =
     cond_both line.long MalformedItem (item_of line.text) HasSat (λ long. tt) (λ short. item_sat line.text (item_of line.text) (stands line.text))
 
--- what is read has each field within its width and the sender's satellite; that of a message is one of its system
+-- what is read has each field of its content within its digits, and the satellite of which it was heard; a message's is one of its system
 pub record ReadsRanges : Type 0 where
   pub subframes : (bits : List ℕ) (sat : Satellite) (stamp : ℕ) (part : Part) → subframe_of bits sat stamp ≡ Ok part → HasBodyRanges part.body
   pub subframe_sats : (bits : List ℕ) (sat : Satellite) (stamp : ℕ) (part : Part) → subframe_of bits sat stamp ≡ Ok part → part.sat ≡ sat

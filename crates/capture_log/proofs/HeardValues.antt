@@ -1,4 +1,4 @@
--- A reader gives parts with the stamp of what it reads, and all received parts are values.
+-- What is read yields parts with the stamp of what was read, and all parts heard are values.
 use Rattle.std.proofs.Common.{◌≡◌, ℕ, ◌^◌, ◌<◌, ◌⊎◌, inl, inr, List, [], ◌∷◌, All, Option, None}
 use Rattle.std.proofs.Common.{Some, Result, Ok, Err, refl, sym, ap, subst, ⊎_elim}
 use Rattle.std.proofs.lemmas.Bool.{cond_both}
@@ -30,7 +30,7 @@ use Rattle.capture_log.specs.Events.{of_message_fault, of_message, is_frame, of_
 use Rattle.capture_log.specs.Heard.{IsOfSubframe, IsOfFrame, IsOfWord, IsPartHeard}
 use Rattle.capture_log.proofs.Lists.{In, in_from_contains, contains_from_in, in_middle}
 
--- ---- a part that is received is one that a reader gives
+-- ---- an event that is heard is that of a part read
 
 heard_part : (a b : Part) → Heard a ≡ Heard b → a ≡ b
 heard_part a b e = cc
@@ -56,7 +56,7 @@ second_read None part h = absurd h
 second_read (Some own) part (inl e) = inl (heard_part own part e)
 second_read (Some own) part (inr h) = absurd h
 
--- the part is one of a word
+-- the part is one of a word's
 pub record IsWordPart (r : Result WordParts WordFault) (part : Part) : Type 0 where
   pub parts : WordParts
   pub read : r ≡ Ok parts
@@ -77,7 +77,7 @@ message_fault messages.BadSat part e = cc
 message_fault messages.BadTime part e = cc
 message_fault messages.SpareSisa part e = cc
 
--- the part is one of a message
+-- the part is one of a message's
 pub record IsMessagePart (r : Result MessageParts MessageFault) (part : Part) : Type 0 where
   pub parts : MessageParts
   pub read : r ≡ Ok parts
@@ -120,9 +120,9 @@ frame_read stamp bytes part h =
     (λ broken k. absurd (not_refused part k))
     h
 
--- ---- what holds of each part that a reader gives at a stamp holds of each received part
+-- ---- what holds of each part that is read at a stamp holds of each part heard
 
--- it holds of each part read at this stamp
+-- it holds of each part that is read at one
 pub record HoldsOfRead (At : ℕ → Type 0) (Is : ℕ → Part → Type 0) : Type 0 where
   pub subframes : (bits : List ℕ) (sat : Satellite) (stamp : ℕ) (part : Part) → At stamp
       → subframe_of bits sat stamp ≡ Ok part → Is stamp part

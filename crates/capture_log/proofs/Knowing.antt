@@ -1,4 +1,4 @@
--- The state after some items, and their events, are what is received in them.
+-- What is known after some items, and what they yielded, are what is heard of them.
 use Rattle.std.proofs.Common.{◌≡◌, ℕ, ◌+◌, ◌<◌, ◌⊎◌, ◌↔◌, max, inl, inr, true, false, if◌then◌else◌}
 use Rattle.std.proofs.Common.{List, [], ◌∷◌, ◌++◌, Contains, unwrap_or, refl, sym, ap, subst, ◌∙◌}
 use Rattle.std.proofs.Common.{⊎_elim, lt-ltb, ltb-true}
@@ -17,7 +17,7 @@ use Rattle.capture_log.proofs.Lists.{In, in_from_contains, contains_from_in}
 use Rattle.capture_log.proofs.Accepting.{greatest_more, still_accepted, last_accepted, half_keeps}
 use Rattle.capture_log.proofs.Accepting.{IsNewHalf, half_cases}
 
--- the laws of page parts and of late lines in the crates below
+-- what the crates below say of halves and of late lines
 pub record HalfLaws : Type 0 where
   pub among : (halves : List StampedHalf) (half : StampedHalf)
       → (has_half halves half ≡ true) ↔ Contains halves half
@@ -26,7 +26,7 @@ pub record HalfLaws : Type 0 where
   pub late : (window : ℕ) (before : List LineItem) (stamp : ℕ)
       → IsLate window before stamp ↔ (stamp + window < greatest_stamp before)
 
--- the state after the items: their greatest stamp, and the received page parts
+-- what is known after the items: their greatest stamp, and the halves heard
 pub record Knows (w : ℕ) (items : List LineItem) (known : Known) : Type 0 where
   pub greatest : known.greatest ≡ greatest_stamp items
   pub halves_to : (half : StampedHalf) → Contains known.halves half → IsHalfHeard w items half
@@ -46,14 +46,14 @@ module _ (laws : HalfLaws) (w : ℕ) (items : List LineItem) (known : Known) (gr
   pub not_late : (stamp : ℕ) → (IsLate w items stamp → ⊥) → is_late w known stamp ≡ false
   not_late stamp timely = false_from_ne_true (is_late w known stamp) (λ e. timely (late_to stamp e))
 
--- ---- the page parts
+-- ---- the halves
 
 first_or_rest : (half : StampedHalf) (halves : List StampedHalf) (other : StampedHalf)
     → In (half ∷ halves) other → (half ≡ other) ⊎ Contains halves other
 first_or_rest half halves other (inl e) = inl e
 first_or_rest half halves other (inr h) = inr (contains_from_in halves other h)
 
--- in a list with one more page part
+-- in a list with a half more
 put_half_to : (laws : HalfLaws) (halves : List StampedHalf) (half other : StampedHalf)
     → Contains (with_half halves half) other
     → (half ≡ other) ⊎ Contains halves other
@@ -72,7 +72,7 @@ put_half_new : (laws : HalfLaws) (halves : List StampedHalf) (half : StampedHalf
 put_half_new laws halves half =
     cond_both (has_half halves half) halves (half ∷ halves) (λ hs. Contains hs half) (λ there. (laws.among halves half).0 there) (λ not_there. contains_from_in (half ∷ halves) half (inl refl))
 
--- a page part in the state stays there
+-- a half that is known stays known
 stays_known : (w : ℕ) (known : Known) (item : LineItem) (half : StampedHalf)
     → Contains known.halves half → Contains (halves_with w known item) half
 stays_known w known Pass half h = h
@@ -88,7 +88,7 @@ stays_known w known (Half stamp sat signal bits) half h =
     (λ alert. h)
     (λ nominal. put_half_old known.halves own half h))
 
--- a received page part of the item is in the state after it
+-- a half of the item that is heard is known with it
 gets_known : (laws : HalfLaws) (w : ℕ) (known : Known) (stamp : ℕ) (sat : Satellite) (signal : Signal) (bits : List ℕ)
     → is_late w known stamp ≡ false → is_alert bits ≡ false
     → Contains (halves_with w known (Half stamp sat signal bits)) (half_of stamp sat signal bits)
@@ -106,7 +106,7 @@ module _ (laws : HalfLaws) (w : ℕ) (items : List LineItem) (known : Known) (kn
       → IsHalfHeard w (items ++ item ∷ []) half
   still item half h = half_keeps w items (items ++ item ∷ []) (still_accepted w items item) half (knows.halves_to half h)
 
-  -- the page part of an item in time is received, unless an alert
+  -- the half of an item in time that is no alert is heard
   pub half_heard : (stamp : ℕ) (sat : Satellite) (signal : Signal) (bits : List ℕ)
       → is_late w known stamp ≡ false → is_alert bits ≡ false
       → IsHalfHeard w (items ++ Half stamp sat signal bits ∷ []) (half_of stamp sat signal bits)
@@ -142,7 +142,7 @@ module _ (laws : HalfLaws) (w : ℕ) (items : List LineItem) (known : Known) (kn
       (put_half_to laws known.halves own half k)))
       h
 
-  -- a page part of the item is in the state after it
+  -- a half of the item is known with it
   new_known : (item : LineItem) (half : StampedHalf) → IsNewHalf w items item half
       → Contains (halves_with w known item) half
   new_known item half h =

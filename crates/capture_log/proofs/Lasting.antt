@@ -1,4 +1,4 @@
--- Further lines: the log goes on, and what is closed stays.
+-- Lines behind lines: the log goes on, and what is closed stays.
 use Rattle.std.proofs.Common.{◌≡◌, ℕ, suc, ◌+◌, ◌^◌, ◌<◌, ◌≤◌, List, [], ◌∷◌, ◌++◌, length, All}
 use Rattle.std.proofs.Common.{Some, refl, sym, ap, subst, ◌∙◌, append_assoc, arith}
 use Rattle.std.proofs.lemmas.Bool.{cond_both}
@@ -21,7 +21,7 @@ use Rattle.capture_log.proofs.Lists.{all_in}
 use Rattle.capture_log.proofs.HeardValues.{StampsFit}
 use Rattle.capture_log.proofs.LaterParts.{ReadsStamps, greatest_from, log_later}
 
--- ---- further items
+-- ---- items behind items
 
 pub known_append : (w : ℕ) (known : Known) (items more : List LineItem)
     → known_from w known (items ++ more) ≡ known_from w (known_from w known items) more
@@ -40,9 +40,9 @@ log_append w known number (item ∷ items) more =
     ∙ ap (λ n. first ++ (rest ++ log_from w (known_from w then items) n more)) same
     ∙ sym (append_assoc first rest (log_from w (known_from w then items) (number + suc (length items)) more))
 
--- ---- further lines
+-- ---- lines behind lines
 
--- what further lines give
+-- what further lines yield
 abbrev pub later_of : ℕ → List Line → List Line → List Part
 later_of w lines more =
     parts_in (log_from w (known_from w nothing_known (line_items_of lines)) (2 + length (line_items_of lines)) (line_items_of more))
@@ -71,7 +71,7 @@ watermark_rises w lines more =
     ∙ ap (λ known. known.greatest) (known_append w nothing_known (line_items_of lines) (line_items_of more)) in
     omega (arith, up, same)
 
--- the log and the state go on
+-- the log and what is known go on
 pub lines_log : (w : ℕ) (lines more : List Line)
     → log_of w (lines ++ more) ≡ log_of w lines ++ log_from w (known_from w nothing_known (line_items_of lines)) (2 + length lines) (line_items_of more)
 lines_log w lines more =
@@ -102,7 +102,7 @@ lines_fit fits lines =
 
 -- ---- what is closed
 
--- facts about parts and further lines
+-- what is said of parts, and of further lines
 pub record Lasts : Type 0 where
   pub values : (w : ℕ) (lines : List Line) → All IsPartValue (parts_of w lines)
   pub further : (w : ℕ) (lines more : List Line)

@@ -1,4 +1,4 @@
--- No part comes from before the watermark, so what further lines give is later.
+-- No part comes from before the watermark, so what further lines yield is later.
 use Rattle.std.proofs.Common.{◌≡◌, ℕ, ◌+◌, ◌-◌, ◌≤◌, inl, inr, false, if◌then◌else◌, List, [], ◌∷◌}
 use Rattle.std.proofs.Common.{sym, subst, ⊎_elim, arith, ltb-false}
 use Rattle.std.proofs.lemmas.Bool.{cond_both}
@@ -28,7 +28,7 @@ Always stamp = Unit {0}
 abbrev pub HasStamp : ℕ → Part → Type 0
 HasStamp stamp part = part.stamp ≡ stamp
 
--- what is read at a stamp has this stamp
+-- what is read at a stamp has it
 abbrev pub ReadsStamps : Type 0
 ReadsStamps = HoldsOfRead Always HasStamp
 

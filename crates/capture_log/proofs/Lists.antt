@@ -1,4 +1,4 @@
--- Membership in lists, and a list with one more element at its end.
+-- Lists: what stands in them, and a list with one more behind it.
 use Rattle.std.proofs.Common.{◌≡◌, zero, suc, ◌⊎◌, inl, inr, List, [], ◌∷◌, ◌++◌, map, flat_map}
 use Rattle.std.proofs.Common.{All, Contains, refl, sym, ap, subst, arith}
 use Rattle.std.specs.List.{AllByRecursion}
@@ -33,18 +33,18 @@ in_append [] ys x h = inr h
 in_append (z ∷ zs) ys x (inl e) = inl (inl e)
 in_append (z ∷ zs) ys x (inr h) = elim (in_append zs ys x h) [ inl a ↦ inl (inr a) | inr b ↦ inr b ]
 
--- what is in the middle of a list is in it
+-- what stands in the middle of a list stands in it
 pub in_middle : {X : Type 0} (xs ys zs : List X) (x : X) → zs ≡ xs ++ x ∷ ys → In zs x
 in_middle xs ys zs x e = subst (λ l. In l x) (sym e) (in_right xs (x ∷ ys) x (inl refl))
 
--- a list is split at each of its elements
+-- an element of a list stands between two others
 pub place_of : {X : Type 0} (xs : List X) (x : X) → In xs x
     → (before : List X) × (after : List X) × (xs ≡ before ++ x ∷ after)
 place_of [] x h = absurd h
 place_of (y ∷ ys) x (inl e) = ([], ys, ap (λ z. z ∷ ys) e)
 place_of (y ∷ ys) x (inr h) = let r = place_of ys x h in (y ∷ r.0, r.1, ap (λ l. y ∷ l) r.2)
 
--- what holds of each element
+-- what holds of each
 by_recursion : {X : Type 0} (P : X → Type 0) (xs : List X) → ((x : X) → In xs x → P x)
     → AllByRecursion P xs
 by_recursion P [] h = tt
@@ -53,7 +53,7 @@ by_recursion P (y ∷ ys) h = (h y (inl refl), by_recursion P ys (λ x i. h x (i
 pub all_in : {X : Type 0} (P : X → Type 0) (xs : List X) → ((x : X) → In xs x → P x) → All P xs
 all_in P xs h = All-from_recursion P xs (by_recursion P xs h)
 
--- membership in a list to which a function is applied
+-- in a list that a function makes of another's elements
 pub in_map : {X Y : Type 0} (f : X → Y) (xs : List X) (y : Y) → In (map f xs) y
     → (x : X) × In xs x × (f x ≡ y)
 in_map f [] y h = absurd h
@@ -79,7 +79,7 @@ flat_map_in f [] x y h k = absurd h
 flat_map_in f (z ∷ zs) x y (inl e) k = in_left (f z) (flat_map f zs) y (subst (λ w. In (f w) y) (sym e) k)
 flat_map_in f (z ∷ zs) x y (inr h) k = in_right (f z) (flat_map f zs) y (flat_map_in f zs x y h k)
 
--- an index in a list with one more element is one of the list, or the last
+-- a place in a list with one more behind it is a place of the list, or the last
 pub last_or_not : {X : Type 0} (xs before after : List X) (y x : X)
     → xs ++ y ∷ [] ≡ before ++ x ∷ after
     → ((rest : List X) × (xs ≡ before ++ x ∷ rest)) ⊎ ((xs ≡ before) × (y ≡ x))

@@ -32,7 +32,7 @@ use Rattle.capture_log.proofs.HeardValues.{subframe_read, word_read, frame_read}
 use Rattle.capture_log.proofs.LaterParts.{no_part, single}
 use Rattle.capture_log.proofs.AllItems.{first_or_later}
 
--- subframes are of GPS, and page parts of Galileo
+-- subframes are of GPS, and page halves of Galileo
 abbrev pub HasSystem : LineItem → Type 0
 HasSystem (Lnav stamp sat bits) = sat.system ≡ Gps
 HasSystem (Half stamp sat signal bits) = sat.system ≡ Gal

@@ -1,4 +1,4 @@
--- The events of the words of a page part, from it and its partner, whichever is even.
+-- What the words of a half yield: what they do by its two parts, whichever is even.
 use Rattle.std.proofs.Common.{◌≡◌, ℕ, inl, inr, List, map, flat_map, refl, sym, ap, subst, ◌∙◌}
 use Rattle.std.proofs.Common.{⊎_elim}
 use Rattle.nav_eph.specs.Satellite.{Satellite}
@@ -8,13 +8,13 @@ use Rattle.inav_page.specs.Heard.{word_by, word_with, stamp_by}
 use Rattle.capture_log.proofs.Lists.{In, in_from_contains, contains_from_in, in_flat_map}
 use Rattle.capture_log.proofs.Lists.{flat_map_in, in_map, map_in}
 
--- the events of a word, its satellite and its stamp
+-- what is made of a word, its satellite and its stamp
 module _ {X : Type 0} (f : List ℕ → Satellite → ℕ → X) where
-  -- of the word of a page part and another
+  -- of the word of a half and another
   abbrev made_with : StampedHalf → StampedHalf → X
   made_with taken other = f (word_with taken other) taken.sat (stamp_by (kind_of taken.half) taken.stamp)
 
-  -- of the word of an even part and an odd one
+  -- of the word of an even half and an odd one
   abbrev made_of : StampedHalf → StampedHalf → X
   made_of even odd = f (word_of even.half odd.half) odd.sat odd.stamp
 
@@ -29,11 +29,11 @@ module _ {X : Type 0} (f : List ℕ → Satellite → ℕ → X) where
   taken_odd taken other make = ap (λ kind. f (word_by kind taken.half other.half) taken.sat (stamp_by kind taken.stamp)) make.is_odd
 
 module _ {E : Type 0} (f : List ℕ → Satellite → ℕ → List E) (among : StampedHalf → Type 0) (taken : StampedHalf) where
-  -- the events of the words of the page part
+  -- what is made of the words of the half
   abbrev of_each : List (List ℕ) → List E
   of_each words = flat_map (λ word. f word taken.sat (stamp_by (kind_of taken.half) taken.stamp)) words
 
-  -- a partner in a list makes a pair
+  -- a partner in a list gives a pair
   with_partner : (other : StampedHalf) (event : E) → among other → ArePartners taken other
       → In (made_with f taken other) event
       → (even : StampedHalf) × (odd : StampedHalf) × IsHeardWith among taken even odd × In (made_of f even odd) event
@@ -55,7 +55,7 @@ module _ {E : Type 0} (f : List ℕ → Satellite → ℕ → List E) (among : S
       subst (λ w. In (f w taken.sat (stamp_by (kind_of taken.half) taken.stamp)) event) (sym other.2) word.2 in
       with_partner other.0 event known.0 known.1 yields
 
-  -- a partner's word gives its events
+  -- a partner's word yields what is made of it
   by_partner : (words : List (List ℕ)) (other : StampedHalf) (event : E)
       → AreWordsWith among taken words → among other
       → ArePartners taken other → In (made_with f taken other) event → In (of_each words) event

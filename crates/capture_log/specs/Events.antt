@@ -1,4 +1,5 @@
--- The events of one more line, given the state after those before it: malformed, late, or what a reader gives.
+-- What one more line yields, when it is known what came before: that it is malformed or late, or
+-- what a reader makes of it.
 use Rattle.std.specs.Prelude.{ℕ, ◌+◌, ◌&&◌, Bool, nat_eq, nat_lt, max, if◌then◌else◌, List, [], ◌∷◌}
 use Rattle.std.specs.Prelude.{length, Option, None, Some, unwrap_or, Result, Ok, Err}
 use Rattle.std.specs.List.{flat_map}
@@ -34,7 +35,8 @@ use Rattle.capture_log.specs.declared.event.Event.{Event}
 use Rattle.capture_log.specs.declared.event.Event.TheVariants.{Heard, Malformed, Late, Refused}
 use Rattle.capture_log.specs.declared.event.Event.TheVariants.{Unused}
 
--- the event of a subframe: its part, or why it is refused; other subframes and pages are not used
+-- what the reading of a subframe yields: its part, or why it is refused; another subframe or page
+-- is not used
 abbrev pub of_subframe : Result Part LnavFault → Event
 of_subframe (Ok part) = Heard part
 of_subframe (Err subframes.Preamble) = Refused refusals.Preamble
@@ -43,7 +45,7 @@ of_subframe (Err subframes.BadTow) = Refused refusals.Tow
 of_subframe (Err (subframes.Unused number page)) = Unused
 of_subframe (Err subframes.BadTime) = Refused refusals.Time
 
--- the event of a word that is refused or not used
+-- how a word is refused, or that it is not used
 abbrev pub of_word_fault : WordFault → Event
 of_word_fault (words.OtherWord number) = Unused
 of_word_fault words.WrongSat = Refused refusals.Satellite
@@ -55,12 +57,12 @@ abbrev pub of_second : Option Part → List Event
 of_second None = []
 of_second (Some part) = Heard part ∷ []
 
--- the events of a word: its one or two parts, in order
+-- what the reading of a word yields: its one part or its two, in their order
 abbrev pub of_word : Result WordParts WordFault → List Event
 of_word (Ok parts) = Heard parts.first ∷ of_second parts.second
 of_word (Err fault) = of_word_fault fault ∷ []
 
--- the event of a message that is refused or not used
+-- how a message is refused, or that it is not used
 abbrev pub of_message_fault : MessageFault → Event
 of_message_fault messages.NoNumber = Unused
 of_message_fault (messages.OtherMessage number) = Unused
@@ -69,61 +71,62 @@ of_message_fault messages.BadSat = Refused refusals.Satellite
 of_message_fault messages.BadTime = Refused refusals.Time
 of_message_fault messages.SpareSisa = Refused refusals.Sisa
 
--- the events of a message: the parts of its ephemeris, or its fault
+-- what the reading of a message yields: the parts of its ephemeris
 abbrev pub of_message : Result MessageParts MessageFault → List Event
 of_message (Ok (GpsParts clock a b)) = Heard clock ∷ Heard a ∷ Heard b ∷ []
 of_message (Ok (GalParts w1 w2 w3 w4 health)) =
     Heard w1 ∷ Heard w2 ∷ Heard w3 ∷ Heard w4 ∷ Heard health ∷ []
 of_message (Err fault) = of_message_fault fault ∷ []
 
--- the bytes are exactly one whole frame with a right checksum
+-- the bytes are one whole frame of right checksum and nothing else
 abbrev pub is_frame : List ℕ → Bool
 is_frame bytes = nat_lt 0 (length bytes) && nat_eq (frame_size bytes) (length bytes)
 
--- the events of the bytes of a frame
+-- what the bytes of a frame yield
 unfoldable pub of_frame : ℕ → List ℕ → List Event
 of_frame stamp bytes =
     if is_frame bytes then of_message (parts_of stamp (content_of (payload_of bytes)))
     else Refused refusals.Frame ∷ []
 
--- a page part as received: its kept bits, with stamp, satellite and signal
+-- a page half as it was received: its kept bits, with its stamp, satellite and signal
 abbrev pub half_of : ℕ → Satellite → Signal → List ℕ → StampedHalf
 half_of stamp sat signal bits = stamped stamp sat signal (kept_of (number_at bits 0 120))
 
--- the page type bit is 1: an alert page
+-- its page type says alert
 abbrev pub is_alert : List ℕ → Bool
 is_alert bits = nat_eq (number_at bits 1 1) 1
 
--- the events of the words that a page part completes, each with the stamp of the odd part
+-- what the words of a half yield, each heard at the second of its odd part
 abbrev pub of_words : StampedHalf → List (List ℕ) → List Event
 of_words half words =
     flat_map (λ word. of_word (reading_of word half.sat (stamp_by (kind_of half.half) half.stamp)))
     words
 
--- the words that a page part completes with earlier ones; none where it was received before
+-- the words that a half makes with those that came before it; none where it came already
 abbrev pub new_words : List StampedHalf → StampedHalf → List (List ℕ)
 new_words before half = if has_half before half then [] else words_of before half
 
--- the events of a page part; an alert page is not used
+-- what a half yields: an alert is not used
 abbrev pub of_half : List StampedHalf → ℕ → Satellite → Signal → List ℕ → List Event
 of_half before stamp sat signal bits =
     if is_alert bits then Unused ∷ []
     else of_words (half_of stamp sat signal bits) (new_words before (half_of stamp sat signal bits))
 
--- the state after some lines: their greatest stamp, and the accepted page parts, each once
+-- what the lines so far let one know: their greatest stamp, and the halves that were accepted, each
+-- once
 pub record Known : Type 0 where
   pub greatest : ℕ
   pub halves : List StampedHalf
 
--- the state before the first line
+-- before the first line
 abbrev pub nothing_known : Known
 nothing_known = record { greatest = 0; halves = [] }
 
--- the stamp is before the greatest one by more than the window
+-- the stamp lies behind the greatest by more than the window
 abbrev pub is_late : ℕ → Known → ℕ → Bool
 is_late window known stamp = nat_lt (stamp + window) known.greatest
 
--- the events of one more item
+-- what one more item yields
 unfoldable pub events_of : ℕ → Known → LineItem → List Event
 events_of window known Pass = []
 events_of window known MalformedItem = Malformed ∷ []
@@ -134,11 +137,11 @@ events_of window known (Half stamp sat signal bits) =
 events_of window known (Frame stamp bytes) =
     if is_late window known stamp then Late ∷ [] else of_frame stamp bytes.items
 
--- one more page part, each kept once
+-- a half more, each once
 abbrev pub with_half : List StampedHalf → StampedHalf → List StampedHalf
 with_half halves half = if has_half halves half then halves else half ∷ halves
 
--- the accepted page parts after one more item
+-- the accepted halves with one more item
 abbrev pub halves_with : ℕ → Known → LineItem → List StampedHalf
 halves_with window known (Half stamp sat signal bits) =
     if is_late window known stamp then known.halves
@@ -146,7 +149,7 @@ halves_with window known (Half stamp sat signal bits) =
     else with_half known.halves (half_of stamp sat signal bits))
 halves_with window known _ = known.halves
 
--- the state after one more item
+-- what is known with one more item
 unfoldable pub known_with : ℕ → Known → LineItem → Known
 known_with window known item = record {
   greatest = max known.greatest (unwrap_or (stamp_of item) 0);

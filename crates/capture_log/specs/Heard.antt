@@ -1,5 +1,6 @@
--- The received parts, stated over all items of a capture at once: those of its accepted subframes, of the messages in its
--- accepted frames, and of the words of its accepted page parts.
+-- The parts heard, by a look at all items of a capture at once: those of its accepted subframes, of
+-- the messages in its accepted frames, and of
+-- the words that its accepted halves make.
 use Rattle.std.specs.Prelude.{◌≡◌, ◌⊎◌, ◌↔◌, ℕ, false, List, Contains, Some}
 use Rattle.nav_eph.specs.Satellite.{Satellite}
 use Rattle.nav_eph.specs.declared.part.Part.{Part}
@@ -14,7 +15,7 @@ use Rattle.lnav_subframe.specs.Reading.{subframe_of}
 use Rattle.capture_log.specs.Events.{of_subframe, of_frame, of_word, half_of, is_alert}
 use Rattle.capture_log.specs.declared.event.Event.TheVariants.{Heard}
 
--- the part is in an accepted subframe
+-- the part stands in an accepted subframe
 pub record IsOfSubframe (window : ℕ) (items : List LineItem) (part : Part) : Type 0 where
   pub stamp : ℕ
   pub sat : Satellite
@@ -22,7 +23,7 @@ pub record IsOfSubframe (window : ℕ) (items : List LineItem) (part : Part) : T
   pub accepted : IsAccepted window items (Lnav stamp sat bits)
   pub is : of_subframe (subframe_of bits sat stamp) ≡ Heard part
 
--- the part is in the message of an accepted frame
+-- the part stands in the message of an accepted frame
 pub record IsOfFrame (window : ℕ) (items : List LineItem) (part : Part) : Type 0 where
   pub stamp : ℕ
   pub item : LineItem
@@ -31,7 +32,7 @@ pub record IsOfFrame (window : ℕ) (items : List LineItem) (part : Part) : Type
   pub accepted : IsAccepted window items item
   pub is : Contains (of_frame stamp bytes) (Heard part)
 
--- the page part is accepted, and not of an alert page
+-- the half is accepted, and no alert
 pub record IsHalfHeard (window : ℕ) (items : List LineItem) (half : StampedHalf) : Type 0 where
   pub stamp : ℕ
   pub sat : Satellite
@@ -41,7 +42,7 @@ pub record IsHalfHeard (window : ℕ) (items : List LineItem) (half : StampedHal
   pub nominal : is_alert bits ≡ false
   pub half_is : half ≡ half_of stamp sat signal bits
 
--- the part is in a word of two received page parts; its stamp is that of the odd one
+-- the part stands in a word heard, whose stamp is that of its odd half
 pub record IsOfWord (window : ℕ) (items : List LineItem) (part : Part) : Type 0 where
   pub even : StampedHalf
   pub odd : StampedHalf
@@ -49,17 +50,17 @@ pub record IsOfWord (window : ℕ) (items : List LineItem) (part : Part) : Type 
   pub is : Contains (of_word (reading_of (word_of even.half odd.half) odd.sat odd.stamp))
       (Heard part)
 
--- a received part
+-- a part heard
 abbrev pub IsPartHeard : ℕ → List LineItem → Part → Type 0
 IsPartHeard window items part =
     IsOfSubframe window items part ⊎ (IsOfFrame window items part ⊎ IsOfWord window items part)
 
--- the same items with a stamp are in both lists, in any order and number
+-- the same lines with a stamp stand in both lists, in whatever order and however often
 abbrev pub SameItems : List LineItem → List LineItem → Type 0
 SameItems some other =
     (item : LineItem) (s : ℕ) → stamp_of item ≡ Some s → Contains some item ↔ Contains other item
 
--- none of the items is late
+-- none of them is late
 abbrev pub NoneLate : ℕ → List LineItem → Type 0
 NoneLate window items =
     (item : LineItem) (s : ℕ) → stamp_of item ≡ Some s → Contains items item

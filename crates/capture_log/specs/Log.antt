@@ -1,4 +1,5 @@
--- The log of a capture: the events of its lines in order, each with its line number.
+-- The log of a capture: what its lines yield, one after another, each event with the number of its
+-- line.
 use Rattle.std.specs.Prelude.{ℕ, ◌+◌, ◌-◌, List, [], ◌∷◌, ◌++◌, map}
 use Rattle.std.specs.List.{flat_map}
 use Rattle.nav_io.specs.Lines.{Line}
@@ -8,12 +9,12 @@ use Rattle.capture_log.specs.Events.{Known, nothing_known, known_with, events_of
 use Rattle.capture_log.specs.declared.event.Event.{Event}
 use Rattle.capture_log.specs.declared.event.Event.TheVariants.{Heard}
 
--- an event, with the number of its line
+-- an event, with the number of the line that yielded it
 pub record Noted : Type 0 where
   pub line : ℕ
   pub event : Event
 
--- the events of one line, with its number
+-- the events of one line
 abbrev pub noted : ℕ → List Event → List Noted
 noted number events = map (λ event. record { line = number; event = event }) events
 
@@ -21,12 +22,12 @@ noted number events = map (λ event. record { line = number; event = event }) ev
 abbrev pub line_items_of : List Line → List LineItem
 line_items_of lines = map item_line lines
 
--- the state after the items
+-- what is known after the items
 abbrev pub known_from : ℕ → Known → List LineItem → Known
 known_from window known [] = known
 known_from window known (item ∷ items) = known_from window (known_with window known item) items
 
--- the log of the items, the first having this line number
+-- what the items yield, of which the first has this number
 abbrev pub log_from : ℕ → Known → ℕ → List LineItem → List Noted
 log_from window known number [] = []
 log_from window known number (item ∷ items) =
@@ -41,14 +42,15 @@ parts_of_event _ = []
 abbrev pub parts_in : List Noted → List Part
 parts_in log = flat_map (λ n. parts_of_event n.event) log
 
--- the log of the lines of a capture after the first, numbered from 2
+-- the log of a capture's lines behind the first, which has the number 1
 abbrev pub log_of : ℕ → List Line → List Noted
 log_of window lines = log_from window nothing_known 2 (line_items_of lines)
 
--- the received parts in the log
+-- the parts heard in them
 abbrev pub parts_of : ℕ → List Line → List Part
 parts_of window lines = parts_in (log_of window lines)
 
--- the watermark after the lines, the greatest stamp less the window, at least 0; no accepted line comes from before it
+-- the watermark after the lines, below which no accepted line comes: the greatest stamp less the window,
+-- and not below 0
 abbrev pub watermark_after : ℕ → List Line → ℕ
 watermark_after window lines = (known_from window nothing_known (line_items_of lines)).greatest - window

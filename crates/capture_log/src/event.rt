@@ -1,9 +1,9 @@
 use nav_eph::Part;
 
-/// Why something that was received is not used.
+/// Why something that was heard is not used.
 #[derive(Clone, Copy, PartialEq, Eq)]
 pub enum Refusal {
-    /// The bytes are not one whole frame with a right checksum.
+    /// The bytes are not one whole frame of right checksum.
     Frame,
     /// A subframe begins neither with the preamble nor with its complement.
     Preamble,
@@ -12,29 +12,29 @@ pub enum Refusal {
         /// The first such word, 1 to 10.
         word: u8,
     },
-    /// The TOW count of a subframe is past the end of the week.
+    /// The count of a subframe is past the week.
     Tow,
-    /// A time is past the end of the week.
+    /// A time is past the week.
     Time,
-    /// The satellite number differs from the sender's, or is none of its system.
+    /// The satellite is another one than the sender, or none of its system.
     Satellite,
-    /// The SISA index of a Galileo ephemeris is spare.
+    /// The accuracy index of a Galileo ephemeris is a spare one.
     Sisa,
-    /// A message has fewer bytes than its type takes.
+    /// A message has fewer bytes than its number takes.
     Short,
 }
 
-/// What a line gives; a line may give several events, or none.
+/// What a line yields, once or more often, or not at all.
 #[derive(Clone, Copy, PartialEq, Eq)]
 pub enum Event {
-    /// A part of an ephemeris or of the ionosphere parameters.
+    /// A part of an ephemeris or of the ionosphere was heard.
     Heard(Part),
-    /// The line has none of the line formats.
+    /// The line has none of the forms of a line.
     Malformed,
-    /// The line is late: its stamp is before the greatest one by more than the window.
+    /// The line comes too late: its stamp lies behind the greatest one by more than the window.
     Late,
-    /// The content of the line is refused.
+    /// What the line says is refused.
     Refused(Refusal),
-    /// The content is valid but not used: an alert page, or another subframe, word type or message.
+    /// It is of a kind that is passed over: an alert, or another subframe, word or message.
     Unused,
 }

@@ -1,4 +1,4 @@
-//! Laws of the periods of the received parts. Each function does nothing; its contract is the law.
+//! Laws of the periods of what is heard: each function does nothing, and its contract is the law.
 
 ghost use Rattle.std.specs.Prelude.{◌≡◌, ℕ, List, All};
 ghost use Rattle.gnss_week.specs.Weeks.{IsReference};
@@ -16,7 +16,8 @@ use crate::laws::{
     lines_yield_what_is_heard, parts_of_lines_are_sendable, parts_of_lines_are_values,
 };
 
-/// Each received part has a satellite of its system and each field within its width.
+/// Each part heard has a satellite of its system, and each field of what it yields is within its
+/// digits, since the bits of a line are no more.
 pub fn parts_heard_have_ranges()
     ensures { (window : ℕ) (lines : List Line) (part : Part)
         → IsPartHeard window (line_items_of lines) part → HasPartRanges part }
@@ -27,8 +28,8 @@ pub fn parts_heard_have_ranges()
     capture_lines::each_line_stands_for_one_thing();
 }
 
-/// The set of received parts has exactly one list of periods, and near a reference week each of its
-/// items is consistent.
+/// The set of the parts heard has exactly one list of periods, and near a reference week each of
+/// its items fits together.
 pub fn periods_heard()
     ensures some { (r window : ℕ) (lines : List Line)
         → ArePeriods r window (IsPartHeard window (line_items_of lines))

@@ -1,4 +1,4 @@
-//! Laws of what is received. Each function does nothing; its contract is the law.
+//! Laws of what is heard: each function does nothing, and its contract is the law.
 
 ghost use Rattle.std.specs.Prelude.{◌≡◌, ℕ, ◌+◌, ◌^◌, ◌<◌, ◌≤◌, ◌++◌, ◌↔◌, List, length, Some, All};
 ghost use Rattle.std.specs.Prelude.{Contains};
@@ -16,7 +16,7 @@ ghost use Rattle.capture_log.specs.Log.{line_items_of, known_from, log_from, log
 ghost use Rattle.capture_log.specs.Log.{parts_in, parts_of};
 ghost use Rattle.capture_log.specs.Heard.{IsPartHeard, NoneLate, SameItems};
 
-/// The parts in the log of the items are those received in all items.
+/// The parts that are taken item by item are those that are heard of all items.
 pub fn taken_parts_are_heard()
     ensures { (window number : ℕ) (items : List LineItem) (part : Part)
         → Contains (parts_in (log_from window nothing_known number items)) part
@@ -27,8 +27,8 @@ pub fn taken_parts_are_heard()
     capture_lines::late_is_behind_the_greatest_stamp();
 }
 
-/// Each received part is a value: its stamp has 32 bits if those of the items have, and each field
-/// is within its width.
+/// Each part heard is a value: its stamp has 32 bits where those of the items have, and its fields
+/// are within their digits.
 pub fn parts_heard_are_values()
     ensures { (window number : ℕ) (items : List LineItem)
         → All (λ item. (s : ℕ) → stamp_of item ≡ Some s → s < 2 ^ 32) items
@@ -40,7 +40,7 @@ pub fn parts_heard_are_values()
     taken_parts_are_heard();
 }
 
-/// The same of the lines of a capture.
+/// So are those of the lines of a capture.
 pub fn parts_of_lines_are_values()
     ensures { (window : ℕ) (lines : List Line) → All IsPartValue (parts_of window lines) }
 {
@@ -48,7 +48,7 @@ pub fn parts_of_lines_are_values()
     parts_heard_are_values();
 }
 
-/// Each part of the lines of a capture can be sent by its satellite.
+/// Each part of the lines of a capture is such as its satellite can send.
 pub fn parts_of_lines_are_sendable()
     ensures { (window : ℕ) (lines : List Line)
         → All (λ part. IsPart part.sat part.body) (parts_of window lines) }
@@ -59,7 +59,7 @@ pub fn parts_of_lines_are_sendable()
     capture_lines::each_line_stands_for_one_thing();
 }
 
-/// The periods of the parts in the log of the items are those of the parts received in all items.
+/// The periods of the parts that are taken item by item are those of the parts heard of all items.
 pub fn periods_are_those_heard()
     ensures { (r window number : ℕ) (items : List LineItem)
         → All IsPartValue (parts_in (log_from window nothing_known number items))
@@ -70,9 +70,9 @@ pub fn periods_are_those_heard()
     taken_parts_are_heard();
 }
 
-/// What the lines of a capture give, stated over all of them at once. The parts are those received,
-/// a set of values; the periods are those of that set, and those closed at the watermark are the
-/// closed ones of that set. The set has no other list of periods, and none of periods closed at a
+/// What the lines of a capture yield, in the words of a look at all of them at once: the parts are
+/// those heard, a set of values; the periods are those of that set, and those closed at the watermark
+/// are the closed ones of that set. The set has no other list of periods, nor of those closed at a
 /// watermark.
 pub fn lines_yield_what_is_heard()
     ensures parts { (window : ℕ) (lines : List Line) (part : Part)
@@ -97,8 +97,8 @@ pub fn lines_yield_what_is_heard()
     periods_are_those_heard();
 }
 
-/// Where no item is late, the set of items alone determines the periods, and so the ephemerides and
-/// ionosphere parameters in them; order and repetition do not matter.
+/// Where none is late, only which items come decides the periods, and so the ephemerides and
+/// ionospheres in them: neither their order nor their repetition.
 pub fn order_of_items_does_not_matter()
     ensures periods { (r window m n : ℕ) (some other : List LineItem) → SameItems some other
         → NoneLate window some → NoneLate window other
@@ -116,7 +116,7 @@ pub fn order_of_items_does_not_matter()
 }
 
 /// The same of the lines of two captures with one window: where no line is late and the same items
-/// are in them, the periods, ephemerides and ionosphere parameters are the same.
+/// stand in them, the periods are the same, and so are the ephemerides and ionospheres in them.
 pub fn order_of_lines_does_not_matter()
     ensures periods { (r window : ℕ) (some other : List Line)
         → SameItems (line_items_of some) (line_items_of other)
@@ -132,8 +132,8 @@ pub fn order_of_lines_does_not_matter()
     order_of_items_does_not_matter();
 }
 
-/// What some lines give stays as more come, and what those give follows it. The same holds of the
-/// state after them, and the watermark never falls.
+/// What some lines yield stays as more come, which yield theirs behind it; so does what is known
+/// of them, and the watermark never falls.
 pub fn further_lines_go_on()
     ensures log { (window : ℕ) (lines more : List Line) → log_of window (lines ++ more)
         ≡ log_of window lines
@@ -146,8 +146,8 @@ pub fn further_lines_go_on()
         → watermark_after window lines ≤ watermark_after window (lines ++ more) }
 {}
 
-/// The parts of some lines stay as more come. The parts of the further lines follow them, none with
-/// a stamp before the watermark.
+/// The parts of some lines stay as more come, and those that the further lines yield come behind
+/// them, none with a stamp before the watermark.
 pub fn further_lines_are_later()
     ensures { (window : ℕ) (lines more : List Line) → (later : List Part)
         × (parts_of window (lines ++ more) ≡ parts_of window lines ++ later)
@@ -158,7 +158,8 @@ pub fn further_lines_are_later()
     rtcm_eph::message_parts();
 }
 
-/// The periods closed by some lines stay as more come, as a prefix of those closed then and of all.
+/// What is closed by some lines stays as more come, and stands in front of what is closed then and
+/// of all periods.
 pub fn what_is_closed_stays()
     ensures later { (r window : ℕ) (lines more : List Line)
         → closed_of r window (watermark_after window lines) (parts_of window (lines ++ more))

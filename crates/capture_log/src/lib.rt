@@ -1,15 +1,16 @@
-//! What the lines of a capture give: the definitions on which a conversion rests, and the laws
+//! What the lines of a capture yield: the definitions on which a conversion rests, and the laws
 //! between them. There is no input and no output here.
 //!
-//! A line is malformed, late, or accepted. An accepted one holds a GPS subframe (IS-GPS-200, 20.3),
-//! a Galileo page part (OS SIS ICD, 4.3), or an RTCM frame (10403.3), and gives *parts* of
-//! ephemerides and of ionosphere parameters, or the reason for which it is refused. Each such
-//! [`Event`] is in the log with its line number.
+//! A line is malformed, late, or accepted. An accepted one holds a subframe of GPS (IS-GPS-200,
+//! 20.3), a half of a page of Galileo (OS SIS ICD, 4.3), or a frame of RTCM (10403.3), and yields
+//! *parts* of ephemerides and of the ionosphere, or the reason for which it is refused. Each such
+//! [`Event`] stands in the log with the number of its line.
 //!
-//! - `specs/Events.antt`: the events of one more line, given the state after those before it;
+//! - `specs/Events.antt`: what one more line yields when it is known what came before;
 //! - `specs/Log.antt`: the log of all lines, and the parts in it;
-//! - `specs/Heard.antt`: the received parts, stated over all lines at once. The laws say that these are
-//!   the same, a set of values, and that order and repetition of lines do not matter.
+//! - `specs/Heard.antt`: the parts heard, by a look at all lines at once: the laws say that these
+//!   are the same, that they are a set of values, and that neither the order nor the repetition of
+//!   lines changes what is made of them.
 //!
 //! ```rust
 //! use capture_log::{Event, Refusal, subframe_event};

@@ -1,4 +1,4 @@
--- How a run over a capture ends: in its first line, the leading text, the further lines, the trailing text, or done.
+-- How a run over a capture ends: in its first line, in the text in front, in the lines behind, in what stands behind these, or done.
 use Rattle.std.proofs.Common.{◌≡◌, ℕ, ◌+◌, ◌-◌, ◌<◌, ◌≤◌, ◌^◌, true, false, List, [], ◌∷◌, ◌++◌, length, take, drop, length-drop, refl, sym, ap, subst, ◌∙◌, arith, ⊎_elim, append_assoc, append-nil}
 use Rattle.std.specs.Prelude.{Option, None, Some, Err, IsTrue, ◌⊎◌}
 use Rattle.std.proofs.lemmas.Bool.{true≢false}
@@ -90,7 +90,7 @@ head_stops to week left left1 written reported old new WriteFault fresh h = absu
 head_stops to week left left1 written reported old new ReportFault fresh h = absurd h
 head_stops to week left left1 written reported old new NoMemory fresh h = absurd h
 
--- ---- after an accepted first line
+-- ---- behind a first line that is accepted
 
 pub head_accepts : (week : Option ℕ) (left left1 : Option (List ℕ)) (old new : LinesState) (head : Accepted) → IsFresh old → GivesHead week left left1 old new head → AcceptsHead week left
 head_accepts week left left1 old new head fresh h =
@@ -103,7 +103,7 @@ head_capture week left left1 left2 old middle new head given fresh h reads =
     ap (capture_in week) (fresh_lines left left2 old new (h.line ∷ given) (reads_more left left1 left2 old middle new (h.line ∷ []) given h.gives.reads reads) fresh)
     ∙ capture_lines week head h.line (given ++ lines_by false new.rest) h.accepted
 
--- the leading text was not written whole
+-- the text in front was not written whole
 pub head_part : (to : Target) (week : Option ℕ) (left left1 written written_new reported : Option (List ℕ)) (old new : LinesState) (head : Accepted) → IsFresh old → GivesHead week left left1 old new head
     → AppendsPrefix written written_new (prefix_text to) → Stop to week left left1 written written_new reported reported WriteFault
 head_part to week left left1 written written_new reported old new head fresh h (prefix, within, text) =
@@ -132,7 +132,7 @@ head_part to week left left1 written written_new reported old new head fresh h (
       says = head_accepts week left left1 old new head fresh h;
     }
 
--- of all bytes, no more lines have ended before the last 4,096 than the first line and the n after it
+-- no more lines have ended before the last 4,096 bytes than behind the first and that one
 recent_head : (line : Line) (a b prefix rest : List ℕ) (n : ℕ) → a ≡ prefix ++ rest → length rest ≤ 4096 → lines_by false a ≡ (line ∷ []) ++ lines_by false rest
     → length (lines_by true (take (length (rest ++ b) - 4096) (rest ++ b))) ≤ n
     → length (lines_by true (take (length (a ++ b) - 4096) (a ++ b))) ≤ n + 1
@@ -278,7 +278,7 @@ all_taken to week left left1 left2 written written1 written2 reported reported2 
       accepts = head_accepts week left left1 old middle head fresh h;
     }
 
--- the trailing text was not written whole, or the counts were not reported whole
+-- what stands behind the periods was not written whole, or the counts were not reported whole
 end_stops : (laws : LogLaws) (to : Target) (week : Option ℕ) (left left2 written written2 written3 reported reported2 reported3 : Option (List ℕ)) (head : Accepted) (counts : CaptureCounts) (fault : BridgeFault)
     (t : IsTaken to week left left2 written written2 reported reported2 head counts) → AppendsPrefix written2 written3 (back_text to (counts_text counts)) → AppendsPrefix reported2 reported3 (counts_text counts)
     → StopSays to week left t.taken written written3 reported reported3 fault → Stop to week left left2 written written3 reported reported3 fault

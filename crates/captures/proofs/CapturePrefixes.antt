@@ -24,7 +24,7 @@ use Rattle.captures.proofs.LineCounts.{IsPrefixOf, prefix_within, lines_prefix}
 use Rattle.captures.proofs.Logs.{known_of, log_more, report_append}
 use Rattle.captures.proofs.Writing.{texts_prefix}
 
--- the capture of these lines after an accepted first line
+-- the capture of these lines behind a first one that is accepted so
 abbrev pub capture_by : Accepted → List Line → Capture
 capture_by head lines = record { window = head.window; week = head.week; lines = lines }
 
@@ -177,7 +177,7 @@ last_all to week left left_new written written_new t consumes end h =
 
 -- ---- prefixes of what all bytes give
 
--- after an accepted first line, of lines that these bytes have and maybe more
+-- behind a first line that is accepted, of lines that these bytes have and maybe more
 pub prefixes_of : (to : Target) (week : Option ℕ) (head : Accepted) (line : Line) (lines more : List Line) (bytes : List ℕ) (written written1 written2 reported reported2 : Option (List ℕ)) → accepted_line week line ≡ Some head
     → lines_by false bytes ≡ (line ∷ lines) ++ more → Appends written written1 (prefix_text to) → AppendsPrefix written1 written2 (texts_of to (periods (capture_by head (lines ++ more))))
     → AppendsPrefix reported reported2 (line_report (log_of head.window lines))
@@ -196,7 +196,7 @@ prefixes_of to week head line lines more bytes written written1 written2 reporte
           (prefix_trans told all_told (all_told ++ counts_text (counts_of c)) (report_prefix head.window lines more) (prefix_more all_told (counts_text (counts_of c)))) report),
     )
 
--- nothing was reported, and a prefix of the leading text was written
+-- nothing was reported, and a prefix of the text in front was written
 pub prefix_head : (to : Target) (week : Option ℕ) (head : Accepted) (line : Line) (left written written_new reported : Option (List ℕ)) → accepted_line week line ≡ Some head
     → IfSome left (λ bytes. IsPrefixOf (line ∷ []) (lines_by false bytes)) → AppendsPrefix written written_new (prefix_text to) → CapturePrefix to week left written written_new reported reported
 prefix_head to week head line None written written_new reported e prefix h = tt
@@ -242,7 +242,7 @@ nothing_part to week left left_new written reported t fault consumes few says = 
 
 -- ---- the lines of all bytes that were there
 
--- those that were read come first
+-- those that were given stand in front
 pub known_lines : (left left_new : Option (List ℕ)) (old new : LinesState) (lines : List Line) → Reads left left_new old new lines → old.rest ≡ [] → old.ended ≡ false
     → IfSome left (λ bytes. IsPrefixOf lines (lines_by false bytes))
 known_lines None left_new old new lines reads none begins = tt

@@ -57,7 +57,7 @@ ended_lines left left_new old new lines reads more none =
 
 -- ---- between two lines
 
--- The lines given were processed, and what they close was written. The bytes held and taken are those lines and the rest.
+-- The lines given were taken, and what is closed by them was written. What was held and taken is what stands up to the last of them, and the rest.
 pub record Between (to : Target) (head : Accepted) (left left_new : Option (List ℕ)) (old new : LinesState) (h : Hearing) (start written told reported : Option (List ℕ)) : Type 0 where
   pub given : List Line
   pub reads : Reads left left_new old new given

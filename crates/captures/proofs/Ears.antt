@@ -41,7 +41,7 @@ hears_more a b c u v w xs ys first second = record {
   notes = notes_more (SlotsStandFor a.assembly) (SlotsStandFor b.assembly) (SlotsStandFor c.assembly) u v w a.tally b.tally c.tally xs ys first.notes second.notes;
 }
 
--- events that were processed, and then a prefix of the report of the next
+-- what was heard, and then a prefix of what comes next
 pub unheard_more : (a b : Ear) (u v w : Option (List ℕ)) (before now : ℕ) (xs ys : List Noted) (fault : BridgeFault) → Hears a b u v xs → Unheard v w before now ys fault
     → Unheard u w before now (xs ++ ys) fault
 unheard_more a b u v w before now xs ys ReportFault first h = (prefix_more u v w xs ys first.notes.text h.0, h.1)
@@ -59,7 +59,7 @@ unheard_longer u w before now xs ys WriteFault h = h
 unheard_longer u w before now xs ys TooLong h = h
 unheard_longer u w before now xs ys NotThisForm h = h
 
--- a report that broke off: it continues what was reported, and is a prefix of what would have been
+-- what broke off in the midst, behind what was heard and in front of what would have been
 pub unheard_within : (a b : Ear) (u v w : Option (List ℕ)) (before middle now : ℕ) (xs ys zs all : List Noted) (fault : BridgeFault)
     → all ≡ (xs ++ ys) ++ zs → Hears a b u v xs → middle ≡ before → Unheard v w middle now ys fault → Unheard u w before now all fault
 unheard_within a b u v w before middle now xs ys zs all fault split first same h =
@@ -71,7 +71,7 @@ pub heard_as : {T : Type 0} (old new : Ear) (v w : Option (List ℕ)) (before no
     → Heard old new v w before now xs result → Heard old new v w before now ys result
 heard_as old new v w before now xs ys result e h = rw (sym e) h
 
--- ---- adding parts does not change the watermark
+-- ---- what is heard leaves the watermark
 
 pub open_after : (a b : Ear) (u v : Option (List ℕ)) (log : List Noted) (P : ℕ → Type 0) → Hears a b u v log → Stood (SlotsStandFor a.assembly) (λ at. P at.watermark)
     → Stood (SlotsStandFor b.assembly) (λ at. P at.watermark)

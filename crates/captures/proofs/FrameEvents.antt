@@ -39,7 +39,7 @@ frame_yields stamp bytes frame payload answer whole same part read =
     ap of_message read ∙ ap (λ (p : List ℕ). of_message (parts_of stamp (content_of p))) (part ∙ ap payload_of same)
     ∙ sym (cond-true (is_frame bytes) (of_message (parts_of stamp (content_of (payload_of bytes)))) (Refused refusals.Frame ∷ []) (whole_frame bytes whole))
 
--- parts with a stamp that is not before another stamp
+-- parts with a stamp that is not before another one
 pub heard_from : (least stamp : ℕ) (parts : List Part) → least ≤ stamp → All (λ (part : Part). part.stamp ≡ stamp) parts → AreFrom least (map Heard parts)
 heard_from least stamp [] later all = tt
 heard_from least stamp (p ∷ ps) later all =

@@ -1,4 +1,4 @@
--- The events of an item and what is known after it, where it is late and where it is not.
+-- What an item yields and lets one know, where it is late and where it is not.
 use Rattle.std.proofs.Common.{◌≡◌, ℕ, ◌+◌, ◌≤◌, max, Bool, true, false, nat_lt, if◌then◌else◌, List, [], ◌∷◌, Option, Some, IfSome, IfNone, Result, Ok, Err, OnOk, refl, sym, subst, ◌∙◌, arith}
 use Rattle.std.specs.Prelude.{unwrap_or}
 use Rattle.std.proofs.lemmas.Bool.{both_ways, cond-true, cond-false, ltb-false}
@@ -17,7 +17,7 @@ use Rattle.captures.proofs.Keeping.{keeps_more}
 
 -- ---- an item that is late
 
--- an item with this stamp is late
+-- an item with this stamp lies behind
 abbrev pub Behind : Option ℕ → ℕ → ℕ → Bool → Type 0
 Behind stamp window greatest behind = IfSome stamp (λ s. behind ≡ nat_lt (s + window) greatest) × IfNone stamp (behind ≡ false)
 
@@ -48,7 +48,7 @@ late_halves window known (Half stamp sat signal bits) behind h late =
     (if is_alert bits then known.halves else with_half known.halves (half_of stamp sat signal bits)) (sym h.0 ∙ late)
 late_halves window known (Frame stamp bytes) behind h late = refl
 
--- what is kept where no page part comes
+-- what is kept where no half comes
 pub keeps_item : (keeping : Keeping) (window : ℕ) (known : Known) (item : LineItem) → halves_with window known item ≡ known.halves
     → KeepsHalves keeping window known → KeepsHalves keeping window (known_with window known item)
 unfolding known_with

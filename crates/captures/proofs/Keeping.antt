@@ -1,4 +1,4 @@
--- Which accepted page parts are kept: those that a page part that is not late can pair with, and so after each line.
+-- What is kept of the accepted halves: it serves each half that is not late, and goes on doing so.
 use Rattle.std.proofs.Common.{◌≡◌, ℕ, ◌+◌, ◌≤◌, max, true, false, List, [], ◌∷◌, ◌⊎◌, ◌↔◌, inl, inr, Contains, sym, ap, subst, ◌∙◌, ⊎_elim, arith}
 use Rattle.std.proofs.lemmas.Bool.{cond_both, cond-true, cond-false, both_ways}
 use Rattle.std.proofs.lemmas.List.Elements.{Contains-append_cases, Contains-append_left, Contains-append_right, Contains-push, Contains-push_cases, at_from_Contains}
@@ -14,7 +14,7 @@ use Rattle.capture_log.specs.declared.event.Event.TheVariants.{Unused}
 use Rattle.captures.specs.Notes.{KeepsHalves, TookHalf, of_heard}
 use Rattle.captures.proofs.WordsHeard.{heard_at}
 
--- the laws of page parts
+-- what the laws of halves say
 abbrev pub IsDecided : Type 0
 IsDecided = (halves : List StampedHalf) (half : StampedHalf) → (has_half halves half ≡ true) ↔ Contains halves half
 
@@ -26,7 +26,7 @@ partner_stamp : (taken other : StampedHalf) → ArePartners taken other → take
 partner_stamp taken other (inl h) = omega (arith, h.stamp)
 partner_stamp taken other (inr h) = omega (arith, h.stamp)
 
--- the words made with the page parts that are kept are those made with all that are known
+-- the words made with what is kept are those made with all halves that are known
 same_words : (keeping : Keeping) (window : ℕ) (known : Known) (taken : StampedHalf) (words : List (List ℕ)) → KeepsHalves keeping window known
     → known.greatest ≤ taken.stamp + window → AreWordsWith (Contains keeping.kept) taken words → AreWordsWith (Contains known.halves) taken words
 same_words keeping window known taken words keeps timely h = record {
@@ -42,7 +42,7 @@ same_words keeping window known taken words keeps timely h = record {
   words_are = h.words_are;
 }
 
--- the words that a page part completes with those kept are the new ones
+-- the words that a half makes with what is kept are the new ones
 pub half_words : IsDecided → AreTheFunction → (keeping : Keeping) (window : ℕ) (known : Known) (taken : StampedHalf) (words : List (List ℕ))
     → KeepsHalves keeping window known → known.greatest ≤ taken.stamp + window
     → ((Contains keeping.kept taken → ⊥) → AreWordsWith (Contains keeping.kept) taken words)
@@ -58,7 +58,7 @@ half_words decided functions keeping window known taken words keeps timely fresh
     one_list_of (Contains known.halves) taken words (words_of known.halves taken)
     (same_words keeping window known taken words keeps timely (fresh none)) (functions known.halves taken))
 
--- one more page part among those that are known
+-- a half more among those that are known
 none_there : (x : StampedHalf) → Contains [] x → ⊥
 none_there x h = let place = at_from_Contains [] x h in omega (arith, place.1)
 
@@ -85,7 +85,7 @@ with_half_from decided halves half x h =
     (λ there. ⊎_elim (λ (was : Contains halves x). was) (λ (is : half ≡ x). subst (Contains halves) is ((decided halves half).0 there)) h)
     (λ new. first_from halves half x h)
 
--- the kept page parts stay the right ones after a stamp without a page part
+-- keeping goes on where a stamp came without a half
 pub keeps_more : (keeping : Keeping) (window : ℕ) (known : Known) (greatest : ℕ) → known.greatest ≤ greatest → KeepsHalves keeping window known
     → KeepsHalves keeping window (record { greatest = greatest; halves = known.halves })
 keeps_more keeping window known greatest rise keeps = record {
@@ -96,7 +96,7 @@ keeps_more keeping window known greatest rise keeps = record {
   low = omega (arith, keeps.low, rise);
 }
 
--- the kept page parts stay the right ones after a page part
+-- keeping goes on with a half
 pub half_keeps : IsDecided → (old new : Keeping) (window : ℕ) (known : Known) (taken : StampedHalf)
     → KeepsHalves old window known
     → ((other : StampedHalf) → Contains new.kept other ↔ IsKeptWith old taken new.greatest other)
@@ -120,7 +120,7 @@ half_keeps decided old new window known taken keeps kept greatest same = record 
   low = omega (arith, keeps.low, greatest);
 }
 
--- ---- the same, for the bits of a page part
+-- ---- the same, of the bits of a half
 
 pub took_alert : (keeping : Keeping) (window : ℕ) (known : Known) (stamp : ℕ) (sat : Satellite) (signal : Signal) (bits : List ℕ)
     → is_alert bits ≡ true → KeepsHalves keeping window known → TookHalf keeping window known stamp sat signal bits

@@ -70,7 +70,7 @@ log_line window m lines line e =
     ∙ ap (λ (k : ℕ). log_of window lines ++ log_from window (known_of window lines) k (item_line line ∷ [])) (sym e)
     ∙ ap (λ (l : List Noted). log_of window lines ++ l) (append-nil (noted m (events_of window (known_of window lines) (item_line line))))
 
--- ---- parts, reports and counts of concatenated logs
+-- ---- parts, reports and counts of a log and more behind it
 
 pub parts_append : (log more : List Noted) → parts_in (log ++ more) ≡ parts_in log ++ parts_in more
 parts_append log more = flat_map-append (λ (n : Noted). parts_of_event n.event) log more
@@ -239,7 +239,7 @@ square_next n k m e =
     sum_next : (p n k : ℕ) → p + n + (n + k) + 1 ≡ p + 2 * n + k + 1
     sum_next p n k = omega arith
 
--- one more line: its parts, and the page parts that are known
+-- one more line: its parts, and the halves that are known
 pub parts_line : (window : ℕ) (lines : List Line) (line : Line) → length (known_of window lines).halves ≤ length lines
     → length (parts_of window lines) ≤ length lines * (length lines + 4)
     → length (parts_of window (lines ++ line ∷ [])) ≤ length (lines ++ line ∷ []) * (length (lines ++ line ∷ []) + 4)

@@ -60,7 +60,7 @@ notes_more a b c u v w r s t xs ys first second = record {
   counts = second.counts ∙ ap (λ (x : Tally). tallied x ys) first.counts ∙ tallied-append r xs ys;
 }
 
--- a report that broke off: it continues what was reported, and is a prefix of what would have been
+-- a report that broke off, behind what was reported, and in front of what would have been
 pub prefix_more : (u v w : Option (List ℕ)) (xs ys : List Noted) → Appends u v (line_report xs) → AppendsPrefix v w (line_report ys) → AppendsPrefix u w (line_report (xs ++ ys))
 prefix_more u v w xs ys out (prefix, whole, more) = (
   line_report xs ++ prefix,

@@ -1,4 +1,4 @@
--- Texts that grew by prefixes, and what is closed before later lines.
+-- Texts that grew by prefixes, and what is closed in front of what comes later.
 use Rattle.std.proofs.Common.{◌≡◌, ℕ, ◌+◌, ◌*◌, ◌<◌, ◌≤◌, ◌^◌, List, [], ◌∷◌, ◌++◌, length, refl, sym, ap, subst, ◌∙◌, arith, append_assoc, append-nil}
 use Rattle.std.specs.Prelude.{Option, None, Some, All, Bool, if◌then◌else◌, true, false}
 use Rattle.std.specs.Io.KnownBytes.{Appends}
@@ -55,7 +55,7 @@ appends_longer a b xs ys prefix (x, within, h) = (x, prefix_trans x xs ys within
 pub appends_behind : (a b c : Option (List ℕ)) (xs ys : List ℕ) → Appends a b xs → AppendsPrefix b c ys → AppendsPrefix a c (xs ++ ys)
 appends_behind a b c xs ys h (y, within, g) = (xs ++ y, prefix_behind xs y ys within, Appends-trans a b c xs y h g)
 
--- ---- what the lines taken close comes before all other periods
+-- ---- what is closed by the lines taken, in front of all periods
 
 -- exactly that was written
 pub written_closed : (laws : LogLaws) (r window : ℕ) (to : Target) (given more : List Line) (all : List Line) (start written : Option (List ℕ)) → all ≡ given ++ more
@@ -127,7 +127,7 @@ product_low n k m l =
     let second : n * (m + k) ≤ m * (m + k) = mul-le-mul_right (m + k) l in
     omega (arith, first, second)
 
--- fewer than 2^64 periods from this number of lines
+-- fewer than 2^64 of so many lines
 pub periods_low : (r window n : ℕ) (parts : List Part) → length parts ≤ n * (n + 4) → n ≤ 4294967294 → length (periods_of r window parts) < 2 ^ 64
 periods_low r window n parts few l = omega (arith, periods_few r window parts, few, product_low n 4 4294967294 l)
 

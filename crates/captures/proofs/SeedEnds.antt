@@ -1,4 +1,4 @@
--- How a run over a generated capture ends, from how its branch ends.
+-- How a run over a generated capture ends, from how its half ends.
 use Rattle.std.proofs.Common.{◌≡◌, ℕ, Bool, true, false, List, [], length, refl, sym, ap, subst, ◌∙◌, arith}
 use Rattle.std.specs.Prelude.{Option, None, Some, IsSome, Result, Ok, Err}
 use Rattle.std.proofs.lemmas.Bool.{true≢false}

@@ -1,4 +1,4 @@
--- A line, processed and written: the state before, within and after it.
+-- A line, taken and written: what a hearing holds before, within and after it.
 use Rattle.std.proofs.Common.{◌≡◌, ℕ, ◌+◌, ◌-◌, ◌<◌, ◌≤◌, ◌^◌, List, [], ◌∷◌, ◌++◌, length, Option, None, refl, sym, ap, subst, ◌∙◌, arith, append_assoc, length-append}
 use Rattle.std.specs.Prelude.{Result, Ok, Err, OnOk, OnErr, MatchResult}
 use Rattle.std.specs.Io.KnownBytes.{Appends}
@@ -34,7 +34,7 @@ use Rattle.captures.proofs.Logs.{halves_line, known_line, known_of, log_line, pa
 
 -- ---- before the line
 
--- the watermark of the assembly is that of the lines
+-- the mark of the assembly is that of the lines
 pub stands_open : (to : Target) (head : Accepted) (lines : List Line) (h : Hearing) (start written told reported : Option (List ℕ))
     → Stands to head lines h start written told reported → IsOpenAt h.ear (h.greatest - h.window)
 stands_open to head lines h start written told reported s = (
@@ -49,7 +49,7 @@ pub stands_room : (to : Target) (head : Accepted) (number : ℕ) (lines : List L
 stands_room to head number lines h start written told reported s e low =
     counts_low (length lines) (total h.ear.tally) (length h.halves.kept) s.counted.room s.counted.few (omega (arith, e, low))
 
--- the kept page parts are those that the lines need
+-- what is kept of the halves serves the lines
 pub stands_keeps : (to : Target) (head : Accepted) (lines : List Line) (h : Hearing) (start written told reported : Option (List ℕ))
     → Stands to head lines h start written told reported → KeepsHalves h.halves h.window (known_of head.window lines)
 stands_keeps to head lines h start written told reported s = subst (λ (w : ℕ). KeepsHalves h.halves w (known_of head.window lines)) (sym s.own) s.counted.keeps
@@ -113,7 +113,7 @@ stands_taken laws to head number lines line old new start written told reported 
       counted = counted_line head.window number lines line old new reported reported_new e takes s.own s.counted;
     }
 
--- the same for the item and the window of the state
+-- the same of the item and the window that the hearing has
 pub took_line : (laws : LogLaws) (to : Target) (head : Accepted) (number : ℕ) (lines : List Line) (line : Line) (item : LineItem) (old new : Hearing) (start written told reported reported_new : Option (List ℕ))
     → Stands to head lines old start written told reported → number ≡ 2 + length lines → item ≡ item_line line
     → Takes old new reported reported_new (noted number (events_of old.window (known_of head.window lines) item)) (known_with old.window (known_of head.window lines) item)
@@ -193,13 +193,13 @@ stands_counted to head before watermark number lines h start written told report
       counts = s.flushed.counts;
     })
 
--- for an equal week and an equal window
+-- near an equal week, with an equal window
 flushed_at : (now : Standing → Type 0) (r s w v : ℕ) (to : Target) (parts : List Part) (watermark : ℕ) (start written : Option (List ℕ)) (said : Said) → r ≡ s → w ≡ v
     → Flushed now r w to parts watermark start written said → Flushed now s v to parts watermark start written said
 flushed_at now r s w v to parts watermark start written said e f h =
     subst (λ (x : ℕ). Flushed now s x to parts watermark start written said) f (subst (λ (x : ℕ). Flushed now x w to parts watermark start written said) e h)
 
--- for the week and the window of the assembly
+-- near the week and with the window of the assembly
 pub own_flushed : (to : Target) (head : Accepted) (before : ℕ) (lines : List Line) (h : Hearing) (start written told reported : Option (List ℕ))
     → StandsAt to head before lines h start written told reported
     → Flushed (SlotsStandFor h.ear.assembly) h.ear.assembly.reference h.ear.assembly.window to (parts_of head.window lines) before start written h.said
@@ -234,7 +234,7 @@ writing_cause told before now ReportFault h = absurd h
 writing_cause told before now TooLong h = absurd h
 writing_cause told before now NotThisForm h = absurd h
 
--- what was written, for the week and the window of the assembly
+-- what was written, near the week and with the window of the assembly
 abbrev pub ClosedBetween : ℕ → ℕ → Target → List Part → ℕ → ℕ → Option (List ℕ) → Option (List ℕ) → Type 0
 ClosedBetween r w to parts before watermark start written = AppendsBetween start written (texts_of to (closed_of r w before parts)) (texts_of to (closed_of r w watermark parts))
 

@@ -1,4 +1,4 @@
--- The events of an item, processed: a late item, one that is not late, and a page part.
+-- What an item yields, taken: where it is late, where it is not, and where it is a page half.
 use Rattle.std.proofs.Common.{◌≡◌, ℕ, ◌+◌, ◌≤◌, ◌<◌, max, Bool, true, false, nat_lt, if◌then◌else◌, List, [], ◌∷◌, length, Option, Some, Result, Ok, Err, refl, sym, ap, subst, ◌∙◌, arith}
 use Rattle.std.specs.Prelude.{unwrap_or}
 use Rattle.std.proofs.lemmas.Bool.{cond-true, cond-false, ltb-true}
@@ -21,7 +21,7 @@ use Rattle.captures.specs.Hearings.{Heard, Took}
 use Rattle.captures.proofs.Ears.{total_heard}
 use Rattle.captures.proofs.ItemEvents.{Behind, keeps_item, late_events, late_halves, page_events}
 
--- a state with another greatest stamp, other page parts and another ear
+-- a hearing with another greatest stamp, other halves and another ear
 abbrev pub hearing_with : Hearing → ℕ → Keeping → Ear → Hearing
 hearing_with h greatest halves ear = record { window = h.window; greatest = greatest; halves = halves; ear = ear; said = h.said }
 
@@ -44,7 +44,7 @@ took_heard h greatest halves ear v w before now number es fs known (Ok x) keeps 
     )
 took_heard h greatest halves ear v w before now number es fs known (Err fault) keeps at kept few same heard = rw (sym same) heard
 
--- the same for the item that was matched
+-- the same of the item that was matched
 pub took_item : {T : Type 0} (h : Hearing) (greatest : ℕ) (ear : Ear) (v w : Option (List ℕ)) (before now number : ℕ) (es : List Event) (known : Known) (item own : LineItem) (result : Result T BridgeFault)
     → item ≡ own → KeepsHalves h.halves h.window (known_with h.window known own) → greatest ≡ (known_with h.window known own).greatest → weights es ≤ 1 → es ≡ events_of h.window known own
     → Heard h.ear ear v w before now (noted number es) result
@@ -72,7 +72,7 @@ took_late h ear v w before now number known item own stamp late result is stampe
     (subst (λ (o : Option ℕ). h.greatest ≡ max known.greatest (unwrap_or o 0)) (sym stamped) greatest ∙ known_greatest h.window known own)
     (omega arith) (late_events h.window known own late behind so) heard
 
--- a page part that is not late
+-- a page half that is not
 known_page : (window : ℕ) (known : Known) (stamp : ℕ) (sat : Satellite) (signal : Signal) (bits : List ℕ) → is_late window known stamp ≡ false
     → known_half known stamp sat signal bits ≡ known_with window known (Half stamp sat signal bits)
 unfolding known_with

@@ -21,7 +21,7 @@ weights_prefix [] (suc i) = omega arith
 weights_prefix (e ∷ es) zero = omega arith
 weights_prefix (e ∷ es) (suc i) = omega (arith, weights_prefix es i)
 
--- the weight so far and that of the next event are no more than the whole weight
+-- what was weighed and the next one are no more than all
 pub weights_one : (es : List Event) (i : ℕ) (e : Event) → i < length es → e ≡ get_or es i e → weights (take i es) + weight e ≤ weights es
 weights_one es i e within is =
     let more = ap weights (take_one es i e within is) in
@@ -41,7 +41,7 @@ from_one stamp es i e within is from = subst (λ (x : Event). IfHeard x (λ part
 pub noted-append : (number : ℕ) (es fs : List Event) → noted number (es ++ fs) ≡ noted number es ++ noted number fs
 noted-append number es fs = map-append (λ (e : Event). record { line = number; event = e }) es fs
 
--- a list of events is those before one, that one, and those after it
+-- all events are those before one, that one, and those behind it
 pub noted_split : (number : ℕ) (es : List Event) (i : ℕ) (e : Event) → i < length es → e ≡ get_or es i e
     → noted number es ≡ (noted number (take i es) ++ noted number (e ∷ [])) ++ noted number (drop (i + 1) es)
 noted_split number es i e within is =

@@ -33,7 +33,7 @@ heard_one number sat stamp words i word is =
     ∙ ap (λ (es : List Event). of_heard sat stamp (take i words) ++ es) (of_heard-one sat stamp word))
     ∙ noted-append number (of_heard sat stamp (take i words)) (of_word (reading_of word sat stamp))
 
--- a list of words is those before one, that one, and those after it
+-- all words are those before one, that one, and those behind it
 pub heard_split : (number : ℕ) (sat : Satellite) (stamp : ℕ) (words : List (List ℕ)) (i : ℕ) (word : List ℕ) → slice_get words i ≡ Some word
     → noted number (of_heard sat stamp words)
     ≡ (noted number (of_heard sat stamp (take i words)) ++ noted number (of_word (reading_of word sat stamp))) ++ noted number (of_heard sat stamp (drop (i + 1) words))

@@ -83,8 +83,8 @@ all_said (c ∷ cs) =
 
 -- ---- the periods given so far
 
--- Of the parts all periods closed at the first watermark were given, and then some of those closed at the second; the texts of
--- these were written, and they were counted.
+-- Of the parts all was given that is closed at the first watermark, and behind it some of what is closed at the second; the texts
+-- of these were written, and they were counted.
 pub record Writes (now : Standing → Type 0) (r w : ℕ) (to : Target) (before watermark : ℕ) (parts : List Part) (start written : Option (List ℕ)) (counted : Said) : Type 0 where
   pub given : List Closed
   pub gives : Gives now r w before watermark parts given
@@ -160,7 +160,7 @@ writes_all now new r w to before watermark parts start written counted values no
 
 -- ---- the counts have room
 
--- parts of fewer than 2^64 periods, of which those given so far were counted
+-- some parts of fewer than 2^64 periods, of which those given so far were counted
 pub record Counts (now : Standing → Type 0) (r w watermark : ℕ) (counted : Said) : Type 0 where
   pub parts : List Part
   pub before : ℕ

@@ -22,27 +22,27 @@ use Rattle.captures.specs.declared.accept.Accepted.{Accepted}
 use Rattle.one_run.specs.Reports.{count_line}
 use Rattle.captures.specs.Reports.{report_in, count_in, is_malformed, is_late, is_refused_event, is_unused}
 
--- the reference week of a capture: that of the command line or of the first line; none where neither names one or they differ
+-- the reference week of a capture: that of the words or that of the first line; none where both name one and they differ
 abbrev pub week_for : Option ℕ → Option ℕ → Option ℕ
 week_for None named = named
 week_for (Some week) None = Some week
 week_for (Some week) (Some named) = if week == named then Some week else None
 
--- an accepted first line: its window in seconds, and the reference week
+-- a first line that is accepted: the window, and the week
 abbrev pub accepted_with : ℕ → Option ℕ → Option Accepted
 accepted_with window None = None
 accepted_with window (Some week) = Some (record { window = window; week = week })
 
--- the first line as it is accepted for the week of the command line, or for none
+-- the first line as it is accepted for the week of the words, or for none
 abbrev pub accepted_head : Option ℕ → Option CaptureHead → Option Accepted
 accepted_head week None = None
 accepted_head week (Some head) = accepted_with head.window (week_for week head.week)
 
--- the same for a line; a line of more than 2,200 bytes is not accepted
+-- the same of a line; one of more than 2,200 bytes is not accepted
 unfoldable pub accepted_line : Option ℕ → Line → Option Accepted
 accepted_line week line = if line.long then None else accepted_head week (head_of line.text)
 
--- a capture with an accepted first line: its window in seconds, its reference week, and the lines after the first
+-- a capture whose first line is accepted, and the lines behind that
 pub record Capture : Type 0 where
   pub window : ℕ
   pub week : ℕ
@@ -53,24 +53,21 @@ abbrev pub capture_with : List Line → Option Accepted → Option Capture
 capture_with lines None = None
 capture_with lines (Some a) = Some (record { window = a.window; week = a.week; lines = lines })
 
--- the capture that the lines are, the first of them included
 abbrev pub capture_in : Option ℕ → List Line → Option Capture
 capture_in week [] = None
 capture_in week (head ∷ lines) = capture_with lines (accepted_line week head)
 
--- the capture that the bytes are
+-- the capture that some bytes are, and the one that the lines are that have ended in them
 abbrev pub capture_of : Option ℕ → List ℕ → Option Capture
 capture_of week bytes = capture_in week (lines_by false bytes)
 
--- the capture that the complete lines of the bytes are
 abbrev pub ended_capture : Option ℕ → List ℕ → Option Capture
 ended_capture week bytes = capture_in week (lines_by true bytes)
 
--- the periods of a capture
+-- the periods of a capture, and those that are closed at the mark of its lines
 abbrev pub periods : Capture → List Closed
 periods c = periods_of c.week c.window (parts_of c.window c.lines)
 
--- the periods of a capture that are closed at the watermark of its lines
 abbrev pub flushed_periods : Capture → List Closed
 flushed_periods c = closed_of c.week c.window (watermark_after c.window c.lines) (parts_of c.window c.lines)
 
@@ -78,27 +75,23 @@ flushed_periods c = closed_of c.week c.window (watermark_after c.window c.lines)
 abbrev pub items : Capture → List NavItem
 items c = items_in (periods c)
 
--- 1 for a whole period, else 0
+-- 1 for the periods of a verdict, to be summed
 abbrev pub is_whole : Verdict → ℕ
 is_whole (Whole item) = 1
 is_whole _ = 0
 
--- 1 for a partial period, else 0
 abbrev pub is_partial : Verdict → ℕ
 is_partial Partial = 1
 is_partial _ = 0
 
--- 1 for a contradicted period, else 0
 abbrev pub is_contradicted : Verdict → ℕ
 is_contradicted Contradicted = 1
 is_contradicted _ = 0
 
--- 1 for a Galileo period without signal health, else 0
 abbrev pub is_nohealth : Verdict → ℕ
 is_nohealth NoHealth = 1
 is_nohealth _ = 0
 
--- 1 for a period that repeats the last complete one of its key, else 0
 abbrev pub is_again : Verdict → ℕ
 is_again Again = 1
 is_again _ = 0
@@ -134,12 +127,12 @@ counts_text c =
 abbrev pub texts_of : Target → List Closed → List ℕ
 texts_of to cs = flat_map (period_text to) cs
 
--- what is written of a whole capture
+-- what is written of a capture
 abbrev pub whole_text : Target → Option Capture → List ℕ
 whole_text to None = []
 whole_text to (Some c) = prefix_text to ++ (texts_of to (periods c) ++ back_text to (counts_text (counts_of c)))
 
--- what is written of it so far, when more lines may come
+-- what is written of it once its lines were taken and more may come
 abbrev pub flushed_text : Target → Option Capture → List ℕ
 flushed_text to None = []
 flushed_text to (Some c) = prefix_text to ++ texts_of to (flushed_periods c)
@@ -149,35 +142,33 @@ abbrev pub whole_report : Option Capture → List ℕ
 whole_report None = []
 whole_report (Some c) = report_in (codes "line") (log_of c.window c.lines) ++ counts_text (counts_of c)
 
--- what is reported of it so far, when more lines may come: a line for each refusal
+-- what is reported of it once its lines were taken and more may come: a line for each refusal
 abbrev pub refusals_text : Option Capture → List ℕ
 refusals_text None = []
 refusals_text (Some c) = report_in (codes "line") (log_of c.window c.lines)
 
--- the output for a capture's bytes, with the week of the command line or none
+-- the output and the report of a capture's bytes, converted for a week
 unfoldable pub output_of : Target → Option ℕ → List ℕ → List ℕ
 output_of to week bytes = whole_text to (capture_of week bytes)
 
--- the report of a capture's bytes
 unfoldable pub report_of_capture : Option ℕ → List ℕ → List ℕ
 report_of_capture week bytes = whole_report (capture_of week bytes)
 
--- the output so far, after the complete lines of the bytes
+-- what is written and reported once the lines that have ended in the bytes were taken
 unfoldable pub flushed_output : Target → Option ℕ → List ℕ → List ℕ
 flushed_output to week bytes = flushed_text to (ended_capture week bytes)
 
--- the report so far, after the complete lines of the bytes
 unfoldable pub flushed_report : Option ℕ → List ℕ → List ℕ
 flushed_report week bytes = refusals_text (ended_capture week bytes)
 
--- all lines but the last
+-- all but the last
 abbrev pub without_last : List Line → List Line
 without_last [] = []
 without_last (line ∷ []) = []
 without_last (line ∷ more ∷ lines) = line ∷ without_last (more ∷ lines)
 
--- the least that was written of the bytes taken, at a fault other than of a read: what the complete lines before the last 4,096
--- bytes close, without the last of these lines
+-- the least that is written once the bytes were taken, at a fault other than of a read: what is closed by the lines that have ended before
+-- the last 4,096 bytes, the last of them left out
 unfoldable pub least_output : Target → Option ℕ → List ℕ → List ℕ
 least_output to week bytes = flushed_text to (capture_in week (without_last (lines_by true (take (length bytes - 4096) bytes))))
 
@@ -194,7 +185,7 @@ abbrev pub counts_in : Option Capture → Option CaptureCounts
 counts_in None = None
 counts_in (Some c) = Some (counts_of c)
 
--- the meaning of a run over a capture, in this form
+-- what a run makes of the bytes of a capture, in this form
 abbrev pub target_meaning : Target → Option ℕ → Meaning CaptureCounts
 target_meaning to week = record {
   reads = true;
@@ -206,6 +197,5 @@ target_meaning to week = record {
   flushed = Some (record { output = flushed_output to week; report = flushed_report week });
 }
 
--- the same, by the target that a job names
 abbrev pub capture_meaning : CaptureTo → Option ℕ → Meaning CaptureCounts
 capture_meaning to week = target_meaning (target_of to) week

@@ -1,4 +1,4 @@
--- A capture while its lines after the first are read. Private functions cite these.
+-- A capture while it is read, behind its first line. Private functions cite these.
 use Rattle.std.specs.Prelude.{◌≡◌, ℕ, ◌+◌, ◌-◌, ◌*◌, ◌^◌, ◌<◌, ◌≤◌, ◌⊎◌, true, false, List, [], ◌++◌, length, take, Option, Some, None, IsSome, IfSome}
 use Rattle.std.specs.Io.KnownBytes.{Appends, Consumes}
 use Rattle.nav_io.specs.Prefix.{AppendsPrefix}
@@ -25,7 +25,7 @@ use Rattle.captures.specs.Flushed.{said_of}
 abbrev pub no_tally : Tally
 no_tally = record { malformed = 0; late = 0; refused = 0; unused = 0 }
 
--- what is kept, counted and known after the lines so far
+-- what is kept, counted and known of the lines so far
 pub record Counted (window : ℕ) (lines : List Line) (keeping : Keeping) (tally : Tally) (greatest : ℕ) : Type 0 where
   pub keeps : KeepsHalves keeping window (known_from window nothing_known (line_items_of lines))
   pub greatest_is : greatest ≡ (known_from window nothing_known (line_items_of lines)).greatest
@@ -35,15 +35,14 @@ pub record Counted (window : ℕ) (lines : List Line) (keeping : Keeping) (tally
   pub halves : length (known_from window nothing_known (line_items_of lines)).halves ≤ length lines
   pub parts : length (parts_of window lines) ≤ length lines * (length lines + 4)
 
--- the texts of the periods that lines close
+-- what is closed by lines, and their periods, as texts
 abbrev pub closed_texts : Target → Accepted → List Line → List ℕ
 closed_texts to head lines = texts_of to (closed_of head.week head.window (watermark_after head.window lines) (parts_of head.window lines))
 
--- the texts of all periods of lines
 abbrev pub period_texts : Target → Accepted → List Line → List ℕ
 period_texts to head lines = texts_of to (periods_of head.week head.window (parts_of head.window lines))
 
--- All lines were read and processed, all periods were written, and all events were reported and counted.
+-- All lines were given and taken, all periods were written, and all that they yield was reported and counted.
 pub record ConvertsAll (to : Target) (head : Accepted) (left left_new : Option (List ℕ)) (old new : LinesState) (start written told reported : Option (List ℕ)) (tally : Tally) (said : Said) : Type 0 where
   pub given : List Line
   pub reads : Reads left left_new old new given
@@ -56,8 +55,8 @@ pub record ConvertsAll (to : Target) (head : Accepted) (left left_new : Option (
   pub counts : tally ≡ tallied no_tally (log_of head.window given)
   pub verdicts : said ≡ said_of (periods_of head.week head.window (parts_of head.window given))
 
--- What a fault says besides. After a failed read the complete lines were processed, exactly the periods that they close were
--- written, and all their events were reported. At `TooLong` 2^32 bytes were counted.
+-- What a fault says besides of lines that were taken, the last one maybe in part: after a read that failed the lines that have ended were taken, exactly
+-- what is closed by them was written, and what they yield was reported; or as many bytes were taken as a run takes.
 abbrev pub ConversionSays : Target → Accepted → List Line → List Line → LinesState → Option (List ℕ) → Option (List ℕ) → Option (List ℕ) → Option (List ℕ) → BridgeFault → Type 0
 ConversionSays to head given last new start written told reported ReadFault =
     (last ≡ []) × (new.ended ≡ false) × (ends new.rest ≡ false) × Appends start written (closed_texts to head given) × Appends told reported (line_report (log_of head.window given))
@@ -67,9 +66,9 @@ ConversionSays to head given last new start written told reported WriteFault = U
 ConversionSays to head given last new start written told reported ReportFault = Unit {0}
 ConversionSays to head given last new start written told reported NoMemory = Unit {0}
 
--- A fault. The lines `given` were processed, and `last`, at most one, perhaps in part; no more lines are complete before the last
--- 4,096 bytes. A prefix was written of what these lines and any that follow give, no less than what `given` close; and a prefix
--- of the report of these lines was reported.
+-- A fault came. The lines that were given were taken, the last one maybe in part; all but the last 4,096 bytes have no more of
+-- them. A prefix was written of what the lines and whatever may follow them give, no less than what is closed without the last
+-- line; and a prefix of what they yield was reported.
 pub record ConversionBroke (to : Target) (head : Accepted) (left left_new : Option (List ℕ)) (old new : LinesState) (start written told reported : Option (List ℕ)) (fault : BridgeFault) : Type 0 where
   pub given : List Line
   pub last : List Line
@@ -80,13 +79,13 @@ pub record ConversionBroke (to : Target) (head : Accepted) (left left_new : Opti
   pub report : AppendsPrefix told reported (line_report (log_of head.window (given ++ last)))
   pub says : ConversionSays to head given last new start written told reported fault
 
--- the first line was read and is accepted
+-- the first line was given, and it is accepted
 pub record GivesHead (week : Option ℕ) (left left_new : Option (List ℕ)) (old new : LinesState) (head : Accepted) : Type 0 where
   pub line : Line
   pub gives : GivesLine left left_new old new line
   pub accepted : accepted_line week line ≡ Some head
 
--- the first line was read and is not accepted, or the input has none, or breaks off in it
+-- it was given and is not accepted, or the input has none, or breaks off in it
 abbrev pub GivesNoHead : Option ℕ → Option (List ℕ) → Option (List ℕ) → LinesState → LinesState → BridgeFault → Type 0
 GivesNoHead week left left_new old new NotThisForm =
     ((line : Line) × GivesLine left left_new old new line × (accepted_line week line ≡ None)) ⊎ GivesEnd left left_new old new
@@ -94,30 +93,29 @@ GivesNoHead week left left_new old new ReadFault = BreaksRead left left_new old 
 GivesNoHead week left left_new old new TooLong = BreaksLong left left_new old new
 GivesNoHead week left left_new old new _ = ⊥
 
--- the output and the report are prefixes of what the whole input gives
+-- a prefix was written and reported of what all bytes give that were there
 abbrev pub CapturePrefix : Target → Option ℕ → Option (List ℕ) → Option (List ℕ) → Option (List ℕ) → Option (List ℕ) → Option (List ℕ) → Type 0
 CapturePrefix to week left written written_new reported reported_new =
     IfSome left (λ bytes. AppendsPrefix written written_new (output_of to week bytes) × AppendsPrefix reported reported_new (report_of_capture week bytes))
 
--- counts are written only after the input was read to its end
+-- counts are written at the end alone
 abbrev pub CountsLast : Target → Option ℕ → Option (List ℕ) → Option (List ℕ) → Option (List ℕ) → Option (List ℕ) → Type 0
 CountsLast Count week left left_new written written_new = WritesLast (output_of Count week) left left_new written written_new
 CountsLast to week left left_new written written_new = Unit {0}
 
--- after a fault, what is known with regard to the whole input, unread bytes included
+-- what is known after a fault of the bytes that were not taken
 abbrev pub CaptureAhead : Target → Option ℕ → Option (List ℕ) → Option (List ℕ) → Option (List ℕ) → Option (List ℕ) → Option (List ℕ) → Option (List ℕ) → Type 0
 CaptureAhead to week left left_new written written_new reported reported_new =
     CapturePrefix to week left written written_new reported reported_new × CountsLast to week left left_new written written_new
 
--- the first line of the whole input is accepted
+-- the first line of the bytes that were there is accepted, or it is not
 abbrev pub AcceptsHead : Option ℕ → Option (List ℕ) → Type 0
 AcceptsHead week left = IfSome left (λ bytes. IsSome (counts_in (capture_of week bytes)))
 
--- the first line of the whole input is refused
 abbrev pub Refuses : Option ℕ → Option (List ℕ) → Type 0
 Refuses week left = IfSome left (λ bytes. counts_in (capture_of week bytes) ≡ None)
 
--- what a fault says besides, of a run that took these bytes
+-- what a fault says besides of a run that took these bytes
 abbrev pub StopSays : Target → Option ℕ → Option (List ℕ) → List ℕ → Option (List ℕ) → Option (List ℕ) → Option (List ℕ) → Option (List ℕ) → BridgeFault → Type 0
 StopSays to week left taken written written_new reported reported_new ReadFault =
     Appends written written_new (flushed_output to week taken) × Appends reported reported_new (flushed_report week taken)

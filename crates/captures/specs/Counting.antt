@@ -1,4 +1,4 @@
--- How the two branches of a run from a seed end: the capture is written, or counted. Private functions cite these.
+-- How the two halves of a run end. Private functions cite these.
 use Rattle.std.specs.Prelude.{◌≡◌, ℕ, List, length, Option, Some, Result, Ok, Err}
 use Rattle.std.specs.Io.KnownBytes.{Appends}
 use Rattle.nav_io.specs.Causes.{Rose}
@@ -12,7 +12,7 @@ use Rattle.captures.specs.Captures.{capture_of, counts_in, output_of, report_of_
 use Rattle.captures.specs.declared.seed_target.SeedCounts.{SeedCounts}
 use Rattle.captures.specs.declared.seed_target.SeedCounts.TheVariants.{Written, Counted}
 
--- the fault count of the output or report that failed rose; the input, its form and its length are never at fault
+-- the counts of an object that failed rose, and neither the input nor its form nor its length is at fault
 abbrev pub IsSeedFault : Faults → Faults → BridgeFault → Type 0
 IsSeedFault before now ReadFault = ⊥
 IsSeedFault before now WriteFault = Rose before.output now.output
@@ -38,12 +38,12 @@ pub record CountDone (r : ℕ) (text : List ℕ) (written written_new reported r
   pub counted : counts ≡ Counted of
   pub quiet : now ≡ before
 
--- prefixes of what the text gives were written and reported
+-- a prefix was written and reported of what the text gives
 abbrev pub CountBroke : ℕ → List ℕ → Option (List ℕ) → Option (List ℕ) → Option (List ℕ) → Option (List ℕ) → Type 0
 CountBroke r text written written_new reported reported_new =
     AppendsPrefix written written_new (output_of Count (Some r) text) × AppendsPrefix reported reported_new (report_of_capture (Some r) text)
 
--- how counting the capture of a text ends
+-- how it ends
 abbrev pub CountsText : ℕ → List ℕ → Option (List ℕ) → Option (List ℕ) → Option (List ℕ) → Option (List ℕ) → Faults → Faults → Result SeedCounts BridgeFault → Type 0
 CountsText r text written written_new reported reported_new before now (Ok counts) =
     CountDone r text written written_new reported reported_new before now counts

@@ -16,7 +16,7 @@ use Rattle.one_run.specs.declared.fault.BridgeFault.{BridgeFault}
 use Rattle.one_run.specs.declared.fault.BridgeFault.TheVariants.{WriteFault, NoMemory}
 use Rattle.captures.specs.Captures.{texts_of, verdicts, is_whole, is_partial, is_contradicted, is_nohealth, is_again}
 
--- the verdict counts with one period more
+-- what is said of one period more
 abbrev pub said : Said → Verdict → Said
 said s verdict = record {
   whole = s.whole + is_whole verdict;
@@ -26,11 +26,11 @@ said s verdict = record {
   again = s.again + is_again verdict;
 }
 
--- the number of periods that were counted
+-- how many periods something was said of
 abbrev pub total_said : Said → ℕ
 total_said s = s.whole + s.partial + s.contradicted + s.nohealth + s.again
 
--- the verdict counts of periods
+-- what is said of periods
 abbrev pub said_of : List Closed → Said
 said_of cs = record {
   whole = verdicts is_whole cs;
@@ -40,7 +40,7 @@ said_of cs = record {
   again = verdicts is_again cs;
 }
 
--- the counts of a capture with this number of lines
+-- the counts of a capture of so many lines
 abbrev pub with_counts : ℕ → Tally → Said → CaptureCounts
 with_counts lines t s = record {
   lines = lines;
@@ -55,15 +55,15 @@ with_counts lines t s = record {
   again = s.again;
 }
 
--- the assembly has the parts and is flushed at the watermark: the texts of all periods closed there were written, and the
--- periods counted
+-- the assembly stands for the parts at the watermark, all that is closed there was given, and the texts of that were written and
+-- counted
 pub record Flushed (now : Standing → Type 0) (r window : ℕ) (to : Target) (parts : List Part) (watermark : ℕ) (written written_new : Option (List ℕ)) (counted : Said) : Type 0 where
   pub stands : now (flushed r window parts watermark)
   pub text : Appends written written_new (texts_of to (closed_of r window watermark parts))
   pub counts : counted ≡ said_of (closed_of r window watermark parts)
 
--- the assembly has parts of fewer than 2^64 periods, at a watermark not above this one, and the periods closed there were
--- counted
+-- the assembly stands for parts of fewer than 2^64 periods at a watermark that is not above this one, and what is closed there
+-- was counted
 pub record HasRoom (now : Standing → Type 0) (r window watermark : ℕ) (counted : Said) : Type 0 where
   pub parts : List Part
   pub before : ℕ
@@ -72,7 +72,7 @@ pub record HasRoom (now : Standing → Type 0) (r window watermark : ℕ) (count
   pub stands : now (flushed r window parts before)
   pub counts : counted ≡ said_of (closed_of r window before parts)
 
--- how writing ends: the output's fault count rose exactly where the output failed, and the only other fault is want of memory
+-- want of memory, or an output that failed; the output's count rose only then
 abbrev pub IsWriting : {T : Type 0} → ℕ → ℕ → Result T BridgeFault → Type 0
 IsWriting before now (Ok x) = now ≡ before
 IsWriting before now (Err WriteFault) = Rose before now

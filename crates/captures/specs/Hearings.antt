@@ -1,4 +1,4 @@
--- The state of a run over a capture between two lines, and how a line changes it. Private functions cite these.
+-- What a run over a capture holds between two lines, and what a line makes of it. Private functions cite these.
 use Rattle.std.specs.Prelude.{◌≡◌, ℕ, ◌+◌, ◌≤◌, ◌<◌, ◌^◌, List, [], ◌∷◌, ◌++◌, Option, Result, Ok, Err, MatchResult, length}
 use Rattle.std.specs.Io.KnownBytes.{Appends}
 use Rattle.nav_io.specs.Causes.{Rose}
@@ -24,32 +24,31 @@ use Rattle.captures.specs.Converts.{Counted, ConvertsAll, ConversionBroke, close
 use Rattle.captures.specs.Notes.{AreFrom, KeepsHalves, Notes, line_report, total}
 use Rattle.captures.specs.Flushed.{IsWriting, Flushed, said_of}
 
--- the watermark of the assembly is not above the stamp
+-- the mark of the assembly is not above the stamp
 abbrev pub IsOpenAt : Ear → ℕ → Type 0
 IsOpenAt ear stamp = Stood (SlotsStandFor ear.assembly) (λ at. at.watermark ≤ stamp)
 
--- the watermark of the assembly is not above the stamp of any part of the events
+-- nor above that of any part of the events
 abbrev pub IsOpenFor : Ear → List Event → Type 0
 IsOpenFor ear events = Stood (SlotsStandFor ear.assembly) (λ at. AreFrom at.watermark events)
 
--- the events of a log were processed: parts went to the assembly, and the others to the report and the counts
+-- the events of a log were taken: parts by the assembly, the lines of the others by the report, and they were counted
 pub record Hears (old new : Ear) (reported reported_new : Option (List ℕ)) (log : List Noted) : Type 0 where
   pub reference : new.assembly.reference ≡ old.assembly.reference
   pub window : new.assembly.window ≡ old.assembly.window
   pub notes : Notes (SlotsStandFor old.assembly) (SlotsStandFor new.assembly) reported reported_new old.tally new.tally log
 
--- a report failed, or memory was missing: a prefix of the report's lines was written, and its fault count rose only if it failed
+-- a report failed, or memory was wanting: a prefix of the lines was reported; the report's count rose only where it failed
 abbrev pub Unheard : Option (List ℕ) → Option (List ℕ) → ℕ → ℕ → List Noted → BridgeFault → Type 0
 Unheard reported reported_new faults faults_new log ReportFault = AppendsPrefix reported reported_new (line_report log) × Rose faults faults_new
 Unheard reported reported_new faults faults_new log NoMemory = AppendsPrefix reported reported_new (line_report log) × (faults_new ≡ faults)
 Unheard reported reported_new faults faults_new log _ = ⊥
 
--- the result of processing the events of a log
 abbrev pub Heard : {T : Type 0} → Ear → Ear → Option (List ℕ) → Option (List ℕ) → ℕ → ℕ → List Noted → Result T BridgeFault → Type 0
 Heard old new reported reported_new faults faults_new log (Ok x) = Hears old new reported reported_new log × (faults_new ≡ faults)
 Heard old new reported reported_new faults faults_new log (Err fault) = Unheard reported reported_new faults faults_new log fault
 
--- the events of an item were processed, and `known` is known after it
+-- what an item yields was taken, and this is known with it
 pub record Takes (old new : Hearing) (reported reported_new : Option (List ℕ)) (log : List Noted) (known : Known) : Type 0 where
   pub hears : Hears old.ear new.ear reported reported_new log
   pub keeps : KeepsHalves new.halves old.window known
@@ -59,12 +58,11 @@ pub record Takes (old new : Hearing) (reported reported_new : Option (List ℕ))
   pub window : new.window ≡ old.window
   pub said : new.said ≡ old.said
 
--- the result of processing an item
 abbrev pub Took : {T : Type 0} → Hearing → Hearing → Option (List ℕ) → Option (List ℕ) → ℕ → ℕ → List Noted → Known → Result T BridgeFault → Type 0
 Took old new reported reported_new faults faults_new log known (Ok x) = Takes old new reported reported_new log known × (faults_new ≡ faults)
 Took old new reported reported_new faults faults_new log known (Err fault) = Unheard reported reported_new faults faults_new log fault
 
--- no line was processed yet
+-- no line was taken
 pub record IsNew (h : Hearing) (week window : ℕ) : Type 0 where
   pub own : h.window ≡ window
   pub week_is : h.ear.assembly.reference ≡ week
@@ -75,8 +73,8 @@ pub record IsNew (h : Hearing) (week window : ℕ) : Type 0 where
   pub tally : h.ear.tally ≡ no_tally
   pub said : h.said ≡ said_of []
 
--- The state after these lines, with the periods that are closed at the watermark written, for the week and window of the head;
--- `start` and `told` are the output and the report before the first of them.
+-- What a hearing holds once these lines were taken, and what is closed of them at a watermark was written: near the week of the
+-- head, with its window. What was written and reported, was written and reported since this start.
 pub record StandsAt (to : Target) (head : Accepted) (watermark : ℕ) (lines : List Line) (h : Hearing) (start written told reported : Option (List ℕ)) : Type 0 where
   pub low : head.window ≤ 14400
   pub own : h.window ≡ head.window
@@ -86,11 +84,11 @@ pub record StandsAt (to : Target) (head : Accepted) (watermark : ℕ) (lines : L
   pub report : Appends told reported (line_report (log_of head.window lines))
   pub counted : Counted head.window lines h.halves h.ear.tally h.greatest
 
--- the same at the watermark of the lines
+-- the same at the mark of the lines
 abbrev pub Stands : Target → Accepted → List Line → Hearing → Option (List ℕ) → Option (List ℕ) → Option (List ℕ) → Option (List ℕ) → Type 0
 Stands to head lines h start written told reported = StandsAt to head (watermark_after head.window lines) lines h start written told reported
 
--- the state is that after some lines, and this is the item of the next one
+-- there are lines that a hearing holds, and this is the item of the next one
 pub record IsNextOf (to : Target) (number : ℕ) (item : LineItem) (h : Hearing) (written reported : Option (List ℕ)) : Type 0 where
   pub head : Accepted
   pub lines : List Line
@@ -101,7 +99,7 @@ pub record IsNextOf (to : Target) (number : ℕ) (item : LineItem) (h : Hearing)
   pub item_is : item ≡ item_line line
   pub stands : Stands to head lines h start written told reported
 
--- the state is that after some lines
+-- there are lines that a hearing holds
 pub record HoldsSome (to : Target) (h : Hearing) (written : Option (List ℕ)) : Type 0 where
   pub head : Accepted
   pub lines : List Line
@@ -111,21 +109,21 @@ pub record HoldsSome (to : Target) (h : Hearing) (written : Option (List ℕ)) :
   pub few : 1 + length lines < 2 ^ 32
   pub stands : Stands to head lines h start written told reported
 
--- why a line broke off: want of memory, or an output or a report that failed, whose fault count rose
+-- by what a line breaks off: want of memory, or an output or a report that failed, whose count rose
 abbrev pub IsStepFault : Faults → Faults → BridgeFault → Type 0
 IsStepFault before now WriteFault = Rose before.output now.output
 IsStepFault before now ReportFault = Rose before.report now.report
 IsStepFault before now NoMemory = Unit {0}
 IsStepFault before now _ = ⊥
 
--- A line was not fully processed. Whatever lines follow, a prefix was written of what they all give, no less than what is closed
--- without the line; and a prefix of the report of the lines up to it was reported.
+-- A line was not taken whole. Whatever lines follow it, a prefix was written of what they all give, no less than what is closed
+-- without the line; and a prefix was reported of what the lines with it yield.
 pub record StepBroke (to : Target) (head : Accepted) (lines : List Line) (line : Line) (start written told reported : Option (List ℕ)) (before now : Faults) (fault : BridgeFault) : Type 0 where
   pub text : (more : List Line) → AppendsBetween start written (closed_texts to head lines) (period_texts to head ((lines ++ line ∷ []) ++ more))
   pub report : AppendsPrefix told reported (line_report (log_of head.window (lines ++ line ∷ [])))
   pub cause : IsStepFault before now fault
 
--- the item of the next line was processed, and the periods that it closes were written
+-- the item of the next line was taken, and what is closed by it was written
 abbrev pub Steps : {T : Type 0} → Target → ℕ → LineItem → Hearing → Hearing → Option (List ℕ) → Option (List ℕ) → Option (List ℕ) → Option (List ℕ) → Faults → Faults → Result T BridgeFault → Type 0
 Steps to number item old new written written_new reported reported_new before now result =
     (head : Accepted) (lines : List Line) (line : Line) (start told : Option (List ℕ)) → number ≡ 2 + length lines → item ≡ item_line line
@@ -139,19 +137,19 @@ pub record Finished (to : Target) (head : Accepted) (lines : List Line) (old new
   pub verdicts : new.said ≡ said_of (periods_of head.week head.window (parts_of head.window lines))
   pub tally : new.ear.tally ≡ old.ear.tally
 
--- the periods that were left were written
+-- what is left was written
 abbrev pub Finishes : {T : Type 0} → Target → Hearing → Hearing → Option (List ℕ) → Option (List ℕ) → ℕ → ℕ → Result T BridgeFault → Type 0
 Finishes to old new written written_new before now result =
     (head : Accepted) (lines : List Line) (start told reported : Option (List ℕ)) → Stands to head lines old start written told reported
     → MatchResult result (λ x. Finished to head lines old new start written_new × (now ≡ before))
     (λ fault. AppendsBetween start written_new (closed_texts to head lines) (period_texts to head lines) × IsWriting {T = Unit {0}} before now (Err fault))
 
--- the state is that before any line
+-- it holds no line yet
 pub record HoldsNone (to : Target) (h : Hearing) (written reported : Option (List ℕ)) : Type 0 where
   pub head : Accepted
   pub stands : Stands to head [] h written written reported reported
 
--- the lines were processed, and the periods that were left were written
+-- the lines were taken, and all that is left written
 abbrev pub Converts : {T : Type 0} → Target → Hearing → Hearing → Option (List ℕ) → Option (List ℕ) → LinesState → LinesState → Option (List ℕ) → Option (List ℕ) → Option (List ℕ) → Option (List ℕ) → Result T BridgeFault → Type 0
 Converts to h new left left_new lines lines_new written written_new reported reported_new result =
     (head : Accepted) → Stands to head [] h written written reported reported

@@ -1,4 +1,4 @@
--- One step of a run over a capture: what a line adds to the parts, the report and the counts. Private functions cite these.
+-- One step of a run over a capture: what was taken, reported and counted of a line. Private functions cite these.
 use Rattle.std.specs.Prelude.{◌≡◌, ℕ, ◌+◌, ◌≤◌, max, if◌then◌else◌, List, [], ◌∷◌, ◌++◌, codes, Contains, Option, Result, Ok, Err, OnOk, OnErr}
 use Rattle.std.specs.List.{flat_map}
 use Rattle.std.specs.Io.KnownBytes.{Appends}
@@ -29,11 +29,11 @@ use Rattle.captures.specs.Reports.{report_in, count_in, is_malformed, is_late, i
 abbrev pub line_report : List Noted → List ℕ
 line_report log = report_in (codes "line") log
 
--- the same state of the assembly with further parts
+-- the same with further parts
 abbrev pub adding : List Part → Standing → Standing
 adding parts at = record { parts = at.parts ++ parts; watermark = at.watermark; last = at.last }
 
--- these counts plus those of a log
+-- the counts of a log on top of these
 abbrev pub tallied : Tally → List Noted → Tally
 tallied t log = record {
   malformed = t.malformed + count_in is_malformed log;
@@ -42,59 +42,58 @@ tallied t log = record {
   unused = t.unused + count_in is_unused log;
 }
 
--- the sum of the counts
+-- all that was counted
 abbrev pub total : Tally → ℕ
 total t = t.malformed + t.late + t.refused + t.unused
 
--- 1 for each event but a part, which is not counted
+-- an event is counted, but for a part
 abbrev pub weight : Event → ℕ
 weight (Heard part) = 0
 weight _ = 1
 
--- the number of events but parts
 abbrev pub weights : List Event → ℕ
 weights [] = 0
 weights (e ∷ es) = weight e + weights es
 
--- the assembly has the parts of the log as well, and its other events were reported and counted
+-- the assembly stands for the parts of the log as well, their lines were reported, and they were counted
 pub record Notes (old new : Standing → Type 0) (report report_new : Option (List ℕ)) (tally tally_new : Tally) (log : List Noted) : Type 0 where
   pub parts : Carries old new (adding (parts_in log))
   pub text : Appends report report_new (line_report log)
   pub counts : tally_new ≡ tallied tally log
 
--- the events of a log were processed or, at a fault, a prefix of their report was written
+-- events were taken or, at a fault, a prefix of their lines was reported
 abbrev pub Takes : {T : Type 0} → (Standing → Type 0) → (Standing → Type 0) → Option (List ℕ) → Option (List ℕ) → Tally → Tally → List Noted → Result T BridgeFault → Type 0
 Takes old new report report_new tally tally_new log result =
     OnOk result (Notes old new report report_new tally tally_new log) × OnErr result (AppendsPrefix report report_new (line_report log))
 
--- the statement holds for a part that was received; nothing is said of other events
+-- of a part that is heard; nothing of other events
 abbrev pub IfHeard : Event → (Part → Type 0) → Type 0
 IfHeard (Heard part) P = P part
 IfHeard _ P = Unit {0}
 
--- no part of the events has an earlier stamp
+-- the parts of the events are not before the stamp
 abbrev pub AreFrom : ℕ → List Event → Type 0
 AreFrom stamp [] = Unit {0}
 AreFrom stamp (e ∷ es) = IfHeard e (λ part. stamp ≤ part.stamp) × AreFrom stamp es
 
--- how reporting ends: the report's fault count rose exactly where the report failed; the only other fault is want of memory
+-- want of memory, or a report that failed; the report's count rose only then
 abbrev pub IsReporting : {T : Type 0} → ℕ → ℕ → Result T BridgeFault → Type 0
 IsReporting before now (Ok x) = now ≡ before
 IsReporting before now (Err ReportFault) = Rose before now
 IsReporting before now (Err NoMemory) = now ≡ before
 IsReporting before now (Err _) = ⊥
 
--- subframes are from GPS satellites, and page parts from Galileo satellites
+-- subframes are of GPS, and page halves of Galileo
 abbrev pub HasSystem : LineItem → Type 0
 HasSystem (Lnav stamp sat bits) = sat.system ≡ Gps
 HasSystem (Half stamp sat signal bits) = sat.system ≡ Gal
 HasSystem _ = Unit {0}
 
--- the events of the words that a satellite transmitted, received at one second
+-- what words yield that a satellite sent, heard at one second
 abbrev pub of_heard : Satellite → ℕ → List (List ℕ) → List Event
 of_heard sat stamp words = flat_map (λ word. of_word (reading_of word sat stamp)) words
 
--- of the accepted page parts exactly the recent ones are kept: those that may still get a partner
+-- what is kept of the accepted halves serves each half that is not late
 pub record KeepsHalves (keeping : Keeping) (window : ℕ) (known : Known) : Type 0 where
   pub window_is : keeping.window ≡ window
   pub kept_to : (h : StampedHalf) → Contains keeping.kept h → Contains known.halves h
@@ -102,14 +101,14 @@ pub record KeepsHalves (keeping : Keeping) (window : ℕ) (known : Known) : Type
   pub recent : (h : StampedHalf) → Contains keeping.kept h → IsRecent window keeping.greatest h
   pub low : keeping.greatest ≤ known.greatest
 
--- what is known after a page part that is not late
+-- what is known with a half that is not late
 abbrev pub known_half : Known → ℕ → Satellite → Signal → List ℕ → Known
 known_half known stamp sat signal bits = record {
   greatest = max known.greatest stamp;
   halves = if is_alert bits then known.halves else with_half known.halves (half_of stamp sat signal bits);
 }
 
--- what is kept after that page part
+-- what is kept with a half that was taken
 abbrev pub TookHalf : Keeping → ℕ → Known → ℕ → Satellite → Signal → List ℕ → Type 0
 TookHalf keeping window known stamp sat signal bits =
     KeepsHalves keeping window (record {
@@ -117,7 +116,7 @@ TookHalf keeping window known stamp sat signal bits =
       halves = if is_alert bits then known.halves else with_half known.halves (half_of stamp sat signal bits);
     })
 
--- a line was read, and this is its item
+-- a line was given, and this is its item
 pub record GivesItem (left left_new : Option (List ℕ)) (old new : LinesState) (item : LineItem) : Type 0 where
   pub line : Line
   pub gives : GivesLine left left_new old new line

@@ -8,7 +8,7 @@ use Rattle.capture_log.specs.declared.event.Refusal.TheVariants as refusals
 use Rattle.capture_log.specs.declared.event.Event.{Event}
 use Rattle.capture_log.specs.declared.event.Event.TheVariants.{Heard, Malformed, Late, Refused, Unused}
 
--- the report's words for a refusal
+-- why something is refused
 abbrev pub refusal_text : Refusal → List ℕ
 refusal_text refusals.Frame = codes "frame"
 refusal_text refusals.Preamble = codes "preamble"
@@ -19,7 +19,7 @@ refusal_text refusals.Satellite = codes "satellite"
 refusal_text refusals.Sisa = codes "sisa"
 refusal_text refusals.Short = codes "short"
 
--- the report line of an event; empty for a part and for what is not used
+-- what a report says of an event: nothing of a part, and of what is not used
 abbrev pub report_of : List ℕ → ℕ → Event → List ℕ
 report_of subject number (Heard part) = []
 report_of subject number Malformed = report_line subject number (codes "malformed")
@@ -27,26 +27,23 @@ report_of subject number Late = report_line subject number (codes "late")
 report_of subject number (Refused refusal) = report_line subject number (refusal_text refusal)
 report_of subject number Unused = []
 
--- the report lines of a log
+-- what it says of a log
 abbrev pub report_in : List ℕ → List Noted → List ℕ
 report_in subject log = flat_map (λ n. report_of subject n.line n.event) log
 
--- 1 for a malformed line, else 0
+-- 1 for the events of a kind, to be summed
 abbrev pub is_malformed : Event → ℕ
 is_malformed Malformed = 1
 is_malformed _ = 0
 
--- 1 for a late line, else 0
 abbrev pub is_late : Event → ℕ
 is_late Late = 1
 is_late _ = 0
 
--- 1 for a refusal, else 0
 abbrev pub is_refused_event : Event → ℕ
 is_refused_event (Refused refusal) = 1
 is_refused_event _ = 0
 
--- 1 for an event that is not used, else 0
 abbrev pub is_unused : Event → ℕ
 is_unused Unused = 1
 is_unused _ = 0

@@ -1,9 +1,9 @@
--- Output that is written only at the end of a run.
+-- What is written at the end of a run alone.
 use Rattle.std.specs.Prelude.{◌⊎◌, ℕ, List, [], Option}
 use Rattle.std.specs.Io.KnownBytes.{Appends, Consumes, IsAtEnd}
 use Rattle.nav_io.specs.Prefix.{AppendsPrefix}
 
--- the input was read to its end: these are its bytes, and a prefix of their output was written
+-- the input was read to its end: these bytes were taken, and a prefix was written of what they give
 pub record ReadsAll (output : List ℕ → List ℕ) (left left_new written written_new : Option (List ℕ)) : Type 0 where
   pub taken : List ℕ
   pub consumes : Consumes left left_new taken

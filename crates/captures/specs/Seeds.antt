@@ -12,7 +12,7 @@ use Rattle.captures.specs.declared.seed_target.SeedTo.TheVariants as seeds
 use Rattle.captures.specs.declared.seed_target.SeedCounts.{SeedCounts}
 use Rattle.captures.specs.declared.seed_target.SeedCounts.TheVariants.{Written, Counted}
 
--- the generated capture of n satellites of each system in the week r: its head names no week, and its window is 7,200 s
+-- the generated capture of n satellites of each system in the week r: its head names neither week nor window
 abbrev pub generated : ℕ → ℕ → ℕ → Capture
 generated seed n r = record { window = 7200; week = r; lines = lines_by false (text_of_lines seed n r (lines_of n)) }
 
@@ -32,12 +32,11 @@ abbrev pub seed_counts : SeedTo → ℕ → ℕ → ℕ → SeedCounts
 seed_counts seeds.Capture seed n r = Written (length (capture_text seed n r))
 seed_counts seeds.Count seed n r = Counted (counts_of (generated seed n r))
 
--- whether the capture is counted; only then is anything reported
+-- what a run makes of no bytes at all: it reads nothing, and of the capture itself it reports nothing
 abbrev pub is_counted : SeedTo → Bool
 is_counted seeds.Capture = false
 is_counted seeds.Count = true
 
--- the meaning of a run from a seed: it reads no input
 abbrev pub seed_meaning : SeedTo → ℕ → ℕ → ℕ → Meaning SeedCounts
 seed_meaning to seed n r = record {
   reads = false;

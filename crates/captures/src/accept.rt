@@ -7,14 +7,14 @@ ghost use Rattle.captures.specs.Captures.{accepted_head, week_for};
 use capture_lines::read_first;
 use gnss_week::RefWeek;
 
-// An accepted first line: the window in seconds, and the reference week.
+// A first line that is accepted: the window in seconds, and the week.
 #[derive(Clone, Copy)]
 pub(crate) struct Accepted {
     pub(crate) window: u32,
     pub(crate) week: RefWeek,
 }
 
-// The reference week: that of the command line or of the first line; `None` where neither names one or they differ.
+// The reference week of a capture: that of the words or that of the first line; `None` where these differ.
 fn week_of(words: Option<RefWeek>, named: Option<RefWeek>) -> Option<RefWeek>
     ensures { result ≡ week_for words named }
 {
@@ -27,7 +27,7 @@ fn week_of(words: Option<RefWeek>, named: Option<RefWeek>) -> Option<RefWeek>
     }
 }
 
-// The first line, as it is accepted for the week of the command line, or for none.
+// The first line, as it is accepted for the week of the words, or for none.
 pub(crate) fn accept(line: &[u8], words: Option<RefWeek>) -> Option<Accepted>
     ensures accepted { result ≡ accepted_head words (head_of line.now) }
     ensures least { IfSome result (λ a. 60 ≤ a.window) }

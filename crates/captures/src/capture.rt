@@ -17,20 +17,20 @@ use std::alloc::Global;
 
 /// Reads a capture to its end, and writes what it is converted to while it reads.
 ///
-/// The first line is `NAVCAP 1`, or `NAVCAP 2 <week> <window>`. The reference week is that of `week`
-/// or of this line; one of them must name it, and if both do they must agree. Then the text before
-/// the items is written, such as a RINEX header, and after each line what it closes: a RINEX record
-/// or an RTCM frame for each item, or a line for each period. Each refusal gives a line of the
-/// report, which ends with the counts.
+/// The first line is judged first: it is `NAVCAP 1`, or `NAVCAP 2 <week> <window>`, and the week
+/// of reference is that of the words or that of the line; if both name one, they must agree. Then
+/// the text in front is written, and after each line what is closed by it: a record of RINEX or a
+/// frame of RTCM for each item, or a line for each period. A line that is refused gives a line of
+/// the report, and at the end the counts stand there.
 ///
 /// # Errors
 ///
 /// - `NotThisForm` exactly where the first line is not accepted; nothing is written then.
-/// - `ReadFault`, `WriteFault`, `ReportFault` only where the fault count of the input, the output or
-///   the report rose, or is at its maximum. After a failed read exactly what the complete lines
-///   close was written, and exactly their refusals reported.
-/// - `TooLong` only where 4,294,967,295 bytes were read and there was one more.
-/// - `NoMemory` when memory is missing.
+/// - `ReadFault`, `WriteFault`, `ReportFault` only where the count of faults of the input, the
+///   output or the report rose, or stands at its last value. After a failed read exactly what is
+///   closed by the lines that have ended was written, and exactly what they yield reported.
+/// - `TooLong` only where 4,294,967,295 bytes were taken and one more was there.
+/// - `NoMemory` for want of memory.
 pub fn run_capture<S: Source, T: Sink, U: Sink>(
     alloc: Global,
     week: Option<RefWeek>,
@@ -39,13 +39,13 @@ pub fn run_capture<S: Source, T: Sink, U: Sink>(
     output: &mut T,
     report: &mut U,
 ) -> Result<CaptureCounts, BridgeFault>
-    // The run ends as its meaning states.
+    // It ended as a run of its meaning does.
     ensures ended { Ran (capture_meaning to.now week)
         S.left S.never_fails S.faults T.written T.faults U.written U.faults
         input.old input.new output.old output.new report.old report.new result }
 
-    // After any fault the output and the report are prefixes of what the whole input gives, unread
-    // bytes included; and counts are written only after the whole input was read.
+    // After any fault a prefix was written and reported of what the whole input gives, whatever of
+    // it was not taken; and no count is written before the input was read to its end.
     ensures ahead { IfErr result (λ fault. CaptureAhead (target_of to.now) week
         (S.left input.old) (S.left input.new) (T.written output.old) (T.written output.new)
         (U.written report.old) (U.written report.new)) }

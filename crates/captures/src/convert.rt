@@ -22,7 +22,7 @@ use nav_io::{Failed, LineFault, LineKind, Lines, Sink, Source};
 use one_run::BridgeFault;
 use outlets::Target;
 
-// The fault of a run whose reading of lines failed so.
+// The fault of a run whose lines ended so.
 fn fault_of(fault: LineFault) -> BridgeFault
     ensures { result ≡ fault_by fault }
 {
@@ -32,7 +32,7 @@ fn fault_of(fault: LineFault) -> BridgeFault
     }
 }
 
-// Reads the first line, and checks it.
+// Reads the first line, and judges it.
 pub(crate) fn first_line<S: Source>(
     lines: &mut Lines,
     week: Option<RefWeek>,
@@ -62,7 +62,8 @@ pub(crate) fn first_line<S: Source>(
     }
 }
 
-// Processes the lines after the first; at the end of the input writes the periods that are left.
+// Takes the lines behind the first, one after another; at the end of the input writes all that is
+// left.
 pub(crate) fn convert<S: Source, T: Sink, U: Sink>(
     hearing: &mut Hearing,
     lines: &mut Lines,
@@ -99,7 +100,7 @@ pub(crate) fn convert<S: Source, T: Sink, U: Sink>(
     }
 }
 
-// Writes the text after the periods, and the counts at the end of the report.
+// Writes what stands behind the periods, and the counts at the end of the report.
 pub(crate) fn end_run<T: Sink, U: Sink>(
     to: &Target,
     counts: &CaptureCounts,

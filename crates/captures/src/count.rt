@@ -1,4 +1,4 @@
-//! The two branches of a run from a seed: a text is written, or counted as a capture.
+//! The two halves of a run: a text is written, or counted as a capture.
 
 ghost use Rattle.std.specs.Prelude.{◌≡◌, ◌^◌, ◌<◌, Some, length, IsSome};
 ghost use Rattle.captures.specs.Captures.{capture_of};
@@ -26,7 +26,7 @@ pub(crate) fn write_text<T: Sink>(text: &[u8], output: &mut T) -> Result<SeedCou
     }
 }
 
-// Counts the capture that a text is, with this reference week.
+// Counts the capture that a text is, near this week.
 pub(crate) fn count_text<T: Sink, U: Sink>(
     alloc: Global,
     week: RefWeek,

@@ -13,27 +13,27 @@ use periods::Verdict;
 pub struct CaptureCounts {
     /// The lines, the first one included.
     pub lines: u64,
-    /// The lines that match no form of a line.
+    /// The lines that have none of the forms of a line.
     pub malformed: u64,
-    /// The lines whose stamp is before the greatest one by more than the window.
+    /// The lines that came too late.
     pub late: u64,
-    /// The subframes, frames, messages and I/NAV words that were refused.
+    /// The subframes, frames, messages and words heard that were refused.
     pub refused: u64,
-    /// The subframes, page parts, messages and I/NAV words of kinds that are not used.
+    /// The subframes, page halves, messages and words heard that are of a kind that is passed over.
     pub unused: u64,
-    /// The periods whose parts are complete, agree, and yield something new.
+    /// The periods whose parts all came, agree, and yield something new.
     pub whole: u64,
-    /// The periods that lack a kind of part.
+    /// The periods of which a kind of part was not heard.
     pub partial: u64,
-    /// The periods in which two parts of one kind differ.
+    /// The periods of which two parts of one kind differ.
     pub contradicted: u64,
-    /// The Galileo periods without signal health (word type 5) near their end.
+    /// The periods of Galileo without health near their end.
     pub nohealth: u64,
     /// The periods that repeat the last complete one of their key.
     pub again: u64,
 }
 
-// The counts of the events of lines, other than parts.
+// What the lines of a capture come to, but for the parts that they yield.
 #[derive(Clone, Copy)]
 pub(crate) struct Tally {
     pub(crate) malformed: u64,
@@ -56,7 +56,7 @@ impl Tally {
     }
 }
 
-// How many periods have each verdict.
+// What is said of the periods.
 #[derive(Clone, Copy)]
 pub(crate) struct Said {
     pub(crate) whole: u64,
@@ -67,7 +67,7 @@ pub(crate) struct Said {
 }
 
 impl Said {
-    // No period was counted.
+    // Nothing was said.
     pub(crate) fn new() -> Said
         ensures { result ≡ said_of [] }
     {
@@ -80,7 +80,7 @@ impl Said {
         }
     }
 
-    // Counts the verdict of a period.
+    // Counts what is said of a period.
     pub(crate) fn count(&mut self, verdict: &Verdict)
         requires { total_said self.old + 1 < 2 ^ 64 }
         ensures said { self.new ≡ said self.old verdict.now }
@@ -96,7 +96,7 @@ impl Said {
     }
 }
 
-// The counts of a capture with this number of lines.
+// The counts of a capture of so many lines.
 pub(crate) fn counts_with(lines: u32, tally: &Tally, said: &Said) -> CaptureCounts
     ensures { result ≡ with_counts lines tally.now said.now }
 {

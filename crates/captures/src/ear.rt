@@ -42,8 +42,8 @@ fn write_line<U: Sink>(line: &[u8], report: &mut U) -> Result<(), BridgeFault>
     }
 }
 
-// Reports why the line with this number is not used. The buffer of the text is here, so that the
-// path of a part does not make it.
+// Reports in a word why the line with this number is not taken. The room for the text is made here,
+// and not where a part is taken.
 fn report_reason<U: Sink>(number: u64, reason: &[u8], report: &mut U) -> Result<(), BridgeFault>
     requires { length reason.now ≤ 32 }
     ensures text { OnOk result (Appends (U.written report.old) (U.written report.new)
@@ -55,7 +55,7 @@ fn report_reason<U: Sink>(number: u64, reason: &[u8], report: &mut U) -> Result<
     write_line(report_text(b"line", number, reason).as_slice(), report)
 }
 
-// Reports why the content of the line with this number is refused.
+// Reports why what the line with this number says is refused.
 fn report_refusal<U: Sink>(
     number: u64,
     refusal: &Refusal,
@@ -70,7 +70,7 @@ fn report_refusal<U: Sink>(
     write_line(refused_text(b"line", number, refusal).as_slice(), report)
 }
 
-// Where events go: the assembly of the periods, and the counts of events other than parts.
+// What an event goes to: the assembly of the periods, and the counts of what is not a part.
 #[derive(Drop)]
 pub(crate) struct Ear {
     pub(crate) assembly: SlotAssembly,
@@ -78,7 +78,7 @@ pub(crate) struct Ear {
 }
 
 impl Ear {
-    // Processes an event of the line with this number.
+    // Takes an event that the line with this number yields.
     pub(crate) fn event<U: Sink>(
         &mut self,
         number: u32,
@@ -118,7 +118,7 @@ impl Ear {
         }
     }
 
-    // Processes the events of the line with this number, in order.
+    // Takes events that the line with this number yields, one after another.
     pub(crate) fn events<U: Sink>(
         &mut self,
         number: u32,
@@ -139,7 +139,7 @@ impl Ear {
         Ok(())
     }
 
-    // Processes the events of a subframe.
+    // Takes what a subframe yields.
     pub(crate) fn subframe<U: Sink>(
         &mut self,
         number: u32,
@@ -160,7 +160,7 @@ impl Ear {
         self.event(number, &event, report)
     }
 
-    // Processes the events of the bytes of a frame.
+    // Takes what the bytes of a frame yield.
     pub(crate) fn frame<U: Sink>(
         &mut self,
         number: u32,
@@ -208,7 +208,7 @@ impl Ear {
         }
     }
 
-    // Processes the events of an I/NAV word.
+    // Takes what a word yields.
     fn word<U: Sink>(
         &mut self,
         number: u32,
@@ -242,7 +242,7 @@ impl Ear {
         }
     }
 
-    // Processes the events of the words that a page part completes, in order.
+    // Takes what the words of a half yield, in their order.
     pub(crate) fn words<U: Sink>(
         &mut self,
         number: u32,

@@ -1,4 +1,4 @@
-//! Writing the periods that are closed.
+//! Writing what is closed.
 
 ghost use Rattle.std.specs.Prelude.{◌≡◌, ◌≤◌, ℕ, List, Option, OnOk, OnErr};
 ghost use Rattle.nav_eph.specs.declared.part.Part.{Part};
@@ -15,8 +15,8 @@ use one_run::BridgeFault;
 use outlets::Target;
 use slot_assembly::{Assembly, SlotAssembly};
 
-// Writes what is closed at the watermark, if it rose: at an unchanged watermark the parts added since
-// close nothing more.
+// Writes what is closed at the watermark, where it is above the one before: at that one nothing more is
+// closed by what was taken since.
 pub(crate) fn write_risen<T: Sink>(
     to: &Target,
     assembly: &mut SlotAssembly,
@@ -53,7 +53,8 @@ pub(crate) fn write_risen<T: Sink>(
     }
 }
 
-// Writes each period that is closed at the watermark and was not written yet, and counts its verdict.
+// Writes each period that is closed at the watermark and was not written yet, and counts what is said of
+// it.
 pub(crate) fn write_closed<T: Sink>(
     to: &Target,
     assembly: &mut SlotAssembly,

@@ -1,4 +1,4 @@
-//! The state of a run over a capture between two lines, and its step for the next line.
+//! What a run over a capture holds between two lines, and what it makes of the next.
 
 ghost use Rattle.std.specs.Prelude.{◌≡◌, ℕ, ◌+◌, ◌-◌, ◌^◌, ◌<◌, ◌≤◌, length, max, nat_lt};
 ghost use Rattle.nav_eph.specs.declared.sat.System.TheVariants.{Gal};
@@ -24,8 +24,8 @@ use outlets::Target;
 use slot_assembly::SlotAssembly;
 use std::alloc::Global;
 
-// The state between two lines: the window in seconds, the greatest stamp of the lines so far, the
-// page parts that may still get a partner, where events go, and the counts of verdicts.
+// What a run holds between two lines: the window, the greatest stamp of the lines so far, the
+// halves that may still have a partner, what events go to, and what is said of periods.
 #[derive(Drop)]
 pub(crate) struct Hearing {
     pub(crate) window: u32,
@@ -36,7 +36,7 @@ pub(crate) struct Hearing {
 }
 
 impl Hearing {
-    // The state before any line.
+    // No line was taken.
     pub(crate) fn new(alloc: Global, week: RefWeek, window: u32) -> Hearing
         requires least { 60 ≤ window }
         requires most { window ≤ 14400 }
@@ -54,21 +54,21 @@ impl Hearing {
         }
     }
 
-    // The watermark of the lines so far: no accepted line has a stamp below it.
+    // The mark of the lines so far, below which no accepted line comes.
     fn watermark(&self) -> u64
         ensures { result ≡ self.now.greatest - self.now.window }
     {
         u64::from(self.greatest.saturating_sub(self.window))
     }
 
-    // Whether a stamp is before the greatest by more than the window.
+    // Whether a stamp lies behind the greatest by more than the window.
     fn is_late(&self, stamp: u32) -> bool
         ensures { result ≡ nat_lt (stamp + self.now.window) self.now.greatest }
     {
         u64::from(stamp) + u64::from(self.window) < u64::from(self.greatest)
     }
 
-    // Processes a page part that is not late.
+    // Takes what a page half yields that is not late.
     fn half<U: Sink>(
         &mut self,
         number: u32,
@@ -101,7 +101,7 @@ impl Hearing {
         }
     }
 
-    // Processes the item of the line with this number.
+    // Takes what the line with this number stands for.
     fn item<U: Sink>(
         &mut self,
         number: u32,
@@ -149,7 +149,8 @@ impl Hearing {
         }
     }
 
-    // Processes the line with this number: its item, and then writes each period that it closes.
+    // Takes the line with this number to its end: what it stands for, and then each period that is
+    // closed by it is written.
     pub(crate) fn step<T: Sink, U: Sink>(
         &mut self,
         number: u32,
@@ -185,7 +186,7 @@ impl Hearing {
         )
     }
 
-    // Writes each period that was not written yet: no more lines come.
+    // Writes each period that was not written yet. No line comes any more.
     pub(crate) fn finish<T: Sink>(&mut self, to: &Target, output: &mut T) -> Result<(), BridgeFault>
         requires { HoldsSome to.now self.old (T.written output.old) }
         ensures { Finishes to.now self.old self.new

@@ -1,4 +1,4 @@
-//! Laws of the definitions: each is the contract of an empty function.
+//! Laws of the definitions: each is the contract of a function that does nothing.
 
 ghost use Rattle.std.specs.Prelude.{◌≡◌, ℕ, Some};
 ghost use Rattle.outlets.specs.declared.target.Target.TheVariants.{Count};
@@ -7,8 +7,8 @@ ghost use Rattle.nav_vectors.specs.Text.{capture_text};
 ghost use Rattle.captures.specs.declared.seed_target.SeedTo.TheVariants as seeds;
 ghost use Rattle.captures.specs.Seeds.{generated, seed_output, seed_report};
 
-/// The generated text is a capture with the reference week that it was made for, and what is written
-/// and reported of a seed with its counts is what a run over that capture writes and reports.
+/// The generated text is a capture, near the week that it was made for; and what is written and
+/// reported of a seed is what a run over that capture writes and reports.
 pub fn generated_captures_are_accepted()
     ensures capture { (seed n r : ℕ)
         → capture_of (Some r) (capture_text seed n r) ≡ Some (generated seed n r) }

@@ -5,8 +5,8 @@
 //! - [`run_seed`], which makes the capture of a seed, a number of satellites and a week, and writes it
 //!   or counts it. It reads nothing.
 //!
-//! The output and the report of a run are functions of the bytes that it took, or of the three
-//! numbers: `specs/Captures.antt` and `specs/Seeds.antt` state them. A fault leaves a prefix of each.
+//! What a run writes and reports is a function of the bytes that it took, or of the three numbers:
+//! `specs/Captures.antt` and `specs/Seeds.antt` say it. A fault leaves a prefix of it.
 //!
 //! ```rust
 //! use captures::{CaptureTo, run_capture};

@@ -1,4 +1,4 @@
-//! The next line of a capture, as its item.
+//! The next line of a capture, as what it stands for.
 
 ghost use Rattle.std.specs.Prelude.{◌≡◌, true, false, IfOk, IfErr, OnOk, IsErrOf, IsTrue};
 ghost use Rattle.nav_io.specs.Causes.{Rose};
@@ -8,8 +8,8 @@ ghost use Rattle.captures.specs.Notes.{GivesEnd, GivesItem, HasSystem};
 use capture_lines::{LineItem, read_line_into};
 use nav_io::{LineFault, LineKind, Lines, Source};
 
-// Reads the item of the next line; `false` at the end of the input. A line of more than 2,200 bytes
-// is malformed.
+// Reads the next line into an item, as what it stands for; whether there was one. A line of more
+// than 2,200 bytes is malformed.
 pub(crate) fn next_item<S: Source>(
     lines: &mut Lines,
     source: &mut S,

@@ -16,15 +16,15 @@ use std::alloc::Global;
 /// Makes the capture of a seed, for `sats` satellites of each system in this week, and writes it, or
 /// counts it as a run over that capture does.
 ///
-/// The capture is written by one write, and nothing is reported of it. With the counts, the report
-/// has a line for each refusal in the capture, and then the counts. The result is the number of bytes
-/// of the capture, or its counts.
+/// The capture is written by one write, and nothing is reported of it. With the counts, a line is
+/// reported for each line of the capture that is refused, and the counts behind these. The answer
+/// has the bytes of the capture, or its counts.
 ///
 /// # Errors
 ///
-/// - `WriteFault`, `ReportFault` only where the fault count of the output or the report rose, or is
-///   at its maximum. A prefix was written and reported then.
-/// - `NoMemory` when memory is missing.
+/// - `WriteFault`, `ReportFault` only where the count of faults of the output or the report rose, or
+///   stands at its last value. A prefix was written and reported then.
+/// - `NoMemory` for want of memory.
 pub fn run_seed<T: Sink, U: Sink>(
     alloc: Global,
     seed: u32,
@@ -37,8 +37,8 @@ pub fn run_seed<T: Sink, U: Sink>(
     requires low { 1 ≤ sats }
     requires high { sats ≤ 32 }
 
-    // The run ends as its meaning states: it reads nothing, so `ReadFault`, `NotThisForm` and `TooLong`
-    // do not occur; and writing the capture itself reports nothing.
+    // It ended as a run of its meaning does: it reads nothing, so no read fails, and no form and no
+    // length is at fault; and of the capture itself nothing is reported.
     ensures { Ran (seed_meaning to seed sats week)
         (λ _. None) (λ _. true) (λ _. 0) T.written T.faults U.written U.faults
         (tt {0}) (tt {0}) output.old output.new report.old report.new result }

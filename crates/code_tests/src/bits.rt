@@ -19,9 +19,7 @@ fn numbers_at_places(rt: HostRuntime) {
 fn numbers_of_digits(rt: HostRuntime) -> Result<(), Fail> {
     let greatest = U::<10>::new(1023).ok_or("fits")?;
     let least = S::<4>::new(-8).ok_or("fits")?;
-    let fit = greatest.value() == 1023
-        && U::<64>::new(u64::MAX).is_some()
-        && least.bit_pattern() == 8;
+    let fit = greatest.value() == 1023 && U::<64>::new(u64::MAX).is_some() && least.digits() == 8;
     let none = U::<10>::new(1024).is_none()
         && S::<4>::new(-9).is_none()
         && S::<4>::new(8).is_none();

@@ -39,7 +39,7 @@ number_more bytes from (suc count) n =
 pub bits_of_run : (bytes : List ℕ) (from count : ℕ) → number_of_bits (bits_at bytes from count) ≡ number_at bytes from count
 bits_of_run bytes from count = let all = number_more bytes from count 0 in omega arith
 
--- the CRC of a run of bits is what `crc_of_bits` gives
+-- the CRC of a run of bits is the function's
 pub run_has_crc : (bytes : List ℕ) (from count r : ℕ) → IsCrc (number_at bytes from count) r → r ≡ crc_of_bits (bits_at bytes from count)
 run_has_crc bytes from count r is =
     let bits = bits_at bytes from count in

@@ -10,7 +10,7 @@ use Rattle.crc24q.specs.Register.{stepped, shift, with_byte_of}
 use Rattle.crc24q.proofs.SumLaws.{regroup, cancel, same_from_zero, xor-mul_pow}
 use Rattle.crc24q.proofs.RegisterLaws.{stepped-lt, shift-xor, shift_small}
 
--- x times a multiple, plus the generator where the highest bit of r is 1
+-- x times a multiple and, where the first bit of r is 1, the generator
 step_of : ℕ → List Bool → List Bool
 step_of zero q = false ∷ q
 step_of (suc n) q = true ∷ q
@@ -21,7 +21,7 @@ times_step zero q h = refl
 times_step (suc zero) q h = refl
 times_step (suc (suc n)) q h = absurd (omega arith)
 
--- the number with one more bit, and the sum shifted with it
+-- the number with one more bit, and the sum whose bits move by one place with it
 moved_sum : (p r b t : ℕ) → b < 2 → bit_xor ((p * 2 + b) * 2 ^ 24) (bit_xor (bit_xor r (b * 2 ^ 23) * 2) t) ≡ bit_xor (bit_xor (p * 2 ^ 24) r * 2) t
 moved_sum p r b t h =
     let left : (p * 2 + b) * 2 ^ 24 ≡ bit_xor (p * 2 * 2 ^ 24) (b * 2 ^ 24) =
@@ -56,7 +56,7 @@ with_digit p r b h is =
     stepped_fits : (n : ℕ) → n < 2 ^ 24 → bit_xor (n * 2) (n / 2 ^ 23 * generator) < 2 ^ 24
     stepped_fits n less = stepped-lt n less
 
--- the last of some bits reaches the head when those before it are shifted out
+-- the last of some bits comes to the head when those before it have been moved out
 last_bit : (k j r v : ℕ) → suc k + j ≡ 24 → v < 2 ^ suc k → r < 2 ^ 24 → shift k (bit_xor r (v * 2 ^ j)) ≡ bit_xor (shift k (bit_xor r (v / 2 * 2 ^ suc j))) (v % 2 * 2 ^ 23)
 last_bit k j r v e h fits =
     let half : v / 2 < 2 ^ k = omega (arith, pow-suc 2 k) in
@@ -82,7 +82,7 @@ last_bit k j r v e h fits =
     ∙ shift-xor k (bit_xor r (v / 2 * 2 ^ suc j)) (v % 2 * 2 ^ j) (xor_lt 24 r (v / 2 * 2 ^ suc j) fits high) low
     ∙ ap (bit_xor (shift k (bit_xor r (v / 2 * 2 ^ suc j)))) (shift_small k (suc j) (v % 2 * 2 ^ j) places below ∙ head)
 
--- k more bits, whose value is v
+-- k more bits, that make the number v
 pub with_bits : (k j p r v : ℕ) → k + j ≡ 24 → v < 2 ^ k → IsCrc p r → IsCrc (p * 2 ^ k + v) (shift k (bit_xor r (v * 2 ^ j)))
 unfolding shift
 with_bits zero j p r v e h is =

@@ -1,4 +1,4 @@
--- The entries of the tables, by tests that compute: each table against the one before it.
+-- What stands in the tables, by tests that compute: each table against the one before it.
 use Rattle.std.proofs.Common.{◌≡◌, ℕ, zero, suc, ◌+◌, ◌*◌, ◌^◌, ◌<◌, true, get_or, refl, sym, ap, ◌∙◌, arith, zero-add}
 use Rattle.crc24q.specs.Register.{stepped, shift}
 use Rattle.crc24q.specs.declared.tables.TheConstants.{MOVED_8, MOVED_16, MOVED_24, MOVED_32}
@@ -6,7 +6,7 @@ use Rattle.crc24q.specs.declared.powers.TheConstants.{POWERS}
 use Rattle.crc24q.proofs.TableLemmas.{are_entries, are_images, are_steps, entry_is, image_is, step_is}
 use Rattle.crc24q.proofs.RegisterLaws.{shift-add}
 
--- advanced by eight bits; and a byte at the head of the register, advanced by eight bits
+-- eight places on, and a byte at the head of the register eight places on
 unfoldable pub eight_on : ℕ → ℕ
 eight_on r = shift 8 r
 

@@ -1,4 +1,4 @@
--- The register by look-ups: its high byte goes through a table, and the rest shifts without loss.
+-- The register by look-ups: its head goes through a table, and the rest moves without loss.
 use Rattle.std.proofs.Common.{◌≡◌, ℕ, ◌+◌, ◌*◌, ◌/◌, ◌%◌, ◌^◌, ◌<◌, ◌≤◌, List, [], ◌∷◌, length, refl, sym, ap, ◌∙◌, arith}
 use Rattle.std.proofs.lemmas.Nat.{xor_block, xor_lt, and_mask}
 use Rattle.std.specs.Int.Bits.{bit_and, bit_xor, xor_zero_r}
@@ -7,7 +7,7 @@ use Rattle.crc24q.specs.Division.{generator}
 use Rattle.crc24q.specs.Register.{stepped, shift, with_byte_of, crc_from}
 use Rattle.crc24q.proofs.RegisterLaws.{stepped_small, shift-lt, shift-xor, shift-add, shift_small, crc_from-xor}
 
--- the high byte of the sum of a byte at the head and a register
+-- a sum of a byte at the head and a register
 head_sum : (r x : ℕ) → bit_xor r (x * 2 ^ 16) ≡ bit_xor (bit_xor (r / 2 ^ 16) x * 2 ^ 16) (r % 2 ^ 16)
 head_sum r x =
     let low : r % 2 ^ 16 < 2 ^ 16 = omega arith in
@@ -18,7 +18,7 @@ head_sum r x =
     ∙ ap (λ n. bit_xor (r / 2 ^ 16) x * 2 ^ 16 + n) (xor_zero_r (r % 2 ^ 16))
     ∙ sym (xor_shifted (bit_xor (r / 2 ^ 16) x) 16 (r % 2 ^ 16) low)
 
--- a byte at the head fits the register
+-- a byte at the head of a register
 pub head_fits : (h : ℕ) → h < 2 ^ 8 → h * 2 ^ 16 < 2 ^ 24
 head_fits h less = omega arith
 
@@ -34,7 +34,7 @@ with_byte_split r x hr hx =
     ∙ shift-xor 8 (bit_xor (r / 2 ^ 16) x * 2 ^ 16) (r % 2 ^ 16) (head_fits (bit_xor (r / 2 ^ 16) x) (head_of r x hr hx)) (omega arith)
     ∙ ap (bit_xor (shift 8 (bit_xor (r / 2 ^ 16) x * 2 ^ 16))) (shift_small 8 16 (r % 2 ^ 16) refl low)
 
--- the low bits of a register by a mask, shifted in 32 bits
+-- the low bits of a register by a mask, moved in 32 bits
 low_moved : (r : ℕ) → bit_and r 0xffff * 2 ^ 8 % 2 ^ 32 ≡ r % 2 ^ 16 * 2 ^ 8
 low_moved r =
     let low : bit_and r 0xffff ≡ r % 2 ^ 16 = and_mask r 16 in
@@ -45,7 +45,7 @@ one_byte r x entry hr hx is =
     ap (λ n. bit_xor n (bit_and r 0xffff * 2 ^ 8 % 2 ^ 32)) is ∙ ap (bit_xor (shift 8 (bit_xor (r / 2 ^ 16) x * 2 ^ 16))) (low_moved r)
     ∙ sym (with_byte_split r x hr hx)
 
--- the first byte's share of the register after all bytes
+-- the first byte's part in the register after all of the bytes
 first_byte : (r x : ℕ) (xs : List ℕ) → r < 2 ^ 24 → x < 2 ^ 8 → crc_from r (x ∷ xs) ≡ bit_xor (shift (8 * length xs + 8) (bit_xor (r / 2 ^ 16) x * 2 ^ 16)) (crc_from (r % 2 ^ 16 * 2 ^ 8) xs)
 unfolding crc_from
 first_byte r x xs hr hx =
@@ -78,7 +78,7 @@ four_bytes r a b c d hr ha hb hc hd =
     ∙ ap (bit_xor (shift 16 (bit_xor (r % 2 ^ 8) c * 2 ^ 16)))
     (ap (λ n. crc_from n (d ∷ [])) two_on ∙ first_byte 0 d [] (omega arith) hd ∙ xor_zero_r (shift 8 (d * 2 ^ 16)))))
 
--- ---- the register advanced
+-- ---- the register moved on
 
 pub one_place : (r : ℕ) → r * 2 % 2 ^ 32 < 2 ^ 24 → r < 2 ^ 24 → r * 2 % 2 ^ 32 ≡ stepped r
 one_place r less h =
@@ -112,7 +112,7 @@ four_places r entry h is =
     ∙ sym (shift-xor 4 (r / 2 ^ 20 * 2 ^ 20) (r % 2 ^ 20) (omega arith) (omega arith))
     ∙ ap (shift 4) (xor_shifted (r / 2 ^ 20) 20 (r % 2 ^ 20) low ∙ whole)
 
--- four more bits of the register that is advanced
+-- four bits more of the register that is moved on
 pub next_bits : (n m d : ℕ) → m < 2 ^ 20 → d < 2 ^ 4 → shift n (m * 16 + d) ≡ bit_xor (shift 4 (shift n m)) (shift n d)
 next_bits n m d hm hd =
     let inside : m * 2 ^ 4 < 2 ^ 24 = omega arith in

@@ -1,4 +1,4 @@
--- The register over the bytes of a message holds its CRC; the same for runs of bits.
+-- The register over the bytes of a message holds its CRC, and the same for runs of bits.
 use Rattle.std.proofs.Common.{◌≡◌, ℕ, zero, suc, ◌+◌, ◌-◌, ◌*◌, ◌/◌, ◌%◌, ◌^◌, ◌<◌, ◌≤◌, List, [], ◌∷◌, ◌++◌, length, take, get_or, slice_index, sym, ap, subst, ◌∙◌, arith}
 use Rattle.std.proofs.lemmas.List.{take_more, take_all}
 use Rattle.std.proofs.Math.Nat.{mod-eq_of_lt, pow-suc, mul_assoc}
@@ -99,7 +99,7 @@ byte_more bytes from i state byte next is byte_is next_is =
     subst (λ n. IsCrc n next) number
     (subst (λ n. IsCrc (number_at bytes from (8 * i) * 256 + byte % 256) n) (sym next_is) (with_byte_grows (number_at bytes from (8 * i)) state byte is))
 
--- one more bit after those taken
+-- one bit more behind the bits that are in
 pub bit_more : (bytes : List ℕ) (p at k bit' next : ℕ) → bit' ≡ bit bytes (at + k)
     → IsCrc ((p * 2 ^ k + number_at bytes at k) * 2 + bit') next → IsCrc (p * 2 ^ (k + 1) + number_at bytes at (k + 1)) next
 unfolding number_at

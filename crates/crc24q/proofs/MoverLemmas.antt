@@ -1,4 +1,4 @@
--- The tables of a mover: two more entries, the tables of the higher bytes, and the register by three look-ups.
+-- The tables of a mover: two entries more, the tables of the bytes further ahead, and the register by three look-ups.
 use Rattle.std.proofs.Common.{◌≡◌, ℕ, ◌+◌, ◌*◌, ◌/◌, ◌%◌, ◌^◌, ◌<◌, ◌≤◌, List, length, get_or, refl, sym, ap, subst, ◌∙◌, arith, ◌⊎◌, inl, inr}
 use Rattle.std.proofs.Math.ListN.{set}
 use Rattle.std.proofs.lemmas.Bool.{cases_lt}
@@ -11,7 +11,7 @@ use Rattle.crc24q.specs.Register.{stepped, shift, with_byte_of}
 use Rattle.crc24q.proofs.RegisterLaws.{shift-add, shift_small}
 use Rattle.crc24q.proofs.StepLemmas.{twice, both}
 
--- what holds of the entries before two new ones, and of these, holds up to their end
+-- what holds of the entries before two that are written, and of these, holds up to behind them
 pub two_more : (P : ℕ → ℕ → Type 0) (xs : List ℕ) (half even odd : ℕ) → 2 * half + 1 < length xs
     → ((d : ℕ) → d < 2 * half → P d (get_or xs d 0)) → P (2 * half) even → P (2 * half + 1) odd
     → (d : ℕ) → d < 2 * (half + 1) → P d (get_or (set (set xs (2 * half) even) (2 * half + 1) odd) d 0)
@@ -44,14 +44,14 @@ odd_is n half even one h is one_is =
     both n (2 * half) 1 even one (omega arith) (omega arith) is one_is
     ∙ ap (shift n) (ap (λ m. bit_xor m 1) order ∙ xor_shifted half 1 1 (omega arith) ∙ back)
 
--- a power advanced by eight bits
+-- eight places more of a power
 pub next_power : (n one next : ℕ) → one ≡ shift n 1 → next ≡ with_byte_of one 0 → next ≡ shift (n + 8) 1
 unfolding with_byte_of
 next_power n one next one_is is =
     let order : 8 + n ≡ n + 8 = omega arith in
     is ∙ ap (shift 8) (xor_zero_r one ∙ one_is) ∙ sym (shift-add 8 n 1) ∙ ap (λ m. shift m 1) order
 
--- the middle and the high byte
+-- the bytes in the middle and at the head
 pub in_middle : (n d : ℕ) → d < 256 → shift (n + 8) d ≡ shift n (d * 2 ^ 8)
 in_middle n d h = shift-add n 8 d ∙ ap (shift n) (shift_small 8 16 d refl (omega arith))
 

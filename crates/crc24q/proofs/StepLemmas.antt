@@ -1,4 +1,4 @@
--- One step of each loop: the register over the rest of a list, and the bits of a register that is advanced.
+-- One step of each loop: the register over what is left of a list, and the bits of a register that is moved on.
 use Rattle.std.proofs.Common.{◌≡◌, ℕ, zero, suc, ◌+◌, ◌-◌, ◌*◌, ◌/◌, ◌%◌, ◌^◌, ◌<◌, ◌≤◌, List, [], ◌∷◌, length, get_or, drop, sym, ap, subst, ◌∙◌, arith, zero-add}
 use Rattle.std.proofs.lemmas.List.{drop_more, drop_all}
 use Rattle.std.proofs.lemmas.Nat.{and_mask, shr-shr, shr_le}
@@ -36,7 +36,7 @@ four_step state next n m xs places inside is =
     ∙ sym (ap (crc_from state) (four_more xs n (omega arith))
     ∙ crc_from-append state (get_or xs n 0 ∷ get_or xs (n + 1) 0 ∷ get_or xs (n + 2) 0 ∷ get_or xs (n + 3) 0 ∷ []) (drop (n + 4) xs))
 
--- ---- the register advanced by its bits
+-- ---- the register moved on by its bits
 
 pub bit_step : (n state k sum moved digit : ℕ) → state < 2 ^ 24 → k < 6 → sum ≡ shift n (state / 2 ^ (24 - 4 * k)) → moved ≡ shift 4 sum
     → digit ≡ shift n (bit_and (state / 2 ^ (20 - 4 * k)) 15) → bit_xor moved digit ≡ shift n (state / 2 ^ (24 - 4 * (k + 1)))
@@ -65,7 +65,7 @@ no_bits n state fits =
 
 -- ---- the sixteen multiples
 
--- each number of a list is f of its index, counted from i
+-- each number of a list is f of its place, counted from i
 abbrev Are : (ℕ → ℕ) → ℕ → List ℕ → Type 0
 Are f i [] = Unit {0}
 Are f i (x ∷ xs) = (x ≡ f i) × Are f (suc i) xs

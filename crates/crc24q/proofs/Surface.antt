@@ -1,4 +1,4 @@
--- What proofs of other crates cite: that there is one CRC, the CRC of bytes and of sums, and the register over bytes.
+-- What proofs of other crates cite: that there is one CRC, that of bytes and of sums, and the register over bytes.
 pub use Rattle.crc24q.proofs.DivisionLemmas.{one_remainder}
 pub use Rattle.crc24q.proofs.MessageLemmas.{crc_of_bytes}
 pub use Rattle.crc24q.proofs.BitLemmas.{crc_of_sum}

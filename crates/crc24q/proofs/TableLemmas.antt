@@ -1,13 +1,13 @@
--- A table whose entries pass a test that computes has the tested entry at each index.
+-- A table whose entries pass a test that computes has the tested entry at each place.
 use Rattle.std.proofs.Common.{◌≡◌, ℕ, zero, suc, ◌+◌, ◌<◌, Bool, true, false, nat_eq, ◌&&◌, List, [], ◌∷◌, length, get_or, refl, sym, ap, ◌∙◌, arith, add-zero}
 use Rattle.std.proofs.lemmas.Bool.{eqb-true}
 
--- the table has f at each index, counted from i
+-- the table has f at each place, counted from i
 abbrev pub are_entries : (ℕ → ℕ) → ℕ → List ℕ → Bool
 are_entries f i [] = true
 are_entries f i (t ∷ ts) = nat_eq t (f i) && are_entries f (suc i) ts
 
--- each number of the second list is f of the one at its index in the first
+-- each number of the second list is f of the one at its place in the first
 abbrev pub are_images : (ℕ → ℕ) → List ℕ → List ℕ → Bool
 are_images f [] [] = true
 are_images f [] (u ∷ us) = false

@@ -1,9 +1,9 @@
 //! CRC-24Q, the cyclic redundancy check of RTCM frames and of Galileo I/NAV pages (RTCM 10403.3,
 //! section 4; Galileo OS SIS ICD, section 5.1.9.4).
 //!
-//! A message is a polynomial over GF(2), its first bit the highest power. The CRC is the remainder
-//! of x^24 times it divided by the generator 0x1864CFB: initial value 0, no reflection, no final
-//! XOR. Computed by tables, four bytes at a time.
+//! A message of bits is a polynomial over the field of two elements, its first bit the highest
+//! power. The CRC is the remainder of x^24 times it by the generator 0x1864CFB: start 0, no
+//! reflection, no final change. It goes by tables, four bytes at a time.
 //!
 //! ```rust
 //! let crc = crc24q::crc_bytes(&[0xd3, 0, 0]);

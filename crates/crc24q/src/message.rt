@@ -10,9 +10,9 @@ use crate::register::{after_bytes, with_byte};
 use crate::shifts::with_bit;
 use nav_bits::{Bits, U};
 
-/// The CRC-24Q of some bytes, 24 bits, the most significant bit of each byte first; 0 for no bytes.
+/// The CRC of some bytes, the most significant bit of each first. It is 0 for no bytes.
 ///
-/// RTCM 10403.3, section 4: the last three bytes of a frame are the CRC of all bytes before them,
+/// RTCM 10403.3, section 4: the last three bytes of a frame are the CRC of all before them, the
 /// high byte first.
 pub fn crc_bytes(bytes: &[u8]) -> U<24>
     ensures value { result ≡ crc_from 0 bytes.now }
@@ -21,10 +21,11 @@ pub fn crc_bytes(bytes: &[u8]) -> U<24>
     U::from_bits(u64::from(after_bytes(bytes)))
 }
 
-/// The CRC-24Q, 24 bits, of the `count` bits from bit offset `from`, bit 0 being the most
-/// significant bit of the first byte.
+/// The CRC of the `count` bits from bit `from` on, bit 0 being the most significant bit of the
+/// first byte.
 ///
-/// Galileo OS SIS ICD, section 5.1.9.4: the CRC of a nominal page covers the 196 bits before it.
+/// Galileo OS SIS ICD, section 5.1.9.4: the CRC of a nominal page is that of its 196 bits before
+/// the CRC.
 pub fn crc_bits<const N: usize>(bits: &Bits<N>, from: usize, count: usize) -> U<24>
     requires { from + count ≤ 8 * N }
     ensures value { result ≡ crc_of_bits (bits_at bits.now from count) }
@@ -43,7 +44,7 @@ fn crc_of_run(bytes: &[u8], from: usize, count: usize) -> u32
     after_last_bits(state, bytes, from / 8 + count / 8, from % 8, count % 8)
 }
 
-// The register, from 0, after the bits that make whole bytes.
+// The register from 0 on after the bits that make whole bytes.
 fn after_whole_bytes(bytes: &[u8], from: usize, count: usize) -> u32
     requires { from + 8 * count ≤ 8 * length bytes.now }
     ensures { IsCrc (number_at bytes.now from (8 * count)) result }
@@ -55,7 +56,7 @@ fn after_whole_bytes(bytes: &[u8], from: usize, count: usize) -> u32
     state
 }
 
-// The eight bits after the first `skip` bits of a byte.
+// The eight bits behind the first `skip` bits of a byte.
 fn byte_at(bytes: &[u8], byte: usize, skip: usize) -> u8
     requires skip { skip < 8 }
     requires inside { 8 * byte + skip + 8 ≤ 8 * length bytes.now }
@@ -67,7 +68,7 @@ fn byte_at(bytes: &[u8], byte: usize, skip: usize) -> u8
     (bytes[byte] & (0xff >> skip)) << skip | bytes[byte + 1] >> (8 - skip)
 }
 
-// The register after fewer than eight more bits, those after the first `skip` bits of a byte.
+// The register with fewer than eight bits more, those behind the first `skip` bits of a byte.
 fn after_last_bits(mut state: u32, bytes: &[u8], byte: usize, skip: usize, count: usize) -> u32
     requires state { state < 2 ^ 24 }
     requires skip { skip < 8 }

@@ -1,4 +1,4 @@
-//! Advancing a register over a fixed number of zero bytes, by tables made for that number.
+//! The register moved past one number of bytes that are all 0, by tables made for that number.
 
 ghost use Rattle.std.specs.Prelude.{◌≡◌, ℕ, ◌*◌, ◌^◌, ◌<◌, slice_index};
 ghost use Rattle.crc24q.specs.Register.{shift};
@@ -9,15 +9,15 @@ use crate::register::with_byte;
 use crate::shifts::moved_1;
 use std::marker::Model;
 
-/// Advances registers over a fixed number of zero bytes, as [`shifted`](crate::shifted) does, by
-/// three independent look-ups.
+/// Moves registers past so many bytes 0 as it was made for: what [`shifted`](crate::shifted) does,
+/// by three look-ups that do not wait for one another.
 ///
-/// A contract sees the number of bytes. The tables take 3 KB and the time of some twenty calls of
-/// `shifted`, which pays where the same number recurs.
+/// A contract sees the number of bytes. The tables have 3 KB, and to make them takes the time of
+/// some twenty moves by `shifted`: they pay where the same number comes again and again.
 #[derive(Drop)]
 pub struct Mover {
     count: usize,
-    // each value of the low, middle and high byte of the register, advanced
+    // each byte at the end of the register, in its middle and at its head, moved
     low: [u32; 256],
     middle: [u32; 256],
     high: [u32; 256],
@@ -35,7 +35,7 @@ impl Model for Mover {
 }
 
 impl Mover {
-    /// For `count` zero bytes, up to 1,028, the most that a frame has.
+    /// A mover past so many bytes: up to 1,028 of them, as many as a frame may have.
     pub fn new(count: usize) -> Self
         requires { count < 1029 }
         ensures { result ≡ count }
@@ -52,7 +52,7 @@ impl Mover {
         }
     }
 
-    /// Makes the tables for another number of zero bytes.
+    /// Makes it a mover past so many bytes.
     pub fn set_count(&mut self, count: usize)
         requires { count < 1029 }
         ensures { self.new ≡ count }
@@ -61,14 +61,14 @@ impl Mover {
         self.count = count;
     }
 
-    /// The number of zero bytes.
+    /// Past how many bytes it moves a register.
     pub fn count(&self) -> usize
         ensures { result ≡ self.now }
     {
         self.count
     }
 
-    /// The register `state` after `count` zero bytes.
+    /// The register after `count` bytes 0, going on from `state`.
     pub fn moved(&self, state: u32) -> u32
         requires { state < 2 ^ 24 }
         ensures value { result ≡ shift (8 * self.now) state }
@@ -80,7 +80,7 @@ impl Mover {
     }
 }
 
-// Fills the three tables.
+// Makes the three tables.
 fn fill_tables(count: usize, low: &mut [u32; 256], middle: &mut [u32; 256], high: &mut [u32; 256])
     requires { count < 1029 }
     ensures { AreMoved (8 * count) low.new middle.new high.new }
@@ -92,8 +92,8 @@ fn fill_tables(count: usize, low: &mut [u32; 256], middle: &mut [u32; 256], high
     fill(high, with_byte(next, 0));
 }
 
-// Fills the products of a power of x with the polynomials of degree below 8: x times that of the
-// upper seven bits, plus the power where the lowest bit is 1.
+// Makes the products of a power of x with the polynomials of degree below 8: x times that of the
+// higher seven bits and, where the last bit is 1, the power.
 fn fill(entries: &mut [u32; 256], one: u32)
     requires { one < 2 ^ 24 }
     ensures { (n : ℕ) → one ≡ shift n 1 →

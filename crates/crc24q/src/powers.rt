@@ -1,9 +1,9 @@
-//! The powers of x^8 modulo the generator, one for each count of bytes that a frame may have.
+//! The powers of x^8, as remainders: one for each count of bytes that a frame may have.
 
 ghost use Rattle.std.specs.Prelude.{◌≡◌, ℕ, ◌*◌, ◌<◌};
 ghost use Rattle.crc24q.specs.Register.{shift};
 
-// x^(8 x `count`) modulo the generator.
+// x to the power of eight times the count.
 pub(crate) fn power(count: usize) -> u32
     requires { count < 1029 }
     ensures { result ≡ shift (8 * count) 1 }

@@ -1,14 +1,14 @@
-//! The 24-bit register, one byte or four bytes at a time.
+//! The register of 24 bits, a byte or four bytes at a time.
 
 ghost use Rattle.std.specs.Prelude.{◌≡◌, ℕ, ◌*◌, ◌/◌, ◌^◌, ◌<◌, [], ◌∷◌, drop, length};
 ghost use Rattle.crc24q.specs.Register.{with_byte_of, crc_from};
 
 use crate::tables::{moved_8, moved_16, moved_24, moved_32};
 
-/// The register after one more byte.
+/// The register with one more byte.
 ///
-/// Started from 0, the register after the last byte of a message is its CRC. From the registers
-/// after each byte, [`shifted`](crate::shifted) gives the CRC of any part of the message.
+/// From 0 on, the register after the last byte of a message is its CRC. A caller that keeps the
+/// states after each byte gets the CRC of any part of the message by [`shifted`](crate::shifted).
 pub fn with_byte(state: u32, byte: u8) -> u32
     requires { state < 2 ^ 24 }
     ensures value { result ≡ with_byte_of state byte }
@@ -17,8 +17,8 @@ pub fn with_byte(state: u32, byte: u8) -> u32
     moved_8((state >> 16) as u8 ^ byte) ^ (state & 0xffff) << 8
 }
 
-// The register after four more bytes. After three of them nothing of the earlier register is left
-// but these look-ups.
+// The register with four more bytes. After three of them nothing of the earlier state is left but
+// these look-ups.
 fn with_four(state: u32, a: u8, b: u8, c: u8, d: u8) -> u32
     requires { state < 2 ^ 24 }
     ensures value { result ≡ crc_from state (a ∷ b ∷ c ∷ d ∷ []) }
@@ -30,7 +30,7 @@ fn with_four(state: u32, a: u8, b: u8, c: u8, d: u8) -> u32
     moved_32(first) ^ (moved_24(second) ^ (moved_16(third) ^ moved_8(d)))
 }
 
-// The register, from 0, after the bytes that are taken by fours.
+// The register from 0 on after the bytes that go by fours.
 fn after_fours(bytes: &[u8]) -> u32
     ensures value { crc_from result (drop (4 * (length bytes.now / 4)) bytes.now) ≡
         crc_from 0 bytes.now }
@@ -49,7 +49,7 @@ fn after_fours(bytes: &[u8]) -> u32
     state
 }
 
-// The register, from 0, after all bytes.
+// The register from 0 on after all of the bytes.
 pub(crate) fn after_bytes(bytes: &[u8]) -> u32
     ensures value { result ≡ crc_from 0 bytes.now }
     ensures fits { result < 2 ^ 24 }

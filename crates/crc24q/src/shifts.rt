@@ -1,4 +1,4 @@
-//! Advancing a register over zero bytes, in constant time.
+//! The register moved past bytes that are all 0, in a time that does not depend on how many.
 
 ghost use Rattle.std.specs.Prelude.{◌≡◌, ℕ, ◌+◌, ◌*◌, ◌^◌, ◌<◌, slice_index};
 ghost use Rattle.crc24q.specs.Division.{IsCrc};
@@ -9,10 +9,12 @@ use crate::tables::moved_8;
 
 const GENERATOR: u32 = 0x1864CFB;
 
-/// The register `state` after `count` zero bytes, up to 1,028, the most that a frame has.
+/// The register after `count` bytes 0, going on from `state`: up to 1,028 of them, as many as a
+/// frame may have.
 ///
-/// The register is linear: after `count` bytes of any value it is the sum (`^`) of this and the CRC
-/// of these bytes. So the CRC of a range of bytes follows from the registers before and after it.
+/// A register is linear: after `count` bytes of any value it is the sum (`^`) of this and of the
+/// CRC of these bytes alone. So the CRC of a part of some bytes follows from the states before and
+/// after the part, whatever its length.
 pub fn shifted(state: u32, count: usize) -> u32
     requires state { state < 2 ^ 24 }
     requires count { count < 1029 }
@@ -58,7 +60,7 @@ fn multiples_of(one: u32) -> [u32; 16]
     ]
 }
 
-// The register after one more bit.
+// The register with one more bit.
 pub(crate) fn with_bit(state: u32, bit: u32) -> u32
     requires state { state < 2 ^ 24 }
     requires bit { bit < 2 }
@@ -68,7 +70,7 @@ pub(crate) fn with_bit(state: u32, bit: u32) -> u32
     moved_1(state ^ bit << 23)
 }
 
-// x times the register, modulo the generator.
+// x times a register.
 pub(crate) fn moved_1(state: u32) -> u32
     requires { state < 2 ^ 24 }
     ensures value { result ≡ stepped state }
@@ -82,7 +84,7 @@ pub(crate) fn moved_1(state: u32) -> u32
     }
 }
 
-// x^4 times the register, modulo the generator.
+// x^4 times a register.
 fn moved_4(state: u32) -> u32
     requires { state < 2 ^ 24 }
     ensures value { result ≡ shift 4 state }

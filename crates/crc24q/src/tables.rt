@@ -1,30 +1,30 @@
-//! Tables of the register: each value of its high byte, advanced by 8, 16, 24 and 32 bits.
+//! The register's tables: each byte at its head, moved by eight, sixteen, 24 and 32 places.
 
 ghost use Rattle.std.specs.Prelude.{◌≡◌, ℕ, ◌*◌, ◌^◌, ◌<◌};
 ghost use Rattle.crc24q.specs.Register.{shift};
 
-// x^8 times the high byte of the register, modulo the generator.
+// x^8 times the byte at the head of the register.
 pub(crate) fn moved_8(byte: u8) -> u32
     ensures { result ≡ shift 8 (byte * 2 ^ 16) }
 {
     MOVED_8[byte as usize]
 }
 
-// x^16 times the high byte of the register, modulo the generator.
+// x^16 times the byte at the head of the register.
 pub(crate) fn moved_16(byte: u8) -> u32
     ensures { result ≡ shift 16 (byte * 2 ^ 16) }
 {
     MOVED_16[byte as usize]
 }
 
-// x^24 times the high byte of the register, modulo the generator.
+// x^24 times the byte at the head of the register.
 pub(crate) fn moved_24(byte: u8) -> u32
     ensures { result ≡ shift 24 (byte * 2 ^ 16) }
 {
     MOVED_24[byte as usize]
 }
 
-// x^32 times the high byte of the register, modulo the generator.
+// x^32 times the byte at the head of the register.
 pub(crate) fn moved_32(byte: u8) -> u32
     ensures { result ≡ shift 32 (byte * 2 ^ 16) }
 {

@@ -1,27 +1,27 @@
--- The form of a file, from its first bytes.
+-- What the first bytes of a file say of its form.
 use Rattle.std.specs.Prelude.{◌==◌, nat_eq, nat_lt, ◌&&◌, ℕ, Bool, if◌then◌else◌, List, [], ◌∷◌, length, take, drop, codes, slice_index}
 use Rattle.std.specs.List.{starts_with}
 use Rattle.file_form.specs.declared.Kind.{Kind}
 use Rattle.file_form.specs.declared.Kind.TheVariants.{Empty, Capture1, Capture2, Rinex4, Rinex3, Rinex2, Observations, Hatanaka, OtherRinex, Stream, Ubx, Sbf, Nmea, Gzip, Compress, Zip, Marked, Unknown}
 
--- the bytes begin with this signature
+-- the bytes begin with this mark
 abbrev pub begins : List ℕ → List ℕ → Bool
 begins mark bytes = starts_with nat_eq bytes mark
 
--- this text stands at this byte offset
+-- this text stands behind so many bytes
 abbrev pub stands_at : ℕ → List ℕ → List ℕ → Bool
 stands_at place text bytes = starts_with nat_eq (drop place bytes) text
 
--- the first character that is not a blank; a blank where there is none
+-- the first character that is no blank, or a blank
 abbrev pub first_char : List ℕ → ℕ
 first_char [] = 32
 first_char (x ∷ xs) = if x == 32 then first_char xs else x
 
--- the first character of the RINEX version in columns 1-9, or a blank
+-- the first character of the version in columns 1-9, or a blank
 abbrev pub version_of : List ℕ → ℕ
 version_of prefix = first_char (take 9 prefix)
 
--- a RINEX file, by its type in column 21: `O` observations, `N` navigation, and then by its version
+-- a file of RINEX, by its type in column 21: `O` observations, `N` navigation, and there by its version
 unfoldable pub rinex_kind : List ℕ → Kind
 rinex_kind prefix =
     if stands_at 20 (codes "O") prefix then Observations
@@ -32,7 +32,7 @@ rinex_kind prefix =
     else OtherRinex)
     else OtherRinex
 
--- a text: a capture, a log of SBF or NMEA, one with a UTF-8 byte order mark, or RINEX by the label in columns 61-80
+-- a text: a capture, a log of SBF or NMEA, one that is marked as UTF-8, or RINEX by the label in columns 61-80
 unfoldable pub text_kind : List ℕ → Kind
 text_kind prefix =
     if begins (codes "NAVCAP 1") prefix then Capture1
@@ -44,8 +44,8 @@ text_kind prefix =
     else if stands_at 60 (codes "RINEX VERSION / TYPE") prefix then rinex_kind prefix
     else Unknown
 
--- Bytes that are not text: an RTCM 3 frame, whose preamble is followed by six reserved bits of 0 and ten bits of length; a UBX
--- message; and the signatures of gzip, compress and zip.
+-- Bytes that are no text: a frame of RTCM 3, whose preamble is followed by six bits of 0 and ten of its length; a message of
+-- UBX; and what gzip, compress and zip write.
 unfoldable pub binary_kind : List ℕ → Kind
 binary_kind prefix =
     if begins (0xd3 ∷ []) prefix then (if nat_lt 1 (length prefix) && nat_lt (slice_index prefix 1) 4 then Stream else Unknown)
@@ -76,7 +76,7 @@ or_else Compress kind = Compress
 or_else Zip kind = Zip
 or_else Marked kind = Marked
 
--- the form that these first bytes tell
+-- the form that the first bytes tell
 unfoldable pub prefix_kind : List ℕ → Kind
 prefix_kind prefix = if length prefix == 0 then Empty else or_else (binary_kind prefix) (text_kind prefix)
 

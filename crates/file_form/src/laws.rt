@@ -1,9 +1,9 @@
-//! The law of the first bytes: the contract of an empty function.
+//! The law of the first bytes: the function does nothing, and its contract is the law.
 
 ghost use Rattle.std.specs.Prelude.{◌≡◌, ◌≤◌, ℕ, List, take};
 ghost use Rattle.file_form.specs.Kinds.{kind_of};
 
-/// The first 80 bytes of a file decide its form.
+/// Of a file with any number of bytes the first 80 decide.
 pub fn first_bytes_decide()
     ensures { (n : ℕ) (bytes : List ℕ) → 80 ≤ n → kind_of (take n bytes) ≡ kind_of bytes }
 {}

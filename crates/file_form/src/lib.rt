@@ -1,7 +1,7 @@
 //! The form of a file, told by its first bytes.
 //!
-//! [`kind_of`] looks at no more than 80 bytes, so the first 80 bytes of a file tell the same form as
-//! the whole file ([`first_bytes_decide`]).
+//! [`kind_of`] looks at no more than 80 bytes, so a prefix of a file that has as many says what the
+//! whole file says ([`first_bytes_decide`]).
 //!
 //! ```rust
 //! assert!(rt; kind_of(b"NAVCAP 1\n") == Kind::Capture1);
@@ -49,13 +49,13 @@ pub enum Kind {
     Sbf,
     /// Sentences of NMEA 0183.
     Nmea,
-    /// A file compressed by gzip.
+    /// A file that is packed by gzip.
     Gzip,
-    /// A file compressed by compress.
+    /// A file that is packed by compress.
     Compress,
-    /// A zip archive.
+    /// An archive of zip.
     Zip,
-    /// A text that begins with a UTF-8 byte order mark.
+    /// A text with a byte order mark of UTF-8 in front.
     Marked,
     /// Any other bytes.
     Unknown,
@@ -83,7 +83,7 @@ fn prefix_kind(prefix: &[u8]) -> Kind
     }
 }
 
-// The form of a file that is not text, or `Unknown`.
+// The form of a file that is no text, or `Unknown`.
 #[tactic(auto, unfolding(crate::specs::Kinds::binary_kind))]
 fn binary_kind(prefix: &[u8]) -> Kind
     ensures { result ≡ binary_kind prefix.now }
@@ -157,7 +157,7 @@ fn version_of(prefix: &[u8]) -> u8
     first_char(&prefix[..9.min(prefix.len())])
 }
 
-// The first character that is not a blank; a blank where there is none.
+// The first character that is no blank, or a blank.
 fn first_char(text: &[u8]) -> u8
     ensures { result ≡ first_char text.now }
 {
@@ -169,14 +169,14 @@ fn first_char(text: &[u8]) -> u8
     b' '
 }
 
-// Whether the bytes begin with this signature.
+// Whether the bytes begin with these.
 fn begins(bytes: &[u8], mark: &[u8]) -> bool
     ensures { result ≡ starts_with nat_eq bytes.now mark.now }
 {
     bytes.starts_with(mark)
 }
 
-// Whether this text stands at this byte offset.
+// Whether this text stands behind so many bytes.
 #[tactic(auto, using(std::proofs::lemmas::List::drop_min))]
 fn stands_at(bytes: &[u8], place: usize, text: &[u8]) -> bool
     ensures { result ≡ starts_with nat_eq (drop place bytes.now) text.now }

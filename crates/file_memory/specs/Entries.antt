@@ -1,4 +1,4 @@
--- The files of a folder in memory, as a list of changes, the newest first.
+-- The files of a folder in memory, by what became of their names.
 use Rattle.std.specs.Prelude.{◌≡◌, ◌≢◌, ℕ, List, [], ◌∷◌, Option, None, Some, if◌then◌else◌, bytes_eq}
 use Rattle.std.specs.String.{string_bytes}
 use Rattle.std.specs.declared.vec.Vec.{Vec}
@@ -10,12 +10,12 @@ abbrev pub contents_of : Option (Vec ℕ Global) → Option (List ℕ)
 contents_of None = None
 contents_of (Some bytes) = Some bytes.items
 
--- the bytes of a name, by the newest entry of that name
+-- the bytes of a name: what became of it last
 abbrev pub bytes_at : List Entry → List ℕ → Option (List ℕ)
 bytes_at [] name = None
 bytes_at (entry ∷ entries) name = if bytes_eq (string_bytes entry.name) name then contents_of entry.bytes else bytes_at entries name
 
--- the name has these bytes now, and every other name keeps its bytes
+-- the name has this now, and every other name what it had
 pub record Sets (old new : List ℕ → Option (List ℕ)) (name : List ℕ) (bytes : Option (List ℕ)) : Type 0 where
   pub there : new name ≡ bytes
   pub others : (other : List ℕ) → other ≢ name → new other ≡ old other

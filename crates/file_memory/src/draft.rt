@@ -1,11 +1,11 @@
-//! A file in memory that is being written.
+//! A file in memory that is written.
 
 ghost use Rattle.std.specs.Prelude.{◌≡◌, [], Some};
 
 use nav_io::{Failed, Sink};
 use std::alloc::Global;
 
-/// A sink over bytes in memory, as many as memory allows.
+/// A sink over bytes in memory, which takes as many as there is memory for.
 #[derive(Drop)]
 pub struct MemDraft {
     bytes: Vec<u8>,
@@ -13,7 +13,7 @@ pub struct MemDraft {
 }
 
 impl MemDraft {
-    /// An empty file, with a fault count of 0.
+    /// Without a byte, and with a count of 0.
     pub fn new(alloc: Global) -> MemDraft
         ensures written { ⟦<MemDraft as Sink>⟧.written result ≡ Some [] }
         ensures faults { ⟦<MemDraft as Sink>⟧.faults result ≡ 0 }

@@ -15,14 +15,14 @@ use std::io::Cursor;
 /// A file in memory that is read.
 pub type MemInput = FileInput<Cursor<Vec<u8>>>;
 
-// A change of a name: now a file with these bytes, or none.
+// What became of a name: a file with these bytes, or none.
 #[derive(Drop)]
 struct Entry {
     name: String,
     bytes: Option<Vec<u8>>,
 }
 
-/// A folder in memory. Its calls fail only for want of memory, or where `Folder` requires it.
+/// A folder in memory. No call on it fails but for want of memory, or where it has to.
 #[derive(Drop)]
 pub struct MemFolder {
     alloc: Global,
@@ -32,7 +32,7 @@ pub struct MemFolder {
 }
 
 impl MemFolder {
-    /// An empty folder, with a fault count of 0.
+    /// A folder without a file, and with a count of 0.
     pub fn new(alloc: Global) -> MemFolder
         ensures files { result.entries.items ≡ [] }
         ensures faults { ⟦<MemFolder as Folder>⟧.faults result ≡ 0 }
@@ -85,7 +85,7 @@ impl Folder for MemFolder {
 
     ghost faults = { λ s. s.faults };
 
-    /// Returns a source over the bytes.
+    /// Gives a source over the bytes.
     fn open(&mut self, name: &str) -> Result<MemInput, FileFault> {
         let alloc = self.alloc;
         match opened(alloc, &self.entries, name) {
@@ -94,7 +94,7 @@ impl Folder for MemFolder {
         }
     }
 
-    /// Returns the last fault of a read, if any.
+    /// Says why a read has failed last, where one has.
     fn close(&mut self, input: MemInput) -> Result<(), FileFault> {
         match input.fault() {
             None => Ok(()),
@@ -102,7 +102,7 @@ impl Folder for MemFolder {
         }
     }
 
-    /// Creates an empty file with this name, which no file has.
+    /// Gives the name no byte, where no file has it.
     fn draft(&mut self, part: &str) -> Result<MemDraft, FileFault> {
         match begun(self.alloc, &mut self.entries, part) {
             Ok(draft) => Ok(draft),
@@ -110,7 +110,7 @@ impl Folder for MemFolder {
         }
     }
 
-    /// Gives the name the bytes, and removes the part.
+    /// Gives the name the bytes, and takes the part away.
     fn publish(&mut self, draft: MemDraft, part: &str, name: &str) -> Result<(), FileFault> {
         match published(self.alloc, &mut self.entries, draft, part, name) {
             Ok(()) => Ok(()),
@@ -118,7 +118,7 @@ impl Folder for MemFolder {
         }
     }
 
-    /// Removes the part.
+    /// Takes the part away.
     fn discard(&mut self, draft: MemDraft, part: &str) -> Result<(), FileFault> {
         if set(self.alloc, &mut self.entries, part, None).is_err() || draft.faults() != 0 {
             return Err(self.failed(FileFault::NoMemory));
@@ -127,7 +127,7 @@ impl Folder for MemFolder {
     }
 }
 
-// Adds a change of a name.
+// Notes what became of a name.
 fn set(
     alloc: Global,
     entries: &mut Vec<Entry>,
@@ -179,7 +179,7 @@ fn opened(alloc: Global, entries: &[Entry], name: &str) -> Result<MemInput, File
     }
 }
 
-// Creates an empty file with this name, which no file has.
+// Gives the name no byte, where no file has it.
 fn begun(alloc: Global, entries: &mut Vec<Entry>, part: &str) -> Result<MemDraft, FileFault>
     ensures none { OnOk result (bytes_at entries.old.items part.now ≡ None) }
     ensures empty { IfOk result (λ draft. ⟦<MemDraft as Sink>⟧.written draft ≡ Some []) }
@@ -196,7 +196,7 @@ fn begun(alloc: Global, entries: &mut Vec<Entry>, part: &str) -> Result<MemDraft
     }
 }
 
-// Gives the name the bytes, and removes the part.
+// Gives the name the bytes, and takes the part away.
 fn published(
     alloc: Global,
     entries: &mut Vec<Entry>,

@@ -1,9 +1,9 @@
--- The bytes of a buffer that are written, and the rest of them.
+-- What is out of gathered bytes, and the rest of them.
 use Rattle.std.proofs.Common.{◌≡◌, ◌+◌, ◌-◌, ℕ, List, ◌++◌, length, take, drop, Option, None, Some, sym, ap, ◌∙◌, append_assoc}
 use Rattle.std.proofs.lemmas.List.{drop-drop, take-append-drop, take_rest}
 use Rattle.std.specs.Io.KnownBytes.{Appends, Keeps, append_known}
 
--- this many more bytes are written
+-- so many more bytes are out
 pub out_more : (whole old new : Option (List ℕ)) (kept : List ℕ) (out n : ℕ) → Keeps whole (append_known old (drop out kept))
     → Appends old new (take n (drop out kept)) → Keeps whole (append_known new (drop (out + n) kept))
 out_more None old new kept out n h k = tt

@@ -1,29 +1,29 @@
--- What calls do to the files of a folder, where it tells them: a map from each name to the bytes of its file, or none.
+-- What calls do to the files of a folder, where it tells them: to each name the bytes of its file, or none.
 use Rattle.std.specs.Prelude.{◌≡◌, ◌≢◌, ℕ, List, [], Option, None, Some}
 
--- every name but that of the part keeps its bytes
+-- every name but that of the part has what it had
 abbrev pub Stays : Option (List ℕ → Option (List ℕ)) → Option (List ℕ → Option (List ℕ)) → List ℕ → Type 0
 Stays None new part = Unit {0}
 Stays (Some old) None part = ⊥
 Stays (Some old) (Some new) part = (name : List ℕ) → name ≢ part → new name ≡ old name
 
--- a file of this name exists, and all its bytes are still to be read
+-- a file of this name is there, and its bytes are left
 abbrev pub Opens : Option (List ℕ → Option (List ℕ)) → List ℕ → Option (List ℕ) → Type 0
 Opens None name left = Unit {0}
 Opens (Some files) name left = (bytes : List ℕ) × (files name ≡ Some bytes) × (left ≡ Some bytes)
 
--- no file of this name existed, and the new one is empty
+-- no file of this name was there, and the new one is empty
 abbrev pub Begins : Option (List ℕ → Option (List ℕ)) → List ℕ → Option (List ℕ) → Type 0
 Begins None part written = Unit {0}
 Begins (Some files) part written = (files part ≡ None) × (written ≡ Some [])
 
--- the name has these bytes, the part is removed, and every other name keeps its bytes
+-- the name has these bytes, the part is gone, and every other name has what it had
 pub record Puts (old new : List ℕ → Option (List ℕ)) (part name bytes : List ℕ) : Type 0 where
   pub there : new name ≡ Some bytes
   pub gone : new part ≡ None
   pub others : (other : List ℕ) → other ≢ part → other ≢ name → new other ≡ old other
 
--- the name has the bytes that were written, where the folder and the writer tell them
+-- the name has the bytes that were written, where both are told
 abbrev pub Publishes : Option (List ℕ → Option (List ℕ)) → Option (List ℕ → Option (List ℕ)) → List ℕ → List ℕ
     → Option (List ℕ) → Type 0
 Publishes None new part name written = Unit {0}

@@ -1,10 +1,10 @@
--- What converting one file does.
+-- What the step of one file does.
 use Rattle.std.specs.Prelude.{◌≡◌, ℕ, List, Option, None, Some}
 use Rattle.file_step.specs.Files.{Puts}
 use Rattle.file_step.specs.declared.step.StepFault.{StepFault}
 use Rattle.file_step.specs.declared.step.StepFault.TheVariants.{Open, Begin, Run, Publish}
 
--- the output name has the conversion of the bytes of the input, which existed
+-- the name has what is made of the bytes of the input, which was there
 abbrev pub Converts : (List ℕ → List ℕ) → Option (List ℕ → Option (List ℕ)) → Option (List ℕ → Option (List ℕ))
     → List ℕ → List ℕ → List ℕ → Type 0
 Converts makes None new from part name = Unit {0}
@@ -19,7 +19,7 @@ BrokeOff (Begin file) = ⊥
 BrokeOff (Run fault told) = Unit {0}
 BrokeOff (Publish file) = ⊥
 
--- the conversion broke off for want of something, such as memory, that its bytes do not decide
+-- the conversion broke off, and lacked what its bytes do not decide
 abbrev pub Lacks : {E : Type 0} → (E → Type 0) → StepFault E → Type 0
 Lacks lacks (Open file) = ⊥
 Lacks lacks (Begin file) = ⊥

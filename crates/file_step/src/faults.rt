@@ -1,4 +1,4 @@
-//! Why a call on a file failed, as far as a message tells it.
+//! What the system said of a call that failed, as far as a sentence tells it.
 
 use std::io::ErrorKind;
 
@@ -13,7 +13,7 @@ pub enum FileFault {
     NotAllowed,
     /// The name is that of a folder.
     IsFolder,
-    /// A component of the path is not a folder.
+    /// A part of the path is no folder.
     NoFolder,
     /// The disk is full.
     DiskFull,
@@ -21,9 +21,9 @@ pub enum FileFault {
     QuotaFull,
     /// The file would be too large for its file system.
     TooLarge,
-    /// The file system is read-only.
+    /// The file system can only be read.
     ReadOnly,
-    /// The reading end of a pipe is closed.
+    /// The reader of a pipe has gone.
     ReaderGone,
     /// There was no memory.
     NoMemory,
@@ -31,7 +31,7 @@ pub enum FileFault {
     Other,
 }
 
-/// The fault for an error of this kind.
+/// What an error of this kind says.
 pub(crate) fn fault_of(kind: ErrorKind) -> FileFault {
     match kind {
         ErrorKind::NotFound => FileFault::NotFound,

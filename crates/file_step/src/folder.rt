@@ -7,7 +7,7 @@ ghost use Rattle.file_step.specs.Files.{Opens, Begins, Publishes, Stays};
 use crate::faults::FileFault;
 use nav_io::{Sink, Source};
 
-/// Where files are read, and written as parts that get their name once they are complete.
+/// Where files are read, and written as parts that get their name when they are whole.
 pub trait Folder {
     /// A file that is read.
     type Input: Source + Drop;
@@ -18,7 +18,7 @@ pub trait Folder {
     // The bytes of each name, where the folder tells them.
     ghost files: { Self → Option (List ℕ → Option (List ℕ)) };
 
-    // How often a call failed: a count that never falls, and saturates at 2^64 - 1.
+    // How often a call failed: a count that never falls, and stays at 2^64 - 1.
     ghost faults: { Self → ℕ };
 
     /// Opens the file of this name to read it.
@@ -29,13 +29,13 @@ pub trait Folder {
         ensures fresh { IfOk result (λ input. Self.Input.faults input ≡ 0) }
         ensures cause { HasCause (faults self.old) (faults self.new) result };
 
-    /// Closes it. If a read of the input has failed, the close fails too and counts as a fault.
+    /// Closes it. An input that has failed counts as a fault of its folder, and so it is told.
     fn close(&mut self, input: Self::Input) -> Result<(), FileFault>
         ensures same { files self.new ≡ files self.old }
         ensures told { Rose 0 (Self.Input.faults input) → Rose (faults self.old) (faults self.new) }
         ensures cause { HasCause (faults self.old) (faults self.new) result };
 
-    /// Creates a file with this name, which no file has.
+    /// Begins a file under this name, which no file has.
     fn draft(&mut self, part: &str) -> Result<Self::Draft, FileFault>
         ensures empty { IfOk result (λ draft.
             Begins (files self.old) part.now (Self.Draft.written draft)) }
@@ -43,8 +43,8 @@ pub trait Folder {
         ensures fresh { IfOk result (λ draft. Self.Draft.faults draft ≡ 0) }
         ensures cause { HasCause (faults self.old) (faults self.new) result };
 
-    /// Gives the draft this name, and removes that of its part. A draft in which a write has failed gets
-    /// no name.
+    /// Gives the file that was begun this name, and takes that of its part away. A file in which a
+    /// write has failed gets no name.
     fn publish(&mut self, draft: Self::Draft, part: &str, name: &str) -> Result<(), FileFault>
         requires { part.now ≢ name.now }
         ensures put { OnOk result (Publishes (files self.old) (files self.new) part.now name.now
@@ -53,7 +53,8 @@ pub trait Folder {
         ensures stays { OnErr result (Stays (files self.old) (files self.new) part.now) }
         ensures cause { HasCause (faults self.old) (faults self.new) result };
 
-    /// Gives up the draft. If a write to it has failed, the call fails too and counts as a fault.
+    /// Gives up the file that was begun. One in which a write has failed counts as a fault of its
+    /// folder, and so it is told.
     fn discard(&mut self, draft: Self::Draft, part: &str) -> Result<(), FileFault>
         ensures stays { Stays (files self.old) (files self.new) part.now }
         ensures told { Rose 0 (Self.Draft.faults draft) → Rose (faults self.old) (faults self.new) }

@@ -1,4 +1,4 @@
-//! A buffered sink.
+//! A sink that gathers what is written.
 
 ghost use Rattle.std.specs.Prelude.{◌≡◌, ◌≤◌, [], length, drop, ◌↔◌, MatchBool, IsNone, IfOk, OnOk};
 ghost use Rattle.std.specs.Io.KnownBytes.{Keeps, append_known};
@@ -8,16 +8,16 @@ use nav_io::{Failed, Sink};
 use std::alloc::{AllocError, Global};
 use std::io::Write;
 
-// The size of the buffer in bytes.
+// How many bytes are gathered before they are written.
 const ROOM: usize = 65_536;
 
-/// A buffered sink over a writer, which writes 65,536 bytes at a time. Its known bytes are those that
-/// the writer tells, and then those in the buffer.
+/// A sink over a writer, which gathers the pieces and writes 65,536 bytes at a time. It tells the
+/// bytes that the writer tells, and behind them those that are gathered.
 #[derive(Drop)]
 pub struct Gathered<W: Write> {
     writer: W,
     kept: Vec<u8>,
-    // how many of the buffered bytes are written
+    // how many of the kept bytes are out
     out: usize,
     faults: u64,
     fault: FileFault,
@@ -25,7 +25,7 @@ pub struct Gathered<W: Write> {
 }
 
 impl<W: Write> Gathered<W> {
-    /// A sink over this writer, with a fault count of 0. It fails only for want of memory.
+    /// A sink over this writer, with a count of 0. The error is want of memory alone.
     pub fn new(alloc: Global, writer: W) -> Result<Gathered<W>, AllocError>
     where
         W: Drop,
@@ -43,7 +43,7 @@ impl<W: Write> Gathered<W> {
         })
     }
 
-    /// The writer, after the buffer was written; fails where the sink has failed, or fails now.
+    /// The writer, once all that was gathered is out; not where the sink has failed, or fails now.
     pub fn finish(self) -> Result<W, FileFault>
     where
         W: Drop,
@@ -66,7 +66,7 @@ impl<W: Write> Gathered<W> {
         Ok(writer)
     }
 
-    /// The last fault, if any.
+    /// Why it failed last, where it has failed.
     pub fn fault(&self) -> Option<FileFault>
         ensures { IsNone result ↔ (⟦<Gathered<W> as Sink>⟧.faults self.now ≡ 0) }
     {
@@ -77,14 +77,14 @@ impl<W: Write> Gathered<W> {
         }
     }
 
-    // The buffered bytes that are not written yet.
+    // The bytes that are gathered and not out.
     fn rest(&self) -> &[u8]
         ensures { result.now ≡ drop self.now.out self.now.kept.items }
     {
         &self.kept[self.out..]
     }
 
-    // Writes the buffer; whether all of it is written.
+    // Writes what is gathered; whether it is all out.
     fn put_out(&mut self) -> bool
         ensures none_lost { Keeps (append_known (W.contents self.old.writer)
             (drop self.old.out self.old.kept.items))
@@ -119,8 +119,8 @@ impl<W: Write> Sink for Gathered<W> {
 
     ghost faults = { λ s. s.faults };
 
-    /// Buffers the piece, and first writes the buffer where there is no room for both. Each `Err` of the
-    /// writer, a `write` that takes no byte, and want of memory count one fault.
+    /// Keeps the piece, and writes what was gathered before where there is no room for both. Each
+    /// `Err` of the writer, a `write` that takes no byte, and want of memory count one fault.
     fn write(&mut self, piece: &[u8]) -> Result<(), Failed> {
         if piece.len() > ROOM.saturating_sub(self.kept.len()) && !self.put_out() {
             self.faults = self.faults.saturating_add(1);

@@ -13,7 +13,7 @@ use std::fs;
 use std::fs::{OpenFile, OpenOptions};
 use std::rt::Files;
 
-/// The files of the system, or simulated ones in a test. It tells none of their bytes.
+/// The files that the system has, or that a test plays. It tells none of their bytes.
 #[derive(Drop)]
 pub struct HostFolder<'a, R: Files> {
     alloc: Global,
@@ -22,7 +22,7 @@ pub struct HostFolder<'a, R: Files> {
 }
 
 impl<'a, R: Files> HostFolder<'a, R> {
-    /// A folder with a fault count of 0.
+    /// With a count of 0.
     pub fn new(alloc: Global, files: &'a R) -> HostFolder<'a, R> {
         HostFolder {
             alloc,
@@ -60,7 +60,7 @@ impl<R: Files> Folder for HostFolder<'_, R> {
         }
     }
 
-    /// Returns the last fault of a read, if any.
+    /// Says why a read has failed last, where one has.
     fn close(&mut self, input: FileInput<R::File>) -> Result<(), FileFault> {
         match input.fault() {
             None => Ok(()),
@@ -68,7 +68,7 @@ impl<R: Files> Folder for HostFolder<'_, R> {
         }
     }
 
-    /// Creates a file that must not exist (`O_EXCL`).
+    /// Begins a file that must not be there (`O_EXCL`).
     fn draft(&mut self, part: &str) -> Result<Gathered<R::File>, FileFault> {
         let file = match begun(self.files, part) {
             Ok(file) => file,
@@ -83,8 +83,8 @@ impl<R: Files> Folder for HostFolder<'_, R> {
         }
     }
 
-    /// Writes the buffer, syncs the file, and renames it. The part is removed where one of these
-    /// fails.
+    /// Writes what is gathered, syncs the file, and renames it. The part is removed where one of
+    /// these fails.
     fn publish(
         &mut self,
         draft: Gathered<R::File>,
@@ -100,8 +100,8 @@ impl<R: Files> Folder for HostFolder<'_, R> {
         }
     }
 
-    /// Removes the part, and returns the last fault of a write, if any, or why the part could not be
-    /// removed.
+    /// Removes the part, and says why a write has failed last, where one has, or why the part
+    /// stays.
     fn discard(&mut self, draft: Gathered<R::File>, part: &str) -> Result<(), FileFault> {
         let removed = fs::remove_file(self.files, part);
         if let Some(fault) = draft.fault() {
@@ -114,7 +114,7 @@ impl<R: Files> Folder for HostFolder<'_, R> {
     }
 }
 
-// Creates a file that must not exist.
+// Begins a file that must not be there.
 fn begun<R: Files>(files: &R, part: &str) -> Result<R::File, FileFault> {
     let mut options = OpenOptions::new();
     options.write(true).create_new(true);
@@ -123,7 +123,7 @@ fn begun<R: Files>(files: &R, part: &str) -> Result<R::File, FileFault> {
         .map_err(|error| fault_of(error.kind()))
 }
 
-// Writes the buffer, syncs the file, and renames it.
+// Writes the rest, syncs the file, and renames it.
 fn published<R: Files>(
     files: &R,
     draft: Gathered<R::File>,

@@ -6,8 +6,8 @@ use crate::faults::{FileFault, fault_of};
 use nav_io::{Failed, Source};
 use std::io::Read;
 
-/// A source over a reader, which keeps its last fault. Its known bytes are those that the reader
-/// tells: those of a reader over memory, and none of a file.
+/// A source over a reader, which keeps why it failed last. It tells the bytes that the reader
+/// tells: those over memory, and nothing of a file.
 #[derive(Drop)]
 pub struct FileInput<R: Read> {
     reader: R,
@@ -16,7 +16,7 @@ pub struct FileInput<R: Read> {
 }
 
 impl<R: Read> FileInput<R> {
-    /// A source over this reader, with a fault count of 0.
+    /// A source over this reader, with a count of 0.
     pub fn new(reader: R) -> FileInput<R>
         ensures left { ⟦<FileInput<R> as Source>⟧.left result ≡ R.remaining reader }
         ensures faults { ⟦<FileInput<R> as Source>⟧.faults result ≡ 0 }
@@ -28,7 +28,7 @@ impl<R: Read> FileInput<R> {
         }
     }
 
-    /// The last fault, if any.
+    /// Why it failed last, where it has failed.
     pub fn fault(&self) -> Option<FileFault>
         ensures { IsNone result ↔ (⟦<FileInput<R> as Source>⟧.faults self.now ≡ 0) }
     {

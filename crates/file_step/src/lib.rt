@@ -1,10 +1,10 @@
-//! The step from one file to another: afterwards the output name has the whole output for the bytes
-//! of the input, or is as it was before.
+//! The step from one file to another: the file that has the name afterwards is the whole output on
+//! the bytes of the input, or the name is as it was before.
 //!
 //! - [`Folder`], where files are read and written: [`HostFolder`] is that of the system;
-//! - [`Conversion`], a conversion from the bytes of one file to those of another;
+//! - [`Conversion`], what makes the bytes of one file of those of another;
 //! - [`put_output`], which writes an output beside its name, as a part, and gives it the name once
-//!   it is complete; [`convert_file`], which opens the input too.
+//!   it is whole; [`convert_file`], which opens the input too.
 //!
 //! ```rust
 //! let mut folder = HostFolder::new(rt.alloc(), &rt);

@@ -5,7 +5,7 @@ ghost use Rattle.std.specs.String.{string_bytes};
 
 use std::alloc::{AllocError, Global};
 
-/// The name of the file while it is written: this name with the suffix `.part`.
+/// The name of the file that is written until it is whole: this name with `.part` behind it.
 pub fn part_of(alloc: Global, name: &str) -> Result<String, AllocError>
     ensures part { IfOk result (λ part. string_bytes part ≡ name.now ++ codes ".part") }
     ensures apart { IfOk result (λ part. string_bytes part ≢ name.now) }

@@ -11,24 +11,25 @@ use crate::faults::FileFault;
 use crate::folder::Folder;
 use nav_io::{Sink, Source};
 
-/// A conversion from the bytes of one file to those of another.
+/// What makes the bytes of one file of those of another.
 pub trait Conversion {
     /// Why it breaks off.
     type Fault: Drop;
 
-    // The output for the bytes.
+    // What it writes of the bytes.
     ghost makes: { Self → List ℕ → List ℕ };
 
     // The bytes that it accepts.
     ghost can: { Self → List ℕ → Type 0 };
 
-    // A fault for want of something, such as memory, that neither the bytes nor a call decides.
+    // A fault that says that something was wanting, as memory, that neither the bytes nor a call
+    // decides.
     ghost lacks: { Self.Fault → Type 0 };
 
-    // How often a call failed on neither the input nor the output, but on a report for instance.
+    // How often a call failed that is neither on the input nor on the output, as one on a report.
     ghost faults: { Self → ℕ };
 
-    /// Reads the input to its end, and writes the conversion of its bytes.
+    /// Reads the input to its end, and writes what it makes of its bytes.
     fn run<S: Source, T: Sink>(&mut self, input: &mut S, output: &mut T) -> Result<(), Self::Fault>
         ensures text { OnOk result (IfSome (S.left input.old) (λ bytes.
             Appends (T.written output.old) (T.written output.new) (makes self.old bytes))) }
@@ -44,16 +45,16 @@ pub trait Conversion {
 pub enum StepFault<E> {
     /// The input was not opened.
     Open(FileFault),
-    /// The part could not be created.
+    /// The part was not begun.
     Begin(FileFault),
-    /// The conversion broke off, and the part was given up: the folder's result of that.
+    /// The conversion broke off, and so the part was given up: what the folder said then.
     Run(E, Result<(), FileFault>),
-    /// The output was not fully written, or did not get its name.
+    /// The output was not written to its end, or did not get its name.
     Publish(FileFault),
 }
 
-/// Writes the conversion of the input to a part beside the name, and gives it the name once it is
-/// complete.
+/// Writes what the conversion makes of the input, as a part beside the name, and gives it the name
+/// once it is whole.
 ///
 /// # Errors
 ///
@@ -74,7 +75,7 @@ pub fn put_output<F: Folder, S: Source, C: Conversion>(
         ⊎ Rose (F.faults folder.old) (F.faults folder.new)) }
     ensures later { F.faults folder.old ≤ F.faults folder.new }
 
-    // It succeeds where the bytes are accepted and nothing fails.
+    // It is done where the bytes are accepted and nothing fails.
     ensures complete { IfSome (S.left input.old) (λ bytes. C.can conversion.old bytes
         → ¬ Rose (S.faults input.old) (S.faults input.new)
         → ¬ Rose (C.faults conversion.old) (C.faults conversion.new)
@@ -114,7 +115,7 @@ pub fn convert_file<F: Folder, C: Conversion>(
     ensures failed { IfErr result (λ fault. BrokeOff fault
         ⊎ Rose (F.faults folder.old) (F.faults folder.new)) }
 
-    // It succeeds where the file exists, its bytes are accepted and nothing fails.
+    // It is done where the file is there, its bytes are accepted and nothing fails.
     ensures complete { IfSome (bytes_of (F.files folder.old) from.now) (λ bytes.
         C.can conversion.old bytes
         → ¬ Rose (C.faults conversion.old) (C.faults conversion.new)

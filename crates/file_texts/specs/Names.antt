@@ -2,7 +2,7 @@
 use Rattle.std.specs.Prelude.{ℕ, List, [], ◌∷◌, ◌++◌, Option, None, Some}
 use Rattle.std.specs.Path.{path_join, path_with_file_name}
 
--- a stem, a dot and an ending
+-- a stem with a dot and an ending behind it
 abbrev pub with_ending : List ℕ → List ℕ → List ℕ
 with_ending stem ending = (stem ++ 46 ∷ []) ++ ending
 

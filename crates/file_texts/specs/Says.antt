@@ -1,10 +1,10 @@
--- The exit status of the program.
+-- The status with which the program ends.
 use Rattle.std.specs.Prelude.{ℕ}
 use Rattle.file_texts.specs.declared.says.Refusal.{Refusal}
 use Rattle.file_texts.specs.declared.says.Refusal.TheVariants.{NoSuchConversion, NoConversion, Date, Week, NoName, NotOpened, ReadFault, OutputThere, PartThere, SameFile, WriteFault, NotAccepted, NoMemory, ReportFault, TooLong, Word}
 
 -- 2 for what was asked, 3 for the input, 4 for the output, 5 for a header, 6 for memory, 7 for the report, 8 for an input that
--- is too long, 9 for a command-line word
+-- is too long, 9 for a word
 abbrev pub status_of : Refusal → ℕ
 status_of (NoSuchConversion kind) = 2
 status_of (NoConversion kind) = 2

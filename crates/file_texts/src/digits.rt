@@ -1,4 +1,4 @@
-//! Decimal digits of numbers, with leading zeros.
+//! Digits of numbers, with zeros in front.
 
 ghost use Rattle.std.specs.Prelude.{◌≡◌, ◌+◌, ◌<◌, ◌++◌, ◌∷◌, [], OnOk};
 ghost use Rattle.std.specs.String.{string_bytes};

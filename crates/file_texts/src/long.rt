@@ -11,10 +11,10 @@ use crate::digits::{push_four, push_three, push_two};
 use gnss_week::{Civil, Moment, civil};
 use std::alloc::{AllocError, Global};
 
-// The days of a common year before a month.
+// The days of a common year that went before a month.
 static DAYS_BEFORE: [u32; 12] = [0, 31, 59, 90, 120, 151, 181, 212, 243, 273, 304, 334];
 
-/// Whether the text is the nine characters of a site, such as `BRDC00XXX`.
+/// Whether the text names a site by its nine characters, as `BRDC00XXX`.
 #[tactic(auto, unfolding(crate::specs::Long::is_site))]
 pub fn is_site(text: &str) -> bool
     ensures { result ≡ is_site text.now }
@@ -61,11 +61,11 @@ fn is_digit(byte: u8) -> bool
     b'0' <= byte && byte <= b'9'
 }
 
-/// The name of a navigation file with data of this site from the first time to the last, such as
+/// The name of a navigation file with data of this site from the first moment to the last, as
 /// `BRDC00XXX_R_20240010000_01D_MN.rnx`.
 ///
-/// The period starts at the whole hour where both times lie in one hour, and else at the midnight
-/// before the first. A period of more than 99 days is unspecified (`00U`).
+/// It starts at the whole hour where both moments lie in one, and else at the midnight before the
+/// first. A period of more than 99 days is not named (`00U`).
 #[tactic(auto, unfolding(crate::specs::Long::long_name))]
 pub fn long_name(
     alloc: Global,
@@ -86,7 +86,7 @@ pub fn long_name(
     Ok(name)
 }
 
-// Whether both times lie in one hour.
+// Whether both moments lie in one hour.
 fn is_one_hour(first: Moment, last: Moment) -> bool
     ensures { result ≡ is_one_hour first last }
 {

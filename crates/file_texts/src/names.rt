@@ -9,8 +9,8 @@ ghost use Rattle.file_texts.specs.Names.{with_ending, placed};
 use std::alloc::{AllocError, Global};
 use std::path::{Path, PathBuf};
 
-/// The name of the output for a file: the name of the file with its last ending replaced by this one,
-/// beside it or in this folder. `None` where the input has no file name, such as `..`.
+/// The name of what is made of a file: that of the file with this ending in place of its last one,
+/// beside it, or in this folder. Nothing where the input has no name of a file, as `..` has none.
 pub fn output_name(
     alloc: Global,
     input: &str,

@@ -1,4 +1,4 @@
-//! Why a file is not converted, and the message and exit status for it.
+//! Why a file is not converted.
 
 ghost use Rattle.std.specs.Prelude.{◌≡◌};
 ghost use Rattle.file_texts.specs.Says.{status_of};
@@ -10,23 +10,23 @@ use std::fmt;
 /// Why a file is not converted, or not to its end.
 #[derive(Clone, Copy, Debug, Drop)]
 pub enum Refusal<'a> {
-    /// A file of this form is not converted to the target.
+    /// A file of this form is not converted to that.
     NoSuchConversion(Kind),
     /// No conversion takes a file of this form.
     NoConversion(Kind),
-    /// The value of `--date` is not a date.
+    /// The value of `--date` is no date.
     Date(&'a str),
-    /// The value of `--week` is not a valid reference week.
+    /// The value of `--week` is no reference week by which a file is read.
     Week(&'a str),
-    /// The input has no file name, so that its output has none.
+    /// The input has no name of a file, so that its output has none.
     NoName,
     /// The input was not opened.
     NotOpened(FileFault),
-    /// A read failed after this number of bytes.
+    /// Reading failed after so many bytes.
     ReadFault(u64, FileFault),
-    /// A file with the name of the output exists.
+    /// A file has the name of the output.
     OutputThere(&'a str),
-    /// A file with the name of the part exists.
+    /// A file has the name of the part.
     PartThere(&'a str),
     /// The output is the input itself.
     SameFile(&'a str),
@@ -34,18 +34,18 @@ pub enum Refusal<'a> {
     WriteFault(&'a str, FileFault),
     /// The first line or the header of a file of this form is not accepted.
     NotAccepted(Kind),
-    /// Memory was missing.
+    /// There was no memory.
     NoMemory,
-    /// The report could not be written.
+    /// The report was not written.
     ReportFault,
     /// The input is too long.
     TooLong,
-    /// A command-line word is not UTF-8.
+    /// A word of the command line is not UTF-8.
     Word,
 }
 
 impl Refusal<'_> {
-    /// The exit status of the program.
+    /// The status of the program.
     pub fn status(&self) -> u8
         ensures { result ≡ status_of self.now }
     {
@@ -69,7 +69,7 @@ impl Refusal<'_> {
     }
 }
 
-/// A description of this form of a file.
+/// What a file of this form is.
 pub fn kind_text(kind: Kind) -> &'static str {
     match kind {
         Kind::Empty => "an empty file",
@@ -93,7 +93,7 @@ pub fn kind_text(kind: Kind) -> &'static str {
     }
 }
 
-/// The targets of a file of this form, or how to make it one that can be converted.
+/// To what a file of this form converts, or how it can be made one that does.
 pub fn targets_of(kind: Kind) -> &'static str {
     match kind {
         Kind::Capture1 | Kind::Capture2 => "that converts to rinex, rinex3, rtcm, list, count",
@@ -113,7 +113,7 @@ pub fn targets_of(kind: Kind) -> &'static str {
     }
 }
 
-// A description of why a call on a file failed.
+// What a call on a file failed for.
 fn fault_text(fault: FileFault) -> &'static str {
     match fault {
         FileFault::NotFound => "there is no such file",

@@ -1,4 +1,4 @@
--- The messages found in order are those at the chosen offsets.
+-- The messages by going on are those at the chosen places.
 use Rattle.std.proofs.Common.{◌≡◌, ℕ, zero, suc, ◌+◌, ◌-◌, ◌<◌, ◌≤◌, nat_lt, Bool, true, false}
 use Rattle.std.proofs.Common.{List, [], ◌∷◌, take, drop, refl, sym, ap, arith}
 use Rattle.std.proofs.lemmas.Bool.{ltb-true, ltb-false}
@@ -7,7 +7,7 @@ use Rattle.framing.specs.Places.{AreChosen, size_at, messages_from}
 use Rattle.framing.proofs.Reaching.{Reaches, inside_is_passed, none_is_passed, outside_is_chosen}
 use Rattle.framing.proofs.Reaching.{next_inside, next_outside, next_begun, behind}
 
--- from offset p on, of which the first k bytes are in the last chosen message
+-- from place p on, of which the first k bytes stand in the last chosen message
 abbrev Agree : Format → List ℕ → (ℕ → Bool) → List ℕ → ℕ → ℕ → Type 0
 Agree format bytes chosen rest p k =
     rest ≡ drop p bytes → Reaches format bytes chosen p k

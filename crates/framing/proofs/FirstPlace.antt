@@ -1,4 +1,4 @@
--- The first offset where a message or an incomplete one begins, and what depends on the bytes from there.
+-- The first place where a message begins or that is open, and what is looked at from there.
 use Rattle.std.proofs.Common.{◌≡◌, ℕ, ◌≤◌, ◌&&◌, ◌⊎◌, nat_lt, Bool, true, false, List, [], ◌∷◌}
 use Rattle.std.proofs.Common.{◌++◌, length, refl, ◌∙◌, inl, inr, arith, append-nil}
 use Rattle.std.proofs.lemmas.Bool.{ltb-true, and_parts}
@@ -20,7 +20,7 @@ pass_at format F more x xs same go false o true f = rw (o, f) refl
 pass_at format F more x xs same go false o false f =
     rw (o, f) (same (record { closed = o; none = f }) ∙ go)
 
--- what ignores a byte where nothing begins ignores all bytes before the first offset
+-- what doesn't look at a byte where nothing begins doesn't look at those before the first place
 pass_prefix : (format : Format) → {A : Type 0} (F : List ℕ → A) (more : Bool)
     → ((x : ℕ) (xs : List ℕ) → Passed format more x xs → F (x ∷ xs) ≡ F xs)
     → (b : List ℕ) → F b ≡ F (from_first format more b)
@@ -43,7 +43,7 @@ length-from_first format more [] = omega arith
 length-from_first format more (x ∷ xs) =
     shorter_at format more x xs (length-from_first format more xs) _ refl _ refl
 
--- nothing is left, or an incomplete message is and more bytes may come
+-- nothing is left, or it is open and more bytes may come
 abbrev pub IsHeld : Format → Bool → List ℕ → Type 0
 IsHeld format more rest = (rest ≡ []) ⊎ ((more ≡ true) × (format.is_open rest ≡ true))
 
@@ -59,14 +59,15 @@ held_at format more x xs go false o true f =
     rw (o, f) (λ none. absurd (omega (arith, ltb-true 0 (format.size (x ∷ xs)) f)))
 held_at format more x xs go false o false f = rw (o, f) go
 
--- where no message begins at the first offset, what is there is held
+-- where no message begins at the first place, what is there is held
 pub first_is_held : (format : Format) → (more : Bool) (b : List ℕ)
     → format.size (from_first format more b) ≡ 0 → IsHeld format more (from_first format more b)
 first_is_held format more [] none = inl refl
 first_is_held format more (x ∷ xs) none =
     held_at format more x xs (first_is_held format more xs) _ refl _ refl none
 
--- the messages with bytes following, none after `finish`, do not depend on a byte where nothing begins
+-- the messages with bytes behind, none after the last one, don't look at a byte where nothing
+-- begins
 abbrev Follows : Bool → List ℕ → Type 0
 Follows more following = more ≡ false → following ≡ []
 

@@ -1,4 +1,4 @@
--- The decided messages of a format with a heading, with more bytes following.
+-- The decided messages of a format by headings, with more bytes behind.
 use Rattle.std.proofs.Common.{◌≡◌, ℕ, zero, suc, ◌-◌, ◌≤◌, nat_lt, Bool, true, false, List}
 use Rattle.std.proofs.Common.{[], ◌∷◌, ◌++◌, length, take, drop, refl, sym, ap, ◌∙◌, inl, inr}
 use Rattle.std.proofs.Common.{arith, length-append}
@@ -11,7 +11,7 @@ use Rattle.framing.specs.State.{TakesMessage, TakesNone}
 use Rattle.framing.proofs.HeadingLaws.{heading_is_format}
 use Rattle.framing.proofs.MessageLaws.{drop_first, open_past-drop}
 
--- more bytes do not make a message incomplete
+-- more bytes behind don't open what isn't open
 abbrev KeepsClosed : Format → Type 0
 KeepsClosed f = (x : ℕ) (xs ys : List ℕ) → f.is_open (x ∷ xs) ≡ false
     → f.is_open (x ∷ (xs ++ ys)) ≡ false
@@ -29,7 +29,7 @@ keeps_closed h laws x xs ys closed =
       | inr not ↦ and_left (h.begins (x ∷ (xs ++ ys))) _ (laws.refused (x ∷ xs) ys not)
     ]
 
--- the decided messages with more bytes following, after the first k bytes
+-- the decided messages with more bytes behind, past the first k bytes
 abbrev Decide : Format → List ℕ → List ℕ → ℕ → Type 0
 Decide f bytes more k =
     messages_past f true (bytes ++ more) k
@@ -75,7 +75,8 @@ module _ (f : Format) (laws : IsFormat f) (closed : KeepsClosed f) where
   leaves [] m ms is = absurd (omega (arith, ap length is))
   leaves (x ∷ xs) m ms is = leaves_at x xs (leaves xs) _ refl _ refl m ms is
 
--- decided messages stay; the other messages are those of the undecided bytes and what follows
+-- the messages that are decided stay, and the others are those of what is undecided with these
+-- bytes
 pub decided_behind : (h : Heading) → IsHeading h → (bytes more : List ℕ)
     → decided (format_of h) (bytes ++ more)
     ≡ decided (format_of h) bytes ++ decided (format_of h) (undecided (format_of h) bytes ++ more)
@@ -83,7 +84,7 @@ decided_behind h laws bytes more =
     decide_past (format_of h) (heading_is_format h laws) (keeps_closed h laws) bytes more 0
     (omega arith)
 
--- a message that is found is the first decided one, whatever bytes follow
+-- a message that is taken is the first that is decided, whatever bytes follow
 pub decided_message : (h : Heading) → IsHeading h → (old message new : List ℕ)
     → TakesMessage (format_of h) true old message new → (following : List ℕ)
     → decided (format_of h) (old ++ following) ≡ message ∷ decided (format_of h) (new ++ following)
@@ -98,7 +99,7 @@ decided_message h laws old message new takes following =
     ∙ ap (λ (l : List ℕ). message ∷ (decided f new ++ decided f (l ++ following))) same
     ∙ ap (λ (l : List (List ℕ)). message ∷ l) (sym (decided_behind h laws new following))
 
--- where none is found, none is decided before the bytes kept, whatever bytes follow
+-- where none is taken, none is decided before what is kept, whatever bytes follow
 pub decided_none : (h : Heading) → IsHeading h → (old new : List ℕ)
     → TakesNone (format_of h) true old new
     → (following : List ℕ) → decided (format_of h) (old ++ following)

@@ -23,11 +23,11 @@ sized_le h xs =
     leb-true _ _ q.1)
     (λ _. omega arith)
 
--- bytes that do not agree with a message's start begin none
+-- bytes that begin otherwise begin no message
 unbegun_size : (h : Heading) (xs : List ℕ) → h.begins xs ≡ false → size_by h xs ≡ 0
 unbegun_size h xs e = rw e refl
 
--- the bytes begin no incomplete message: they do not agree with a start, or they are enough
+-- the bytes are not open, since they begin otherwise or are enough
 closed_cases : (h : Heading) (x : ℕ) (xs ys : List ℕ) → IsHeading h → (begun : Bool)
     → h.begins (x ∷ xs) ≡ begun
     → (h.begins (x ∷ xs) && nat_lt (length (x ∷ xs)) (h.wanted (x ∷ xs))) ≡ false
@@ -64,7 +64,7 @@ heading_is_format h laws = record {
   size_append = λ x xs ys closed. closed_cases h x xs ys laws _ refl closed;
 }
 
--- whether the bytes begin an incomplete message, by their number
+-- whether the bytes are open, by their number
 pub opens_none : (h : Heading) (xs : List ℕ) → length xs ≡ 0 → opens_by h xs ≡ false
 opens_none h [] e = refl
 opens_none h (x ∷ xs) e = absurd (omega arith)
@@ -74,7 +74,7 @@ pub opens_some : (h : Heading) (xs : List ℕ) → 0 < length xs
 opens_some h [] e = absurd (omega arith)
 opens_some h (x ∷ xs) e = refl
 
--- an incomplete message is shorter than the longest one
+-- what waits is shorter than the longest message
 pub waiting_is_short : (h : Heading) → IsHeading h → (rest : List ℕ) → IsWaiting (format_of h) rest
     → length rest < h.longest
 waiting_is_short h laws [] w = omega (arith, laws.some [], laws.most [])
@@ -87,7 +87,7 @@ waiting_is_short h laws (x ∷ xs) w =
           omega (arith, laws.most (x ∷ xs))
     ]
 
--- with fewer bytes than wanted no message is decided
+-- without all bytes that are wanted nothing is decided
 pub promises_wanted : (h : Heading) → IsHeading h → (rest : List ℕ) → 0 < length rest
     → IsWaiting (format_of h) rest → Promises (format_of h) rest (h.wanted rest)
 promises_wanted h laws [] some w = absurd (omega arith)
@@ -115,7 +115,7 @@ other_open h laws [] other = refl
 other_open h laws (x ∷ xs) other = let e : h.begins (x ∷ xs) ≡ false = laws.starts x xs other in
     rw e refl
 
--- a byte that is not the first of a message is passed
+-- a byte that is not the first one of messages is passed
 pub other_passed : (h : Heading) → IsHeading h → (more : Bool) (b : List ℕ) (i : ℕ) → i < length b
     → (get_or b i 0 ≡ h.first → ⊥)
     → from_first (format_of h) more (drop i b) ≡ from_first (format_of h) more (drop (i + 1) b)

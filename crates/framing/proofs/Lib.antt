@@ -8,4 +8,3 @@ mod Takes
 mod Promising
 mod HeadingLaws
 pub mod Going
-pub mod Surface

@@ -1,4 +1,4 @@
--- Laws of the messages found in order.
+-- Laws of the messages by going on.
 use Rattle.std.proofs.Common.{◌≡◌, ℕ, zero, suc, ◌-◌, ◌<◌, ◌≤◌, nat_lt, Bool, true, false, List, []}
 use Rattle.std.proofs.Common.{◌∷◌, ◌++◌, length, take, drop, refl, sym, ap, arith}
 use Rattle.std.proofs.lemmas.List.{take-append-le}
@@ -6,7 +6,7 @@ use Rattle.std.proofs.lemmas.Bool.{ltb-true}
 use Rattle.framing.specs.Messages.{Format, IsFormat, messages_past, messages, open_past}
 use Rattle.framing.specs.Messages.{after_first}
 
--- the decided messages stay, after the first k bytes
+-- the decided messages stay, past the first k bytes
 abbrev Stay : Format → List ℕ → List ℕ → ℕ → Type 0
 Stay format bytes more k = messages_past format false (bytes ++ more) k
     ≡ messages_past format true bytes k
@@ -37,7 +37,7 @@ messages_stay format laws (x ∷ xs) more zero h =
 messages_stay format laws (x ∷ xs) more (suc k) h =
     messages_stay format laws xs more k (omega arith)
 
--- passing bytes leaves the messages of the rest
+-- passing bytes is looking at what is left
 pub messages_past-drop : (format : Format) → (more : Bool) (xs : List ℕ) (k : ℕ)
     → messages_past format more xs k ≡ messages_past format more (drop k xs) 0
 messages_past-drop format more [] zero = refl
@@ -52,7 +52,7 @@ open_past-drop format [] (suc k) = refl
 open_past-drop format (x ∷ xs) zero = refl
 open_past-drop format (x ∷ xs) (suc k) = open_past-drop format xs k
 
--- the first byte dropped of a list that begins with x
+-- what a count above zero passes of a list that begins with x
 pub drop_first : {A : Type 0} (x : A) (xs : List A) (n : ℕ) → 0 < n
     → drop n (x ∷ xs) ≡ drop (n - 1) xs
 drop_first x xs zero h = absurd (omega arith)

@@ -1,4 +1,4 @@
--- The decided messages are the chosen ones before the first incomplete one.
+-- The decided messages are the chosen ones before the open place.
 use Rattle.std.proofs.Common.{◌≡◌, ℕ, zero, suc, ◌+◌, ◌-◌, ◌<◌, ◌≤◌, ◌&&◌, nat_lt, Bool, true}
 use Rattle.std.proofs.Common.{false, List, [], ◌∷◌, take, drop, refl, sym, ap, ◌∙◌, inl, inr, arith}
 use Rattle.std.proofs.lemmas.Bool.{ltb-true, ltb-false, lt-ltb, le-ltb, and_right, both_ways}
@@ -9,11 +9,11 @@ use Rattle.framing.specs.Places.{AreChosen, size_at, messages_from, IsUnfinished
 use Rattle.framing.proofs.Reaching.{Reaches, inside_is_passed, none_is_passed, outside_is_chosen}
 use Rattle.framing.proofs.Reaching.{next_inside, next_outside, next_begun, behind}
 
--- the chosen offsets before this one
+-- the places before this one
 abbrev before : (ℕ → Bool) → ℕ → ℕ → Bool
 before chosen place = λ p. chosen p && nat_lt p place
 
--- from the offset on no offset is before it
+-- at the place and behind it no place is before it
 none_behind : (format : Format) → (chosen : ℕ → Bool) (place : ℕ) (rest : List ℕ) (p : ℕ)
     → place ≤ p → messages_from format (before chosen place) p rest ≡ []
 none_behind format chosen place [] p h = refl
@@ -22,7 +22,7 @@ none_behind format chosen place (x ∷ xs) p h =
     let closed : (chosen p && nat_lt p place) ≡ false = and_right (chosen p) _ past in
     rw closed (none_behind format chosen place xs (p + 1) (omega arith))
 
--- past the end of the bytes there is no byte
+-- no byte stands at a place or behind it where none stands before it
 no_byte : (bytes : List ℕ) (p place : ℕ) → p ≤ place → [] ≡ drop p bytes → drop place bytes ≡ []
 no_byte bytes p place h e =
     let from_p : drop (place - p) (drop p bytes) ≡ drop (p + (place - p)) bytes =
@@ -30,7 +30,7 @@ no_byte bytes p place h e =
     let there : p + (place - p) ≡ place = omega arith in
     sym (rw there at from_p) ∙ ap (drop (place - p)) (sym e) ∙ drop_all (place - p) [] (omega arith)
 
--- from offset p on, of which the first k bytes are in the last chosen message
+-- from place p on, of which the first k bytes stand in the last chosen message
 abbrev Stand : Format → List ℕ → (ℕ → Bool) → ℕ → List ℕ → ℕ → ℕ → Type 0
 Stand format bytes chosen place rest p k =
     rest ≡ drop p bytes → Reaches format bytes chosen p k → p + k ≤ place
@@ -53,7 +53,7 @@ stand_inside format bytes chosen place set x xs p k go e r h =
     rw closed (go (behind bytes p x xs e) (next_inside format bytes chosen p k closed r)
     (omega arith))
 
--- an incomplete message outside the chosen ones is unfinished
+-- a place that is open outside the chosen messages is unfinished
 unfinished_at : (format : Format) → (bytes : List ℕ) (chosen : ℕ → Bool) (x : ℕ) (xs : List ℕ)
     (p : ℕ) → x ∷ xs ≡ drop p bytes → format.is_open (x ∷ xs) ≡ true
     → Reaches format bytes chosen p 0 → IsUnfinished format bytes chosen p
@@ -62,7 +62,7 @@ unfinished_at format bytes chosen x xs p e o r = record {
   outside = λ q c h. omega (arith, r.before q c h);
 }
 
--- an incomplete message at an offset up to the open one is the open one
+-- a place up to the open one that is open is this one
 held_at : (format : Format) → (bytes : List ℕ) (chosen : ℕ → Bool) (place : ℕ)
     → IsOpenPlace format bytes chosen place → (x : ℕ) (xs : List ℕ) (p : ℕ) → x ∷ xs ≡ drop p bytes
     → format.is_open (x ∷ xs) ≡ true → Reaches format bytes chosen p 0 → p ≤ place → p ≡ place
@@ -73,7 +73,7 @@ held_at format bytes chosen place open_place x xs p e o r h =
           (unfinished_at format bytes chosen x xs p e o r))
     ]
 
--- another offset up to the open one is before it
+-- a place up to the open one that isn't open is before it
 before_at : (format : Format) → (bytes : List ℕ) (chosen : ℕ → Bool) (place : ℕ)
     → IsOpenPlace format bytes chosen place → (x : ℕ) (xs : List ℕ) (p : ℕ) → x ∷ xs ≡ drop p bytes
     → format.is_open (x ∷ xs) ≡ false → p ≤ place → p < place
@@ -133,7 +133,7 @@ stand_before format laws bytes chosen place set open_place (x ∷ xs) p (suc k) 
     stand_inside format bytes chosen place set x xs p k
     (stand_before format laws bytes chosen place set open_place xs (p + 1) k)
 
--- from offset p on, all messages are decided
+-- from place p on, all messages are decided
 abbrev Whole : Format → List ℕ → (ℕ → Bool) → List ℕ → ℕ → ℕ → Type 0
 Whole format bytes chosen rest p k =
     rest ≡ drop p bytes → Reaches format bytes chosen p k

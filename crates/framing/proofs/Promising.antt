@@ -1,4 +1,4 @@
--- While there are too few bytes no message is decided.
+-- While few bytes come nothing is decided.
 use Rattle.std.proofs.Common.{ℕ, ◌+◌, ◌<◌, ◌≤◌, true, List, [], ◌∷◌, ◌++◌, length, refl, inl}
 use Rattle.std.proofs.Common.{arith, append-nil, append_assoc, length-append}
 use Rattle.framing.specs.Messages.{Format, IsFormat}
@@ -6,12 +6,12 @@ use Rattle.framing.specs.State.{IsWaiting, TakesNone}
 use Rattle.framing.specs.Mirrors.{Promises}
 use Rattle.framing.proofs.Takes.{waits_for_more}
 
--- a promise of no more bytes than there are says nothing
+-- nothing is promised of fewer than no bytes
 pub promises_none : (format : Format) (rest : List ℕ) (count : ℕ) → count ≤ length rest
     → Promises format rest count
 promises_none format rest count h = λ following short. absurd (omega arith)
 
--- more bytes keep the promise
+-- more bytes leave what was promised
 pub promises_more : (format : Format) (rest more : List ℕ) (count : ℕ) → Promises format rest count
     → Promises format (rest ++ more) count
 promises_more format rest more count promise = λ following short.
@@ -19,7 +19,7 @@ promises_more format rest more count promise = λ following short.
     (promise (more ++ following) (omega
     (arith, length-append rest more, length-append more following)))
 
--- before the first byte nothing is decided
+-- no byte comes before the first
 pub promises_first : (format : Format) → Promises format [] 1
 promises_first format = λ following short. nothing following short
   where
@@ -28,7 +28,7 @@ promises_first format = λ following short. nothing following short
     nothing [] short = inl refl
     nothing (x ∷ xs) short = absurd (omega arith)
 
--- with fewer bytes than promised no message is found
+-- with fewer bytes than promised none is taken
 pub promised_none : (format : Format) → IsFormat format → (rest : List ℕ) (count : ℕ)
     → Promises format rest count → length rest < count → TakesNone format true rest rest
 promised_none format laws rest count promise short =

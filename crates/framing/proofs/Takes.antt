@@ -1,4 +1,4 @@
--- The step of a deframer at the first offset: it finds a message, or none.
+-- The step of a deframer at the first place: it takes a message, or none.
 use Rattle.std.proofs.Common.{get_or, ◌≡◌, ℕ, ◌+◌, ◌-◌, ◌<◌, ◌&&◌, nat_lt}
 use Rattle.std.proofs.Common.{Bool, true, false, if◌then◌else◌, List, [], ◌∷◌, ◌++◌, length, take}
 use Rattle.std.proofs.Common.{drop, refl, sym, ◌∙◌, inl, inr, arith, length-drop}
@@ -13,16 +13,16 @@ use Rattle.framing.proofs.MessageLaws.{messages_past-drop, drop_first}
 use Rattle.framing.proofs.FirstPlace.{IsHeld, first_is_held, length-from_first, messages_from_first}
 use Rattle.framing.proofs.FirstPlace.{past_from_first, after_from_first, open_from_first}
 
--- no message begins where there are no bytes
+-- no bytes begin no message
 none_size : (format : Format) → IsFormat format → 0 < format.size [] → ⊥
 none_size format laws h = omega (arith, laws.size_le [])
 
--- a complete message is not incomplete
+-- where a whole message begins, it is not open
 closed_by : (format : Format) → IsFormat format → (xs : List ℕ) → 0 < format.size xs
     → format.is_open xs ≡ false
 closed_by format laws xs h = false_from_ne_true _ (λ o. omega (arith, laws.size_of_open xs o))
 
--- a first message, with bytes following
+-- a message at the front, with bytes behind
 pub messages-prefix : (format : Format) → IsFormat format → (r c : List ℕ) → 0 < format.size r
     → messages format (r ++ c) ≡ take (format.size r) r
     ∷ messages format (drop (format.size r) r ++ c)
@@ -46,7 +46,7 @@ messages-prefix format laws (x ∷ xs) c h =
       rest,
     ) refl
 
--- a first message
+-- a message at the front
 past-prefix : (format : Format) → IsFormat format → (more : Bool) (r : List ℕ) → 0 < format.size r
     → messages_past format more r 0 ≡ take (format.size r) r
     ∷ messages_past format more (drop (format.size r) r) 0
@@ -65,7 +65,7 @@ after-prefix format laws [] h = absurd (none_size format laws h)
 after-prefix format laws (x ∷ xs) h = let f : nat_lt 0 (format.size (x ∷ xs)) ≡ true =
     lt-ltb _ _ h in rw f refl
 
--- the message that begins at the first offset is found
+-- the message that begins at the first place is taken
 pub takes_message : (format : Format) → IsFormat format → (more : Bool) (old : List ℕ)
     → 0 < format.size (from_first format more old)
     → TakesMessage format more old (take (format.size (from_first format more old))
@@ -88,7 +88,7 @@ takes_message format laws more old h = record {
   );
 }
 
--- the bytes held have no message, and are undecided
+-- what is held has no message, and is what is undecided
 held_none : (format : Format) → (more : Bool) (r : List ℕ) → IsHeld format more r
     → messages_past format more r 0 ≡ []
 held_none format more [] held = refl
@@ -109,7 +109,7 @@ held_rest format true old held = sym (open_from_first format old
     ∙ held_open format (from_first format true old) held)
 held_rest format false old held = elim held [ inl e ↦ e | inr h ↦ absurd (false≢true h.0) ]
 
--- where no message begins at the first offset, none is found
+-- where no message begins at the first place, none is taken
 pub takes_none : (format : Format) → IsFormat format → (more : Bool) (old : List ℕ)
     → format.size (from_first format more old) ≡ 0
     → TakesNone format more old (from_first format more old)
@@ -134,7 +134,7 @@ waiting_size : (format : Format) → IsFormat format → (rest : List ℕ) → I
 waiting_size format laws rest w = elim w
     [ inl e ↦ rw e (omega (arith, laws.size_le [])) | inr o ↦ laws.size_of_open rest o ]
 
--- while bytes wait, none is found
+-- while bytes wait, none is taken
 pub waits_for_more : (format : Format) → IsFormat format → (rest : List ℕ) → IsWaiting format rest
     → TakesNone format true rest rest
 waits_for_more format laws rest w =
@@ -153,7 +153,7 @@ pub waiting_undecided : (format : Format) → (rest : List ℕ) → IsWaiting fo
 waiting_undecided format [] w = refl
 waiting_undecided format (x ∷ xs) w = elim w [ inl e ↦ cc | inr o ↦ rw o refl ]
 
--- the same for the bytes from the first offset on
+-- the same at the bytes from the first place on
 pub none_at_first : (format : Format) → IsFormat format → (more : Bool) (old rest : List ℕ)
     → rest ≡ from_first format more old → format.size rest ≡ 0 → TakesNone format more old rest
 none_at_first format laws more old rest e none =
@@ -173,7 +173,7 @@ message_at_first format laws more old rest frame size e n some f =
     let there : 0 < format.size (from_first format more old) = rw (n, e) at some in
     rw (f, n, e) (takes_message format laws more old there)
 
--- where the bytes are held, the first offset is 0
+-- where the bytes are held, they are from their first place on
 pub first_at_held : (format : Format) → (more : Bool) (b : List ℕ)
     → (more && format.is_open b) ≡ true → from_first format more b ≡ b
 first_at_held format more [] h = refl

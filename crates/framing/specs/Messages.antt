@@ -4,25 +4,26 @@ use Rattle.std.specs.Prelude.{if◌then◌else◌, List, [], ◌∷◌, ◌++◌
 
 -- a format of messages
 pub record Format : Type 0 where
-  -- the size of the complete message of right checksum at the start of the bytes; 0 where there is none
+  -- the size of the whole message of right checksum that begins the bytes, or 0 where none does
   pub size : List ℕ → ℕ
-  -- the bytes begin with an incomplete message
+  -- whether the bytes end before the message that may begin with them does
   pub is_open : List ℕ → Bool
 
--- what all formats have in common
+-- what messages of any format have in common
 pub record IsFormat (format : Format) : Type 0 where
-  -- the message is inside the bytes
+  -- the message that begins the bytes stands in them
   pub size_le : (xs : List ℕ) → format.size xs ≤ length xs
-  -- no bytes are no incomplete message
+  -- no bytes are not open
   pub none_open : format.is_open [] ≡ true → ⊥
-  -- an incomplete message is not a complete one
+  -- no whole message begins where it is open
   pub size_of_open : (xs : List ℕ) → format.is_open xs ≡ true → format.size xs ≡ 0
-  -- unless a message is incomplete, more bytes do not change what begins here
+  -- more bytes behind don't change the message that begins where it isn't open
   pub size_append : (x : ℕ) (xs ys : List ℕ) → format.is_open (x ∷ xs) ≡ false
       → format.size (x ∷ (xs ++ ys)) ≡ format.size (x ∷ xs)
 
--- The messages after the first k bytes: a complete message, then those after its end; else those from the next byte on.
--- Where more bytes may come, only those before the first incomplete message.
+-- The messages past the first k bytes: where a whole message begins, that message, going on behind
+-- it, else going on one
+-- byte later. Where more bytes may come, only those before the first place that is open.
 abbrev pub messages_past : Format → Bool → List ℕ → ℕ → List (List ℕ)
 messages_past format more [] k = []
 messages_past format more (x ∷ xs) (suc k) = messages_past format more xs k
@@ -37,11 +38,11 @@ messages_past format more (x ∷ xs) zero =
 abbrev pub messages : Format → List ℕ → List (List ℕ)
 messages format bytes = messages_past format false bytes 0
 
--- the decided messages: those that stay, whatever bytes follow
+-- the decided messages: those that stay whatever bytes follow
 abbrev pub decided : Format → List ℕ → List (List ℕ)
 decided format bytes = messages_past format true bytes 0
 
--- after the first k bytes, the bytes from the first incomplete message on
+-- the bytes from the first open place on, past the first k bytes
 abbrev pub open_past : Format → List ℕ → ℕ → List ℕ
 open_past format [] k = []
 open_past format (x ∷ xs) (suc k) = open_past format xs k
@@ -50,7 +51,7 @@ open_past format (x ∷ xs) zero =
     else if nat_lt 0 (format.size (x ∷ xs)) then open_past format xs (format.size (x ∷ xs) - 1)
     else open_past format xs 0
 
--- the bytes from the first incomplete message on; none where there is no such message
+-- the bytes from the open place on, none where there is no open place
 abbrev pub undecided : Format → List ℕ → List ℕ
 undecided format bytes = open_past format bytes 0
 

@@ -3,16 +3,16 @@ use Rattle.std.specs.Prelude.{◌≡◌, ℕ, ◌<◌, ◌≤◌, ◌⊎◌, ◌
 use Rattle.std.specs.Prelude.{[], ◌∷◌, length}
 use Rattle.framing.specs.Messages.{Format, messages_past, messages, undecided, after_first}
 
--- the state of a deframer
+-- a deframer
 pub record DeframerState : Type 0 where
-  -- the bytes fed and not yet passed
+  -- the bytes that were fed and not passed yet
   pub rest : List ℕ
-  -- whether `finish` was called: no byte follows
+  -- whether the last byte was fed
   pub finished : Bool
-  -- the message found last
+  -- the message that was taken last
   pub message : List ℕ
 
--- nothing is held, or the bytes held begin with an incomplete message
+-- nothing is held, or what is held begins with a message that has not ended
 abbrev pub IsWaiting : Format → List ℕ → Type 0
 IsWaiting format rest = (rest ≡ []) ⊎ (format.is_open rest ≡ true)
 
@@ -20,8 +20,8 @@ IsWaiting format rest = (rest ≡ []) ⊎ (format.is_open rest ≡ true)
 abbrev pub MayFeed : Format → DeframerState → Type 0
 MayFeed format state = (state.finished ≡ false) × IsWaiting format state.rest
 
--- A message was found: with any bytes following (none after `finish`), the messages are this one and then those of the new
--- rest.
+-- A message is decided: whatever bytes follow, none after the last, the messages are this one and
+-- then those of the new rest.
 pub record TakesMessage (format : Format) (more : Bool) (old : List ℕ) (message : List ℕ)
     (new : List ℕ) : Type 0 where
   pub stream : (following : List ℕ) → (more ≡ false → following ≡ [])
@@ -30,7 +30,8 @@ pub record TakesMessage (format : Format) (more : Bool) (old : List ℕ) (messag
   pub rest : new ≡ after_first format old
   pub shorter : length new < length old
 
--- No message was found: none is decided or, after `finish`, none is left. The new rest is what is undecided.
+-- No message is decided, or after the last byte there is none. What is kept begins at the open
+-- place.
 pub record TakesNone (format : Format) (more : Bool) (old new : List ℕ) : Type 0 where
   pub none : messages_past format more old 0 ≡ []
   pub rest : new ≡ (if more then undecided format old else [])

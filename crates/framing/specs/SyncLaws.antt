@@ -1,4 +1,4 @@
--- A format with two sync bytes and a header of fixed size has a heading.
+-- Two fixed bytes and a header of fixed size make a heading.
 use Rattle.std.proofs.Common.{◌≡◌, ℕ, ◌+◌, ◌<◌, ◌≤◌, ◌&&◌, nat_lt, nat_eq, Bool}
 use Rattle.std.proofs.Common.{true, false, List, [], ◌∷◌, ◌++◌, length, get_or, refl, sym, ap, ◌∙◌}
 use Rattle.std.proofs.Common.{inl, inr, arith, append-nil, length-append}
@@ -68,14 +68,14 @@ begins_many s xs some h =
     let g : nat_lt (length xs) s.header ≡ false = le-ltb _ _ h in
     rw (e, f, g) refl
 
--- bytes whose first byte is not the first sync byte begin no message
+-- bytes whose first one is another begin no message
 pub begins_other : (s : Sync) (xs : List ℕ) → 1 ≤ length xs → nat_eq (get_or xs 0 0) s.first ≡ false
     → begins_by s xs ≡ false
 unfolding begins_by
 begins_other s xs some other = let e : nat_lt (length xs) 1 ≡ false = le-ltb _ _ some in
     rw (e, other) refl
 
--- nor do those whose second byte is not the second sync byte
+-- and so where the second one is another
 pub begins_other_second : (s : Sync) (xs : List ℕ) → 2 ≤ length xs
     → nat_eq (get_or xs 1 0) s.second ≡ false → begins_by s xs ≡ false
 unfolding begins_by
@@ -138,7 +138,7 @@ same_wanted_many s xs ys sync some many =
     ∙ sync.size_prefix xs ys many
     ∙ sym (wanted_many s xs some many)
 
--- a complete message has its whole header
+-- bytes of a whole message have all of its header
 pub whole_has_header : (s : Sync) (xs : List ℕ) → IsSync s → wanted_by s xs ≤ length xs
     → s.header ≤ length xs
 whole_has_header s xs sync h =

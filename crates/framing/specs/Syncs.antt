@@ -1,25 +1,25 @@
--- Formats whose messages begin with two sync bytes and give their size in a header of fixed size.
+-- Formats whose messages begin with two fixed bytes and tell their size in a header of fixed size.
 use Rattle.std.specs.Prelude.{◌≡◌, ℕ, ◌<◌, ◌≤◌, ◌==◌, ◌&&◌, ◌||◌, nat_lt, Bool, if◌then◌else◌, List}
 use Rattle.std.specs.Prelude.{◌++◌, length, slice_index}
 use Rattle.framing.specs.Headings.{Heading}
 
 -- such a format
 pub record Sync : Type 0 where
-  -- the two sync bytes at the start of each message
+  -- the two bytes with which each message begins
   pub first : ℕ
   pub second : ℕ
-  -- the size of the header in bytes, sync bytes included
+  -- how many bytes the header has, those two among them
   pub header : ℕ
   -- the size of the longest message
   pub longest : ℕ
-  -- the size of the message with this header
+  -- the size of the message that a header announces
   pub size : List ℕ → ℕ
-  -- whether a header is possible
+  -- a header may be one
   pub fits : List ℕ → Bool
-  -- a complete message has the right checksum
+  -- a whole message has the right checksum
   pub is_right : List ℕ → Bool
 
--- `fits` and `size` depend on the header only, and sizes are from 1 to the longest
+-- what is asked of one: the header alone tells whether it may be one, and the size
 pub record IsSync (s : Sync) : Type 0 where
   pub two : 2 ≤ s.header
   pub within : s.header ≤ s.longest
@@ -28,7 +28,7 @@ pub record IsSync (s : Sync) : Type 0 where
   pub size_prefix : (xs ys : List ℕ) → s.header ≤ length xs → s.size (xs ++ ys) ≡ s.size xs
   pub fits_prefix : (xs ys : List ℕ) → s.header ≤ length xs → s.fits (xs ++ ys) ≡ s.fits xs
 
--- the bytes agree with the start of a message, as far as they go
+-- the bytes begin as a message does, as far as they go
 unfoldable pub begins_by : Sync → List ℕ → Bool
 begins_by s xs =
     nat_lt (length xs) 1
@@ -36,7 +36,7 @@ begins_by s xs =
     && (nat_lt (length xs) 2 || (slice_index xs 1 == s.second
     && (nat_lt (length xs) s.header || s.fits xs))))
 
--- how many bytes are needed to know more: up to the first, the second, the header, the whole message
+-- how many bytes it takes to know more
 unfoldable pub wanted_by : Sync → List ℕ → ℕ
 wanted_by s xs =
     if nat_lt (length xs) 1 then 1

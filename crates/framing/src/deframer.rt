@@ -1,4 +1,4 @@
-//! Finding messages in bytes that come in pieces.
+//! Messages of bytes that come in pieces.
 
 ghost use Rattle.std.specs.Prelude.{◌≡◌, ◌+◌, ◌-◌, ◌<◌, ◌≤◌, ◌↔◌, [], ◌++◌, length, take, drop};
 ghost use Rattle.std.specs.Prelude.{true, false, not, IsTrue};
@@ -13,22 +13,22 @@ use crate::search::find;
 use arrayvec::ArrayVec;
 use std::marker::Model;
 
-// The most bytes held.
+// How many bytes are held at most.
 const WINDOW: usize = 98_304;
 
 /// Takes the bytes of a stream in pieces and gives the messages in them, in order.
 ///
-/// A contract sees `rest`, the bytes fed and not yet passed; `finished`, whether `finish` was
-/// called; and `message`, the message found last.
+/// A contract sees the bytes that were fed and not passed yet, `rest`; whether `finish` was called,
+/// `finished`; and the `message` that was taken last.
 #[derive(Drop)]
 pub struct Deframer<J: Judge> {
     bytes: ArrayVec<u8, 98_304>,
     judge: J,
-    // offset of the message found last
+    // where the message begins that was taken last
     found: usize,
-    // offset of the first byte not yet passed: the end of that message
+    // where the bytes begin that were not passed yet: behind that message
     start: usize,
-    // while fewer bytes are held, no message is decided
+    // with fewer bytes than so many nothing is decided
     wanted: usize,
     finished: bool,
 }
@@ -58,7 +58,7 @@ impl<J: Judge> Deframer<J> {
     ghost use Rattle.framing.specs.Headings.{format_of};
     ghost use Rattle.framing.specs.State.{MayFeed, TakesMessage, TakesNone};
 
-    /// A deframer that holds no byte.
+    /// A deframer that has taken no byte.
     pub fn new() -> Self
         ensures rest { result.rest ≡ [] }
         ensures finished { result.finished ≡ false }
@@ -73,11 +73,11 @@ impl<J: Judge> Deframer<J> {
         }
     }
 
-    /// Takes as many bytes from the start of a piece as there is room for, at least one, and gives
-    /// how many.
+    /// Takes bytes from the front of a piece, as many as there is room for and at least one, and
+    /// gives how many.
     ///
-    /// Allowed where `may_feed` holds: after `new`, and after each `next_message` that gave
-    /// `false`, until `finish` is called.
+    /// It may be called where `may_feed` holds: after `new`, and after each `next_message` that
+    /// answered `false`, until `finish` is called.
     pub fn feed_some(&mut self, piece: &[u8]) -> usize
         requires may_feed { MayFeed (format_of J.heading) self.old }
         requires some { 0 < length piece.now }
@@ -98,12 +98,12 @@ impl<J: Judge> Deframer<J> {
         count
     }
 
-    /// Finds the next message, which `message` then gives, and passes the bytes up to its end;
+    /// Takes the next message, which `message` then gives, and passes the bytes up to its end;
     /// `false` where there is none.
     ///
-    /// Before `finish` it gives `false` exactly where no message is decided: the bytes held then
-    /// begin with an incomplete message, or none are held. After `finish` it gives `false` exactly
-    /// where no message is left, and then holds nothing.
+    /// Before `finish` it answers `false` exactly where no message is decided: what is kept then
+    /// begins with a message that has not ended, or nothing is kept. After `finish` it answers
+    /// `false` exactly where there is no message any more, and keeps nothing.
     pub fn next_message(&mut self) -> bool
         ensures message { IsTrue result → TakesMessage (format_of J.heading)
             (not self.old.finished) self.old.rest self.new.message self.new.rest }
@@ -130,15 +130,15 @@ impl<J: Judge> Deframer<J> {
         true
     }
 
-    /// The message found last.
+    /// The message that was taken last.
     pub fn message(&self) -> &[u8]
         ensures { result.now ≡ self.now.message }
     {
         &self.bytes.as_slice()[self.found..self.start]
     }
 
-    /// Says that no byte follows: an incomplete message stays incomplete, and messages inside its
-    /// bytes are searched for.
+    /// Says that no byte follows: a message that has not ended will not, and the messages inside it
+    /// are looked for.
     pub fn finish(&mut self)
         ensures rest { self.new.rest ≡ self.old.rest }
         ensures finished { self.new.finished ≡ true }
@@ -154,7 +154,7 @@ impl<J: Judge> Deframer<J> {
     }
 }
 
-// The count of bytes below which no message is decided, for the waiting bytes from offset `place`.
+// Below how many bytes nothing is decided, where those from this place on wait.
 fn wanted_from<J: Judge>(bytes: &[u8], place: usize) -> usize
     requires inside { place ≤ length bytes.now }
     requires few { length bytes.now ≤ 98304 }
@@ -174,7 +174,7 @@ fn append(bytes: &mut ArrayVec<u8, 98_304>, piece: &[u8])
     }
 }
 
-// Moves the bytes not yet passed to the start of the buffer, where none are left or it is full.
+// Moves the bytes that were not passed to the front, where there are none or no more have room.
 fn make_room<J: Judge>(
     bytes: &mut ArrayVec<u8, 98_304>,
     judge: &mut J,
@@ -197,7 +197,7 @@ fn make_room<J: Judge>(
     }
 }
 
-// Removes the first `count` bytes.
+// Removes so many bytes in front.
 fn cut_prefix<J: Judge>(bytes: &mut ArrayVec<u8, 98_304>, judge: &mut J, count: usize)
     requires { count ≤ length bytes.old.items }
     ensures bytes { bytes.new.items ≡ drop count bytes.old.items }

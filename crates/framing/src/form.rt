@@ -1,4 +1,4 @@
-//! One message, at the start of some bytes.
+//! The form of one message, at the beginning of some bytes.
 
 ghost use Rattle.std.specs.Prelude.{◌≡◌, ℕ, ◌+◌, ◌-◌, ◌<◌, ◌≤◌, ◌&&◌, ◌↔◌, IsTrue, length, take};
 ghost use Rattle.std.specs.Prelude.{drop, slice_index, Bool};
@@ -8,7 +8,7 @@ ghost use Rattle.framing.specs.Mirrors.{from_first, Promises};
 
 use crate::judge::Judge;
 
-// Whether the bytes begin with an incomplete message.
+// Whether the bytes begin with a message that has not ended in them.
 pub fn opens<J: Judge>(bytes: &[u8]) -> bool
     ensures { result ≡ opens_by J.heading bytes.now }
 {
@@ -25,7 +25,7 @@ pub fn is_held<J: Judge>(bytes: &[u8], more: bool) -> bool
     more && opens::<J>(bytes)
 }
 
-// The first offset from `from` on that holds the first byte of a message; the end where none does.
+// The first place from this one on at which the first byte of messages stands, or the end.
 pub fn next_start<J: Judge>(bytes: &[u8], from: usize) -> usize
     requires { from ≤ length bytes.now }
     ensures onward { from ≤ result }
@@ -41,7 +41,7 @@ pub fn next_start<J: Judge>(bytes: &[u8], from: usize) -> usize
     place
 }
 
-// The count of bytes below which no message is decided, for bytes that begin with these.
+// With fewer bytes than so many that begin with these nothing is decided.
 pub fn wanted_of<J: Judge>(rest: &[u8]) -> usize
     requires { IsWaiting (format_of J.heading) rest.now }
     ensures promise { Promises (format_of J.heading) rest.now result }
@@ -53,14 +53,14 @@ pub fn wanted_of<J: Judge>(rest: &[u8]) -> usize
     J::wanted(rest)
 }
 
-// Whether nothing is held, or the bytes held begin with an incomplete message.
+// Whether nothing is held, or what is held begins with a message that has not ended.
 pub fn waits<J: Judge>(rest: &[u8]) -> bool
     ensures { IsTrue result ↔ IsWaiting (format_of J.heading) rest.now }
 {
     rest.is_empty() || opens::<J>(rest)
 }
 
-// The size of the message that begins at offset `place`, or 0 where none does.
+// The size of the message that begins at this place, or 0 where none does.
 pub fn size_at<J: Judge>(judge: &mut J, bytes: &[u8], place: usize) -> usize
     requires few { length bytes.now ≤ 98304 }
     requires place { place ≤ length bytes.now }

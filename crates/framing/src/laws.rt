@@ -13,23 +13,22 @@ pub fn headings_are_formats()
     ensures { (h : Heading) → IsHeading h → IsFormat (format_of h) }
 {}
 
-/// Decided messages stay, whatever bytes follow; the other messages are those of the undecided
-/// bytes and what follows.
+/// The decided messages stay, whatever bytes follow, and the others are those of what is undecided
+/// with these bytes.
 pub fn decided_messages_stay()
     ensures { (f : Format) → IsFormat f → (bytes more : List ℕ)
         → messages f (bytes ++ more) ≡ decided f bytes ++ messages f (undecided f bytes ++ more) }
 {}
 
-/// With more bytes, decided messages stay decided; the newly decided ones are those of the
-/// undecided bytes and what follows.
+/// With more bytes behind, the decided messages stay decided, and the others are those that are
+/// decided of what was undecided with these bytes.
 pub fn decided_messages_stay_decided()
     ensures { (h : Heading) → IsHeading h → (bytes more : List ℕ)
         → decided (format_of h) (bytes ++ more) ≡ decided (format_of h) bytes
         ++ decided (format_of h) (undecided (format_of h) bytes ++ more) }
 {}
 
-/// There is exactly one set of chosen offsets, and the messages are those at its offsets,
-/// ascending.
+/// There is exactly one set of chosen places, and the messages are those at its places, ascending.
 pub fn messages_are_at_the_chosen_places()
     ensures exist { (f : Format) (bytes : List ℕ) → AreChosen f bytes (is_chosen f bytes) }
     ensures only { (f : Format) (bytes : List ℕ) (chosen : ℕ → Bool) → AreChosen f bytes chosen
@@ -38,7 +37,7 @@ pub fn messages_are_at_the_chosen_places()
         → messages_from f chosen 0 bytes ≡ messages f bytes }
 {}
 
-/// The decided messages are the chosen ones before the first incomplete one that is outside them.
+/// The decided messages are the chosen ones before the open place, the least that is unfinished.
 pub fn decided_messages_stand_before_the_open_place()
     ensures before { (f : Format) (bytes : List ℕ) (chosen : ℕ → Bool) (place : ℕ) → IsFormat f
         → AreChosen f bytes chosen → IsOpenPlace f bytes chosen place
@@ -55,8 +54,8 @@ pub fn messages_after_the_first()
         → messages f (after_first f bytes) ≡ drop 1 (messages f bytes) }
 {}
 
-/// While nothing is held, or the bytes held begin with an incomplete message, no message is
-/// decided, and all bytes held are undecided.
+/// While nothing is held, or what is held begins with a message that has not ended, no message is
+/// decided, and what is held begins at its open place.
 pub fn nothing_is_decided_while_bytes_wait()
     ensures decided { (f : Format) (rest : List ℕ) → IsWaiting f rest → decided f rest ≡ [] }
     ensures undecided { (f : Format) (rest : List ℕ) → IsWaiting f rest

@@ -1,13 +1,15 @@
-//! Messages in a stream of bytes, for any format whose messages give their size in their first
+//! Messages in a stream of bytes, for any format whose messages tell their size in their first
 //! bytes.
 //!
-//! A message is searched for at each byte: where a complete message with the right checksum begins,
-//! the search continues after it, else one byte further. A format defines how messages begin, their
-//! size and their checksum ([`Judge`]). This crate has
+//! A message is looked for at each byte: where a whole message of right checksum begins, it is
+//! taken
+//! and the search goes on behind it, else it goes on one byte further. A format says which bytes
+//! begin a message, how many it wants and whether a whole one is right ([`Judge`]); here are
 //!
 //! - [`Deframer`], which takes the bytes of a stream in any pieces and gives the messages in them;
-//! - laws of messages of any format: at which offsets they are, and which are decided while more
-//!   bytes may come.
+//! - the laws of such messages for any format: where they stand, and which of them are decided
+//! while
+//!   more bytes may come.
 //!
 //! ```rust
 //! let mut deframer: Deframer<UbxJudge> = Deframer::new();

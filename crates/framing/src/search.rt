@@ -7,8 +7,8 @@ ghost use Rattle.framing.specs.Mirrors.{from_first};
 use crate::form::{is_held, next_start, size_at};
 use crate::judge::Judge;
 
-// The first offset from `start` on where a message begins or, where more bytes may come, an
-// incomplete one does; and the size of the message, 0 where none begins.
+// The first place from this one on where a message begins or, where more bytes may come, that is
+// open, and the size of the message, or 0 where none begins.
 pub fn find<J: Judge>(judge: &mut J, bytes: &[u8], start: usize, more: bool) -> (usize, usize)
     requires few { length bytes.now ≤ 98304 }
     requires start { start ≤ length bytes.now }

@@ -1,4 +1,4 @@
--- The conversions of files, and the options that each takes.
+-- The conversions of files, and which values each takes.
 use Rattle.std.specs.Prelude.{ℕ, List, [], Bool, true, false, Option, None, Some, codes, bytes_eq, if◌then◌else◌}
 use Rattle.file_form.specs.declared.Kind.{Kind}
 use Rattle.file_form.specs.declared.Kind.TheVariants as kinds
@@ -8,7 +8,7 @@ use Rattle.front_plan.specs.declared.table.Target.TheVariants.{Rinex, Rinex3, Rt
 use Rattle.front_plan.specs.declared.table.WeekRule.{WeekRule}
 use Rattle.front_plan.specs.declared.table.WeekRule.TheVariants.{Never, IfNamed, Always}
 
--- the word after `--to`
+-- the word of `--to`
 abbrev pub to_word : Target → List ℕ
 to_word Rinex = codes "rinex"
 to_word Rinex3 = codes "rinex3"
@@ -20,7 +20,7 @@ to_word Merged = codes "merged"
 to_word Cover = codes "cover"
 to_word Capture = codes "capture"
 
--- the ending of the output's file name
+-- the ending of the files
 abbrev pub ending_of : Target → List ℕ
 ending_of Rinex = codes "rnx"
 ending_of Rinex3 = codes "rnx"
@@ -32,7 +32,7 @@ ending_of Merged = codes "merged.rnx"
 ending_of Cover = codes "cover"
 ending_of Capture = codes "navcap"
 
--- the word after `--from`, for the forms that can be converted
+-- the word of `--from`, of the forms that a conversion takes
 abbrev pub from_word : Kind → List ℕ
 from_word kinds.Capture1 = codes "capture"
 from_word kinds.Capture2 = codes "capture"
@@ -41,7 +41,7 @@ from_word kinds.Rinex4 = codes "rinex"
 from_word kinds.Rinex3 = codes "rinex3"
 from_word _ = []
 
--- the form that a `--from` word names; `capture` is taken as one that names no week
+-- the form that a word of `--from` names, of captures that which takes a week where none is named
 abbrev pub kind_named : List ℕ → Option Kind
 kind_named word =
     if bytes_eq word (codes "capture") then Some kinds.Capture1
@@ -50,11 +50,11 @@ kind_named word =
     else if bytes_eq word (codes "rinex3") then Some kinds.Rinex3
     else None
 
--- a row of the table: which week is given, and whether a header is written
+-- a row
 abbrev pub row : WeekRule → Bool → Option Row
 row week header = Some (record { week = week; header = header })
 
--- the row of a capture
+-- of a capture
 abbrev pub capture_row : WeekRule → Target → Option Row
 capture_row week Rinex = row week true
 capture_row week Rinex3 = row week true
@@ -63,7 +63,7 @@ capture_row week ToList = row week false
 capture_row week Count = row week false
 capture_row week _ = None
 
--- the row of a stream
+-- of a stream
 abbrev pub stream_row : Target → Option Row
 stream_row Rinex = row Always true
 stream_row Rinex3 = row Always true
@@ -71,7 +71,7 @@ stream_row Rtcm = row Always false
 stream_row Frames = row Never false
 stream_row _ = None
 
--- the row of a navigation file of either version
+-- of a navigation file of either version
 abbrev pub file_row : Target → Option Row
 file_row Rinex = row Never true
 file_row Rinex3 = row Never true
@@ -80,14 +80,14 @@ file_row ToList = row Never false
 file_row Capture = row Always false
 file_row _ = None
 
--- the row of a navigation file of RINEX 4
+-- of one of RINEX 4
 abbrev pub file4_row : Target → Option Row
 file4_row Merged = row Never true
 file4_row Cover = row Never false
 file4_row target = file_row target
 
--- The options that the conversion of a file takes, where there is one: a capture that names no week always gets one, and a
--- capture that names its week gets one only where the command line names it too.
+-- The values that the conversion of a file takes, where there is one: a capture that names no week takes one always, and one
+-- that names it only where it is named again.
 abbrev pub row_of : Kind → Target → Option Row
 row_of kinds.Capture1 target = capture_row Always target
 row_of kinds.Capture2 target = capture_row IfNamed target

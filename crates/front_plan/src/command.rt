@@ -1,19 +1,19 @@
-//! Parsing of the command line.
+//! The reading of the words.
 
 use crate::table::{Target, kind_named, target_named};
 use clap::{Arg, ArgAction, ArgMatches, Command, Error, value_parser};
 use file_form::Kind;
 use std::alloc::{AllocError, Global};
 
-// The values of `--from`.
+// The words of `--from`.
 static FROM: [&str; 5] = ["auto", "capture", "stream", "rinex", "rinex3"];
 
-// The values of `--to`.
+// The words of `--to`.
 static TO: [&str; 9] = [
     "rinex", "rinex3", "rtcm", "list", "count", "frames", "merged", "cover", "capture",
 ];
 
-/// What the command line asks for.
+/// What the words ask.
 #[derive(Drop)]
 pub struct Asked<'a> {
     matches: ArgMatches<'a>,
@@ -25,12 +25,12 @@ impl<'a> Asked<'a> {
         self.matches.get_strs("files")
     }
 
-    /// The form that `--from` names; `None` where each file tells its own.
+    /// The form that is named; none, where each file tells its own.
     pub fn from(&self) -> Option<Kind> {
         kind_named(self.matches.get_str("from")?)
     }
 
-    /// The target.
+    /// What is made.
     pub fn to(&self) -> Target {
         match self.matches.get_str("to") {
             None => Target::Rinex,
@@ -38,12 +38,12 @@ impl<'a> Asked<'a> {
         }
     }
 
-    /// The output: a file, a folder, or `-`.
+    /// Where it is written: a file, a folder, or `-`.
     pub fn output(&self) -> Option<&'a str> {
         self.matches.get_str("output")
     }
 
-    /// The reference week, where one is named.
+    /// The week that is named.
     pub fn week(&self) -> Option<&'a str> {
         self.matches.get_str("week")
     }
@@ -53,43 +53,43 @@ impl<'a> Asked<'a> {
         self.matches.get_str("leap").unwrap_or("18")
     }
 
-    /// The date of a header, where one is named.
+    /// The date of a header that is named.
     pub fn date(&self) -> Option<&'a str> {
         self.matches.get_str("date")
     }
 
-    /// The site of a long name by the convention of RINEX.
+    /// The site of a name by the convention of RINEX.
     pub fn long_name(&self) -> Option<&'a str> {
         self.matches.get_str("long-name")
     }
 
-    /// Whether an existing file with the name of an output is replaced.
+    /// Whether a file that has the name of an output is replaced.
     pub fn overwrites(&self) -> bool {
         self.matches.get_flag("overwrite")
     }
 
-    /// Whether messages of success are suppressed.
+    /// Whether nothing is said of what was done.
     pub fn is_quiet(&self) -> bool {
         self.matches.get_flag("quiet")
     }
 
-    /// Whether the words of `navbridge` are only printed.
+    /// Whether the words of `navbridge` are printed, and nothing is done.
     pub fn is_dry(&self) -> bool {
         self.matches.get_flag("dry-run")
     }
 
-    /// Whether the forms are only listed.
+    /// Whether the forms are listed, and nothing is done.
     pub fn lists_forms(&self) -> bool {
         self.matches.get_flag("list-forms")
     }
 }
 
-/// What the words ask for; they do not include the program's name.
+/// What the words ask; the first of them is none of the program's name.
 ///
 /// # Errors
 ///
-/// Help or the version was asked for, or the words are not a valid command line: `print` writes the
-/// text to standard output or standard error.
+/// Help or the version was asked for, or the words are no command line: `print` says it on the
+/// stream that fits.
 pub fn read_words<'a>(alloc: Global, words: &'a [String]) -> Result<Asked<'a>, Error> {
     let command = with_flags(alloc, with_options(alloc, command_of(alloc)?)?)?;
     let matches = command.try_get_matches_from(words)?;
@@ -164,7 +164,7 @@ fn with_options<'a>(alloc: Global, command: Command<'a>) -> Result<Command<'a>, 
         ))
 }
 
-// The command with the flags.
+// The command with the options that take none.
 fn with_flags<'a>(alloc: Global, command: Command<'a>) -> Result<Command<'a>, AllocError> {
     command
         .arg(flag(
@@ -190,7 +190,7 @@ fn option<'a>(alloc: Global, name: &'a str, value: &'a str, help: &'a str) -> Ar
         .help(help)
 }
 
-// A flag.
+// An option without one.
 fn flag<'a>(alloc: Global, name: &'a str, help: &'a str) -> Arg<'a> {
     Arg::new(alloc, name)
         .long(name)

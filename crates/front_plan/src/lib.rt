@@ -1,9 +1,9 @@
-//! What a user's command line asks for, and the words of `navbridge` for each of its files.
+//! What a command line for people asks, and the words of `navbridge` for each of its files.
 //!
-//! - [`read_words`] parses the command line by `clap`, with its own help and error texts: it is tested,
-//!   and no clause says what it reads;
-//! - [`row_of`] gives the options that the conversion of a file of some form takes;
-//! - [`words_for`] gives the words of `navbridge` for such a conversion.
+//! - [`read_words`], the reading of the words by `clap`, with its own texts of help and of
+//!   mistakes: it is tested, and no clause says what it reads;
+//! - [`row_of`], which values a conversion of a file of some form takes;
+//! - [`words_for`], the words of `navbridge` for such a conversion.
 #![tactic(auto)]
 
 mod command;

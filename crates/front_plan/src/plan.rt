@@ -1,4 +1,4 @@
-//! The command-line words of `navbridge`.
+//! The words of `navbridge`.
 
 ghost use Rattle.std.specs.Prelude.{◌≡◌, ◌++◌, ◌∷◌, [], IfOk, OnOk, map, option_map};
 ghost use Rattle.std.specs.String.{string_bytes};
@@ -8,12 +8,12 @@ use crate::table::{Row, Target, WeekRule, from_word};
 use file_form::Kind;
 use std::alloc::{AllocError, Global};
 
-/// The option values of a conversion.
+/// The values of a conversion.
 #[derive(Clone, Copy)]
 pub struct Values<'a> {
-    /// The reference week, where one is named.
+    /// The week, where one is named.
     pub week: Option<&'a str>,
-    /// The current GPS week, from the clock.
+    /// The week of the clock.
     pub clock_week: &'a str,
     /// The leap seconds of a header.
     pub leap: &'a str,
@@ -21,7 +21,7 @@ pub struct Values<'a> {
     pub date: &'a str,
 }
 
-/// The words of `navbridge` for the conversion of a file of this form with these values.
+/// The words of `navbridge` for the conversion of a file of this form that takes these values.
 pub fn words_for(
     alloc: Global,
     kind: Kind,
@@ -41,7 +41,7 @@ pub fn words_for(
     Ok(words)
 }
 
-// Appends the `--week` words by this rule.
+// Appends the week that a conversion with this rule is given.
 fn push_week(
     alloc: Global,
     words: &mut Vec<String>,
@@ -59,7 +59,7 @@ fn push_week(
     }
 }
 
-// Appends the `--leap` and `--date` words, where the conversion writes a header.
+// Appends the leap seconds and the date of a header, where the conversion writes one.
 fn push_header(
     alloc: Global,
     words: &mut Vec<String>,
@@ -77,7 +77,7 @@ fn push_header(
     push_option(alloc, words, "--date=", date)
 }
 
-// Appends the name of an option, and its value.
+// Appends a word: the name of an option, and its value.
 fn push_option(
     alloc: Global,
     words: &mut Vec<String>,

@@ -1,4 +1,4 @@
-//! The table of conversions: which options each takes.
+//! The table of conversions: which values each takes.
 
 ghost use Rattle.std.specs.Prelude.{◌≡◌, ◌≢◌, None, Some, MatchOption};
 ghost use Rattle.front_plan.specs.Table.{row_of, capture_row, stream_row, file_row, file4_row};
@@ -7,7 +7,7 @@ ghost use Rattle.front_plan.specs.declared.table.Target.{Target};
 
 use file_form::Kind;
 
-/// The form that is written.
+/// What is made.
 #[derive(Clone, Copy, PartialEq, Eq, Debug)]
 pub enum Target {
     /// A navigation file of RINEX 4.
@@ -22,16 +22,16 @@ pub enum Target {
     Count,
     /// A line for each frame.
     Frames,
-    /// One navigation file merged from several.
+    /// One navigation file of several.
     Merged,
-    /// The times for which there is an ephemeris.
+    /// The times that have an ephemeris.
     Cover,
     /// A capture.
     Capture,
 }
 
 impl Target {
-    /// Its `--to` word.
+    /// Its word in `--to`.
     pub fn word(self) -> &'static str
         ensures { result.now ≡ to_word self }
     {
@@ -48,7 +48,7 @@ impl Target {
         }
     }
 
-    /// The ending of its file names.
+    /// The ending of its files.
     pub fn ending(self) -> &'static str
         ensures { result.now ≡ ending_of self }
     {
@@ -65,18 +65,18 @@ impl Target {
     }
 }
 
-/// Whether `navbridge` is given a reference week.
+/// Whether a week is given.
 #[derive(Clone, Copy, PartialEq, Eq, Debug)]
 pub enum WeekRule {
-    /// Never.
+    /// None is.
     Never,
-    /// Only where the command line names one.
+    /// One is, where it is named.
     IfNamed,
-    /// Always: the one that is named, or else that of the clock.
+    /// One is: that which is named, or that of the clock.
     Always,
 }
 
-/// The options that a conversion takes.
+/// The values that a conversion takes.
 #[derive(Clone, Copy, PartialEq, Eq, Debug)]
 pub struct Row {
     /// Whether it takes a week.
@@ -85,7 +85,7 @@ pub struct Row {
     pub header: bool,
 }
 
-/// The options that the conversion of a file of this form takes, where there is one.
+/// The values that the conversion of a file of this form takes, where there is one.
 pub fn row_of(kind: Kind, target: Target) -> Option<Row>
     ensures { result ≡ row_of kind target }
 {
@@ -152,7 +152,7 @@ fn file4_row(target: Target) -> Option<Row>
     }
 }
 
-/// The `--from` word of a form; empty for a form that cannot be converted.
+/// The word of a form in `--from`; nothing for a form that no conversion takes.
 pub fn from_word(kind: Kind) -> &'static str
     ensures { result.now ≡ from_word kind }
 {
@@ -165,7 +165,7 @@ pub fn from_word(kind: Kind) -> &'static str
     }
 }
 
-/// The target that a `--to` word names.
+/// What a word of `--to` names.
 pub fn target_named(word: &str) -> Option<Target>
     ensures { MatchOption result ((target : Target) → word.now ≢ to_word target)
         (λ target. word.now ≡ to_word target) }
@@ -184,7 +184,7 @@ pub fn target_named(word: &str) -> Option<Target>
     }
 }
 
-/// The form that a `--from` word names; `capture` is taken as one that names no week.
+/// The form that a word of `--from` names, of captures that which takes a week where none is named.
 pub fn kind_named(word: &str) -> Option<Kind>
     ensures { result ≡ kind_named word.now }
 {

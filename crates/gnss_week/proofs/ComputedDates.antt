@@ -1,9 +1,9 @@
--- Values of the functions of dates and weeks, computed.
+-- The functions of dates and of weeks compute: some of their values.
 use Rattle.std.proofs.Common.{◌≡◌, Ok, refl}
 use Rattle.gnss_week.specs.Functions.{civil_to, galileo_week_to, gps_week_to, moment_near, moment_to, month_from, year_from}
 use Rattle.jiff_core.specs.Calendar.{day_count, days_of_months, days_of_years}
 
--- GPS time 1,388,016,000 is 2023-12-31 00:00:00
+-- the moment 1,388,016,000 is 2023-12-31 00:00:00
 new_years_eve : civil_to 1388016000 ≡ record {
   year = 2023;
   month = 12;
@@ -15,7 +15,7 @@ new_years_eve : civil_to 1388016000 ≡ record {
 unfolding civil_to year_from month_from
 new_years_eve = refl
 
--- the last GPS time is 2294-01-06 23:59:59
+-- the last moment is 2294-01-06 23:59:59
 last_moment : civil_to 9909043199 ≡ record {
   year = 2294;
   month = 1;
@@ -27,7 +27,7 @@ last_moment : civil_to 9909043199 ≡ record {
 unfolding civil_to year_from month_from
 last_moment = refl
 
--- GPS time 1,393,286,399 is the last second of a leap day
+-- the moment 1,393,286,399 is the last second of a leap day
 leap_day : civil_to 1393286399 ≡ record {
   year = 2024;
   month = 2;
@@ -39,12 +39,12 @@ leap_day : civil_to 1393286399 ≡ record {
 unfolding civil_to year_from month_from
 leap_day = refl
 
--- the same the other way
+-- and the other way
 leap_day-again : moment_to (record { year = 2024; month = 2; day = 29; hour = 23; minute = 59; second = 59 }) ≡ Ok 1393286399
 unfolding moment_to day_count days_of_years days_of_months
 leap_day-again = refl
 
--- the ten-bit number 759 and the twelve-bit number 4095 near week 2295
+-- the ten bits 759 and the twelve bits 4095 near the week 2295
 gps_number : gps_week_to 2295 759 ≡ 1783
 unfolding gps_week_to
 gps_number = refl
@@ -53,7 +53,7 @@ galileo_number : galileo_week_to 2295 4095 ≡ 5119
 unfolding galileo_week_to
 galileo_number = refl
 
--- the later of two GPS times equally near
+-- of two moments that are as near the later one
 later_of_two : moment_near 1388016000 302400 ≡ 1388318400
 unfolding moment_near
 later_of_two = refl

@@ -12,7 +12,7 @@ use Rattle.gnss_week.specs.declared.calendar.WeekFault.{WeekFault}
 use Rattle.gnss_week.specs.declared.calendar.WeekFault.TheVariants.{NoSuchDate, BeforeEpoch, TooFar}
 use Rattle.gnss_week.proofs.Days.{one_civil, one_moment_answer}
 
--- p is the year and day in it, d days after the start of year y
+-- p is the place in its year of the day that is d days after the year y began
 record IsInYear (k y d : ℕ) (p : Place) : Type 0 where
   count : day_count (pos p.which) 1 1 + p.day ≡ day_count (pos y) 1 1 + d
   within : p.day < days_in_year (pos p.which)
@@ -37,7 +37,7 @@ year_from-is (suc k) y d few =
       to = omega (arith, next.to);
     })
 
--- p is the month of year y and day in it, d days after the start of month m
+-- p is the place in its month of the day of the year y that is d days after the month m began
 record IsInMonth (k y m d : ℕ) (p : Place) : Type 0 where
   count : days_of_months (pos y) (p.which - 1) + p.day ≡ days_of_months (pos y) (m - 1) + d
   within : p.day < days_in_month (pos y) p.which
@@ -68,7 +68,7 @@ month_from-is (suc k) y m d end e first few =
       to = omega (arith, next.to);
     })
 
--- a day in a year and in a month of it make the date of a GPS time
+-- a place in a year and one in a month of it make the date of a moment
 date-of : (p q : Place) (m : ℕ) → m < 9909043200 → IsInYear 400 1980 (m / 86400 + 5) p → IsInMonth 11 p.which 1 p.day q
     → IsCivilOf (civil_of p.which q (m % 86400)) m
 date-of p q m small in_year in_month =
@@ -86,7 +86,7 @@ date-of p q m small in_year in_month =
       time = omega arith;
     }
 
--- `civil_to` gives the date of the GPS time
+-- the date that the function gives is that of the moment
 pub civil_to-date : (m : ℕ) → IsMoment m → IsCivilOf (civil_to m) m
 unfolding civil_to
 civil_to-date m small =
@@ -111,7 +111,7 @@ has_date-from c e =
     let minute = and_from _ _ (and_from _ _ day (lt-ltb c.hour 24 e.1)) (lt-ltb c.minute 60 e.2) in
     and_from _ _ minute (lt-ltb c.second 60 e.3)
 
--- the GPS time by day counts is that of a date that exists
+-- the moment by the counts of days is the answer for a date that exists
 moment_at-answer : (c : Civil) → Exists c
     → GivesMoment c (moment_at (day_count (pos 1980) 1 6) (day_count (pos c.year) c.month c.day) (3600 * c.hour + 60 * c.minute + c.second))
 moment_at-answer c e =
@@ -134,7 +134,7 @@ moment_at-answer c e =
     (record { exists = e; day = omega (arith, signed_arith, since, days, first_is, day_is); time = omega arith }, omega arith))
     (λ far. (e, omega (arith, signed_arith, ltb-false day (first + 7 * 16384) far, first_is, day_is))))
 
--- `moment_to` gives the result for each date
+-- the function gives the answer to asking for the moment of a date
 pub moment_to-answer : (c : Civil) → GivesMoment c (moment_to c)
 unfolding moment_to
 moment_to-answer c =

@@ -1,4 +1,4 @@
--- Day numbers from 1970 on, the date of a GPS time and the GPS time of a date.
+-- Day numbers from 1970 on, the date that a moment has and the moment that a date has.
 use Rattle.std.proofs.Common.{Fits, negsuc, subst, w32, ◌-◌, w16, w64, to_z, of_z, unsigned_abs, ◌≡◌, ℕ, ◌+◌, ◌*◌, ◌/◌, ◌%◌, ◌<◌, ◌≤◌, ℤ, pos, ◌+ℤ◌, ◌-ℤ◌, ◌<ℤ◌, ◌≤ℤ◌, Result, Ok, Err, refl, sym, ap, ◌∙◌, arith}
 use Rattle.std.proofs.lemmas.Int.{by_lt_z}
 use lib.Dec.{T}
@@ -26,7 +26,7 @@ year_from_1970 d h =
     (λ before. absurd (omega (arith, signed_arith, day_count-epoch, days_from_civil-day_count d.year d.month d.day, day_count-lt_year d.year d.month d.day (pos 1970) 1 1 (civil d) (omega arith) before)))
     (λ from. from)
 
--- the library's date with the day of a date that exists
+-- the date of the library with the day of a date that exists
 abbrev pub plain : (c : Civil) → Exists c → Date
 plain c e = record {
   year = pos c.year;
@@ -42,7 +42,7 @@ same_time : (h m s h₂ m₂ s₂ : ℕ) → m < 60 → s < 60 → m₂ < 60 →
     → 3600 * h + 60 * m + s ≡ 3600 * h₂ + 60 * m₂ + s₂ → (h ≡ h₂) × (m ≡ m₂) × (s ≡ s₂)
 same_time h m s h₂ m₂ s₂ a b d e same = (omega arith, omega arith, omega arith)
 
--- a date is the date of one GPS time
+-- a date is that of one moment
 same_moment : (c : Civil) (m n : ℕ) → IsCivilOf c m → IsCivilOf c n → m ≡ n
 same_moment c m n of_m of_n = omega (arith, signed_arith, of_m.day, of_n.day, of_m.time, of_n.time)
 
@@ -52,7 +52,7 @@ not_before c m of_m before = omega (arith, signed_arith, of_m.day)
 not_too_far : (c : Civil) (m : ℕ) → IsCivilOf c m → m < 9909043200 → ¬ ((first_day +ℤ pos (7 * 16384)) ≤ℤ day_of c)
 not_too_far c m of_m small late = omega (arith, signed_arith, of_m.day)
 
--- converting a date has one result
+-- asking for the moment of a date has one answer
 pub one_moment_answer : (c : Civil) (a b : Result ℕ WeekFault) → GivesMoment c a → GivesMoment c b → a ≡ b
 one_moment_answer c (Ok m) (Ok n) g h = ap Ok (let of_m = g.0 in let of_n = h.0 in same_moment c m n of_m of_n)
 one_moment_answer c (Ok m) (Err NoSuchDate) g h = absurd (h g.0.exists)
@@ -74,7 +74,7 @@ one_moment_answer c (Err TooFar) (Err TooFar) g h = refl
 pos-same : (m n : ℕ) → pos m ≡ pos n → m ≡ n
 pos-same m n e = cc
 
--- a GPS time has one date
+-- a moment has one date
 pub one_civil : (b c : Civil) (m : ℕ) → IsCivilOf b m → IsCivilOf c m → b ≡ c
 one_civil b c m of_b of_c =
     let same = epoch_day_injective (plain b of_b.exists) (plain c of_c.exists) (of_b.day ∙ sym of_c.day) in
@@ -82,16 +82,16 @@ one_civil b c m of_b of_c =
     let year : b.year ≡ c.year = pos-same _ _ same.0 in
     λ i. record { year = year i; month = same.1 i; day = same.2 i; hour = time.0 i; minute = time.1 i; second = time.2 i }
 
--- a small day number is the same as a signed number
+-- a small day number is the same with a sign
 pub as_day : (n : ℕ) → n ≤ 200000 → to_z w64 n ≡ pos n
 as_day n h = back_small w64 (pos n) (omega arith)
 
--- a year of the calendar is the same as an unsigned number
+-- a year of the calendar is the same without a sign
 pub as_year : (y : ℤ) → pos 1970 ≤ℤ y → y ≤ℤ pos 9999 → pos (unsigned_abs (to_z w16 (of_z w16 y))) ≡ y
 as_year (pos n) from to = ap (λ z. pos (unsigned_abs z)) (back_small w16 (pos n) (omega (arith, signed_arith)))
 as_year (negsuc n) from to = absurd (omega (arith, signed_arith))
 
--- and it fits one
+-- and it is one without a sign
 pub year_fits : (y : ℤ) → pos 1970 ≤ℤ y → y ≤ℤ pos 9999
     → T (non_neg (to_z w16 (of_z w16 y))) × Fits w16 (unsigned_abs (to_z w16 (of_z w16 y)))
 year_fits (pos n) from to =
@@ -114,7 +114,7 @@ days_after (pos n) from to =
     ap (λ z. pos 3657 +ℤ pos (unsigned_abs z)) days ∙ ap pos (let e : 3657 + (n - 3657) ≡ n = omega arith in e)
 days_after (negsuc n) from to = absurd (omega (arith, signed_arith))
 
--- the day and the time of day make the date of a GPS time
+-- the day and the parts of the time of day make the date of a moment
 pub civil-of : (d : Date) (y h m s n : ℕ) → pos y ≡ d.year → epoch_day d ≡ pos (3657 + n / 86400)
     → h ≡ n % 86400 / 3600 → m ≡ n % 86400 % 3600 / 60 → s ≡ n % 86400 % 60
     → IsCivilOf (record { year = y; month = d.month; day = d.day; hour = h; minute = m; second = s }) n
@@ -126,7 +126,7 @@ civil-of d y h m s n year day hour minute second =
       time = omega arith;
     }
 
--- the days and the time of day make the GPS time of a date
+-- the whole days and the time of day make the moment of a date
 pub moment-of : (c : Civil) (z : ℤ) (days time m : ℕ) → Exists c → z ≡ day_of c → pos 3657 +ℤ pos days ≡ z → days < 114688
     → time ≡ 3600 * c.hour + 60 * c.minute + c.second → m ≡ 86400 * days + time
     → IsCivilOf c m × (m < 9909043200)

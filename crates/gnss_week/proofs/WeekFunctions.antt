@@ -1,9 +1,9 @@
--- The functions of weeks and of the nearest GPS time give what the relations describe, and nothing else does.
+-- The functions of weeks and of the nearest moment give what the relations describe, and nothing else does.
 use Rattle.std.proofs.Common.{◌≡◌, ℕ, ◌<◌, ◌≤◌, arith}
 use Rattle.gnss_week.specs.Weeks.{IsGalileoWeek, IsGpsWeek, IsNearestMoment, IsReference, IsSecond}
 use Rattle.gnss_week.specs.Functions.{galileo_week_to, gps_week_to, moment_near}
 
--- `gps_week_to` gives the week of a GPS week number
+-- the week that the function gives is the one that a number of GPS means
 pub gps_week-meant : (r n : ℕ) → IsReference r → n < 1024 → IsGpsWeek r n (gps_week_to r n)
 unfolding gps_week_to
 gps_week-meant r n reference small = record { same = omega (arith, reference.0); from = omega (arith, reference.0); to = omega (arith, reference.0) }
@@ -12,7 +12,7 @@ pub gps_week-only : (r n w : ℕ) → IsGpsWeek r n w → w ≡ gps_week_to r n
 unfolding gps_week_to
 gps_week-only r n w is = omega (arith, is.same, is.from, is.to)
 
--- `galileo_week_to` gives the week of a Galileo week number
+-- the week that the function gives is the one that a number of Galileo means
 pub galileo_week-meant : (r n : ℕ) → IsReference r → n < 4096 → IsGalileoWeek r n (galileo_week_to r n)
 unfolding galileo_week_to
 galileo_week-meant r n reference small = record { same = omega arith; from = omega arith; to = omega arith }
@@ -21,7 +21,7 @@ pub galileo_week-only : (r n w : ℕ) → IsGalileoWeek r n w → w ≡ galileo_
 unfolding galileo_week_to
 galileo_week-only r n w is = omega (arith, is.same, is.from, is.to)
 
--- `moment_near` gives the nearest GPS time
+-- the moment that the function gives is the nearest one
 pub moment_near-nearest : (t second : ℕ) → 604800 ≤ t → IsSecond second → IsNearestMoment t second (moment_near t second)
 unfolding moment_near
 moment_near-nearest t second late small = record { second_is = omega arith; from = omega arith; to = omega arith }

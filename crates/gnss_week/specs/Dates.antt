@@ -1,4 +1,4 @@
--- Calendar dates with times of day, and their GPS times.
+-- Dates and times of day of the calendar, and the moments that they name.
 use Rattle.std.specs.Prelude.{◌≡◌, ℕ, ◌+◌, ◌*◌, ◌/◌, ◌%◌, ◌<◌, ℤ, pos, ◌+ℤ◌, ◌<ℤ◌, ◌≤ℤ◌, Result, Ok, Err}
 use Rattle.jiff_core.specs.Calendar.{IsCivilDate, days_from_civil}
 use Rattle.gnss_week.specs.Weeks.{IsMoment}
@@ -6,7 +6,7 @@ use Rattle.gnss_week.specs.declared.calendar.Civil.{Civil}
 use Rattle.gnss_week.specs.declared.calendar.WeekFault.{WeekFault}
 use Rattle.gnss_week.specs.declared.calendar.WeekFault.TheVariants.{NoSuchDate, BeforeEpoch, TooFar}
 
--- the date exists in the calendar up to the year 9999, and the time of day exists
+-- the calendar, which goes up to the year 9999, has the day and the clock the time of day
 abbrev pub Exists : Civil → Type 0
 Exists c = IsCivilDate (pos c.year) c.month c.day × (c.hour < 24) × (c.minute < 60) × (c.second < 60)
 
@@ -14,17 +14,18 @@ Exists c = IsCivilDate (pos c.year) c.month c.day × (c.hour < 24) × (c.minute 
 abbrev pub day_of : Civil → ℤ
 day_of c = days_from_civil (pos c.year) c.month c.day
 
--- the day number of 1980-01-06, the start of week 0
+-- the day number of 1980-01-06, on which the weeks begin
 abbrev pub first_day : ℤ
 first_day = days_from_civil (pos 1980) 1 6
 
--- c is the date and time of day of the GPS time m: m / 86400 days after 1980-01-06, m % 86400 seconds after midnight
+-- c is the date and time of day of the moment m: its day is the first one and the whole days of m later,
+-- and its time of day is what is left of m
 pub record IsCivilOf (c : Civil) (m : ℕ) : Type 0 where
   pub exists : Exists c
   pub day : day_of c ≡ first_day +ℤ pos (m / 86400)
   pub time : 3600 * c.hour + 60 * c.minute + c.second ≡ m % 86400
 
--- the results of converting a date to GPS time
+-- what asking for the moment of a date answers
 abbrev pub GivesMoment : Civil → Result ℕ WeekFault → Type 0
 GivesMoment c (Ok m) = IsCivilOf c m × IsMoment m
 GivesMoment c (Err NoSuchDate) = Exists c → ⊥

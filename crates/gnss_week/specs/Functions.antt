@@ -1,46 +1,47 @@
--- The weeks, GPS times and dates that Weeks and Dates describe, as functions.
+-- The weeks, moments and dates that Weeks and Dates describe, as functions.
 use Rattle.std.specs.Prelude.{ℕ, zero, suc, ◌+◌, ◌-◌, ◌*◌, ◌/◌, ◌%◌, ◌<◌, max, nat_lt, nat_le, Bool, ◌&&◌, if◌then◌else◌, pos, Result, Ok, Err}
 use Rattle.jiff_core.specs.Calendar.{days_in_year, days_in_month, day_count}
 use Rattle.gnss_week.specs.declared.calendar.Civil.{Civil}
 use Rattle.gnss_week.specs.declared.calendar.WeekFault.{WeekFault}
 use Rattle.gnss_week.specs.declared.calendar.WeekFault.TheVariants.{NoSuchDate, BeforeEpoch, TooFar}
 
--- the first number from low on that equals n modulo rollover
+-- the first number from low on that equals n modulo turn
 abbrev pub first_from : ℕ → ℕ → ℕ → ℕ
 first_from rollover low n = low + (n + rollover - low % rollover) % rollover
 
--- the week of a ten-bit GPS week number near the reference week r
+-- the week that a ten-bit number of GPS means near the week r
 unfoldable pub gps_week_to : ℕ → ℕ → ℕ
 gps_week_to r n = first_from 1024 (r - 512) n
 
--- the GPS week of a twelve-bit Galileo week number near the reference week r
+-- the week, counted as GPS weeks are, that a twelve-bit number of Galileo means near the week r
 unfoldable pub galileo_week_to : ℕ → ℕ → ℕ
 galileo_week_to r n = first_from 4096 (max 1024 (r - 2048)) (n + 1024)
 
--- w is one of the 1024 weeks near the reference week r
+-- w is one of the weeks that the bits of GPS tell apart near the week r
 abbrev pub near_gps : ℕ → ℕ → Bool
 near_gps r w = nat_le r (w + 512) && nat_le w (r + 511)
 
--- w is one of the 4096 weeks near the reference week r
+-- w is one of the weeks that the bits of Galileo tell apart near the week r
 abbrev pub near_galileo : ℕ → ℕ → Bool
 near_galileo r w = nat_le (max 1024 (r - 2048)) w && nat_le w (max 1024 (r - 2048) + 4095)
 
--- the GPS time with this time of week nearest to t
+-- the moment nearest to t with that second of the week
 unfoldable pub moment_near : ℕ → ℕ → ℕ
 moment_near t second = first_from 604800 (t - 302399) second
 
--- a year or a month, and how many of its days have passed
+-- a year or a month, and the days of it that have passed
 pub record Place : Type 0 where
   pub which : ℕ
   pub day : ℕ
 
--- the year and day in it, d days after the start of year y, at most k years on
+-- the year in which the day lies that is d days after the year y began: y, or one of the k years after it
 unfoldable pub year_from : ℕ → ℕ → ℕ → Place
 year_from zero y d = record { which = y; day = d }
 year_from (suc k) y d =
     if nat_lt d (days_in_year (pos y)) then record { which = y; day = d } else year_from k (y + 1) (d - days_in_year (pos y))
 
--- the month of year y and day in it, d days after the start of month m, at most k months on
+-- the month of the year y in which the day lies that is d days after the month m began: m, or one of the k
+-- months after it
 unfoldable pub month_from : ℕ → ℕ → ℕ → ℕ → Place
 month_from zero y m d = record { which = m; day = d }
 month_from (suc k) y m d =
@@ -57,28 +58,28 @@ civil_of year p time = record {
   second = time % 60;
 }
 
--- the date of a day of a year, with a time of day in seconds
+-- the date of a day of a year, counted from the year's first, with a time of day in seconds
 abbrev pub civil_in : Place → ℕ → Civil
 civil_in p time = civil_of p.which (month_from 11 p.which 1 p.day) time
 
--- the date and time of day of a GPS time; 1980-01-06 is five days after the start of 1980
+-- the date and time of day of a moment; the first moment is five days after the year 1980 began
 unfoldable pub civil_to : ℕ → Civil
 civil_to m = civil_in (year_from 400 1980 (m / 86400 + 5)) (m % 86400)
 
--- the date exists in the calendar up to the year 9999, and the time of day exists
+-- the calendar, which goes up to the year 9999, has the day and the clock the time of day
 abbrev pub has_date : Civil → Bool
 has_date c =
     nat_le c.year 9999 && nat_le 1 c.month && nat_le c.month 12 && nat_le 1 c.day && nat_le c.day (days_in_month (pos c.year) c.month)
     && nat_lt c.hour 24 && nat_lt c.minute 60 && nat_lt c.second 60
 
--- the GPS time at `time` seconds of a day, by the day counts of 1980-01-06 and of that day
+-- the moment so many seconds after a day began, by the counts of days up to 1980-01-06 and up to that day
 abbrev pub moment_at : ℕ → ℕ → ℕ → Result ℕ WeekFault
 moment_at first day time =
     if nat_lt day first then Err BeforeEpoch
     else if nat_lt day (first + 7 * 16384) then Ok (86400 * (day - first) + time)
     else Err TooFar
 
--- the GPS time of a date, or why it has none
+-- the moment of a date, or why it has none
 unfoldable pub moment_to : Civil → Result ℕ WeekFault
 moment_to c =
     if has_date c then moment_at (day_count (pos 1980) 1 6) (day_count (pos c.year) c.month c.day) (3600 * c.hour + 60 * c.minute + c.second)

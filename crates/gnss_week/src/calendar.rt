@@ -13,11 +13,11 @@ pub struct Civil {
     pub hour: u8,
     /// The minute of the hour, 0 to 59.
     pub minute: u8,
-    /// The second of the minute, 0 to 59 (GPS time has no leap seconds).
+    /// The second of the minute, 0 to 59.
     pub second: u8,
 }
 
-/// Why a date has no GPS time.
+/// Why a date names no moment.
 #[derive(Clone, Copy, PartialEq, Eq, Debug, Error)]
 pub enum WeekFault {
     /// The calendar has no such day, or the clock no such time of day.

@@ -14,12 +14,12 @@ use jiff_core::civil as plain;
 /// The day number of 1980-01-06, counted from 1970-01-01.
 const FIRST_DAY: i32 = 3_657;
 
-/// The days of the 16,384 weeks that are represented.
+/// The days of the 16,384 weeks that have moments.
 const DAYS: i32 = 7 * 16_384;
 
 const SECONDS_OF_DAY: u64 = 86_400;
 
-/// The date and time of day of a GPS time.
+/// The date and time of day of a moment.
 pub fn civil(moment: Moment) -> Civil
     ensures date { IsCivilOf result moment }
     ensures again { GivesMoment result (Ok moment) }
@@ -38,11 +38,11 @@ pub fn civil(moment: Moment) -> Civil
     }
 }
 
-/// The GPS time of a date and time of day.
+/// The moment of a date and time of day.
 ///
-/// Errors, the first that applies: `NoSuchDate` where the date or the time of day does not exist
-/// (years above 9999 and second 60 do not), `BeforeEpoch` where the day is before 1980-01-06,
-/// `TooFar` where it is in week 16384 or later.
+/// Errors, the first that applies: `NoSuchDate` where the calendar or the clock has none such (a
+/// year above 9999 has no date, and no minute has a second 60), `BeforeEpoch` where the day is
+/// before 1980-01-06, `TooFar` where it is in week 16384 or later.
 pub fn moment_of(date: &Civil) -> Result<Moment, WeekFault>
     ensures answer { GivesMoment date.now result }
     ensures again { IfOk result (λ m. (c : CivilDate) → IsCivilOf c m → c ≡ date.now) }
@@ -61,14 +61,14 @@ pub fn moment_of(date: &Civil) -> Result<Moment, WeekFault>
     Ok(Moment::from_seconds(SECONDS_OF_DAY * days + time_of(date) as u64))
 }
 
-// The seconds since midnight of a time of day.
+// The seconds of the day before a time of day.
 fn time_of(date: &Civil) -> u32
     ensures { result ≡ 3600 * date.now.hour + 60 * date.now.minute + date.now.second }
 {
     3_600 * date.hour as u32 + 60 * date.minute as u32 + date.second as u32
 }
 
-// The day number of a date; None where the date or the time of day does not exist.
+// The day number of a date, where the calendar and the clock have it.
 fn day_number(date: &Civil) -> Option<i32>
     ensures { MatchOption result (Exists date.now → ⊥)
         (λ day. Exists date.now × (day ≡ day_of date.now) × IsEpochDay day) }
@@ -85,7 +85,7 @@ fn day_number(date: &Civil) -> Option<i32>
     }
 }
 
-// The date with this day number, counted from 1970-01-01.
+// The date with that day number, which is from 1970-01-01 on.
 fn date_of(number: i64) -> plain::Date
     requires first { pos 0 ≤ℤ number }
     requires last { number ≤ℤ pos 200000 }

@@ -7,61 +7,61 @@ ghost use Rattle.gnss_week.specs.Functions.{IsShort, civil_to, moment_near, mome
 ghost use Rattle.gnss_week.specs.declared.calendar.Civil.{Civil};
 ghost use Rattle.gnss_week.specs.declared.calendar.WeekFault.{WeekFault};
 
-/// A ten-bit week number stands for exactly one week near a reference week.
+/// A ten-bit number means one week.
 pub fn one_gps_week()
     ensures { (r n v w : ℕ) → IsGpsWeek r n v → IsGpsWeek r n w → v ≡ w }
 {}
 
-/// A twelve-bit week number stands for exactly one week near a reference week.
+/// A twelve-bit number means one week.
 pub fn one_galileo_week()
     ensures { (r n v w : ℕ) → IsGalileoWeek r n v → IsGalileoWeek r n w → v ≡ w }
 {}
 
-/// Only one GPS time with a given time of week is nearest.
+/// One moment with a second of the week is the nearest.
 pub fn one_nearest_moment()
     ensures { (t second m n : ℕ) → IsNearestMoment t second m → IsNearestMoment t second n → m ≡ n }
 {}
 
-/// A date is the date of one GPS time.
+/// A date is the date of one moment.
 pub fn one_moment()
     ensures { (c : Civil) (m n : ℕ) → IsCivilOf c m → IsCivilOf c n → m ≡ n }
 {}
 
-/// A GPS time has one date.
+/// A moment has one date.
 pub fn one_date()
     ensures { (b c : Civil) (m : ℕ) → IsCivilOf b m → IsCivilOf c m → b ≡ c }
 {}
 
-/// Converting a GPS time to its date and back gives the same time.
+/// The moment of the date of a moment is that moment.
 pub fn moment_again()
     ensures { (c : Civil) (m : ℕ) (a : Result ℕ WeekFault) →
         IsCivilOf c m → IsMoment m → GivesMoment c a → a ≡ Ok m }
 {}
 
-/// Converting a date to GPS time and back gives the same date.
+/// The date of the moment of a date is that date.
 pub fn date_again()
     ensures { (b c : Civil) (m : ℕ) → GivesMoment b (Ok m) → IsCivilOf c m → c ≡ b }
 {}
 
-/// Converting a date to GPS time has one result.
+/// Asking for the moment of a date has one answer.
 pub fn one_answer()
     ensures { (c : Civil) (a b : Result ℕ WeekFault) → GivesMoment c a → GivesMoment c b → a ≡ b }
 {}
 
-/// `gps_week_to` gives the week of a ten-bit week number.
+/// The week that a ten-bit number means is `gps_week_to`.
 pub fn gps_week_function()
     ensures meant { (r n : ℕ) → IsReference r → n < 1024 → IsGpsWeek r n (gps_week_to r n) }
     ensures only { (r n w : ℕ) → IsGpsWeek r n w → w ≡ gps_week_to r n }
 {}
 
-/// `galileo_week_to` gives the week of a twelve-bit week number.
+/// The week that a twelve-bit number means is `galileo_week_to`.
 pub fn galileo_week_function()
     ensures meant { (r n : ℕ) → IsReference r → n < 4096 → IsGalileoWeek r n (galileo_week_to r n) }
     ensures only { (r n w : ℕ) → IsGalileoWeek r n w → w ≡ galileo_week_to r n }
 {}
 
-/// `near_gps` and `near_galileo` decide which weeks are near a reference week; each such week is
-/// the one that its truncated number stands for.
+/// `near_gps` and `near_galileo` say which weeks lie near a reference week; the weeks that their
+/// numbers mean are among these, and the number of each of these means it.
 pub fn near_weeks()
     ensures gps { (r w : ℕ) → (near_gps r w ≡ true) ↔ IsNearGps r w }
     ensures galileo { (r w : ℕ) → (near_galileo r w ≡ true) ↔ IsNearGalileo r w }
@@ -70,27 +70,27 @@ pub fn near_weeks()
         galileo_week_to r ((w + 3072) % 4096) ≡ w }
 {}
 
-/// `moment_near` gives the nearest GPS time with a given time of week.
+/// The nearest moment with a second of the week is `moment_near`.
 pub fn nearest_moment_function()
     ensures nearest { (t second : ℕ) → 604800 ≤ t → IsSecond second →
         IsNearestMoment t second (moment_near t second) }
     ensures only { (t second m : ℕ) → IsNearestMoment t second m → m ≡ moment_near t second }
 {}
 
-/// `civil_to` gives the date of a GPS time.
+/// The date of a moment is `civil_to`.
 pub fn date_function()
     ensures date { (m : ℕ) → IsMoment m → IsCivilOf (civil_to m) m }
     ensures only { (c : Civil) (m : ℕ) → IsCivilOf c m → IsMoment m → c ≡ civil_to m }
 {}
 
-/// `moment_to` gives the GPS time of a date, or the error.
+/// The answer to asking for the moment of a date is `moment_to`.
 pub fn moment_function()
     ensures answer { (c : Civil) → GivesMoment c (moment_to c) }
     ensures only { (c : Civil) (a : Result ℕ WeekFault) → GivesMoment c a → a ≡ moment_to c }
     ensures again { (c : Civil) (m : ℕ) → IsCivilOf c m → IsMoment m → moment_to c ≡ Ok m }
 {}
 
-/// The year of a date has at most four digits, each other number at most two.
+/// The year of a date of the calendar has at most four digits, each other number of it at most two.
 pub fn short_dates()
     ensures { (c : Civil) (m : ℕ) → IsCivilOf c m → IsShort c }
 {}

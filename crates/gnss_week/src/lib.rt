@@ -1,15 +1,15 @@
-//! Week numbers, GPS times and calendar dates.
+//! Weeks, moments and dates of satellite navigation.
 //!
-//! GPS and Galileo count time in weeks and seconds of the week, without leap seconds, from midnight
-//! at the start of 1980-01-06 (IS-GPS-200, 3.3.4; Galileo OS SIS ICD, 5.1.2). Their messages
-//! truncate the week number to ten and twelve bits, and some times are given by time of week alone,
-//! for the nearest week. This crate has
+//! GPS and Galileo count time in weeks and seconds of the week, without leap seconds, from the
+//! midnight that began 1980-01-06 (IS-GPS-200, 3.3.4; Galileo OS SIS ICD, 5.1.2). Their messages
+//! truncate the week number to ten and twelve bits, and leave the week of a time out where
+//! the reader is to take the nearest one. Here are
 //!
 //! - [`RefWeek`], [`Week`], [`Second`] and [`Moment`], numbers within their ranges;
-//! - [`gps_week`] and [`gal_week`], the weeks that truncated week numbers stand for near a
-//!   reference week, and [`is_near_gps`] and [`is_near_galileo`], which weeks these can be;
-//! - [`nearest_moment`], the nearest GPS time with a given time of week;
-//! - [`civil`] and [`moment_of`], conversion between GPS times and calendar dates.
+//! - [`gps_week`] and [`gal_week`], the weeks that cut numbers mean near a reference week,
+//!   and [`is_near_gps`] and [`is_near_galileo`], which weeks they can mean;
+//! - [`nearest_moment`], the nearest moment with a second of the week;
+//! - [`civil`] and [`moment_of`], between moments and dates of the calendar.
 //!
 //! ```rust
 //! use gnss_week::{Civil, Moment, RefWeek, gps_week, moment_of};

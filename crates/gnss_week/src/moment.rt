@@ -6,7 +6,7 @@ use std::marker::Model;
 /// The seconds of a week.
 pub const SECONDS_OF_WEEK: u32 = 604_800;
 
-/// A time of week (TOW) in seconds, 0 to 604,799.
+/// A time of week (TOW) in seconds, 0 to 604,799, counted from its first midnight.
 #[derive(Clone, Copy, PartialEq, Eq, PartialOrd, Ord, Hash)]
 pub struct Second {
     second: u32,
@@ -23,7 +23,7 @@ impl Model for Second {
 }
 
 impl Second {
-    /// The time of week with this value; `None` above 604,799.
+    /// The second with that number; `None` above 604,799.
     pub fn new(second: u32) -> Option<Self>
         ensures exactly { IsSome result ↔ IsSecond second }
         ensures same { IfSome result (λ s. s ≡ second) }
@@ -35,7 +35,7 @@ impl Second {
         }
     }
 
-    /// The time of week with this value, where the caller knows that it is in range.
+    /// The second with that number, for code that knows that it is one.
     pub fn from_number(second: u32) -> Self
         requires { IsSecond second }
         ensures { result ≡ second }
@@ -43,7 +43,7 @@ impl Second {
         Second { second }
     }
 
-    /// The time of week in seconds.
+    /// Its number.
     pub fn value(&self) -> u32
         ensures same { result ≡ self.now }
         ensures fits { IsSecond self.now }
@@ -52,7 +52,7 @@ impl Second {
     }
 }
 
-/// A GPS time: the seconds since midnight at the start of 1980-01-06, in the first 16,384 weeks.
+/// A GPS time: the seconds since the midnight that began 1980-01-06, in the first 16,384 weeks.
 #[derive(Clone, Copy, PartialEq, Eq, PartialOrd, Ord, Hash)]
 pub struct Moment {
     seconds: u64,
@@ -69,7 +69,8 @@ impl Model for Moment {
 }
 
 impl Moment {
-    /// The GPS time with this value; `None` from 9,909,043,200 on, where week 16,384 begins.
+    /// The moment so many seconds after the first; `None` from 9,909,043,200 on, which week 16,384
+    /// begins.
     pub fn new(seconds: u64) -> Option<Self>
         ensures exactly { IsSome result ↔ IsMoment seconds }
         ensures same { IfSome result (λ m. m ≡ seconds) }
@@ -81,7 +82,7 @@ impl Moment {
         }
     }
 
-    /// The GPS time with this value, where the caller knows that it is in range.
+    /// The moment so many seconds after the first, for code that knows that it is one.
     pub fn from_seconds(seconds: u64) -> Self
         requires { IsMoment seconds }
         ensures { result ≡ seconds }
@@ -89,7 +90,7 @@ impl Moment {
         Moment { seconds }
     }
 
-    /// The seconds since midnight at the start of 1980-01-06.
+    /// Its seconds after the first moment.
     pub fn value(&self) -> u64
         ensures same { result ≡ self.now }
         ensures fits { IsMoment self.now }
@@ -97,14 +98,14 @@ impl Moment {
         self.seconds
     }
 
-    /// Its week number, counted from 0 without rollover.
+    /// The week in which it lies, from 0.
     pub fn week(&self) -> u32
         ensures { result ≡ week_of self.now }
     {
         (self.seconds / SECONDS_OF_WEEK as u64) as u32
     }
 
-    /// Its time of week.
+    /// The second of that week.
     pub fn second(&self) -> Second
         ensures { result ≡ second_of self.now }
     {

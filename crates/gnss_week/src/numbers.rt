@@ -3,7 +3,7 @@ ghost use Rattle.gnss_week.specs.Weeks.{IsReference, IsWeek};
 
 use std::marker::Model;
 
-/// The reference week, 1024 to 8191, that resolves truncated week numbers.
+/// The reference week by which a reader listens, 1024 to 8191: it settles which week a cut number means.
 #[derive(Clone, Copy, PartialEq, Eq, PartialOrd, Ord, Hash)]
 pub struct RefWeek {
     number: u32,
@@ -34,7 +34,7 @@ impl RefWeek {
         Some(RefWeek { number: week })
     }
 
-    /// The week number.
+    /// Its number.
     pub fn value(&self) -> u32
         ensures same { result ≡ self.now }
         ensures fits { IsReference self.now }
@@ -60,7 +60,7 @@ impl Model for Week {
 }
 
 impl Week {
-    /// The week with this number; `None` outside 1 to 16382.
+    /// The week with that number; `None` outside 1 to 16382.
     pub fn new(week: u32) -> Option<Self>
         ensures exactly { IsSome result ↔ IsWeek week }
         ensures same { IfSome result (λ w. w ≡ week) }
@@ -74,7 +74,7 @@ impl Week {
         Some(Week { number: week })
     }
 
-    /// The week with this number, where the caller knows that it is in range.
+    /// The week with that number, for code that knows that it is one.
     pub fn from_number(week: u32) -> Self
         requires { IsWeek week }
         ensures { result ≡ week }
@@ -82,7 +82,7 @@ impl Week {
         Week { number: week }
     }
 
-    /// The week number.
+    /// Its number.
     pub fn value(&self) -> u32
         ensures same { result ≡ self.now }
         ensures fits { IsWeek self.now }

@@ -7,17 +7,17 @@ use crate::moment::{Moment, SECONDS_OF_WEEK, Second};
 use crate::numbers::{RefWeek, Week};
 use nav_bits::U;
 
-/// The rollover of the GPS week number, in weeks.
+/// The rollover of the week number of GPS, in weeks.
 const GPS_ROLLOVER: u32 = 1024;
 
-/// The rollover of the Galileo week number, in weeks.
+/// The rollover of the week number of Galileo, in weeks.
 const GALILEO_ROLLOVER: u32 = 4096;
 
-/// The GPS week that is Galileo week 0.
+/// The GPS week with which the weeks of Galileo begin.
 const GALILEO_START: u32 = 1024;
 
-/// The GPS week of the ten-bit week number `wn` near the reference week `r`: the one equal to it
-/// modulo 1024 from `r` - 512 to `r` + 511 (IS-GPS-200, 20.3.3.3.1.1).
+/// The GPS week that the ten-bit number `wn` means near the week `r`: the one equal to it modulo
+/// 1024 from `r` - 512 to `r` + 511 (IS-GPS-200, 20.3.3.3.1.1).
 pub fn gps_week(r: RefWeek, wn: U<10>) -> Week
     ensures { IsGpsWeek r wn result }
 {
@@ -26,9 +26,9 @@ pub fn gps_week(r: RefWeek, wn: U<10>) -> Week
     Week::from_number(low + ahead)
 }
 
-/// The GPS week of the twelve-bit Galileo week number `wn` near the reference week `r`: the one
-/// equal to `wn` + 1024 modulo 4096 in the 4096 weeks from `r` - 2048, or from 1024 where that is
-/// later (Galileo OS SIS ICD, 5.1.2).
+/// The week, counted as GPS weeks are, that the twelve-bit Galileo number `wn` means near the week
+/// `r`: the one equal to `wn` + 1024 modulo 4096 in the 4096 weeks from `r` - 2048 on, or from 1024
+/// on where that is later (Galileo OS SIS ICD, 5.1.2).
 pub fn gal_week(r: RefWeek, wn: U<12>) -> Week
     ensures { IsGalileoWeek r wn result }
 {
@@ -38,9 +38,9 @@ pub fn gal_week(r: RefWeek, wn: U<12>) -> Week
     Week::from_number(low + ahead)
 }
 
-/// The GPS time with this time of week nearest to `near`, the later one of two equally near: a
-/// message gives the time of week alone for a time within half a week of its own (IS-GPS-200,
-/// 20.3.3.3.3.1 and 20.3.3.4.3).
+/// The moment with that second of the week that lies nearest to `near`, and the later one where two
+/// are as near: a message gives the second alone where the time lies within half a week of its own
+/// (IS-GPS-200, 20.3.3.3.3.1 and 20.3.3.4.3).
 pub fn nearest_moment(near: Moment, second: Second) -> Moment
     requires { IsWeek (week_of near) }
     ensures { IsNearestMoment near second result }
@@ -51,7 +51,7 @@ pub fn nearest_moment(near: Moment, second: Second) -> Moment
     Moment::from_seconds(low + ahead)
 }
 
-/// Whether a ten-bit week number can stand for `week` near the reference week `r`: `week` is from
+/// `week` is one of the 1024 weeks that the ten bits of GPS tell apart near the week `r`: from
 /// `r` - 512 to `r` + 511 (IS-GPS-200, 20.3.3.3.1.1).
 pub fn is_near_gps(r: RefWeek, week: Week) -> bool
     ensures exactly { IsTrue result ↔ IsNearGps r week }
@@ -61,8 +61,8 @@ pub fn is_near_gps(r: RefWeek, week: Week) -> bool
     week.value() + half >= r.value() && week.value() < r.value() + half
 }
 
-/// Whether a twelve-bit week number can stand for `week` near the reference week `r`: `week` is one
-/// of the 4096 weeks from `r` - 2048, or from 1024 where that is later (Galileo OS SIS ICD, 5.1.2).
+/// `week` is one of the 4096 weeks that the twelve bits of Galileo tell apart near the week `r`:
+/// those from `r` - 2048 on, or from 1024 on where that is later (Galileo OS SIS ICD, 5.1.2).
 pub fn is_near_galileo(r: RefWeek, week: Week) -> bool
     ensures exactly { IsTrue result ↔ IsNearGalileo r week }
     ensures answer { result ≡ near_galileo r week }

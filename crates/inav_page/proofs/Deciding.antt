@@ -1,4 +1,4 @@
--- The tests on page parts, and the words of a page part as a function of a list.
+-- The tests on halves, and the words of a half as a function of a list.
 use Rattle.std.proofs.Common.{◌≡◌, ℕ, ◌+◌, ◌<◌, ◌==◌, ◌&&◌, ◌||◌, ◌⊎◌, ◌↔◌, nat_lt, Bool, true, false, cond, if◌then◌else◌, List, [], ◌∷◌, inl, inr, refl, sym, ap, subst, ◌∙◌, ⊎_elim, arith}
 use Rattle.std.proofs.lemmas.Bool.{and_parts, eqb-true, eq-eqb}
 use Rattle.std.specs.Prelude.{Contains}
@@ -29,7 +29,7 @@ second : (a b : Bool) → b ≡ true → (a || b) ≡ true
 second true b e = refl
 second false b e = e
 
--- ---- equality of page parts
+-- ---- the same half
 
 system_to : (a b : System) → same_system a b ≡ true → a ≡ b
 system_to Gps Gps h = refl
@@ -177,7 +177,7 @@ partners_from one other h =
 pub are_partners_decides : (one other : StampedHalf) → (are_partners one other ≡ true) ↔ ArePartners one other
 are_partners_decides one other = (partners_to one other, partners_from one other)
 
--- ---- inserting a page part into an ascending list
+-- ---- a half put among ascending ones
 
 put_from : (half : StampedHalf) (xs : List StampedHalf) (x : StampedHalf) → In (put_half half xs) x → (half ≡ x) ⊎ In xs x
 unfolding put_half
@@ -206,7 +206,7 @@ put_keeps half (y ∷ ys) x h = by (nat_lt half.half y.half) (nat_lt y.half half
     by false true rest = ⊎_elim (λ (here : y ≡ x). inl here) (λ (later : In ys x). inr (rest later)) h
     by false false rest = h
 
--- it is inserted where no other part has its bits
+-- it stands there, where no other half has its bits
 put_stands : (half : StampedHalf) (xs : List StampedHalf) → ((x : StampedHalf) → In xs x → x.half ≡ half.half → x ≡ half)
     → In (put_half half xs) half
 unfolding put_half
@@ -249,7 +249,7 @@ put_ascends half (y ∷ ys) h = by (nat_lt half.half y.half) (nat_lt y.half half
 
 -- ---- partners
 
--- partners with the same bits are equal
+-- partners with the same bits are the same half
 one_partner : (taken a b : StampedHalf) → ArePartners taken a → ArePartners taken b → a.half ≡ b.half → a ≡ b
 one_partner taken a b (inl m) (inl n) e =
     let stamp : a.stamp ≡ b.stamp = m.stamp ∙ sym n.stamp in
@@ -313,7 +313,7 @@ partners_ascend (y ∷ ys) taken = by (are_partners taken y) (partners_ascend ys
     by true rest = put_ascends y (partners_of ys taken) rest
     by false rest = rest
 
--- the words of the function are those of the page part with the parts of the list
+-- the words of the function are those of the half with the halves of the list
 pub words_are : (xs : List StampedHalf) (taken : StampedHalf) → AreWordsWith (Contains xs) taken (words_of xs taken)
 unfolding words_of
 words_are xs taken = record {

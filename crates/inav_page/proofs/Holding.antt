@@ -1,4 +1,4 @@
--- The allocated page parts, too old or not: one second in each slot, and no more than were taken.
+-- What is held in the seconds of a window, too old or not: one second at each place, and no more than came.
 use Rattle.std.proofs.Common.{◌≡◌, ℕ, zero, suc, ◌+◌, ◌%◌, ◌≤◌, ◌⊎◌, List, [], ◌∷◌, ◌++◌, Some, length, map, inl, inr, refl, sym, ap, subst, ◌∙◌, ⊎_elim, arith}
 use Rattle.std.proofs.lemmas.Bool.{cases_eq}
 use Rattle.std.proofs.lemmas.List.{length-append}
@@ -11,12 +11,12 @@ use Rattle.inav_page.specs.Mirrors.{half_of, keys_held, keys_of, AreSeconds, Hol
 use Rattle.inav_page.proofs.Membership.{In, contains_from_In, In-from_contains, in_map, map_in}
 use Rattle.inav_page.proofs.Placing.{HasPut, append_in, in_left, in_right, of_other, of_same, of_to, some_is}
 
--- one more second without keys adds none
+-- one more second with no keys holds nothing more
 pub held_empty : (seconds : List Second) (empty : Second) → empty.keys.keys ≡ [] → keys_held (seconds ++ empty ∷ []) ≡ keys_held seconds
 held_empty [] empty none = ap (λ keys. keys ++ []) none
 held_empty (s ∷ ss) empty none = ap (λ keys. s.keys.keys ++ keys) (held_empty ss empty none)
 
--- an allocated key is in a second
+-- what is held stands in a second
 held_to : (seconds : List Second) (q : ℕ × ℕ) → In (keys_held seconds) q
     → (i : ℕ) × (second : Second) × (slice_get seconds i ≡ Some second) × In second.keys.keys q
 held_to [] q h = absurd h
@@ -34,7 +34,7 @@ held_from (x ∷ xs) q zero second at there =
     in_left x.keys.keys (keys_held xs) q (subst P (sym (some_is x second at)) there)
 held_from (x ∷ xs) q (suc i) second at there = in_right x.keys.keys (keys_held xs) q (held_from xs q i second at there)
 
--- after a second is stored, an allocated key was allocated before or is in it
+-- once a second is put in, what is held was held or stands in it
 set_held : (seconds : List Second) (i : ℕ) (second : Second) (q : ℕ × ℕ) → In (keys_held (slice_set seconds i second)) q
     → In (keys_held seconds) q ⊎ In second.keys.keys q
 set_held [] i second q h = absurd h
@@ -66,7 +66,7 @@ fewer_of stamp was =
     (λ (other : was.stamp ≡ stamp → ⊥). let is = ap length (of_other stamp was other) in omega (arith, is))
     (cases_eq was.stamp stamp)
 
--- a key is inserted into the second at a slot
+-- a key is put into the second at a place
 pub put_held : (stamp place : ℕ) (old : List Second) (was second : Second) (key : ℕ × ℕ) → slice_get old place ≡ Some was
     → HasPut stamp was key second
     → ((q : ℕ × ℕ) → Contains (keys_held (slice_set old place second)) q → Contains (keys_held old) q ⊎ (key ≡ q))
@@ -87,9 +87,9 @@ put_held stamp place old was second key at put = (
       set_room old place was second at (omega (arith, room, fewer)),
 )
 
--- ---- page parts
+-- ---- halves
 
--- two allocated page parts whose stamps have the same slot have equal stamps
+-- of two halves that are held whose stamps have one place the stamps are the same
 pub one_second : (seconds : Seconds) → AreSeconds seconds → (one other : StampedHalf)
     → Contains (map half_of (keys_held seconds.places.items)) one → Contains (map half_of (keys_held seconds.places.items)) other
     → one.stamp % (seconds.window + 2) ≡ other.stamp % (seconds.window + 2) → one.stamp ≡ other.stamp
@@ -109,7 +109,7 @@ one_second seconds are one other first second same =
     let is : p.1 ≡ q.1 = some_is p.1 q.1 (sym (subst P place p.2) ∙ q.2) in
     stamp_a ∙ ap (λ (s : Second). s.stamp) is ∙ sym stamp_b
 
--- the allocated page parts afterwards: those allocated before and the new one
+-- what is held after it: of what was held and the half
 pub held_after : (old new : List (ℕ × ℕ)) (key : ℕ × ℕ) (taken : StampedHalf) → half_of key ≡ taken
     → ((q : ℕ × ℕ) → Contains new q → Contains old q ⊎ (key ≡ q)) → (other : StampedHalf)
     → Contains (map half_of new) other → Contains (map half_of old) other ⊎ (taken ≡ other)
@@ -124,7 +124,7 @@ held_after old new key taken is holds other h =
     (holds q.0 (contains_from_In new q.0 q.1)) in
     subst Q q.2 there
 
--- there are as many keys as page parts
+-- of keys and of their halves there are as many
 as_many : (keys : List (ℕ × ℕ)) → length (map half_of keys) ≡ length keys
 as_many [] = refl
 as_many (key ∷ keys) = ap suc (as_many keys)
@@ -135,11 +135,11 @@ fewer_halves old new fewer =
     let b = as_many old in
     omega (arith, fewer, a, b)
 
--- nothing is inserted
+-- nothing is put in
 pub holds_again : (seconds : Seconds) (key : ℕ × ℕ) → HoldsKey seconds key seconds
 holds_again seconds key = (λ q h. inl h, omega arith)
 
--- what holds for every result of a call
+-- what holds whatever a call returned
 pub on_err : {A E : Type 0} (r : Result A E) (P : Type 0) → P → OnErr r P
 on_err (Ok a) P h = tt
 on_err (Err e) P h = h

@@ -1,4 +1,4 @@
--- The elements of a set of keys after an insertion.
+-- What stands in a set of keys once a key was put in.
 use Rattle.std.proofs.Common.{◌≡◌, ℕ, ◌⊎◌, ◌↔◌, true, false, cond, inl, inr, sym, ap, ◌∙◌, ⊎_elim}
 use Rattle.std.proofs.lemmas.Bool.{cases_Bool, cond-true, cond-false}
 use Rattle.std.proofs.lemmas.Map.Views.{btree_set_contains_iff}
@@ -15,7 +15,7 @@ in_set s q h = (btree_set_contains_iff key_cmp_total key_cmp_exact s q).1 h
 pub set_in : (s : BTreeSet (ℕ × ℕ)) (q : ℕ × ℕ) → contains key_cmp s q ≡ true → Contains s.keys q
 set_in s q h = (btree_set_contains_iff key_cmp_total key_cmp_exact s q).0 h
 
--- the elements before, and the key
+-- it holds what it held, and the key
 pub in_inserted : (old new : BTreeSet (ℕ × ℕ)) (key : ℕ × ℕ) → Updates key_cmp old new key true → (q : ℕ × ℕ) → Contains new.keys q ↔ (Contains old.keys q ⊎ (key ≡ q))
 in_inserted old new key updates q =
     let is : contains key_cmp new q ≡ cond (is_eq (key_cmp key q)) true (contains key_cmp old q) = updates.0 q in (

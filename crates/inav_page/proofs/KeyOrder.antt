@@ -1,4 +1,4 @@
--- The order of keys: the elements of a range, and that it ascends.
+-- The order of keys: what a range of them holds, and that it ascends.
 use Rattle.std.proofs.Common.{◌≡◌, ℕ, ◌+◌, ◌<◌, ◌≤◌, ◌^◌, ◌⊎◌, Bool, true, false, inl, inr, sym, ap, ◌∙◌, ⊎_elim, arith}
 use Rattle.std.proofs.lemmas.Bool.{cases_lt, cases_order, lt-ltb, le-ltb, eq-eqb, ne_eqb, cond-true, cond-false, true≢false}
 use Rattle.std.specs.declared.cmp.Ordering.TheVariants.{Less, Equal, Greater}
@@ -31,7 +31,7 @@ key_cmp_total = then_total (on_total (λ (k : ℕ × ℕ). k.0) nat_cmp_total) (
 pub key_cmp_exact : CmpEqualImpliesEq key_cmp
 key_cmp_exact = exact_pairs nat_cmp nat_cmp exact_unsigned exact_unsigned
 
--- a key that is not above another has no greater bucket
+-- a key that is not above another has no later place
 pub first_le : (a b : ℕ × ℕ) → is_gt (key_cmp a b) ≡ false → a.0 ≤ b.0
 first_le a b h =
     ⊎_elim
@@ -99,7 +99,7 @@ even_to n even =
     (λ (high : 2 ^ 119 ≤ n). absurd (not_both (kind_of n) even (odd_from n high)))
     (cases_lt n (2 ^ 119))
 
--- ---- a range has the page parts at a place that are not of a kind
+-- ---- a range holds the halves at a place that are not of a kind
 
 abbrev pub other_kind : HalfKind → HalfKind
 other_kind Even = Odd

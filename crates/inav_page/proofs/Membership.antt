@@ -1,9 +1,9 @@
--- Lists as sets: membership in a list, and in a part of it.
+-- Lists as sets: what stands in a list, and in a part of it.
 use Rattle.std.proofs.Common.{◌≡◌, ℕ, zero, suc, ◌<◌, ◌⊎◌, ◌↔◌, List, [], ◌∷◌, Bool, slice_index_or, true, length, map, inl, inr, refl, sym, ap, ◌∙◌, ⊎_elim, arith}
 use Rattle.std.proofs.lemmas.Bool.{cond_both, true≢false}
 use Rattle.std.specs.List.{Contains, filter}
 
--- x is in the list
+-- x stands in the list
 abbrev pub In : {X : Type 0} → List X → X → Type 0
 In [] x = ⊥
 In (y ∷ ys) x = (y ≡ x) ⊎ In ys x
@@ -28,7 +28,7 @@ module _ {X : Type 0} where
       ] in
       at h.0 h.1 h.2
 
-  -- membership in a list with one more element
+  -- what stands in a list with one more
   pub contains_cons : (y : X) (ys : List X) (x : X) → Contains (y ∷ ys) x ↔ ((y ≡ x) ⊎ Contains ys x)
   contains_cons y ys x = (
     λ h. ⊎_elim

@@ -1,4 +1,4 @@
--- Page parts as numbers: their used bits, their CRC and their word.
+-- Parts of pages as numbers: what is kept of them, their CRC and their word.
 use Rattle.std.proofs.Common.{◌≡◌, ℕ, zero, suc, ◌+◌, ◌-◌, ◌*◌, ◌/◌, ◌%◌, ◌^◌, ◌<◌, ◌≤◌, List, ◌∷◌, ◌++◌, length, slice_index, true, refl, sym, ap, subst, ◌∙◌, ⊎_elim, arith}
 use Rattle.std.proofs.Math.Nat.{pow-suc, mod-eq_of_lt}
 use Rattle.std.proofs.lemmas.Nat.{pow-add, shr-shr}
@@ -11,10 +11,10 @@ use Rattle.crc24q.specs.Division.{IsCrc}
 use Rattle.crc24q.specs.Register.{crc_from}
 use Rattle.crc24q.proofs.Surface.{crc_of_bytes, one_remainder}
 use Rattle.inav_page.specs.declared.half.HalfKind.TheVariants.{Even, Odd}
-use Rattle.inav_page.specs.Pages.{bits_at, kind_of, kept_of, protected_of, data_of, word_of, HasRightCrc, has_right_crc, page_crc, IsHalf, IsSplit, bytes_of_half, even_of, odd_of, odd_before_crc}
+use Rattle.inav_page.specs.Pages.{digits_at, kind_of, kept_of, protected_of, data_of, word_of, HasRightCrc, has_right_crc, page_crc, IsHalf, IsSplit, bytes_of_half, even_of, odd_of, odd_before_crc}
 use Rattle.nav_bits.proofs.Surface.{number_at-of_whole, number_at-bytes_of, bytes_of-length, bytes_of-lt, same_from_number}
 
--- ---- the used bits
+-- ---- what is kept
 
 kept-even : (n : ℕ) → n < 2 ^ 119 → kept_of n ≡ n / 2 ^ 6 * 2 ^ 6
 kept-even n h = cond-true _ _ _ (lt-ltb n (2 ^ 119) h)
@@ -22,8 +22,8 @@ kept-even n h = cond-true _ _ _ (lt-ltb n (2 ^ 119) h)
 kept-odd : (n : ℕ) → 2 ^ 119 ≤ n → kept_of n ≡ n / 2 ^ 14 * 2 ^ 14
 kept-odd n h = cond-false _ _ _ (le-ltb n (2 ^ 119) h)
 
--- the used bits of a nominal page part are a valid part
-pub kept_is_half : (n : ℕ) → n < 2 ^ 120 → bits_at n 1 1 ≡ 0 → IsHalf (kept_of n)
+-- what is kept of a nominal part is a half
+pub kept_is_half : (n : ℕ) → n < 2 ^ 120 → digits_at n 1 1 ≡ 0 → IsHalf (kept_of n)
 kept_is_half n fits nominal =
     let P : ℕ → Type 0 = IsHalf in
     ⊎_elim
@@ -33,19 +33,19 @@ kept_is_half n fits nominal =
     subst P (sym (kept-odd n odd)) (record { fits = omega arith; nominal = omega (arith, nominal); kept = kept-odd k (omega arith) ∙ omega arith }))
     (cases_lt n (2 ^ 119))
 
--- an even part that ends in six 0 bits
+-- an even part that ends in six bits 0
 pub even_is_half : (n : ℕ) → n < 2 ^ 118 → n / 2 ^ 6 * 2 ^ 6 ≡ n → IsHalf n
 even_is_half n fits tail = record { fits = omega arith; nominal = omega arith; kept = kept-even n (omega arith) ∙ tail }
 
 pub odd_is_half : (n : ℕ) → 2 ^ 119 ≤ n → n < 2 ^ 119 + 2 ^ 118 → n / 2 ^ 14 * 2 ^ 14 ≡ n → IsHalf n
 odd_is_half n odd fits tail = record { fits = omega arith; nominal = omega arith; kept = kept-odd n odd ∙ tail }
 
--- ---- the bits of a page part
+-- ---- the bits of a half
 
 pub half_number : (n : ℕ) (bits : List ℕ) → n < 2 ^ 120 → bytes_of_half n ≡ bits → number_at bits 0 120 ≡ n
 half_number n bits fits same = ap (λ b. number_at b 0 120) (sym same) ∙ number_at-bytes_of 15 n ∙ mod-eq_of_lt fits
 
-pub type_of_number : (bits : List ℕ) → bits_at (number_at bits 0 120) 1 1 ≡ number_at bits 1 1
+pub type_of_number : (bits : List ℕ) → digits_at (number_at bits 0 120) 1 1 ≡ number_at bits 1 1
 type_of_number bits = number_at-of_whole bits 1 1 118
 
 -- the number as the code reads it, in two pieces
@@ -74,11 +74,11 @@ page_crc_is even odd =
 pub right_to : (even odd : ℕ) → has_right_crc even odd ≡ true → HasRightCrc even odd
 right_to even odd e =
     let P : ℕ → Type 0 = IsCrc (protected_of even odd) in
-    subst P (eqb-true (page_crc even odd) (bits_at odd 82 24) e) (page_crc_is even odd)
+    subst P (eqb-true (page_crc even odd) (digits_at odd 82 24) e) (page_crc_is even odd)
 
 pub right_from : (even odd : ℕ) → HasRightCrc even odd → has_right_crc even odd ≡ true
 right_from even odd is =
-    eq-eqb (page_crc even odd) (bits_at odd 82 24) (one_remainder (protected_of even odd) (page_crc even odd) (bits_at odd 82 24) (page_crc_is even odd) is)
+    eq-eqb (page_crc even odd) (digits_at odd 82 24) (one_remainder (protected_of even odd) (page_crc even odd) (digits_at odd 82 24) (page_crc_is even odd) is)
 
 pow_256 : (k : ℕ) → 256 ^ k ≡ 2 ^ (8 * k)
 pow_256 zero = refl
@@ -104,13 +104,13 @@ two_pieces (suc k) n =
     ∙ ap (λ b. b ∷ bytes_high_first (k + 9) n) (byte_above k n)
     ∙ ap (λ bs. byte_at k (n / 2 ^ 72) ∷ bs) (two_pieces k n)
 
--- the low bytes depend only on the low bits
+-- the lowest bytes rest on the lowest digits
 low_bytes : (n m : ℕ) → n % 2 ^ 72 ≡ m % 2 ^ 72 → bytes_high_first 9 n ≡ bytes_high_first 9 m
 low_bytes n m same =
     same_from_number (bytes_high_first 9 n) (bytes_high_first 9 m) 9 (bytes_of-length 9 n) (bytes_of-length 9 m) (bytes_of-lt 9 n) (bytes_of-lt 9 m)
     (number_at-bytes_of 9 n ∙ same ∙ sym (number_at-bytes_of 9 m))
 
--- the bytes whose CRC the code computes are those of the 196 bits
+-- the bytes of which the code takes the CRC are those of the 196 bits
 pub crc_of_pieces : (bytes : List ℕ) (even odd e o : ℕ) → e ≡ even / 2 ^ 6 % 2 ^ 114 → o ≡ odd / 2 ^ 38 % 2 ^ 82
     → bytes ≡ bytes_high_first 16 (e * 2 ^ 10 + o / 2 ^ 72) ++ bytes_high_first 9 o
     → crc_from 0 bytes ≡ page_crc even odd
@@ -127,7 +127,7 @@ crc_of_pieces bytes even odd e o e_is o_is bytes_are =
 
 -- ---- the word
 
--- the word of its page parts
+-- the word of the parts that are made of it
 pub word_again : (word : List ℕ) (even odd crc : ℕ) → length word ≡ 16 → ((i : ℕ) → slice_index word i < 256)
     → even ≡ number_at word 0 112 * 2 ^ 6 → odd ≡ 2 ^ 119 + number_at word 112 16 * 2 ^ 102 + crc * 2 ^ 14 → crc < 2 ^ 24
     → word_of even odd ≡ word
@@ -158,7 +158,7 @@ odd_of_word word crc fits =
     odd_is_half (2 ^ 119 + number_at word 112 16 * 2 ^ 102 + crc * 2 ^ 14) (omega arith) (omega (arith, fits, number_at-lt word 112 16)) (omega arith)
 
 -- the CRC of the page in its place
-pub crc_in_place : (d crc : ℕ) → d < 2 ^ 16 → crc < 2 ^ 24 → bits_at (2 ^ 119 + d * 2 ^ 102 + crc * 2 ^ 14) 82 24 ≡ crc
+pub crc_in_place : (d crc : ℕ) → d < 2 ^ 16 → crc < 2 ^ 24 → digits_at (2 ^ 119 + d * 2 ^ 102 + crc * 2 ^ 14) 82 24 ≡ crc
 crc_in_place d crc fits fits' = omega (arith, fits, fits')
 
 pub crc_is_right : (even d crc : ℕ) → d < 2 ^ 16 → crc < 2 ^ 24 → crc ≡ page_crc even (2 ^ 119 + d * 2 ^ 102)
@@ -167,20 +167,20 @@ crc_is_right even d crc fits fits' is =
     let first = 2 ^ 119 + d * 2 ^ 102 in
     let odd = 2 ^ 119 + d * 2 ^ 102 + crc * 2 ^ 14 in
     let same : protected_of even first ≡ protected_of even odd = omega (arith, fits, fits') in
-    let P : ℕ → Type 0 = λ p. IsCrc p (bits_at odd 82 24) in
+    let P : ℕ → Type 0 = λ p. IsCrc p (digits_at odd 82 24) in
     let Q : ℕ → Type 0 = IsCrc (protected_of even first) in
     subst P same (subst Q (sym is ∙ sym (crc_in_place d crc fits fits')) (page_crc_is even first))
 
--- ---- bit offsets
+-- ---- places
 
-bits_by : List ℕ → ℕ → ℕ → ℕ
-bits_by bits width rest = number_at bits 0 120 / 2 ^ rest % 2 ^ width
+digits_by : List ℕ → ℕ → ℕ → ℕ
+digits_by bits width rest = number_at bits 0 120 / 2 ^ rest % 2 ^ width
 
-pub digits_of_bits : (bits : List ℕ) (at width rest : ℕ) → at + width + rest ≡ 120 → bits_at (number_at bits 0 120) at width ≡ number_at bits at width
-unfolding bits_by
+pub digits_of_bits : (bits : List ℕ) (at width rest : ℕ) → at + width + rest ≡ 120 → digits_at (number_at bits 0 120) at width ≡ number_at bits at width
+unfolding digits_by
 digits_of_bits bits at width rest all =
     let left : 120 - at - width ≡ rest = omega (arith, all) in
-    ap (bits_by bits width) left
+    ap (digits_by bits width) left
     ∙ sym (ap (λ n. number_at bits 0 n / 2 ^ rest % 2 ^ width) all)
     ∙ number_at-of_whole bits at width rest
 
@@ -189,24 +189,24 @@ digits_of_bits bits at width rest all =
 even-lt : (word : List ℕ) → even_of word < 2 ^ 118
 even-lt word = omega (arith, number_at-lt word 0 112)
 
--- the functions give the page parts of a word
+-- the parts of the functions are those of a word
 pub parts_split : (word : List ℕ) → IsSplit word (even_of word) (odd_of word)
 parts_split word =
     let d = number_at word 112 16 in
     let crc = page_crc (even_of word) (odd_before_crc word) in
     let fits : crc < 2 ^ 24 = (page_crc_is (even_of word) (odd_before_crc word)).fits in
-    let in_place : bits_at (odd_of word) 82 24 ≡ crc = crc_in_place d crc (number_at-lt word 112 16) fits in
+    let in_place : digits_at (odd_of word) 82 24 ≡ crc = crc_in_place d crc (number_at-lt word 112 16) fits in
     record {
       even_is = refl;
       odd_is = ap (λ n. odd_before_crc word + n * 2 ^ 14) (sym in_place);
       crc = crc_is_right (even_of word) d crc (number_at-lt word 112 16) fits refl;
     }
 
--- and no others
+-- and a word has no other parts
 pub only_parts : (word : List ℕ) (even odd : ℕ) → IsSplit word even odd → (even ≡ even_of word) × (odd ≡ odd_of word)
 only_parts word even odd h =
     let d = number_at word 112 16 in
-    let held = bits_at odd 82 24 in
+    let held = digits_at odd 82 24 in
     let fits : held < 2 ^ 24 = h.crc.fits in
     let whole : odd ≡ odd_before_crc word + held * 2 ^ 14 = h.odd_is in
     let same : protected_of even odd ≡ protected_of (even_of word) (odd_before_crc word) =
@@ -231,13 +231,13 @@ even_part_is_even word = cond-true _ _ _ (lt-ltb (even_of word) (2 ^ 119) (let l
 pub odd_part_is_odd : (word : List ℕ) → kind_of (odd_of word) ≡ Odd
 odd_part_is_odd word = cond-false _ _ _ (le-ltb (odd_of word) (2 ^ 119) (omega arith))
 
--- the word of the page parts
+-- the word of the parts
 pub word_of_parts : (word : List ℕ) → AreBytes 16 word → word_of (even_of word) (odd_of word) ≡ word
 word_of_parts word bytes =
     let crc = page_crc (even_of word) (odd_before_crc word) in
     word_again word (even_of word) (odd_of word) crc bytes.count_is bytes.fit refl refl
     (page_crc_is (even_of word) (odd_before_crc word)).fits
 
--- reading the bytes of a page part gives the part
+-- what is kept of the bytes of a half is the half
 pub half_again : (half : ℕ) → IsHalf half → kept_of (number_at (bytes_of_half half) 0 120) ≡ half
 half_again half is = ap kept_of (half_number half (bytes_of_half half) is.fits refl) ∙ is.kept

@@ -1,4 +1,4 @@
--- The partners of a page part among the keys, and the words that it makes with them.
+-- The partners of a half among the keys, and the words that it makes with them.
 use Rattle.std.proofs.Common.{◌≡◌, ℕ, zero, suc, ◌+◌, ◌-◌, ◌*◌, ◌/◌, ◌%◌, ◌<◌, ◌≤◌, ◌^◌, List, [], ◌∷◌, ◌++◌, Bool, true, length, map, None, Some, inl, inr, refl, sym, ap, subst, ◌∙◌, ⊎_elim, arith}
 use Rattle.std.proofs.lemmas.Bool.{cond_both}
 use Rattle.std.proofs.lemmas.List.{map-append, length-map}
@@ -18,14 +18,14 @@ use Rattle.nav_eph.specs.declared.signal.Signal.TheVariants.{E1b, E5b}
 use Rattle.inav_page.specs.Pages.{kind_of}
 use Rattle.inav_page.specs.Heard.{StampedHalf, MakeWord, ArePartners, AreWordsWith, IsAbove, IsAscending, word_by, word_with}
 use Rattle.inav_page.specs.Keeping.{stamped}
-use Rattle.inav_page.specs.Mirrors.{signal_number, signal_of, place_of, bucket_of, half_of, remainder_by, remainder_of, key_cmp, first_partner, end_of_partners, keys_in_bucket, words_by, words_in_bucket, IsKey, AreKeys, IsSecondOf, HasPartnerStamp}
+use Rattle.inav_page.specs.Mirrors.{signal_number, signal_of, place_of, slot_of, half_of, remainder_by, remainder_of, key_cmp, first_partner, end_of_partners, keys_in_slot, words_by, words_in_slot, IsKey, AreKeys, IsSecondOf, HasPartnerStamp}
 use Rattle.inav_page.proofs.Surface.{not_both}
 use Rattle.inav_page.proofs.PageNumbers.{right_to, right_from}
 use Rattle.inav_page.proofs.Remainders.{is_right_by, same_remainder, right_by_remainder, remainder-lt}
 use Rattle.inav_page.proofs.Membership.{In, contains_from_In, In-from_contains, filter_in, in_filter, in_map, map_in}
 use Rattle.inav_page.proofs.KeyOrder.{key_lt, in_range, range_to, range_from, other_kind}
 
--- ---- keys and page parts
+-- ---- keys and halves
 
 signal_again : (signal : Signal) → signal_of (signal_number signal) ≡ signal
 signal_again E1b = refl
@@ -40,7 +40,7 @@ signal_back zero h = refl
 signal_back (suc zero) h = refl
 signal_back (suc (suc n)) h = absurd (omega (arith, h))
 
--- the page part of a key at a place
+-- the half of a key at a place
 pub half_of_place : (stamp number : ℕ) (signal : Signal) (key : ℕ × ℕ) → number < 64 → key.0 / 2 ^ 24 ≡ place_of stamp number signal
     → half_of key ≡ stamped stamp (record { system = Gal; number = number }) signal key.1
 half_of_place stamp number signal key fits at =
@@ -55,33 +55,33 @@ half_of_place stamp number signal key fits at =
 stamp_at_place : (stamp number : ℕ) (signal : Signal) (place : ℕ) → number < 64 → place ≡ place_of stamp number signal → place / 128 ≡ stamp
 stamp_at_place stamp number signal place fits at = let small = signal_number-lt signal in omega (arith, at, small, fits)
 
--- the place of a page part
+-- the place of a half
 pub place_back : (key : ℕ × ℕ) → key.0 / 2 ^ 24 ≡ place_of (half_of key).stamp (half_of key).sat.number (half_of key).signal
 place_back key =
     let lane : signal_number (signal_of (key.0 / 2 ^ 24 % 2)) ≡ key.0 / 2 ^ 24 % 2 = signal_back (key.0 / 2 ^ 24 % 2) (omega arith) in
     omega (arith, lane)
 
--- a bucket by its place and its CRC remainder
-bucket_parts : (bucket place remainder : ℕ) → remainder < 2 ^ 24 → bucket ≡ bucket_of place remainder
-    → (bucket / 2 ^ 24 ≡ place) × (bucket % 2 ^ 24 ≡ remainder)
-bucket_parts bucket place remainder fits is = (omega arith, omega arith)
+-- a slot by its place and its remainder
+slot_parts : (slot place remainder : ℕ) → remainder < 2 ^ 24 → slot ≡ slot_of place remainder
+    → (slot / 2 ^ 24 ≡ place) × (slot % 2 ^ 24 ≡ remainder)
+slot_parts slot place remainder fits is = (omega arith, omega arith)
 
-whole_bucket : (bucket : ℕ) → bucket ≡ bucket / 2 ^ 24 * 2 ^ 24 + bucket % 2 ^ 24
-whole_bucket bucket = omega arith
+whole_slot : (slot : ℕ) → slot ≡ slot / 2 ^ 24 * 2 ^ 24 + slot % 2 ^ 24
+whole_slot slot = omega arith
 
--- different keys have different page parts
+-- no two keys have the same half
 pub same_key : (a b : ℕ × ℕ) → IsKey a → IsKey b → half_of a ≡ half_of b → a ≡ b
 same_key a b first second e =
     let place : a.0 / 2 ^ 24 ≡ b.0 / 2 ^ 24 =
     place_back a ∙ ap (λ h. place_of h.stamp h.sat.number h.signal) e ∙ sym (place_back b) in
     let bits : a.1 ≡ b.1 = ap (λ h. h.half) e in
     let remainder : a.0 % 2 ^ 24 ≡ b.0 % 2 ^ 24 = first.remainder ∙ ap remainder_of bits ∙ sym second.remainder in
-    let at : a.0 ≡ b.0 = omega (arith, whole_bucket a.0, whole_bucket b.0, place, remainder) in
+    let at : a.0 ≡ b.0 = omega (arith, whole_slot a.0, whole_slot b.0, place, remainder) in
     λ i. (at i, bits i)
 
 -- ---- partners, one by one
 
--- when a key is the partner of a page part of that kind and stamp
+-- what makes a key the partner of a half of that kind at a stamp
 pub is_partner : (stamp number : ℕ) (signal : Signal) (half other : ℕ) (kind : HalfKind) (key : ℕ × ℕ) → kind_of half ≡ kind → number < 64
     → HasPartnerStamp kind stamp (Some other) → key.0 / 2 ^ 24 ≡ place_of other number signal → kind_of key.1 ≡ other_kind kind → is_right_by kind half key.1 ≡ true
     → ArePartners (stamped stamp (record { system = Gal; number = number }) signal half) (half_of key)
@@ -131,7 +131,7 @@ partner_place stamp number signal half other Odd key kind_is has partners =
     ))
     partners
 
--- a page part whose partners would have a stamp below 0 or above 2^32 - 1 has none
+-- a half whose partners would come before the first second, or after the last, has none
 pub no_partner : (stamp number : ℕ) (signal : Signal) (half : ℕ) (kind : HalfKind) (key : ℕ × ℕ) → kind_of half ≡ kind
     → HasPartnerStamp kind stamp None → IsKey key
     → ArePartners (stamped stamp (record { system = Gal; number = number }) signal half) (half_of key) → ⊥
@@ -180,42 +180,42 @@ map-map : {X Y Z : Type 0} (f : Y → Z) (g : X → Y) (xs : List X) → map f (
 map-map f g [] = refl
 map-map f g (x ∷ xs) = ap (λ ys. f (g x) ∷ ys) (map-map f g xs)
 
-in_bucket : (keys : List (ℕ × ℕ)) (bucket : ℕ) (kind : HalfKind) (key : ℕ × ℕ) → In (keys_in_bucket keys bucket kind) key
-    → In keys key × (key.0 ≡ bucket) × (kind_of key.1 ≡ other_kind kind)
-unfolding keys_in_bucket
-in_bucket keys bucket kind key h =
-    let there = filter_in (in_range bucket kind) keys key h in
-    let where_is = range_to bucket kind key there.1 in
+in_slot : (keys : List (ℕ × ℕ)) (slot : ℕ) (kind : HalfKind) (key : ℕ × ℕ) → In (keys_in_slot keys slot kind) key
+    → In keys key × (key.0 ≡ slot) × (kind_of key.1 ≡ other_kind kind)
+unfolding keys_in_slot
+in_slot keys slot kind key h =
+    let there = filter_in (in_range slot kind) keys key h in
+    let where_is = range_to slot kind key there.1 in
     (there.0, where_is.0, where_is.1)
 
-stands_in_bucket : (keys : List (ℕ × ℕ)) (bucket : ℕ) (kind : HalfKind) (key : ℕ × ℕ) → In keys key → key.0 ≡ bucket
-    → kind_of key.1 ≡ other_kind kind → In (keys_in_bucket keys bucket kind) key
-unfolding keys_in_bucket
-stands_in_bucket keys bucket kind key there at its = in_filter (in_range bucket kind) keys key there (range_from bucket kind key at its)
+stands_in_slot : (keys : List (ℕ × ℕ)) (slot : ℕ) (kind : HalfKind) (key : ℕ × ℕ) → In keys key → key.0 ≡ slot
+    → kind_of key.1 ≡ other_kind kind → In (keys_in_slot keys slot kind) key
+unfolding keys_in_slot
+stands_in_slot keys slot kind key there at its = in_filter (in_range slot kind) keys key there (range_from slot kind key at its)
 
-sorted_in_bucket : (keys : List (ℕ × ℕ)) (bucket : ℕ) (kind : HalfKind) → IsStrictlySortedBy key_cmp keys
-    → IsStrictlySortedBy key_cmp (keys_in_bucket keys bucket kind)
-unfolding keys_in_bucket
-sorted_in_bucket keys bucket kind sorted = IsStrictlySortedBy-filter key_cmp (in_range bucket kind) keys sorted
+sorted_in_slot : (keys : List (ℕ × ℕ)) (slot : ℕ) (kind : HalfKind) → IsStrictlySortedBy key_cmp keys
+    → IsStrictlySortedBy key_cmp (keys_in_slot keys slot kind)
+unfolding keys_in_slot
+sorted_in_slot keys slot kind sorted = IsStrictlySortedBy-filter key_cmp (in_range slot kind) keys sorted
 
--- the CRC remainder of a key whose page part is of a kind
+-- the remainder of a key whose half is of a kind
 remainder_of_kind : (key : ℕ × ℕ) (kind : HalfKind) → IsKey key → kind_of key.1 ≡ kind → key.0 % 2 ^ 24 ≡ remainder_by kind key.1
 remainder_of_kind key kind is own = is.remainder ∙ ap (λ k. remainder_by k key.1) own
 
--- the words in the partners' bucket, among the keys of their second, are those of the page part with its partners among all
-pub words_of_partners : (all second : List (ℕ × ℕ)) (stamp number : ℕ) (signal : Signal) (half other bucket : ℕ) → AreKeys all
+-- the words in the slot of the partners, among the keys of their second, are those of the half with its partners among all
+pub words_of_partners : (all second : List (ℕ × ℕ)) (stamp number : ℕ) (signal : Signal) (half other slot : ℕ) → AreKeys all
     → IsSecondOf all other second → IsStrictlySortedBy key_cmp second → number < 64 → HasPartnerStamp (kind_of half) stamp (Some other)
-    → bucket ≡ bucket_of (place_of other number signal) (remainder_of half)
-    → AreWordsWith (Contains (map half_of all)) (stamped stamp (record { system = Gal; number = number }) signal half) (words_in_bucket second bucket half)
-words_of_partners all second stamp number signal half other bucket are those sorted fits has bucket_is =
+    → slot ≡ slot_of (place_of other number signal) (remainder_of half)
+    → AreWordsWith (Contains (map half_of all)) (stamped stamp (record { system = Gal; number = number }) signal half) (words_in_slot second slot half)
+words_of_partners all second stamp number signal half other slot are those sorted fits has slot_is =
     let kind = kind_of half in
     let place = place_of other number signal in
     let taken = stamped stamp (record { system = Gal; number = number }) signal half in
-    let found = keys_in_bucket second bucket kind in
-    let parts = bucket_parts bucket place (remainder_of half) (remainder-lt kind half) bucket_is in
+    let found = keys_in_slot second slot kind in
+    let parts = slot_parts slot place (remainder_of half) (remainder-lt kind half) slot_is in
     let partner : (key : ℕ × ℕ) → In found key → In all key × ArePartners taken (half_of key) =
     λ key h.
-    let is = in_bucket second bucket kind key h in
+    let is = in_slot second slot kind key h in
     let there : Contains all key = ((those.0 key).0 (contains_from_In second key is.0)).0 in
     let own = remainder_of_kind key (other_kind kind) (are key there) is.2 in
     let here : key.0 / 2 ^ 24 ≡ place = ap (λ n. n / 2 ^ 24) is.1 ∙ parts.0 in
@@ -226,11 +226,11 @@ words_of_partners all second stamp number signal half other bucket are those sor
     let is = partner_place stamp number signal half other kind key refl has partners in
     let own = remainder_of_kind key (other_kind kind) (are key (contains_from_In all key there)) is.1 in
     let same : remainder_by kind half ≡ remainder_by (other_kind kind) key.1 = same_remainder kind half key.1 is.2 in
-    let rest : key.0 % 2 ^ 24 ≡ bucket % 2 ^ 24 = own ∙ sym same ∙ sym parts.1 in
-    let prefix : key.0 / 2 ^ 24 ≡ bucket / 2 ^ 24 = is.0 ∙ sym parts.0 in
+    let rest : key.0 % 2 ^ 24 ≡ slot % 2 ^ 24 = own ∙ sym same ∙ sym parts.1 in
+    let prefix : key.0 / 2 ^ 24 ≡ slot / 2 ^ 24 = is.0 ∙ sym parts.0 in
     let its : (half_of key).stamp ≡ other = stamp_at_place other number signal (key.0 / 2 ^ 24) fits is.0 in
     let of_second : In second key = In-from_contains second key ((those.0 key).1 (contains_from_In all key there, its)) in
-    stands_in_bucket second bucket kind key of_second (omega (arith, whole_bucket key.0, whole_bucket bucket, rest, prefix)) is.1 in
+    stands_in_slot second slot kind key of_second (omega (arith, whole_slot key.0, whole_slot slot, rest, prefix)) is.1 in
     record {
       partners = map half_of found;
       each = λ one. (
@@ -244,7 +244,7 @@ words_of_partners all second stamp number signal half other bucket are those sor
             subst Q key.2 (contains_from_In (map half_of found) (half_of key.0)
             (in_map half_of found key.0 (stands key.0 key.1 (subst P (sym key.2) h.1)))),
       );
-      ascending = keys_ascend bucket found (λ key h. (in_bucket second bucket kind key h).1) (sorted_in_bucket second bucket kind sorted);
+      ascending = keys_ascend slot found (λ key h. (in_slot second slot kind key h).1) (sorted_in_slot second slot kind sorted);
       words_are = sym (map-map (word_with taken) half_of found);
     }
 
@@ -263,7 +263,7 @@ no_words keys taken none = record {
   words_are = refl;
 }
 
--- for instance where no second has their stamp
+-- as where there is no second that they could be of
 pub no_words_at_ends : (keys : List (ℕ × ℕ)) (stamp number : ℕ) (signal : Signal) (half : ℕ) → AreKeys keys
     → HasPartnerStamp (kind_of half) stamp None
     → AreWordsWith (Contains (map half_of keys)) (stamped stamp (record { system = Gal; number = number }) signal half) []
@@ -281,7 +281,7 @@ no_words_of_none keys stamp number signal half other fits has those =
     let is = partner_place stamp number signal half other (kind_of half) key refl has partners in
     In-from_contains [] key ((those.0 key).1 (there, stamp_at_place other number signal (key.0 / 2 ^ 24) fits is.0)))
 
--- ---- words, as the code finds them in sequence
+-- ---- words, as the code finds them one after another
 
 pub found_more : {A : Type 0} (shows : A → ℕ × ℕ) (kind : HalfKind) (half : ℕ) (ys : List A) (y : A) (words : List (List ℕ)) (w : List ℕ)
     → words ≡ words_by kind half (map shows ys) → w ≡ word_by kind half (shows y).1
@@ -292,13 +292,13 @@ found_more shows kind half ys y words w so is =
     ∙ sym (ap (words_by kind half) (map-append shows ys (y ∷ []))
     ∙ map-append (λ key. word_by kind half key.1) (map shows ys) (shows y ∷ []))
 
--- the range that the code searches
-pub range_is : (keys : List (ℕ × ℕ)) (bucket : ℕ) (kind : HalfKind) (start end : ℕ × ℕ) → start ≡ first_partner bucket kind → end ≡ end_of_partners bucket kind
-    → filter (range_contains key_cmp (Included start) (Excluded end)) keys ≡ keys_in_bucket keys bucket kind
-unfolding keys_in_bucket
-range_is keys bucket kind start end first last =
+-- the range that the code asks for
+pub range_is : (keys : List (ℕ × ℕ)) (slot : ℕ) (kind : HalfKind) (start end : ℕ × ℕ) → start ≡ first_partner slot kind → end ≡ end_of_partners slot kind
+    → filter (range_contains key_cmp (Included start) (Excluded end)) keys ≡ keys_in_slot keys slot kind
+unfolding keys_in_slot
+range_is keys slot kind start end first last =
     ap (λ s. filter (range_contains key_cmp (Included s) (Excluded end)) keys) first
-    ∙ ap (λ e. filter (range_contains key_cmp (Included (first_partner bucket kind)) (Excluded e)) keys) last
+    ∙ ap (λ e. filter (range_contains key_cmp (Included (first_partner slot kind)) (Excluded e)) keys) last
 
 -- ---- how many
 
@@ -309,12 +309,12 @@ filter-fewer p (key ∷ keys) =
     let fewer = filter-fewer p keys in
     cond_both (p key) (key ∷ filter p keys) (filter p keys) P (λ passes. omega (arith, fewer)) (λ fails. omega (arith, fewer))
 
-pub words-fewer : (keys : List (ℕ × ℕ)) (bucket half : ℕ) → length (words_in_bucket keys bucket half) ≤ length keys
-unfolding keys_in_bucket
-words-fewer keys bucket half =
+pub words-fewer : (keys : List (ℕ × ℕ)) (slot half : ℕ) → length (words_in_slot keys slot half) ≤ length keys
+unfolding keys_in_slot
+words-fewer keys slot half =
     let kind = kind_of half in
     omega (
       arith,
-      length-map (keys_in_bucket keys bucket kind) (λ key. word_by kind half key.1),
-      filter-fewer (in_range bucket kind) keys,
+      length-map (keys_in_slot keys slot kind) (λ key. word_by kind half key.1),
+      filter-fewer (in_range slot kind) keys,
     )

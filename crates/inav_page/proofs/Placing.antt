@@ -1,4 +1,4 @@
--- The ring buffer of seconds: finding a second and inserting a key.
+-- What stands in the seconds of a window, when one is found and when a key is put in.
 use Rattle.std.proofs.Common.{◌≡◌, ℕ, zero, suc, ◌+◌, ◌-◌, ◌*◌, ◌/◌, ◌%◌, ◌<◌, ◌≤◌, max, nat_lt, nat_eq, ◌⊎◌, ◌↔◌, List, [], ◌∷◌, ◌++◌, Some, None, length, inl, inr, refl, sym, ap, subst, ◌∙◌, ⊎_elim, arith}
 use Rattle.std.proofs.lemmas.Bool.{cases_lt, cases_order, cases_eq, cond_both, cond-true, cond-false, lt-ltb, le-ltb, eq-eqb, ne_eqb}
 use Rattle.std.proofs.lemmas.List.{length-append}
@@ -88,7 +88,7 @@ fewer_in window greatest (x ∷ xs) (suc i) second at late =
 
 -- ---- places
 
--- two different stamps of one slot differ by at least the number of slots
+-- of two stamps with one place, the later is later by at least as many as there are places
 same_place : (a b m : ℕ) → a % m ≡ b % m → a < b → a + m ≤ b
 same_place a b m same less =
     let first : m * (a / m) + a % m ≡ a = div-add-mod a m in
@@ -104,7 +104,7 @@ same_place a b m same less =
     absurd (omega (arith, first, second, same, spread, less)))
     (cases_lt (a / m) (b / m))
 
--- two stamps of one slot within the window are equal
+-- where two stamps of one place are both within the window, they are the same
 one_stamp : (window greatest place a b : ℕ) → place ≡ a % (window + 2) → place ≡ b % (window + 2) → a ≤ greatest → b ≤ greatest
     → greatest ≤ a + window + 1 → greatest ≤ b + window + 1 → a ≡ b
 one_stamp window greatest place a b first second low_a low_b late_a late_b =
@@ -116,14 +116,14 @@ one_stamp window greatest place a b first second low_a low_b late_a late_b =
     (λ (more : b < a). absurd (let far = same_place b a (window + 2) (sym same) more in omega (arith, far, low_a, late_b))))
     (cases_order a b)
 
--- ---- all stored are keys
+-- ---- what is kept are keys
 
 pub are_keys : (seconds : Seconds) → AreSeconds seconds → AreKeys (keys_in seconds)
 are_keys seconds are key h =
     let is = among_to seconds.window seconds.greatest seconds.places.items key (In-from_contains (keys_in seconds) key h) in
     (are.placed is.0 is.1 is.2 key (contains_from_In is.1.keys.keys key is.4)).is_key
 
--- no stamp is above the greatest, none is too old
+-- none is later than the greatest, none too old
 pub in_window : (seconds : Seconds) (key : ℕ × ℕ) → AreSeconds seconds → Contains (keys_in seconds) key
     → ((half_of key).stamp ≤ seconds.greatest) × IsRecent seconds.window seconds.greatest (half_of key)
 in_window seconds key are h =
@@ -134,9 +134,9 @@ in_window seconds key are h =
     let early = at.early in
     (omega (arith, same, early), omega (arith, same, late))
 
--- ---- finding a second
+-- ---- a second is found
 
--- the second at the slot of a stamp, which is not too old, and has that stamp
+-- a second that stands at the place of a stamp, which is not too old, and has that stamp
 pub found : (seconds : Seconds) (stamp place : ℕ) (second : Second) → AreSeconds seconds → slice_get seconds.places.items place ≡ Some second
     → place ≡ stamp % (seconds.window + 2) → (stamp + seconds.window + 1 < seconds.greatest → ⊥) → second.stamp ≡ stamp
     → IsSecondOf (keys_in seconds) stamp second.keys.keys
@@ -166,13 +166,13 @@ none_of all stamp none = (
   omega arith,
 )
 
--- a stamp that is too old has no keys
+-- a stamp that is too old has none
 pub none_too_old : (seconds : Seconds) (stamp : ℕ) → AreSeconds seconds → stamp + seconds.window + 1 < seconds.greatest
     → IsSecondOf (keys_in seconds) stamp []
 none_too_old seconds stamp are old =
     none_of (keys_in seconds) stamp (λ key h same. let late = (in_window seconds key are h).1 in omega (arith, late, same, old))
 
--- nor one without a slot
+-- nor one with no place
 pub none_outside : (seconds : Seconds) (stamp place : ℕ) → AreSeconds seconds → slice_get seconds.places.items place ≡ None
     → place ≡ stamp % (seconds.window + 2) → IsSecondOf (keys_in seconds) stamp []
 none_outside seconds stamp place are at place_is =
@@ -183,7 +183,7 @@ none_outside seconds stamp place are at place_is =
     let P : ℕ → Type 0 = λ i. slice_get seconds.places.items i ≡ Some is.1 in
     cc (subst P here is.2, at))
 
--- nor one whose slot has another second
+-- nor one whose place another second has
 pub none_of_another : (seconds : Seconds) (stamp place : ℕ) (second : Second) → AreSeconds seconds → slice_get seconds.places.items place ≡ Some second
     → place ≡ stamp % (seconds.window + 2) → (second.stamp ≡ stamp → ⊥) → IsSecondOf (keys_in seconds) stamp []
 none_of_another seconds stamp place second are at place_is other =
@@ -195,7 +195,7 @@ none_of_another seconds stamp place second are at place_is other =
     let one : is.1 ≡ second = some_is is.1 second (sym (subst P here is.2) ∙ at) in
     other (ap (λ (s : Second). s.stamp) (sym one) ∙ sym its.stamp_is ∙ same))
 
--- ---- allocating slots
+-- ---- places are made
 
 -- one more second with no keys
 pub adds_empty : (old now new : List Second) (empty : Second) → empty.keys.keys ≡ [] → KeepsKeys old now → new ≡ now ++ empty ∷ [] → KeepsKeys old new
@@ -227,7 +227,7 @@ adds_empty old now new empty none so is window greatest =
     where_is (s ∷ ss) zero second at = inl at
     where_is (s ∷ ss) (suc i) second at = where_is ss i second at
 
--- ---- inserting a key
+-- ---- a key is put in
 
 set_here : (seconds : List Second) (i : ℕ) (was second : Second) → slice_get seconds i ≡ Some was → slice_get (slice_set seconds i second) i ≡ Some second
 set_here [] i was second at = absurd (cc at)
@@ -241,7 +241,7 @@ set_there (x ∷ xs) zero (suc j) second apart = refl
 set_there (x ∷ xs) (suc i) zero second apart = refl
 set_there (x ∷ xs) (suc i) (suc j) second apart = set_there xs i j second (λ e. apart (ap suc e))
 
--- a higher greatest stamp leaves fewer recent keys
+-- later, fewer are recent
 fewer_recent : (window greatest raised : ℕ) (x : Second) → greatest ≤ raised
     → length (recent_keys window raised x) ≤ length (recent_keys window greatest x)
 fewer_recent window greatest raised x more =
@@ -275,7 +275,7 @@ of_same stamp second same = cond-true (nat_eq second.stamp stamp) second.keys.ke
 pub of_other : (stamp : ℕ) (second : Second) → (second.stamp ≡ stamp → ⊥) → keys_of stamp second ≡ []
 of_other stamp second other = cond-false (nat_eq second.stamp stamp) second.keys.keys [] (ne_eqb second.stamp stamp other)
 
--- a key in a second of that stamp
+-- what a key in a second of that stamp says
 pub of_to : (stamp : ℕ) (second : Second) (q : ℕ × ℕ) → Contains (keys_of stamp second) q → (second.stamp ≡ stamp) × Contains second.keys.keys q
 of_to stamp second q h =
     ⊎_elim
@@ -285,7 +285,7 @@ of_to stamp second q h =
     absurd (subst P (of_other stamp second other) (In-from_contains (keys_of stamp second) q h)))
     (cases_eq second.stamp stamp)
 
--- the keys of a second after a key of a stamp was inserted
+-- what a second has, once a key of a stamp was put in
 pub record HasPut (stamp : ℕ) (was : Second) (key : ℕ × ℕ) (second : Second) : Type 0 where
   pub stamp_is : second.stamp ≡ stamp
   pub keys : (other : ℕ × ℕ) → Contains second.keys.keys other ↔ (Contains (keys_of stamp was) other ⊎ (key ≡ other))
@@ -306,7 +306,7 @@ module _ (window greatest stamp place : ℕ) (old : List Second) (was second : S
   late : IsLate window raised second
   late = let is = put.stamp_is in omega (arith, is, recent)
 
-  -- the second in the slot is that of the stamp, or too old
+  -- the second that was there is that of the stamp, or too old
   put_to : (q : ℕ × ℕ) (i : ℕ) (s : Second) → slice_get new i ≡ Some s → IsLate window raised s → Contains s.keys.keys q
       → (Contains (keys_among window greatest old) q ⊎ (key ≡ q)) × IsRecent window raised (half_of q)
   put_to q i s there is_late h =

@@ -1,4 +1,4 @@
--- The CRC of a page is the sum of the contributions of its parts, so partners are those with equal CRC remainders.
+-- The CRC of a page is the sum of what its parts contribute, so the partners of a part are those of one remainder.
 use Rattle.std.proofs.Common.{◌≡◌, ℕ, ◌*◌, ◌^◌, ◌<◌, Bool, true, sym, ap, subst, ◌∙◌, arith}
 use Rattle.std.proofs.lemmas.Bool.{eqb-true, eq-eqb}
 use Rattle.std.proofs.lemmas.Nat.{xor_comm, xor_lt}
@@ -8,19 +8,19 @@ use Rattle.crc24q.specs.Division.{IsCrc}
 use Rattle.crc24q.proofs.Surface.{crc_of_sum, one_remainder}
 use Rattle.inav_page.specs.declared.half.HalfKind.{HalfKind}
 use Rattle.inav_page.specs.declared.half.HalfKind.TheVariants.{Even, Odd}
-use Rattle.inav_page.specs.Pages.{bits_at, protected_of, page_crc, has_right_crc}
+use Rattle.inav_page.specs.Pages.{digits_at, protected_of, page_crc, has_right_crc}
 use Rattle.inav_page.specs.Mirrors.{remainder_by}
 use Rattle.inav_page.proofs.PageNumbers.{page_crc_is}
 use Rattle.inav_page.proofs.KeyOrder.{other_kind}
 
--- the protected bits, concatenated, are the sum of both parts
+-- what the parts protect, concatenated, is their sum
 protected-parts : (even odd : ℕ) → bit_xor (protected_of even 0) (protected_of 0 odd) ≡ protected_of even odd
 protected-parts even odd =
-    let first : protected_of even 0 ≡ bits_at even 0 114 * 2 ^ 82 = omega arith in
-    let second : protected_of 0 odd ≡ bits_at odd 0 82 = omega arith in
+    let first : protected_of even 0 ≡ digits_at even 0 114 * 2 ^ 82 = omega arith in
+    let second : protected_of 0 odd ≡ digits_at odd 0 82 = omega arith in
     ap (λ n. bit_xor n (protected_of 0 odd)) first
-    ∙ ap (bit_xor (bits_at even 0 114 * 2 ^ 82)) second
-    ∙ xor_shifted (bits_at even 0 114) 82 (bits_at odd 0 82) (omega arith)
+    ∙ ap (bit_xor (digits_at even 0 114 * 2 ^ 82)) second
+    ∙ xor_shifted (digits_at even 0 114) 82 (digits_at odd 0 82) (omega arith)
 
 pub page_crc-parts : (even odd : ℕ) → page_crc even odd ≡ bit_xor (page_crc even 0) (page_crc 0 odd)
 page_crc-parts even odd =
@@ -33,17 +33,17 @@ page_crc-parts even odd =
 cancel : (a b : ℕ) → bit_xor a (bit_xor a b) ≡ b
 cancel a b = sym (xor_assoc a a b) ∙ ap (λ x. bit_xor x b) (xor_self a) ∙ xor_zero_l b
 
--- two page parts with the right CRC have equal remainders
+-- the remainders of two parts with the right CRC are the same
 right_remainders : (even odd : ℕ) → has_right_crc even odd ≡ true → remainder_by Even even ≡ remainder_by Odd odd
 right_remainders even odd right =
-    let is : page_crc even odd ≡ bits_at odd 82 24 = eqb-true (page_crc even odd) (bits_at odd 82 24) right in
+    let is : page_crc even odd ≡ digits_at odd 82 24 = eqb-true (page_crc even odd) (digits_at odd 82 24) right in
     sym (cancel (page_crc 0 odd) (page_crc even 0))
     ∙ ap (bit_xor (page_crc 0 odd)) (xor_comm (page_crc 0 odd) (page_crc even 0) ∙ sym (page_crc-parts even odd) ∙ is)
 
--- and two page parts with equal remainders have the right CRC
+-- and two parts with the same remainder have the right CRC
 remainders_right : (even odd : ℕ) → remainder_by Even even ≡ remainder_by Odd odd → has_right_crc even odd ≡ true
 remainders_right even odd same =
-    let held = bits_at odd 82 24 in
+    let held = digits_at odd 82 24 in
     eq-eqb (page_crc even odd) held
     (page_crc-parts even odd
     ∙ ap (λ n. bit_xor n (page_crc 0 odd)) same
@@ -52,9 +52,9 @@ remainders_right even odd same =
 
 pub remainder-lt : (kind : HalfKind) (half : ℕ) → remainder_by kind half < 2 ^ 24
 remainder-lt Even half = (page_crc_is half 0).fits
-remainder-lt Odd half = xor_lt 24 (page_crc 0 half) (bits_at half 82 24) (page_crc_is 0 half).fits (omega arith)
+remainder-lt Odd half = xor_lt 24 (page_crc 0 half) (digits_at half 82 24) (page_crc_is 0 half).fits (omega arith)
 
--- ---- two page parts, the first of that kind
+-- ---- of two parts, the first of that kind
 
 abbrev pub is_right_by : HalfKind → ℕ → ℕ → Bool
 is_right_by Even one other = has_right_crc one other

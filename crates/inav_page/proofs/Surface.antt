@@ -1,4 +1,4 @@
--- Lemmas that other crates cite: laws on the words received, for any predicate on page parts, and the page parts of a word.
+-- What crates above cite: laws on the words heard of halves of which any predicate is true, and the parts of a word.
 use Rattle.std.proofs.Common.{◌≡◌, ℕ, ◌<◌, Bool, true, false, List, [], ◌∷◌, ◌⊎◌, ◌↔◌, map, inl, inr, refl, sym, ap, ◌∙◌, ⊎_elim, arith}
 use Rattle.std.proofs.lemmas.Bool.{true≢false}
 use Rattle.inav_page.specs.declared.half.HalfKind.{HalfKind}
@@ -12,18 +12,18 @@ abbrev is_odd : HalfKind → Bool
 is_odd Even = false
 is_odd Odd = true
 
--- no page part is both even and odd
+-- no part is both
 pub not_both : (kind : HalfKind) → kind ≡ Even → kind ≡ Odd → ⊥
 not_both kind even odd = true≢false (ap is_odd (sym odd ∙ even))
 
--- ---- uniqueness of the words
+-- ---- one list of words
 
 above : (bits : ℕ) (xs : List StampedHalf) (x : StampedHalf) → IsAbove bits xs → In xs x → bits < x.half
 above bits [] x h there = absurd there
 above bits (y ∷ ys) x h there =
     ⊎_elim (λ (here : y ≡ x). let e : y.half ≡ x.half = ap (λ z. z.half) here in omega (arith, h.0, e)) (λ (later : In ys x). above bits ys x h.1 later) there
 
--- ascending lists with the same members are equal
+-- ascending lists of the same members are the same
 pub one_ascending : (xs ys : List StampedHalf) → IsAscending xs → IsAscending ys
     → ((x : StampedHalf) → In xs x → In ys x) → ((x : StampedHalf) → In ys x → In xs x) → xs ≡ ys
 one_ascending [] [] a b f g = refl
@@ -61,7 +61,7 @@ one_list_of among taken words more a b =
     (λ x h. In-from_contains a.partners x ((a.each x).1 ((b.each x).0 (contains_from_In b.partners x h)))))
     ∙ sym b.words_are
 
--- ---- one more page part
+-- ---- one half more
 
 pub heard_with_one_more : (among : StampedHalf → Type 0) (taken even odd : StampedHalf)
     → IsHeard (λ half. (taken ≡ half) ⊎ among half) even odd ↔ (IsHeard among even odd ⊎ IsHeardWith among taken even odd)
@@ -85,7 +85,7 @@ heard_with_one_more among taken even odd = (
       h,
 )
 
--- words received stay where page parts are added
+-- where more halves are among them, what was heard is still heard
 pub still_heard : (among more : StampedHalf → Type 0) (even odd : StampedHalf)
     → ((half : StampedHalf) → among half → more half) → IsHeard among even odd → IsHeard more even odd
 still_heard among more even odd all h = record {

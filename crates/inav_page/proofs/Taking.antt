@@ -1,4 +1,4 @@
--- The stored page parts after one is taken, from keys to what contracts see.
+-- What taking a half leaves kept, from keys to the halves that contracts see.
 use Rattle.std.proofs.Common.{◌≡◌, ℕ, ◌+◌, ◌<◌, List, ◌⊎◌, ◌↔◌, map, inl, inr, refl, sym, ap, subst, ◌∙◌, ⊎_elim, arith}
 use Rattle.std.specs.Prelude.{Contains, Result, Ok, Err, IfOk, OnOk}
 use Rattle.nav_eph.specs.Satellite.{Satellite}
@@ -28,7 +28,7 @@ in_key keys key taken are own is there =
     let P : ℕ × ℕ → Type 0 = Contains keys in
     subst P (same_key found.0 key (are found.0 stands) own (found.2 ∙ sym is)) stands
 
--- the stored parts afterwards: of those before and the new one, the recent ones
+-- what is kept after it: of what was there and the half, what is recent
 pub kept_after : (old new : List (ℕ × ℕ)) (key : ℕ × ℕ) (taken : StampedHalf) (window greatest : ℕ) → half_of key ≡ taken
     → ((q : ℕ × ℕ) → Contains new q ↔ ((Contains old q ⊎ (key ≡ q)) × IsRecent window greatest (half_of q)))
     → (other : StampedHalf)
@@ -54,7 +54,7 @@ kept_after old new key taken window greatest is puts other =
           h.0,
     )
 
--- the stored page parts are recent
+-- the halves that are kept are recent
 recent_halves : (seconds : Seconds) → AreSeconds seconds → (other : StampedHalf) → Contains (map half_of (keys_in seconds)) other
     → IsRecent seconds.window seconds.greatest other
 recent_halves seconds are other h =
@@ -62,12 +62,12 @@ recent_halves seconds are other h =
     let q = map_in half_of (keys_in seconds) other (In-from_contains (map half_of (keys_in seconds)) other h) in
     subst R q.2 (in_window seconds q.0 are (contains_from_In (keys_in seconds) q.0 q.1)).1
 
--- a page part that is too old is not stored
+-- a half that is too old is not among them
 pub not_among : (seconds : Seconds) (taken : StampedHalf) → AreSeconds seconds → taken.stamp + seconds.window + 1 < seconds.greatest
     → Contains (map half_of (keys_in seconds)) taken → ⊥
 not_among seconds taken are old h = let late = recent_halves seconds are taken h in omega (arith, late, old)
 
--- and leaves the stored ones unchanged
+-- and leaves what is kept as it is
 pub kept_without : (seconds : Seconds) (taken : StampedHalf) → AreSeconds seconds → taken.stamp + seconds.window + 1 < seconds.greatest
     → (other : StampedHalf) → Contains (map half_of (keys_in seconds)) other
     ↔ ((Contains (map half_of (keys_in seconds)) other ⊎ (taken ≡ other)) × IsRecent seconds.window seconds.greatest other)
@@ -79,7 +79,7 @@ kept_without seconds taken are old other = (
       h.0,
 )
 
--- a key that is stored already changes nothing
+-- a key that is kept already changes nothing
 pub puts_again : (seconds : Seconds) (key : ℕ × ℕ) → AreSeconds seconds → Contains (keys_in seconds) key → PutsKey seconds key seconds
 puts_again seconds key are there =
     let P : ℕ × ℕ → Type 0 = Contains (keys_in seconds) in (
@@ -90,7 +90,7 @@ puts_again seconds key are there =
       omega arith,
     )
 
--- ---- what holds for every result of a call
+-- ---- what holds whatever a call returned
 
 pub if_ok : {A E : Type 0} (r : Result A E) (P : A → Type 0) → ((a : A) → P a) → IfOk r P
 if_ok (Ok a) P h = h a

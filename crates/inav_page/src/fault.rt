@@ -1,9 +1,9 @@
 use thiserror::Error;
 
-/// Why a page part is refused.
+/// Why a part of a page is refused.
 #[derive(Clone, Copy, PartialEq, Eq, Debug, Error)]
 pub enum HalfFault {
-    /// The page type, its second bit, is 1: an alert page, which has no I/NAV word.
+    /// The page type, its second bit, is 1: an alert page, which carries no word.
     #[error("alert page")]
     Alert,
 }

@@ -1,4 +1,4 @@
-//! Single page parts.
+//! The parts of a page, one by one.
 
 ghost use Rattle.std.specs.Prelude.{◌≡◌, ℕ, ◌^◌, ◌*◌, ◌<◌, ◌↔◌, IfOk, IsErr};
 ghost use Rattle.nav_bits.specs.Bits.{number_at};
@@ -8,23 +8,23 @@ use crate::fault::HalfFault;
 use nav_bits::Bits;
 use std::marker::Model;
 
-// As a number of 120 bits, an odd part is at least this: its first bit is 1.
+// The number from which on the first of 120 bits is 1.
 pub(crate) const ODD: u128 = 1 << 119;
 
-/// Even or odd page part, by its first bit, the even/odd bit.
+/// Which part of a page it is, by its first bit, the even/odd bit.
 #[derive(Clone, Copy, PartialEq, Eq, PartialOrd, Ord, Hash)]
 pub enum HalfKind {
-    /// The even part, bit 0, sent first.
+    /// The even part, bit 0: it comes first.
     Even,
-    /// The odd part, bit 1, sent one second later.
+    /// The odd part, bit 1: it comes a second later.
     Odd,
 }
 
-/// The used bits of a page part: the first 114 of an even part, the first 106 of an odd one (82 and
-/// the CRC).
+/// A page part, as what is kept of it: the first 114 bits of an even one, the first 106 of an
+/// odd one (82 and the CRC).
 #[derive(Clone, Copy, PartialEq, Eq)]
 pub struct Half {
-    // The 120 bits as a number; unused bits are 0.
+    // The 120 bits as a number, those that are not kept 0.
     number: u128,
     // The same as bytes.
     bits: Bits<15>,
@@ -46,7 +46,7 @@ impl Model for Half {
 }
 
 impl Half {
-    /// Even or odd.
+    /// Which part it is.
     pub fn kind(&self) -> HalfKind
         ensures { result ≡ kind_of self.now }
     {
@@ -57,7 +57,7 @@ impl Half {
         }
     }
 
-    /// Its 120 bits; unused bits are 0.
+    /// Its 120 bits, of which those that are not kept are 0.
     pub fn bits(&self) -> &Bits<15>
         ensures bytes { result.now ≡ bytes_of_half self.now }
         ensures number { number_at result.now 0 120 ≡ self.now }
@@ -74,7 +74,7 @@ impl Half {
         self.number
     }
 
-    // The page part of these 120 bits.
+    // The half of these 120 bits.
     pub(crate) fn of_number(number: u128) -> Half
         requires { IsHalf number }
         ensures { result ≡ number }
@@ -97,7 +97,7 @@ fn bits_of(number: u128) -> Bits<15>
     ])
 }
 
-// The 120 bits with the unused bits set to 0.
+// What is kept of 120 bits.
 fn kept(number: u128) -> u128
     requires { number < 2 ^ 120 }
     ensures { result ≡ kept_of number }
@@ -109,9 +109,10 @@ fn kept(number: u128) -> u128
     }
 }
 
-/// Reads 120 bits as a page part: even/odd bit, page type, then in an even part 112 data bits and 6
-/// tail bits, in an odd one 16 data bits, 64 further bits, the 24-bit CRC, 8 bits and 6 tail bits
-/// (Galileo OS SIS ICD, 4.3.2.3). The tail bits and the eight bits after the CRC are ignored.
+/// The part that these 120 bits are: even/odd bit, page type, and behind them in an even part 112
+/// data bits and 6 tail bits, in an odd one 16 data bits, 64 further bits, the CRC of 24 bits, 8
+/// bits and 6 tail bits (Galileo OS SIS ICD, 4.3.2.3). The tail bits and the eight bits behind the
+/// CRC are not looked at.
 ///
 /// [`HalfFault::Alert`] exactly where the page type is 1.
 pub fn read_half(bits: &Bits<15>) -> Result<Half, HalfFault>
@@ -125,7 +126,7 @@ pub fn read_half(bits: &Bits<15>) -> Result<Half, HalfFault>
     Ok(Half::of_number(kept(number)))
 }
 
-/// The 120 bits of a page part; the tail bits, and the eight bits after the CRC, are 0.
+/// The 120 bits of a part: the tail bits, and the eight bits behind the CRC, are 0.
 pub fn write_half(half: &Half) -> Bits<15>
     ensures bytes { result ≡ bytes_of_half half.now }
     ensures nominal { number_at result 1 1 ≡ 0 }

@@ -15,10 +15,11 @@ use nav_eph::{Sat, Signal};
 use std::alloc::{AllocError, Global};
 use std::marker::Model;
 
-/// The page parts received, stored as long as a partner may come.
+/// The halves of a log, kept as long as a partner may come.
 ///
-/// The partners of a page part are those of the same satellite and signal and the other kind, the odd
-/// part one second after the even one, with which the CRC is right.
+/// A half's partners are the halves of the same satellite on the same signal, odd for an even one
+/// and even for an odd one, the odd one a second after the even one, that have the right CRC
+/// together.
 #[derive(Drop)]
 pub struct Halves {
     alloc: Global,
@@ -43,8 +44,8 @@ impl Model for Halves {
 }
 
 impl Halves {
-    /// An empty store. `window` is in seconds: a page part is stored while its stamp is at most the window
-    /// plus one second below the greatest stamp.
+    /// Keeps nothing yet. `window` is in seconds: a half is kept as long as it is older than the
+    /// greatest stamp by at most the window and a second.
     pub fn new(alloc: Global, window: u32) -> Halves
         requires least { 60 ≤ window }
         requires most { window ≤ 14400 }
@@ -59,18 +60,17 @@ impl Halves {
         }
     }
 
-    /// Takes a page part received at a stamp in seconds of the logger's clock, and gives the words that it
-    /// makes with its stored partners, ascending by the partners' bits; none where the same page part is
-    /// stored already. Then the part is stored, unless it is itself too old, and parts whose stamp is more
-    /// than the window plus one second below the greatest stamp are removed.
+    /// Takes a half that was received at a second of the logger, and gives the words that it makes
+    /// with the partners that are kept, ascending by the partners' bits; none where this very half
+    /// is kept already. Then it is kept as well, and what is older than the greatest stamp by more
+    /// than the window and a second is forgotten; a half that is itself too old is not kept.
     ///
-    /// Costs one CRC, two searches among the stored parts of its own second (lookup and insertion), one for
-    /// its partners among those of theirs, and the words. The parts are in a ring buffer of `window + 2`
-    /// seconds, allocated with the first part, so a second is found without a search. Removed parts are
-    /// freed when another second takes their slot: each is freed once, and a stamp far above the others
-    /// costs no more.
-    ///
-    /// `AllocError` where memory runs out; nothing is changed then.
+    /// The cost is that of a CRC, of two searches among the halves of its own second that are kept,
+    /// one whether it is there and one to put it in, of a search for its partners among those of
+    /// theirs, and of the words. A second is found with no search. What is forgotten is freed when
+    /// another second comes to its place, so that each half is freed once, and a stamp that is far
+    /// above the others costs no more. The first half of all makes the places, two more than the
+    /// window has seconds. On an error nothing has changed.
     pub fn take(
         &mut self,
         stamp: u32,
@@ -95,8 +95,8 @@ impl Halves {
         ensures window { self.new.window ≡ self.old.window }
         ensures err { OnErr result (self.new ≡ self.old) }
 
-        // The allocated parts are at most those allocated before and this one, one more than before, and
-        // in each of the `window + 2` slots of one second only.
+        // What is held is no more than the kept halves need: nothing but what was held and this
+        // half, at most one more than before, and in each of `window + 2` places one second.
         ensures held { OnOk result ((other : StampedHalf) → Contains self.new.held other →
             Contains self.old.held other ⊎ (stamped stamp sat signal half.now ≡ other)) }
         ensures held_room { OnOk result (length self.new.held ≤ length self.old.held + 1) }

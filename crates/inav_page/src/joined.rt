@@ -4,7 +4,7 @@ use nav_bits::Bits;
 use std::alloc::Global;
 use std::marker::Model;
 
-/// The words that a page part makes with its partners, and their stamp.
+/// The words that a page part makes with its partners.
 #[derive(Drop)]
 pub struct Joined {
     pub(crate) words: Vec<Bits<16>>,
@@ -28,21 +28,21 @@ impl Joined {
         Joined { words, stamp }
     }
 
-    // Without words.
+    // No words.
     pub(crate) fn none(alloc: Global) -> Joined
         ensures { result.words ≡ [] }
     {
         Joined::new(Vec::new(alloc), 0)
     }
 
-    /// The number of words.
+    /// How many words.
     pub fn len(&self) -> usize
         ensures { result ≡ length self.now.words }
     {
         self.words.len()
     }
 
-    /// The word at an index from 0, 128 bits.
+    /// The word with that number, counted from 0, in 128 bits.
     pub fn word(&self, i: usize) -> &Bits<16>
         requires { i < length self.now.words }
         ensures { slice_get self.now.words i ≡ Some result.now }
@@ -50,8 +50,8 @@ impl Joined {
         &self.words[i]
     }
 
-    /// The stamp at which the odd part of the words was received, in seconds; of no meaning without
-    /// words.
+    /// The second at which the odd parts of the words were received; without words it means
+    /// nothing.
     pub fn stamp(&self) -> u32
         ensures { result ≡ self.now.stamp }
     {

@@ -1,5 +1,5 @@
-//! Page parts in the order in which they are stored: by stamp, satellite, signal, CRC remainder (equal
-//! for partners), kind, and bits. So the partners of a page part are adjacent.
+//! Halves in the order in which they are kept: by stamp, satellite, signal, the remainder that
+//! their partners have too, part, and bits. So the partners of a page part are adjacent.
 
 ghost use Rattle.std.specs.Prelude.{◌≡◌, ℕ, ◌+◌, ◌*◌, ◌/◌, ◌^◌, ◌<◌, ◌≤◌, ◌↔◌, SomeIff, IfOk, OnOk};
 ghost use Rattle.std.specs.Prelude.{OnErr, List, [], length, map, max, Contains, IsTrue};
@@ -9,8 +9,8 @@ ghost use Rattle.inav_page.specs.Pages.{kind_of};
 ghost use Rattle.inav_page.specs.Heard.{AreWordsWith, stamp_by, word_by};
 ghost use Rattle.inav_page.specs.Keeping.{stamped};
 ghost use Rattle.inav_page.specs.Mirrors.{end_of_partners, first_partner, half_of, key_cmp};
-ghost use Rattle.inav_page.specs.Mirrors.{keys_held, keys_in, place_of, remainder_of, bucket_of};
-ghost use Rattle.inav_page.specs.Mirrors.{words_in_bucket, AreSeconds, HasPartnerStamp, IsKey};
+ghost use Rattle.inav_page.specs.Mirrors.{keys_held, keys_in, place_of, remainder_of, slot_of};
+ghost use Rattle.inav_page.specs.Mirrors.{words_in_slot, AreSeconds, HasPartnerStamp, IsKey};
 ghost use Rattle.inav_page.specs.Mirrors.{HoldsKey, PutsKey};
 
 use crate::half::{Half, HalfKind, ODD};
@@ -24,22 +24,22 @@ use std::alloc::{AllocError, Global};
 use std::collections::BTreeSet;
 use std::ops::Range;
 
-// The bucket of a page part (the number of its stamp, satellite and signal, followed by its CRC
-// remainder), and its bits.
+// The slot of a half, which is the number of its stamp, satellite and signal, in their order, with
+// its remainder behind; and the bits of the half.
 pub(crate) type Key = (u64, u128);
 
-// The bucket of a stamp, Galileo satellite number, signal, and CRC remainder.
-fn bucket(stamp: u32, number: u8, signal: Signal, remainder: u64) -> u64
+// The slot of a stamp, the number of a satellite of Galileo, a signal, and a remainder.
+fn slot(stamp: u32, number: u8, signal: Signal, remainder: u64) -> u64
     requires number { number < 64 }
     requires remainder { remainder < 2 ^ 24 }
-    ensures same { result ≡ bucket_of (place_of stamp number signal) remainder }
+    ensures same { result ≡ slot_of (place_of stamp number signal) remainder }
     ensures fits { result < 2 ^ 63 }
 {
     let place = u64::from(stamp) * 128 + u64::from(number) * 2 + signal_code(signal);
     place * 0x100_0000 + remainder
 }
 
-// The stamp of the partners of a page part.
+// The stamp of the partners of a half.
 fn partner_stamp(kind: HalfKind, stamp: u32) -> Option<u32>
     ensures { HasPartnerStamp kind stamp result }
 {
@@ -55,19 +55,19 @@ fn partner_stamp(kind: HalfKind, stamp: u32) -> Option<u32>
     }
 }
 
-// The range of the page parts of the other kind in a bucket.
-fn others_in(bucket: u64, kind: HalfKind) -> Range<Key>
-    requires { bucket < 2 ^ 63 }
-    ensures start { result.start ≡ first_partner bucket kind }
-    ensures end { result.end ≡ end_of_partners bucket kind }
+// Where the halves in a slot stand that are not of that kind.
+fn others_in(slot: u64, kind: HalfKind) -> Range<Key>
+    requires { slot < 2 ^ 63 }
+    ensures start { result.start ≡ first_partner slot kind }
+    ensures end { result.end ≡ end_of_partners slot kind }
 {
     match kind {
-        HalfKind::Even => (bucket, ODD)..(bucket + 1, 0),
-        HalfKind::Odd => (bucket, 0)..(bucket, ODD),
+        HalfKind::Even => (slot, ODD)..(slot + 1, 0),
+        HalfKind::Odd => (slot, 0)..(slot, ODD),
     }
 }
 
-// The word of a page part of that kind and its partner.
+// The word of a half of that kind and another.
 fn word_of_two(kind: HalfKind, one: u128, other: u128) -> Bits<16>
     ensures { result ≡ word_by kind one other }
 {
@@ -77,28 +77,28 @@ fn word_of_two(kind: HalfKind, one: u128, other: u128) -> Bits<16>
     }
 }
 
-// The words of a page part with those stored in a bucket.
+// The words of a half with those that are kept in a slot.
 fn words_with(
     alloc: Global,
     kept: &BTreeSet<Key>,
-    bucket: u64,
+    slot: u64,
     half: &Half,
 ) -> Result<Vec<Bits<16>>, AllocError>
-    requires { bucket < 2 ^ 63 }
-    ensures words { IfOk result (λ words. words.items ≡ words_in_bucket kept.now.keys bucket half.now) }
+    requires { slot < 2 ^ 63 }
+    ensures words { IfOk result (λ words. words.items ≡ words_in_slot kept.now.keys slot half.now) }
     ensures ordered { IsStrictlySortedBy key_cmp kept.now.keys }
 {
     let kind = half.kind();
     let number = half.number();
     let mut words = Vec::new(alloc);
     let _length = kept.len();
-    for key in kept.range(others_in(bucket, kind)) {
+    for key in kept.range(others_in(slot, kind)) {
         words.push(word_of_two(kind, number, key.1))?;
     }
     Ok(words)
 }
 
-// The words that a page part with this CRC remainder makes with the stored ones, and their stamp.
+// The words that a half with this remainder makes with those that are kept, and their stamp.
 fn joined_with(
     alloc: Global,
     kept: &Seconds,
@@ -125,12 +125,7 @@ fn joined_with(
     let Some(second) = kept.find(other) else {
         return Ok(Joined::none(alloc));
     };
-    let words = words_with(
-        alloc,
-        second,
-        bucket(other, number, signal, remainder),
-        half,
-    )?;
+    let words = words_with(alloc, second, slot(other, number, signal, remainder), half)?;
     let heard = match kind {
         HalfKind::Even => other,
         HalfKind::Odd => stamp,
@@ -138,7 +133,7 @@ fn joined_with(
     Ok(Joined::new(words, heard))
 }
 
-// The key of a page part, and its CRC remainder.
+// The key of a half, and its remainder.
 fn key_of(stamp: u32, number: u8, signal: Signal, half: &Half) -> (Key, u64)
     requires { number < 64 }
     ensures place { result.0.0 / 2 ^ 24 ≡ place_of stamp number signal }
@@ -149,12 +144,12 @@ fn key_of(stamp: u32, number: u8, signal: Signal, half: &Half) -> (Key, u64)
 {
     let remainder = remainder(half);
     (
-        (bucket(stamp, number, signal, remainder), half.number()),
+        (slot(stamp, number, signal, remainder), half.number()),
         remainder,
     )
 }
 
-// The words that a page part makes with the stored ones, and their stamp.
+// The words that a half makes with those that are kept, and their stamp.
 pub(crate) fn join_with_kept(
     alloc: Global,
     kept: &Seconds,
@@ -174,7 +169,7 @@ pub(crate) fn join_with_kept(
     joined_with(alloc, kept, stamp, number, signal, remainder(half), half)
 }
 
-// Whether this key, which has that stamp, is stored.
+// Whether this key is kept, which has that stamp.
 fn is_kept(kept: &Seconds, stamp: u32, key: &Key) -> bool
     requires seconds { AreSeconds kept.now }
     requires stamp { (half_of key.now).stamp ≡ stamp }
@@ -186,8 +181,8 @@ fn is_kept(kept: &Seconds, stamp: u32, key: &Key) -> bool
     }
 }
 
-// Stores a page part that is not too old, and gives the words that it makes with those stored before;
-// none, without a search for partners, where it was stored already.
+// Keeps a half that is not too old, and gives the words that it makes with those that were kept;
+// none where it was kept already, and then nothing is sought.
 pub(crate) fn keep(
     alloc: Global,
     kept: &mut Seconds,

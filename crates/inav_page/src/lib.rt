@@ -1,12 +1,12 @@
-//! Pages of the Galileo I/NAV message, as even and odd page parts (Galileo OS SIS ICD, 4.3.2).
+//! The pages of the I/NAV message of Galileo, as even and odd page parts (Galileo OS SIS ICD, 4.3.2).
 //!
-//! A nominal page is sent in two parts of 120 bits, the even part and one second later the odd part.
-//! Together they carry a word of 128 bits, protected by a CRC-24Q in the odd part.
+//! A nominal page is sent in two parts of 120 bits, an even one and a second later an odd one;
+//! together they carry a word of 128 bits, protected by a CRC-24Q in the odd part. Here are
 //!
-//! - [`read_half`] and [`write_half`] read and write a page part ([`Half`]);
-//! - [`join`] gives the word of two page parts, [`split`] the page parts of a word;
-//! - [`Halves`] takes the received page parts in any order and gives each word as soon as both its
-//!   parts are there ([`Joined`]).
+//! - [`read_half`] and [`write_half`], a part as the bits that are kept of it ([`Half`]);
+//! - [`join`] and [`split`], the word of two parts and the parts of a word;
+//! - [`Halves`], which takes the parts of a log as they come, in any order, and gives each word as
+//!   soon as both its parts are there ([`Joined`]).
 //!
 //! ```rust
 //! use inav_page::{HalfKind, join, read_half, split, write_half};

@@ -1,9 +1,9 @@
-//! The word of two page parts, and the page parts of a word.
+//! The word of two parts, and the parts of a word.
 
 ghost use Rattle.std.specs.Prelude.{◌≡◌, ℕ, ◌+◌, ◌*◌, ◌^◌, ◌<◌, ◌↔◌, IsSome, IfSome, slice_index};
 ghost use Rattle.nav_bits.specs.Bits.{number_at};
 ghost use Rattle.inav_page.specs.declared.half.HalfKind.TheVariants.{Even, Odd};
-ghost use Rattle.inav_page.specs.Pages.{bits_at, even_of, has_right_crc, kind_of, odd_of};
+ghost use Rattle.inav_page.specs.Pages.{digits_at, even_of, has_right_crc, kind_of, odd_of};
 ghost use Rattle.inav_page.specs.Pages.{page_crc, word_of, HasRightCrc, IsHalf, IsSplit};
 ghost use Rattle.inav_page.specs.Mirrors.{remainder_of};
 
@@ -11,14 +11,14 @@ use crate::half::{Half, HalfKind, ODD};
 use crc24q::crc_bytes;
 use nav_bits::Bits;
 
-// States to contracts that each byte is below 256.
+// Contracts see bytes as numbers: each is below 256.
 fn are_bytes(bytes: &[u8])
     ensures { (i : ℕ) → slice_index bytes.now i < 256 }
 {
     let _length = bytes.len();
 }
 
-// The CRC-24Q of the 196 protected bits of a page.
+// The CRC of the 196 bits of two parts that it protects.
 fn crc_of(even: u128, odd: u128) -> u64
     ensures same { result ≡ page_crc even odd }
     ensures fits { result < 2 ^ 24 }
@@ -32,15 +32,15 @@ fn crc_of(even: u128, odd: u128) -> u64
     crc_bytes(&bytes).value()
 }
 
-// The CRC in the odd part is right.
+// The CRC in the odd part is that of the page.
 pub(crate) fn belong(even: u128, odd: u128) -> bool
     ensures { result ≡ has_right_crc even odd }
 {
     crc_of(even, odd) == (odd / 0x4000 % 0x100_0000) as u64
 }
 
-// The CRC remainder, equal for partners: the contribution of an even part to the CRC of its page, or
-// the contribution that an odd part's CRC demands of the even part.
+// What a part and its partners have in common: what an even part contributes to the CRC of a page, and that
+// which an odd part leaves to be yielded.
 pub(crate) fn remainder(half: &Half) -> u64
     ensures same { result ≡ remainder_of half.now }
     ensures fits { result < 2 ^ 24 }
@@ -52,7 +52,7 @@ pub(crate) fn remainder(half: &Half) -> u64
     }
 }
 
-// The word of two page parts.
+// The word of two parts.
 pub(crate) fn word(even: u128, odd: u128) -> Bits<16>
     ensures { result ≡ word_of even odd }
 {
@@ -61,8 +61,8 @@ pub(crate) fn word(even: u128, odd: u128) -> Bits<16>
     Bits::from_bytes((high * 0x1_0000 + low).to_be_bytes())
 }
 
-/// The word of a page: the 112 data bits of the even part followed by the 16 of the odd part (Galileo OS
-/// SIS ICD, 4.3.2.3).
+/// The word of the two parts of a page: the 112 data bits of the even part, and the 16 of the odd
+/// one (Galileo OS SIS ICD, 4.3.2.3).
 ///
 /// `None` exactly where the CRC-24Q of the first 114 bits of the even part and the first 82 of the
 /// odd one is not the CRC in the odd part (5.1.9.4).
@@ -81,7 +81,7 @@ pub fn join(even: &Half, odd: &Half) -> Option<Bits<16>>
     }
 }
 
-/// The two page parts of a word: nominal page, the 64 further bits 0, and the CRC of the page.
+/// The two parts that send a word: nominal pages, the 64 further bits 0, and the CRC of the page.
 pub fn split(word: &Bits<16>) -> (Half, Half)
     ensures halves { (result.0 ≡ even_of word.now) × (result.1 ≡ odd_of word.now) }
     ensures parts { IsSplit word.now result.0 result.1 }

@@ -1,6 +1,6 @@
-//! The keys of page parts in a ring buffer of seconds: a stamp has the slot at its remainder modulo
-//! `window + 2`, so a second is found without a search. A second that is too old counts as removed, and
-//! is freed when another takes its slot.
+//! The keys of halves, by the second of their stamp. The seconds of a window stand in places that
+//! go round, each at the rest of its stamp, so that a second is found with no search. One that is
+//! too old counts as forgotten, and is freed when another comes to its place.
 
 ghost use Rattle.std.specs.Prelude.{◌≡◌, ℕ, ◌+◌, ◌%◌, ◌<◌, ◌≤◌, ◌⊎◌, ◌↔◌, IfSome, IfNone, IsTrue};
 ghost use Rattle.std.specs.Prelude.{OnOk, OnErr, [], length, max, Contains};
@@ -11,14 +11,14 @@ use crate::keys::Key;
 use std::alloc::{AllocError, Global};
 use std::collections::BTreeSet;
 
-// The keys of the page parts of one second.
+// The keys of the halves of one second.
 #[derive(Drop)]
 pub(crate) struct Second {
     stamp: u32,
     keys: BTreeSet<Key>,
 }
 
-// The seconds of a window, which ends at the greatest stamp.
+// The seconds of a window, which end at the greatest stamp.
 #[derive(Drop)]
 pub(crate) struct Seconds {
     window: u32,
@@ -27,7 +27,7 @@ pub(crate) struct Seconds {
 }
 
 impl Second {
-    // Inserts a key of that stamp; keys of another stamp are removed first.
+    // Puts a key of that stamp in. What was there is forgotten where it is of another stamp.
     fn put(&mut self, alloc: Global, stamp: u32, key: Key) -> Result<(), AllocError>
         ensures stamp { OnOk result (self.new.stamp ≡ stamp) }
         ensures keys { OnOk result ((other : ℕ × ℕ) → Contains self.new.keys.keys other ↔
@@ -47,7 +47,7 @@ impl Second {
     }
 }
 
-// Appends empty slots up to that count.
+// Adds places, with nothing in them, until there are so many.
 fn make_places(alloc: Global, places: &mut Vec<Second>, count: usize) -> Result<(), AllocError>
     ensures enough { OnOk result (count ≤ length places.new.items) }
     ensures same { KeepsKeys places.old.items places.new.items }
@@ -63,7 +63,7 @@ fn make_places(alloc: Global, places: &mut Vec<Second>, count: usize) -> Result<
 }
 
 impl Seconds {
-    // Without keys; the slots are allocated with the first page part.
+    // No seconds. The places are made when the first half comes.
     pub(crate) fn new(alloc: Global, window: u32) -> Seconds
         requires { window ≤ 14400 }
         ensures window { result.window ≡ window }
@@ -79,7 +79,7 @@ impl Seconds {
         }
     }
 
-    // Whether the stamp is more than the window plus one second below the greatest stamp.
+    // Whether a half of that stamp is older than the greatest by more than the window and a second.
     pub(crate) fn is_too_old(&self, stamp: u32) -> bool
         requires { AreSeconds self.now }
         ensures { IsTrue result ↔ (stamp + self.now.window + 1 < self.now.greatest) }
@@ -87,7 +87,7 @@ impl Seconds {
         stamp < self.greatest.saturating_sub(self.window + 1)
     }
 
-    // The slot of a stamp.
+    // The number of the place of a stamp.
     fn place(&self, stamp: u32) -> usize
         requires { AreSeconds self.now }
         ensures same { result ≡ stamp % (self.now.window + 2) }
@@ -96,7 +96,7 @@ impl Seconds {
         (stamp % (self.window + 2)) as usize
     }
 
-    // The keys of a second, unless it is too old or has none.
+    // The keys of a second, where any of it may be kept.
     pub(crate) fn find(&self, stamp: u32) -> Option<&BTreeSet<Key>>
         requires { AreSeconds self.now }
         ensures there { IfSome result (λ keys. IsSecondOf (keys_in self.now) stamp keys.now.keys) }
@@ -114,7 +114,7 @@ impl Seconds {
         Some(&second.keys)
     }
 
-    // Inserts a key that is not too old, and raises the greatest stamp to its stamp.
+    // Puts a key in, which is not too old, and raises the greatest stamp to its own.
     pub(crate) fn put(&mut self, alloc: Global, stamp: u32, key: Key) -> Result<(), AllocError>
         requires seconds { AreSeconds self.old }
         requires key { IsKey key }

@@ -3,7 +3,7 @@ ghost use Rattle.inav_page.specs.Mirrors.{signal_number};
 
 use nav_eph::Signal;
 
-// The number of a signal in the order of signals.
+// Its place in the order of signals.
 pub(crate) fn signal_code(signal: Signal) -> u64
     ensures { result ≡ signal_number signal }
 {

@@ -1,4 +1,4 @@
--- The parts of a word have the satellite and stamp given, and their fields within their widths in bits.
+-- What a word yields has the satellite and the stamp with which it was heard, and its fields within their bits.
 use Rattle.std.proofs.Common.{◌≡◌, ℕ, ◌<◌, ◌≤◌, ◌^◌, ◌||◌, IfSome, List, [], ◌∷◌, Option, None, Some, All, nat_eq, nat_le, nat_lt, true, false, Bool, Result, Ok, Err, inl, inr, refl, sym, ap, ◌∙◌, subst, arith}
 use Rattle.std.proofs.lemmas.Bool.{cond_both, eqb-true, leb-true, ltb-true}
 use Rattle.std.proofs.lemmas.List.Elements.{All-from_recursion}
@@ -34,7 +34,7 @@ abbrev AreHeard : Satellite → ℕ → Result WordParts WordFault → Type 0
 AreHeard sat stamp (Ok parts) = IsHeardPart sat stamp parts.first × IfSome parts.second (IsHeardPart sat stamp)
 AreHeard sat stamp (Err fault) = Unit {0}
 
--- the fields of a word are within their widths in bits; those that are tested, after the test
+-- the fields of a word are within their bits, those that are tested once they have passed
 abbrev Fits : Word → Type 0
 Fits (One w) = IsStep60 w.toe → IsGalWord1 (orbit1_of w)
 Fits (Two w) = IsGalWord2 (orbit2_of w)

@@ -1,4 +1,4 @@
--- The bytes of a word hold its table, and no others do.
+-- The bytes of a word are those in which its table stands, and no others are.
 use Rattle.std.proofs.Common.{◌≡◌, ℕ, ◌<◌, List, lit<, inl, inr, refl, ap, arith}
 use Rattle.gnss_week.specs.Weeks.{IsSecond}
 use Rattle.nav_bits.specs.Fields.{StandFrom}

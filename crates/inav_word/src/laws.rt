@@ -27,36 +27,36 @@ ghost use Rattle.inav_word.specs.Writing.{word4_bytes, word5_bytes};
 ghost use Rattle.inav_word.specs.Writing.{written_word1, written_word2, written_word3};
 ghost use Rattle.inav_word.specs.Writing.{written_word4, written_word5};
 
-/// Bits that hold the fields of word type 1 are read as these fields.
+/// Bits in which word 1 is written are read as its fields.
 pub fn written_word1_is_read()
     ensures { (w : GalWord1) (bits : List ℕ) (sat : Satellite) (stamp : ℕ) →
         IsStep60 w.toe → StandFrom bits 0 0 (fields_word1 (written_word1 w)) →
         reading_of bits sat stamp ≡ Ok (one_part sat stamp (GalW1 w)) }
 {}
 
-/// Bits that hold the fields of word type 2 are read as these fields.
+/// Bits in which word 2 is written are read as its fields.
 pub fn written_word2_is_read()
     ensures { (w : GalWord2) (bits : List ℕ) (sat : Satellite) (stamp : ℕ) →
         StandFrom bits 0 0 (fields_word2 (written_word2 w)) →
         reading_of bits sat stamp ≡ Ok (one_part sat stamp (GalW2 w)) }
 {}
 
-/// Bits that hold the fields of word type 3 are read as these fields.
+/// Bits in which word 3 is written are read as its fields.
 pub fn written_word3_is_read()
     ensures { (w : GalWord3) (bits : List ℕ) (sat : Satellite) (stamp : ℕ) →
         IsSisa w.sisa → StandFrom bits 0 0 (fields_word3 (written_word3 w)) →
         reading_of bits sat stamp ≡ Ok (one_part sat stamp (GalW3 w)) }
 {}
 
-/// Bits that hold the fields of word type 4 of a satellite are read as these fields, where that
-/// satellite sends them.
+/// Bits in which word 4 of a satellite is written are read as its fields, where that satellite
+/// sends it.
 pub fn written_word4_is_read()
     ensures { (w : GalWord4) (bits : List ℕ) (sat : Satellite) (stamp : ℕ) →
         IsStep60 w.toc → StandFrom bits 0 0 (fields_word4 (written_word4 w sat.number)) →
         reading_of bits sat stamp ≡ Ok (one_part sat stamp (GalW4 w)) }
 {}
 
-/// Bits that hold the fields of word type 5 are read as these fields, with week number and TOW.
+/// Bits in which word 5 is written are read as its fields, with the week and the transmission time.
 pub fn written_word5_is_read()
     ensures { (h : GalHealth) (i : GalIon) (wn second : ℕ) (bits : List ℕ) (sat : Satellite)
         (stamp : ℕ) →
@@ -64,37 +64,40 @@ pub fn written_word5_is_read()
         reading_of bits sat stamp ≡ Ok (two_parts sat stamp h i wn second) }
 {}
 
-/// Bits read as word type 1 hold these fields, apart from reserved bits, and toe is within the
-/// week.
+/// Bits that are read as word 1 are those in which its fields are written, but for the reserved
+/// ones, and its time is within the week.
 pub fn read_word1_is_written()
     ensures { (w : GalWord1) (bits : List ℕ) (sat : Satellite) (stamp : ℕ) →
         reading_of bits sat stamp ≡ Ok (one_part sat stamp (GalW1 w)) →
         IsStep60 w.toe × StandFrom bits 0 0 (fields_word1 (written_word1 w)) }
 {}
 
-/// Bits read as word type 2 hold these fields, apart from reserved bits.
+/// Bits that are read as word 2 are those in which its fields are written, but for the reserved
+/// ones.
 pub fn read_word2_is_written()
     ensures { (w : GalWord2) (bits : List ℕ) (sat : Satellite) (stamp : ℕ) →
         reading_of bits sat stamp ≡ Ok (one_part sat stamp (GalW2 w)) →
         StandFrom bits 0 0 (fields_word2 (written_word2 w)) }
 {}
 
-/// Bits read as word type 3 hold these fields, and the SISA index is not a spare value.
+/// Bits that are read as word 3 are those in which its fields are written, and its accuracy is no
+/// spare one.
 pub fn read_word3_is_written()
     ensures { (w : GalWord3) (bits : List ℕ) (sat : Satellite) (stamp : ℕ) →
         reading_of bits sat stamp ≡ Ok (one_part sat stamp (GalW3 w)) →
         IsSisa w.sisa × StandFrom bits 0 0 (fields_word3 (written_word3 w)) }
 {}
 
-/// Bits read as word type 4 hold these fields and the SVID of the sending satellite, apart from spare
-/// bits, and toc is within the week.
+/// Bits that are read as word 4 are those in which its fields are written for the satellite that
+/// sends it, but for the spare ones, and its time is within the week.
 pub fn read_word4_is_written()
     ensures { (w : GalWord4) (bits : List ℕ) (sat : Satellite) (stamp : ℕ) →
         reading_of bits sat stamp ≡ Ok (one_part sat stamp (GalW4 w)) →
         IsStep60 w.toc × StandFrom bits 0 0 (fields_word4 (written_word4 w sat.number)) }
 {}
 
-/// Bits read as word type 5 hold these fields, apart from spare bits, and TOW is within the week.
+/// Bits that are read as word 5 are those in which its fields are written, but for the spare ones,
+/// and its time is within the week.
 pub fn read_word5_is_written()
     ensures { (h : GalHealth) (i : GalIon) (wn second : ℕ) (bits : List ℕ) (sat : Satellite)
         (stamp : ℕ) →
@@ -102,13 +105,13 @@ pub fn read_word5_is_written()
         IsSecond second × StandFrom bits 0 0 (fields_word5 (written_word5 h i wn second)) }
 {}
 
-/// Bits are refused with a fault exactly where it is the first fault of their word.
+/// Bits are refused with a fault exactly where it is the first that their word has.
 pub fn refused_by_the_first_fault()
     ensures { (bits : List ℕ) (sat : Satellite) (stamp : ℕ) (fault : WordFault) →
         (reading_of bits sat stamp ≡ Err fault) ↔ IsFirstFault sat (word_in bits) fault }
 {}
 
-/// The bytes of a word hold the fields of its table, and 0 in reserved bits.
+/// In the bytes of a word its table stands, and what is reserved is 0.
 pub fn word_bytes()
     ensures word1 { (w : GalWord1) → IsGalWord1 w →
         StandFrom (word1_bytes w) 0 0 (fields_word1 (written_word1 w)) }
@@ -140,7 +143,7 @@ pub fn word_bytes()
         AreBytes 16 (word5_bytes h i wn second) }
 {}
 
-/// The bytes that hold the table of a word, with 0 in reserved bits, are unique.
+/// No other 16 bytes hold the table of a word with 0 in what is reserved.
 pub fn words_are_the_functions()
     ensures word1 { (w : GalWord1) (bits : List ℕ) → IsGalWord1 w → AreBytes 16 bits →
         StandFrom bits 0 0 (fields_word1 (written_word1 w)) →
@@ -162,8 +165,8 @@ pub fn words_are_the_functions()
         bits ≡ word5_bytes h i wn second }
 {}
 
-/// The parts of a word have the stamp and satellite given, have bodies that a Galileo satellite sends,
-/// and have their fields within their widths in bits.
+/// The parts that a word yields have the stamp and the satellite with which it was heard, are such
+/// as a satellite of Galileo can send, and have their fields within their bits.
 pub fn word_parts()
     ensures stamps { (bits : List ℕ) (sat : Satellite) (stamp : ℕ) (parts : WordParts) →
         reading_of bits sat stamp ≡ Ok parts → All (λ part. part.stamp ≡ stamp) (all_parts parts) }

@@ -1,10 +1,10 @@
-//! Reading and writing words of the Galileo I/NAV message (Galileo OS SIS ICD, 4.3.5).
+//! The words of the I/NAV message, read and written (Galileo OS SIS ICD, 4.3.5).
 //!
-//! A word has 128 bits; the first six are its type. Word types 1 to 4 carry the ephemeris and clock
-//! parameters, word type 5 ionosphere, BGD, signal health, data validity, week number and TOW.
+//! A word is 128 bits, of which the first six are its type. Words 1 to 4 carry an ephemeris, and
+//! word 5 the ionosphere, the delays, the health and the transmission time. Here are
 //!
-//! - [`read_word`] gives the parts of a word, or the first fault in it ([`WordFault`]);
-//! - [`write_word1`] to [`write_word5`] give the bits of a word.
+//! - [`read_word`], the parts that a word yields, or the first fault in it ([`WordFault`]);
+//! - [`write_word1`] to [`write_word5`], the bits of a word.
 //!
 //! ```rust
 //! use inav_word::{WordFault, read_word};

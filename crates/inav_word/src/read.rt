@@ -20,7 +20,7 @@ use nav_eph::{
     Step60,
 };
 
-// The parts of a word that has only one.
+// The parts of a word that yields one.
 fn one(body: Body, sat: Sat, stamp: u32) -> WordParts
     ensures { result ≡ one_part sat stamp body }
 {
@@ -30,7 +30,7 @@ fn one(body: Body, sat: Sat, stamp: u32) -> WordParts
     }
 }
 
-// The part of word type 1; `BadTime` where toe is past the end of the week.
+// What word 1 stands for, or its fault.
 fn read_1(w: &Word1, sat: Sat, stamp: u32) -> Result<WordParts, WordFault>
     ensures { result ≡ reading sat stamp (One w.now) }
 {
@@ -48,7 +48,7 @@ fn read_1(w: &Word1, sat: Sat, stamp: u32) -> Result<WordParts, WordFault>
     Ok(one(Body::GalW1(orbit), sat, stamp))
 }
 
-// The part of word type 2.
+// What word 2 stands for.
 fn read_2(w: &Word2, sat: Sat, stamp: u32) -> Result<WordParts, WordFault>
     ensures { result ≡ reading sat stamp (Two w.now) }
 {
@@ -62,7 +62,7 @@ fn read_2(w: &Word2, sat: Sat, stamp: u32) -> Result<WordParts, WordFault>
     Ok(one(Body::GalW2(orbit), sat, stamp))
 }
 
-// The part of word type 3; `SpareSisa` where the SISA index is a spare value.
+// What word 3 stands for, or its fault.
 fn read_3(w: &Word3, sat: Sat, stamp: u32) -> Result<WordParts, WordFault>
     ensures { result ≡ reading sat stamp (Three w.now) }
 {
@@ -83,7 +83,7 @@ fn read_3(w: &Word3, sat: Sat, stamp: u32) -> Result<WordParts, WordFault>
     Ok(one(Body::GalW3(orbit), sat, stamp))
 }
 
-// The part of word type 4; `WrongSat` for another SVID, then `BadTime` where toc is past the week.
+// What word 4 stands for, or its first fault.
 fn read_4(w: &Word4, sat: Sat, stamp: u32) -> Result<WordParts, WordFault>
     ensures { result ≡ reading sat stamp (Four w.now) }
 {
@@ -106,7 +106,7 @@ fn read_4(w: &Word4, sat: Sat, stamp: u32) -> Result<WordParts, WordFault>
     Ok(one(Body::GalW4(orbit), sat, stamp))
 }
 
-// BGD and health of word type 5.
+// The delays and the health that word 5 yields.
 fn health(w: &Word5) -> GalHealth
     ensures { result ≡ health_of w.now }
 {
@@ -120,7 +120,7 @@ fn health(w: &Word5) -> GalHealth
     }
 }
 
-// The ionosphere of word type 5.
+// The ionosphere that word 5 yields.
 fn ion(w: &Word5) -> GalIon
     ensures { result ≡ ion_of w.now }
 {
@@ -132,7 +132,7 @@ fn ion(w: &Word5) -> GalIon
     }
 }
 
-// The parts of word type 5; `BadTime` where TOW is past the end of the week.
+// What word 5 stands for, or its fault.
 fn read_5(w: &Word5, sat: Sat, stamp: u32) -> Result<WordParts, WordFault>
     ensures { result ≡ reading sat stamp (Five w.now) }
 {
@@ -157,14 +157,14 @@ fn read_5(w: &Word5, sat: Sat, stamp: u32) -> Result<WordParts, WordFault>
     })
 }
 
-/// Reads the 128 bits of an I/NAV word (Galileo OS SIS ICD, 4.3.5), received from a Galileo satellite at
-/// the stamp in seconds of the logger's clock. Word types 1 to 4 give one part; word type 5 gives first
-/// BGD and health, with week number and TOW as time tag, then the ionosphere. Reserved and spare bits
-/// are ignored.
+/// The parts that the 128 bits of an I/NAV word stand for (Galileo OS SIS ICD, 4.3.5), heard from a
+/// satellite of Galileo at a second of the logger. Words 1 to 4 yield one part; word 5 yields first
+/// the delays and the health, whose tag names the week and the transmission time, and then the
+/// ionosphere. Reserved and spare bits are not looked at.
 ///
-/// The error is the first of these faults: a type other than 1 to 5; a word type 4 with another SVID; a
-/// toe or toc of 10,080 units of 60 s or more, or a TOW of 604,800 s or more; a spare SISA index, 126
-/// to 254.
+/// The error is the first fault, as [`WordFault`] orders them: a type other than 1 to 5; a word 4
+/// that names another satellite; a toe or toc of 10,080 steps or more, or a time of the week of
+/// 604,800 s or more; a spare accuracy, 126 to 254.
 pub fn read_word(word: &Bits<16>, sat: Sat, stamp: u32) -> Result<WordParts, WordFault>
     requires { sat.system ≡ Gal }
     ensures answer { result ≡ reading_of word.now sat stamp }

@@ -8,7 +8,7 @@ use crate::word4::Word4;
 use crate::word5::Word5;
 use nav_bits::{BitForm, Bits, U};
 
-/// A word by its type, with its fields as sent (Galileo OS SIS ICD, 4.3.5).
+/// A word by its type, with its fields as they stand (Galileo OS SIS ICD, 4.3.5).
 #[derive(Clone, Copy)]
 pub enum Word {
     /// Type 1.
@@ -21,11 +21,11 @@ pub enum Word {
     Four(Word4),
     /// Type 5.
     Five(Word5),
-    /// Any other type, by its number.
+    /// Another type, by its number.
     Other(u8),
 }
 
-// The word in the bits, by its type.
+// The word that stands in the bits, by its type.
 pub(crate) fn by_type(bits: &Bits<16>) -> Word
     ensures { result ≡ word_in bits.now }
 {

@@ -1,14 +1,14 @@
 use nav_bits::{Layout, S, U, put_numbers};
 
-/// The fields of I/NAV word type 1, ephemeris (1/4), in the order of the ICD after the type
+/// The fields of I/NAV word 1, the first part of the orbit, in their order behind the type
 /// (Galileo OS SIS ICD, 4.3.5).
 #[derive(Clone, Copy)]
 pub struct Word1 {
-    /// Issue of data, IODnav.
+    /// Issue of data.
     pub iodnav: U<10>,
-    /// The ephemeris reference time toe, in units of 60 s.
+    /// The time of the ephemeris, in steps of 60 s.
     pub toe: U<14>,
-    /// Mean anomaly at toe, in 2^-31 semicircles.
+    /// Mean anomaly at the time of the ephemeris, in 2^-31 semicircles.
     pub m0: S<32>,
     /// Eccentricity, in 2^-33.
     pub e: U<32>,
@@ -40,7 +40,7 @@ impl Layout for Word1 {
                 (6, 1),
                 (10, self.iodnav.value()),
                 (14, self.toe.value()),
-                (32, self.m0.bit_pattern()),
+                (32, self.m0.digits()),
                 (32, self.e.value()),
                 (32, self.root_a.value()),
                 (2, 0),

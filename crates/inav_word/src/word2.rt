@@ -1,18 +1,18 @@
 use nav_bits::{Layout, S, U, put_numbers};
 
-/// The fields of I/NAV word type 2, ephemeris (2/4), in the order of the ICD after the type
+/// The fields of I/NAV word 2, the second part of the orbit, in their order behind the type
 /// (Galileo OS SIS ICD, 4.3.5).
 #[derive(Clone, Copy)]
 pub struct Word2 {
-    /// Issue of data, IODnav.
+    /// Issue of data.
     pub iodnav: U<10>,
-    /// Longitude of the ascending node at the weekly epoch, in 2^-31 semicircles.
+    /// Longitude of the ascending node at the start of the week, in 2^-31 semicircles.
     pub omega0: S<32>,
-    /// Inclination at toe, in 2^-31 semicircles.
+    /// Inclination at the time of the ephemeris, in 2^-31 semicircles.
     pub i0: S<32>,
     /// Argument of perigee, in 2^-31 semicircles.
     pub omega: S<32>,
-    /// Rate of inclination, in 2^-43 semicircles/s.
+    /// Rate of the inclination, in 2^-43 semicircles/s.
     pub idot: S<14>,
 }
 
@@ -39,10 +39,10 @@ impl Layout for Word2 {
             &[
                 (6, 2),
                 (10, self.iodnav.value()),
-                (32, self.omega0.bit_pattern()),
-                (32, self.i0.bit_pattern()),
-                (32, self.omega.bit_pattern()),
-                (14, self.idot.bit_pattern()),
+                (32, self.omega0.digits()),
+                (32, self.i0.digits()),
+                (32, self.omega.digits()),
+                (14, self.idot.digits()),
                 (2, 0),
             ],
         );

@@ -1,24 +1,24 @@
 use nav_bits::{Layout, S, U, put_numbers};
 
-/// The fields of I/NAV word type 3, ephemeris (3/4) and SISA, in the order of the ICD after the
-/// type (Galileo OS SIS ICD, 4.3.5).
+/// The fields of I/NAV word 3, the third part of the orbit and the accuracy, in their order behind
+/// the type (Galileo OS SIS ICD, 4.3.5).
 #[derive(Clone, Copy)]
 pub struct Word3 {
-    /// Issue of data, IODnav.
+    /// Issue of data.
     pub iodnav: U<10>,
-    /// Rate of right ascension, in 2^-43 semicircles/s.
+    /// Rate of the right ascension, in 2^-43 semicircles/s.
     pub omega_dot: S<24>,
-    /// Mean motion difference from the computed value, in 2^-43 semicircles/s.
+    /// Correction to the mean motion, in 2^-43 semicircles/s.
     pub delta_n: S<16>,
-    /// Amplitude of the cosine harmonic correction to the argument of latitude, in 2^-29 rad.
+    /// Cosine correction to the argument of latitude, in 2^-29 rad.
     pub cuc: S<16>,
-    /// Amplitude of the sine harmonic correction to the argument of latitude, in 2^-29 rad.
+    /// Sine correction to the argument of latitude, in 2^-29 rad.
     pub cus: S<16>,
-    /// Amplitude of the cosine harmonic correction to the orbit radius, in 2^-5 m.
+    /// Cosine correction to the orbit's radius, in 2^-5 m.
     pub crc: S<16>,
-    /// Amplitude of the sine harmonic correction to the orbit radius, in 2^-5 m.
+    /// Sine correction to the orbit's radius, in 2^-5 m.
     pub crs: S<16>,
-    /// The signal-in-space accuracy (SISA) index.
+    /// The accuracy of signal in space, an index.
     pub sisa: U<8>,
 }
 
@@ -45,12 +45,12 @@ impl Layout for Word3 {
             &[
                 (6, 3),
                 (10, self.iodnav.value()),
-                (24, self.omega_dot.bit_pattern()),
-                (16, self.delta_n.bit_pattern()),
-                (16, self.cuc.bit_pattern()),
-                (16, self.cus.bit_pattern()),
-                (16, self.crc.bit_pattern()),
-                (16, self.crs.bit_pattern()),
+                (24, self.omega_dot.digits()),
+                (16, self.delta_n.digits()),
+                (16, self.cuc.digits()),
+                (16, self.cus.digits()),
+                (16, self.crc.digits()),
+                (16, self.crs.digits()),
                 (8, self.sisa.value()),
             ],
         );

@@ -1,24 +1,24 @@
 use nav_bits::{Layout, S, U, put_numbers};
 
-/// The fields of I/NAV word type 4, SVID, ephemeris (4/4) and clock correction, in the order of the
-/// ICD after the type (Galileo OS SIS ICD, 4.3.5).
+/// The fields of I/NAV word 4, the satellite, the last part of the orbit and the clock, in their
+/// order behind the type (Galileo OS SIS ICD, 4.3.5).
 #[derive(Clone, Copy)]
 pub struct Word4 {
-    /// Issue of data, IODnav.
+    /// Issue of data.
     pub iodnav: U<10>,
-    /// The SVID of the satellite that sends it.
+    /// The number of the satellite that sends it.
     pub svid: U<6>,
-    /// Amplitude of the cosine harmonic correction to the inclination, in 2^-29 rad.
+    /// Cosine correction to the inclination, in 2^-29 rad.
     pub cic: S<16>,
-    /// Amplitude of the sine harmonic correction to the inclination, in 2^-29 rad.
+    /// Sine correction to the inclination, in 2^-29 rad.
     pub cis: S<16>,
-    /// The clock correction reference time toc, in units of 60 s.
+    /// The time of the clock's data, in steps of 60 s.
     pub toc: U<14>,
-    /// Clock bias a_f0, in 2^-34 s.
+    /// Clock bias, in 2^-34 s.
     pub af0: S<31>,
-    /// Clock drift a_f1, in 2^-46 s/s.
+    /// Clock drift, in 2^-46 s/s.
     pub af1: S<21>,
-    /// Clock drift rate a_f2, in 2^-59 s/s².
+    /// Clock drift rate, in 2^-59 s/s².
     pub af2: S<6>,
 }
 
@@ -46,12 +46,12 @@ impl Layout for Word4 {
                 (6, 4),
                 (10, self.iodnav.value()),
                 (6, self.svid.value()),
-                (16, self.cic.bit_pattern()),
-                (16, self.cis.bit_pattern()),
+                (16, self.cic.digits()),
+                (16, self.cis.digits()),
                 (14, self.toc.value()),
-                (31, self.af0.bit_pattern()),
-                (21, self.af1.bit_pattern()),
-                (6, self.af2.bit_pattern()),
+                (31, self.af0.digits()),
+                (21, self.af1.digits()),
+                (6, self.af2.digits()),
                 (2, 0),
             ],
         );

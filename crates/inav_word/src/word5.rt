@@ -1,32 +1,32 @@
 use nav_bits::{Layout, S, U, put_numbers};
 
-/// The fields of I/NAV word type 5, ionosphere, BGD, health, data validity and GST, in the order of
-/// the ICD after the type (Galileo OS SIS ICD, 4.3.5).
+/// The fields of I/NAV word 5, the ionosphere, the delays, the health and the transmission time, in
+/// their order behind the type (Galileo OS SIS ICD, 4.3.5).
 #[derive(Clone, Copy)]
 pub struct Word5 {
-    /// Effective ionisation level a_i0, in 2^-2 solar flux units.
+    /// Effective ionisation level, in 2^-2 solar flux units.
     pub ai0: U<11>,
-    /// a_i1, in 2^-8 solar flux units/degree.
+    /// In 2^-8 solar flux units/degree.
     pub ai1: S<11>,
-    /// a_i2, in 2^-15 solar flux units/degree².
+    /// In 2^-15 solar flux units/degree².
     pub ai2: S<14>,
-    /// Ionospheric disturbance flags of the five regions; region 1 is the most significant bit.
+    /// Whether a storm is in each of the five regions; region 1 is the highest bit.
     pub regions: U<5>,
-    /// Broadcast group delay BGD(E1,E5a), in 2^-32 s.
+    /// Group delay between E1 and E5a, in 2^-32 s.
     pub bgd_a: S<10>,
-    /// Broadcast group delay BGD(E1,E5b), in 2^-32 s.
+    /// Group delay between E1 and E5b, in 2^-32 s.
     pub bgd_b: S<10>,
-    /// E5b signal health status.
+    /// The health of the signal E5b.
     pub hs_e5b: U<2>,
-    /// E1-B signal health status.
+    /// The health of the signal E1-B.
     pub hs_e1b: U<2>,
-    /// E5b data validity status: 1 for working without guarantee.
+    /// Whether the data of E5b are without guarantee.
     pub dvs_e5b: U<1>,
-    /// E1-B data validity status: 1 for working without guarantee.
+    /// Whether the data of E1-B are without guarantee.
     pub dvs_e1b: U<1>,
-    /// The Galileo week number at transmission, modulo 4096.
+    /// The week number in which it is sent, counted from Galileo's first week.
     pub wn: U<12>,
-    /// TOW at transmission, in seconds.
+    /// The second of the week at which it is sent.
     pub tow: U<20>,
 }
 
@@ -53,11 +53,11 @@ impl Layout for Word5 {
             &[
                 (6, 5),
                 (11, self.ai0.value()),
-                (11, self.ai1.bit_pattern()),
-                (14, self.ai2.bit_pattern()),
+                (11, self.ai1.digits()),
+                (14, self.ai2.digits()),
                 (5, self.regions.value()),
-                (10, self.bgd_a.bit_pattern()),
-                (10, self.bgd_b.bit_pattern()),
+                (10, self.bgd_a.digits()),
+                (10, self.bgd_b.digits()),
                 (2, self.hs_e5b.value()),
                 (2, self.hs_e1b.value()),
                 (1, self.dvs_e5b.value()),

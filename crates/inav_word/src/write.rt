@@ -25,7 +25,7 @@ use gnss_week::Second;
 use nav_bits::{BitForm, Bits, U};
 use nav_eph::{GalHealth, GalIon, GalWord1, GalWord2, GalWord3, GalWord4, Sat};
 
-/// The 128 bits of I/NAV word type 1 (Galileo OS SIS ICD, 4.3.5). The reserved bits are 0.
+/// The 128 bits of I/NAV word 1 (Galileo OS SIS ICD, 4.3.5). The reserved bits are 0.
 pub fn write_word1(w: &GalWord1) -> Bits<16>
     ensures fields { StandFrom result 0 0 (fields_word1 (written_word1 w.now)) }
     ensures reserved_bits { number_at result 126 2 ≡ 0 }
@@ -47,7 +47,7 @@ pub fn write_word1(w: &GalWord1) -> Bits<16>
     bits
 }
 
-/// The 128 bits of I/NAV word type 2 (Galileo OS SIS ICD, 4.3.5). The reserved bits are 0.
+/// The 128 bits of I/NAV word 2 (Galileo OS SIS ICD, 4.3.5). The reserved bits are 0.
 pub fn write_word2(w: &GalWord2) -> Bits<16>
     ensures fields { StandFrom result 0 0 (fields_word2 (written_word2 w.now)) }
     ensures reserved_bits { number_at result 126 2 ≡ 0 }
@@ -69,7 +69,7 @@ pub fn write_word2(w: &GalWord2) -> Bits<16>
     bits
 }
 
-/// The 128 bits of I/NAV word type 3 (Galileo OS SIS ICD, 4.3.5).
+/// The 128 bits of I/NAV word 3 (Galileo OS SIS ICD, 4.3.5).
 pub fn write_word3(w: &GalWord3) -> Bits<16>
     ensures fields { StandFrom result 0 0 (fields_word3 (written_word3 w.now)) }
     ensures bytes { result ≡ word3_bytes w.now }
@@ -93,7 +93,7 @@ pub fn write_word3(w: &GalWord3) -> Bits<16>
     bits
 }
 
-/// The 128 bits of I/NAV word type 4 of a Galileo satellite (Galileo OS SIS ICD, 4.3.5). The spare
+/// The 128 bits of I/NAV word 4 of a satellite of Galileo (Galileo OS SIS ICD, 4.3.5). The spare
 /// bits are 0.
 pub fn write_word4(w: &GalWord4, sat: Sat) -> Bits<16>
     requires { sat.system ≡ Gal }
@@ -120,7 +120,7 @@ pub fn write_word4(w: &GalWord4, sat: Sat) -> Bits<16>
     bits
 }
 
-// The fields of word type 5.
+// The fields of word 5.
 fn word5(health: &GalHealth, ion: &GalIon, wn: U<12>, second: Second) -> Word5
     ensures fields { result ≡ written_word5 health.now ion.now wn second }
     ensures time { IsSecond second }
@@ -142,8 +142,8 @@ fn word5(health: &GalHealth, ion: &GalIon, wn: U<12>, second: Second) -> Word5
     }
 }
 
-/// The 128 bits of I/NAV word type 5 (Galileo OS SIS ICD, 4.3.5) with the Galileo week number, modulo
-/// 4096, and the TOW of its transmission. The spare bits are 0.
+/// The 128 bits of I/NAV word 5 (Galileo OS SIS ICD, 4.3.5), sent in a week, counted from Galileo's
+/// first one in twelve bits, and at a second of it. The spare bits are 0.
 pub fn write_word5(health: &GalHealth, ion: &GalIon, wn: U<12>, second: Second) -> Bits<16>
     ensures fields { StandFrom result 0 0 (fields_word5 (written_word5 health.now ion.now wn second)) }
     ensures reserved_bits { number_at result 105 23 ≡ 0 }

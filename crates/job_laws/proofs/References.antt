@@ -1,4 +1,4 @@
--- The week of a capture is a reference week: that of the command line, or that of the first line.
+-- The week of a capture is a reference week: that of the words, or that of the first line.
 use Rattle.std.proofs.Common.{◌≡◌, ℕ, ◌↔◌, List, [], ◌∷◌, refl, ap, subst}
 use Rattle.std.specs.Prelude.{Option, None, Some, IfSome, ◌==◌, false}
 use Rattle.std.proofs.lemmas.Bool.{cond_both}
@@ -19,7 +19,7 @@ names_reference : (window : ℕ) (week : Option ℕ) (line : List ℕ) → Names
 names_reference window None line names = tt
 names_reference window (Some week) line names = names.week_range
 
--- the week of the command line or of the first line; if both name one, they agree
+-- the week of the words and that of the line, where these are not two
 for_reference : (week named : Option ℕ) (n : ℕ) → IfSome week IsReference → IfSome named IsReference
     → week_for week named ≡ Some n
     → IsReference n

@@ -29,7 +29,7 @@ same_items : (some other : List Line) → ((line : Line) → Contains some line 
 same_items some other same item s stamp =
     (items_from some other (λ line. (same line).0) item, items_from other some (λ line. (same line).1) item)
 
--- the text of periods depends on nothing else
+-- what is written of periods is theirs alone
 by_periods : (to : CaptureTo) (c d : Capture) → IsOfPeriods to → periods c ≡ periods d
     → whole_text (target_of to) (Some c) ≡ whole_text (target_of to) (Some d)
 by_periods (Rinex h) c d is e =

@@ -1,4 +1,4 @@
--- What is written of a capture: the items of the periods of the parts received, which can be read back.
+-- What is written of a capture: the items of the periods of the parts heard, which come back.
 use Rattle.std.specs.Prelude.{◌≡◌, ℕ, List, map, Contains, Ok}
 use Rattle.std.specs.List.{flat_map}
 use Rattle.gnss_week.specs.Weeks.{IsNearGalileo, IsNearGps, IsReference}
@@ -20,23 +20,23 @@ use Rattle.capture_log.specs.Heard.{IsPartHeard}
 use Rattle.capture_log.specs.Log.{line_items_of}
 use Rattle.captures.specs.Captures.{Capture}
 
--- the list of the periods of the parts that are received in the capture
+-- the list of the periods of the parts that are heard in the capture
 abbrev pub ArePeriodsHeard : Capture → List Closed → Type 0
 ArePeriodsHeard c periods = ArePeriods c.week c.window (IsPartHeard c.window (line_items_of c.lines)) periods
 
--- the toe week of an ephemeris is the one that its truncated week number resolves to near the reference week r
+-- the week of an ephemeris is one of those that its message tells apart near the week r
 abbrev pub IsNear : ℕ → NavItem → Type 0
 IsNear r (Gps e) = IsNearGps r e.toe_week
 IsNear r (Gal e) = IsNearGalileo r e.toe_week
 IsNear r (Ion e) = ⊥
 
--- the message of each ephemeris is read back as it for such a reference week, without its transmission time
+-- the message of each ephemeris is read near such a week as it, but for when it was sent
 abbrev pub AreSent : List NavItem → Type 0
 AreSent items =
     (r : ℕ) (item : NavItem) → IsReference r → Contains items item → IsNear r item
     → item_in r (payload_of (rtcm_item item)) ≡ Ok (unsent item)
 
--- the text is that of the items of the periods received; it reads back as these, and the RTCM message of each ephemeris as it
+-- the text is that of the items of the periods heard; it reads back as these, and the message of each ephemeris as it
 pub record IsConverted (c : Capture) (header : HeaderWords) (text : List ℕ) : Type 0 where
   pub periods : List Closed
   pub are : ArePeriodsHeard c periods
@@ -44,14 +44,14 @@ pub record IsConverted (c : Capture) (header : HeaderWords) (text : List ℕ) : 
   pub back : rinex_list text ≡ items_in periods
   pub messages : AreSent (items_in periods)
 
--- the same in RINEX 3, which has no ionosphere records
+-- the same in RINEX 3, which has no ionospheres
 pub record IsConverted3 (c : Capture) (header : HeaderWords) (text : List ℕ) : Type 0 where
   pub periods : List Closed
   pub are : ArePeriodsHeard c periods
   pub text_is : text ≡ rinex3_text header (items_in periods)
   pub back : rinex3_list text ≡ ephemerides (items_in periods)
 
--- the text is the frames of the ephemerides of the periods received, and has no other frames; each message reads back as its
+-- the text is the frames of the ephemerides of the periods heard, and no others stand in it; each message is read as its
 -- ephemeris
 pub record IsFramed (c : Capture) (text : List ℕ) : Type 0 where
   pub periods : List Closed

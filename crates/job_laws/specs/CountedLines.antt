@@ -1,4 +1,4 @@
--- The counts of a capture, stated by all of its lines and each I/NAV word received.
+-- The counts of a capture, by a look at all of its lines and at each word heard.
 use Rattle.std.specs.Prelude.{◌≡◌, ℕ, ◌+◌, List, [], length}
 use Rattle.capture_log.specs.Log.{line_items_of}
 use Rattle.capture_log.specs.declared.event.Event.{Event}
@@ -7,11 +7,11 @@ use Rattle.captures.specs.Captures.{Capture}
 use Rattle.captures.specs.Reports.{is_late, is_malformed, is_refused_event, is_unused}
 use Rattle.captures.specs.declared.counts.CaptureCounts.{CaptureCounts}
 
--- the number of events of a kind: those of each line alone, and those of the words of these pairs
+-- how many events of a kind the lines yield by themselves and the words of these pairs yield
 abbrev pub of_kind : (Event → ℕ) → Capture → List Pair → ℕ
 of_kind kind c pairs = own_weight kind c.window [] (line_items_of c.lines) + pairs_weight kind pairs
 
--- each count is the number of events of its kind; the first line counts as a line
+-- each count is of so many events; the first line counts too
 pub record CountLines (c : Capture) (pairs : List Pair) (counts : CaptureCounts) : Type 0 where
   pub lines : counts.lines ≡ length c.lines + 1
   pub malformed : counts.malformed ≡ of_kind is_malformed c pairs

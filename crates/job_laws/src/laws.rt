@@ -1,4 +1,4 @@
-//! The laws: each is the contract of an empty function.
+//! The laws: each function does nothing, and its contract is the law.
 
 ghost use Rattle.std.specs.Prelude.{◌≡◌, ℕ, List, Option, Some, IfSome};
 ghost use Rattle.gnss_week.specs.Weeks.{IsReference};
@@ -16,8 +16,8 @@ ghost use Rattle.job_laws.specs.CountedLines.{CountLines};
 ghost use Rattle.job_laws.specs.SayTheSame.{IsOfPeriods, SayTheSame};
 ghost use Rattle.job_laws.specs.Written.{ConvertCapture, IsWritten};
 
-/// Two captures of one week and one window with the same lines, in any order and repeated or not, none
-/// of them late, give the same output in every form but the counts.
+/// Of two captures of one week and one window with the same lines, in whatever order and however
+/// often, none of them late, the same is written, in every form but that of the counts.
 pub fn order_of_lines_changes_no_text()
     ensures captures { (to : CaptureTo) (week named : Option ℕ) (bytes other : List ℕ)
         (c d : Capture) → IsOfPeriods to → capture_of week bytes ≡ Some c
@@ -34,8 +34,8 @@ pub fn order_of_lines_changes_no_text()
     bridge_engine::words_give_one_job();
 }
 
-/// Each count of a capture's report is a number of events: those of each line alone, and those of each
-/// word received, once, in whatever order the pairs of page parts are listed.
+/// Each count of a capture's report is of so many events: of those that each line yields by itself,
+/// and of those that each word heard yields, once, however its pairs of halves are listed.
 pub fn counts_are_of_lines_and_words()
     ensures { (c : Capture) (pairs : List Pair) → ArePairsHeard c.window (line_items_of c.lines) pairs
         → CountLines c pairs (counts_of c) }
@@ -43,9 +43,9 @@ pub fn counts_are_of_lines_and_words()
     capture_laws::events_are_counted();
 }
 
-/// The output for a capture is the text of the items of the periods of the parts received, and reads
-/// back as these items; the message of each ephemeris reads back as it, without its transmission time,
-/// for a reference week near its own.
+/// What is written of a capture is the text of the items of the periods of the parts heard, and it
+/// is read as these items; each ephemeris's message is read as it, but for when it was sent, near a
+/// week in whose span its own lies.
 pub fn converted_captures_come_back()
     ensures rinex { (week : Option ℕ) (header : HeaderWords) (bytes : List ℕ) (c : Capture)
         → IfSome week IsReference → IsHeader header → capture_of week bytes ≡ Some c
@@ -69,7 +69,7 @@ pub fn converted_captures_come_back()
     rinex_read::files3_are_read();
 }
 
-/// The same for the words of a command line: whatever text their job writes of a capture.
+/// The same over the words of the command line: whatever text their job writes of a capture.
 pub fn what_is_converted_comes_back()
     ensures rinex { (words : List (List ℕ)) (week : Option ℕ) (header : HeaderWords)
         (bytes text : List ℕ) (c : Capture) → ConvertCapture words (Rinex header) week

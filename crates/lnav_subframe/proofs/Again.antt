@@ -1,4 +1,4 @@
--- A written subframe is read with the same content.
+-- What was written is read as it was.
 use Rattle.std.proofs.Common.{◌≡◌, ℕ, ◌-◌, ◌<◌, List, Bool, true, false, Err, nat_eq, refl, sym, ap, ◌∙◌, arith, subst}
 use Rattle.std.proofs.lemmas.Bool.{lt-leb, lt-ltb, ne_eqb, eqb-true, eqb-false}
 use Rattle.nav_bits.specs.Bits.{number_at}
@@ -16,7 +16,7 @@ use Rattle.lnav_subframe.specs.Subframes.{head_at, subframe1_at, subframe2_at, s
 use Rattle.lnav_subframe.specs.Writing.{AreWords, Holds, IsWritable, HasTime, read_again, subframe1_of, subframe2_of, subframe3_of, page18_of}
 use Rattle.lnav_subframe.proofs.Agree.{Agree, agree, number_22, number_24}
 
--- the fields of data bits that agree are equal
+-- the fields of data bits that agree are the same
 head_same : (a b : List ℕ) → Agree a b → head_at b 0 ≡ head_at a 0
 head_same a b same = simp (number_22 a b same)
 
@@ -32,7 +32,7 @@ subframe3_same a b same = simp (number_22 a b same, number_24 a b same)
 page18_same : (a b : List ℕ) → Agree a b → page18_at b 0 ≡ page18_at a 0
 page18_same a b same = simp (number_22 a b same, number_24 a b same)
 
--- the branches of the reading by head
+-- what the head decides
 by_1 : (h : Head) (s1 : Subframe1) (s2 : Subframe2) (s3 : Subframe3) (p : Page18) → h.tow_count < 100800 → h.number ≡ 1 → read_by h s1 s2 s3 p ≡ read_1 s1
 by_1 h s1 s2 s3 p tow_count e = rw (lt-leb 100800 h.tow_count tow_count, e) refl
 
@@ -51,7 +51,7 @@ by_4 h s1 s2 s3 p tow_count e other = rw (lt-leb 100800 h.tow_count tow_count, e
 by_5 : (h : Head) (s1 : Subframe1) (s2 : Subframe2) (s3 : Subframe3) (p : Page18) → h.tow_count < 100800 → h.number ≡ 5 → read_by h s1 s2 s3 p ≡ Err (Unused 5 h.page)
 by_5 h s1 s2 s3 p tow_count e = rw (lt-leb 100800 h.tow_count tow_count, e) refl
 
--- an unused page is refused with its number and page
+-- another page is refused with its number and its page
 other_by : (h : Head) (s1 : Subframe1) (s2 : Subframe2) (s3 : Subframe3) (p : Page18) (number page : ℕ) (four : Bool) → nat_eq number 4 ≡ four
     → h.tow_count < 100800 → h.number ≡ number → h.page ≡ page → IsWritable (Other number page) → read_by h s1 s2 s3 p ≡ Err (Unused number page)
 other_by h s1 s2 s3 p number page true e low n g ok =
@@ -61,7 +61,7 @@ other_by h s1 s2 s3 p number page false e low n g ok =
     let is : number ≡ 5 = (let other : number ≡ 4 → ⊥ = eqb-false number 4 e in omega (arith, ok.0, ok.1, other)) in
     by_5 h s1 s2 s3 p low (n ∙ is) ∙ (rw (g, is) refl)
 
--- data bits that agree with the written ones encode the written content
+-- data bits that agree with those that were written stand for what was written
 content_again : (body : SubframeOut) (tow_count : ℕ) (a b : List ℕ) → tow_count < 100800 → IsWritable body → HasTime body → Holds body tow_count a → Agree a b
     → content b ≡ read_again body tow_count
 content_again (Clock clock side wn) tow_count a b low ok time holds same =
@@ -110,7 +110,7 @@ as_written body tow_count bits a source low ok time holds words up is =
     let Data : List ℕ → Type 0 = λ u. AreSource u source 10 in
     content_again body tow_count a source low ok time holds (agree bits a source words (subst Data up is.data_bits))
 
--- two readings of one subframe are equal
+-- two readings of one subframe are the same
 pub content_same : (a b : List ℕ) → Agree a b → content b ≡ content a
 content_same a b same =
     ap (λ h. read_by h (subframe1_at b 0) (subframe2_at b 0) (subframe3_at b 0) (page18_at b 0)) (head_same a b same)

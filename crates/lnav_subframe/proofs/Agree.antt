@@ -1,4 +1,4 @@
--- Two readings of the same words have the same data bits, except for the last two of words 2 and 10.
+-- Two readings of the same words have the same data bits, but for the two last ones of words 2 and 10.
 use Rattle.std.proofs.Common.{◌≡◌, ℕ, zero, suc, ◌+◌, ◌-◌, ◌*◌, ◌/◌, ◌%◌, ◌^◌, ◌<◌, List, Bool, true, false, nat_eq, nat_le, nat_lt, refl, sym, ap, ◌∙◌, arith, below_more}
 use Rattle.std.proofs.lemmas.Bool.{leb-true, ltb-true, eqb-true, eqb-false}
 use Rattle.std.proofs.lemmas.Nat.Bits.{bit_at-lt}
@@ -25,7 +25,7 @@ inside a b at n e = record {
       ap (bit a) (sym s) ∙ d ∙ ap (bit b) s;
 }
 
--- the data bits of each word agree, except for the last two of words 2 and 10
+-- the data bits of each word agree, the last two of words 2 and 10 aside
 pub record Agree (a b : List ℕ) : Type 0 where
   pub first : (k : ℕ) → k < 10 → SameInside a b (30 * k) (30 * k + 22)
   pub all : (k : ℕ) → k < 10 → (k ≡ 1 → ⊥) → (k ≡ 9 → ⊥) → SameInside a b (30 * k) (30 * k + 24)
@@ -33,7 +33,7 @@ pub record Agree (a b : List ℕ) : Type 0 where
 upper_part : (bytes : List ℕ) (at : ℕ) → number_at bytes at 24 / 4 ≡ number_at bytes at 22
 upper_part bytes at = omega (arith, number_at-append bytes at 22 2, number_at-lt bytes (at + 22) 2)
 
--- a written word is good
+-- a word that was written is good
 good_by : (k word last m : ℕ) (second tenth : Bool) → nat_eq k 1 ≡ second → nat_eq k 9 ≡ tenth → IsWord k word last m → IsGood word last
 good_by k word last m true tenth e e' is = (is.second (eqb-true k 1 e)).good
 good_by k word last m false true e e' is = (is.tenth (eqb-true k 9 e')).good
@@ -42,7 +42,7 @@ good_by k word last m false false e e' is = is.good (eqb-false k 1 e) (eqb-false
 pub good_word : (k word last m : ℕ) → IsWord k word last m → IsGood word last
 good_word k word last m is = good_by k word last m (nat_eq k 1) (nat_eq k 9) refl refl is
 
--- the written and the read bits agree, word by word
+-- what was written and what is read agree, word by word
 solved_agree : (word last m n : ℕ) → IsSolved word last (m / 4) → IsSource word last n → m / 4 ≡ n / 4
 solved_agree word last m n is source = sym is.first.2 ∙ ap (λ x. x / 4) (one_source word last is.first.0 n is.first.1 source)
 

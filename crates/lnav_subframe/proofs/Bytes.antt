@@ -1,4 +1,4 @@
--- A written subframe is `subframe_bytes` of its content.
+-- What is written is the function of what it is written from.
 use Rattle.std.proofs.Common.{◌≡◌, ℕ, zero, suc, ◌+◌, ◌-◌, ◌*◌, ◌/◌, ◌%◌, ◌^◌, ◌<◌, ◌≤◌, ◌||◌, nat_eq, List, Bool, true, false, ℤ, lit<, refl, sym, ap, ◌∙◌, subst, arith}
 use Rattle.std.specs.Prelude.{if◌then◌else◌}
 use Rattle.std.proofs.lemmas.Bool.{eqb-true, eqb-false, cond_both}
@@ -131,7 +131,7 @@ unfolding word_fields
 words_width d last k zero = refl
 words_width d last k (suc n) = omega (arith, words_width d (word_number k (d k) last % 4) (suc k) n)
 
--- the words of the data bits are in the bits
+-- the words of the data bits stand in the bits
 words_stand : (bits : List ℕ) (d : ℕ → ℕ) (k n : ℕ) → k + n ≡ 10 → ((j : ℕ) → d j < 2 ^ 24)
     → ((j : ℕ) → j < 10 → IsWord j (word_of bits j) (last_before bits j) (d j)) → number_at bits 300 4 ≡ 0
     → StandFrom bits 0 (30 * k) (word_fields d (last_before bits k) k n) × ZerosFrom bits 0 (30 * k) (word_fields d (last_before bits k) k n)
@@ -154,7 +154,7 @@ words_stand bits d k (suc n) end low words behind =
           (subst (λ p. ZerosFrom bits 0 p (word_fields d (word_of bits k % 4) (suc k) n)) next rest.1),
     )
 
--- written bytes are those of the function
+-- what is written is the function's
 pub written_is : (body : SubframeOut) (tow_count : ℕ) (bits : List ℕ) → HasBits body → tow_count < 100800 → AreBytes 38 bits → IsWritten body tow_count bits
     → bits ≡ subframe_bytes body tow_count
 unfolding subframe_bytes last_before

@@ -19,7 +19,7 @@ chosen_30 : (f g : ℕ → ℕ) (star x p0 p1 : ℕ) → ((n : ℕ) → 1 ≤ n 
     → (x + star + sum (map f row_30)) % 2 ≡ 0 → x ≡ 0
 chosen_30 f g star x p0 p1 same none_23 none_24 parity choice_24 choice_23 digit even = omega arith
 
--- two choices are equal
+-- two choices are the same
 one_24 : (f g : ℕ → ℕ) (star x y : ℕ) → ((n : ℕ) → 1 ≤ n → n ≤ 22 → f n ≡ g n) → x ≡ 0 → y ≡ 0 → f 24 < 2 → g 24 < 2
     → (x + star + sum (map f row_29)) % 2 ≡ 0 → (y + star + sum (map g row_29)) % 2 ≡ 0 → f 24 ≡ g 24
 one_24 f g star x y same zero_x zero_y p q even_f even_g = omega arith
@@ -34,7 +34,7 @@ upper_bit bits r n fits h =
     let e : 24 - n - 2 ≡ 22 - n = omega arith in
     bit_at_cat_high bits 2 r (24 - n) fits (omega arith) ∙ ap (bit_at bits) e
 
--- the word whose last two source bits the code chose
+-- the word of which the code chose the last two source bits
 pub solved : (word last bits parity d23 d24 : ℕ) → IsParity (bits * 4) last parity → d24 ≡ parity / 2 % 2 → d23 ≡ (parity + d24) % 2
     → IsGood word last → IsSource word last (bits * 4 + (2 * d23 + d24)) → IsSolved word last bits
 solved word last bits parity d23 d24 is choice_24 choice_23 good from =
@@ -72,7 +72,7 @@ to_24 P first p23 p24 n low high =
       ]
     ]
 
--- the solved word of these source bits is unique
+-- there is one solved word of these source bits
 pub one_solved : (w v last bits : ℕ) → w < 2 ^ 30 → v < 2 ^ 30 → IsSolved w last bits → IsSolved v last bits → w ≡ v
 one_solved w v last bits fits_w fits_v one two =
     let f = source w last in

@@ -6,13 +6,13 @@ use Rattle.std.proofs.lemmas.Nat.Bits.{bit_at-lt, same_from_bits_below}
 use Rattle.lnav_subframe.specs.Parity.{sent, source, d30_star, IsGood, IsSource}
 use Rattle.lnav_subframe.specs.ParityMirrors.{IsParity, masked_sum}
 use Rattle.lnav_subframe.proofs.Sums.{SameSums, same_sums, masked_sum-row_25, masked_sum-row_26, masked_sum-row_27, masked_sum-row_28, masked_sum-row_29, masked_sum-row_30}
-use Rattle.lnav_subframe.proofs.WordBits.{all_star, all_source, inverted_same}
+use Rattle.lnav_subframe.proofs.Digits.{all_star, all_source, inverted_same}
 
 -- one row: of the masked bits, the parity bit
 row_parity : (r masked star star' s t : ℕ) → r ≡ masked % 2 → masked ≡ star + s → star ≡ star' → s ≡ t → r ≡ (star' + t) % 2
 row_parity r masked star star' s t e row stars sums = omega arith
 
--- six bits as one number
+-- six bits in one number
 pub six_bits : (a b c d e f : ℕ) → a < 2 → b < 2 → c < 2 → d < 2 → e < 2 → f < 2
     → let n = 32 * a + 16 * b + 8 * c + 4 * d + 2 * e + f in
     (n < 64) × (bit_at n 5 ≡ a) × (bit_at n 4 ≡ b) × (bit_at n 3 ≡ c) × (bit_at n 2 ≡ d) × (bit_at n 1 ≡ e) × (bit_at n 0 ≡ f)
@@ -50,7 +50,7 @@ even_to x star s t p digit parity sums even = omega arith
 even_same : (x y star s t : ℕ) → x < 2 → y < 2 → s ≡ t → (x + star + s) % 2 ≡ 0 → (y + star + t) % 2 ≡ 0 → x ≡ y
 even_same x y star s t p q sums one two = omega arith
 
--- six parity bits with equal bits are equal
+-- the bits of the six parity bits are the same
 pub record SameParity (word parity : ℕ) : Type 0 where
   pub same : (k : ℕ) → k < 6 → bit_at word k ≡ bit_at parity k
 
@@ -102,7 +102,7 @@ same_parity w v last bits one two good_w good_v =
     (even_same (bit_at w 4) (bit_at v 4) _ _ _ (bit_at-lt w 4) (bit_at-lt v 4) sums.d26 good_w.d26 good_v.d26)
     (even_same (bit_at w 5) (bit_at v 5) _ _ _ (bit_at-lt w 5) (bit_at-lt v 5) sums.d25 good_w.d25 good_v.d25)
 
--- the good word of these source bits is unique
+-- there is one good word of these source bits
 pub one_word : (w v last bits : ℕ) → w < 2 ^ 30 → v < 2 ^ 30 → IsSource w last bits → IsSource v last bits → IsGood w last → IsGood v last → w ≡ v
 one_word w v last bits fits_w fits_v one two good_w good_v =
     same_from_bits_below 30 w v fits_w fits_v (λ i h. elim (cases_lt i 6) [

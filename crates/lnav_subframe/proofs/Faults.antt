@@ -1,4 +1,4 @@
--- The content read from a subframe's data bits is of GPS.
+-- What is read of a subframe's data bits is of GPS.
 use Rattle.std.proofs.Common.{◌≡◌, ℕ, List, Bool, true, false, Result, Ok, Err, ◌<◌, refl, sym, subst, ◌∙◌, nat_eq, nat_le, nat_lt, ◌&&◌, if◌then◌else◌}
 use Rattle.nav_bits.specs.Laws.{number_at-lt}
 use Rattle.nav_eph.specs.Conditions.{HasGpsWeek, IsPart, system_of}
@@ -19,14 +19,14 @@ either : (P : Result Body LnavFault → Type 0) (b : Bool) (x y : Result Body Ln
 either P true x y p q = p
 either P false x y p q = q
 
--- the data bits to be read are those of the subframe
+-- the data bits of what is to be read are those of the subframe
 pub is_subframe : (bits new source : List ℕ) → HasPreamble bits → new ≡ upright bits → AreGood new 10 → AreSource new source 10 → IsSubframe bits source
 is_subframe bits new source preamble e good data_bits =
     let Good : List ℕ → Type 0 = λ u. AreGood u 10 in
     let Data : List ℕ → Type 0 = λ u. AreSource u source 10 in
     record { preamble = preamble; good = subst Good e good; data_bits = subst Data e data_bits }
 
--- the content read is a body of GPS, and the week number of its tag has ten bits
+-- what is read is a body of GPS, and the week number of its tag has ten bits
 abbrev OfGps : Result Body LnavFault → Type 0
 OfGps (Ok body) = (system_of body ≡ Gps) × HasGpsWeek body
 OfGps (Err fault) = Unit {0}
@@ -39,7 +39,7 @@ of_gps h s1 s2 s3 p ten =
     (either OfGps (nat_eq h.number 3) _ _ (refl, tt)
     (either OfGps (nat_eq h.number 4 && nat_eq h.page 56) _ _ (refl, tt) tt))))
 
--- the part read from a GPS satellite is one that it can send
+-- the part of a satellite of GPS that is read is one that it can send
 pub is_part : (source : List ℕ) (sat : Satellite) (body : Body) → sat.system ≡ Gps → content source ≡ Ok body → IsPart sat body
 is_part source sat body gps e =
     let of : (system_of body ≡ Gps) × HasGpsWeek body =

@@ -1,4 +1,4 @@
--- The function of the reading agrees with the relation.
+-- The function of the reading is the reading.
 use Rattle.std.proofs.Common.{◌≡◌, ℕ, zero, suc, ◌+◌, ◌-◌, ◌*◌, ◌<◌, ◌≤◌, List, Bool, true, false, ◌||◌, if◌then◌else◌, nat_eq, Option, None, Some, Result, Ok, Err, inl, inr, refl, sym, ap, ◌∙◌, subst, arith}
 use Rattle.std.proofs.lemmas.Bool.{cases_lt, cond_both, eqb-true, true≢false}
 use Rattle.nav_bits.specs.Bits.{number_at}
@@ -153,11 +153,11 @@ one_bad : (bits : List ℕ) (word : ℕ) (w : Option ℕ) → IsFirstBad bits wo
 one_bad bits word None bad is = absurd (bad.bad (is (word - 1) (omega arith) (omega (arith, bad.low, bad.high))))
 one_bad bits word (Some v) bad is = ap Some (same_word bits v word (first_bad bits v is) bad)
 
--- by whether the bits begin with a preamble
+-- by whether the bits begin as a subframe
 abbrev by_preamble : List ℕ → Satellite → ℕ → Bool → Result Part LnavFault
 by_preamble bits sat stamp begins = if begins then by_words (upright bits) sat stamp (bad_word_from (upright bits) 0 10) else Err Preamble
 
--- the function gives the content of the data bits of a subframe, and refuses other bits
+-- the function gives what the data bits of a subframe stand for, and refuses other bits
 pub of_subframe : (bits source : List ℕ) (sat : Satellite) (stamp : ℕ) → IsSubframe bits source → subframe_of bits sat stamp ≡ heard sat stamp (content source)
 unfolding subframe_of
 of_subframe bits source sat stamp is =
@@ -176,7 +176,7 @@ pub of_no_preamble : (bits : List ℕ) (sat : Satellite) (stamp : ℕ) → (HasP
 unfolding subframe_of
 of_no_preamble bits sat stamp none = ap (by_preamble bits sat stamp) (no_preamble_from bits none)
 
--- the bits encode the part that the function gives, and the function gives the part that they encode
+-- the bits stand for the part that the function gives, and the function gives the part that they stand for
 abbrev given : Part → Result Part LnavFault
 given p = Ok p
 
@@ -210,7 +210,7 @@ stands_back bits sat stamp part h =
     let t = sym h.1 in
     of_subframe bits h.2.0 sat stamp h.2.1 ∙ ap (heard sat stamp) h.2.2 ∙ (λ i. Ok (record { stamp = s i; sat = t i; body = part.body }))
 
--- a written subframe is read with the same content
+-- what was written is read as it was
 pub read_as_written : (body : SubframeOut) (tow_count : ℕ) (bits : List ℕ) → tow_count < 100800 → IsWritable body → HasTime body → IsWritten body tow_count bits
     → AllReadAs bits (read_again body tow_count)
 read_as_written body tow_count bits low ok time written sat stamp =

@@ -1,5 +1,5 @@
 pub mod Sums
-pub mod WordBits
+pub mod Digits
 pub mod Equations
 pub mod ParityWords
 pub mod Choice

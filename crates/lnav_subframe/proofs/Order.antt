@@ -1,4 +1,4 @@
--- The fault of a reading is the first fault of the subframe.
+-- The fault of a reading is the first in the order of those that the subframe has.
 use Rattle.std.proofs.Common.{◌≡◌, ℕ, zero, suc, ◌-◌, ◌<◌, ◌≤◌, ◌&&◌, ◌↔◌, ◌⊎◌, List, Bool, true, false, nat_eq, nat_le, nat_lt, Option, None, Some, Result, Ok, Err, inl, inr, refl, sym, ap, ◌∙◌, subst, arith, ⊎_elim}
 use Rattle.std.proofs.lemmas.Bool.{and_parts, cond_both, eqb-false, eqb-true, leb-false, leb-true, ltb-false, ltb-true, true≢false}
 use Rattle.nav_eph.specs.Satellite.{Satellite}
@@ -14,7 +14,7 @@ use Rattle.lnav_subframe.specs.Words.{AreGood, HasPreamble, IsFirstBad, bad_word
 use Rattle.lnav_subframe.proofs.Again.{good_before, same_word}
 use Rattle.lnav_subframe.proofs.Functions.{Judged, first_bad, judged, preamble_false, preamble_true}
 
--- ---- the faults earlier in the order
+-- ---- the faults before a place in the order
 
 clear : (bits : List ℕ) (k : ℕ) → (1 < k → HasPreamble bits) → (2 < k → AreGood (upright bits) 10) → (3 < k → (head_of bits).tow_count < 100800)
     → (4 < k → IsUsed (head_of bits)) → (5 < k → HasFault bits BadTime → ⊥) → (other : LnavFault) → order_of other < k → HasFault bits other → ⊥
@@ -61,7 +61,7 @@ not_used h no1 no2 no3 no4 used =
     (λ (page : (h.number ≡ 4) × (h.page ≡ 56)). true≢false (sym (rw (page.0, page.1) refl) ∙ no4))
     rest) more) used
 
--- the toc or toe of a subframe that has none
+-- the time of a subframe that says none
 no_time : (bits : List ℕ) (n : ℕ) → (head_of bits).number ≡ n → 3 ≤ n → HasFault bits BadTime → ⊥
 no_time bits n is more (inl one) = omega (arith, is, more, one.0)
 no_time bits n is more (inr two) = omega (arith, is, more, two.0)
@@ -134,7 +134,7 @@ judges bits sat stamp =
     (λ begins. of_words bits sat stamp (bad_word_from (upright bits) 0 10) (preamble_true bits begins) (judged (upright bits) 0 10))
     (λ none. no_preamble bits (preamble_false bits none))
 
--- ---- the first fault is unique
+-- ---- there is one first fault
 
 word_or : Option ℕ → ℕ
 word_or None = 0

@@ -1,4 +1,4 @@
--- The functions agree with the relations of the parity table.
+-- The functions give what the table says, and nothing else does.
 use Rattle.std.proofs.Common.{◌≡◌, ℕ, ◌+◌, ◌-◌, ◌*◌, ◌/◌, ◌%◌, ◌^◌, ◌<◌, ◌↔◌, bit_xor, true, nat_eq, lit<, refl, sym, ap, ◌∙◌, arith}
 use Rattle.std.specs.Int.{bit_at}
 use Rattle.std.proofs.lemmas.Bool.{cond_both, eqb-true, eqb-false}
@@ -9,7 +9,7 @@ use Rattle.lnav_subframe.specs.Parity.{d30_star, IsGood, IsSource, IsSolved}
 use Rattle.lnav_subframe.specs.ParityFunctions.{chosen_23, chosen_24, is_good, made_of, parity_number, solved_of, source_of, inverted_by}
 use Rattle.lnav_subframe.specs.ParityMirrors.{IsParity}
 use Rattle.lnav_subframe.proofs.Choice.{solved}
-use Rattle.lnav_subframe.proofs.WordBits.{data_bit}
+use Rattle.lnav_subframe.proofs.Digits.{data_bit}
 use Rattle.lnav_subframe.proofs.Equations.{six_bits}
 use Rattle.lnav_subframe.proofs.ParityWords.{made_good, made_source}
 
@@ -54,7 +54,7 @@ source-is word last = record {
       ∙ ap (λ d. (d + d30_star last) % 2) (low_bits (word / 2 ^ 6) (24 - n) (omega arith) ∙ data_bit word n high);
 }
 
--- the source bits of a word are unique
+-- there are no two numbers of the source bits of one word
 pub one_source : (word last a b : ℕ) → IsSource word last a → IsSource word last b → a ≡ b
 one_source word last a b p q =
     same_from_bits_below 24 a b p.fits q.fits

@@ -1,4 +1,4 @@
--- Lemmas that proofs of other crates cite: the source bits of a word, and the functions of words.
+-- What proofs of other crates cite: the source bits of a word, and the functions of words.
 pub use Rattle.lnav_subframe.proofs.ParityWords.{checked_source}
 pub use Rattle.lnav_subframe.proofs.Equations.{one_word}
 pub use Rattle.lnav_subframe.proofs.Choice.{one_solved}

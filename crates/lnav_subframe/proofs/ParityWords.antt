@@ -1,11 +1,11 @@
--- The code checks and makes words as the table says.
+-- What the code checks and makes is what the table says.
 use Rattle.std.proofs.Common.{◌≡◌, ℕ, ◌+◌, ◌-◌, ◌*◌, ◌/◌, ◌%◌, ◌^◌, ◌<◌, sym, ap, ◌∙◌, arith}
 use Rattle.std.specs.Int.{bit_at}
 use Rattle.std.proofs.lemmas.Nat.{mod_below}
 use Rattle.std.proofs.lemmas.Nat.Bits.{bit_at-lt, same_from_bits_below}
 use Rattle.lnav_subframe.specs.Parity.{d30_star, IsGood, IsSource}
 use Rattle.lnav_subframe.specs.ParityMirrors.{IsParity}
-use Rattle.lnav_subframe.proofs.WordBits.{data_bit, parity_bit, made_data, made_parity, inverted_twice}
+use Rattle.lnav_subframe.proofs.Digits.{data_bit, parity_bit, made_data, made_parity, inverted_twice}
 use Rattle.lnav_subframe.proofs.Equations.{SameParity, good_from_parity, parity_from_good}
 
 -- the data bits of a word, inverted where D30* is 1, are its source bits
@@ -16,7 +16,7 @@ checked_source word last bits fits each = record {
   each = λ n low high. each (24 - n) (omega arith) ∙ ap (λ d. (d + d30_star last) % 2) (data_bit word n high);
 }
 
--- a word whose low six bits are the parity of its source bits is good
+-- a word whose lowest six bits are the parity of its source bits is good
 pub checked_good : (word last bits parity : ℕ) → IsSource word last bits → IsParity bits last parity → parity ≡ word % 64 → IsGood word last
 checked_good word last bits parity from is same =
     good_from_parity word last bits parity from is

@@ -1,4 +1,4 @@
--- Words at their bit offsets: writing a word leaves the others unchanged.
+-- Words at their places: what a word that is put leaves of the others.
 use Rattle.std.proofs.Common.{◌≡◌, ℕ, zero, suc, ◌+◌, ◌*◌, ◌/◌, ◌%◌, ◌<◌, ◌≤◌, List, refl, ap, arith, below_more}
 use Rattle.nav_bits.specs.Bits.{number_at, Puts, SameOutside}
 use Rattle.nav_bits.specs.Laws.{number_at-before}
@@ -25,7 +25,7 @@ sources_more bits old new k value before puts here =
 abbrev pub WordsBelow : List ℕ → List ℕ → ℕ → Type 0
 WordsBelow source bits n = (k : ℕ) → k < n → IsWord k (word_of bits k) (last_before bits k) (number_at source (30 * k) 24)
 
--- the last two bits before a word depend only on the words before it
+-- the last two bits before a word rest on the words before it
 pub last_same : (old new : List ℕ) (at end : ℕ) → SameOutside old new at end → (j : ℕ) → 30 * j ≤ at → last_before new j ≡ last_before old j
 unfolding last_before
 last_same old new at end same zero h = refl
@@ -41,7 +41,7 @@ words_more source old new k word before puts here =
     rw (e, e') (before j h))
     (let e' : last_before new k ≡ last_before old k = last_same old new (30 * k) (30 * k + 30) puts.others k (omega arith) in rw (puts.number, e') here)
 
--- a word by its bit offset
+-- a word by its place
 pub second_word : (k word last bits : ℕ) → k ≡ 1 → IsSolved word last (bits / 4) → IsWord k word last bits
 second_word k word last bits e is = record {
   second = λ same. is;

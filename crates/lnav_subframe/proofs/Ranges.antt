@@ -1,4 +1,4 @@
--- The fields of a read part are within their widths in bits.
+-- What is read has each field of its content within its bits: the bits that hold it are no more.
 use Rattle.std.proofs.Common.{◌≡◌, ℕ, ◌+◌, ◌*◌, ◌<◌, ◌^◌, List, ◌&&◌, nat_eq, nat_le, nat_lt, Result, Ok, Err, subst, arith}
 use Rattle.std.proofs.lemmas.Bool.{cond_both, ltb-true}
 use Rattle.nav_bits.specs.Bits.{number_at, signed_at}

@@ -1,4 +1,4 @@
--- `subframe_bytes` is a written subframe, and it is read with the same content.
+-- The bytes of a subframe are those in which it is written, and are read as it was.
 use Rattle.std.proofs.Common.{◌≡◌, ℕ, zero, suc, ◌+◌, ◌-◌, ◌*◌, ◌/◌, ◌%◌, ◌^◌, ◌<◌, ◌≤◌, ◌||◌, nat_eq, inl, inr, List, Bool, true, false, ℤ, lit<, refl, sym, ap, ◌∙◌, subst, arith}
 use Rattle.std.specs.Prelude.{if◌then◌else◌}
 use Rattle.std.specs.Int.{bytes_high_first}
@@ -38,7 +38,7 @@ signed_whole : (h l : ℕ) (z : ℤ) → IsSigned 32 z → h ≡ unsigned_of 32 
 signed_whole h l z fits high low =
     ap (signed_of 32) (whole_24 h l (unsigned_of 32 z) high low) ∙ signed_of-unsigned 32 z (omega arith) fits
 
--- where the table of a subframe is in the bits, they hold its fields
+-- where the table of a subframe stands, its fields are held
 holds : (body : SubframeOut) (tow_count : ℕ) (a : List ℕ) → HasBits body → StandFrom a 0 0 (data_table body tow_count)
     → ZerosFrom a 0 0 (data_table body tow_count) → Holds body tow_count a
 holds (Clock clock side wn) tow_count a has (is_pre, (is_count, (is_num, (is_wn, (is_l2_code, (is_ura, (is_health, (is_iodc_h, (is_l2p, (is_tgd, (is_iodc_l, (is_toc, (is_af2, (is_af1, (is_af0, u))))))))))))))) (z0, (z1, (z2, (z3, (z4, (z5, (z6, (z7, (z8, (z9, u')))))))))) =
@@ -59,7 +59,7 @@ holds (Ion ion) tow_count a has (is_pre, (is_count, (is_num, (is_id, (is_page, (
 holds (Other number page) tow_count a has (is_pre, (is_count, (is_number, (is_id, (is_page, u))))) (z0, (z1, (z2, (z3, (z4, (z5, (z6, u'))))))) =
     (simp (is_count, is_number, is_page), (is_pre, z0, z1, z2, is_id, z3, z4, z5, z6))
 
--- the data bits of a subframe, followed by four 0 bits
+-- the data bits of a subframe, and four places that are 0
 abbrev data_bytes : SubframeOut → ℕ → List ℕ
 data_bytes body tow_count = bytes_high_first 38 (pack 0 (data_table body tow_count) * 16)
 
@@ -101,7 +101,7 @@ word_by k last bits false false e e' fits =
 word_stands : (k last bits : ℕ) → bits < 2 ^ 24 → IsWord k (word_number k bits last) last bits
 word_stands k last bits fits = word_by k last bits (nat_eq k 1) (nat_eq k 9) refl refl fits
 
--- where the words are in the bits, each is that of its data bits and of the previous word
+-- where the words stand, each is that of its data bits and of the word before
 words_back : (bits : List ℕ) (d : ℕ → ℕ) (k n : ℕ) → StandFrom bits 0 (30 * k) (word_fields d (last_before bits k) k n)
     → (j : ℕ) → k ≤ j → j < k + n → word_of bits j ≡ word_number j (d j) (last_before bits j)
 unfolding word_fields last_before
@@ -120,7 +120,7 @@ words_back bits d k (suc n) stand j low high =
       | inr same ↦ let e : k ≡ j = omega arith in subst (λ i. word_of bits i ≡ word_number i (d i) (last_before bits i)) e here
     ]
 
--- the bits after the last word
+-- the places behind the last word
 behind_words : (bits : List ℕ) (d : ℕ → ℕ) (last k n : ℕ) → k + n ≡ 10 → ZerosFrom bits 0 (30 * k) (word_fields d last k n) → number_at bits 300 4 ≡ 0
 unfolding word_fields
 behind_words bits d last k zero end zeros = let place : 300 ≡ 0 + 30 * k = omega arith in ap (λ p. number_at bits p 4) place ∙ zeros.0

@@ -8,7 +8,7 @@ use Rattle.std.proofs.lemmas.Nat.Bits.{bit_at_and, bit_at-lt}
 use Rattle.lnav_subframe.specs.ParityMirrors.{masked_sum}
 use Rattle.lnav_subframe.specs.Parity.{row_25, row_26, row_27, row_28, row_29, row_30}
 
--- the number of ones of a single bit is its value
+-- one bit has as many ones as it says
 ones_bit : (b : ℕ) → b < 2 → count_ones b ≡ b
 unfolding count_ones
 ones_bit zero h = refl
@@ -64,7 +64,7 @@ pub masked_sum-row_30 : (f : ℕ → ℕ) → masked_sum 26 0x22DEA27 f ≡ f 25
 unfolding masked_sum
 masked_sum-row_30 f = omega arith
 
--- equal bits have equal sums over the rows
+-- the rows sum bits that are the same to the same
 pub record SameSums (f g : ℕ → ℕ) : Type 0 where
   pub d25 : sum (map f row_25) ≡ sum (map g row_25)
   pub d26 : sum (map f row_26) ≡ sum (map g row_26)

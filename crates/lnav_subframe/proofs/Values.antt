@@ -1,4 +1,4 @@
--- A read part has the satellite and stamp given, and its fields within their widths in bits.
+-- What is read has the satellite and the stamp with which it was heard, and its fields within their bits.
 use Rattle.std.proofs.Common.{◌≡◌, ℕ, ◌-◌, ◌*◌, ◌<◌, ◌^◌, List, ◌&&◌, nat_eq, nat_le, nat_lt, Result, Ok, Err, lit<, refl, sym, ap, ◌∙◌, subst, arith}
 use Rattle.std.proofs.lemmas.Bool.{cond_both, leb-false}
 use Rattle.nav_bits.specs.Bits.{number_at, signed_at}

@@ -1,4 +1,4 @@
--- The bytes of a subframe as a function of its content (IS-GPS-200, figure 20-1).
+-- The bytes of a subframe, as a function of what it is written from (IS-GPS-200, figure 20-1).
 use Rattle.std.specs.Prelude.{ℕ, zero, suc, ◌-◌, ◌*◌, ◌/◌, ◌%◌, ◌^◌, ◌<◌, List, [], ◌∷◌}
 use Rattle.std.specs.Prelude.{◌||◌, nat_eq, if◌then◌else◌}
 use Rattle.nav_bits.specs.Fields.{Field, unsigned, signed, reserved}
@@ -10,7 +10,7 @@ use Rattle.lnav_subframe.specs.ParityFunctions.{made_of, solved_of}
 use Rattle.lnav_subframe.specs.declared.out.SubframeOut.{SubframeOut}
 use Rattle.lnav_subframe.specs.declared.out.SubframeOut.TheVariants.{Clock, OrbitA, OrbitB, Ion, Other}
 
--- each field of the subframe is within its width in bits
+-- each field of the subframe is within its bits
 abbrev pub HasBits : SubframeOut → Type 0
 HasBits (Clock clock side wn) = IsGpsClock clock × IsGpsSide side × (wn < 2 ^ 10)
 HasBits (OrbitA orbit fit) = IsGpsOrbitA orbit × (fit < 2 ^ 1)
@@ -18,8 +18,8 @@ HasBits (OrbitB orbit) = IsGpsOrbitB orbit
 HasBits (Ion ion) = IsGpsIon ion
 HasBits (Other number page) = (number < 2 ^ 3) × (page < 2 ^ 6)
 
--- the 300 bits as a table of data fields, with 0 for parity bits and reserved bits; a field that is split
--- in two stands there as its high and its low bits
+-- the 300 data bits as a table, the parity bits and what is reserved being 0; a field in two ranges stands
+-- there as its high and its low bits
 abbrev pub data_table : SubframeOut → ℕ → List Field
 data_table (Clock clock side wn) tow_count =
     unsigned 8 139 ∷ reserved 22 ∷ unsigned 17 tow_count ∷ reserved 2 ∷ unsigned 3 1
@@ -64,20 +64,20 @@ data_table (Other number page) tow_count =
 abbrev pub data_of : SubframeOut → ℕ → ℕ → ℕ
 data_of body tow_count k = pack 0 (data_table body tow_count) / 2 ^ (276 - 30 * k) % 2 ^ 24
 
--- the word at an index, from its data bits and the last two bits of the previous word; in words 2 and 10 the
--- last two data bits are solved for so that the word ends in two 0 bits
+-- the word at an index, of its data bits and the last two bits of the word before: in words 2 and 10 the
+-- last two data bits are chosen so that the word ends in two bits that are 0
 abbrev pub word_number : ℕ → ℕ → ℕ → ℕ
 word_number k bits last =
     if nat_eq k 1 || nat_eq k 9 then solved_of (bits / 4) last else made_of bits last
 
--- the n words from the index k on, from the data bits of each and the last two bits of the previous word,
--- followed by four 0 bits
+-- the n words from the index k on, by the data bits of each and the last two bits of the word before, and
+-- 4 places that are 0 behind the last
 unfoldable pub word_fields : (ℕ → ℕ) → ℕ → ℕ → ℕ → List Field
 word_fields bits last k zero = reserved 4 ∷ []
 word_fields bits last k (suc n) =
     unsigned 30 (word_number k (bits k) last)
     ∷ word_fields bits (word_number k (bits k) last % 4) (suc k) n
 
--- the 38 bytes of a subframe with this TOW count
+-- the 38 bytes of a subframe with this count
 unfoldable pub subframe_bytes : SubframeOut → ℕ → List ℕ
 subframe_bytes body tow_count = packed 38 (word_fields (data_of body tow_count) 0 0 10)

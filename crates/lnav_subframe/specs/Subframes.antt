@@ -1,6 +1,6 @@
 -- The fields of the subframes of the LNAV message (IS-GPS-200, figure 20-1). Bit n of the standard is
--- at bit offset at + (n - 1); a field in two ranges is their concatenation. All other bits, parity bits
--- included, are 0, except for preamble, subframe ID, data ID and SV ID.
+-- at bit offset at + (n - 1); a field in two ranges is their concatenation. What is no field, the parity
+-- bits among it, is 0 but for the preamble and the numbers that name the subframe and the page.
 use Rattle.std.specs.Prelude.{◌≡◌, ℕ, ◌+◌, ◌*◌, ◌^◌, List}
 use Rattle.nav_bits.specs.Bits.{number_at, signed_at, SameInside}
 use Rattle.nav_bits.specs.Laws.{number_within}
@@ -11,7 +11,7 @@ use Rattle.lnav_subframe.specs.declared.orbit.Subframe2.{Subframe2}
 use Rattle.lnav_subframe.specs.declared.orbit.Subframe3.{Subframe3}
 use Rattle.lnav_subframe.specs.declared.page18.Page18.{Page18}
 
--- the fields common to all subframes: TOW count, subframe ID and, in subframes 4 and 5, the SV ID
+-- what each subframe says of itself: its count, its number and, in subframes 4 and 5, its page
 abbrev pub head_at : List ℕ → ℕ → Head
 head_at bits at = record {
   tow_count = number_at bits (at + 30) 17;
@@ -19,7 +19,7 @@ head_at bits at = record {
   page = number_at bits (at + 62) 6;
 }
 
--- its other bits, here and for each subframe below: the preamble, fixed IDs, and 0 elsewhere
+-- and what stands beside them, here and in each subframe below: the preamble, the number where it is known, and 0 in what is reserved
 abbrev pub head_rest : List ℕ → ℕ → Type 0
 head_rest bits at =
     (number_at bits (at + 0) 8 ≡ 139) × (number_at bits (at + 8) 22 ≡ 0) × (number_at bits (at + 47) 2 ≡ 0)
@@ -43,7 +43,6 @@ subframe1_at bits at = record {
   af0 = signed_at bits (at + 270) 22;
 }
 
--- the other bits of subframe 1
 abbrev pub subframe1_rest : List ℕ → ℕ → Type 0
 subframe1_rest bits at =
     (number_at bits (at + 0) 8 ≡ 139) × (number_at bits (at + 8) 22 ≡ 0) × (number_at bits (at + 47) 2 ≡ 0)
@@ -67,7 +66,6 @@ subframe2_at bits at = record {
   fit = number_at bits (at + 286) 1;
 }
 
--- the other bits of subframe 2
 abbrev pub subframe2_rest : List ℕ → ℕ → Type 0
 subframe2_rest bits at =
     (number_at bits (at + 0) 8 ≡ 139) × (number_at bits (at + 8) 22 ≡ 0) × (number_at bits (at + 47) 2 ≡ 0)
@@ -91,7 +89,6 @@ subframe3_at bits at = record {
   idot = signed_at bits (at + 278) 14;
 }
 
--- the other bits of subframe 3
 abbrev pub subframe3_rest : List ℕ → ℕ → Type 0
 subframe3_rest bits at =
     (number_at bits (at + 0) 8 ≡ 139) × (number_at bits (at + 8) 22 ≡ 0) × (number_at bits (at + 47) 2 ≡ 0)
@@ -114,7 +111,6 @@ page18_at bits at = record {
   beta3 = signed_at bits (at + 136) 8;
 }
 
--- the other bits of page 18
 abbrev pub page18_rest : List ℕ → ℕ → Type 0
 page18_rest bits at =
     (number_at bits (at + 0) 8 ≡ 139) × (number_at bits (at + 8) 22 ≡ 0) × (number_at bits (at + 47) 2 ≡ 0)
@@ -122,22 +118,18 @@ page18_rest bits at =
     × (number_at bits (at + 62) 6 ≡ 56) × (number_at bits (at + 84) 6 ≡ 0) × (number_at bits (at + 114) 6 ≡ 0)
     × (number_at bits (at + 144) 64 ≡ 0) × (number_at bits (at + 208) 64 ≡ 0) × (number_at bits (at + 272) 28 ≡ 0)
 
--- the fields of a subframe depend on its own 300 bits alone
+-- the fields of a subframe rest on its own bits alone
 pub head_own_bits : (a b : List ℕ) (at : ℕ) → SameInside a b at (at + 300) → head_at a at ≡ head_at b at
 head_own_bits a b at same = simp (number_within a b at 300 same)
 
--- the fields of subframe 1 depend on its own bits alone
 pub subframe1_own_bits : (a b : List ℕ) (at : ℕ) → SameInside a b at (at + 300) → subframe1_at a at ≡ subframe1_at b at
 subframe1_own_bits a b at same = simp (number_within a b at 300 same)
 
--- the fields of subframe 2 depend on its own bits alone
 pub subframe2_own_bits : (a b : List ℕ) (at : ℕ) → SameInside a b at (at + 300) → subframe2_at a at ≡ subframe2_at b at
 subframe2_own_bits a b at same = simp (number_within a b at 300 same)
 
--- the fields of subframe 3 depend on its own bits alone
 pub subframe3_own_bits : (a b : List ℕ) (at : ℕ) → SameInside a b at (at + 300) → subframe3_at a at ≡ subframe3_at b at
 subframe3_own_bits a b at same = simp (number_within a b at 300 same)
 
--- the fields of page 18 depend on its own bits alone
 pub page18_own_bits : (a b : List ℕ) (at : ℕ) → SameInside a b at (at + 300) → page18_at a at ≡ page18_at b at
 page18_own_bits a b at same = simp (number_within a b at 300 same)

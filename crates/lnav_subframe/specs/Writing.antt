@@ -1,4 +1,4 @@
--- The bits of a written subframe.
+-- Which bits a subframe is written with.
 use Rattle.std.specs.Prelude.{◌≡◌, ℕ, ◌*◌, ◌<◌, ◌≤◌, List, Result, Ok, Err}
 use Rattle.nav_bits.specs.Bits.{number_at}
 use Rattle.nav_eph.specs.Satellite.{Satellite}
@@ -23,18 +23,18 @@ use Rattle.lnav_subframe.specs.Subframes.{head_at, head_rest, subframe1_at, subf
 use Rattle.lnav_subframe.specs.Reading.{heard, start_second, subframe_of}
 use Rattle.lnav_subframe.specs.Words.{IsWord, last_before, word_of}
 
--- the subframe can be written: any other page is of subframe 4 or 5, and is not page 18 of subframe 4
+-- the subframe is one that is written: another page is one of subframe 4 or 5, and not page 18
 abbrev pub IsWritable : SubframeOut → Type 0
 IsWritable (Other number page) = (4 ≤ number) × (number ≤ 5) × ((number ≡ 4) → (page ≡ 56) → ⊥)
 IsWritable _ = Unit {0}
 
--- toc or toe, where there is one, is within the week
+-- its toc or toe, where it has one, is within the week
 abbrev pub HasTime : SubframeOut → Type 0
 HasTime (Clock clock side wn) = IsStep16 clock.toc
 HasTime (OrbitA orbit fit) = IsStep16 orbit.toe
 HasTime _ = Unit {0}
 
--- the fields of subframe 1
+-- the fields of each subframe
 abbrev pub subframe1_of : GpsClock → GpsSide → ℕ → ℕ → Subframe1
 subframe1_of c s wn tow_count = record {
   tow_count = tow_count;
@@ -51,7 +51,6 @@ subframe1_of c s wn tow_count = record {
   af0 = c.af0;
 }
 
--- the fields of subframe 2
 abbrev pub subframe2_of : GpsOrbitA → ℕ → ℕ → Subframe2
 subframe2_of o fit tow_count = record {
   tow_count = tow_count;
@@ -67,7 +66,6 @@ subframe2_of o fit tow_count = record {
   fit = fit;
 }
 
--- the fields of subframe 3
 abbrev pub subframe3_of : GpsOrbitB → ℕ → Subframe3
 subframe3_of o tow_count = record {
   tow_count = tow_count;
@@ -82,7 +80,6 @@ subframe3_of o tow_count = record {
   idot = o.idot;
 }
 
--- the fields of page 18 of subframe 4
 abbrev pub page18_of : GpsIon → ℕ → Page18
 page18_of i tow_count = record {
   tow_count = tow_count;
@@ -96,7 +93,7 @@ page18_of i tow_count = record {
   beta3 = i.beta3;
 }
 
--- the data bits have these fields and this TOW count, and all other bits as in `Subframes`
+-- the data bits hold these fields with this count, and what is no field is as it is to be
 abbrev pub Holds : SubframeOut → ℕ → List ℕ → Type 0
 Holds (Clock clock side wn) tow_count source = (subframe1_at source 0 ≡ subframe1_of clock side wn tow_count) × subframe1_rest source 0
 Holds (OrbitA orbit fit) tow_count source = (subframe2_at source 0 ≡ subframe2_of orbit fit tow_count) × subframe2_rest source 0
@@ -104,16 +101,16 @@ Holds (OrbitB orbit) tow_count source = (subframe3_at source 0 ≡ subframe3_of 
 Holds (Ion ion) tow_count source = (page18_at source 0 ≡ page18_of ion tow_count) × page18_rest source 0
 Holds (Other number page) tow_count source = (head_at source 0 ≡ record { tow_count = tow_count; number = number; page = page }) × head_rest source 0
 
--- the bits are the ten words of these data bits, followed by four 0 bits
+-- the bits are the ten words of these data bits, and 0 behind them
 pub record AreWords (bits source : List ℕ) : Type 0 where
   pub words : (k : ℕ) → k < 10 → IsWord k (word_of bits k) (last_before bits k) (number_at source (30 * k) 24)
   pub behind : number_at bits 300 4 ≡ 0
 
--- the bits are a subframe with these fields and this TOW count
+-- the bits are those of a subframe with these fields and this count
 abbrev pub IsWritten : SubframeOut → ℕ → List ℕ → Type 0
 IsWritten body tow_count bits = (source : List ℕ) × Holds body tow_count source × AreWords bits source
 
--- the answer when a written subframe is read
+-- what is read of a subframe that was written
 abbrev pub read_again : SubframeOut → ℕ → Result Body LnavFault
 read_again (Clock clock side wn) tow_count = Ok (ClockBody clock side (Sent wn (start_second tow_count)))
 read_again (OrbitA orbit fit) tow_count = Ok (OrbitABody orbit fit)
@@ -121,6 +118,6 @@ read_again (OrbitB orbit) tow_count = Ok (OrbitBBody orbit)
 read_again (Ion ion) tow_count = Ok (IonBody ion (start_second tow_count))
 read_again (Other number page) tow_count = Err (Unused number page)
 
--- for every satellite and stamp, reading the bits gives that answer
+-- the bits are read as that, of whichever satellite and at whichever second
 abbrev pub AllReadAs : List ℕ → Result Body LnavFault → Type 0
 AllReadAs bits answer = (sat : Satellite) (stamp : ℕ) → subframe_of bits sat stamp ≡ heard sat stamp answer

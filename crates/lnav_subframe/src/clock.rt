@@ -3,29 +3,29 @@ use nav_bits::{Layout, S, U, put_numbers};
 /// The fields of subframe 1 in its 300 bits (IS-GPS-200, figure 20-1, sheet 1).
 #[derive(Clone, Copy)]
 pub struct Subframe1 {
-    /// TOW count of the HOW: the start of the next subframe, in units of 6 s from the start of the week.
+    /// How many times 6 s of the week have passed when the next subframe starts.
     pub tow_count: U<17>,
-    /// The week number, modulo 1024.
+    /// The week number.
     pub wn: U<10>,
-    /// The code or codes on L2.
+    /// The codes on L2.
     pub l2_code: U<2>,
-    /// The user range accuracy (URA) index.
+    /// User range accuracy, an index.
     pub ura: U<4>,
-    /// The SV health.
+    /// The health of the satellite.
     pub health: U<6>,
-    /// Issue of data, clock (IODC).
+    /// Issue of data, clock.
     pub iodc: U<10>,
-    /// The L2 P data flag: 1 where the P code on L2 has no NAV data.
+    /// Whether the P code on L2 bears no data.
     pub l2p: U<1>,
-    /// Estimated group delay differential T_GD, in 2^-31 s.
+    /// Group delay, in 2^-31 s.
     pub tgd: S<8>,
-    /// The clock data reference time toc, in units of 16 s.
+    /// The time of the clock's data, in steps of 16 s.
     pub toc: U<16>,
-    /// Clock drift rate a_f2, in 2^-55 s/s².
+    /// Clock drift rate, in 2^-55 s/s².
     pub af2: S<8>,
-    /// Clock drift a_f1, in 2^-43 s/s.
+    /// Clock drift, in 2^-43 s/s.
     pub af1: S<16>,
-    /// Clock bias a_f0, in 2^-31 s.
+    /// Clock bias, in 2^-31 s.
     pub af0: S<22>,
 }
 
@@ -67,15 +67,15 @@ impl Layout for Subframe1 {
                 (1, self.l2p.value()),
                 (64, 0),
                 (41, 0),
-                (8, self.tgd.bit_pattern()),
+                (8, self.tgd.digits()),
                 (6, 0),
                 (8, iodc_low.value()),
                 (16, self.toc.value()),
                 (6, 0),
-                (8, self.af2.bit_pattern()),
-                (16, self.af1.bit_pattern()),
+                (8, self.af2.digits()),
+                (16, self.af1.digits()),
                 (6, 0),
-                (22, self.af0.bit_pattern()),
+                (22, self.af0.digits()),
                 (8, 0),
             ],
         );

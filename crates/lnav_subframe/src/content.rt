@@ -12,13 +12,13 @@ use gnss_week::Second;
 use nav_bits::{BitForm, Bits, U};
 use nav_eph::{Body, GpsClock, GpsIon, GpsOrbitA, GpsOrbitB, GpsSide, SentTag, Step16};
 
-// The subframes of a week, one every 6 s.
+// The subframes of a week, which start 6 s apart.
 const SUBFRAMES_OF_WEEK: u64 = 100_800;
 
-// The SV ID of page 18 of subframe 4, with the ionosphere.
+// The SV ID of the page of subframe 4 that says the ionosphere.
 const IONOSPHERE: u64 = 56;
 
-// The second of the week at which the subframe with this TOW count starts.
+// The second of the week at which the subframe with that count starts.
 fn start(tow_count: U<17>) -> Second
     requires { tow_count < 100800 }
     ensures { result ≡ start_second tow_count }
@@ -30,7 +30,7 @@ fn start(tow_count: U<17>) -> Second
     Second::from_number((6 * tow_count - 6) as u32)
 }
 
-// The body of subframe 1; `BadTime` where toc is past the end of the week.
+// The body that subframe 1 stands for.
 fn clock_body(fields: &Subframe1) -> Result<Body, LnavFault>
     requires { fields.now.tow_count < 100800 }
     ensures { result ≡ read_1 fields.now }
@@ -60,7 +60,7 @@ fn clock_body(fields: &Subframe1) -> Result<Body, LnavFault>
     Ok(Body::GpsClock(clock, side, tag))
 }
 
-// The body of subframe 2; `BadTime` where toe is past the end of the week.
+// The body that subframe 2 stands for.
 fn orbit_a_body(fields: &Subframe2) -> Result<Body, LnavFault>
     ensures { result ≡ read_2 fields.now }
 {
@@ -82,7 +82,7 @@ fn orbit_a_body(fields: &Subframe2) -> Result<Body, LnavFault>
     Ok(Body::GpsA(orbit, fields.fit))
 }
 
-// The body of subframe 3.
+// The body that subframe 3 stands for.
 fn orbit_b_body(fields: &Subframe3) -> Result<Body, LnavFault>
     ensures { result ≡ read_3 fields.now }
 {
@@ -100,7 +100,7 @@ fn orbit_b_body(fields: &Subframe3) -> Result<Body, LnavFault>
     Ok(Body::GpsB(orbit))
 }
 
-// The body of page 18 of subframe 4.
+// The body that page 18 of subframe 4 stands for.
 fn ion_body(fields: &Page18) -> Result<Body, LnavFault>
     requires { fields.now.tow_count < 100800 }
     ensures { result ≡ read_18 fields.now }
@@ -118,7 +118,7 @@ fn ion_body(fields: &Page18) -> Result<Body, LnavFault>
     Ok(Body::GpsIon(ion, start(fields.tow_count)))
 }
 
-// The page in `LnavFault::Unused`: the SV ID in subframes 4 and 5, 0 in others.
+// The page that a subframe is refused with.
 fn page(head: &Head) -> u8
     ensures { result ≡ page_of head.now }
 {
@@ -133,7 +133,7 @@ fn page(head: &Head) -> u8
     0
 }
 
-// The body that the data bits of a subframe encode, or the first fault in them.
+// What the data bits of a subframe stand for, or the first fault in them.
 pub(crate) fn content_of(source: &Bits<38>) -> Result<Body, LnavFault>
     ensures { result ≡ content source.now }
 {

@@ -1,14 +1,14 @@
 use nav_bits::{Layout, U, put_numbers};
 
-/// The HOW fields of a subframe and its page (IS-GPS-200, 20.3.3.1 and 20.3.3.2), in its 300 bits.
-/// Written, it is a page of subframe 4 or 5 whose other data bits are 0.
+/// What each subframe says of itself (IS-GPS-200, 20.3.3.1 and 20.3.3.2), in its 300 bits: its
+/// count, its number and its page. Written, it is a page of subframe 4 or 5 of which all else is 0.
 #[derive(Clone, Copy)]
 pub struct Head {
-    /// TOW count of the HOW: the start of the next subframe, in units of 6 s from the start of the week.
+    /// How many times 6 s of the week have passed when the next subframe starts.
     pub tow_count: U<17>,
-    /// The subframe ID.
+    /// The number of the subframe.
     pub number: U<3>,
-    /// The SV (page) ID of subframes 4 and 5.
+    /// The SV ID of a page of subframe 4 or 5.
     pub page: U<6>,
 }
 

@@ -1,18 +1,18 @@
-//! Reading and writing subframes of the GPS LNAV message (IS-GPS-200, 20.3 and figure 20-1).
+//! The subframes of the LNAV message, read and written (IS-GPS-200, 20.3 and figure 20-1).
 //!
-//! A subframe has 300 bits, ten words of 30, with the TOW count (units of 6 s), the subframe ID and a
-//! portion of the navigation data.
+//! A subframe is 300 bits, ten words of 30, and carries the TOW count (of 6 s), its number and a part of
+//! what the satellite broadcasts. Here are
 //!
-//! - [`read_subframe`] gives the part that some bits encode, or the first fault in them
+//! - [`read_subframe`], the part that some bits stand for, or the first fault in them
 //!   ([`LnavFault`]);
-//! - [`write_subframe`] gives the bits of a [`SubframeOut`].
+//! - [`write_subframe`], the bits of a [`SubframeOut`].
 //!
-//! Used are the clock (subframe 1), the orbit (subframes 2 and 3) and the ionosphere (page 18 of
-//! subframe 4); other subframes and pages are refused as [`LnavFault::Unused`].
+//! The clock (subframe 1), the orbit (subframes 2 and 3) and the ionosphere (page 18 of subframe 4)
+//! are used; other subframes are recognized and refused by name.
 //!
-//! Parity of a word (20.3.5.2, table 20-XIV): [`check_word`] gives its source bits exactly where the
-//! six parity equations hold, [`make_word`] makes the word of 24 source bits, and [`make_solved`] the
-//! word of 22 that ends in two 0 bits, as words 2 and 10 of a subframe do.
+//! The parity of a word (20.3.5.2, table 20-XIV): [`check_word`] gives its source bits exactly where
+//! its six parity equations hold, [`make_word`] makes the word of some source bits, and
+//! [`make_solved`] one that ends in two bits that are 0, as words 2 and 10 of a subframe do.
 //!
 //! ```rust
 //! use lnav_subframe::{LnavFault, SubframeOut, read_subframe, write_subframe};

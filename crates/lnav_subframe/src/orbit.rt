@@ -3,27 +3,27 @@ use nav_bits::{Layout, S, U, put_numbers};
 /// The fields of subframe 2 in its 300 bits (IS-GPS-200, figure 20-1, sheet 2).
 #[derive(Clone, Copy)]
 pub struct Subframe2 {
-    /// TOW count of the HOW: the start of the next subframe, in units of 6 s from the start of the week.
+    /// How many times 6 s of the week have passed when the next subframe starts.
     pub tow_count: U<17>,
-    /// Issue of data, ephemeris (IODE).
+    /// Issue of data, ephemeris.
     pub iode: U<8>,
-    /// Amplitude of the sine harmonic correction to the orbit radius, in 2^-5 m.
+    /// Sine correction to the orbit's radius, in 2^-5 m.
     pub crs: S<16>,
-    /// Mean motion difference from the computed value, in 2^-43 semicircles/s.
+    /// Correction to the mean motion, in 2^-43 semicircles/s.
     pub delta_n: S<16>,
-    /// Mean anomaly at toe, in 2^-31 semicircles.
+    /// Mean anomaly at the time of the ephemeris, in 2^-31 semicircles.
     pub m0: S<32>,
-    /// Amplitude of the cosine harmonic correction to the argument of latitude, in 2^-29 rad.
+    /// Cosine correction to the argument of latitude, in 2^-29 rad.
     pub cuc: S<16>,
     /// Eccentricity, in 2^-33.
     pub e: U<32>,
-    /// Amplitude of the sine harmonic correction to the argument of latitude, in 2^-29 rad.
+    /// Sine correction to the argument of latitude, in 2^-29 rad.
     pub cus: S<16>,
     /// Square root of the semi-major axis, in 2^-19 √m.
     pub root_a: U<32>,
-    /// The ephemeris reference time toe, in units of 16 s.
+    /// The time of the ephemeris, in steps of 16 s.
     pub toe: U<16>,
-    /// The fit interval flag: 1 where the curve fit interval is longer than 4 hours.
+    /// Whether the curve fit interval is longer than 4 hours.
     pub fit: U<1>,
 }
 
@@ -59,19 +59,19 @@ impl Layout for Subframe2 {
                 (3, 2),
                 (8, 0),
                 (8, self.iode.value()),
-                (16, self.crs.bit_pattern()),
+                (16, self.crs.digits()),
                 (6, 0),
-                (16, self.delta_n.bit_pattern()),
+                (16, self.delta_n.digits()),
                 (8, m0_high.value()),
                 (6, 0),
                 (24, m0_low.value()),
                 (6, 0),
-                (16, self.cuc.bit_pattern()),
+                (16, self.cuc.digits()),
                 (8, e_high.value()),
                 (6, 0),
                 (24, e_low.value()),
                 (6, 0),
-                (16, self.cus.bit_pattern()),
+                (16, self.cus.digits()),
                 (8, root_a_high.value()),
                 (6, 0),
                 (24, root_a_low.value()),
@@ -112,25 +112,25 @@ impl Layout for Subframe2 {
 /// The fields of subframe 3 in its 300 bits (IS-GPS-200, figure 20-1, sheet 3).
 #[derive(Clone, Copy)]
 pub struct Subframe3 {
-    /// TOW count of the HOW: the start of the next subframe, in units of 6 s from the start of the week.
+    /// How many times 6 s of the week have passed when the next subframe starts.
     pub tow_count: U<17>,
-    /// Amplitude of the cosine harmonic correction to the inclination, in 2^-29 rad.
+    /// Cosine correction to the inclination, in 2^-29 rad.
     pub cic: S<16>,
-    /// Longitude of the ascending node at the weekly epoch, in 2^-31 semicircles.
+    /// Longitude of the ascending node at the start of the week, in 2^-31 semicircles.
     pub omega0: S<32>,
-    /// Amplitude of the sine harmonic correction to the inclination, in 2^-29 rad.
+    /// Sine correction to the inclination, in 2^-29 rad.
     pub cis: S<16>,
-    /// Inclination at toe, in 2^-31 semicircles.
+    /// Inclination at the time of the ephemeris, in 2^-31 semicircles.
     pub i0: S<32>,
-    /// Amplitude of the cosine harmonic correction to the orbit radius, in 2^-5 m.
+    /// Cosine correction to the orbit's radius, in 2^-5 m.
     pub crc: S<16>,
     /// Argument of perigee, in 2^-31 semicircles.
     pub omega: S<32>,
-    /// Rate of right ascension, in 2^-43 semicircles/s.
+    /// Rate of the right ascension, in 2^-43 semicircles/s.
     pub omega_dot: S<24>,
-    /// Issue of data, ephemeris (IODE).
+    /// Issue of data, ephemeris.
     pub iode: U<8>,
-    /// Rate of inclination, in 2^-43 semicircles/s.
+    /// Rate of the inclination, in 2^-43 semicircles/s.
     pub idot: S<14>,
 }
 
@@ -165,25 +165,25 @@ impl Layout for Subframe3 {
                 (2, 0),
                 (3, 3),
                 (8, 0),
-                (16, self.cic.bit_pattern()),
+                (16, self.cic.digits()),
                 (8, omega0_high.value()),
                 (6, 0),
                 (24, omega0_low.value()),
                 (6, 0),
-                (16, self.cis.bit_pattern()),
+                (16, self.cis.digits()),
                 (8, i0_high.value()),
                 (6, 0),
                 (24, i0_low.value()),
                 (6, 0),
-                (16, self.crc.bit_pattern()),
+                (16, self.crc.digits()),
                 (8, omega_high.value()),
                 (6, 0),
                 (24, omega_low.value()),
                 (6, 0),
-                (24, self.omega_dot.bit_pattern()),
+                (24, self.omega_dot.digits()),
                 (6, 0),
                 (8, self.iode.value()),
-                (14, self.idot.bit_pattern()),
+                (14, self.idot.digits()),
                 (8, 0),
             ],
         );

@@ -1,38 +1,38 @@
 use nav_bits::U;
 use nav_eph::{GpsClock, GpsIon, GpsOrbitA, GpsOrbitB, GpsSide};
 
-/// The content of a subframe to be written.
+/// What a subframe is written from.
 #[derive(Clone, Copy)]
 pub enum SubframeOut {
     /// Subframe 1.
     Clock {
-        /// The clock parameters.
+        /// The clock.
         clock: GpsClock,
-        /// The SV status: codes on L2, URA, health and L2 P data flag.
+        /// What stands beside it.
         side: GpsSide,
-        /// The week number, modulo 1024.
+        /// The week number.
         wn: U<10>,
     },
     /// Subframe 2.
     OrbitA {
-        /// The orbit parameters of subframe 2.
+        /// The first half of the orbit.
         orbit: GpsOrbitA,
-        /// The fit interval flag: 1 where the curve fit interval is longer than 4 hours.
+        /// Whether the curve fit interval is longer than 4 hours.
         fit: U<1>,
     },
     /// Subframe 3.
     OrbitB {
-        /// The orbit parameters of subframe 3.
+        /// The second half of the orbit.
         orbit: GpsOrbitB,
     },
-    /// Page 18 of subframe 4, SV ID 56.
+    /// Page 18 of subframe 4.
     Ion {
-        /// The ionosphere parameters.
+        /// The ionosphere.
         ion: GpsIon,
     },
-    /// Any other page of subframe 4 or 5; its other data bits are 0.
+    /// Another page of subframe 4 or 5, of which all else is 0.
     Other {
-        /// The subframe ID, 4 or 5.
+        /// The number of the subframe, 4 or 5.
         number: U<3>,
         /// The SV ID; not 56 in subframe 4.
         page: U<6>,

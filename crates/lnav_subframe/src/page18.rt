@@ -3,7 +3,7 @@ use nav_bits::{Layout, S, U, put_numbers};
 /// The fields of page 18 of subframe 4 in its 300 bits (IS-GPS-200, figure 20-1, sheet 8).
 #[derive(Clone, Copy)]
 pub struct Page18 {
-    /// TOW count of the HOW: the start of the next subframe, in units of 6 s from the start of the week.
+    /// How many times 6 s of the week have passed when the next subframe starts.
     pub tow_count: U<17>,
     /// In 2^-30 s.
     pub alpha0: S<8>,
@@ -52,16 +52,16 @@ impl Layout for Page18 {
                 (8, 0),
                 (2, 1),
                 (6, 56),
-                (8, self.alpha0.bit_pattern()),
-                (8, self.alpha1.bit_pattern()),
+                (8, self.alpha0.digits()),
+                (8, self.alpha1.digits()),
                 (6, 0),
-                (8, self.alpha2.bit_pattern()),
-                (8, self.alpha3.bit_pattern()),
-                (8, self.beta0.bit_pattern()),
+                (8, self.alpha2.digits()),
+                (8, self.alpha3.digits()),
+                (8, self.beta0.digits()),
                 (6, 0),
-                (8, self.beta1.bit_pattern()),
-                (8, self.beta2.bit_pattern()),
-                (8, self.beta3.bit_pattern()),
+                (8, self.beta1.digits()),
+                (8, self.beta2.digits()),
+                (8, self.beta3.digits()),
                 (64, 0),
                 (64, 0),
                 (28, 0),

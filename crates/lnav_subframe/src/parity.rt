@@ -3,7 +3,7 @@ ghost use Rattle.std.specs.Int.{bit_at};
 ghost use Rattle.lnav_subframe.specs.ParityMirrors.{masked_sum, IsParity};
 ghost use Rattle.lnav_subframe.specs.Parity.{d30_star};
 
-// Rows of table 20-XIV as masks over D29*, D30* and d1 to d24; D29* is the most significant of 26 bits.
+// The rows of the table, over D29*, D30* and d1 to d24, D29* the highest of 26 bits.
 const ROW_25: u64 = 0x2EC_7CD2;
 
 const ROW_26: u64 = 0x176_3E69;
@@ -16,7 +16,7 @@ const ROW_29: u64 = 0x1AE_C7CD;
 
 const ROW_30: u64 = 0x22D_EA27;
 
-// The sum modulo 2 of the bits at which the mask has ones.
+// The sum modulo 2 of those bits at which the mask has ones.
 fn sum(number: u64, mask: u64) -> u64
     requires { number < 2 ^ 26 }
     ensures { result ≡ masked_sum 26 mask (bit_at number) % 2 }
@@ -24,7 +24,7 @@ fn sum(number: u64, mask: u64) -> u64
     u64::from((number & mask).count_ones() & 1)
 }
 
-// The parity bits D25 to D30 of the source bits, D25 the most significant.
+// The six parity bits of the source bits, D25 the highest.
 pub(crate) fn parity_of(bits: u64, last: u64) -> u64
     requires bits { bits < 2 ^ 24 }
     requires last { last < 4 }
@@ -40,7 +40,7 @@ pub(crate) fn parity_of(bits: u64, last: u64) -> u64
     32 * d25 + 16 * d26 + 8 * d27 + 4 * d28 + 2 * d29 + d30
 }
 
-// The 24 bits, inverted where D30* is 1.
+// Each of 24 bits, inverted where D30* is 1.
 pub(crate) fn inverted(digits: u64, last: u64) -> u64
     requires { digits < 2 ^ 24 }
     ensures fits { result < 2 ^ 24 }

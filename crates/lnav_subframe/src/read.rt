@@ -10,13 +10,12 @@ use crate::words::{inverted, source_of};
 use nav_bits::Bits;
 use nav_eph::{Part, Sat};
 
-// The preamble, the first eight bits of a subframe (IS-GPS-200, 20.3.3.1), and its complement.
+// The first eight bits of a subframe (IS-GPS-200, 20.3.3.1), and their complement.
 const PREAMBLE: u64 = 0b1000_1011;
 
 const INVERTED_PREAMBLE: u64 = 0b0111_0100;
 
-// The subframe with upright polarity; `Preamble` where it begins neither with the preamble nor with
-// its complement.
+// The subframe as it is to be read, or that it does not begin as one.
 fn righted(bits: &Bits<38>) -> Result<Bits<38>, LnavFault>
     ensures preamble { IfOk result (λ new. HasPreamble bits.now) }
     ensures same { IfOk result (λ new. new ≡ upright bits.now) }
@@ -30,14 +29,14 @@ fn righted(bits: &Bits<38>) -> Result<Bits<38>, LnavFault>
     }
 }
 
-/// Reads the first 300 bits as a subframe of the LNAV message (IS-GPS-200, figure 20-1), received from
-/// a GPS satellite at the stamp in seconds of the logger's clock; the last four bits are ignored. A
-/// subframe that begins with the complement of the preamble is inverted as a whole first (phase
-/// ambiguity of the receiver).
+/// The part that the first 300 bits stand for as a subframe of the LNAV message (IS-GPS-200, figure
+/// 20-1), heard from a satellite of GPS at a second of the logger; the last four bits are not
+/// looked at. A subframe that begins with the complement of the preamble is complemented whole before it
+/// is read.
 ///
-/// The error is the first of these faults: no preamble; the first word whose parity is wrong; a TOW
-/// count of 100,800 or more; a subframe other than 1, 2, 3 and page 18 of 4; a toc or toe of 37,800
-/// units of 16 s or more.
+/// The error is the first fault, as [`LnavFault`] orders them: no preamble; the first word whose
+/// parity is wrong; a count of 100,800 or more; a subframe other than 1, 2, 3 and page 18 of 4; a
+/// toc or toe of 37,800 steps or more.
 pub fn read_subframe(bits: &Bits<38>, sat: Sat, stamp: u32) -> Result<Part, LnavFault>
     requires { sat.system ≡ Gps }
     ensures whole { IfOk result (λ part. IsPart part.sat part.body) }

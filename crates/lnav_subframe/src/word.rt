@@ -4,8 +4,8 @@ ghost use Rattle.lnav_subframe.specs.Parity.{IsGood, IsSource, IsSolved};
 use crate::parity::{inverted, parity_of};
 use nav_bits::U;
 
-/// The source bits d1 to d24 of a word, d1 the most significant; `None` where one of its six parity
-/// equations fails (IS-GPS-200, 20.3.5.2). `last2` is D29* and D30*, the last two bits of the previous word.
+/// The source bits d1 to d24 of a word, exactly where its six parity equations hold (IS-GPS-200,
+/// 20.3.5.2). `last2` are D29* and D30*, the last two bits of the word before.
 pub fn check_word(word: U<30>, last2: U<2>) -> Option<U<24>>
     ensures good { IsSome result ↔ IsGood word last2 }
     ensures bits { IfSome result (IsSource word last2) }
@@ -20,7 +20,7 @@ pub fn check_word(word: U<30>, last2: U<2>) -> Option<U<24>>
     }
 }
 
-/// The word of the source bits d1 to d24.
+/// The word of these source bits, d1 to d24.
 pub fn make_word(bits: U<24>, last2: U<2>) -> U<30>
     ensures good { IsGood result last2 }
     ensures bits { IsSource result last2 bits }
@@ -30,7 +30,7 @@ pub fn make_word(bits: U<24>, last2: U<2>) -> U<30>
     U::from_bits((inverted(source, last) << 6) + parity_of(source, last))
 }
 
-/// The word of the source bits d1 to d22; d23 and d24 are solved for so that D29 and D30 are 0.
+/// The word of the source bits d1 to d22, with d23 and d24 so chosen that D29 and D30 are 0.
 pub fn make_solved(bits: U<22>, last2: U<2>) -> U<30>
     ensures { IsSolved result last2 bits }
 {

@@ -5,7 +5,7 @@ ghost use Rattle.lnav_subframe.specs.Writing.{AreWords};
 use crate::{check_word, make_solved, make_word};
 use nav_bits::{Bits, U};
 
-// Inverts all bits.
+// All bits inverted.
 pub(crate) fn inverted(bits: &Bits<38>) -> Bits<38>
     ensures { result ≡ complement bits.now }
 {
@@ -16,8 +16,8 @@ pub(crate) fn inverted(bits: &Bits<38>) -> Bits<38>
     Bits::from_bytes(bytes)
 }
 
-// The source bits of the ten words, each at its bit offset in the subframe, or the number (from 1) of
-// the first word whose parity is wrong.
+// The source bits of the ten words, each at the place of its data bit, or the first word whose
+// parity is wrong, counted from 1.
 pub(crate) fn source_of(bits: &Bits<38>) -> Result<Bits<38>, u8>
     ensures good { IfOk result (λ source. AreGood bits.now 10) }
     ensures source { IfOk result (λ source. AreSource bits.now source 10) }
@@ -36,7 +36,7 @@ pub(crate) fn source_of(bits: &Bits<38>) -> Result<Bits<38>, u8>
     Ok(source)
 }
 
-// The word at an index, from its data bits and the last two bits of the previous word.
+// The word at an index, of its data bits and the last two bits of the word before.
 fn word_at(k: usize, bits: u64, last: u64) -> u64
     requires bits { bits < 2 ^ 24 }
     requires last { last < 4 }

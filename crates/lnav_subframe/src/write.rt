@@ -92,7 +92,7 @@ fn page18(ion: &GpsIon, tow_count: U<17>) -> Page18
     }
 }
 
-// The data bits of a subframe, whose toc or toe is within the week.
+// The data bits of a subframe. Its time is within the week.
 fn data_bits(body: &SubframeOut, tow_count: U<17>) -> Bits<38>
     ensures fields { Holds body.now tow_count result }
     ensures time { HasTime body.now }
@@ -117,32 +117,32 @@ fn data_bits(body: &SubframeOut, tow_count: U<17>) -> Bits<38>
     bits
 }
 
-// States that each field of a clock is within its width in bits.
+// Each field of a clock is within its bits.
 fn clock_bits(clock: GpsClock)
     ensures { IsGpsClock clock }
 {}
 
-// States that each field of the SV status is within its width in bits.
+// Each field of a side is within its bits.
 fn side_bits(side: GpsSide)
     ensures { IsGpsSide side }
 {}
 
-// States that each field of subframe 2's orbit is within its width in bits.
+// Each field of a first half of an orbit is within its bits.
 fn orbit_a_bits(orbit: GpsOrbitA)
     ensures { IsGpsOrbitA orbit }
 {}
 
-// States that each field of subframe 3's orbit is within its width in bits.
+// Each field of a second half of an orbit is within its bits.
 fn orbit_b_bits(orbit: GpsOrbitB)
     ensures { IsGpsOrbitB orbit }
 {}
 
-// States that each field of an ionosphere is within its width in bits.
+// Each field of an ionosphere is within its bits.
 fn ion_bits(ion: GpsIon)
     ensures { IsGpsIon ion }
 {}
 
-// States that each field of a subframe is within its width in bits.
+// Each field of a subframe is within its bits.
 fn digits(body: &SubframeOut)
     ensures { HasBits body.now }
 {
@@ -165,10 +165,10 @@ fn digits(body: &SubframeOut)
     }
 }
 
-/// The 300 bits of a subframe of the LNAV message (IS-GPS-200, figure 20-1), followed by four 0 bits.
-/// `tow_count` is the TOW count of the HOW: the start of the next subframe in units of 6 s from the
-/// start of the week. TLM message, alert and anti-spoof flags, AODO and reserved bits are 0, the data ID
-/// of subframes 4 and 5 is 1, and words 2 and 10 end in two 0 bits.
+/// The 300 bits of a subframe of the LNAV message (IS-GPS-200, figure 20-1) and four bits that are
+/// 0. `tow_count` is the number of 6 s intervals of the week that have passed when the next subframe
+/// starts. The TLM message, alert, anti-spoof, AODO and what is reserved are 0, the data ID of
+/// subframes 4 and 5 is 1, and words 2 and 10 end in two bits that are 0.
 pub fn write_subframe(body: &SubframeOut, tow_count: U<17>) -> Bits<38>
     requires week { tow_count < 100800 }
     requires page { IsWritable body.now }

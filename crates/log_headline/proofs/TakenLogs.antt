@@ -1,4 +1,4 @@
--- A text that is the capture of a log is read as one.
+-- A text that is heard as a log is taken as one.
 use Rattle.std.proofs.Common.{◌≡◌, ◌++◌, ℕ, List, refl, ap, ◌∙◌}
 use Rattle.std.proofs.lemmas.Bool.{eq-eqb}
 use Rattle.std.specs.Prelude.{Option, Some, None}

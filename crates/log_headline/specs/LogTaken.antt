@@ -1,4 +1,4 @@
--- The capture of a log, as the runs over captures read it.
+-- The capture of a log as the runs over captures take it.
 use Rattle.std.specs.Prelude.{◌≡◌, ◌++◌, ℕ, List, Option, Some, None}
 use Rattle.capture_log.specs.Log.{line_items_of, parts_of}
 use Rattle.periods.specs.PeriodsOf.{periods_of}
@@ -10,17 +10,17 @@ use Rattle.captures.specs.Captures.{texts_of}
 use Rattle.log_laws.specs.LogHeard.{parts_heard}
 use Rattle.log_laws.specs.LogItems.{Timed, items_of_log, week_of_log}
 
--- the output for a log of this week in this form: the periods of the parts received from its items
--- and, where the form has them, these counts
+-- what is written of a log of this week in this form: the periods of the parts that are heard of
+-- its items and, where the form has them, these counts
 abbrev pub log_output : Target → ℕ → List Timed → CaptureCounts → List ℕ
 log_output to week log counts =
     prefix_text to
     ++ (texts_of to (periods_of week 7200 (parts_heard 7200 (items_of_log week log)))
     ++ back_text to (counts_text counts))
 
--- The text is a capture, whether or not the command line names its week: it has the log's week, a
--- window of two hours, and lines that stand for the items of the log. Its periods and its output are
--- those of the parts received from these.
+-- The text is a capture, whether or not the words name its week: of the log's week, with a window
+-- of two hours, and of lines that stand for the items of the log. Its periods are those of the
+-- parts that are heard of these, and so is what is written of it.
 pub record IsTaken (week : ℕ) (log : List Timed) (text : List ℕ) : Type 0 where
   pub capture : Capture
   pub is : capture_of None text ≡ Some capture
@@ -41,6 +41,6 @@ abbrev pub IsTakenBy : Option ℕ → List Timed → List ℕ → Type 0
 IsTakenBy (Some week) log text = IsTaken week log text
 IsTakenBy None log text = (named : Option ℕ) → capture_of named text ≡ None
 
--- the text is read as the capture of what the log yields
+-- the text is taken as what the log yields
 abbrev pub IsTakenThrough : List Timed → List ℕ → Type 0
 IsTakenThrough log text = IsTakenBy (week_of_log log) log text

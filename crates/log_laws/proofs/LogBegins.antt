@@ -1,4 +1,4 @@
--- The first line is written before the first subframe or page with a time.
+-- The first line stands in front of the first subframe or page with a time.
 use Rattle.std.proofs.Common.{◌≡◌, ℕ, ◌+◌, ◌-◌, ◌*◌, ◌/◌, ◌≤◌, nat_lt, nat_le, false}
 use Rattle.std.proofs.Common.{List, [], ◌∷◌, ◌++◌, length, refl, sym, ap, subst, ◌∙◌, arith}
 use Rattle.std.proofs.Common.{append-nil}
@@ -24,7 +24,7 @@ use Rattle.log_laws.proofs.LogTexts.{lines_behind, log_texts, texts_both}
 abbrev week_at : ℕ → ℕ
 week_at first = (first - 7200) / 604800
 
--- no reason against the first line
+-- nothing is against the first line
 no_reason : (first last : ℕ) → first ≤ last → last ≤ first + 1 → reason_in
     (week_at first) first last ≡ None
 no_reason first last from to =
@@ -92,7 +92,7 @@ passed None x log text none is = is
 passed (Some week) x log text none is = (rw (none week) is.0, is.1)
 
 module _ (said : List ℕ → Said) (each : (m : List ℕ) → IsSaid (said m)) where
-  -- what the messages after it give, where no line was written
+  -- what the messages behind give, where no line was written
   abbrev Behind : List (List ℕ) → Type 0
   Behind ms = (s : LogState) → s.week ≡ None → IsTime s.time
       → IsText (week_of_log (yielded_by said s.time ms)) (yielded_by said s.time ms)

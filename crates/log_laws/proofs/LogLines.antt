@@ -22,9 +22,10 @@ use Rattle.capture_lines.specs.Texts.{half_text, lnav_text}
 use Rattle.capture_lines.specs.declared.head.CaptureHead.{CaptureHead}
 use Rattle.capture_lines.specs.declared.item.LineItem.{LineItem}
 use Rattle.capture_lines.specs.declared.item.LineItem.TheVariants.{Half, Lnav}
-use Rattle.capture_lines.proofs.Surface.{decimal_is_text, last_digit, one_digit}
+use Rattle.capture_lines.proofs.Decimals.{last_digit, one_digit}
+use Rattle.capture_lines.proofs.NumberTexts.{decimal_is_text}
 use Rattle.capture_log.specs.Log.{line_items_of}
-use Rattle.nav_laws.proofs.Surface.{AreSpelt, LineLaws, lines_are, no_cr, no_end, spelt_append}
+use Rattle.nav_laws.proofs.SentTexts.{AreSpelt, LineLaws, lines_are, no_cr, no_end, spelt_append}
 use Rattle.framing.specs.Headings.{Heading, format_of}
 use Rattle.framing.specs.Messages.{messages}
 use Rattle.nav_bits.specs.Packed.{pack}
@@ -159,7 +160,7 @@ digits_printed (c ∷ cs) h = let range = digit_from_value c h.0 in
 passes : ℕ → Bool
 passes c = nat_le 32 c && nat_le c 126
 
--- known first words
+-- known words in front
 words_printed : (text rest : List ℕ) → list_all passes text ≡ true → All IsPrinted rest
     → All IsPrinted (text ++ rest)
 unfolding passes

@@ -1,4 +1,4 @@
--- The lines that the messages of a log give are the texts of the items that it yields.
+-- The lines that the messages of a log give are the texts of the items of what it yields.
 use Rattle.std.proofs.Common.{◌≡◌, ℕ, ◌-◌, ◌*◌}
 use Rattle.std.proofs.Common.{List, [], ◌∷◌, ◌++◌, length, refl, sym, ap, ◌∙◌}
 use Rattle.std.proofs.Common.{append-nil, append_assoc}

@@ -1,4 +1,4 @@
--- The contents of messages are in their ranges: times, satellites, and page parts.
+-- What messages say is in its ranges: times, satellites, and halves of pages.
 use Rattle.std.proofs.Common.{◌≡◌, ℕ, ◌+◌, ◌-◌, ◌*◌, ◌/◌, ◌%◌, ◌^◌, ◌<◌, ◌≤◌, ◌==◌, ◌&&◌, ◌||◌}
 use Rattle.std.proofs.Common.{nat_lt, nat_le, Bool, true, false, List, length, refl, arith}
 use Rattle.std.proofs.lemmas.Bool.{and_parts, leb-true, ltb-true}
@@ -29,7 +29,7 @@ use Rattle.receiver_messages.specs.declared.said.Reason.TheVariants.{Length}
 use Rattle.receiver_messages.specs.declared.said.Said.{Said}
 use Rattle.receiver_messages.specs.declared.said.Said.TheVariants.{Other, Time, Heard, Dated}
 
--- a time is in the weeks that are accepted from receivers, or at the end of the last
+-- a time is in the weeks in which receivers are believed, or at the end of the last
 abbrev pub IsTime : Option ℕ → Type 0
 IsTime None = Unit {0}
 IsTime (Some time) = (604800 * 1025 ≤ time) × (time ≤ 604800 * 8192)

@@ -1,5 +1,5 @@
--- What a log yields: its subframes and pages, each with its time, and the capture items that they
--- become.
+-- What a log yields: its subframes and pages, each with its time, and the items of a capture that
+-- they are.
 use Rattle.std.specs.Prelude.{ℕ, ◌-◌, ◌*◌, ◌/◌, List, [], ◌∷◌, ◌++◌, Option, Some, None}
 use Rattle.capture_lines.specs.declared.item.LineItem.{LineItem}
 use Rattle.capture_lines.specs.declared.item.LineItem.TheVariants.{Lnav, Half}
@@ -11,12 +11,12 @@ use Rattle.receiver_messages.specs.declared.said.Said.{Said}
 use Rattle.receiver_messages.specs.declared.said.Said.TheVariants.{Other, Time, Heard, Dated}
 use Rattle.receiver_log.specs.Log.{reason_in}
 
--- a subframe or a page with its time, or the reason why there is none
+-- a subframe or a page, or why there is none, with its time
 pub record Timed : Type 0 where
   pub time : Option ℕ
   pub content : Content
 
--- the time after a message: a time message sets it, or clears it
+-- the time behind a message: a time message sets it, or takes it away
 abbrev pub time_behind : Option ℕ → Said → Option ℕ
 time_behind time Other = time
 time_behind time (Time next) = next
@@ -31,20 +31,20 @@ yielded time (Time next) = []
 yielded time (Heard content) = record { time = time; content = content } ∷ []
 yielded time (Dated own content) = record { time = own; content = content } ∷ []
 
--- what messages yield from a time on, where `said` reads a message
+-- what messages yield, for what each of them says, from a time on
 abbrev pub yielded_by : (List ℕ → Said) → Option ℕ → List (List ℕ) → List Timed
 yielded_by said time [] = []
 yielded_by said time (m ∷ ms) = yielded time (said m)
     ++ yielded_by said (time_behind time (said m)) ms
 
--- the second of its first line: the even part of a page was transmitted a second before its time
+-- the second of its first line: a page's even half was sent a second before its time
 abbrev pub first_second : Option ℕ → Content → Option ℕ
 first_second None content = None
 first_second (Some time) (Refused reason) = None
 first_second (Some time) (Subframe sat words) = Some time
 first_second (Some time) (Page sat signal even odd) = Some (time - 1)
 
--- the week of the second two hours before a first line; where there is no line, that of what follows
+-- the week in which the second two hours before a first line lies, or that of what follows
 abbrev pub week_before : Option ℕ → Option ℕ → Option ℕ
 week_before (Some first) following = Some ((first - 7200) / 604800)
 week_before None following = following
@@ -54,7 +54,7 @@ abbrev pub week_of_log : List Timed → Option ℕ
 week_of_log [] = None
 week_of_log (x ∷ xs) = week_before (first_second x.time x.content) (week_of_log xs)
 
--- the items, or none where there is a reason against them
+-- the items, unless there is a reason against them
 abbrev pub unless : Option Reason → List LineItem → List LineItem
 unless None items = items
 unless (Some reason) items = []

@@ -1,4 +1,4 @@
-//! The law: the contract of an empty function.
+//! The laws: each function does nothing, and its contract is the law.
 
 ghost use Rattle.std.specs.Prelude.{ℕ, List, None};
 ghost use Rattle.framing.specs.Headings.{format_of};
@@ -11,9 +11,10 @@ ghost use Rattle.receiver_log.specs.Capture.{capture_of};
 ghost use Rattle.log_laws.specs.LogHeard.{IsHeardThrough};
 ghost use Rattle.log_laws.specs.LogItems.{yielded_by};
 
-/// The capture of a log's bytes has an accepted first line, and its further lines stand, one by one,
-/// for the subframes and the page parts of the log's messages; so its periods are those of what these
-/// yield. Where the log yields none with a time, the capture is empty.
+/// The capture of a log's bytes is a capture whose first line is accepted, and whose further lines
+/// stand, one by one, for the subframes and the halves of pages of the log's messages; so its
+/// periods are those of what these yield. Where the log yields none with a time, the capture has no
+/// byte.
 pub fn a_log_is_heard_through_its_capture()
     ensures ubx { (bytes : List ℕ) → IsHeardThrough
         (yielded_by ubx_said None (messages (format_of ubx) bytes))

@@ -1,4 +1,4 @@
--- Steps of a reader of logs: bytes are fed, and messages processed.
+-- Steps of a reader of logs: bytes are fed, and messages heard.
 use Rattle.std.proofs.Common.{append-nil, ◌≡◌, ℕ, ◌+◌, Bool, true, false, cond, List, [], ◌++◌}
 use Rattle.std.proofs.Common.{length, take, drop, refl, sym, ap, ◌∙◌, append_assoc, arith, length-append}
 use Rattle.std.specs.Prelude.{Option, Some, None}
@@ -36,7 +36,7 @@ module _ (h : Heading) (said : List ℕ → Said) where
       ∙ ap (λ r. r ++ xs) parts) in
       rw (began, new_open) (ap (λ bytes. lines_from said s (messages (format_of h) bytes)) whole)
 
-  -- a message is processed
+  -- a message is heard
   pub heard : (s new_s : LogState) (lines new_lines rest message new_rest following : List ℕ)
       (more : Bool)
       → TakesMessage (format_of h) more rest message new_rest → (more ≡ false → following ≡ [])
@@ -73,7 +73,7 @@ module _ (h : Heading) (said : List ℕ → Said) where
       let new_e : new.finished ≡ false = same ∙ e in
       rw (e, new_e) (sym (stream bytes (λ yes. absurd (both_ways _ e yes))))
 
-  -- messages are processed, where no line waited
+  -- messages are heard, where no line waited
   pub heard_keeps : (s new_s : LogState) (lines new_lines : List ℕ) (held new : DeframerState)
       (piece : List ℕ) (left : Option (List ℕ))
       → lines ≡ [] → new.finished ≡ held.finished
@@ -116,13 +116,13 @@ keeps_more (Some xs) None new a b = absurd a
 keeps_more (Some xs) (Some ys) None a b = absurd b
 keeps_more (Some xs) (Some ys) (Some zs) a b = b ∙ a
 
--- what is kept was not consumed
+-- nothing is taken of what is kept
 pub keeps_consumes : (old new : Option (List ℕ)) → Keeps old new → Consumes old new []
 keeps_consumes None new a = tt
 keeps_consumes (Some xs) None a = absurd a
 keeps_consumes (Some xs) (Some ys) a = sym a
 
--- the log's length, where nothing was read, where bytes were, and over two steps
+-- the log's length, where nothing was taken, where bytes were, and over two steps
 pub length_same : (taken : ℕ) (left : Option (List ℕ)) → KeepsLength taken left taken left
 length_same taken None = tt
 length_same taken (Some xs) = refl

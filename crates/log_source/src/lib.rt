@@ -1,8 +1,8 @@
-//! A receiver's log as a source of the bytes of its capture, so that a conversion of captures can
-//! read a log.
+//! The capture of a receiver's log as a source of bytes, so that a conversion of captures can read
+//! a log.
 //!
-//! - [`LogSource`], over a source of the log's bytes. It gives the capture that `receiver_log`
-//!   writes of them, however reads cut them.
+//! - [`LogSource`], over a source of the log's bytes. What it gives is the capture that
+//!   `receiver_log` writes of them, in whatever pieces they come.
 //!
 //! ```rust
 //! let mut input = LogSource::<UbxJudge, _>::new(ReadSource::new(rt.stdin()));

@@ -1,4 +1,4 @@
-//! A source over a receiver's log.
+//! A source over a log.
 
 ghost use Rattle.std.specs.Prelude.{◌≡◌, ◌+◌, ◌-◌, ◌^◌, ◌<◌, ◌≤◌, ◌++◌, ℕ, List, [], length};
 ghost use Rattle.std.specs.Prelude.{drop, take, nat_lt, ◌&&◌, true, false};
@@ -20,35 +20,35 @@ use framing::Deframer;
 use nav_io::{Failed, Source};
 use receiver_log::{Lines, LogState, Receiver, hear};
 
-// The most bytes of one read.
+// How many bytes are read at most at a time.
 const PIECE: usize = 16_384;
 
-// While at most this many bytes of lines wait, the lines of one more message have room.
+// The most bytes of lines with which the lines of one more message have room.
 const ROOM: usize = 8_192;
 
-// The count of bytes from which a log is too long: 2^64 - 16,384.
+// How many bytes are too many: 2^64 - 16,384.
 const TOO_MANY: u64 = 18_446_744_073_709_535_232;
 
-/// The capture of a log, read while the log's bytes come: a line is given once its message is
-/// complete and no incomplete message before it is left.
+/// The capture of a log, read as the log's bytes come: a line is given when its message is whole
+/// and nothing before it is open.
 ///
-/// Where the log's bytes are known to a contract, so are those of the capture. A read fails where a
-/// read of the log fails, or where 18,446,744,073,709,535,232 bytes or more were read of it; the
-/// next one goes on where this one began.
+/// Where the log's source tells the bytes that are left, this tells those of the capture. A read
+/// fails where a read of the log fails, or where 18,446,744,073,709,535,232 bytes or more were
+/// taken of it; the next one goes on where this one began.
 #[derive(Drop)]
 pub struct LogSource<J: Receiver, S: Source> {
     source: S,
     deframer: Deframer<J>,
     state: LogState,
-    // lines, of which the first `given` bytes were given
+    // lines, of which so many bytes were given
     lines: Lines,
     given: usize,
-    // bytes read, of which the first `fed` were fed to the deframer
+    // what was read, of which so many bytes were fed
     piece: ArrayVec<u8, 16_384>,
     fed: usize,
     // how many bytes were read
     taken: u64,
-    // the count of reads refused because the log is too long
+    // how often there were too many
     faults: u64,
 }
 
@@ -75,8 +75,8 @@ impl<J: Receiver, S: Source> LogSource<J, S> {
         }
     }
 
-    // One step, where no line waits: processes the decided messages, or else feeds bytes or reads
-    // some; false once nothing can follow.
+    // One step, where no line waits: hears the messages that are decided, or else feeds bytes or
+    // reads some; whether anything may follow.
     fn step(&mut self) -> Result<bool, Failed>
         requires given { length self.old.lines.items ≤ self.old.given }
         ensures left { Keeps
@@ -132,10 +132,10 @@ impl<J: Receiver, S: Source> Source for LogSource<J, S> {
 
     ghost never_fails = { λ s. S.never_fails s.source && is_short s.taken (S.left s.source) };
 
-    /// Gives lines that wait, or those of the messages decided next.
+    /// Gives lines that wait, or those of the messages that are decided next.
     ///
-    /// Fails only where a read of the log failed in this call, or where 18,446,744,073,709,535,232
-    /// bytes or more were read of the log.
+    /// It fails only where a read of the log failed in this call, or where
+    /// 18,446,744,073,709,535,232 bytes or more were taken of the log.
     fn read(&mut self, into: &mut [u8]) -> Result<usize, Failed>
         requires asks { length into.old ≤ 16384 }
         ensures bound { ReadsAtMost result into.new }
@@ -170,7 +170,7 @@ impl<J: Receiver, S: Source> Source for LogSource<J, S> {
     }
 }
 
-// Copies lines from offset `from`, as many bytes as there is room for; gives how many.
+// Gives lines from a place on, as many as have room.
 fn give(lines: &Lines, from: usize, into: &mut [u8]) -> usize
     requires { from < length lines.now.items }
     ensures count { result ≤ length into.new }
@@ -184,7 +184,7 @@ fn give(lines: &Lines, from: usize, into: &mut [u8]) -> usize
     count
 }
 
-// Processes messages until many lines wait or no message is decided.
+// Hears messages, until there are many lines or no message is decided.
 fn hear_messages<J: Receiver>(deframer: &mut Deframer<J>, state: &mut LogState, lines: &mut Lines)
     ensures stream { (following : List ℕ) → (deframer.old.finished ≡ true → following ≡ [])
         → lines.old.items ++ lines_from J.said state.old
@@ -204,7 +204,7 @@ fn hear_messages<J: Receiver>(deframer: &mut Deframer<J>, state: &mut LogState, 
     }
 }
 
-// Processes the message found last.
+// Hears the message that was taken last.
 fn hear_message<J: Receiver>(deframer: &Deframer<J>, state: &mut LogState, lines: &mut Lines)
     requires { length lines.old.items ≤ 8192 }
     ensures state { state.new
@@ -217,7 +217,7 @@ fn hear_message<J: Receiver>(deframer: &Deframer<J>, state: &mut LogState, lines
     hear(state, message.len(), &said, lines);
 }
 
-// Feeds bytes that were read, or reads more, or signals the end.
+// Feeds what was read, or reads, or says that nothing follows.
 fn refill<S: Source, J: Receiver>(
     source: &mut S,
     deframer: &mut Deframer<J>,
@@ -261,7 +261,7 @@ fn refill<S: Source, J: Receiver>(
     Ok(())
 }
 
-// Reads a piece in place of the previous one.
+// Reads a piece in place of another.
 fn read_piece<S: Source>(source: &mut S, piece: &mut ArrayVec<u8, 16_384>) -> Result<usize, Failed>
     ensures few { IfOk result (λ count. count ≤ 16384) }
     ensures count { IfOk result (λ count. count ≡ length piece.new.items) }
@@ -281,7 +281,7 @@ fn read_piece<S: Source>(source: &mut S, piece: &mut ArrayVec<u8, 16_384>) -> Re
     Ok(count)
 }
 
-// Appends bytes to an empty piece.
+// Puts bytes into an empty piece.
 fn put(piece: &mut ArrayVec<u8, 16_384>, bytes: &[u8])
     requires { length piece.old.items + length bytes.now ≤ 16384 }
     ensures { piece.new.items ≡ piece.old.items ++ bytes.now }

@@ -1,11 +1,11 @@
--- What a byte holds after some of its bits were overwritten.
+-- What a byte holds after some of its bits were written over.
 use Rattle.std.proofs.Common.{◌≡◌, ◌≢◌, ℕ, ◌+◌, ◌-◌, ◌*◌, ◌/◌, ◌%◌, ◌^◌, ◌<◌, ◌≤◌, min, max, List, length, slice_index, slice_set, bit_and, bit_or, w8, refl, sym, ap, ◌∙◌, inl, inr, arith, get_or-set_same, get_or-set_other}
 use Rattle.std.proofs.lemmas.Nat.{shl_whole, pow_pos, and_mask}
 use Rattle.std.proofs.lemmas.Nat.Bits.{ones_shr, bit_at_or, bit_at_and, bit_at_not, bit_at_ones, bit_at_ones_above, bit_at_cat_low, bit_at_cat_high, bit_at-zero, bit_at_above, bit_at-lt}
 use Rattle.std.proofs.lemmas.Bool.{cases_eq}
 use Rattle.std.specs.Int.{bit_at}
 use Rattle.nav_bits.specs.Bits.{bit, Puts}
-use Rattle.nav_bits.proofs.BitPatterns.{number_at-bit_pattern}
+use Rattle.nav_bits.proofs.Digits.{number_at-digits}
 
 -- MAX >> (8 - width) has width ones
 pub byte_ones : (width : ℕ) → width ≤ 8 → 255 / 2 ^ (8 - width) ≡ 2 ^ width - 1
@@ -26,7 +26,7 @@ shl_from a k j h =
     let e : a * 2 ^ k ≡ a * 2 ^ k + 0 = omega arith in
     ap (λ n. bit_at n j) e ∙ bit_at_cat_high a k 0 j (pow_pos k) h
 
--- x with value in the width bits above its lowest shift bits, as the code computes it
+-- the byte with width bits of value at the places from shift on, as the code computes it
 abbrev pub written : ℕ → ℕ → ℕ → ℕ → ℕ
 written x value shift width = bit_or (bit_and x (255 - 255 / 2 ^ (8 - width) * 2 ^ shift % 256)) (value * 2 ^ shift % 256)
 
@@ -38,13 +38,13 @@ digit_of x value shift width j room fits h =
     let wide : width + shift ≤ 8 = omega arith in
     let mask : 255 / 2 ^ (8 - width) * 2 ^ shift % 256 ≡ (2 ^ width - 1) * 2 ^ shift =
     ap (λ n. n * 2 ^ shift % 256) (byte_ones width (omega arith)) ∙ shl_whole (2 ^ width - 1) width shift 8 ones wide in
-    let bit_pattern : value * 2 ^ shift % 256 ≡ value * 2 ^ shift = shl_whole value width shift 8 fits wide in
+    let digits : value * 2 ^ shift % 256 ≡ value * 2 ^ shift = shl_whole value width shift 8 fits wide in
     let mask_fits : 255 / 2 ^ (8 - width) * 2 ^ shift % 256 < 2 ^ 8 = omega arith in
     bit_at_or (bit_and x (255 - 255 / 2 ^ (8 - width) * 2 ^ shift % 256)) (value * 2 ^ shift % 256) j
     ∙ ap (λ n. max n (bit_at (value * 2 ^ shift % 256) j)) (
     bit_at_and x (255 - 255 / 2 ^ (8 - width) * 2 ^ shift % 256) j
     ∙ ap (min (bit_at x j)) (bit_at_not w8 (255 / 2 ^ (8 - width) * 2 ^ shift % 256) j mask_fits h ∙ ap (λ n. 1 - bit_at n j) mask))
-    ∙ ap (λ n. max (min (bit_at x j) (1 - bit_at ((2 ^ width - 1) * 2 ^ shift) j)) (bit_at n j)) bit_pattern
+    ∙ ap (λ n. max (min (bit_at x j) (1 - bit_at ((2 ^ width - 1) * 2 ^ shift) j)) (bit_at n j)) digits
 
 -- the bits below the written ones stay
 digit_below : (x value shift width j : ℕ) → shift + width ≤ 8 → value < 2 ^ width → j < shift
@@ -99,7 +99,7 @@ Puts-part bytes byte skip width value some within inside fits =
     let new = slice_set bytes byte y in
     let room : shift + width ≤ 8 = omega arith in
     record {
-      number = number_at-bit_pattern new (8 * byte + skip) width value fits (λ j h.
+      number = number_at-digits new (8 * byte + skip) width value fits (λ j h.
           bit_here bytes byte y (8 * byte + skip + j) inside (omega arith)
           ∙ digit_inside x value shift width (7 - (8 * byte + skip + j) % 8) room fits (omega arith) (omega arith)
           ∙ ap (bit_at value) (omega arith));

@@ -1,4 +1,4 @@
--- The value of eight bytes, and the fields inside it.
+-- The number of eight bytes, and the numbers that stand inside it.
 use Rattle.std.proofs.Common.{◌≡◌, ℕ, ◌+◌, ◌-◌, ◌*◌, ◌/◌, ◌%◌, ◌^◌, ◌<◌, ◌≤◌, List, [], ◌∷◌, slice_index, bit_and, w64, ap, ◌∙◌, arith}
 use Rattle.std.proofs.lemmas.Nat.{shr_high, mod_low, and_mask}
 use Rattle.std.proofs.lemmas.Nat.Bits.{ones_shr}
@@ -29,7 +29,7 @@ eight_bytes_are bytes first fit =
     let n8 : number_at bytes (8 * first) 64 ≡ number_at bytes (8 * first) 56 * 256 + slice_index bytes (first + 7) = byte_more bytes first 7 (fit (first + 7)) in
     omega arith
 
--- a field by shift and mask of a run of bits around it
+-- the number at some places, out of that of a run around them
 pub number_at-of_run : (bytes : List ℕ) (from skip w rest : ℕ)
     → number_at bytes from (skip + w + rest) / 2 ^ rest % 2 ^ w ≡ number_at bytes (from + skip) w
 number_at-of_run bytes from skip w rest =
@@ -38,7 +38,7 @@ number_at-of_run bytes from skip w rest =
     ∙ ap (λ n. n % 2 ^ w) (number_at-append bytes from skip w)
     ∙ mod_low (number_at bytes from skip) w (number_at bytes (from + skip) w) (number_at-lt bytes (from + skip) w)
 
--- a field inside eight bytes, as the code computes it
+-- the number at some places of eight bytes, as the code computes it
 pub number_at-of_eight : (bytes : List ℕ) (from at skip width : ℕ) → skip + width ≤ 64 → at ≡ from + skip
     → bit_and (number_at bytes from 64 / 2 ^ (64 - skip - width)) (18446744073709551615 / 2 ^ (64 - width)) ≡ number_at bytes at width
 number_at-of_eight bytes from at skip width h here =

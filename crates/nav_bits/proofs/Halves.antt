@@ -10,7 +10,7 @@ join_fits h l H L W whole high low =
     let e : 2 ^ W ≡ 2 ^ H * 2 ^ L = ap (λ n. 2 ^ n) (sym whole) ∙ pow-add 2 H L in
     omega (arith, e, mul-add-lt h (2 ^ L) l (2 ^ H) high low)
 
--- the machine's shift loses no bit there
+-- the machine's shift loses nothing there
 pub join_shl : (h H L W : ℕ) → H + L ≡ W → W ≤ 64 → h < 2 ^ H → h * 2 ^ L % 2 ^ 64 ≡ h * 2 ^ L
 join_shl h H L W whole most high = shl_whole h H L 64 high (omega arith)
 
@@ -22,7 +22,7 @@ split_high n H L W whole fits =
 pub split_join : (n L : ℕ) → L ≤ 64 → n / 2 ^ L * 2 ^ L + bit_and n (18446744073709551615 / 2 ^ (64 - L)) ≡ n
 split_join n L most = ap (λ low. n / 2 ^ L * 2 ^ L + low) (masked n L most) ∙ shr_split n L
 
--- the machine computes the joined number
+-- what the machine computes is the number
 pub joined : (h l a b H L W : ℕ) → H + L ≡ W → W ≤ 64 → h < 2 ^ H → a ≡ h → b ≡ l → a * 2 ^ L % 2 ^ 64 + b ≡ h * 2 ^ L + l
 joined h l a b H L W whole most high e f = rw (e, f) (ap (λ n. n + l) (join_shl h H L W whole most high))
 

@@ -1,4 +1,4 @@
-pub mod BitPatterns
+pub mod Digits
 pub mod EightBytes
 pub mod BytePart
 pub mod Halves

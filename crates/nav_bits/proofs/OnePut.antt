@@ -1,11 +1,11 @@
--- Writing a value at a bit offset gives exactly one result.
+-- What is put determines what comes of the bytes.
 use Rattle.std.proofs.Common.{◌≡◌, ℕ, ◌+◌, ◌-◌, ◌*◌, ◌^◌, ◌≤◌, List, sym, ap, ◌∙◌, zero-add, arith}
 use Rattle.nav_bits.specs.Bits.{number_at, Puts}
 use Rattle.nav_bits.specs.Laws.{number_at-append, number_at-before, number_at-after}
 use Rattle.nav_bits.specs.Packed.{AreBytes}
 use Rattle.nav_bits.proofs.PackedFields.{one_list}
 
--- equal first v bits and equal next w bits give equal first v + w bits
+-- numbers from 0 on that agree in front and behind are one
 same_append : (a b : List ℕ) (v w : ℕ) → number_at a 0 v ≡ number_at b 0 v → number_at a v w ≡ number_at b v w
     → number_at a 0 (v + w) ≡ number_at b 0 (v + w)
 same_append a b v w prefix back =

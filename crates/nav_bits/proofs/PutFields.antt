@@ -3,9 +3,9 @@ use Rattle.std.proofs.Common.{◌≡◌, ℕ, ◌+◌, ◌-◌, ◌<◌, ◌≤�
 use Rattle.nav_bits.specs.Bits.{bit, number_at, SameOutside, Puts}
 use Rattle.nav_bits.specs.Fields.{AreFields, Stand, total_width}
 use Rattle.nav_bits.specs.Laws.{number_at-same}
-use Rattle.nav_bits.proofs.BitPatterns.{SameOutside-more, SameOutside-none}
+use Rattle.nav_bits.proofs.Digits.{SameOutside-more, SameOutside-none}
 
--- first became now by the fields before rest: once rest is written from place on, all fields are
+-- first became now by the fields in front of rest: once rest stands behind place too, all fields stand
 pub record ArePut (first now : List ℕ) (at place : ℕ) (fields rest : List (ℕ × ℕ)) : Type 0 where
   pub from : at ≤ place
   pub room : place + total_width rest ≡ at + total_width fields

@@ -1,4 +1,4 @@
--- The value of a whole run of bytes, and the bytes of a number.
+-- The number of a whole run of bytes, and the bytes of a number.
 use Rattle.std.proofs.Common.{◌≡◌, ℕ, zero, suc, ◌+◌, ◌-◌, ◌*◌, ◌/◌, ◌%◌, ◌^◌, ◌<◌, List, ◌∷◌, length, slice_index, refl, sym, ap, ◌∙◌, zero-add, arith}
 use Rattle.std.proofs.Math.Nat.{pow-suc, mod-one}
 use Rattle.std.proofs.lemmas.Nat.{pow-add, shr_high, mod_low, mod-pow-add}
@@ -7,7 +7,7 @@ use Rattle.std.specs.Int.{byte_at, bytes_high_first, bit_at}
 use Rattle.nav_bits.specs.Bits.{bit, number_at}
 use Rattle.nav_bits.specs.Laws.{number_at-append, number_at-byte, number_at-lt}
 
--- a field by shift and mask of the value of the whole run
+-- the number at some places, out of the number of the whole run
 pub number_at-of_whole : (bytes : List ℕ) (at w rest : ℕ) → number_at bytes 0 (at + w + rest) / 2 ^ rest % 2 ^ w ≡ number_at bytes at w
 number_at-of_whole bytes at w rest =
     ap (λ n. n / 2 ^ rest % 2 ^ w) (number_at-append bytes 0 (at + w) rest)
@@ -16,7 +16,7 @@ number_at-of_whole bytes at w rest =
     ∙ mod_low (number_at bytes 0 at) w (number_at bytes (0 + at) w) (number_at-lt bytes (0 + at) w)
     ∙ ap (λ a. number_at bytes a w) (zero-add at)
 
--- byte lists of equal length and equal value are equal
+-- bytes of the same number are the same
 pub same_from_number : (a b : List ℕ) (n : ℕ) → length a ≡ n → length b ≡ n → ((i : ℕ) → slice_index a i < 256) → ((i : ℕ) → slice_index b i < 256)
     → number_at a 0 (8 * n) ≡ number_at b 0 (8 * n) → a ≡ b
 same_from_number a b n long long' bytes bytes' same =
@@ -69,7 +69,7 @@ number_at-cons b bytes at (suc w) =
     let digit : bit (b ∷ bytes) (8 + at + w) ≡ bit bytes (at + w) = ap (bit (b ∷ bytes)) place ∙ bit-cons b bytes (at + w) in
     omega (arith, number_at-cons b bytes at w, digit)
 
--- the value of the big-endian bytes of a number
+-- the number of the bytes of a number
 pub number_at-bytes_of : (n x : ℕ) → number_at (bytes_high_first n x) 0 (8 * n) ≡ x % 2 ^ (8 * n)
 unfolding number_at
 number_at-bytes_of zero x = sym (mod-one x)

@@ -1,7 +1,7 @@
 ghost use Rattle.std.specs.Prelude.{◌≡◌, ℕ, ◌+◌, ◌*◌, ◌^◌, ◌<◌, ◌≤◌, length};
 ghost use Rattle.nav_bits.specs.Bits.{number_at, Puts};
 
-// The unsigned value of `width` bits of one byte, after its first `skip` bits.
+// The number of `width` bits of one byte, behind its first `skip` bits.
 fn part_of(bytes: &[u8], byte: usize, skip: usize, width: usize) -> u8
     requires some { 1 ≤ width }
     requires within { skip + width ≤ 8 }
@@ -11,7 +11,7 @@ fn part_of(bytes: &[u8], byte: usize, skip: usize, width: usize) -> u8
     (bytes[byte] >> (8 - skip - width)) & (u8::MAX >> (8 - width))
 }
 
-// The unsigned value of the `width` bits from bit offset `at`, read a byte at a time.
+// The number of `width` bits that stands from the place `at` on, read a byte at a time.
 fn number_by_bytes(bytes: &[u8], at: usize, width: usize) -> u64
     requires most { width ≤ 64 }
     requires inside { at + width ≤ 8 * length bytes.now }
@@ -29,7 +29,7 @@ fn number_by_bytes(bytes: &[u8], at: usize, width: usize) -> u64
     value
 }
 
-// The unsigned value of eight bytes from byte offset `first`, most significant byte first.
+// The number of the 64 bits of eight bytes, from the byte `first` on.
 fn eight_bytes(bytes: &[u8], first: usize) -> u64
     requires inside { first + 8 ≤ length bytes.now }
     ensures { result ≡ number_at bytes.now (8 * first) 64 }
@@ -46,8 +46,8 @@ fn eight_bytes(bytes: &[u8], first: usize) -> u64
     ])
 }
 
-/// The unsigned value of the `width` bits from bit offset `at`, by one shift and mask where eight
-/// bytes hold them.
+/// The number of `width` bits that stands from the place `at` on, read at once where eight bytes
+/// hold it.
 pub(crate) fn number_in_bytes(bytes: &[u8], at: usize, width: usize) -> u64
     requires most { width ≤ 64 }
     requires inside { at + width ≤ 8 * length bytes.now }
@@ -65,7 +65,7 @@ pub(crate) fn number_in_bytes(bytes: &[u8], at: usize, width: usize) -> u64
     (eight_bytes(bytes, first) >> (64 - skip - width)) & (u64::MAX >> (64 - width))
 }
 
-// Writes a value of `width` bits into one byte, after its first `skip` bits.
+// Writes a number of `width` bits into one byte, behind its first `skip` bits.
 fn put_part(bytes: &mut [u8], byte: usize, skip: usize, width: usize, value: u8)
     requires some { 1 ≤ width }
     requires within { skip + width ≤ 8 }
@@ -78,7 +78,7 @@ fn put_part(bytes: &mut [u8], byte: usize, skip: usize, width: usize, value: u8)
     bytes[byte] = (bytes[byte] & !mask) | (value << shift);
 }
 
-/// Writes a value of `width` bits from bit offset `at`, a byte at a time; all other bits stay.
+/// Writes a number of `width` bits from the place `at` on, a byte at a time; all other bits stay.
 pub(crate) fn put_number(bytes: &mut [u8], at: usize, width: usize, value: u64)
     requires most { width ≤ 64 }
     requires inside { at + width ≤ 8 * length bytes.old }

@@ -20,7 +20,7 @@ impl<const N: usize> Model for Bits<N> {
     ghost inverse = { λ bytes. record { bytes = bytes } };
 }
 
-// Contracts see bytes as natural numbers; each is below 256.
+// Contracts see bytes as numbers: each is below 256.
 fn fit(bytes: &[u8])
     ensures { (i : ℕ) → slice_index bytes.now i < 256 }
 {
@@ -28,14 +28,14 @@ fn fit(bytes: &[u8])
 }
 
 impl<const N: usize> Bits<N> {
-    /// A fact for proofs: there are `N` bytes, each below 256. Does nothing when run.
+    /// They are `N` bytes: a fact of all bits, which this says and for which it does nothing.
     pub fn are_bytes(&self)
         ensures { AreBytes N self.now }
     {
         fit(&self.bytes);
     }
 
-    /// `N` bytes of zero.
+    /// Bits that are all 0.
     pub fn zero() -> Self
         ensures { result ≡ replicate N 0 }
     {
@@ -56,7 +56,7 @@ impl<const N: usize> Bits<N> {
         &self.bytes
     }
 
-    /// The unsigned value of the `width` bits (1 to 64) from bit offset `at`.
+    /// The number whose bits stand at the `width` places from `at` on.
     pub fn get(&self, at: usize, width: u32) -> u64
         requires some { 1 ≤ width }
         requires most { width ≤ 64 }
@@ -66,7 +66,7 @@ impl<const N: usize> Bits<N> {
         number_in_bytes(&self.bytes, at, width as usize)
     }
 
-    /// The value of the `width` bits (1 to 64) from bit offset `at`, in two's complement.
+    /// The same in two's complement, the first of the places being the sign.
     pub fn get_signed(&self, at: usize, width: u32) -> i64
         requires some { 1 ≤ width }
         requires most { width ≤ 64 }
@@ -76,8 +76,7 @@ impl<const N: usize> Bits<N> {
         sign_extended(self.get(at, width), width)
     }
 
-    /// Writes an unsigned value as the `width` bits (1 to 64) from bit offset `at`. All other bits
-    /// stay.
+    /// Puts the bits of a number at the `width` places from `at` on. All other bits stay.
     pub fn put(&mut self, at: usize, width: u32, value: u64)
         requires some { 1 ≤ width }
         requires most { width ≤ 64 }

@@ -4,8 +4,8 @@ ghost use Rattle.nav_bits.specs.Fields.{AreFields, Stand, total_width};
 
 use crate::bit_offsets::put_number;
 
-/// Writes a table of unsigned fields, each a width in bits and a value, concatenated from bit
-/// offset `at`; all other bits stay.
+/// Writes a table of fields, each given by its width and its number, concatenated from the
+/// place `at` on; all other bits stay.
 pub fn put_numbers(bytes: &mut [u8], at: usize, fields: &[(u32, u64)])
     requires fields { AreFields fields.now }
     requires inside { at + total_width fields.now ≤ 8 * length bytes.old }

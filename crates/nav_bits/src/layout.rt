@@ -3,7 +3,7 @@ ghost use Rattle.nav_bits.specs.Bits.{SameInside, SameOutside};
 
 use crate::bits::Bits;
 
-/// A value encoded as a run of bits of fixed width at any bit offset.
+/// A value that stands in a run of bits of some bytes.
 pub trait Layout {
     ghost BITS: { ℕ };
 
@@ -11,14 +11,13 @@ pub trait Layout {
 
     ghost stands_at: { List ℕ → ℕ → Self };
 
-    // The bits beside the fields: fixed ones, as a preamble or a message type, and reserved ones,
-    // 0.
+    // What stands beside its fields: fixed numbers, as a preamble or a type, and 0 in the rest.
     ghost RestIsFixed: { List ℕ → ℕ → Type 0 };
 
-    /// Its width in bits.
+    /// How many bits it takes.
     const BITS: u32;
 
-    /// Writes it from bit offset `at`; all other bits stay.
+    /// Writes it from the place `at` on; all other bits stay.
     fn write_bits(&self, into: &mut [u8], at: usize)
         requires usable { Usable }
         requires inside { at + BITS ≤ 8 * length into.old }
@@ -27,20 +26,20 @@ pub trait Layout {
         ensures rest { RestIsFixed into.new at }
         ensures others { SameOutside into.old into.new at (at + BITS) };
 
-    /// Reads the value from bit offset `at`.
+    /// Reads what stands from the place `at` on.
     fn read_bits(from: &[u8], at: usize) -> Self
         requires usable { Usable }
         requires inside { at + BITS ≤ 8 * length from.now }
         requires small { 8 * length from.now < 2 ^ 64 }
         ensures { result ≡ stands_at from.now at };
 
-    // The value depends on its own bits only.
+    // A value rests on its own bits alone.
     ghost own_bits: { (a b : List ℕ) (at : ℕ) → SameInside a b at (at + BITS) →
         stands_at a at ≡ stands_at b at };
 }
 
-/// A value encoded in the bits of `N` bytes: unpacking gives what was packed, and packing changes
-/// no other bits.
+/// A value that stands in a run of the bits of `N` bytes: what was packed is unpacked, and packing
+/// changes its own bits alone.
 pub trait BitForm<const N: usize> {
     ghost BITS: { ℕ };
 
@@ -48,14 +47,13 @@ pub trait BitForm<const N: usize> {
 
     ghost stands_at: { List ℕ → ℕ → Self };
 
-    // The bits beside the fields: fixed ones, as a preamble or a message type, and reserved ones,
-    // 0.
+    // What stands beside its fields: fixed numbers, as a preamble or a type, and 0 in the rest.
     ghost RestIsFixed: { List ℕ → ℕ → Type 0 };
 
-    /// Its width in bits.
+    /// How many bits it takes.
     const BITS: u32;
 
-    /// Writes it from bit offset `at`; all other bits stay.
+    /// Writes it from the place `at` on; all other bits stay.
     fn pack(&self, into: &mut Bits<N>, at: usize)
         requires usable { Usable }
         requires inside { at + BITS ≤ 8 * N }
@@ -64,14 +62,14 @@ pub trait BitForm<const N: usize> {
         ensures rest { RestIsFixed into.new at }
         ensures others { SameOutside into.old into.new at (at + BITS) };
 
-    /// Reads the value from bit offset `at`.
+    /// Reads what stands from the place `at` on.
     fn unpack(from: &Bits<N>, at: usize) -> Self
         requires usable { Usable }
         requires inside { at + BITS ≤ 8 * N }
         requires small { 8 * N < 2 ^ 64 }
         ensures { result ≡ stands_at from.now at };
 
-    // The value depends on its own bits only.
+    // A value rests on its own bits alone.
     ghost own_bits: { (a b : List ℕ) (at : ℕ) → SameInside a b at (at + BITS) →
         stands_at a at ≡ stands_at b at };
 }

@@ -1,18 +1,18 @@
-//! Bit fields of navigation messages: integers of fixed width, and their encoding in bytes.
+//! Numbers of a fixed count of bits, and the bits of bytes in which they stand.
 //!
 //! Broadcast navigation messages and correction messages are runs of bits, sent with the most
 //! significant bit first: the parameters of a subframe (IS-GPS-200, 20.3.3), of a page (Galileo OS
-//! SIS ICD, 4.3) and of a message (RTCM 10403.3, 3.3) are unsigned or in two's complement, some of
-//! them split into two bit ranges. This crate has
+//! SIS ICD, 4.3) and of a message (RTCM 10403.3, 3.3) stand there in two's complement or without a
+//! sign, some of them in two ranges. Here are
 //!
-//! - [`U`] and [`S`], integers of `W` bits, unsigned and in two's complement;
-//! - [`Bits`], bytes seen as bits, with reads and writes of values at any bit offset;
-//! - [`Layout`] and [`BitForm`], the contract of an encoding: unpacking gives what was packed, and
-//!   packing changes no other bits;
-//! - `packed` in the definitions, the bytes of a table's concatenated fields with reserved bits 0,
-//!   and [`packed_are_the_only`], which says that no other bytes are so;
+//! - [`U`] and [`S`], unsigned numbers of `W` bits, and signed ones in two's complement;
+//! - [`Bits`], some bytes as bits, with the numbers that stand at any places of them;
+//! - [`Layout`] and [`BitForm`], what a value that stands in bits promises: what was packed is
+//!   unpacked, and packing changes its own bits alone;
+//! - `packed` in the definitions, the bytes of the concatenated fields of a table, with what is
+//!   reserved 0, and [`packed_are_the_only`], that no other bytes are such;
 //! - [`put_numbers`], which writes a table of fields, and `join` and `split` of [`U`] and [`S`],
-//!   for fields split into two bit ranges.
+//!   for fields in two ranges.
 //!
 //! ```rust
 //! use nav_bits::{BitForm, Bits, S};

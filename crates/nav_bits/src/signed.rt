@@ -29,7 +29,7 @@ impl<const W: u32> Model for S<W> {
     ghost inverse = { λ z. record { raw = z } };
 }
 
-// z, or -z - 1 where z is negative.
+// z, or -z - 1 where z is below 0.
 fn magnitude(value: i64) -> u64
     ensures { result ≡ magnitude_of value }
 {
@@ -40,22 +40,22 @@ fn magnitude(value: i64) -> u64
     }
 }
 
-// The two's complement value of `width` bits, by sign extension to 64 bits.
-pub(crate) fn sign_extended(bit_pattern: u64, width: u32) -> i64
+// The number that bits stand for in two's complement, its sign in all places above them.
+pub(crate) fn sign_extended(digits: u64, width: u32) -> i64
     requires some { 1 ≤ width }
     requires most { width ≤ 64 }
-    requires fits { bit_pattern < 2 ^ width }
-    ensures { result ≡ signed_of width bit_pattern }
+    requires fits { digits < 2 ^ width }
+    ensures { result ≡ signed_of width digits }
 {
-    if bit_pattern >> (width - 1) == 0 {
-        return bit_pattern as i64;
+    if digits >> (width - 1) == 0 {
+        return digits as i64;
     }
     let above = u64::MAX - (u64::MAX >> (64 - width));
-    (bit_pattern + above).cast_signed()
+    (digits + above).cast_signed()
 }
 
 impl<const W: u32> S<W> {
-    /// The number as `W` bits; `None` where it is out of range.
+    /// The number as `W` bits; `None` where it does not fit.
     pub fn new(value: i64) -> Option<Self>
         ensures exactly { IsSome result ↔ IsSigned W value }
         ensures same { IfSome result (λ s. s ≡ value) }
@@ -78,8 +78,8 @@ impl<const W: u32> S<W> {
         self.raw
     }
 
-    /// Its `W` bits in two's complement, as an unsigned value.
-    pub fn bit_pattern(&self) -> u64
+    /// Its `W` bits in two's complement, as a number without a sign.
+    pub fn digits(&self) -> u64
         requires some { 1 ≤ W }
         requires most { W ≤ 64 }
         ensures fits { result < 2 ^ W }
@@ -88,19 +88,19 @@ impl<const W: u32> S<W> {
         self.raw.cast_unsigned() & (u64::MAX >> (64 - W))
     }
 
-    /// The two's complement value of `W` bits, given as an unsigned value.
-    pub fn from_bits(bit_pattern: u64) -> Self
+    /// The number that `W` bits stand for in two's complement.
+    pub fn from_bits(digits: u64) -> Self
         requires some { 1 ≤ W }
         requires most { W ≤ 64 }
-        requires fits { bit_pattern < 2 ^ W }
-        ensures { result ≡ signed_of W bit_pattern }
+        requires fits { digits < 2 ^ W }
+        ensures { result ≡ signed_of W digits }
     {
         S {
-            raw: sign_extended(bit_pattern, W),
+            raw: sign_extended(digits, W),
         }
     }
 
-    /// The value whose `H` high and `L` low bits these are, in two's complement.
+    /// The number of which these are the high and the low bits.
     pub fn join<const H: u32, const L: u32>(high: U<H>, low: U<L>) -> Self
         requires whole { H + L ≡ W }
         requires some_high { 1 ≤ H }
@@ -108,11 +108,11 @@ impl<const W: u32> S<W> {
         requires most { W ≤ 64 }
         ensures { result ≡ signed_of W (high.entry * 2 ^ L + low.entry) }
     {
-        let bit_pattern: U<W> = U::join(high, low);
-        S::from_bits(bit_pattern.value())
+        let digits: U<W> = U::join(high, low);
+        S::from_bits(digits.value())
     }
 
-    /// The `H` high bits and the `L` low bits of its two's complement form.
+    /// Its `H` high bits and its `L` low bits.
     pub fn split<const H: u32, const L: u32>(&self) -> (U<H>, U<L>)
         requires whole { H + L ≡ W }
         requires some_high { 1 ≤ H }
@@ -120,8 +120,8 @@ impl<const W: u32> S<W> {
         requires most { W ≤ 64 }
         ensures { signed_of W (result.0 * 2 ^ L + result.1) ≡ self.now }
     {
-        let bit_pattern: U<W> = U::from_bits(self.bit_pattern());
-        bit_pattern.split()
+        let digits: U<W> = U::from_bits(self.digits());
+        digits.split()
     }
 }
 
@@ -139,7 +139,7 @@ impl<const W: u32> Layout for S<W> {
     const BITS: u32 = W;
 
     fn write_bits(&self, into: &mut [u8], at: usize) {
-        put_number(into, at, W as usize, self.bit_pattern());
+        put_number(into, at, W as usize, self.digits());
     }
 
     fn read_bits(from: &[u8], at: usize) -> Self {

@@ -23,7 +23,7 @@ impl<const W: u32> Model for U<W> {
 }
 
 impl<const W: u32> U<W> {
-    /// The number as `W` bits; `None` where it is out of range.
+    /// The number as `W` bits; `None` where it does not fit.
     pub fn new(value: u64) -> Option<Self>
         ensures exactly { IsSome result ↔ (value < 2 ^ W) }
         ensures same { IfSome result (λ u. u ≡ value) }
@@ -46,7 +46,7 @@ impl<const W: u32> U<W> {
         self.raw
     }
 
-    /// The number as `W` bits, where the caller knows that it is in range.
+    /// The number as `W` bits, for code that knows that it fits.
     pub fn from_bits(raw: u64) -> Self
         requires { raw < 2 ^ W }
         ensures { result ≡ raw }
@@ -54,7 +54,7 @@ impl<const W: u32> U<W> {
         U { raw }
     }
 
-    /// The number whose `H` high and `L` low bits these are.
+    /// The number of which these are the high and the low bits.
     pub fn join<const H: u32, const L: u32>(high: U<H>, low: U<L>) -> Self
         requires whole { H + L ≡ W }
         requires some_high { 1 ≤ H }

@@ -1,4 +1,4 @@
-pub mod BitPatternLemmas
+pub mod DigitLemmas
 pub mod NumberLemmas
 pub mod SameFields
 pub mod RankLemmas

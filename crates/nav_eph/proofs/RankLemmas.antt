@@ -1,4 +1,4 @@
--- The numbers of a part and of an item determine its fields.
+-- The numbers of a part and of an item tell its fields.
 use Rattle.std.proofs.Common.{◌≡◌, ℕ, suc, ◌+◌, ℤ, pos, true, if◌then◌else◌, List, [], ◌∷◌, drop, length, refl, sym, ap, ◌∙◌, ◌↔◌, arith}
 use Rattle.std.specs.Prelude.{slice_index_or, nat_eq, ◌++◌}
 use Rattle.std.proofs.lemmas.Bool.{true≢false}
@@ -37,7 +37,7 @@ use Rattle.nav_eph.specs.Ranks.{body_rank, part_rank, rank, same_numbers, transm
 use Rattle.nav_eph.specs.Items.{IsAlike, is_alike, same_item, unsent}
 use Rattle.nav_eph.specs.Conditions.{same_part}
 
--- ---- fields determined by numbers
+-- ---- the fields that numbers tell
 
 abbrev n_at : ℕ → List ℤ → ℕ
 n_at k l = magnitude_of (slice_index_or l k (pos 0))
@@ -209,7 +209,7 @@ rank_unsent (Gps e) = refl
 rank_unsent (Gal e) = refl
 rank_unsent (Ion e) = refl
 
--- items of equal rank are equal but for the transmission time
+-- items have the same rank exactly where they are alike
 pub alike_by_rank : (a b : NavItem) → rank a ≡ rank b → IsAlike a b
 alike_by_rank a b e = sym (item_again a) ∙ ap item_from e ∙ item_again b
 

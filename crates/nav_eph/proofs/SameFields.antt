@@ -1,4 +1,4 @@
--- The derived `==` decides equality of values with many fields.
+-- What the derived `==` decides of values with many fields: that the two are the same.
 use Rattle.std.proofs.Common.{◌≡◌, ◌&&◌, ◌==◌, int_eq, ap}
 use Rattle.std.specs.Bool.{Decides}
 use Rattle.std.proofs.lemmas.Bool.Decides.{Decides-and, Decides-eqb, Decides-int_eq, Decides-like}

@@ -1,4 +1,4 @@
--- The ranges of the fields that are compared as numbers.
+-- The ranges that the digits of the fields give.
 use Rattle.std.specs.Prelude.{◌^◌, ◌<◌}
 use Rattle.nav_bits.specs.Signed.{IsSigned}
 use Rattle.gnss_week.specs.Weeks.{IsSecond}
@@ -11,14 +11,14 @@ use Rattle.nav_eph.specs.declared.ion.IonContent.TheVariants.{Gps, Gal}
 use Rattle.nav_eph.specs.declared.tag.SentTag.{SentTag}
 use Rattle.nav_eph.specs.declared.tag.SentTag.TheVariants.{Sent, Toe}
 
--- each field of an SV status is in its range
+-- each field of a side is within its digits
 pub record IsGpsSide (s : GpsSide) : Type 0 where
   pub l2_code : s.l2_code < 2 ^ 2
   pub ura : s.ura < 2 ^ 4
   pub health : s.health < 2 ^ 6
   pub l2p : s.l2p < 2 ^ 1
 
--- each field of a Galileo health is in its range
+-- each field of a Galileo satellite's health is within its digits
 pub record IsGalHealth (h : GalHealth) : Type 0 where
   pub bgd_a : IsSigned 10 h.bgd_a
   pub bgd_b : IsSigned 10 h.bgd_b
@@ -27,7 +27,7 @@ pub record IsGalHealth (h : GalHealth) : Type 0 where
   pub dvs_e5b : h.dvs_e5b < 2 ^ 1
   pub dvs_e1b : h.dvs_e1b < 2 ^ 1
 
--- each GPS ionospheric parameter is in its range
+-- each coefficient of the GPS ionosphere is within its digits
 pub record IsGpsIon (i : GpsIon) : Type 0 where
   pub alpha0 : IsSigned 8 i.alpha0
   pub alpha1 : IsSigned 8 i.alpha1
@@ -38,19 +38,18 @@ pub record IsGpsIon (i : GpsIon) : Type 0 where
   pub beta2 : IsSigned 8 i.beta2
   pub beta3 : IsSigned 8 i.beta3
 
--- each Galileo ionospheric parameter is in its range
+-- each field of the Galileo ionosphere is within its digits
 pub record IsGalIon (i : GalIon) : Type 0 where
   pub ai0 : i.ai0 < 2 ^ 11
   pub ai1 : IsSigned 11 i.ai1
   pub ai2 : IsSigned 14 i.ai2
   pub regions : i.regions < 2 ^ 5
 
--- each ionospheric parameter is in its range
 abbrev pub IsIonContent : IonContent → Type 0
 IsIonContent (Gps i) = IsGpsIon i
 IsIonContent (Gal i) = IsGalIon i
 
--- the week number of a tag has at most twelve bits, and its second is a time of week
+-- the week number of a tag has twelve digits, and its second is one of a week
 abbrev pub IsSentTag : SentTag → Type 0
 IsSentTag (Sent wn second) = (wn < 2 ^ 12) × IsSecond second
 IsSentTag (Toe wn second) = (wn < 2 ^ 12) × IsSecond second

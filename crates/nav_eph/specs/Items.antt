@@ -1,4 +1,4 @@
--- Conditions on ephemerides and ionospheric parameters, and equality but for the transmission time.
+-- What holds of ephemerides and of what is said of the ionosphere, and when two of them are alike.
 use Rattle.std.specs.Prelude.{◌≡◌, ℕ, ◌+◌, ◌*◌, pos, neg_ℤ, ◌≤ℤ◌, Bool}
 use Rattle.gnss_week.specs.Weeks.{IsWeek, week_of}
 use Rattle.nav_eph.specs.Ranks.{rank, same_numbers, whole_rank}
@@ -20,18 +20,18 @@ use Rattle.nav_eph.specs.declared.items.GalEph.{GalEph}
 use Rattle.nav_eph.specs.declared.items.NavItem.{NavItem}
 use Rattle.nav_eph.specs.declared.items.NavItem.TheVariants.{Gps as GpsItem, Gal as GalItem, Ion as IonItem}
 
--- a known transmission time is from half a week before the week of toe to half a week after it
+-- a known transmission time lies from half a week before the week of toe to half a week after it
 abbrev pub IsSentSecond : SentSecond → Type 0
 IsSentSecond Unknown = Unit {0}
 IsSentSecond (At second) = (neg_ℤ (pos 302400) ≤ℤ second) × (second ≤ℤ pos 907199)
 
--- the satellite is of GPS, the IODEs of subframes 2 and 3 agree, and the transmission time is in range
+-- the satellite is one of GPS, and both halves of the orbit are of one issue
 pub record IsGpsEph (sat : Satellite) (a : GpsOrbitA) (b : GpsOrbitB) (sent : SentSecond) : Type 0 where
   pub system : sat.system ≡ Gps
   pub issue : a.iode ≡ b.iode
   pub second : IsSentSecond sent
 
--- the satellite is of Galileo, the IODnavs of the four words agree, and the transmission time is in range
+-- the satellite is one of Galileo, and the four words are of one issue
 pub record IsGalEph (sat : Satellite) (w1 : GalWord1) (w2 : GalWord2) (w3 : GalWord3) (w4 : GalWord4) (sent : SentSecond) : Type 0 where
   pub system : sat.system ≡ Gal
   pub issue2 : w2.iodnav ≡ w1.iodnav
@@ -39,38 +39,38 @@ pub record IsGalEph (sat : Satellite) (w1 : GalWord1) (w2 : GalWord2) (w3 : GalW
   pub issue4 : w4.iodnav ≡ w1.iodnav
   pub second : IsSentSecond sent
 
--- the system that broadcasts the parameters
+-- the system whose satellites say it
 abbrev pub content_system : IonContent → System
 content_system (OfGps ionosphere) = Gps
 content_system (OfGal ionosphere) = Gal
 
--- the satellite is of the system of the parameters, and the transmission time is in week 1 to 16382
+-- the satellite is of the content's system, and the moment lies in a week that a value may name
 pub record IsIonEph (sat : Satellite) (moment : ℕ) (content : IonContent) : Type 0 where
   pub system : sat.system ≡ content_system content
   pub week : IsWeek (week_of moment)
 
--- the item with transmission time unknown
+-- the item with no transmission time
 abbrev pub unsent : NavItem → NavItem
 unsent (GpsItem e) = GpsItem (record e { sent = Unknown })
 unsent (GalItem e) = GalItem (record e { sent = Unknown })
 unsent (IonItem e) = IonItem e
 
--- the two are equal in every field but the transmission time of an ephemeris
+-- the two are equal in every field but the transmission time
 abbrev pub IsAlike : NavItem → NavItem → Type 0
 IsAlike a b = unsent a ≡ unsent b
 
--- the same as a test, by their numbers
+-- the same as a test: all numbers of the two but the transmission time are the same
 abbrev pub is_alike : NavItem → NavItem → Bool
 is_alike a b = same_numbers (rank a) (rank b)
 
--- whether two items are equal, by all their numbers
+-- that two items are equal as a test: all numbers of the two are the same
 abbrev pub same_item : NavItem → NavItem → Bool
 same_item a b = same_numbers (whole_rank a) (whole_rank b)
 
--- toe of a GPS ephemeris as GPS time; toe is in steps of 16 s
+-- the moment of the time of an ephemeris of GPS: in the week of toe, toe being in steps of 16 s
 abbrev pub gps_toe_moment : GpsEph → ℕ
 gps_toe_moment e = 604800 * e.toe_week + 16 * e.a.toe
 
--- toe of a Galileo ephemeris as GPS time; toe is in steps of 60 s
+-- the moment of the time of an ephemeris of Galileo: in the week of toe, toe being in steps of 60 s
 abbrev pub galileo_toe_moment : GalEph → ℕ
 galileo_toe_moment e = 604800 * e.toe_week + 60 * e.w1.toe

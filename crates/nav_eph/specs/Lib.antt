@@ -1,6 +1,6 @@
 pub mod Bodies
 pub mod Conditions
-pub mod BitPatterns
+pub mod Digits
 pub mod Items
 pub mod Numbers
 pub mod Ranges

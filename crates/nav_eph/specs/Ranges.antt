@@ -1,4 +1,4 @@
--- The ranges of the fields of items and parts, and the items whose fields are consistent.
+-- The ranges of the fields of an item, and the items whose parts fit together.
 use Rattle.std.specs.Prelude.{◌^◌, ◌<◌}
 use Rattle.nav_bits.specs.Signed.{IsSigned}
 use Rattle.gnss_week.specs.Weeks.{IsMoment, IsWeek}
@@ -19,7 +19,7 @@ use Rattle.nav_eph.specs.declared.items.IonEph.{IonEph}
 use Rattle.nav_eph.specs.declared.items.NavItem.{NavItem}
 use Rattle.nav_eph.specs.declared.items.NavItem.TheVariants.{Gps, Gal, Ion}
 
--- each field of a GPS clock correction is in its range (IS-GPS-200, table 20-I)
+-- each field of a clock of GPS is within its digits (IS-GPS-200, table 20-I)
 pub record IsGpsClock (c : GpsClock) : Type 0 where
   pub iodc : c.iodc < 2 ^ 10
   pub toc : IsStep16 c.toc
@@ -28,7 +28,7 @@ pub record IsGpsClock (c : GpsClock) : Type 0 where
   pub af0 : IsSigned 22 c.af0
   pub tgd : IsSigned 8 c.tgd
 
--- each field of GPS subframe 2 is in its range (IS-GPS-200, table 20-III)
+-- each field of the first half of an orbit of GPS is within its digits (IS-GPS-200, table 20-III)
 pub record IsGpsOrbitA (a : GpsOrbitA) : Type 0 where
   pub iode : a.iode < 2 ^ 8
   pub crs : IsSigned 16 a.crs
@@ -40,7 +40,7 @@ pub record IsGpsOrbitA (a : GpsOrbitA) : Type 0 where
   pub root_a : a.root_a < 2 ^ 32
   pub toe : IsStep16 a.toe
 
--- each field of GPS subframe 3 is in its range (IS-GPS-200, table 20-III)
+-- each field of the second half of an orbit of GPS is within its digits (IS-GPS-200, table 20-III)
 pub record IsGpsOrbitB (b : GpsOrbitB) : Type 0 where
   pub iode : b.iode < 2 ^ 8
   pub cic : IsSigned 16 b.cic
@@ -52,7 +52,7 @@ pub record IsGpsOrbitB (b : GpsOrbitB) : Type 0 where
   pub omega_dot : IsSigned 24 b.omega_dot
   pub idot : IsSigned 14 b.idot
 
--- each field of I/NAV word type 1 is in its range (Galileo OS SIS ICD, 5.1.1)
+-- each field of a word 1 is within its digits (Galileo OS SIS ICD, 5.1.1)
 pub record IsGalWord1 (w : GalWord1) : Type 0 where
   pub iodnav : w.iodnav < 2 ^ 10
   pub toe : IsStep60 w.toe
@@ -60,7 +60,7 @@ pub record IsGalWord1 (w : GalWord1) : Type 0 where
   pub e : w.e < 2 ^ 32
   pub root_a : w.root_a < 2 ^ 32
 
--- each field of I/NAV word type 2 is in its range (Galileo OS SIS ICD, 5.1.1)
+-- each field of a word 2 is within its digits (Galileo OS SIS ICD, 5.1.1)
 pub record IsGalWord2 (w : GalWord2) : Type 0 where
   pub iodnav : w.iodnav < 2 ^ 10
   pub omega0 : IsSigned 32 w.omega0
@@ -68,7 +68,7 @@ pub record IsGalWord2 (w : GalWord2) : Type 0 where
   pub omega : IsSigned 32 w.omega
   pub idot : IsSigned 14 w.idot
 
--- each field of I/NAV word type 3 is in its range (Galileo OS SIS ICD, 5.1.1 and 5.1.12)
+-- each field of a word 3 is within its digits (Galileo OS SIS ICD, 5.1.1 and 5.1.12)
 pub record IsGalWord3 (w : GalWord3) : Type 0 where
   pub iodnav : w.iodnav < 2 ^ 10
   pub omega_dot : IsSigned 24 w.omega_dot
@@ -79,7 +79,7 @@ pub record IsGalWord3 (w : GalWord3) : Type 0 where
   pub crs : IsSigned 16 w.crs
   pub sisa : IsSisa w.sisa
 
--- each field of I/NAV word type 4 is in its range (Galileo OS SIS ICD, 5.1.1 and 5.1.3)
+-- each field of a word 4 is within its digits (Galileo OS SIS ICD, 5.1.1 and 5.1.3)
 pub record IsGalWord4 (w : GalWord4) : Type 0 where
   pub iodnav : w.iodnav < 2 ^ 10
   pub cic : IsSigned 16 w.cic
@@ -89,7 +89,7 @@ pub record IsGalWord4 (w : GalWord4) : Type 0 where
   pub af1 : IsSigned 21 w.af1
   pub af2 : IsSigned 6 w.af2
 
--- each field of a GPS ephemeris is in its range
+-- each field of an ephemeris of GPS is within its digits
 pub record HasGpsRanges (e : GpsEph) : Type 0 where
   pub sat : IsSat e.sat.system e.sat.number
   pub clock : IsGpsClock e.clock
@@ -99,7 +99,7 @@ pub record HasGpsRanges (e : GpsEph) : Type 0 where
   pub b : IsGpsOrbitB e.b
   pub toe_week : IsWeek e.toe_week
 
--- each field of a Galileo ephemeris is in its range
+-- each field of an ephemeris of Galileo is within its digits
 pub record HasGalRanges (e : GalEph) : Type 0 where
   pub sat : IsSat e.sat.system e.sat.number
   pub w1 : IsGalWord1 e.w1
@@ -109,34 +109,34 @@ pub record HasGalRanges (e : GalEph) : Type 0 where
   pub health : IsGalHealth e.health
   pub toe_week : IsWeek e.toe_week
 
--- each field of an ionosphere item is in its range
+-- each field of an ionosphere is within its digits
 pub record HasIonRanges (e : IonEph) : Type 0 where
   pub sat : IsSat e.sat.system e.sat.number
   pub moment : IsMoment e.moment
   pub content : IsIonContent e.content
 
--- each field of an item is in its range, as in every value of the type
+-- each field of an item is within its digits, as in every value of the type
 abbrev pub HasRanges : NavItem → Type 0
 HasRanges (Gps e) = HasGpsRanges e
 HasRanges (Gal e) = HasGalRanges e
 HasRanges (Ion e) = HasIonRanges e
 
--- a GPS ephemeris whose fields are in range and consistent
+-- an ephemeris of GPS whose fields are within their digits and whose parts fit together
 pub record IsGpsItem (e : GpsEph) : Type 0 where
   pub ranges : HasGpsRanges e
   pub whole : IsGpsEph e.sat e.a e.b e.sent
 
--- a Galileo ephemeris whose fields are in range and consistent
+-- an ephemeris of Galileo whose fields are within their digits and whose parts fit together
 pub record IsGalItem (e : GalEph) : Type 0 where
   pub ranges : HasGalRanges e
   pub whole : IsGalEph e.sat e.w1 e.w2 e.w3 e.w4 e.sent
 
--- an ionosphere item whose fields are in range and consistent
+-- an ionosphere whose fields are within their digits and whose parts fit together
 pub record IsIonItem (e : IonEph) : Type 0 where
   pub ranges : HasIonRanges e
   pub whole : IsIonEph e.sat e.moment e.content
 
--- an item whose fields are in range and consistent
+-- an item whose fields are within their digits and whose parts fit together
 abbrev pub IsItem : NavItem → Type 0
 IsItem (Gps e) = IsGpsItem e
 IsItem (Gal e) = IsGalItem e

@@ -8,16 +8,16 @@ pub record Satellite : Type 0 where
   pub system : System
   pub number : ℕ
 
--- the highest satellite number of a system
+-- the satellites of a system have the numbers from 1 up to this one
 abbrev pub most : System → ℕ
 most Gps = 32
 most Gal = 36
 
--- the system has a satellite with this number
+-- the system has a satellite with that number
 abbrev pub IsSat : System → ℕ → Type 0
 IsSat system n = (1 ≤ n) × (n ≤ most system)
 
--- the rank of a system in the order: GPS, then Galileo
+-- the place of a system in the order: GPS, then Galileo
 abbrev pub place_of : System → ℕ
 place_of Gps = 0
 place_of Gal = 1

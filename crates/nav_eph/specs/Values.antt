@@ -1,4 +1,5 @@
--- What holds of every body and part by its type: fields that are compared as numbers are in range.
+-- What holds of every value of a body and of a part: its fields, and the numbers by which they are
+-- compared, are within their digits.
 use Rattle.std.specs.Prelude.{◌^◌, ◌<◌}
 use Rattle.gnss_week.specs.Weeks.{IsSecond}
 use Rattle.nav_eph.specs.Bodies.{IsGalHealth, IsGalIon, IsGpsIon, IsGpsSide, IsSentTag}
@@ -11,7 +12,7 @@ use Rattle.nav_eph.specs.declared.part.Body.TheVariants.{GpsIon as OfGpsIon, Gal
 use Rattle.nav_eph.specs.declared.part.Body.TheVariants.{GpsA, GpsB, GalW1, GalW2, GalW3, GalW4}
 use Rattle.nav_eph.specs.declared.part.Part.{Part}
 
--- each field of a body that is compared as a number is in its range
+-- each number of a body by which it is compared is within its digits
 abbrev pub IsBodyValue : Body → Type 0
 IsBodyValue (OfClock clock side tag) = IsGpsSide side × IsSentTag tag
 IsBodyValue (OfHealth health tag) = IsGalHealth health × IsSentTag tag
@@ -19,12 +20,12 @@ IsBodyValue (OfGpsIon ionosphere second) = IsGpsIon ionosphere × IsSecond secon
 IsBodyValue (OfGalIon ionosphere wn second) = IsGalIon ionosphere × IsSecond second
 IsBodyValue _ = Unit {0}
 
--- what holds of every part by its type: the stamp has 32 bits, and fields that are compared are in range
+-- what holds of every value of the type: the stamp has 32 bits, and what is compared is within its digits
 pub record IsPartValue (p : Part) : Type 0 where
   pub stamp : p.stamp < 2 ^ 32
   pub body : IsBodyValue p.body
 
--- each field of a body is in its range
+-- each field of the content of a body is within its digits
 abbrev pub HasBodyRanges : Body → Type 0
 HasBodyRanges (OfClock clock side tag) = IsGpsClock clock × IsGpsSide side
 HasBodyRanges (GpsA orbit fit) = IsGpsOrbitA orbit × (fit < 2 ^ 1)
@@ -37,7 +38,7 @@ HasBodyRanges (OfHealth health tag) = IsGalHealth health
 HasBodyRanges (OfGpsIon ionosphere second) = IsGpsIon ionosphere
 HasBodyRanges (OfGalIon ionosphere wn second) = IsGalIon ionosphere
 
--- the satellite number and each field of the body are in range
+-- the satellite is one of its system, and each field of the content is within its digits
 pub record HasPartRanges (p : Part) : Type 0 where
   pub sat : IsSat p.sat.system p.sat.number
   pub body : HasBodyRanges p.body

@@ -3,79 +3,79 @@ ghost use Rattle.std.specs.Prelude.{◌≡◌, ℕ};
 use crate::steps::Step16;
 use nav_bits::{S, U};
 
-/// The clock correction of subframe 1 (IS-GPS-200, table 20-I).
+/// The clock of a GPS satellite, of subframe 1 (IS-GPS-200, table 20-I).
 #[derive(Clone, Copy, PartialEq, Eq)]
 pub struct GpsClock {
     /// Issue of data, clock.
     pub iodc: U<10>,
-    /// Clock data reference time, in steps of 16 s.
+    /// The time of the clock's data, in steps of 16 s.
     pub toc: Step16,
-    /// Clock drift rate correction, in 2^-55 s/s².
+    /// Clock drift rate, in 2^-55 s/s².
     pub af2: S<8>,
-    /// Clock drift correction, in 2^-43 s/s.
+    /// Clock drift, in 2^-43 s/s.
     pub af1: S<16>,
-    /// Clock bias correction, in 2^-31 s.
+    /// Clock bias, in 2^-31 s.
     pub af0: S<22>,
-    /// Group delay differential, in 2^-31 s.
+    /// Group delay, in 2^-31 s.
     pub tgd: S<8>,
 }
 
-/// SV status: the fields of subframe 1 other than the clock correction (IS-GPS-200, 20.3.3.3.1).
+/// SV status: what subframe 1 has beside the clock (IS-GPS-200, 20.3.3.3.1).
 #[derive(Clone, Copy, PartialEq, Eq)]
 pub struct GpsSide {
-    /// Codes on the L2 channel.
+    /// The codes on L2.
     pub l2_code: U<2>,
-    /// User range accuracy (URA), an index.
+    /// User range accuracy, an index.
     pub ura: U<4>,
-    /// SV health.
+    /// The health of the satellite.
     pub health: U<6>,
-    /// L2 P data flag: 1 where the navigation data stream on the L2 P-code is off.
+    /// Whether the P code on L2 bears no data.
     pub l2p: U<1>,
 }
 
-/// The ephemeris parameters of subframe 2 (IS-GPS-200, table 20-III).
+/// The ephemeris parameters of subframe 2: the first half of the orbit of a GPS satellite (IS-GPS-200, table 20-III).
 #[derive(Clone, Copy, PartialEq, Eq)]
 pub struct GpsOrbitA {
     /// Issue of data, ephemeris.
     pub iode: U<8>,
-    /// Sine harmonic correction to the orbit radius, in 2^-5 m.
+    /// Sine correction to the orbit's radius, in 2^-5 m.
     pub crs: S<16>,
-    /// Mean motion difference, in 2^-43 semicircles/s.
+    /// Correction to the mean motion, in 2^-43 semicircles/s.
     pub delta_n: S<16>,
-    /// Mean anomaly at the reference time, in 2^-31 semicircles.
+    /// Mean anomaly at the time of the ephemeris, in 2^-31 semicircles.
     pub m0: S<32>,
-    /// Cosine harmonic correction to the argument of latitude, in 2^-29 rad.
+    /// Cosine correction to the argument of latitude, in 2^-29 rad.
     pub cuc: S<16>,
     /// Eccentricity, in 2^-33.
     pub e: U<32>,
-    /// Sine harmonic correction to the argument of latitude, in 2^-29 rad.
+    /// Sine correction to the argument of latitude, in 2^-29 rad.
     pub cus: S<16>,
     /// Square root of the semi-major axis, in 2^-19 √m.
     pub root_a: U<32>,
-    /// Ephemeris reference time, in steps of 16 s.
+    /// The time of the ephemeris, in steps of 16 s.
     pub toe: Step16,
 }
 
-/// The ephemeris parameters of subframe 3 (IS-GPS-200, table 20-III).
+/// The ephemeris parameters of subframe 3: the second half of the orbit of a GPS satellite (IS-GPS-200, table 20-III).
 #[derive(Clone, Copy, PartialEq, Eq)]
 pub struct GpsOrbitB {
     /// Issue of data, ephemeris.
     pub iode: U<8>,
-    /// Cosine harmonic correction to the inclination, in 2^-29 rad.
+    /// Cosine correction to the inclination, in 2^-29 rad.
     pub cic: S<16>,
-    /// Longitude of the ascending node at the weekly epoch, in 2^-31 semicircles.
+    /// Longitude of the ascending node at the start of the week, in 2^-31 semicircles.
     pub omega0: S<32>,
-    /// Sine harmonic correction to the inclination, in 2^-29 rad.
+    /// Sine correction to the inclination, in 2^-29 rad.
     pub cis: S<16>,
-    /// Inclination at the reference time, in 2^-31 semicircles.
+    /// Inclination at the time of the ephemeris, in 2^-31 semicircles.
     pub i0: S<32>,
-    /// Cosine harmonic correction to the orbit radius, in 2^-5 m.
+    /// Cosine correction to the orbit's radius, in 2^-5 m.
     pub crc: S<16>,
     /// Argument of perigee, in 2^-31 semicircles.
     pub omega: S<32>,
-    /// Rate of change of the right ascension, in 2^-43 semicircles/s.
+    /// Rate of the right ascension, in 2^-43 semicircles/s.
     pub omega_dot: S<24>,
-    /// Rate of change of the inclination, in 2^-43 semicircles/s.
+    /// Rate of the inclination, in 2^-43 semicircles/s.
     pub idot: S<14>,
 }
 
@@ -83,8 +83,7 @@ impl GpsSide {
     ghost use Rattle.nav_eph.specs.Numbers.{side_number};
     ghost use Rattle.nav_eph.specs.Bodies.{IsGpsSide};
 
-    /// Its 13 bits, concatenated in the order of its fields, as one number; used to choose among
-    /// values.
+    /// The number that its 13 bits give, in the order of its fields.
     pub fn number(&self) -> u64
         ensures value { result ≡ side_number self.now }
         ensures fits { IsGpsSide self.now }

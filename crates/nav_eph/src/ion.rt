@@ -2,11 +2,11 @@ ghost use Rattle.std.specs.Prelude.{◌≡◌, ℕ};
 ghost use Rattle.nav_eph.specs.Bodies.{IsGalIon, IsGpsIon, IsIonContent};
 ghost use Rattle.nav_eph.specs.Numbers.{content_number, gal_ion_number, gps_ion_number};
 
-use crate::bit_pattern::bit_pattern;
+use crate::digits::digits;
 use crate::sat::System;
 use nav_bits::{S, U};
 
-/// The GPS ionospheric parameters of subframe 4, page 18 (IS-GPS-200, table 20-X).
+/// The ionosphere of GPS, of subframe 4, page 18 (IS-GPS-200, table 20-X).
 #[derive(Clone, Copy, PartialEq, Eq)]
 pub struct GpsIon {
     /// In 2^-30 s.
@@ -27,61 +27,59 @@ pub struct GpsIon {
     pub beta3: S<8>,
 }
 
-/// The Galileo ionospheric parameters of I/NAV word type 5 (Galileo OS SIS ICD, 5.1.6).
+/// The ionosphere of Galileo, of I/NAV word 5 (Galileo OS SIS ICD, 5.1.6).
 #[derive(Clone, Copy, PartialEq, Eq)]
 pub struct GalIon {
-    /// Effective ionisation level, 1st order, in 2^-2 solar flux units.
+    /// Effective ionisation level, in 2^-2 solar flux units.
     pub ai0: U<11>,
-    /// 2nd order, in 2^-8 solar flux units/degree.
+    /// In 2^-8 solar flux units/degree.
     pub ai1: S<11>,
-    /// 3rd order, in 2^-15 solar flux units/degree².
+    /// In 2^-15 solar flux units/degree².
     pub ai2: S<14>,
-    /// Ionospheric disturbance flags of regions 1 to 5; region 1 is the highest bit.
+    /// The ionospheric disturbance flags SF1 to SF5 of the five regions; region 1 is the highest bit.
     pub regions: U<5>,
 }
 
-/// The broadcast ionospheric parameters of one system.
+/// What a satellite says of the ionosphere.
 #[derive(Clone, Copy, PartialEq, Eq)]
 pub enum IonContent {
-    /// GPS.
+    /// Of GPS.
     Gps(GpsIon),
-    /// Galileo.
+    /// Of Galileo.
     Gal(GalIon),
 }
 
 impl GpsIon {
-    /// Its 64 bits, concatenated in the order of its fields, as one number; used to choose among
-    /// values.
+    /// The number that its 64 bits give, in the order of its fields.
     pub fn number(&self) -> u64
         ensures value { result ≡ gps_ion_number self.now }
         ensures fits { IsGpsIon self.now }
     {
-        let number = bit_pattern(&self.alpha0) * 256 + bit_pattern(&self.alpha1);
-        let number = number * 256 + bit_pattern(&self.alpha2);
-        let number = number * 256 + bit_pattern(&self.alpha3);
-        let number = number * 256 + bit_pattern(&self.beta0);
-        let number = number * 256 + bit_pattern(&self.beta1);
-        let number = number * 256 + bit_pattern(&self.beta2);
-        number * 256 + bit_pattern(&self.beta3)
+        let number = digits(&self.alpha0) * 256 + digits(&self.alpha1);
+        let number = number * 256 + digits(&self.alpha2);
+        let number = number * 256 + digits(&self.alpha3);
+        let number = number * 256 + digits(&self.beta0);
+        let number = number * 256 + digits(&self.beta1);
+        let number = number * 256 + digits(&self.beta2);
+        number * 256 + digits(&self.beta3)
     }
 }
 
 impl GalIon {
-    /// Its 41 bits, concatenated in the order of its fields, as one number; used to choose among
-    /// values.
+    /// The number that its 41 bits give, in the order of its fields.
     pub fn number(&self) -> u64
         ensures value { result ≡ gal_ion_number self.now }
         ensures fits { IsGalIon self.now }
     {
-        let number = self.ai0.value() * 2_048 + bit_pattern(&self.ai1);
-        (number * 16_384 + bit_pattern(&self.ai2)) * 32 + self.regions.value()
+        let number = self.ai0.value() * 2_048 + digits(&self.ai1);
+        (number * 16_384 + digits(&self.ai2)) * 32 + self.regions.value()
     }
 }
 
 impl IonContent {
     ghost use Rattle.nav_eph.specs.Items.{content_system};
 
-    /// The system that broadcasts them.
+    /// The system whose satellites say it.
     pub fn system(&self) -> System
         ensures { result ≡ content_system self.now }
     {
@@ -91,8 +89,7 @@ impl IonContent {
         }
     }
 
-    /// Its bits, concatenated in the order of its fields, as one number; used to choose among
-    /// values.
+    /// The number that its bits give, in the order of its fields.
     pub fn number(&self) -> u64
         ensures value { result ≡ content_number self.now }
         ensures fits { IsIonContent self.now }

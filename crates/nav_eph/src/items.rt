@@ -11,81 +11,80 @@ use crate::sat::{Sat, System};
 use gnss_week::{Moment, Week};
 use nav_bits::U;
 
-/// The transmission time of an ephemeris, relative to the week of toe.
+/// The transmission time of an ephemeris.
 #[derive(Clone, Copy, PartialEq, Eq)]
 pub enum SentSecond {
-    /// Not known.
+    /// It is not known.
     Unknown,
-    /// Seconds after the start of the week of toe, -302,400 to 907,199.
+    /// So many seconds after the start of the week of its toe, -302,400 to 907,199.
     At(i32),
 }
 
-/// A GPS LNAV ephemeris.
+/// An ephemeris of GPS.
 #[derive(Clone, Copy, PartialEq, Eq)]
 pub struct GpsEph {
     /// The satellite, of GPS.
     pub sat: Sat,
-    /// Its clock correction, of subframe 1.
+    /// Its clock.
     pub clock: GpsClock,
-    /// Its SV status, of subframe 1.
+    /// Its SV status.
     pub side: GpsSide,
     /// Its subframe 2.
     pub a: GpsOrbitA,
     /// The fit interval flag (IS-GPS-200, 20.3.3.4.3.1).
     pub fit: U<1>,
-    /// Its subframe 3, of the same IODE.
+    /// Its subframe 3, of the same issue.
     pub b: GpsOrbitB,
     /// The week of toe, counted from 1980-01-06.
     pub toe_week: Week,
-    /// Its transmission time.
+    /// When it was sent.
     pub sent: SentSecond,
 }
 
-/// A Galileo I/NAV ephemeris.
+/// An ephemeris of Galileo.
 #[derive(Clone, Copy, PartialEq, Eq)]
 pub struct GalEph {
     /// The satellite, of Galileo.
     pub sat: Sat,
-    /// Its I/NAV word type 1.
+    /// Its I/NAV word 1.
     pub w1: GalWord1,
-    /// Word type 2, of the same IODnav.
+    /// Word 2, of the same issue.
     pub w2: GalWord2,
-    /// Word type 3, with the SISA, of the same IODnav.
+    /// Word 3, with the SISA, of the same issue.
     pub w3: GalWord3,
-    /// Word type 4, with the clock correction, of the same IODnav.
+    /// Word 4, with the clock, of the same issue.
     pub w4: GalWord4,
-    /// Its group delays, signal health and data validity, of word type 5.
+    /// Its group delays and health, of word 5.
     pub health: GalHealth,
     /// The week of toe, counted from 1980-01-06.
     pub toe_week: Week,
-    /// Its transmission time.
+    /// When it was sent.
     pub sent: SentSecond,
 }
 
-/// Broadcast ionospheric parameters, with satellite and transmission time.
+/// What a satellite says of the ionosphere, and when.
 #[derive(Clone, Copy, PartialEq, Eq)]
 pub struct IonEph {
-    /// The satellite, of the system of the parameters.
+    /// The satellite, of the content's system.
     pub sat: Sat,
-    /// The transmission time, in week 1 to 16382.
+    /// When it was sent, in week 1 to 16382.
     pub moment: Moment,
-    /// The parameters.
+    /// What it says.
     pub content: IonContent,
 }
 
-/// One item of broadcast navigation data.
+/// One item of a list of broadcast navigation data.
 #[derive(Clone, Copy, PartialEq, Eq)]
 pub enum NavItem {
-    /// A GPS ephemeris.
+    /// An ephemeris of GPS.
     Gps(GpsEph),
-    /// A Galileo ephemeris.
+    /// An ephemeris of Galileo.
     Gal(GalEph),
-    /// Ionospheric parameters.
+    /// The ionosphere.
     Ion(IonEph),
 }
 
-// Whether the transmission time is unknown, or from half a week before to half a week after the
-// week of toe.
+// A known transmission time lies from half a week before the week of toe to half a week after it.
 fn is_sent_second(sent: &SentSecond) -> bool
     ensures { IsTrue result ↔ IsSentSecond sent.now }
 {
@@ -96,8 +95,8 @@ fn is_sent_second(sent: &SentSecond) -> bool
 }
 
 impl GpsEph {
-    /// The ephemeris of these fields; `None` where the satellite is not one of GPS, the IODEs of
-    /// subframes 2 and 3 differ, or `sent` is out of range.
+    /// The ephemeris of these fields; `None` where the satellite is not one of GPS, the two halves
+    /// of the orbit have different issues, or `sent` is out of range.
     pub fn new(
         sat: Sat,
         clock: GpsClock,
@@ -141,8 +140,8 @@ impl GpsEph {
         })
     }
 
-    /// The ephemeris reference time toe as GPS time, in seconds from 1980-01-06 (IS-GPS-200,
-    /// 20.3.3.4.1).
+    /// The moment of its toe (IS-GPS-200, 20.3.3.4.1): in the week of toe, in seconds from
+    /// 1980-01-06.
     pub fn toe(&self) -> Moment
         ensures { result ≡ gps_toe_moment self.now }
     {
@@ -152,8 +151,8 @@ impl GpsEph {
 }
 
 impl GalEph {
-    /// The ephemeris of these fields; `None` where the satellite is not one of Galileo, the IODnavs
-    /// of the four words differ, or `sent` is out of range.
+    /// The ephemeris of these fields; `None` where the satellite is not one of Galileo, the four
+    /// words have different issues, or `sent` is out of range.
     pub fn new(
         sat: Sat,
         w1: GalWord1,
@@ -204,8 +203,8 @@ impl GalEph {
         })
     }
 
-    /// The ephemeris reference time toe as GPS time, in seconds from 1980-01-06 (Galileo OS SIS
-    /// ICD, 5.1.1).
+    /// The moment of its toe (Galileo OS SIS ICD, 5.1.1): in the week of toe, in seconds from
+    /// 1980-01-06.
     pub fn toe(&self) -> Moment
         ensures { result ≡ galileo_toe_moment self.now }
     {
@@ -215,8 +214,8 @@ impl GalEph {
 }
 
 impl IonEph {
-    /// The item of these fields; `None` where the satellite is not of the system of the parameters,
-    /// or the transmission time is in week 0 or 16383.
+    /// The ionosphere of these fields; `None` where the satellite is not of the content's system,
+    /// or the moment is in week 0 or 16383.
     pub fn new(sat: Sat, moment: Moment, content: IonContent) -> Option<Self>
         ensures exactly { IsSome result ↔ IsIonEph sat moment content }
         ensures same { IfSome result (λ e. e ≡ record {
@@ -243,7 +242,7 @@ impl IonEph {
 }
 
 impl NavItem {
-    // Whether it equals another in every field.
+    // It equals another in every field.
     fn equals(&self, other: &NavItem) -> bool
         ensures { IsTrue result ↔ (self.now ≡ other.now) }
     {
@@ -255,7 +254,7 @@ impl NavItem {
         }
     }
 
-    /// Whether it equals another in every field.
+    /// It equals another in every field.
     pub fn is_same(&self, other: &NavItem) -> bool
         ensures exactly { IsTrue result ↔ (self.now ≡ other.now) }
         ensures answer { result ≡ same_item self.now other.now }
@@ -263,7 +262,7 @@ impl NavItem {
         self.equals(other)
     }
 
-    // The item with transmission time `Unknown`.
+    // The item with no transmission time.
     fn without_transmission(&self) -> NavItem
         ensures { result ≡ unsent self.now }
     {
@@ -280,7 +279,7 @@ impl NavItem {
         }
     }
 
-    // Whether it equals another in every field but the transmission time.
+    // It equals another in every field but the transmission time.
     fn equals_unsent(&self, other: &NavItem) -> bool
         ensures { IsTrue result ↔ IsAlike self.now other.now }
     {
@@ -288,7 +287,7 @@ impl NavItem {
             .equals(&other.without_transmission())
     }
 
-    /// Whether it equals another in every field but the transmission time of an ephemeris.
+    /// It equals another in every field but the transmission time.
     pub fn is_alike(&self, other: &NavItem) -> bool
         ensures exactly { IsTrue result ↔ IsAlike self.now other.now }
         ensures answer { result ≡ is_alike self.now other.now }

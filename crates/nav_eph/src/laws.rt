@@ -14,54 +14,54 @@ ghost use Rattle.nav_eph.specs.declared.ion.GpsIon.{GpsIon};
 ghost use Rattle.nav_eph.specs.declared.ion.GalIon.{GalIon};
 ghost use Rattle.nav_eph.specs.declared.tag.SentTag.{SentTag};
 
-/// Two different SV statuses have different numbers.
+/// No two sides have the same number.
 pub fn one_side()
     ensures { (a b : GpsSide) → IsGpsSide a → IsGpsSide b → side_number a ≡ side_number b → a ≡ b }
 {}
 
-/// Two different transmission time tags have different numbers.
+/// No two tags have the same number.
 pub fn one_tag()
     ensures { (a b : SentTag) → IsSentTag a → IsSentTag b → tag_number a ≡ tag_number b → a ≡ b }
 {}
 
-/// Two different pairs of Galileo health and tag have different numbers.
+/// No two healths of Galileo with their tags have the same number.
 pub fn one_health_and_tag()
     ensures { (a b : GalHealth) (s t : SentTag) →
         IsGalHealth a → IsGalHealth b → IsSentTag s → IsSentTag t →
         health_number a s ≡ health_number b t → (a ≡ b) × (s ≡ t) }
 {}
 
-/// Two different sets of GPS ionospheric parameters have different numbers.
+/// No two contents of the GPS ionosphere have the same number.
 pub fn one_gps_ionosphere()
     ensures { (a b : GpsIon) → IsGpsIon a → IsGpsIon b →
         gps_ion_number a ≡ gps_ion_number b → a ≡ b }
 {}
 
-/// Two different sets of Galileo ionospheric parameters have different numbers.
+/// No two contents of the Galileo ionosphere have the same number.
 pub fn one_galileo_ionosphere()
     ensures { (a b : GalIon) → IsGalIon a → IsGalIon b →
         gal_ion_number a ≡ gal_ion_number b → a ≡ b }
 {}
 
-/// Two different transmission times of GPS ionospheric parameters have different numbers.
+/// No two times at which the ionosphere of GPS was sent have the same number.
 pub fn one_gps_transmission()
     ensures { (s t : ℕ) → gps_transmission s ≡ gps_transmission t → s ≡ t }
 {}
 
-/// Two different transmission times of Galileo ionospheric parameters have different numbers.
+/// No two times at which the ionosphere of Galileo was sent have the same number.
 pub fn one_galileo_transmission()
     ensures { (v w s t : ℕ) → IsSecond s → IsSecond t →
         gal_transmission v s ≡ gal_transmission w t → (v ≡ w) × (s ≡ t) }
 {}
 
-/// `same_item` decides equality of items, and `same_part` equality of parts.
+/// `same_item` is equality of items, and `same_part` equality of parts.
 pub fn equality_is_decided()
     ensures items { (a b : NavItem) → (same_item a b ≡ true) ↔ (a ≡ b) }
     ensures parts { (a b : Part) → (same_part a b ≡ true) ↔ (a ≡ b) }
 {}
 
-/// `is_alike` decides equality of items but for the transmission time of an ephemeris; so does
-/// equality of `rank`.
+/// `is_alike` is equality of items in every field but the transmission time, and so is equality of
+/// their numbers but for it.
 pub fn alike_is_decided()
     ensures alike { (a b : NavItem) → (is_alike a b ≡ true) ↔ IsAlike a b }
     ensures numbers { (a b : NavItem) → (rank a ≡ rank b) ↔ IsAlike a b }

@@ -1,17 +1,16 @@
-//! Broadcast ephemerides and ionospheric parameters.
+//! The values of broadcast ephemerides and of the broadcast ionosphere.
 //!
-//! A GPS ephemeris is broadcast in three subframes (IS-GPS-200, 20.3.3), a Galileo ephemeris in
-//! four word types and its health in a fifth (Galileo OS SIS ICD, 4.3.5), each parameter as an
-//! integer of fixed width. Here parameters are kept as broadcast, unscaled:
+//! GPS sends an ephemeris in three subframes (IS-GPS-200, 20.3.3), Galileo in four words and its
+//! health in a fifth (Galileo OS SIS ICD, 4.3.5), each parameter as a whole number of some binary
+//! digits. Here these numbers are kept as they were sent, unscaled:
 //!
-//! - [`Body`], the content of one subframe, word or message, and [`Part`], a body with its
-//!   satellite and time of reception;
-//! - [`GpsEph`], [`GalEph`] and [`IonEph`], complete values, and [`NavItem`], one of these;
+//! - [`Body`], what one subframe, word or message yields, and [`Part`], a body with its satellite
+//!   and the time at which it was heard;
+//! - [`GpsEph`], [`GalEph`] and [`IonEph`], whole values, and [`NavItem`], one of these;
 //! - [`Sat`], [`Signal`], [`SentTag`] and the small numbers [`Step16`], [`Step60`] and [`Sisa`].
 //!
-//! A constructor gives `None` exactly where its arguments are inconsistent or out of range. Where
-//! one of several received values is to be chosen, they are compared by the numbers that `number`
-//! gives.
+//! A constructor answers `None` exactly where what it is given does not fit together. Where one of
+//! several values is to be chosen, they are compared by their numbers, which `number` gives.
 //!
 //! ```rust
 //! use nav_eph::{Sat, System};
@@ -23,7 +22,7 @@
 //! ```
 #![tactic(auto)]
 
-mod bit_pattern;
+mod digits;
 mod galileo;
 mod gps;
 mod ion;

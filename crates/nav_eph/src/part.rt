@@ -10,33 +10,33 @@ use crate::tag::SentTag;
 use gnss_week::Second;
 use nav_bits::U;
 
-/// The content of one subframe, word or message.
+/// What one subframe, word or message yields of an ephemeris or of the ionosphere.
 #[derive(Clone, Copy, PartialEq, Eq)]
 pub enum Body {
-    /// GPS clock correction, SV status and transmission time (subframe 1).
+    /// The clock of GPS, its SV status, and its transmission time (subframe 1).
     GpsClock(GpsClock, GpsSide, SentTag),
-    /// GPS subframe 2, and the fit interval flag.
+    /// The first half of the orbit of GPS, and the fit interval flag (subframe 2).
     GpsA(GpsOrbitA, U<1>),
-    /// GPS subframe 3.
+    /// The second half of the orbit of GPS (subframe 3).
     GpsB(GpsOrbitB),
-    /// I/NAV word type 1.
+    /// Word 1 of Galileo.
     GalW1(GalWord1),
-    /// I/NAV word type 2.
+    /// Word 2 of Galileo.
     GalW2(GalWord2),
-    /// I/NAV word type 3.
+    /// Word 3 of Galileo.
     GalW3(GalWord3),
-    /// I/NAV word type 4.
+    /// Word 4 of Galileo.
     GalW4(GalWord4),
-    /// Galileo group delays and health, and their transmission time (word type 5).
+    /// Group delays and health of Galileo, and their transmission time (word 5).
     GalHealth(GalHealth, SentTag),
-    /// GPS ionospheric parameters, and their transmission time as time of week.
+    /// The ionosphere of GPS, and its transmission time as a second of the week.
     GpsIon(GpsIon, Second),
-    /// Galileo ionospheric parameters, and their transmission time as week number and time of week.
+    /// The ionosphere of Galileo, and the week number and the second of its transmission time.
     GalIon(GalIon, U<12>, Second),
 }
 
 impl Body {
-    /// The system that broadcasts it.
+    /// The system whose satellites send it.
     pub fn system(&self) -> System
         ensures { result ≡ system_of self.now }
     {
@@ -55,18 +55,18 @@ impl Body {
     }
 }
 
-/// A part of an ephemeris or ionospheric parameters, as received.
+/// A part of an ephemeris or of the ionosphere, as it was heard.
 #[derive(Clone, Copy, PartialEq, Eq)]
 pub struct Part {
-    /// The second of reception, as the receiver's log counts.
+    /// The second at which it was heard, as the logger counts.
     pub stamp: u32,
-    /// The satellite that sent it.
+    /// Who sent it.
     pub sat: Sat,
-    /// Its content.
+    /// What it yields.
     pub body: Body,
 }
 
-// Whether the week number of a GPS tag has at most ten bits.
+// The week number that a tag of GPS bears has its ten digits.
 fn has_gps_week(body: &Body) -> bool
     ensures { IsTrue result ↔ HasGpsWeek body.now }
 {
@@ -78,8 +78,8 @@ fn has_gps_week(body: &Body) -> bool
 }
 
 impl Part {
-    /// The part received at that second; `None` where the satellite is not of the body's system, or
-    /// the week number of a GPS tag has more than ten bits.
+    /// The part heard at that second; `None` where the satellite is not of the body's system, or
+    /// the week number of a tag of GPS has more than ten bits.
     pub fn new(stamp: u32, sat: Sat, body: Body) -> Option<Self>
         ensures exactly { IsSome result ↔ IsPart sat body }
         ensures same { IfSome result (λ p. p ≡ record { stamp = stamp; sat = sat; body = body }) }
@@ -93,7 +93,7 @@ impl Part {
         Some(Part { stamp, sat, body })
     }
 
-    // Whether it equals another in every field.
+    // It equals another in every field.
     fn equals(&self, other: &Part) -> bool
         ensures { IsTrue result ↔ (self.now ≡ other.now) }
     {
@@ -106,7 +106,7 @@ impl Part {
         same_body(&self.body, &other.body)
     }
 
-    /// Whether it equals another in every field.
+    /// It equals another in every field.
     pub fn is_same(&self, other: &Part) -> bool
         ensures exactly { IsTrue result ↔ (self.now ≡ other.now) }
         ensures answer { result ≡ same_part self.now other.now }

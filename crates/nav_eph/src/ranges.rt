@@ -6,22 +6,22 @@ ghost use Rattle.nav_eph.specs.Values.{HasPartRanges};
 use crate::items::{GalEph, GpsEph, IonEph, NavItem};
 use crate::part::{Body, Part};
 
-// Each field of a GPS ephemeris is in its range.
+// Each field of an ephemeris of GPS is within its digits.
 fn gps_ranges(e: GpsEph)
     ensures { HasGpsRanges e }
 {}
 
-// Each field of a Galileo ephemeris is in its range.
+// Each field of an ephemeris of Galileo is within its digits.
 fn gal_ranges(e: GalEph)
     ensures { HasGalRanges e }
 {}
 
-// Each field of ionospheric parameters is in its range.
+// Each field of an ionosphere is within its digits.
 fn ion_ranges(e: IonEph)
     ensures { HasIonRanges e }
 {}
 
-// The satellite number and each field of the body are in range.
+// The satellite is one of its system, and each field of what it yields is within its digits.
 fn part_ranges(part: Part)
     ensures { HasPartRanges part }
 {
@@ -39,14 +39,14 @@ fn part_ranges(part: Part)
     }
 }
 
-// Whether the fields of a GPS ephemeris are consistent.
+// The parts of an ephemeris of GPS fit together.
 fn is_whole_gps(e: &GpsEph) -> bool
     ensures { IsTrue result ↔ IsGpsEph e.now.sat e.now.a e.now.b e.now.sent }
 {
     GpsEph::new(e.sat, e.clock, e.side, e.a, e.fit, e.b, e.toe_week, e.sent).is_some()
 }
 
-// Whether the fields of a Galileo ephemeris are consistent.
+// The parts of an ephemeris of Galileo fit together.
 fn is_whole_gal(e: &GalEph) -> bool
     ensures { IsTrue result ↔ IsGalEph e.now.sat e.now.w1 e.now.w2 e.now.w3 e.now.w4 e.now.sent }
 {
@@ -54,7 +54,8 @@ fn is_whole_gal(e: &GalEph) -> bool
 }
 
 impl NavItem {
-    /// A fact for proofs: each field is in its range. Does nothing when run.
+    /// Each of its fields is within its digits: a fact of every item, which this says and for which
+    /// it does nothing.
     pub fn ranges(&self)
         ensures { HasRanges self.now }
     {
@@ -65,8 +66,8 @@ impl NavItem {
         }
     }
 
-    /// Whether its fields are consistent, as [`GpsEph::new`], [`GalEph::new`] and [`IonEph::new`]
-    /// require. An item made from its fields without these may not be.
+    /// Its parts fit together, as [`GpsEph::new`], [`GalEph::new`] and [`IonEph::new`] demand. An
+    /// item that is made of its fields, without these, may be otherwise.
     pub fn is_whole(&self) -> bool
         ensures { IsTrue result ↔ IsItem self.now }
     {
@@ -80,8 +81,8 @@ impl NavItem {
 }
 
 impl Part {
-    /// A fact for proofs: the satellite number and each field of the body are in range. Does
-    /// nothing when run.
+    /// The satellite is one of its system, and each field of what it yields is within its digits: a
+    /// fact of every part, which this says and for which it does nothing.
     pub fn ranges(&self)
         ensures { HasPartRanges self.now }
     {

@@ -8,84 +8,84 @@ use crate::part::Body;
 use crate::sat::Sat;
 use crate::tag::SentTag;
 
-// Whether two GPS clock corrections are equal.
+// Two clocks of GPS are equal in every field.
 fn same_clock(a: &GpsClock, b: &GpsClock) -> bool
     ensures { IsTrue result ↔ (a.now ≡ b.now) }
 {
     *a == *b
 }
 
-// Whether two SV statuses are equal.
+// Two sides of the clock of GPS are equal in every field.
 fn same_side(a: &GpsSide, b: &GpsSide) -> bool
     ensures { IsTrue result ↔ (a.now ≡ b.now) }
 {
     *a == *b
 }
 
-// Whether two subframes 2 are equal.
+// Two first halves of an orbit are equal in every field.
 fn same_orbit_a(a: &GpsOrbitA, b: &GpsOrbitA) -> bool
     ensures { IsTrue result ↔ (a.now ≡ b.now) }
 {
     *a == *b
 }
 
-// Whether two subframes 3 are equal.
+// Two second halves of an orbit are equal in every field.
 fn same_orbit_b(a: &GpsOrbitB, b: &GpsOrbitB) -> bool
     ensures { IsTrue result ↔ (a.now ≡ b.now) }
 {
     *a == *b
 }
 
-// Whether two words of type 1 are equal.
+// Two words 1 are equal in every field.
 fn same_word1(a: &GalWord1, b: &GalWord1) -> bool
     ensures { IsTrue result ↔ (a.now ≡ b.now) }
 {
     *a == *b
 }
 
-// Whether two words of type 2 are equal.
+// Two words 2 are equal in every field.
 fn same_word2(a: &GalWord2, b: &GalWord2) -> bool
     ensures { IsTrue result ↔ (a.now ≡ b.now) }
 {
     *a == *b
 }
 
-// Whether two words of type 3 are equal.
+// Two words 3 are equal in every field.
 fn same_word3(a: &GalWord3, b: &GalWord3) -> bool
     ensures { IsTrue result ↔ (a.now ≡ b.now) }
 {
     *a == *b
 }
 
-// Whether two words of type 4 are equal.
+// Two words 4 are equal in every field.
 fn same_word4(a: &GalWord4, b: &GalWord4) -> bool
     ensures { IsTrue result ↔ (a.now ≡ b.now) }
 {
     *a == *b
 }
 
-// Whether two Galileo healths are equal.
+// Two healths of Galileo are equal in every field.
 fn same_health(a: &GalHealth, b: &GalHealth) -> bool
     ensures { IsTrue result ↔ (a.now ≡ b.now) }
 {
     *a == *b
 }
 
-// Whether two sets of GPS ionospheric parameters are equal.
+// Two contents of the GPS ionosphere are equal in every field.
 fn same_gps_ion(a: &GpsIon, b: &GpsIon) -> bool
     ensures { IsTrue result ↔ (a.now ≡ b.now) }
 {
     *a == *b
 }
 
-// Whether two sets of Galileo ionospheric parameters are equal.
+// Two contents of the Galileo ionosphere are equal in every field.
 fn same_gal_ion(a: &GalIon, b: &GalIon) -> bool
     ensures { IsTrue result ↔ (a.now ≡ b.now) }
 {
     *a == *b
 }
 
-// Whether two sets of ionospheric parameters are equal.
+// Two contents of the ionosphere are equal in every field.
 fn same_content(a: &IonContent, b: &IonContent) -> bool
     ensures { IsTrue result ↔ (a.now ≡ b.now) }
 {
@@ -96,21 +96,21 @@ fn same_content(a: &IonContent, b: &IonContent) -> bool
     }
 }
 
-// Whether two transmission times are equal.
+// Two transmission times are equal in every field.
 fn same_sent(a: &SentSecond, b: &SentSecond) -> bool
     ensures { IsTrue result ↔ (a.now ≡ b.now) }
 {
     *a == *b
 }
 
-// Whether two satellites are equal.
+// Two satellites are equal in every field.
 pub(crate) fn same_sat(a: &Sat, b: &Sat) -> bool
     ensures { IsTrue result ↔ (a.now ≡ b.now) }
 {
     *a == *b
 }
 
-// Whether two GPS ephemerides are equal.
+// Two ephemerides of GPS are equal in every field.
 pub(crate) fn same_gps(a: &GpsEph, b: &GpsEph) -> bool
     ensures { IsTrue result ↔ (a.now ≡ b.now) }
 {
@@ -138,7 +138,7 @@ pub(crate) fn same_gps(a: &GpsEph, b: &GpsEph) -> bool
     same_sent(&a.sent, &b.sent)
 }
 
-// Whether two Galileo ephemerides are equal.
+// Two ephemerides of Galileo are equal in every field.
 pub(crate) fn same_gal(a: &GalEph, b: &GalEph) -> bool
     ensures { IsTrue result ↔ (a.now ≡ b.now) }
 {
@@ -166,7 +166,7 @@ pub(crate) fn same_gal(a: &GalEph, b: &GalEph) -> bool
     same_sent(&a.sent, &b.sent)
 }
 
-// Whether two ionosphere items are equal.
+// Two ionosphere items are equal in every field.
 pub(crate) fn same_ion(a: &IonEph, b: &IonEph) -> bool
     ensures { IsTrue result ↔ (a.now ≡ b.now) }
 {
@@ -179,14 +179,14 @@ pub(crate) fn same_ion(a: &IonEph, b: &IonEph) -> bool
     same_content(&a.content, &b.content)
 }
 
-// Whether two transmission time tags are equal.
+// Two tags are equal in every field.
 fn same_tag(a: &SentTag, b: &SentTag) -> bool
     ensures { IsTrue result ↔ (a.now ≡ b.now) }
 {
     *a == *b
 }
 
-// Whether two bodies are equal.
+// Two bodies are equal in every field.
 pub(crate) fn same_body(a: &Body, b: &Body) -> bool
     ensures { IsTrue result ↔ (a.now ≡ b.now) }
 {

@@ -11,8 +11,8 @@ pub enum System {
     Gal,
 }
 
-/// A satellite: its system and its number (GPS PRN or Galileo SVID). Ordered by system, GPS first,
-/// then by number.
+/// A satellite: its system, and its number there. GPS comes before Galileo, and then the number
+/// decides.
 #[derive(Clone, Copy, PartialEq, Eq, PartialOrd, Ord, Hash)]
 pub struct Sat {
     system: System,
@@ -34,7 +34,7 @@ impl Model for Sat {
 impl Sat {
     ghost use Rattle.nav_eph.specs.Satellite.{IsBefore, IsSat};
 
-    /// The satellite with this number; `None` outside 1 to 32 for GPS and 1 to 36 for Galileo.
+    /// The satellite with that number; `None` outside 1 to 32 for GPS and 1 to 36 for Galileo.
     pub fn new(system: System, number: u8) -> Option<Self>
         ensures exactly { IsSome result ↔ IsSat system number }
         ensures same { IfSome result (λ s. s ≡ record { system = system; number = number }) }
@@ -67,7 +67,7 @@ impl Sat {
         self.number
     }
 
-    /// Whether it comes before another: GPS before Galileo, and then by number.
+    /// It comes before another: GPS before Galileo, and then by number.
     pub fn is_before(&self, other: &Sat) -> bool
         ensures { IsTrue result ↔ IsBefore self.now other.now }
     {

@@ -21,7 +21,7 @@ impl Model for Step16 {
 }
 
 impl Step16 {
-    /// The time this many steps after the start of the week; `None` above 37,799.
+    /// The time so many steps after the week began; `None` above 37,799.
     pub fn new(steps: u64) -> Option<Self>
         ensures exactly { IsSome result ↔ IsStep16 steps }
         ensures same { IfSome result (λ s. s ≡ steps) }
@@ -33,7 +33,7 @@ impl Step16 {
         }
     }
 
-    /// The number of steps.
+    /// Its steps.
     pub fn value(&self) -> u64
         ensures same { result ≡ self.now }
         ensures fits { IsStep16 self.now }
@@ -60,7 +60,7 @@ impl Model for Step60 {
 }
 
 impl Step60 {
-    /// The time this many steps after the start of the week; `None` above 10,079.
+    /// The time so many steps after the week began; `None` above 10,079.
     pub fn new(steps: u64) -> Option<Self>
         ensures exactly { IsSome result ↔ IsStep60 steps }
         ensures same { IfSome result (λ s. s ≡ steps) }
@@ -72,7 +72,7 @@ impl Step60 {
         }
     }
 
-    /// The number of steps.
+    /// Its steps.
     pub fn value(&self) -> u64
         ensures same { result ≡ self.now }
         ensures fits { IsStep60 self.now }
@@ -81,8 +81,8 @@ impl Step60 {
     }
 }
 
-/// The SISA index, in 8 bits: 0 to 125, or 255 for no accuracy prediction available (Galileo OS SIS
-/// ICD, 5.1.12).
+/// The accuracy index of Galileo, in 8 bits: 0 to 125, or 255 where no accuracy is given (Galileo
+/// OS SIS ICD, 5.1.12).
 #[derive(Clone, Copy, PartialEq, Eq, PartialOrd, Ord, Hash)]
 pub struct Sisa {
     index: u64,
@@ -99,7 +99,7 @@ impl Model for Sisa {
 }
 
 impl Sisa {
-    /// The accuracy with this index; `None` for 126 to 254 and above 255.
+    /// The accuracy with that index; `None` for 126 to 254 and above 255.
     pub fn new(index: u64) -> Option<Self>
         ensures exactly { IsSome result ↔ IsSisa index }
         ensures same { IfSome result (λ s. s ≡ index) }
@@ -111,7 +111,7 @@ impl Sisa {
         }
     }
 
-    /// The index.
+    /// Its index.
     pub fn value(&self) -> u64
         ensures same { result ≡ self.now }
         ensures fits { IsSisa self.now }

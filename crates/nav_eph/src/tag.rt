@@ -6,27 +6,28 @@ ghost use Rattle.nav_eph.specs.Numbers.{gal_transmission, gps_transmission, tag_
 use gnss_week::Second;
 use nav_bits::U;
 
-/// The time that dates an ephemeris: a week number of at most twelve bits and a time of week.
+/// A time that says which week an ephemeris belongs to, its week number truncated to twelve bits.
 #[derive(Clone, Copy, PartialEq, Eq)]
 pub enum SentTag {
-    /// The transmission time.
+    /// The moment at which the data were sent.
     Sent {
         /// The week number as sent.
         wn: U<12>,
-        /// The time of week.
+        /// The second of that week.
         second: Second,
     },
-    /// The ephemeris reference time, where a message gives no transmission time.
+    /// The time of the ephemeris itself, of a message that names no transmission time.
     Toe {
         /// The week number as sent.
         wn: U<12>,
-        /// The time of week.
+        /// The second of that week.
         second: Second,
     },
 }
 
 impl SentTag {
-    /// Its 33 bits as one number: the kind in 1 bit, the week number in 12, the time of week in 20.
+    /// The number that its 33 bits give: the kind in 1, the week number in 12 and the
+    /// second in 20.
     pub fn number(&self) -> u64
         ensures value { result ≡ tag_number self.now }
         ensures fits { IsSentTag self.now }
@@ -40,8 +41,7 @@ impl SentTag {
     }
 }
 
-/// The transmission time of GPS ionospheric parameters as a number: the time of week, as no week
-/// number is known.
+/// The number of the time at which the ionosphere of GPS was sent, which has no week: its second.
 pub fn gps_transmission_number(second: Second) -> u64
     ensures value { result ≡ gps_transmission second }
     ensures fits { IsSecond second }
@@ -49,8 +49,8 @@ pub fn gps_transmission_number(second: Second) -> u64
     second.value() as u64
 }
 
-/// The transmission time of Galileo ionospheric parameters as one number: the week number in 12
-/// bits, the time of week in 20.
+/// The number that the bits of the time give at which the ionosphere of Galileo was sent:
+/// the week number in 12 and the second in 20.
 pub fn gal_transmission_number(wn: U<12>, second: Second) -> u64
     ensures value { result ≡ gal_transmission wn second }
     ensures week_fits { wn < 2 ^ 12 }

@@ -12,7 +12,7 @@ use Rattle.one_run.proofs.Surface.{prefix_behind}
 pub texts_more : {X : Type 0} (text : X → List ℕ) (xs : List X) (x : X) → flat_map text (xs ++ x ∷ []) ≡ flat_map text xs ++ text x
 texts_more text xs x = flat_map-append text xs (x ∷ []) ∙ ap (λ (l : List ℕ). flat_map text xs ++ l) (append-nil (text x))
 
--- after a prefix
+-- behind a prefix
 behind : {X : Type 0} (prefix : List ℕ) (text : X → List ℕ) (xs : List X) (x : X) → prefix ++ flat_map text (xs ++ x ∷ []) ≡ (prefix ++ flat_map text xs) ++ text x
 behind prefix text xs x = ap (λ (l : List ℕ). prefix ++ l) (texts_more text xs x) ∙ sym (append_assoc prefix (flat_map text xs) (text x))
 

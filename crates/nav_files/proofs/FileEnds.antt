@@ -1,5 +1,5 @@
--- How a run over a file ends: in the header, after it, after its records, or well. What is written, reported and counted of the
--- records is the job's.
+-- How a run over a file ends: in the header, behind it, after its records, or well. What is written and reported of the records,
+-- and what is counted, is the job's.
 use Rattle.std.proofs.Common.{◌≡◌, ◌⊎◌, inl, inr, ◌^◌, ℕ, Bool, true, false, List, [], ◌++◌, length, refl, sym, ap, subst, ◌∙◌, arith, append-nil, length-append}
 use Rattle.std.specs.Prelude.{Option, None, Some, Result, Err, IfSome, IsSome, IsTrue, IsErrOf}
 use Rattle.std.specs.List.{flat_map}
@@ -28,7 +28,7 @@ use Rattle.nav_files.proofs.FileLemmas.{Begins, Opens, Wholes, ends_there, file_
 
 -- ---- what failed
 
--- what failed after the header
+-- what failed behind the header
 pub record Fails {S T U : Type 0} (b a : World S T U) (fault : BridgeFault) : Type 0 where
   pub read : fault ≡ ReadFault → Rose b.reads_failed a.reads_failed
   pub never : fault ≡ ReadFault → IsTrue b.never_fails → ⊥
@@ -40,7 +40,7 @@ pub record Fails {S T U : Type 0} (b a : World S T U) (fault : BridgeFault) : Ty
 abbrev pub Cause : Faults → Faults → BridgeFault → Type 0
 Cause before now fault = HasItsCause {T = Unit {0}} before now (Err fault)
 
--- nothing had failed before
+-- before which nothing had failed
 pub fails_of : {S T U : Type 0} (b a : World S T U) (fault : BridgeFault) (reads writes reports : ℕ)
     → reads ≡ b.reads_failed → writes ≡ b.writes_failed → reports ≡ b.reports_failed
     → HasItsCause {T = Unit {0}} (faults_of reads writes reports) (faults_of a.reads_failed a.writes_failed a.reports_failed) (Err fault)
@@ -76,7 +76,7 @@ fails_report b a rose = record {
 pub header_rose : (fault : BridgeFault) (reads reads_new : ℕ) → HasItsCause {T = Unit {0}} (faults_of reads 0 0) (faults_of reads_new 0 0) (Err fault) → fault ≡ ReadFault → Rose reads reads_new
 header_rose fault reads reads_new cause is = subst (Cause (faults_of reads 0 0) (faults_of reads_new 0 0)) is cause
 
--- ---- the header, whatever follows it
+-- ---- the header, whatever stands behind it
 
 -- with what is left
 with_rest : (left left_new : Option (List ℕ)) (taken : List ℕ) (P : List ℕ → Type 0) → Consumes left left_new taken
@@ -153,7 +153,7 @@ flushed_header f wrote tells b a s0 s1 fault opens new steps by written reported
           (subst (λ r. Appends b.reported b.reported (text_in tells r)) (sym none) (Appends-nil b.reported)),
     )
 
--- after the header these records are complete
+-- behind it these records are
 flushed_file : {S T U : Type 0} (f : Form) (wrote tells : List ItemRead → List ℕ) (b a : World S T U) (l1 : Option (List ℕ)) (s0 s1 s2 : RecordsState) (given : List ItemRead) (fault : BridgeFault)
     → Wholes f → IsNew s0 → (header : PassesHeader f b.left l1 s0 s1) → (steps : Steps f l1 a.left s1 s2 given)
     → (fault ≡ ReadFault → IsPaused s2 × Appends b.written a.written (wrote given) × Appends b.reported a.reported (tells given))
@@ -212,7 +212,7 @@ says_behind f memory wrote tells output report count b a taken NotThisForm some 
 says_behind f memory wrote tells output report count b a taken TooLong some fails long wants flushed = long refl
 says_behind f memory wrote tells output report count b a taken NoMemory some fails long wants flushed = (wants refl, some)
 
--- the run breaks off after the header, once these records were read: a prefix was written and reported of what these give
+-- the run breaks off behind the header, once these records were given: a prefix was written and reported of what these give
 pub broke_file : {C S T U : Type 0} (f : Form) (memory : Bool) (wrote tells output report : List ItemRead → List ℕ) (count : List ItemRead → C) (b a : World S T U) (l1 : Option (List ℕ)) (s0 s1 s2 : RecordsState)
     (given : List ItemRead) (text told : List ℕ) (fault : BridgeFault)
     → Begins f → IsNew s0 → (header : PassesHeader f b.left l1 s0 s1) → (steps : Steps f l1 a.left s1 s2 given)
@@ -247,7 +247,7 @@ broke_taken f memory wrote tells output report count b a l1 s0 s1 s2 given text 
     broke_file f memory wrote tells output report count b a l1 s0 s1 s2 given text told fault begins new header steps written text_is reported told_is fails long wants
     (flushed_file f wrote tells b a l1 s0 s1 s2 given fault wholes new header steps exact)
 
--- the leading text is not written to its end
+-- the text in front is not written to its end
 pub broke_begin : {C S T U : Type 0} (f : Form) (memory : Bool) (wrote tells output report : List ItemRead → List ℕ) (count : List ItemRead → C) (b a : World S T U) (s0 s1 : RecordsState) (prefix : List ℕ)
     → Begins f → IsNew s0 → PassesHeader f b.left a.left s0 s1 → Steps f a.left a.left s1 s1 []
     → AppendsPrefix b.written a.written prefix → IsPrefix prefix (output (records_to_come f s1 [])) → a.reported ≡ b.reported → Fails b a WriteFault

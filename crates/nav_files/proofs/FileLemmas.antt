@@ -10,7 +10,7 @@ use Rattle.rinex_read.specs.declared.judged.HeaderFault.TheVariants.{NotRinexNav
 use Rattle.rinex_read.specs.declared.judged.ItemRead.{ItemRead}
 use Rattle.one_run.specs.declared.fault.BridgeFault.{BridgeFault}
 
--- before the header the file is still to come whole
+-- at first what is to come is what the file says
 abbrev pub Begins : Form → Type 0
 Begins f = (s : RecordsState) (bytes : List ℕ) → IsNew s → file_to_come f s bytes ≡ file_reads f bytes
 
@@ -24,11 +24,11 @@ abbrev pub Opens : Form → Type 0
 Opens f = (left left_new : Option (List ℕ)) (old new : RecordsState) → IsNew old → (steps : HeaderSteps f left left_new old new)
     → is_waiting new.header ≡ true → IsPaused new → whole_reads f steps.reads.taken ≡ Err NotRinexNav
 
--- after the header its records are to come
+-- behind the header its records are to come
 pub passed_file : (f : Form) (s : RecordsState) (bytes : List ℕ) → s.header ≡ Passed → file_to_come f s bytes ≡ Ok (records_to_come f s bytes)
 passed_file f s bytes passed = rw passed refl
 
--- the bytes of a header and of records after it
+-- the bytes of a header and of records behind it
 pub file_taken : (f : Form) (left l1 l2 : Option (List ℕ)) (s0 s1 s2 : RecordsState) (given : List ItemRead)
     → Begins f → IsNew s0 → (header : PassesHeader f left l1 s0 s1) → (steps : Steps f l1 l2 s1 s2 given)
     → (following : List ℕ) → MayCome s2 following

@@ -43,7 +43,7 @@ wrote_prefix text all left rest x w w1 w2 e h (prefix, (more, is), grew) =
     (prefix_behind w w1 w2 h.done (text x ++ flat_map text rest) h.grew
     (prefix, (more ++ flat_map text rest, ap (λ l. l ++ flat_map text rest) is ∙ append_assoc prefix more (flat_map text rest)), grew))
 
--- a write that failed after others that did not
+-- a write that failed behind others that did not
 pub cause_behind : {T E : Type 0} (before now after : ℕ) (r : Result T E) → now ≡ before → HasCause now after r → HasCause before after r
 cause_behind before now after r is cause = subst (λ n. HasCause n after r) is cause
 

@@ -24,7 +24,7 @@ item_texts : (lines : NavItem → List (List ℕ)) (items : List NavItem) → fl
 item_texts lines [] = refl
 item_texts lines (item ∷ items) = ap (λ (l : List ℕ). text_of (lines item) ++ l) (item_texts lines items) ∙ sym (text_more (lines item) (flat_map lines items))
 
--- after the lines of a header
+-- behind those of a header
 lines_text : (header : List (List ℕ)) (lines : NavItem → List (List ℕ)) (items : List NavItem)
     → text_of header ++ flat_map (λ item. text_of (lines item)) items ≡ text_of (header ++ flat_map lines items)
 lines_text header lines items = ap (λ (l : List ℕ). text_of header ++ l) (item_texts lines items) ∙ sym (text_more header (flat_map lines items))

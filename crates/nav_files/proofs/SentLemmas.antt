@@ -1,4 +1,4 @@
--- What is written and reported when the ephemerides of records are transmitted, with one record more.
+-- What is written and reported of records of which the ephemerides are sent, with a record more.
 use Rattle.std.proofs.Common.{◌≡◌, ℕ, ◌+◌, ◌<◌, ◌^◌, List, [], ◌∷◌, ◌++◌, length, sym, ap, subst, ◌∙◌, arith}
 use Rattle.std.specs.Prelude.{Option}
 use Rattle.std.specs.List.{flat_map}

@@ -1,4 +1,4 @@
--- The outcomes of records, and of one more; and their text is the capture that transmits them.
+-- What becomes of records, and of one more; and that its text is the text that is sent.
 use Rattle.std.proofs.Common.{◌≡◌, ℕ, suc, ◌+◌, ◌≤◌, ◌<◌, ◌&&◌, Bool, true, false, if◌then◌else◌, List, [], ◌∷◌, ◌++◌, length, map, sum, None, Some, Option, refl, sym, ap, ◌∙◌, arith, length-append, leb-false}
 use Rattle.std.specs.List.{flat_map, sum_by}
 use Rattle.std.proofs.lemmas.List.Sums.{sum-map, sum_by-append}

@@ -15,7 +15,7 @@ use Rattle.one_run.specs.Reports.{report_line, count_line}
 use Rattle.one_run.specs.Runs.{Meaning, no_least}
 use Rattle.nav_files.specs.declared.counts.RinexCounts.{RinexCounts}
 
--- the report's word for why a record is refused
+-- why a record is refused
 abbrev pub reason_text : Reason → List ℕ
 reason_text BadSat = codes "satellite"
 reason_text Short = codes "short"
@@ -35,28 +35,26 @@ read_text text (Refused line reason) = []
 read_text text (PassedOver line) = []
 read_text text End = []
 
--- the report line of a refused record: the number of its first line, and the reason; empty for other records
+-- what a report says of a record: its first line, and why it is refused
 abbrev pub read_report : ItemRead → List ℕ
 read_report (Item line item) = []
 read_report (Refused line reason) = report_line (codes "line") line (reason_text reason)
 read_report (PassedOver line) = []
 read_report End = []
 
--- 1 for a refused record, else 0
+-- 1 for the records of a kind, to be summed
 abbrev pub is_refused_read : ItemRead → ℕ
 is_refused_read (Item line item) = 0
 is_refused_read (Refused line reason) = 1
 is_refused_read (PassedOver line) = 0
 is_refused_read End = 0
 
--- 1 for a record that is passed over, else 0
 abbrev pub is_passed : ItemRead → ℕ
 is_passed (Item line item) = 0
 is_passed (Refused line reason) = 0
 is_passed (PassedOver line) = 1
 is_passed End = 0
 
--- 1 for an item, else 0
 abbrev pub is_item : ItemRead → ℕ
 is_item (Item line item) = 1
 is_item (Refused line reason) = 0
@@ -72,24 +70,23 @@ counts_of_reads reads = record {
   items = sum (map is_item reads);
 }
 
--- the text of these counts: a line for each, in the order of the fields
+-- their text: a line for each, in the order of the fields
 unfoldable pub file_counts_text : RinexCounts → List ℕ
 file_counts_text c =
     ((count_line (codes "records") c.records ++ count_line (codes "refused") c.refused)
     ++ count_line (codes "passed") c.passed) ++ count_line (codes "items") c.items
 
--- a function of the records, applied to a file: nothing where its header is refused
+-- what becomes of a file by what becomes of its records: nothing where its header is refused
 abbrev pub counted_in : {C : Type 0} → (List ItemRead → C) → Result (List ItemRead) HeaderFault → Option C
 counted_in count (Ok reads) = Some (count reads)
 counted_in count (Err fault) = None
 
--- a text of the records, applied to a file: empty where its header is refused
 abbrev pub text_in : (List ItemRead → List ℕ) → Result (List ItemRead) HeaderFault → List ℕ
 text_in text (Ok reads) = text reads
 text_in text (Err fault) = []
 
--- A run over a file of a form: whether it takes memory, what it has written and reported after some records, what it writes and
--- reports of all records, and what it counts. After a failed read it has processed the records that are complete in the bytes.
+-- A run over a file of a form: whether it takes memory, what it has written and reported once it took records, what it writes and
+-- reports of all of them, and what it counts. Where a read fails it has taken the records that are whole in the bytes.
 abbrev pub file_meaning : {C : Type 0} → Form → Bool → (List ItemRead → List ℕ) → (List ItemRead → List ℕ) → (List ItemRead → List ℕ) → (List ItemRead → List ℕ)
     → (List ItemRead → C) → Meaning C
 file_meaning f memory text told output report count = record {
@@ -102,18 +99,16 @@ file_meaning f memory text told output report count = record {
   flushed = Some (record { output = λ bytes. text_in text (whole_reads f bytes); report = λ bytes. text_in told (whole_reads f bytes) });
 }
 
--- what is written of the records of a file that is converted: a leading text, and one for each item
+-- what is written of the records of a file that is converted: a text in front, and one for each item
 abbrev pub convert_text : Target → List ItemRead → List ℕ
 convert_text to reads = prefix_text to ++ flat_map (read_text (item_text to)) reads
 
--- what is reported of them before the end: a line for each record that is refused
+-- what is reported of them: a line for each record that is refused; and at the end the counts
 abbrev pub refusals_text : List ItemRead → List ℕ
 refusals_text reads = flat_map read_report reads
 
--- what is reported of them at the end: the refusals, and the counts
 abbrev pub convert_report : List ItemRead → List ℕ
 convert_report reads = refusals_text reads ++ file_counts_text (counts_of_reads reads)
 
--- the meaning of a run that converts a file of a form
 abbrev pub convert_meaning : Form → Target → Meaning RinexCounts
 convert_meaning f to = file_meaning f false (convert_text to) refusals_text (convert_text to) convert_report counts_of_reads

@@ -1,4 +1,4 @@
--- The outcome of a record, and the counts with one record more. Private functions cite these.
+-- What may become of a record, and the counts with one more. Private functions cite these.
 use Rattle.std.specs.Prelude.{◌≡◌, ◌+◌, ℕ, None}
 use Rattle.nav_eph.specs.Ranges.{IsItem}
 use Rattle.nav_eph.specs.declared.items.NavItem.{NavItem}
@@ -8,13 +8,12 @@ use Rattle.nav_files.specs.declared.told.Told.{Told}
 use Rattle.nav_files.specs.declared.told.Told.TheVariants.{Sent, NotSent, Withheld, Refused, PassedOver}
 use Rattle.nav_files.specs.Sends.{is_item, is_passed, is_refused_told}
 
--- the item is an ephemeris that may be transmitted in the slot
+-- the item is an ephemeris that may be sent in the slot
 pub record MaySend (r slot : ℕ) (item : NavItem) : Type 0 where
   pub ephemeris : IsEphemeris item
   pub whole : IsItem item
   pub fault : send_fault r item slot ≡ None
 
--- an ephemeris that is transmitted may be
 abbrev pub IsTold : ℕ → Told → Type 0
 IsTold r (Sent slot item) = MaySend r slot item
 IsTold r NotSent = Unit {0}
@@ -22,7 +21,7 @@ IsTold r (Withheld line fault) = Unit {0}
 IsTold r (Refused line reason) = Unit {0}
 IsTold r PassedOver = Unit {0}
 
--- the counts with one record more
+-- the counts with a record more
 abbrev pub counted : RinexCounts → Told → RinexCounts
 counted c x = record {
   records = c.records + 1;
@@ -31,6 +30,6 @@ counted c x = record {
   items = c.items + is_item x;
 }
 
--- every record counted is refused, passed over or an item
+-- the records that were counted are those of the three kinds
 abbrev pub AreCounted : RinexCounts → Type 0
 AreCounted c = c.refused + c.passed + c.items ≡ c.records

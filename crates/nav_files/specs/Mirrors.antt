@@ -11,14 +11,14 @@ use Rattle.one_run.specs.declared.fault.BridgeFault.TheVariants.{ReadFault, NotT
 use Rattle.nav_files.specs.declared.counts.RinexCounts.{RinexCounts}
 use Rattle.nav_files.specs.Files.{is_refused_read, is_passed, is_item}
 
--- a record, not the end of the file
+-- a record, and not the end
 abbrev pub IsRecord : ItemRead → Type 0
 IsRecord (Item line item) = Unit {0}
 IsRecord (Refused line reason) = Unit {0}
 IsRecord (PassedOver line) = Unit {0}
 IsRecord End = ⊥
 
--- the counts with one record more
+-- the counts with a record more
 abbrev pub counted : RinexCounts → ItemRead → RinexCounts
 counted c read = record {
   records = c.records + 1;
@@ -27,18 +27,18 @@ counted c read = record {
   items = c.items + is_item read;
 }
 
--- every record counted is refused, passed over or an item
+-- the records that were counted are those of the three kinds
 abbrev pub AreCounted : RinexCounts → Type 0
 AreCounted c = c.refused + c.passed + c.items ≡ c.records
 
--- the state of the header at a fault
+-- how the header was left at a fault
 abbrev pub HeaderFaultOf : BridgeFault → RecordsState → Type 0
 HeaderFaultOf ReadFault new = (is_waiting new.header ≡ true) × BrokeBy lines.ReadFault new
 HeaderFaultOf TooLong new = (is_waiting new.header ≡ true) × BrokeBy lines.TooLong new
 HeaderFaultOf NotThisForm new = (new.header ≡ NotRinexNav) ⊎ (new.header ≡ OtherVersion)
 HeaderFaultOf _ new = ⊥
 
--- How the reader breaks off after the header.
+-- How the reader breaks off behind the header.
 abbrev pub BreaksRead : Form → Option (List ℕ) → Option (List ℕ) → RecordsState → RecordsState → BridgeFault → Type 0
 BreaksRead f left left_new old new ReadFault = BreaksRecord f left left_new old new lines.ReadFault
 BreaksRead f left left_new old new TooLong = BreaksRecord f left left_new old new lines.TooLong

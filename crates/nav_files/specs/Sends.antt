@@ -1,5 +1,5 @@
--- What is written and reported when the ephemerides of a navigation file are transmitted: record by record, each with the slot
--- that its ephemeris would get.
+-- What is written and reported of a navigation file of which the ephemerides are sent: its records one after another, each
+-- with the slot that its ephemeris would get.
 use Rattle.std.specs.Prelude.{ℕ, ◌+◌, Bool, true, false, List, [], ◌∷◌, ◌++◌, length, codes, map, sum, Option, None, Some}
 use Rattle.std.specs.List.{flat_map}
 use Rattle.nav_eph.specs.declared.items.NavItem.{NavItem}
@@ -18,26 +18,26 @@ use Rattle.page_send.specs.Sendable.{is_ephemeris, send_fault, sent_head, sent_t
 use Rattle.nav_files.specs.declared.told.Told.{Told}
 use Rattle.nav_files.specs.declared.told.Told.TheVariants.{Sent, NotSent, Withheld, Refused, PassedOver}
 
--- the report's word for why an ephemeris may not be transmitted
+-- why an ephemeris may not be sent, in a word
 abbrev pub fault_text : SendFault → List ℕ
 fault_text faults.Issue = codes "issue"
 fault_text faults.Week = codes "week"
 fault_text faults.Room = codes "room"
 
--- the outcome of an item, by whether it is an ephemeris and by its fault
+-- what becomes of an item, by whether it is an ephemeris, and by its fault
 abbrev pub told_item : ℕ → ℕ → NavItem → Bool → Option SendFault → Told
 told_item line slot item false fault = NotSent
 told_item line slot item true None = Sent slot item
 told_item line slot item true (Some fault) = Withheld line fault
 
--- the outcome of a record, for the reference week r and this next slot
+-- what becomes of a record, near the week r, where this is the next slot
 abbrev pub told : ℕ → ℕ → ItemRead → Told
 told r slot (reads.Item line item) = told_item line slot item (is_ephemeris item) (send_fault r item slot)
 told r slot (reads.Refused line reason) = Refused line reason
 told r slot (reads.PassedOver line) = PassedOver
 told r slot reads.End = PassedOver
 
--- the next slot after an outcome
+-- the next slot behind it
 abbrev pub slot_behind : ℕ → Told → ℕ
 slot_behind slot (Sent at item) = slot + 1
 slot_behind slot NotSent = slot
@@ -45,17 +45,17 @@ slot_behind slot (Withheld line fault) = slot
 slot_behind slot (Refused line reason) = slot
 slot_behind slot PassedOver = slot
 
--- the outcomes of records, in order
+-- what becomes of records, one after another
 abbrev pub tolds : ℕ → ℕ → List ItemRead → List Told
 tolds r slot [] = []
 tolds r slot (x ∷ xs) = told r slot x ∷ tolds r (slot_behind slot (told r slot x)) xs
 
--- the next slot after these records
+-- the next slot behind them
 abbrev pub slots_behind : ℕ → ℕ → List ItemRead → ℕ
 slots_behind r slot [] = slot
 slots_behind r slot (x ∷ xs) = slots_behind r (slot_behind slot (told r slot x)) xs
 
--- the lines of an ephemeris that is transmitted
+-- the lines of an ephemeris that is sent
 abbrev pub told_text : Told → List ℕ
 told_text (Sent slot item) = slot_text slot item
 told_text NotSent = []
@@ -63,7 +63,7 @@ told_text (Withheld line fault) = []
 told_text (Refused line reason) = []
 told_text PassedOver = []
 
--- the report line of a record: the number of its first line, and why it is refused or may not be transmitted
+-- what a report says of a record: its first line, and why it is refused or may not be sent
 abbrev pub told_report : Told → List ℕ
 told_report (Sent slot item) = []
 told_report NotSent = []
@@ -71,7 +71,7 @@ told_report (Withheld line fault) = report_line (codes "line") line (fault_text 
 told_report (Refused line reason) = report_line (codes "line") line (reason_text reason)
 told_report PassedOver = []
 
--- 1 for a record that is refused, or an ephemeris that may not be transmitted, else 0
+-- 1 for the records of a kind, to be summed: an ephemeris that may not be sent counts as refused, and not as an item
 abbrev pub is_refused_told : Told → ℕ
 is_refused_told (Sent slot item) = 0
 is_refused_told NotSent = 0
@@ -79,7 +79,6 @@ is_refused_told (Withheld line fault) = 1
 is_refused_told (Refused line reason) = 1
 is_refused_told PassedOver = 0
 
--- 1 for a record that is passed over, else 0
 abbrev pub is_passed : Told → ℕ
 is_passed (Sent slot item) = 0
 is_passed NotSent = 0
@@ -87,7 +86,6 @@ is_passed (Withheld line fault) = 0
 is_passed (Refused line reason) = 0
 is_passed PassedOver = 1
 
--- 1 for an item, transmitted or not, else 0
 abbrev pub is_item : Told → ℕ
 is_item (Sent slot item) = 1
 is_item NotSent = 1
@@ -95,7 +93,7 @@ is_item (Withheld line fault) = 0
 is_item (Refused line reason) = 0
 is_item PassedOver = 0
 
--- the counts of outcomes
+-- the counts of records
 abbrev pub counts_of_tolds : List Told → RinexCounts
 counts_of_tolds all = record {
   records = length all;
@@ -104,23 +102,22 @@ counts_of_tolds all = record {
   items = sum (map is_item all);
 }
 
--- what is written of the records of a file: the capture that transmits its items
+-- what is written of the records of a file: the text that is sent of its items
 abbrev pub sends_text : ℕ → List ItemRead → List ℕ
 sends_text r reads = sent_text r (items_of reads)
 
--- the same text, record by record
+-- the same, a record after another
 abbrev pub sends_text_so_far : ℕ → List ItemRead → List ℕ
 sends_text_so_far r reads = sent_head ++ flat_map told_text (tolds r 0 reads)
 
--- what is reported of them before the end: a line for each record that is refused and for each ephemeris that may not be
--- transmitted, in the order of the records
+-- what is reported of them: a line for each record that is refused and for each ephemeris that may not be sent, in the order of
+-- the records; and at the end the counts
 abbrev pub withheld_text : ℕ → List ItemRead → List ℕ
 withheld_text r reads = flat_map told_report (tolds r 0 reads)
 
--- what is reported of them at the end: those lines, and the counts
 abbrev pub sends_report : ℕ → List ItemRead → List ℕ
 sends_report r reads = withheld_text r reads ++ file_counts_text (counts_of_tolds (tolds r 0 reads))
 
--- the meaning of a run that transmits a file of a form
+-- what a run makes of a file of a form
 abbrev pub send_meaning : Form → ℕ → Meaning RinexCounts
 send_meaning f r = file_meaning f false (sends_text_so_far r) (withheld_text r) (sends_text r) (sends_report r) (λ reads. counts_of_tolds (tolds r 0 reads))

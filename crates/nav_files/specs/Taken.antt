@@ -1,4 +1,4 @@
--- A file while its records are processed. Private functions cite these.
+-- A file while its records are taken. Private functions cite these.
 use Rattle.std.specs.Prelude.{◌≡◌, ◌+◌, ◌^◌, ◌<◌, ◌≤◌, ℕ, Bool, true, List, [], length, Option}
 use Rattle.std.specs.Io.KnownBytes.{Appends}
 use Rattle.nav_io.specs.Prefix.{AppendsPrefix}
@@ -8,7 +8,7 @@ use Rattle.rinex_read.specs.declared.judged.ItemRead.{ItemRead}
 use Rattle.one_run.specs.declared.fault.BridgeFault.{BridgeFault}
 use Rattle.one_run.specs.declared.fault.BridgeFault.TheVariants.{ReadFault, NotThisForm, TooLong, NoMemory}
 
--- These records were read and are held, and what is written and reported of them was appended to whatever stood before.
+-- These records were given by the reader and are held, and what is written and reported of them is there, whatever stood before.
 pub record TakenReads (f : Form) (text told : List ItemRead → List ℕ) (holds : List ItemRead → Type 0) (left left_new : Option (List ℕ)) (old new : RecordsState) (written written_new reported reported_new : Option (List ℕ)) : Type 0 where
   pub given : List ItemRead
   pub steps : Steps f left left_new old new given
@@ -17,14 +17,14 @@ pub record TakenReads (f : Form) (text told : List ItemRead → List ℕ) (holds
   pub report : (start : Option (List ℕ)) → Appends start reported (told []) → Appends start reported_new (told given)
   pub few : length given + lines_left new ≤ lines_left old
 
--- the state of the reader at the end of a file
+-- how the reader stands at the end of a file
 pub record AtEnd (s : RecordsState) : Type 0 where
   pub kept : s.kept ≡ []
   pub rest : s.lines.rest ≡ []
   pub ended : s.lines.ended ≡ true
   pub low : s.lines.taken < 2 ^ 32
 
--- The same, at the end of the file.
+-- The same to the end of the file.
 pub record TakesAll (f : Form) (text told : List ItemRead → List ℕ) (holds : List ItemRead → Type 0) (left left_new : Option (List ℕ)) (old new : RecordsState) (written written_new reported reported_new : Option (List ℕ)) : Type 0 where
   pub given : List ItemRead
   pub steps : Steps f left left_new old new given
@@ -33,7 +33,8 @@ pub record TakesAll (f : Form) (text told : List ItemRead → List ℕ) (holds :
   pub report : (start : Option (List ℕ)) → Appends start reported (told []) → Appends start reported_new (told given)
   pub end : AtEnd new
 
--- These records were read, and a prefix was written and reported of what belongs to them; after a failed read all of it.
+-- These records were given by the reader, and a prefix was written and reported of what belongs to them: all of it where a read
+-- failed.
 pub record TakesPart (f : Form) (text told : List ItemRead → List ℕ) (memory : Bool) (left left_new : Option (List ℕ)) (old new : RecordsState) (written written_new reported reported_new : Option (List ℕ)) (fault : BridgeFault) : Type 0 where
   pub given : List ItemRead
   pub steps : Steps f left left_new old new given

@@ -23,14 +23,14 @@ use outlets::append_satellite;
 use rinex_read::ItemRead;
 use std::alloc::AllocError;
 
-// The state over files: the times that their items cover, and the counts of their records.
+// What is held of files: the times that their items cover, and the counts of their records.
 #[derive(Drop)]
 pub(crate) struct Covered {
     pub(crate) cover: Cover,
     pub(crate) counts: RinexCounts,
 }
 
-// The job that finds the times that files cover.
+// The times that files cover are asked for.
 #[derive(Drop)]
 pub(crate) struct Covers;
 

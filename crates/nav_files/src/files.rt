@@ -16,19 +16,19 @@ use rinex_read::{Rinex3, Rinex4};
 
 /// Reads a navigation file of RINEX 4 to its end, and writes what it is converted to while it reads.
 ///
-/// First the header is checked. Then the leading text is written, and after each record the conversion of its item, repeats
-/// included: a RINEX record, an RTCM frame or a line of a list. A refused record gives a line of the report, with the number
-/// of its first line, and the report ends with the counts.
+/// The header is judged first. Then the text in front is written, and after each record what its item becomes, repeats
+/// included: a record of RINEX, a frame of RTCM or a line of a list. A record that is refused gives a line of the report,
+/// with the number of its first line, and at the end the counts stand there.
 ///
 /// # Errors
 ///
 /// - `NotThisForm` exactly where the header is refused; nothing is written then.
-/// - `ReadFault`, `WriteFault`, `ReportFault` only where the fault count of the input, the output or the report rose, or is at
-///   its maximum. After a failed read exactly what the records give that are complete in the bytes read was written and
-///   reported: those that are followed by the complete first line of another.
-/// - `TooLong` only where 4,294,967,295 bytes were read and there was one more.
+/// - `ReadFault`, `WriteFault`, `ReportFault` only where the count of faults of the input, the output or the report rose, or
+///   stands at its last value. After a failed read exactly what the records give that are whole in the bytes taken was written
+///   and reported: those behind which another one begins, in a line that has ended.
+/// - `TooLong` only where 4,294,967,295 bytes were taken and one more was there.
 ///
-/// It allocates no memory.
+/// It takes no memory.
 pub fn run_rinex<S: Source, T: Sink, U: Sink>(
     to: &RinexTo,
     input: &mut S,

@@ -1,4 +1,4 @@
-//! Laws of what is written of a file: each is the contract of an empty function.
+//! Laws of what is written of a file: each function does nothing, and its contract is the law.
 
 ghost use Rattle.std.specs.Prelude.{◌≡◌, ℕ, List, IsOk};
 ghost use Rattle.std.specs.List.{flat_map};
@@ -17,14 +17,14 @@ ghost use Rattle.page_send.specs.Sendable.{sendable, slots_items};
 ghost use Rattle.page_send.specs.Slots.{text_of_items};
 ghost use Rattle.nav_files.specs.Sends.{told_text, tolds};
 
-/// What is written record by record is the capture that transmits the items of the records.
+/// What is written of records, one after another, is the text that is sent of their items.
 pub fn what_is_written_is_the_sent_text()
     ensures { (r slot : ℕ) (reads : List ItemRead) → flat_map told_text (tolds r slot reads)
         ≡ text_of_items (slots_items slot (sendable r slot (items_of reads))) }
 {}
 
 /// What a run writes of files is the text of a list: of the items of the file, of the merged list, or of the times that the items
-/// cover. A header stands before it where that of the file is accepted.
+/// cover. A header stands in front of it where that of the file is accepted.
 pub fn what_is_written_is_the_text_of_a_list()
     ensures rinex { (f : Form) (words : HeaderWords) (bytes : List ℕ) → IsOk (file_reads f bytes)
         → (convert_meaning f (targets.Rinex words)).whole.output bytes

@@ -1,4 +1,4 @@
-//! The runs over RINEX navigation files: converted, transmitted, merged, and the times that they cover.
+//! The runs over RINEX navigation files: converted, sent, merged, and the times that they cover.
 //!
 //! - [`run_rinex`] and [`run_rinex3`], over the records of a file (RINEX 4.01 and 3.05): each item, in
 //!   the order of the file;
@@ -7,8 +7,8 @@
 //! - [`run_merge`], one file with the merged list of the items of several files that are concatenated,
 //!   and [`run_cover`], a line for each range of time that their ephemerides cover.
 //!
-//! The output and the report of a run are functions of the bytes that it took: `specs/Files.antt`,
-//! `specs/Sends.antt` and `specs/Archives.antt` state them. A fault leaves a prefix of each.
+//! What a run writes and reports is a function of the bytes that it took: `specs/Files.antt`,
+//! `specs/Sends.antt` and `specs/Archives.antt` say it. A fault leaves a prefix of it.
 //!
 //! ```rust
 //! use nav_files::{RinexTo, run_rinex};

@@ -26,14 +26,14 @@ use rinex_read::ItemRead;
 use rinex_write::{HeaderWords, write_header, write_item};
 use std::alloc::AllocError;
 
-// The state of a merge: the merged list of the items so far, and the counts of the records.
+// What is held of files that are merged: the merged list of their items, and the counts of their records.
 #[derive(Drop)]
 pub(crate) struct Merged {
     pub(crate) merge: Merge,
     pub(crate) counts: RinexCounts,
 }
 
-// The job that merges files to one, with these header words.
+// Files that are merged to one, whose header says these words.
 #[derive(Drop)]
 pub(crate) struct Merging {
     pub(crate) words: HeaderWords,

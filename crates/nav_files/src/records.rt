@@ -13,7 +13,7 @@ use nav_io::{LineFault, Source};
 use one_run::BridgeFault;
 use rinex_read::{FileForm, ItemRead, Reason, RecordReader};
 
-/// The fault of a run whose reading of lines failed so.
+/// The fault of a run whose lines broke off so.
 pub fn fault_of(fault: LineFault) -> BridgeFault
     ensures { result ≡ fault_by fault }
 {
@@ -59,13 +59,13 @@ pub fn count_read(read: &ItemRead, counts: &mut RinexCounts)
     counts.records += 1;
 }
 
-/// The next record; `None` at the end of the file. An item that is read is whole: its fields fit their widths in bits, and
+/// The next record; none at the end of the file. What is read of a record is whole: its fields are within their digits, and
 /// its parts fit together.
 ///
 /// # Errors
 ///
-/// `ReadFault` only where the input's fault count rose or is at its maximum; `TooLong` only where 4,294,967,295 bytes were
-/// read and there was one more.
+/// `ReadFault` only where the input's count of faults rose or stands at its last value; `TooLong` only where 4,294,967,295
+/// bytes were taken and one more was there.
 pub fn next_read<F: FileForm, S: Source>(
     records: &mut RecordReader<F>,
     input: &mut S,

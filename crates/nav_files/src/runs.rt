@@ -18,18 +18,18 @@ use std::alloc::Global;
 /// Reads navigation files of RINEX 4, concatenated, to their end, and writes one file with the merged list of
 /// their items.
 ///
-/// The header is checked first, and that of the merged file is written. A refused record gives a line of the report, with
-/// the number of its first line. At the end of the input the items are written in order of rank, of alike items the one
-/// with the earliest transmission time, and the counts are reported.
+/// The header is judged first, and that of the merged file is written. A record that is refused gives a line of the
+/// report, with the number of its first line. At the end of the input the items are written, of those that are alike the
+/// one that was sent first, in the order of rank, and the counts are reported.
 ///
 /// # Errors
 ///
 /// - `NotThisForm` exactly where the header is refused; nothing is written then.
-/// - `ReadFault`, `WriteFault`, `ReportFault` only where the fault count of the input, the output or the report rose, or is
-///   at its maximum. After a failed read only the header was written, and exactly the refusals of the records that are
-///   complete in the bytes read were reported.
-/// - `TooLong` only where 4,294,967,295 bytes were read and there was one more.
-/// - `NoMemory` when memory for the items is missing.
+/// - `ReadFault`, `WriteFault`, `ReportFault` only where the count of faults of the input, the output or the report rose,
+///   or stands at its last value. After a failed read the header alone was written, and exactly the refusals reported of
+///   the records that are whole in the bytes taken.
+/// - `TooLong` only where 4,294,967,295 bytes were taken and one more was there.
+/// - `NoMemory` where no memory is to be had for the items.
 pub fn run_merge<S: Source, T: Sink, U: Sink>(
     alloc: Global,
     words: &HeaderWords,
@@ -50,7 +50,7 @@ pub fn run_merge<S: Source, T: Sink, U: Sink>(
 }
 
 /// Reads navigation files of RINEX 4, concatenated, to their end, and writes the times for which they have an
-/// ephemeris: a line for each range, with the satellite, the first second and the second after the last, in GPS time.
+/// ephemeris: a line for each range, with the satellite, the first second and the one behind the last, as moments.
 ///
 /// Refusals and counts are reported as by [`run_merge`].
 ///

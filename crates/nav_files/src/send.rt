@@ -14,24 +14,24 @@ use nav_io::{Sink, Source};
 use one_run::BridgeFault;
 use rinex_read::{Rinex3, Rinex4};
 
-/// Reads a navigation file of RINEX 4 to its end, and writes while it reads the capture that
-/// transmits it, for a receiver that resolves week numbers against the reference week `r`.
+/// Reads a navigation file of RINEX 4 to its end, and writes while it reads the capture that is
+/// sent of it, to a receiver that takes week numbers near the week `r`.
 ///
-/// First the header is checked. Then the first line, `NAVCAP 1`, is written, and after each record
-/// of an ephemeris that may be transmitted the lines of its slot, repeats included; slots are counted
-/// from 0. A refused record, and an ephemeris that may not be transmitted, give a line of the report,
-/// with the number of their first line; such an ephemeris counts as refused, and not as an item. The
-/// report ends with the counts. Ionospheres are items, and are not transmitted.
+/// The header is judged first. Then the first line, `NAVCAP 1`, is written, and after each record
+/// of an ephemeris that may be sent the lines of its slot, repeats included; the slots follow one
+/// another from 0 on. A record that is refused, and an ephemeris that may not be sent, give a line
+/// of the report, with the number of their first line, and at the end the counts stand there: such
+/// an ephemeris counts as refused, and not as an item. Ionospheres are items, and are not sent.
 ///
 /// # Errors
 ///
 /// - `NotThisForm` exactly where the header is refused; nothing is written then.
-/// - `ReadFault`, `WriteFault`, `ReportFault` only where the fault count of the input, the output or
-///   the report rose, or is at its maximum. After a failed read exactly what the records give that
-///   are complete in the bytes read was written and reported.
-/// - `TooLong` only where 4,294,967,295 bytes were read and there was one more.
+/// - `ReadFault`, `WriteFault`, `ReportFault` only where the count of faults of the input, the
+///   output or the report rose, or stands at its last value. After a failed read exactly what the
+///   records give that are whole in the bytes taken was written and reported.
+/// - `TooLong` only where 4,294,967,295 bytes were taken and one more was there.
 ///
-/// It allocates no memory.
+/// It takes no memory.
 pub fn send_rinex<S: Source, T: Sink, U: Sink>(
     r: RefWeek,
     input: &mut S,
@@ -49,7 +49,7 @@ pub fn send_rinex<S: Source, T: Sink, U: Sink>(
     run_file::<Rinex4, Sending, S, T, U>(&Sending { r }, &mut state, input, output, report)
 }
 
-/// The same for a navigation file of RINEX 3.
+/// The same of a navigation file of RINEX 3.
 ///
 /// # Errors
 ///

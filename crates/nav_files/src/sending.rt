@@ -1,4 +1,4 @@
-//! The job that transmits the ephemerides of a file.
+//! What is done with the records of a file of which the ephemerides are sent.
 
 ghost use Rattle.std.specs.Prelude.{◌≡◌, ◌++◌, false};
 ghost use Rattle.std.specs.List.{flat_map};
@@ -18,14 +18,14 @@ use nav_io::{Failed, Sink};
 use one_run::{BridgeFault, Text};
 use rinex_read::ItemRead;
 
-// The state after some records: their counts, and the next slot.
+// What is held of the records: their counts, and the next slot.
 #[derive(Drop)]
 pub(crate) struct SoFar {
     pub(crate) counts: RinexCounts,
     pub(crate) slot: u32,
 }
 
-// The job of transmitting to a receiver that resolves week numbers against this reference week.
+// The ephemerides are sent to a receiver that takes week numbers near this week.
 #[derive(Drop)]
 pub(crate) struct Sending {
     pub(crate) r: RefWeek,

@@ -1,4 +1,4 @@
-//! The counts of the records of a file that is transmitted.
+//! Counting.
 
 ghost use Rattle.std.specs.Prelude.{◌≡◌, ◌+◌, ◌^◌, ◌<◌, []};
 ghost use Rattle.nav_files.specs.Following.{AreCounted, counted};

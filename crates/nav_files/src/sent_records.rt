@@ -34,7 +34,7 @@ fn report_word<U: Sink>(line: u32, word: &[u8], report: &mut U) -> Result<(), Br
     }
 }
 
-// Writes an ephemeris that is transmitted, or reports a record that is refused or may not be.
+// Writes an ephemeris that is sent, or reports a record that is not.
 pub(crate) fn tell<T: Sink, U: Sink>(
     r: RefWeek,
     told: &Told,

@@ -24,13 +24,14 @@ use rinex_read::{
     whole_records_are_given,
 };
 
-/// What a run does with the records of a file, in order. Its settings do not change; what it holds of the records is its state.
+/// What a run does with the records of a file, one after another. Its settings stay as they are; what it holds of the records
+/// is its state.
 pub trait Taker {
     type State;
 
     type Counts: Copy;
 
-    // What was written and reported after these records.
+    // What is written and reported once these records were taken.
     ghost text: { Self → List ItemRead → List ℕ };
 
     ghost told: { Self → List ItemRead → List ℕ };
@@ -45,7 +46,7 @@ pub trait Taker {
     // Whether it takes memory.
     ghost memory: { Bool };
 
-    // The state is that after these records.
+    // The state holds what these records come to.
     ghost holds: { Self → Self.State → List ItemRead → Type 0 };
 
     // What was written and reported is a prefix of the whole; at first nothing is reported.
@@ -56,12 +57,12 @@ pub trait Taker {
             → IsPrefix (told self.now some) (reported self.now (some ++ more)) }
         ensures silent { told self.now [] ≡ [] };
 
-    // Writes the leading text.
+    // Writes what stands in front.
     fn begin<T: Sink>(&self, output: &mut T) -> Result<(), Failed>
         ensures { Writes (T.written output.old) (T.written output.new)
             (T.faults output.old) (T.faults output.new) result (text self.now []) };
 
-    // Processes a record.
+    // Takes a record.
     fn take<T: Sink, U: Sink>(
         &self,
         state: &mut Self::State,
@@ -95,12 +96,12 @@ pub trait Taker {
             ⊎ ((fault ≡ BridgeFault.ReportFault)
             ⊎ ((fault ≡ BridgeFault.NoMemory) × (memory ≡ true)))) };
 
-    // The counts of the records so far.
+    // What is counted of the records that were taken.
     fn counts(&self, state: &Self::State) -> Self::Counts
         ensures { (reads : List ItemRead) → holds self.now state.now reads
             → result ≡ count self.now reads };
 
-    // Writes the text at the end of a file.
+    // Writes what is written at the end of a file.
     fn finish<T: Sink>(&self, state: &mut Self::State, output: &mut T) -> Result<(), Failed>
         ensures output { (reads : List ItemRead) (start : Option (List ℕ))
             → holds self.now state.old reads
@@ -116,7 +117,7 @@ pub trait Taker {
             → reported self.now reads ≡ told self.now reads ++ result.items };
 }
 
-// Processes the records after the header, in order.
+// Takes the records behind the header, one after another.
 fn process_records<F: FileForm, K: Taker, S: Source, T: Sink, U: Sink>(
     taker: &K,
     state: &mut K::State,
@@ -152,7 +153,7 @@ fn process_records<F: FileForm, K: Taker, S: Source, T: Sink, U: Sink>(
 
 /// Reads a navigation file of a form to its end.
 ///
-/// The header is checked first; then the records are processed in order, and at the end the counts are reported.
+/// The header is judged first; then the records are taken, one after another, and at the end the counts are reported.
 pub fn run_file<F: FileForm, K: Taker, S: Source, T: Sink, U: Sink>(
     taker: &K,
     state: &mut K::State,

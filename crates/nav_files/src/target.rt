@@ -11,7 +11,7 @@ use rinex_write::HeaderWords;
 pub enum RinexTo {
     /// A navigation file of RINEX 4.01, whose header says these words.
     Rinex(HeaderWords),
-    /// A navigation file of RINEX 3.05, without ionosphere records.
+    /// A navigation file of RINEX 3.05, without ionospheres.
     Rinex3(HeaderWords),
     /// A frame for each ephemeris, of message 1019 or 1046 (RTCM 10403.3).
     Rtcm,
@@ -20,7 +20,7 @@ pub enum RinexTo {
 }
 
 impl RinexTo {
-    // The target of the items.
+    // What its items become.
     pub(crate) fn target(&self) -> Target
         ensures { result ≡ target_of_file self.now }
     {

@@ -1,4 +1,4 @@
-//! The outcome of a record of a file that is transmitted.
+//! What becomes of a record.
 
 ghost use Rattle.std.specs.Prelude.{◌≡◌, ◌≤◌, length, true};
 ghost use Rattle.nav_eph.specs.Ranges.{IsItem};
@@ -12,19 +12,19 @@ use nav_eph::NavItem;
 use page_send::{SendFault, can_send};
 use rinex_read::{ItemRead, Reason};
 
-/// The outcome of a record of a navigation file whose ephemerides are transmitted.
+/// What becomes of a record of a navigation file of which the ephemerides are sent.
 #[derive(Clone, Copy)]
 pub enum Told {
-    /// An ephemeris that is transmitted.
+    /// An ephemeris that is sent.
     Sent {
         /// Its slot, counted from 0.
         slot: u32,
         /// The ephemeris.
         item: NavItem,
     },
-    /// An ionosphere, which is not transmitted.
+    /// An ionosphere, which is not sent.
     NotSent,
-    /// An ephemeris that may not be transmitted.
+    /// An ephemeris that may not be sent.
     Withheld {
         /// The number of the first line of its record.
         line: u32,
@@ -42,7 +42,7 @@ pub enum Told {
     PassedOver,
 }
 
-// The outcome of an ephemeris.
+// What becomes of an ephemeris.
 fn told_ephemeris(r: RefWeek, slot: u32, line: u32, item: &NavItem) -> Told
     requires ephemeris { IsEphemeris item.now }
     requires whole { IsItem item.now }
@@ -55,7 +55,7 @@ fn told_ephemeris(r: RefWeek, slot: u32, line: u32, item: &NavItem) -> Told
     }
 }
 
-// The outcome of an item.
+// What becomes of an item.
 fn told_of_item(r: RefWeek, slot: u32, line: u32, item: &NavItem) -> Told
     requires whole { IsItem item.now }
     ensures told { result
@@ -69,7 +69,7 @@ fn told_of_item(r: RefWeek, slot: u32, line: u32, item: &NavItem) -> Told
     }
 }
 
-// The outcome of a record, where this is the next slot.
+// What becomes of a record, where this is the next slot.
 pub(crate) fn told_of(r: RefWeek, slot: u32, read: &ItemRead) -> Told
     requires whole { IsWholeRead read.now }
     ensures told { result ≡ told_by r slot read.now }
@@ -86,7 +86,7 @@ pub(crate) fn told_of(r: RefWeek, slot: u32, read: &ItemRead) -> Told
     }
 }
 
-// The next slot after this outcome.
+// The next slot behind it.
 pub(crate) fn next_slot(slot: u32, told: &Told) -> u32
     requires { slot ≤ 4000000000 }
     ensures { result ≡ slot_behind slot told.now }
@@ -100,7 +100,7 @@ pub(crate) fn next_slot(slot: u32, told: &Told) -> u32
     }
 }
 
-// The report's word for why an ephemeris may not be transmitted.
+// Why an ephemeris may not be sent, in a word.
 pub(crate) fn fault_word(fault: SendFault) -> &'static [u8]
     ensures word { result.now ≡ fault_text fault }
     ensures short { length result.now ≤ 32 }

@@ -1,4 +1,4 @@
--- The cut of the next call: the first of the cuts left.
+-- The cut of the next call, by the first of the cuts to come.
 use Rattle.std.proofs.Common.{◌≡◌, ◌+◌, ◌-◌, ◌^◌, ℕ, List, [], ◌∷◌, length, drop, min, max, None, Some, refl, sym, ◌∙◌}
 use Rattle.std.specs.List.{slice_get}
 use Rattle.std.proofs.lemmas.List.{drop-drop, drop_min}

@@ -1,4 +1,4 @@
--- What successive calls of `Lines::next` return.
+-- What calls of `Lines::next` give one after another, and what is promised of later ones.
 use Rattle.std.proofs.Common.{◌≡◌, ◌^◌, ◌<◌, ◌++◌, ℕ, Bool, true, false, List, [], ◌∷◌, length, map, refl, sym, ap, ◌∙◌, ⊎_elim, arith, append-nil, Some, None}
 use Rattle.std.specs.Prelude.{Option}
 use Rattle.std.proofs.lemmas.Bool.{both_ways}
@@ -10,7 +10,7 @@ use Rattle.nav_io.specs.LineAnswers.{Answers}
 use Rattle.nav_io.specs.declared.lines.LineKind.{LineKind}
 use Rattle.nav_io.specs.declared.lines.LineKind.TheVariants.{Text, Long, End}
 
--- the lines returned come before those of the new rest
+-- what is given stands before the lines of the new rest
 pub given_first : (left left_new : Option (List ℕ)) (old new : LinesState) (lines : List Line) (r : Reads left left_new old new lines) → lines_by false (old.rest ++ r.taken) ≡ lines ++ lines_by false new.rest
 given_first left left_new old new lines r =
     ap (λ (l : List ℕ). lines_by false (old.rest ++ l)) (sym (append-nil r.taken)) ∙ r.stream false [] (λ ended. (refl, refl))
@@ -19,18 +19,18 @@ given_first left left_new old new lines r =
 no_end : (b : Bool) → b ≡ false → (b ≡ true → ⊥)
 no_end b e h = both_ways b e h
 
--- the same for the lines that an LF ended, before the end of the source
+-- the same of the lines that have ended, before the end
 pub given_ended : (left left_new : Option (List ℕ)) (old new : LinesState) (lines : List Line) (r : Reads left left_new old new lines) → new.ended ≡ false → lines_by true (old.rest ++ r.taken) ≡ lines ++ lines_by true new.rest
 given_ended left left_new old new lines r more =
     ap (λ (l : List ℕ). lines_by true (old.rest ++ l)) (sym (append-nil r.taken)) ∙ r.stream true [] (λ ended. absurd (no_end new.ended more ended))
     ∙ ap (λ (l : List ℕ). lines ++ lines_by true l) (append-nil new.rest)
 
--- all lines were returned
+-- all lines were given
 pub given_all : (left left_new : Option (List ℕ)) (old new : LinesState) (lines : List Line) (r : Reads left left_new old new lines) → new.rest ≡ [] → lines_by false (old.rest ++ r.taken) ≡ lines
 given_all left left_new old new lines r none =
     given_first left left_new old new lines r ∙ ap (λ (l : List ℕ). lines ++ lines_by false l) none ∙ append-nil lines
 
--- all lines that an LF ended were returned
+-- all lines that have ended were given
 pub given_so_far : (left left_new : Option (List ℕ)) (old new : LinesState) (lines : List Line) (r : Reads left left_new old new lines) → new.ended ≡ false → ends new.rest ≡ false
     → lines_by true (old.rest ++ r.taken) ≡ lines
 given_so_far left left_new old new lines r more none =
@@ -40,7 +40,7 @@ consumed_all : (left_new : Option (List ℕ)) (bytes taken : List ℕ) → Consu
 consumed_all None bytes taken c end = absurd c
 consumed_all (Some rest) bytes taken c end = c ∙ ap (λ (l : List ℕ). taken ++ l) end ∙ append-nil taken
 
--- from the first call to the end, the lines of all bytes are returned, however reads cut them
+-- from the first call to the end the lines of all bytes are given, however the reads cut them
 pub given_whole : (bytes : List ℕ) (left_new : Option (List ℕ)) (old new : LinesState) (lines : List Line) → Reads (Some bytes) left_new old new lines → old.rest ≡ [] → old.ended ≡ false
     → new.rest ≡ [] → new.ended ≡ true → lines ≡ lines_by false bytes
 given_whole bytes left_new old new lines r nothing begins none ended =
@@ -48,7 +48,7 @@ given_whole bytes left_new old new lines r nothing begins none ended =
     let all : bytes ≡ r.taken = consumed_all left_new bytes r.taken r.consumes end in
     sym (given_all (Some bytes) left_new old new lines r none) ∙ ap (λ (l : List ℕ). lines_by false (l ++ r.taken)) nothing ∙ ap (lines_by false) (sym all)
 
--- after too many bytes neither a line nor the end is returned
+-- after too many bytes no line is given, nor the end
 pub too_many_line : (kind : LineKind) (left left_new : Option (List ℕ)) (old new : LinesState) → old.taken ≡ 2 ^ 32 → Answers kind left left_new old new → ⊥
 too_many_line Text left left_new old new e g = omega (arith, g.reads.count, g.low)
 too_many_line Long left left_new old new e g = omega (arith, g.reads.count, g.low)
@@ -67,13 +67,13 @@ none_taken rest taken e f = rw (e, f) refl
 no_line : (line : Line) (lines : List Line) → [] ≡ line ∷ lines → ⊥
 no_line line lines e = cc
 
--- nor is a line returned when no byte is held
+-- nor is a line given where none is held
 pub ended_line : (left left_new : Option (List ℕ)) (old new : LinesState) (line : Line) → old.ended ≡ true → old.rest ≡ [] → GivesLine left left_new old new line → ⊥
 ended_line left left_new old new line ended none g =
     let nothing = none_taken old.rest g.reads.taken none (g.reads.after_end ended).1 in
     no_line line (lines_by false new.rest) (ap (lines_by false) (sym nothing) ∙ given_first left left_new old new (line ∷ []) g.reads)
 
--- nor does `TooLong` arise
+-- nor are the bytes too many
 pub ended_long : (left left_new : Option (List ℕ)) (old new : LinesState) → old.ended ≡ true → old.taken < 2 ^ 32 → BreaksLong left left_new old new → ⊥
 ended_long left left_new old new ended low b =
     let none : length b.reads.taken ≡ 0 = ap length (b.reads.after_end ended).1 in

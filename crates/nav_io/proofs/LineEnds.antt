@@ -1,4 +1,4 @@
--- The first LF, and a line without a CR at its end.
+-- The first end of a line, and what a line is without the CR at its end.
 use Rattle.std.proofs.Common.{◌≡◌, ◌+◌, ◌<◌, ◌≤◌, ◌==◌, ◌++◌, ℕ, zero, suc, min, nat_lt, Bool, true, false, List, [], ◌∷◌, Option, Some, None, IfSome, IfNone, length, take, drop, get_or, refl, sym, ap, ◌∙◌, ⊎_elim, arith, length-drop, length-take}
 use Rattle.std.proofs.lemmas.List.{take-append-drop, take-take, drop-take, drop-drop, drop_more, take_all}
 use Rattle.std.proofs.lemmas.Bool.{eqb-true, lt-ltb, le-ltb, cases_lt}
@@ -32,13 +32,13 @@ first_none xs None h =
     ap ends (sym (take_all (length xs) xs (omega arith))) ∙ none_before (length xs) xs (λ n less within. h n (omega arith) less)
 first_none xs (Some k) h = tt
 
--- k more bytes
+-- so many bytes more
 take_sum : (n k : ℕ) (xs : List ℕ) → take (n + k) xs ≡ take n xs ++ take k (drop n xs)
 take_sum n k xs =
     sym (take-append-drop n (take (n + k) xs)) ∙ ap (λ (l : List ℕ). l ++ drop n (take (n + k) xs)) (take-take n (n + k) xs (omega arith))
     ∙ ap (λ (l : List ℕ). take n xs ++ l) (drop-take n k xs)
 
--- the first LF, where the first n bytes have none
+-- behind a prefix with no end
 pub EndsAt-behind : (xs : List ℕ) (n k : ℕ) → ends (take n xs) ≡ false → EndsAt (drop n xs) k → EndsAt xs (n + k)
 EndsAt-behind xs n k none h =
     let next : n + (k + 1) ≡ n + k + 1 = omega arith in
@@ -68,7 +68,7 @@ without_cr-cr (suc k) (x ∷ []) e h = absurd (omega arith)
 without_cr-cr zero (x ∷ y ∷ ys) e h = absurd (omega arith)
 without_cr-cr (suc k) (x ∷ y ∷ ys) e h = ap (λ (l : List ℕ). x ∷ l) (without_cr-cr k (y ∷ ys) (omega arith) h)
 
--- a line without a CR at its end
+-- a line without one
 pub without_cr-none : (k : ℕ) (line : List ℕ) → length line ≡ suc k → (get_or line k 0 == 13) ≡ false → take (suc k) line ≡ without_cr line
 without_cr-none k [] e h = absurd (omega arith)
 without_cr-none zero (x ∷ []) e h = no_cr_last x (x == 13) refl h
@@ -76,7 +76,7 @@ without_cr-none (suc k) (x ∷ []) e h = absurd (omega arith)
 without_cr-none zero (x ∷ y ∷ ys) e h = absurd (omega arith)
 without_cr-none (suc k) (x ∷ y ∷ ys) e h = ap (λ (l : List ℕ). x ∷ l) (without_cr-none k (y ∷ ys) (omega arith) h)
 
--- the text of the line of the first len bytes of the rest
+-- the text of the line of so many bytes in front of the rest
 pub text_is : (rest : List ℕ) (len cut : ℕ) → cut ≤ length (take len rest) → take cut (take len rest) ≡ without_cr (take len rest) → take (min cut 2200) rest ≡ (line_of (take len rest)).text
 unfolding line_of
 text_is rest len cut fits is =
@@ -103,7 +103,7 @@ kind-long line cut fits is more =
     let e : nat_lt 2200 (length (without_cr line)) ≡ true = ap (nat_lt 2200) (length_is line cut fits is) ∙ lt-ltb 2200 cut more in
     rw e refl
 
--- at most 2,200 bytes
+-- at most so many
 pub kind-text : (line : List ℕ) (cut : ℕ) → cut ≤ length line → take cut line ≡ without_cr line → cut ≤ 2200 → Text ≡ kind_of (line_of line)
 unfolding line_of
 kind-text line cut fits is few =

@@ -1,4 +1,4 @@
--- Laws of the lines of bytes: of a first line, of a line not yet ended, and of a prefix of the bytes.
+-- Laws of the lines of bytes: of a line in front, of one that has not ended, and of a prefix of the bytes.
 use Rattle.std.specs.Prelude.{◌≡◌, ◌+◌, ◌<◌, ◌≤◌, ◌==◌, nat_lt, ◌++◌, ℕ, zero, suc, Bool, true, false, if◌then◌else◌, List, [], ◌∷◌, length, take, drop, map, refl}
 use Rattle.std.proofs.Common.{sym, ap, ◌∙◌, arith, append_assoc, append-nil, length-append, length-take, ⊎_elim}
 use Rattle.std.proofs.lemmas.List.{take_all, take-take, take-append-le, map-append, length-map}
@@ -9,7 +9,7 @@ ends_if : (b e : Bool) → (if b then true else e) ≡ false → (b ≡ false) �
 ends_if true e h = absurd cc
 ends_if false e h = (refl, h)
 
--- no LF in a byte and the bytes after it
+-- no line ends in a byte nor in those behind it
 pub ends-cons : (x : ℕ) (xs : List ℕ) → ends (x ∷ xs) ≡ false → ((x == 10) ≡ false) × (ends xs ≡ false)
 ends-cons x xs h = ends_if (x == 10) (ends xs) h
 
@@ -31,28 +31,28 @@ ends-drop zero p h = h
 ends-drop (suc n) [] h = refl
 ends-drop (suc n) (x ∷ p) h = ends-drop n p (ends-cons x p h).1
 
--- a first line with its LF
+-- a line that ends, in front
 pub pieces-line : (more : Bool) (p rest : List ℕ) → ends p ≡ false → pieces more (p ++ 10 ∷ rest) ≡ p ∷ pieces more rest
 pieces-line more [] rest h = refl
 pieces-line more (x ∷ p) rest h =
     let parts = ends-cons x p h in
     rw (parts.0, pieces-line more p rest parts.1) refl
 
--- where more bytes may come, bytes without LF have no line
+-- where more may come, no line of these has ended
 pub pieces-open : (p : List ℕ) → ends p ≡ false → pieces true p ≡ []
 pieces-open [] h = refl
 pieces-open (x ∷ p) h =
     let parts = ends-cons x p h in
     rw (parts.0, pieces-open p parts.1) refl
 
--- the last line, without LF
+-- the last line, which has no end
 pub pieces-last : (x : ℕ) (p : List ℕ) → ends (x ∷ p) ≡ false → pieces false (x ∷ p) ≡ (x ∷ p) ∷ []
 pieces-last x [] h = rw (ends-cons x [] h).0 refl
 pieces-last x (y ∷ p) h =
     let parts = ends-cons x (y ∷ p) h in
     rw (parts.0, pieces-last y p parts.1) refl
 
--- bytes without LF before lines
+-- bytes in front of lines, in which no line ends
 abbrev pub fronted : Bool → List ℕ → List (List ℕ) → List (List ℕ)
 fronted more [] lines = lines
 fronted more (x ∷ p) lines = with_prefix more x (fronted more p lines)
@@ -94,7 +94,7 @@ take-without_cr (suc m) [] h = absurd (omega arith)
 take-without_cr (suc m) (x ∷ []) h = absurd (omega arith)
 take-without_cr (suc m) (x ∷ y ∷ ys) h = ap (λ (l : List ℕ). x ∷ l) (take-without_cr m (y ∷ ys) (omega arith))
 
--- of a piece of 2,202 bytes or more only the first 2,200 matter
+-- of a piece of 2,202 bytes or more only its prefix counts
 pub line_of_long : (p : List ℕ) → 2202 ≤ length p → line_of p ≡ record { text = take 2200 p; long = true }
 unfolding line_of
 line_of_long p h =
@@ -123,7 +123,7 @@ cut_lines false (x ∷ p) [] =
     ap line_of (sym (append-nil (take 2202 (x ∷ p)))) ∙ line_of-cut (x ∷ p) [] ∙ ap line_of (append-nil (x ∷ p)) in
     ap (map line_of) (fronted-last x (take 2201 p)) ∙ ap (λ (line : Line). line ∷ []) same ∙ sym (ap (map line_of) (fronted-last x p))
 
--- of a line not yet ended the first 2,202 bytes determine its text and kind, whatever follows
+-- of a line that has not ended 2,202 bytes tell all that is seen of it, whatever bytes follow
 pub lines_by-cut : (more : Bool) (p q : List ℕ) → ends p ≡ false → lines_by more (take 2202 p ++ q) ≡ lines_by more (p ++ q)
 lines_by-cut more p q h =
     ap (map line_of) (pieces-prefix more (take 2202 p) q (ends-take 2202 p h)) ∙ cut_lines more p (pieces more q) ∙ sym (ap (map line_of) (pieces-prefix more p q h))
@@ -138,7 +138,7 @@ append_by : (more : Bool) (x : ℕ) (d z : List ℕ) (b : Bool) → (x == 10) �
 append_by more x d z true e ih = (ih.0, rw (e, ih.1) refl)
 append_by more x d z false e ih = rw e (append_open more x d z ih.0 (pieces true d) e refl ih.1)
 
--- the lines that an LF ended stay, whatever follows
+-- the lines that have ended stay, whatever follows
 pub pieces-append : (more : Bool) (d z : List ℕ) → (o : List ℕ) × (pieces more (d ++ z) ≡ pieces true d ++ pieces more (o ++ z))
 pieces-append more [] z = ([], refl)
 pieces-append more (x ∷ d) z = append_by more x d z (x == 10) refl (pieces-append more d z)
@@ -152,12 +152,12 @@ length_by : (x : ℕ) (a b : List ℕ) (t : Bool) → (x == 10) ≡ t → length
 length_by x a b true e ih = rw e (omega (arith, ih))
 length_by x a b false e ih = rw (e, length-with_prefix x (pieces true (a ++ b)), length-with_prefix x (pieces true a)) ih
 
--- the number of ended lines adds up
+-- as many lines have ended as in the parts
 pub length-pieces-append : (a b : List ℕ) → length (pieces true (a ++ b)) ≡ length (pieces true a) + length (pieces true b)
 length-pieces-append [] b = omega arith
 length-pieces-append (x ∷ a) b = length_by x a b (x == 10) refl (length-pieces-append a b)
 
--- of two prefixes of a list the shorter is a prefix of the longer
+-- of two prefixes of a list the longer has the shorter as its prefix
 pub prefix_within : {A : Type 0} (a b x y : List A) → a ++ x ≡ b ++ y → length a ≤ length b → (more : List A) × (b ≡ a ++ more)
 prefix_within [] b x y e h = (b, refl)
 prefix_within (k ∷ a) [] x y e h = absurd (omega arith)
@@ -167,7 +167,7 @@ prefix_within (k ∷ a) (l ∷ b) x y e h =
     let rest = prefix_within a b x y tails (omega arith) in
     (rest.0, cc rest.1)
 
--- lines of a prefix of the bytes: those ended in a shorter prefix come first
+-- Lines were given for the prefix of the bytes; those that have ended in a prefix of that are a prefix of them.
 pub ended_prefix : (d w rest : List ℕ) (lines : List Line) → lines_by true ((d ++ w) ++ rest) ≡ lines ++ lines_by true rest → (more : List Line) × (lines ≡ lines_by true d ++ more)
 ended_prefix d w rest lines e =
     let split = pieces-append true d (w ++ rest) in
@@ -186,7 +186,7 @@ ended_prefix d w rest lines e =
     ) in
     prefix_within (lines_by true d) lines (lines_by true (split.0 ++ (w ++ rest))) (lines_by true rest) all few
 
--- a proper prefix of a list of lines is a prefix of all but its last line
+-- without its last line it is a prefix of all but the last
 pub without_last : (some more others : List Line) (last line : Line) → others ++ line ∷ [] ≡ (some ++ last ∷ []) ++ more → (rest : List Line) × (others ≡ some ++ rest)
 without_last some more others last line e =
     let all : some ++ (last ∷ more) ≡ others ++ line ∷ [] = sym (append_assoc some (last ∷ []) more) ∙ sym e in

@@ -1,4 +1,4 @@
--- There is exactly one list of the pieces of bytes, and `pieces` gives it.
+-- There is exactly one list of the pieces of bytes, and it is the one that is found from the front.
 use Rattle.std.proofs.Common.{◌≡◌, ◌≢◌, ◌⊎◌, ◌++◌, ◌==◌, ℕ, Bool, true, false, List, [], ◌∷◌, All, refl, sym, ap, subst, ◌∙◌, inl, inr, ⊎_elim, append_assoc}
 use Rattle.std.proofs.lemmas.Bool.{eqb-true, false≢true}
 use Rattle.std.proofs.lemmas.List.Elements.{All-nil, All-cons, All-head, All-tail}
@@ -17,7 +17,7 @@ none_by : (x : ℕ) (xs : List ℕ) (b : Bool) → (x == 10) ≡ b → All HasNo
 none_by x xs true e h = rw e (All-cons HasNoEnd [] (pieces false xs) refl h)
 none_by x xs false e h = rw e (none_prefix x (pieces false xs) e h)
 
--- no piece contains an LF
+-- no piece has an end
 none_of : (xs : List ℕ) → All HasNoEnd (pieces false xs)
 none_of [] = All-nil HasNoEnd
 none_of (x ∷ xs) = none_by x xs (x == 10) refl (none_of xs)
@@ -28,7 +28,7 @@ Whole bytes lines = (with_ends lines ≡ bytes) ⊎ ((with_ends lines ≡ bytes 
 not_ten : (x : ℕ) → (x == 10) ≡ false → x ≢ 10
 not_ten x e h = false≢true (sym e ∙ ap (λ (n : ℕ). n == 10) h)
 
--- one byte before
+-- a byte in front
 whole_more : (x : ℕ) (bytes all more : List ℕ) → all ≡ x ∷ more → (more ≡ bytes) ⊎ ((more ≡ bytes ++ 10 ∷ []) × HasOpenEnd bytes)
     → (all ≡ x ∷ bytes) ⊎ ((all ≡ (x ∷ bytes) ++ 10 ∷ []) × HasOpenEnd (x ∷ bytes))
 whole_more x bytes all more e h = ⊎_elim
@@ -62,7 +62,7 @@ whole_of (x ∷ xs) = whole_by x xs (x == 10) refl (whole_of xs)
 pub pieces_are : (bytes : List ℕ) → ArePieces bytes (pieces false bytes)
 pieces_are bytes = record { none = none_of bytes; whole = whole_of bytes }
 
--- the pieces of lines that each have an LF
+-- the pieces of lines that have ended
 ended_again : (lines : List (List ℕ)) → All HasNoEnd lines → pieces false (with_ends lines) ≡ lines
 ended_again [] h = refl
 ended_again (line ∷ lines) h =
@@ -77,7 +77,7 @@ end_last : (last : ℕ) (b : Bool) → (last == 10) ≡ b → last ≢ 10 → pi
 end_last last true e h = absurd (h (eqb-true last 10 e))
 end_last last false e h = rw e refl
 
--- an LF after the last line changes nothing
+-- an end behind the last line changes nothing
 end_open : (prefix : List ℕ) (last : ℕ) → last ≢ 10 → pieces false ((prefix ++ last ∷ []) ++ 10 ∷ []) ≡ pieces false (prefix ++ last ∷ [])
 end_open [] last h = end_last last (last == 10) refl h
 end_open (x ∷ prefix) last h = end_by x ((prefix ++ last ∷ []) ++ 10 ∷ []) (prefix ++ last ∷ []) (x == 10) refl (end_open prefix last h)
@@ -92,7 +92,7 @@ pieces_only bytes lines are = ⊎_elim
     sym (ended_again lines are.none) ∙ ap (pieces false) (more.0 ∙ ap (λ (l : List ℕ). l ++ 10 ∷ []) is) ∙ end_open prefix last more.1.3 ∙ ap (pieces false) (sym is))
     are.whole
 
--- bytes with an LF have a line
+-- some line has ended where an end stands in the bytes
 some_by : (x : ℕ) (xs : List ℕ) (b : Bool) → (x == 10) ≡ b → ((line : List ℕ) × (lines : List (List ℕ)) × (pieces false xs ≡ line ∷ lines))
     → (line : List ℕ) × (lines : List (List ℕ)) × (pieces false (x ∷ xs) ≡ line ∷ lines)
 some_by x xs true e some = ([], pieces false xs, rw e refl)
@@ -107,7 +107,7 @@ ended_by : (x : ℕ) (a b : List ℕ) (line : List ℕ) (lines : List (List ℕ)
 ended_by x a b line lines true e ih some = rw e (ap (λ (l : List (List ℕ)). [] ∷ l) ih)
 ended_by x a b line lines false e ih some = rw (e, ih, some) refl
 
--- the ended lines are the lines of the bytes up to the last LF
+-- the lines that have ended are those of the bytes up to the last end
 pub ended_are : (prefix rest : List ℕ) → ends rest ≡ false → pieces true (prefix ++ 10 ∷ rest) ≡ pieces false (prefix ++ 10 ∷ [])
 ended_are [] rest h = ap (λ (l : List (List ℕ)). [] ∷ l) (pieces-open rest h)
 ended_are (x ∷ prefix) rest h =

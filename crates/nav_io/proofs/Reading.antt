@@ -1,4 +1,4 @@
--- The progress of a call of `Lines::next`, and what it returns.
+-- How far a call of `Lines::next` has come, and what it then answers.
 use Rattle.std.proofs.Common.{◌≡◌, ◌⊎◌, ◌+◌, ◌-◌, ◌^◌, ◌<◌, ◌≤◌, ◌++◌, ℕ, Bool, true, false, if◌then◌else◌, List, [], ◌∷◌, map, length, take, drop, refl, sym, ap, subst, ◌∙◌, inl, inr, ⊎_elim, arith, append_assoc, append-nil, length-append, length-drop, length-take}
 use Rattle.std.specs.Prelude.{Option}
 use Rattle.std.specs.Io.KnownBytes.{IsAtEnd, Keeps}
@@ -13,7 +13,7 @@ use Rattle.nav_io.proofs.ReadsLaws.{reads_more, count_none}
 use Rattle.nav_io.specs.declared.lines.LineKind.{LineKind}
 use Rattle.nav_io.specs.declared.lines.LineKind.TheVariants.{Text, Long, End}
 
--- No line was returned yet. The first looked bytes of the rest have no LF; those after them came in one read.
+-- No line was given yet. No line ends in the bytes that were looked at; those behind came in one piece.
 pub record Reading (left left_new : Option (List ℕ)) (old now : LinesState) (looked : ℕ) : Type 0 where
   pub reads : Reads left left_new old now []
   pub within : looked ≤ length now.rest
@@ -77,7 +77,7 @@ reads_fill left left_new s t more none f = record {
   after_end = no_end s.ended more;
 }
 
--- the bytes kept come before the piece
+-- what was kept stands in front of the piece
 behind_kept : (kept piece rest : List ℕ) (n : ℕ) → rest ≡ kept ++ piece → n ≡ length kept → drop n rest ≡ piece
 behind_kept kept piece rest n e is = ap (drop n) e ∙ drop_at kept piece n (sym is)
 
@@ -104,7 +104,7 @@ reading_fill left middle left_new old s t looked kept r more none f is =
       few = λ h. omega (arith, ap length piece, f.few);
     }
 
--- a line with its LF
+-- a line that has ended
 stream_line : (s : LinesState) (place : ℕ) → EndsAt s.rest place → (more : Bool) (following : List ℕ)
     → lines_by more (s.rest ++ following) ≡ line_of (take place s.rest) ∷ lines_by more (drop (place + 1) s.rest ++ following)
 stream_line s place at more following =
@@ -207,7 +207,7 @@ breaks_long left left_new old s looked r more most = record {
   none = r.clean;
 }
 
--- the bytes held and read up to the end of the line
+-- what was held and taken up to the end of the line
 split_line : (old taken prefix rest new : List ℕ) (looked place : ℕ) → looked ≤ place → old ++ taken ≡ prefix ++ drop looked rest → new ≡ drop (place + 1) rest
     → old ++ (taken ++ []) ≡ (prefix ++ take (place + 1 - looked) (drop looked rest)) ++ new
 split_line old taken prefix rest new looked place h e is =
@@ -230,7 +230,7 @@ gives_line left left_new old s t looked place r low at behind p = record {
   split = split_line old.rest r.reads.taken r.prefix s.rest t.rest looked place behind r.split p.rest;
 }
 
--- nothing follows the last line
+-- nothing stands behind the last line
 split_last : (old taken new : List ℕ) → new ≡ [] → old ++ (taken ++ []) ≡ (old ++ taken) ++ new
 split_last old taken new e = ap (λ (l : List ℕ). old ++ l) (append-nil taken) ∙ sym (append-nil (old ++ taken)) ∙ ap (λ (l : List ℕ). (old ++ taken) ++ l) (sym e)
 

@@ -1,4 +1,4 @@
--- Successive calls of a reader of lines.
+-- Steps of a reader of lines, one after another.
 use Rattle.std.specs.Prelude.{◌≡◌, ◌⊎◌, ◌+◌, ◌++◌, ℕ, Bool, true, List, [], Option, length, refl}
 use Rattle.std.proofs.Common.{sym, ap, subst, ◌∙◌, arith, inl, inr, ⊎_elim, append_assoc, length-append}
 use Rattle.std.proofs.KnownBytes.{Consumes-nil, Consumes-trans}
@@ -6,15 +6,15 @@ use Rattle.std.specs.Io.KnownBytes.{Consumes, IsAtEnd}
 use Rattle.nav_io.specs.Lines.{Line, lines_by}
 use Rattle.nav_io.specs.LinesState.{LinesState, MayFollow, Reads}
 
--- what two successive reads consumed
+-- what two reads consumed, one after the other
 pub Consumes-twice : (a b c : Option (List ℕ)) (x y : List ℕ) → Consumes a b x → Consumes b c y → Consumes a c (x ++ y)
 Consumes-twice = Consumes-trans
 
--- no more bytes
+-- no byte more
 pub count_none : (n : ℕ) → n ≡ n + length {A = ℕ} []
 count_none n = omega arith
 
--- no byte was read
+-- no byte was taken
 abbrev pub reads_none : (o : Option (List ℕ)) (s : LinesState) → Reads o o s s []
 reads_none o s = record {
   taken = [];
@@ -25,7 +25,7 @@ reads_none o s = record {
   after_end = λ ended. (ended, refl, refl);
 }
 
--- the counts of bytes read add up
+-- the bytes that were taken add up
 pub count_more : (k l m : ℕ) (a b : List ℕ) → l ≡ k + length a → m ≡ l + length b → m ≡ k + length (a ++ b)
 count_more k l m a b x y = omega (arith, length-append a b)
 
@@ -39,7 +39,7 @@ may_before more following o p s t g r may ended =
     let none = may after.0 in
     (none.0, none_twice r.taken following after.1 none.1)
 
--- the lines returned by two calls come before those of the last rest
+-- the lines given by two steps stand before those of the last rest
 pub stream_more : (o p q : Option (List ℕ)) (s t u : LinesState) (g h : List Line) (a : Reads o p s t g) (b : Reads p q t u h) (more : Bool) (following : List ℕ) → MayFollow u.ended more following
     → lines_by more (s.rest ++ ((a.taken ++ b.taken) ++ following)) ≡ (g ++ h) ++ lines_by more (u.rest ++ following)
 stream_more o p q s t u g h a b more following may =
@@ -48,7 +48,7 @@ stream_more o p q s t u g h a b more following may =
     ∙ ap (λ (l : List Line). g ++ l) (b.stream more following may)
     ∙ sym (append_assoc g h (lines_by more (u.rest ++ following)))
 
--- one of two calls reached the end
+-- a read gave no byte in one of two steps
 pub at_end_more : (o p q : Option (List ℕ)) (s t u : LinesState) (g h : List Line) → Reads o p s t g → Reads p q t u h → u.ended ≡ true → (s.ended ≡ true) ⊎ IsAtEnd q
 at_end_more o p q s t u g h a b ended = ⊎_elim
     (λ (before : t.ended ≡ true). ⊎_elim
@@ -58,7 +58,7 @@ at_end_more o p q s t u g h a b ended = ⊎_elim
     (λ (none : IsAtEnd q). inr none)
     (b.at_end ended)
 
--- two calls after the end read nothing
+-- two steps after the end take nothing
 pub after_end_more : (o p q : Option (List ℕ)) (s t u : LinesState) (g h : List Line) (a : Reads o p s t g) (b : Reads p q t u h) → s.ended ≡ true
     → (u.ended ≡ true) × (a.taken ++ b.taken ≡ []) × (q ≡ o)
 after_end_more o p q s t u g h a b ended =
@@ -66,7 +66,7 @@ after_end_more o p q s t u g h a b ended =
     let second = b.after_end first.0 in
     (second.0, none_twice a.taken b.taken first.1 second.1, second.2 ∙ first.2)
 
--- one call after another
+-- one step after another
 abbrev pub reads_more : (o p q : Option (List ℕ)) (s t u : LinesState) (g h : List Line) → Reads o p s t g → Reads p q t u h → Reads o q s u (g ++ h)
 reads_more o p q s t u g h a b = record {
   taken = a.taken ++ b.taken;

@@ -5,7 +5,7 @@ use Rattle.std.specs.Prelude.{ℕ, List, [], ◌∷◌, ◌-◌, ◌^◌, max}
 pub record SourceState : Type 0 where
   -- the bytes that are left
   pub left : List ℕ
-  -- for each later call that succeeds, the most bytes that it gives
+  -- how many bytes each of the calls to come that succeed gives at most
   pub cuts : List ℕ
   -- the numbers of the calls that fail
   pub fails : List ℕ
@@ -16,7 +16,7 @@ pub record SourceState : Type 0 where
 
 -- the sink in memory
 pub record SinkState : Type 0 where
-  -- the bytes written so far
+  -- the bytes so far
   pub bytes : List ℕ
   -- how many bytes still fit
   pub room : ℕ
@@ -27,7 +27,7 @@ pub record SinkState : Type 0 where
   -- how often it has failed
   pub faults : ℕ
 
--- the most bytes that the next call gives: a cut of 0 counts as 1; past the end of the list there is no limit
+-- how many bytes the next call gives at most: 0 counts as 1, and past the list's end there is no cut
 unfoldable pub cut_of : List ℕ → ℕ
 cut_of [] = 2 ^ 64 - 1
 cut_of (cut ∷ cuts) = max cut 1

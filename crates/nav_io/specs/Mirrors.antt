@@ -6,17 +6,17 @@ use Rattle.nav_io.specs.LinesState.{LinesState}
 use Rattle.nav_io.specs.declared.lines.LineKind.{LineKind}
 use Rattle.nav_io.specs.declared.lines.LineKind.TheVariants.{Text, Long, End}
 
--- the first LF of the bytes is at this offset
+-- the first line of the bytes ends at this place
 pub record EndsAt (bytes : List ℕ) (place : ℕ) : Type 0 where
   pub none : ends (take place bytes) ≡ false
   pub at : drop place bytes ≡ 10 ∷ drop (place + 1) bytes
   pub within : place < length bytes
 
--- whether a line is Text or Long
+-- how a line is answered
 abbrev pub kind_of : Line → LineKind
 kind_of line = if line.long then Long else Text
 
--- The first len bytes of the rest are returned as a line, and passed bytes are dropped.
+-- The piece of so many bytes in front of the rest is answered, and so many bytes are passed.
 pub record PassesLine (old new : LinesState) (len passed : ℕ) : Type 0 where
   pub text : new.text ≡ (line_of (take len old.rest)).text
   pub rest : new.rest ≡ drop passed old.rest
@@ -25,7 +25,7 @@ pub record PassesLine (old new : LinesState) (len passed : ℕ) : Type 0 where
   pub ended : new.ended ≡ old.ended
   pub taken : new.taken ≡ old.taken
 
--- all of the rest is returned as the last line
+-- all of the rest is answered as the last line
 pub record PassesLast (old new : LinesState) (kind : LineKind) : Type 0 where
   pub some : 0 < length old.rest
   pub passes : PassesLine old new (length old.rest) (length old.rest)
@@ -40,13 +40,13 @@ pub record PassesNone (old new : LinesState) : Type 0 where
   pub ended : new.ended ≡ old.ended
   pub taken : new.taken ≡ old.taken
 
--- the last line, or the end
+-- the last line, or that there is none
 abbrev pub GivesLast : LineKind → LinesState → LinesState → Type 0
 GivesLast Text old new = PassesLast old new Text
 GivesLast Long old new = PassesLast old new Long
 GivesLast End old new = PassesNone old new
 
--- The rest is cut to the 2,202 bytes kept of a line not yet ended.
+-- The rest is cut to what is kept of a line that has not ended.
 pub record KeepsOpen (old new : LinesState) : Type 0 where
   pub rest : new.rest ≡ take 2202 old.rest
   pub text : new.text ≡ []

@@ -1,4 +1,4 @@
-//! A source over a `Read`, and a sink over a `Write`.
+//! The edge of the program: a source over a reader, and a sink over a writer.
 
 ghost use Rattle.std.specs.Prelude.{◌≡◌, MatchBool, false};
 ghost use Rattle.std.specs.Io.KnownBytes.{Appends};
@@ -7,8 +7,8 @@ ghost use Rattle.nav_io.specs.Prefix.{AppendsPrefix};
 use crate::{Failed, Sink, Source};
 use std::io::{Read, Write};
 
-/// A source over a reader. Contracts know its bytes where they know those of the reader: over
-/// memory, not of a file, a pipe or a terminal.
+/// A source over a reader. It tells the bytes that the reader tells: those over memory, and nothing
+/// of a file, a pipe or a terminal.
 #[derive(Drop)]
 pub struct ReadSource<R: Read> {
     reader: R,
@@ -16,7 +16,7 @@ pub struct ReadSource<R: Read> {
 }
 
 impl<R: Read> ReadSource<R> {
-    /// A source over this reader, with no fault counted.
+    /// A source over this reader, with a count of 0.
     pub fn new(reader: R) -> Self
         ensures left { ⟦<ReadSource<R> as Source>⟧.left result ≡ R.remaining reader }
         ensures faults { ⟦<ReadSource<R> as Source>⟧.faults result ≡ 0 }
@@ -32,7 +32,7 @@ impl<R: Read> Source for ReadSource<R> {
 
     ghost never_fails = { λ _. false };
 
-    /// One `read` of the reader. Each `Err` counts one fault.
+    /// One `read` of the reader. Each `Err` of it counts one fault.
     fn read(&mut self, into: &mut [u8]) -> Result<usize, Failed> {
         match self.reader.read(into) {
             Ok(count) => Ok(count),
@@ -44,8 +44,8 @@ impl<R: Read> Source for ReadSource<R> {
     }
 }
 
-/// A sink over a writer. Contracts know its bytes where they know those of the writer: over memory,
-/// not of a file, a pipe or a terminal.
+/// A sink over a writer. It tells the bytes that the writer tells: those over memory, and nothing
+/// of a file, a pipe or a terminal.
 #[derive(Drop)]
 pub struct WriteSink<W: Write> {
     writer: W,
@@ -53,7 +53,7 @@ pub struct WriteSink<W: Write> {
 }
 
 impl<W: Write> WriteSink<W> {
-    /// A sink over this writer, with no fault counted.
+    /// A sink over this writer, with a count of 0.
     pub fn new(writer: W) -> Self
         ensures written { ⟦<WriteSink<W> as Sink>⟧.written result ≡ W.contents writer }
         ensures faults { ⟦<WriteSink<W> as Sink>⟧.faults result ≡ 0 }
@@ -67,9 +67,8 @@ impl<W: Write> Sink for WriteSink<W> {
 
     ghost faults = { λ s. s.faults };
 
-    /// Calls `write` of the writer until the piece is written, and then `flush`. An `Err` of
-    /// either, and a `write` that takes no byte of a piece that isn't empty, counts one fault and
-    /// fails.
+    /// Calls `write` of the writer until the piece is out, and then `flush`. An `Err` of either,
+    /// and a `write` that takes none of a piece that isn't empty, counts one fault and fails.
     fn write(&mut self, piece: &[u8]) -> Result<(), Failed> {
         if put_all(&mut self.writer, piece) {
             return Ok(());
@@ -79,7 +78,7 @@ impl<W: Write> Sink for WriteSink<W> {
     }
 }
 
-// Writes the piece and flushes; false where either failed.
+// Writes the piece and flushes; whether both were done.
 fn put_all<W: Write>(writer: &mut W, piece: &[u8]) -> bool
     ensures bytes { MatchBool result
         (Appends (W.contents writer.old) (W.contents writer.new) piece.now)

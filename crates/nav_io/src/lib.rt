@@ -1,14 +1,15 @@
-//! Sources and sinks of bytes, from which a conversion reads and to which it writes; and the lines
-//! of a source.
+//! Sources and sinks of bytes: where a conversion reads, and where it writes; and the lines of a
+//! source.
 //!
-//! Code that converts is generic over [`Source`] and [`Sink`]. Their contracts say which bytes were
-//! read and written, where these are known, and count faults: a call fails only where its object's
-//! count of faults has risen. [`MemSource`] and [`MemSink`] work over memory, with chosen cuts and
-//! failing calls for tests. [`ReadSource`] and [`WriteSink`] work over a reader and a writer of the
-//! standard library.
+//! Code that converts is generic over [`Source`] and [`Sink`]. Their contracts say which bytes went
+//! through, where the source or the sink tells them, and count faults: a call fails only where its
+//! object's own count of faults has risen. [`MemSource`] and [`MemSink`] work over memory, with
+//! cuts and failing calls for tests. [`ReadSource`] and [`WriteSink`] stand over a reader and a
+//! writer of the standard library.
 //!
-//! [`Lines`] gives the lines of a source one by one, in a buffer of fixed size: the bytes between
-//! LFs, each without a CR at its end. Its contracts hold however the reads cut the bytes.
+//! [`Lines`] gives the lines of a source one by one, in a buffer of fixed size: what stands between
+//! the ends of lines (LF), without a CR before them. Its contracts hold however the reads cut the
+//! bytes.
 //!
 //! ```rust
 //! let mut source = ReadSource::new(rt.stdin());
@@ -47,25 +48,26 @@ pub use crate::lines::{LineFault, LineKind, Lines};
 pub use crate::memory::{MemSink, MemSource};
 pub use crate::pieces::{MOST_TAKEN, read_piece};
 
-/// A read or a write failed; the source or sink has counted a fault.
+/// A read or a write failed. The object's count of faults says so.
 #[derive(Clone, Copy, PartialEq, Eq)]
 pub struct Failed;
 
 /// Where bytes are read.
 pub trait Source {
-    // The bytes left to read, where they are known.
+    // The bytes that are left, where the source tells them.
     ghost left: { Self → Option (List ℕ) };
 
-    // The count of its faults, which never falls and saturates at 2^64 - 1.
+    // How often it has failed: a count that never falls, and stays at 2^64 - 1.
     ghost faults: { Self → ℕ };
 
     // Whether it is known that no read fails from here on.
     ghost never_fails: { Self → Bool };
 
-    /// Reads into the start of `into`, and gives the number of bytes read.
+    /// Reads into the front of `into`, and gives how many bytes.
     ///
-    /// 0 for a non-empty `into` is the end. A read fails only where the count of faults rose in
-    /// this call or is saturated; no byte is consumed then. `into` has at most 16,384 bytes.
+    /// No byte for an `into` that has room is the end. A read fails only where the count of faults
+    /// rose in this call, or stands at its last value; the bytes that are left stay. No more than
+    /// 16,384 bytes are asked for at once.
     fn read(&mut self, into: &mut [u8]) -> Result<usize, Failed>
         requires asks { length into.old ≤ 16384 }
         ensures bound { ReadsAtMost result into.new }
@@ -77,15 +79,15 @@ pub trait Source {
 
 /// Where bytes are written.
 pub trait Sink {
-    // The bytes written so far, where they are known.
+    // The bytes so far, where the sink tells them.
     ghost written: { Self → Option (List ℕ) };
 
-    // The count of its faults, which never falls and saturates at 2^64 - 1.
+    // How often it has failed: a count that never falls, and stays at 2^64 - 1.
     ghost faults: { Self → ℕ };
 
     /// Appends the piece whole, or fails and may have appended a prefix of it.
     ///
-    /// A write fails only where the count of faults rose in this call, or is saturated.
+    /// A write fails only where the count of faults rose in this call, or stands at its last value.
     fn write(&mut self, piece: &[u8]) -> Result<(), Failed>
         ensures bytes { MatchResult result
             (λ _. Appends (written self.old) (written self.new) piece.now)

@@ -1,4 +1,4 @@
-//! Splitting a source into lines.
+//! The lines of a source.
 
 ghost use Rattle.std.specs.Prelude.{◌≡◌, ◌+◌, ◌^◌, ◌<◌, ◌≤◌, [], ◌++◌, length, take};
 ghost use Rattle.std.specs.Prelude.{drop, false, IsTrue, IsOk, IsErrOf, IfOk, IfErr};
@@ -14,47 +14,47 @@ use arrayvec::ArrayVec;
 use memchr::memchr;
 use std::marker::Model;
 
-// The most bytes of a line that is not `Long`.
+// How many bytes a line has at most that is not long.
 const LONGEST: usize = 2200;
 
-// The most bytes kept of a line not yet ended: the longest line, a CR and one byte more, which
-// shows that it is long.
+// How many bytes of a line that has not ended are kept at most: the longest line, a CR and one byte
+// more, which tells that it is long.
 const KEPT: usize = 2202;
 
-// The most bytes held: those and one piece read.
+// How many bytes are held at most: those and a piece that is read.
 const HELD: usize = 6298;
 
-/// What `Lines::next` found.
+/// What `Lines::next` answers.
 #[derive(Clone, Copy, PartialEq, Eq)]
 pub enum LineKind {
     /// A line of at most 2,200 bytes.
     Text,
-    /// A line of more than 2,200 bytes.
+    /// A line of more bytes.
     Long,
     /// No line is left.
     End,
 }
 
-/// Why `Lines::next` failed.
+/// Why `Lines::next` gives no line.
 #[derive(Clone, Copy, PartialEq, Eq, Debug)]
 pub enum LineFault {
-    /// A read failed. No byte read so far is lost, and a further call continues.
+    /// A read failed. Nothing that was taken is lost, and a further call goes on.
     ReadFault = 1,
-    /// The source has more than 4,294,967,295 bytes. Each further call gives the same fault.
+    /// There are more than 4,294,967,295 bytes. Each further call answers the same.
     TooLong = 2,
 }
 
 /// Splits what a source gives into lines, in a buffer of fixed size.
 ///
-/// A contract sees `rest`, the bytes read and not yet returned; `ended`, whether a read gave no
-/// byte; `taken`, the count of bytes read; `number`, the count of lines so far; and `text`, the
-/// last line.
+/// A contract sees the bytes that were taken and not answered, `rest`; whether a read gave no byte,
+/// `ended`; how many bytes were `taken`; the `number` of lines so far; and the `text` of the last
+/// one.
 #[derive(Drop)]
 pub struct Lines {
     held: ArrayVec<u8, HELD>,
-    // the buffer of one read
+    // where a read puts its bytes
     piece: [u8; 4096],
-    // offset of the first byte not yet returned
+    // where the bytes begin that were not answered
     start: usize,
     text_start: usize,
     text_len: usize,
@@ -93,7 +93,7 @@ impl Lines {
     ghost use Rattle.nav_io.specs.Mirrors.{EndsAt, kind_of, PassesLine};
     ghost use Rattle.nav_io.specs.Mirrors.{GivesLast, KeepsOpen, Fills};
 
-    /// A line reader that has read nothing.
+    /// Lines of which none was read.
     pub fn new() -> Lines
         ensures rest { result.rest ≡ [] }
         ensures ended { result.ended ≡ false }
@@ -113,8 +113,8 @@ impl Lines {
         }
     }
 
-    /// The line that the last `next` found, of a `Long` one its first 2,200 bytes; empty where it
-    /// found none.
+    /// The line of the last `next`, of a `Long` one its first 2,200 bytes; nothing where it gave no
+    /// line.
     pub fn text(&self) -> &[u8]
         ensures { result.now ≡ self.now.text }
     {
@@ -131,18 +131,18 @@ impl Lines {
     /// The next line: its kind, after which `text` gives it.
     ///
     /// A line ends at LF, and one CR before it is dropped, also at the end of the last line, which
-    /// may lack its LF if it has a byte. Reads only while the bytes held have no LF, at most 4,096
-    /// bytes at a time, and never after a read that gave no byte.
+    /// needs no LF where it has a byte. Reads only while no line ends in the bytes that are held,
+    /// at most 4,096 bytes at a time, and never after a read that gave no byte.
     ///
-    /// `ReadFault`: a read failed, and the source's count of faults rose. `TooLong`: 4,294,967,295
-    /// bytes were read and one more was there.
+    /// `ReadFault`: a read failed, and the source's count of faults says so. `TooLong`:
+    /// 4,294,967,295 bytes were taken and one more was there.
     pub fn next<S: Source>(&mut self, source: &mut S) -> Result<LineKind, LineFault>
         ensures answer { IfOk result (λ kind.
             Answers kind (S.left source.old) (S.left source.new) self.old self.new) }
         ensures fault { IfErr result (λ fault.
             Breaks fault (S.left source.old) (S.left source.new) self.old self.new) }
 
-        // A read fails only where the source counts a fault.
+        // A read fails only by the source's own count.
         ensures read { IsErrOf result LineFault.ReadFault
             → Rose (S.faults source.old) (S.faults source.new) }
         ensures quiet { OnOk result (S.faults source.new ≡ S.faults source.old) }
@@ -151,7 +151,7 @@ impl Lines {
         ensures never { IsTrue (S.never_fails source.old)
             → (IsErrOf result LineFault.ReadFault → ⊥) × IsTrue (S.never_fails source.new) }
 
-        // Nothing is read while a complete line is held, nor after the end.
+        // Nothing is read where a line is held, nor after the end.
         ensures held { ends self.old.rest ≡ true → source.new ≡ source.old }
         ensures after_end { self.old.ended ≡ true → source.new ≡ source.old }
     {
@@ -172,14 +172,14 @@ impl Lines {
         Err(LineFault::TooLong)
     }
 
-    // The bytes read and not yet returned.
+    // The bytes that were taken and not answered.
     fn rest(&self) -> &[u8]
         ensures { result.now ≡ self.now.rest }
     {
         &self.held[self.start..]
     }
 
-    // The offset of the first LF of the rest, where none is before offset `looked`.
+    // The place of the first end of a line in the rest, where none stands before this place.
     fn end_behind(&self, looked: usize) -> Option<usize>
         requires looked { looked ≤ length self.now.rest }
         requires none { ends (take looked self.now.rest) ≡ false }
@@ -192,7 +192,7 @@ impl Lines {
         }
     }
 
-    // Returns the first `len` bytes of the rest as a line, and passes `passed` bytes.
+    // Gives the line of so many bytes in front of the rest, and passes so many.
     fn give(&mut self, len: usize, passed: usize) -> LineKind
         requires len { len ≤ passed }
         requires some { 0 < passed }
@@ -214,7 +214,7 @@ impl Lines {
         }
     }
 
-    // Returns all of the rest as the last line, or `End` where it is empty.
+    // Gives all of the rest as the last line, or the end where there is none.
     fn give_last(&mut self) -> LineKind
         requires low { self.old.taken < 2 ^ 32 }
         ensures { GivesLast result self.old self.new }
@@ -227,7 +227,7 @@ impl Lines {
         self.give(len, len)
     }
 
-    // Drops all but the first 2,202 bytes of the rest, and reads a piece after them. Gives how many
+    // Keeps what is kept of a line that has not ended, and reads a piece behind it. Gives how many
     // bytes were kept.
     fn fill<S: Source>(&mut self, source: &mut S) -> Result<usize, Failed>
         requires low { self.old.taken < 2 ^ 32 }
@@ -257,7 +257,7 @@ impl Lines {
     }
 }
 
-// The offset of the first LF.
+// The place of the first LF.
 fn first_end(bytes: &[u8]) -> Option<usize>
     ensures some { IfSome result (λ place. EndsAt bytes.now place) }
     ensures none { IfNone result (ends bytes.now ≡ false) }
@@ -265,7 +265,7 @@ fn first_end(bytes: &[u8]) -> Option<usize>
     memchr(b'\n', bytes)
 }
 
-// The length of the line without a CR at its end.
+// How many bytes the line has without the CR at its end.
 fn length_without_cr(line: &[u8]) -> usize
     ensures within { result ≤ length line.now }
     ensures value { take result line.now ≡ without_cr line.now }
@@ -277,7 +277,8 @@ fn length_without_cr(line: &[u8]) -> usize
     if line[last] == b'\r' { last } else { last + 1 }
 }
 
-// Drops the bytes before offset `start`, and keeps the first 2,202 of the others.
+// Passes the bytes before this place, and keeps of those behind it what is kept of a line that has
+// not ended.
 fn keep_open(held: &mut ArrayVec<u8, HELD>, start: usize)
     requires { start ≤ length held.old.items }
     ensures { held.new.items ≡ take 2202 (drop start held.old.items) }

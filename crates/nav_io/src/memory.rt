@@ -13,8 +13,7 @@ use crate::{Failed, Sink, Source};
 use std::alloc::{AllocError, Global};
 use std::marker::Model;
 
-/// A source over bytes in memory that gives them in pieces of chosen sizes and fails at chosen
-/// calls.
+/// A source over bytes in memory, which gives them in pieces, and fails at calls that are chosen.
 #[derive(Drop)]
 pub struct MemSource {
     bytes: Vec<u8>,
@@ -45,11 +44,11 @@ impl Model for MemSource {
 }
 
 impl MemSource {
-    /// A source over these bytes, with no fault counted.
+    /// A source over these bytes, with a count of 0.
     ///
-    /// The k-th call that succeeds gives at most `cuts[k]` bytes, where 0 counts as 1; past the end
-    /// of `cuts` there is no limit. The calls listed in `fails` fail, counted from 0 over all
-    /// calls.
+    /// The k-th call that succeeds gives at most `cuts[k]` bytes, where 0 counts as 1, and any
+    /// number past the end of `cuts`. The calls whose numbers stand in `fails`, counted from 0 over
+    /// all calls, fail.
     pub fn new(bytes: Vec<u8>, cuts: Vec<u32>, fails: Vec<u32>) -> MemSource
         ensures left { result.left ≡ bytes.items }
         ensures cuts { result.cuts ≡ cuts.items }
@@ -85,7 +84,7 @@ impl Source for MemSource {
 
     ghost never_fails = { λ s. length s.fails == 0 };
 
-    /// Gives the bytes left, up to the cut of this call.
+    /// Gives what is left, up to the cut of this call.
     fn read(&mut self, into: &mut [u8]) -> Result<usize, Failed>
         ensures bound { ReadsAtMost result into.new }
         ensures bytes { ReadConsumes (Some self.old.left) (Some self.new.left) result into.new }
@@ -116,7 +115,7 @@ impl Source for MemSource {
     }
 }
 
-/// A sink in memory with room for `room` bytes that fails at chosen calls.
+/// A sink in memory, with room for so many bytes, which fails at calls that are chosen.
 #[derive(Drop)]
 pub struct MemSink {
     bytes: Vec<u8>,
@@ -144,10 +143,10 @@ impl Model for MemSink {
 }
 
 impl MemSink {
-    /// An empty sink with no fault counted, for which `room` bytes are reserved.
+    /// An empty sink with a count of 0, for which `room` bytes are reserved.
     ///
-    /// A call listed in `fails`, counted from 0 over all calls, or whose piece exceeds the room
-    /// left, appends nothing and fails. `AllocError`: there is not enough memory for `room` bytes.
+    /// A call whose number stands in `fails`, counted from 0 over all calls, or whose piece doesn't
+    /// fit the room that is left, appends nothing and fails. The error is want of memory alone.
     pub fn new(alloc: Global, room: usize, fails: Vec<u32>) -> Result<MemSink, AllocError>
         ensures bytes { IfOk result (λ sink. sink.bytes ≡ []) }
         ensures room { IfOk result (λ sink. sink.room ≡ room) }
@@ -211,14 +210,14 @@ impl Sink for MemSink {
     }
 }
 
-// Whether the call of this number is one of those that fail.
+// Whether the call of this number is to fail.
 fn is_listed(fails: &[u32], call: u64) -> bool
     ensures { IsTrue result ↔ Contains fails.now call }
 {
     fails.iter().any(|number| u64::from(*number) == call)
 }
 
-// The most bytes that the next call gives, by the first of the cuts left.
+// How many bytes the next call gives at most, where these cuts are to come.
 fn next_cut(cuts: &[u32]) -> usize
     ensures cut { result ≡ cut_of cuts.now }
     ensures positive { 1 ≤ result }
@@ -229,7 +228,7 @@ fn next_cut(cuts: &[u32]) -> usize
     }
 }
 
-// Copies the first bytes left into `into`, at most `most`; gives how many.
+// Copies the first bytes that are left, at most so many.
 fn give(left: &[u8], most: usize, into: &mut [u8]) -> usize
     requires { 1 ≤ most }
     ensures left { result ≤ length left.now }

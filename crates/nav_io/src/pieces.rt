@@ -1,4 +1,4 @@
-//! Reads from a source with a limit on the total of bytes.
+//! Pieces of a source, of which a reader takes so many bytes at most.
 
 ghost use Rattle.std.specs.Prelude.{◌≡◌, ◌+◌, ◌^◌, ◌<◌, ◌≤◌, length, take};
 ghost use Rattle.std.specs.Prelude.{IsTrue, IsOk, IfOk, MatchResult};
@@ -7,20 +7,19 @@ ghost use Rattle.nav_io.specs.Causes.{HasCause};
 
 use crate::{Failed, Source};
 
-/// The most bytes that a reader accepts: 4,294,967,295.
+/// How many bytes a reader takes at most: 4,294,967,295.
 pub const MOST_TAKEN: u64 = 4_294_967_295;
 
-/// Reads a piece of a source of which `taken` bytes were read before, and gives its length in
-/// bytes.
+/// Reads a piece of a source of which so many bytes were taken, and tells how many bytes it has.
 ///
-/// The piece is written from the start of the slice. At most 4,294,967,296 bytes are read in all,
-/// one more than [`MOST_TAKEN`], so that an excess shows. 0 only where the source is at its end.
-/// The slice has room for 1 to 16,384 bytes.
+/// The piece fills the prefix of the slice. At most 4,294,967,296 bytes are taken in all: one more
+/// than [`MOST_TAKEN`], so that its presence shows. 0 only where the source is at its end. The slice
+/// has room for 1 to 16,384 bytes.
 ///
 /// # Errors
 ///
-/// `Failed` only where the source's count of faults rose in this call, or is saturated; nothing is
-/// read then.
+/// `Failed` only where the source's count of faults rose in this call, or stands at its last value;
+/// nothing is taken then.
 pub fn read_piece<S: Source>(source: &mut S, taken: u64, piece: &mut [u8]) -> Result<usize, Failed>
     requires low { taken < 2 ^ 32 }
     requires some { 0 < length piece.old }

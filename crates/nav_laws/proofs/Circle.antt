@@ -1,4 +1,4 @@
--- The round trip: the periods of a transmission, slot by slot, and the items of the whole ones.
+-- The periods of what is sent, slot after slot, and the items of the whole ones.
 use Rattle.std.proofs.Common.{◌≡◌, ℕ, ◌+◌, ◌<◌, ◌≤◌, ◌⊎◌, inl, inr, Bool, true, false, if◌then◌else◌, List, [], ◌∷◌, ◌++◌, Some, Contains, refl, sym, ap, subst, ◌∙◌, arith}
 use Rattle.nav_eph.specs.Values.{IsPartValue}
 use Rattle.nav_eph.specs.declared.part.Part.{Part}
@@ -54,7 +54,7 @@ ascending_with m (c ∷ cs) more a b low high =
       ascending_with m cs more a.1 b (λ d i. low d (inr i)) high,
     )
 
--- what is known of a slot that comes after old parts and before others
+-- all that is known where a slot comes behind old parts, and others behind it
 pub record Behind (r slot : ℕ) (old : List Part) (x : NavItem) (xs : List NavItem) (all : Part → Type 0) : Type 0 where
   pub own : IsSlot r (slot_stamp slot) x
   pub outer : Splits 7200 (slot_stamp slot) (Contains old) (Contains (slots_parts slot (x ∷ xs))) all
@@ -108,7 +108,7 @@ behind r slot old x xs all hx hxs outer =
       };
     }
 
--- the periods of the slot are periods, with the same verdicts
+-- the periods of the slot are periods, and come to the same
 slot_period : (r slot : ℕ) (old : List Part) (x : NavItem) (xs : List NavItem) (all : Part → Type 0) (q : Place) → Behind r slot old x xs all
     → IsPeriod 7200 (Contains (parts_at (slot_stamp slot) x)) q → IsPeriod 7200 all q
 slot_period r slot old x xs all q b h =
@@ -123,7 +123,7 @@ slot_found r slot old x xs all q item b h f =
     (found_right r 7200 (slot_stamp slot) (Contains old) (Contains (slots_parts slot (x ∷ xs))) all q b.outer inner).to (Complete item)
     ((found_left r 7200 (slot_stamp (slot + 1)) (Contains (parts_at (slot_stamp slot) x)) (Contains (slots_parts (slot + 1) xs)) (Contains (slots_parts slot (x ∷ xs))) q b.inner h).to (Complete item) f)
 
--- a period from the slot on is one of the slot, or of a later one
+-- a period from the slot on is one of the slot, or one behind it
 slot_or_later : (r slot : ℕ) (old : List Part) (x : NavItem) (xs : List NavItem) (all : Part → Type 0) (q : Place) → Behind r slot old x xs all
     → IsPeriod 7200 all q → slot_stamp slot ≤ q.end → IsPeriod 7200 (Contains (parts_at (slot_stamp slot) x)) q ⊎ (slot_stamp (slot + 1) ≤ q.end)
 slot_or_later r slot old x xs all q b h from = elim (period_cases 7200 (slot_stamp slot) (Contains old) (Contains (slots_parts slot (x ∷ xs))) all q b.outer h) [

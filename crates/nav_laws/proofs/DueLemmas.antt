@@ -1,4 +1,4 @@
--- A stamp two windows before the watermark is far from the ends of all periods to come.
+-- What was heard two windows before the watermark is far from all ends to come.
 use Rattle.std.proofs.Common.{ℕ, ◌+◌, ◌*◌, ◌<◌, inl, inr, Option, arith}
 use Rattle.std.proofs.lemmas.Bool.{cases_lt}
 use Rattle.nav_eph.specs.declared.part.Part.{Part}
@@ -7,7 +7,7 @@ use Rattle.periods.specs.Periods.{IsPeriod}
 use Rattle.slot_assembly.specs.Standing.{IsAfter, NoneDue}
 use Rattle.periods.proofs.Surface.{AreLater, IsPeriod-was}
 
--- a stamp two windows before the watermark is far from the end of each period to come
+-- what was heard two windows before the watermark is far from each end to come
 pub old_far : (w watermark : ℕ) (old new : Part → Type 0) (last : Option Place) (q : Place) (s : ℕ) → AreLater watermark old new → NoneDue w old watermark last → IsPeriod w new q → IsAfter last q
     → s + 2 * w < watermark → s + w < q.end
 old_far w watermark old new last q s l none hq after far = elim (cases_lt q.end watermark) [

@@ -1,4 +1,4 @@
--- From fewer accepted lines no more parts are received.
+-- Of accepted lines that are accepted among others too no more is heard than of these.
 use Rattle.std.proofs.Common.{ℕ, List, inl, inr}
 use Rattle.nav_eph.specs.declared.part.Part.{Part}
 use Rattle.inav_page.specs.Heard.{StampedHalf}

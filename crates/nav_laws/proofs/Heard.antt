@@ -1,4 +1,4 @@
--- The parts received from a list of subframes and pages that were transmitted in order.
+-- What is heard of a list of subframes and pages that were sent one after another.
 use Rattle.std.proofs.Common.{◌≡◌, ℕ, ◌+◌, ◌≤◌, ◌⊎◌, inl, inr, false, List, [], ◌∷◌, Contains, Some, nat_eq, refl, sym, ap, subst, ◌∙◌, arith, mod-eq_of_lt}
 use Rattle.arrayvec.specs.ArrayVec.{ArrayVec}
 use Rattle.nav_bits.specs.Bits.{number_at}
@@ -12,7 +12,7 @@ use Rattle.lnav_subframe.specs.Reading.{subframe_of}
 use Rattle.inav_page.specs.declared.half.HalfKind.TheVariants.{Even, Odd}
 use Rattle.nav_eph.specs.declared.signal.Signal.{Signal}
 use Rattle.nav_eph.specs.declared.signal.Signal.TheVariants.{E1b}
-use Rattle.inav_page.specs.Pages.{HasRightCrc, IsHalf, bytes_of_half, bits_at, even_of, kept_of, kind_of, odd_of, word_of}
+use Rattle.inav_page.specs.Pages.{HasRightCrc, IsHalf, bytes_of_half, digits_at, even_of, kept_of, kind_of, odd_of, word_of}
 use Rattle.inav_page.specs.Heard.{IsHeard, StampedHalf}
 use Rattle.inav_page.specs.Keeping.{stamped}
 use Rattle.inav_page.proofs.Surface.{not_both}
@@ -131,7 +131,7 @@ one_page b (x ∷ xs) g h o (inr i) (inl j) e =
     let l = page_later (x.stamp + 1) xs g o.1 i in let s = ap (λ (z : Page). z.stamp) j in absurd (omega (arith, l, s, e))
 one_page b (x ∷ xs) g h o (inr i) (inr j) e = one_page (x.stamp + 1) xs g h o.1 i j e
 
--- ---- page parts
+-- ---- halves
 
 -- what the laws of pages say
 pub record PageLaws : Type 0 where
@@ -140,16 +140,16 @@ pub record PageLaws : Type 0 where
   pub crc : (word : List ℕ) → HasRightCrc (even_of word) (odd_of word)
   pub word : (word : List ℕ) → AreBytes 16 word → word_of (even_of word) (odd_of word) ≡ word
   pub again : (half : ℕ) → IsHalf half → kept_of (number_at (bytes_of_half half) 0 120) ≡ half
-  pub bits : (bits : List ℕ) (at width rest : ℕ) → at + width + rest ≡ 120 → bits_at (number_at bits 0 120) at width ≡ number_at bits at width
+  pub bits : (bits : List ℕ) (at width rest : ℕ) → at + width + rest ≡ 120 → digits_at (number_at bits 0 120) at width ≡ number_at bits at width
 
 nominal : PageLaws → (half : ℕ) → IsHalf half → is_alert (bytes_of_half half) ≡ false
 nominal laws half h =
     let number : number_at (bytes_of_half half) 0 120 ≡ half = number_at-bytes_of 15 half ∙ mod-eq_of_lt h.fits in
     let bit : number_at (bytes_of_half half) 1 1 ≡ 0 =
-    sym (laws.bits (bytes_of_half half) 1 1 118 refl) ∙ ap (λ n. bits_at n 1 1) number ∙ h.nominal in
+    sym (laws.bits (bytes_of_half half) 1 1 118 refl) ∙ ap (λ n. digits_at n 1 1) number ∙ h.nominal in
     ap (λ n. nat_eq n 1) bit
 
--- the page parts of a page as they are received
+-- the halves of a page as they are received
 abbrev pub even_half : Page → StampedHalf
 even_half g = stamped g.stamp g.sat E1b (even_of g.word)
 
@@ -159,7 +159,7 @@ odd_half g = stamped (g.stamp + 1) g.sat E1b (odd_of g.word)
 half_received : PageLaws → (stamp : ℕ) (sat : Satellite) (half : ℕ) → IsHalf half → half_of stamp sat E1b (bytes_of_half half) ≡ stamped stamp sat E1b half
 half_received laws stamp sat half h = ap (λ n. stamped stamp sat E1b n) (laws.again half h)
 
--- a page part that is received is one of a page
+-- a half that is heard is one of a page
 one_half : (t u : ℕ) (sat other : Satellite) (s v : Signal) (bits more : List ℕ) → Half t sat s bits ≡ Half u other v more
     → half_of t sat s bits ≡ half_of u other v more
 one_half t u sat other s v bits more e = cc
@@ -203,7 +203,7 @@ half_is_heard laws w b t items sat half order is i =
 
 -- ---- words
 
--- a word that is received is that of a page
+-- a word that is heard is that of a page
 word_of_page : (w b : ℕ) (items : List LineItem) (subs : List Sub) (pages : List Page) (even odd : StampedHalf) → PageLaws → Sends items subs pages → PagesInOrder b pages
     → IsHeard (IsHalfHeard w items) even odd → (g : Page) × In pages g × (even ≡ even_half g) × (odd ≡ odd_half g)
 word_of_page w b items subs pages even odd laws sends order h =
@@ -258,7 +258,7 @@ no_frame_sub : (b : Sub) (u : ℕ) (bytes : ArrayVec ℕ) → sub_item b ≡ Fra
 unfolding subframe_item
 no_frame_sub b u bytes e = cc
 
--- what is received is what the subframes and the pages yield
+-- what is heard is what the subframes and the pages yield
 abbrev pub Yields : List Sub → List Page → Part → Type 0
 Yields subs pages p = ((b : Sub) × In subs b × SubGives b p) ⊎ ((g : Page) × In pages g × PageGives g p)
 

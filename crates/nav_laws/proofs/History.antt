@@ -1,4 +1,4 @@
--- What was transmitted before: where the complete periods of ephemerides lie, and which is the latest of a key.
+-- What was sent before: where the complete periods of ephemerides lie, and which is the latest of a key.
 use Rattle.std.proofs.Common.{◌≡◌, ℕ, ◌<◌, ◌≤◌, inl, inr, Bool, true, false, if◌then◌else◌, List, [], ◌∷◌, Option, None, Some, refl, sym, ap, subst, ◌∙◌, arith}
 use Rattle.std.proofs.lemmas.Bool.{both_ways, cases_lt}
 use Rattle.nav_eph.specs.Items.{is_alike}
@@ -28,7 +28,7 @@ pub record IsSentIn (r w : ℕ) (parts : Part → Type 0) (a b : ℕ) (x : NavIt
   pub only : (key : Key) (f : ℕ) (item : NavItem) → IsOfEphemeris key → IsComplete r w parts key f item → a ≤ f → f < b
       → (key_of_item x ≡ Some key) × (f ≡ end)
 
--- before the stamp b lie the complete periods of these items, the latest one first, and no others of ephemerides
+-- below the stamp b lie the complete periods of these items, the latest one first, and no others of ephemerides
 abbrev pub History : ℕ → ℕ → (Part → Type 0) → ℕ → List NavItem → Type 0
 History r w parts b [] = (key : Key) (f : ℕ) (item : NavItem) → IsOfEphemeris key → IsComplete r w parts key f item → f < b → ⊥
 History r w parts b (x ∷ xs) = (a : ℕ) × IsSentIn r w parts a b x × History r w parts a xs

@@ -10,4 +10,3 @@ pub mod Sendable
 pub mod Fewer
 mod DueLemmas
 mod PlainLemmas
-pub mod Surface

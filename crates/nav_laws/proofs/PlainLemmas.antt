@@ -1,4 +1,4 @@
--- The searches of the plain assembly give the first due period, and keep its state in step.
+-- The plain assembly's searches give what is due first, and it stands then for what it should.
 use Rattle.std.proofs.Common.{◌≡◌, ℕ, ◌+◌, ◌<◌, ◌≤◌, inl, inr, Bool, true, false, ◌&&◌, nat_lt, if◌then◌else◌, List, [], ◌∷◌, ◌++◌, Option, None, Some, Contains, All, min, refl, sym, ap, subst, ◌∙◌, arith, ltb-true, lt-ltb}
 use Rattle.std.proofs.lemmas.Bool.{and_parts, and_from, both_ways}
 use Rattle.std.proofs.lemmas.List.Elements.{All-contains, All-push, All-weaker}
@@ -22,7 +22,7 @@ use Rattle.periods.proofs.Surface.{place_at-is, is-place_at}
 use Rattle.periods.proofs.Surface.{with_part, later_part}
 use Rattle.slot_assembly.proofs.Surface.{after_trans, NoneDue-take, NoneDue-give}
 
--- the test that a place comes after the last one given
+-- behind the last one given, tested
 after_true : (last : Option Place) (q : Place) → is_after last q ≡ true → IsAfter last q
 after_true None q e = tt
 after_true (Some x) q e = is_below-true (place_numbers x) (place_numbers q) e
@@ -97,7 +97,7 @@ none_old s at watermark h l = λ q due.
     let p = due.period.heard in
     omega (arith, due.low, All-contains (λ x. s.least ≤ x.stamp) s.parts p.part h.least (h.keeps p.part p.here), p.at_stamp)
 
--- the same parts at another watermark, with another period given last, and another watermark at which no period was due
+-- the same parts at another watermark, with another period given last, and the watermark at which there was none to give
 stands_at : (s new : PlainState) (at : Standing) (watermark n : ℕ) (last : Option Place) → PlainStandsFor s at → NoneDue s.window (Contains at.parts) n last → n ≤ watermark → new.parts ≡ s.parts → new.window ≡ s.window → new.watermark ≡ watermark → new.last ≡ last
     → new.least ≡ s.least → new.none_at ≡ n → PlainStandsFor new (record { parts = at.parts; watermark = watermark; last = last })
 stands_at s new at watermark n last h none by ep ew em el et en = record {
@@ -111,7 +111,7 @@ stands_at s new at watermark n last h none by ep ew em el et en = record {
   none_by = subst (λ (m : ℕ). m ≤ watermark) (sym en) by;
 }
 
--- after `None`, found by searching all parts, it has the new watermark and remembers it
+-- after None, which all parts show, it stands for the watermark and notes it
 pub stands_searched : (s new : PlainState) (at : Standing) (watermark : ℕ) → PlainStandsFor s at → NoneDue s.window (Contains at.parts) watermark at.last → new.parts ≡ s.parts → new.window ≡ s.window → new.watermark ≡ watermark → new.last ≡ s.last → new.least ≡ s.least
     → new.none_at ≡ watermark → PlainStandsFor new (reaching watermark at)
 stands_searched s new at watermark h none ep ew em el et en = stands_at s new at watermark watermark at.last h none (omega arith) ep ew em (el ∙ h.at_last) et en
@@ -144,7 +144,7 @@ stands_taken s new at p h l v ep ew em el et en = record {
   none_by = subst (λ (n : ℕ). n ≤ at.watermark) (sym en) h.none_by;
 }
 
--- fewer places are left after one that was given
+-- fewer are left behind a place given
 count_less : (last : Option Place) (q : Place) (o : Option Place) (m n : ℕ) (t u : Bool) → m ≤ n → IsAfter last q → (z : Place) → o ≡ Some z → is_after (Some q) z ≡ t → is_after last z ≡ u
     → (if t then m + 1 else m) ≤ (if u then n + 1 else n)
 count_less last q o m n true true l after z e et eu = omega arith

@@ -1,4 +1,4 @@
--- What is transmitted in the slots, and that its parts are those of the slots.
+-- What is sent in the slots, and that its parts are those of the slots.
 use Rattle.std.proofs.Common.{◌≡◌, ℕ, ◌+◌, ◌-◌, ◌*◌, ◌^◌, ◌<◌, ◌≤◌, ◌⊎◌, ◌↔◌, inl, inr, Bool, true, false, nat_eq, if◌then◌else◌, List, [], ◌∷◌, ◌++◌, Contains, Ok, Some, length, refl, sym, ap, subst, ◌∙◌, arith, eqb-true}
 use Rattle.std.proofs.lemmas.Int.{ints}
 use Rattle.nav_bits.specs.Packed.{AreBytes}
@@ -380,7 +380,7 @@ page_yields_two g q t p fact = (
   ],
 )
 
--- the TOW count of subframe 1 gives its transmission time
+-- the count of subframe 1 says when it is sent
 start_is : (r : ℕ) (e : GpsEph) → IsSentGps r e → start_second (count_of e 1) ≡ gps_transmission e
 start_is r e h = by (nat_eq (count_of e 1) 0) refl
   where
@@ -521,7 +521,7 @@ page_in_slots laws r slot (x ∷ xs) g p h i gives =
       | inr j ↦ In-append_right (parts_at s x) (slots_parts (slot + 1) xs) p (page_in_slots laws r (slot + 1) xs g p h.2 j gives)
     ]
 
--- the parts received from a transmission are those of the slots
+-- what is heard of what is sent is the parts of the slots
 pub slots_are_heard : (laws : ReadLaws) (pages : PageLaws) (r w slot : ℕ) (xs : List NavItem) (p : Part) → InSlots r slot xs
     → IsPartHeard w (slots_items slot xs) p ↔ In (slots_parts slot xs) p
 slots_are_heard laws pages r w slot xs p h = (

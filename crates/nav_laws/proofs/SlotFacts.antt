@@ -1,4 +1,4 @@
--- What is known of the parts of one slot alone: their periods, and the verdicts of these.
+-- What is known of the parts of one slot by themselves: their periods, and what these come to.
 use Rattle.std.proofs.Common.{◌≡◌, ℕ, ◌+◌, ◌*◌, ◌%◌, ◌<◌, ◌≤◌, ◌⊎◌, inl, inr, pos, ◌-ℤ◌, Bool, if◌then◌else◌, List, [], ◌∷◌, Option, None, Some, Contains, refl, sym, ap, subst, ◌∙◌, arith}
 use Rattle.std.proofs.lemmas.Bool.{cases_lt}
 use Rattle.std.proofs.lemmas.Int.{ints}
@@ -43,7 +43,7 @@ irreflexive [] h = h
 irreflexive (x ∷ xs) (inl l) = omega arith
 irreflexive (x ∷ xs) (inr t) = irreflexive xs t.1
 
--- the GPS time with the second of week `toe` that is nearest to the transmission time
+-- the moment nearest to one of a week, with a second of the week
 near_is : (week sent toe : ℕ) → toe < 604800 → sent ≤ toe → toe < sent + 6 → moment_near (604800 * week + sent) toe ≡ 604800 * week + toe
 near_is week sent toe small low high =
     sym (moment_near-only (604800 * week + sent) toe (604800 * week + toe) (record { second_is = omega arith; from = omega arith; to = omega arith }))
@@ -58,11 +58,11 @@ sent_is week sent = let e : pos sent ≡ pos (604800 * week + sent) -ℤ pos (60
 
 -- ---- values
 
--- the part gives no other value
+-- the part says no other value
 abbrev Gives : (k : Kind) → Value k → Part → Type 0
 Gives k v p = (w : Value k) → reading k p ≡ Some w → w ≡ v
 
--- all parts of a list give one value
+-- all parts of a list say one value
 abbrev AllGive : (k : Kind) → Value k → List Part → Type 0
 AllGive k v [] = Unit {0}
 AllGive k v (p ∷ ps) = Gives k v p × AllGive k v ps
@@ -245,7 +245,7 @@ GalSet s e = Contains (galileo_parts s e)
 keys_differ : (e : GalEph) → gal_key e ≡ ion_key → ⊥
 keys_differ e is = cc
 
--- the parts received of a key
+-- what is heard of a key
 abbrev IsGalHeard : ℕ → GalEph → Key → ℕ → Type 0
 IsGalHeard s e key t = ((gal_key e ≡ key) × (s + 1 ≤ t) × (t ≤ s + 7)) ⊎ ((ion_key ≡ key) × (t ≡ s + 9))
 

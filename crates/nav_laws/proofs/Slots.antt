@@ -17,7 +17,7 @@ use Rattle.page_send.specs.SentItems.{as_sent, ionosphere_with}
 use Rattle.nav_laws.specs.SlotParts.{parts_at}
 use Rattle.nav_laws.proofs.SlotFacts.{IsSentGal, IsSentGps, gal_found, gal_key, gal_only_periods, gal_period, gps_found, gps_key, gps_only_period, gps_period, ion_found, ion_item, ion_key, ion_period}
 
--- the item may be transmitted, for the reference week r
+-- the item may be sent, near the week r
 abbrev pub IsSent : ℕ → NavItem → Type 0
 IsSent r (GpsItem e) = IsSentGps r e
 IsSent r (GalItem e) = IsSentGal r e
@@ -29,7 +29,7 @@ key_of_item (GpsItem e) = Some (gps_key e)
 key_of_item (GalItem e) = Some (gal_key e)
 key_of_item (IonItem e) = None
 
--- a period of the slot after that of the ephemeris: that of an ionosphere
+-- a period of the slot behind that of the ephemeris: that of an ionosphere
 pub record IsIonClosed (r : ℕ) (parts : Part → Type 0) (place : Place) (c : Closed) : Type 0 where
   pub item : NavItem
   pub period : IsPeriod 7200 parts (closed_place c)

@@ -1,4 +1,4 @@
--- The state of the plain assembly, and the parts and periods that it represents.
+-- What the plain assembly keeps, and what it stands for.
 use Rattle.std.specs.Prelude.{◌≡◌, ℕ, ◌+◌, ◌≤◌, Bool, true, ◌&&◌, nat_lt, if◌then◌else◌, List, [], ◌∷◌, Option, None, Some, All, Contains}
 use Rattle.nav_eph.specs.declared.part.Part.{Part}
 use Rattle.periods.specs.declared.key.Place.{Place}
@@ -8,9 +8,9 @@ use Rattle.periods.specs.PeriodsOf.{quiet, is_before, place_at}
 
 -- what contracts see of the plain assembly
 pub record PlainState : Type 0 where
-  -- the reference week
+  -- the reference week by which it listens
   pub reference : ℕ
-  -- the window in seconds: how long after a part another one of its key may belong to the same period
+  -- how long after a part another one of its key may belong to the same period
   pub window : ℕ
   -- the parts that it keeps
   pub parts : List Part
@@ -20,10 +20,10 @@ pub record PlainState : Type 0 where
   pub last : Option Place
   -- no part has an earlier stamp
   pub least : ℕ
-  -- the greatest watermark at which no period was due
+  -- at this watermark there was none to give
   pub none_at : ℕ
 
--- its parts, watermark and last period given are those of `at`; no part is earlier than `least`, and at `none_at` no period was
+-- it keeps the parts, the watermark and the last period given; no part is earlier than `least`, and at `none_at` no period was
 -- due
 pub record PlainStandsFor (assembly : PlainState) (at : Standing) : Type 0 where
   pub keeps : (p : Part) → Contains at.parts p → Contains assembly.parts p
@@ -35,25 +35,24 @@ pub record PlainStandsFor (assembly : PlainState) (at : Standing) : Type 0 where
   pub none_due : NoneDue assembly.window (Contains at.parts) assembly.none_at at.last
   pub none_by : assembly.none_at ≤ at.watermark
 
--- the place comes after the last one given
+-- the place is behind the last one given
 abbrev pub is_after : Option Place → Place → Bool
 is_after None q = true
 is_after (Some last) q = is_before last q
 
--- the place is due: closed at the watermark, after the last one given, and the end of a period
+-- the place is due: closed at the watermark, behind the last one given, and that of a period
 abbrev pub due : List Part → ℕ → ℕ → Option Place → Place → Bool
 due parts window watermark last q = nat_lt (q.end + window) watermark && (is_after last q && quiet parts window q.key q.end)
 
--- n + 1 where there is a place after the last one given, else n
+-- one more where the place is behind the last one given
 abbrev pub count_after : Option Place → Option Place → ℕ → ℕ
 count_after last None n = n
 count_after last (Some q) n = if is_after last q then n + 1 else n
 
--- the number of parts at places after the last one given
+-- how many parts are at places behind the last one given
 abbrev pub left_of : Option Place → List Part → ℕ
 left_of last [] = 0
 left_of last (p ∷ ps) = count_after last (place_at p) (left_of last ps)
 
--- the number of its parts at places after the last one given
 abbrev pub plain_left : PlainState → ℕ
 plain_left s = left_of s.last s.parts

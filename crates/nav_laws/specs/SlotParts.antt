@@ -1,4 +1,4 @@
--- The parts that are received from transmitted items, slot by slot.
+-- The parts that are heard of what is sent, slot by slot.
 use Rattle.std.specs.Prelude.{ℕ, ◌+◌, List, [], ◌∷◌, ◌++◌}
 use Rattle.nav_eph.specs.Satellite.{Satellite}
 use Rattle.nav_eph.specs.declared.tag.SentTag.TheVariants.{Sent}
@@ -11,17 +11,17 @@ use Rattle.nav_eph.specs.declared.items.NavItem.{NavItem}
 use Rattle.nav_eph.specs.declared.items.NavItem.TheVariants.{Gps, Gal, Ion}
 use Rattle.page_send.specs.Slots.{galileo_second, galileo_week_number, gps_transmission, gps_week_number, no_ionosphere, slot_stamp}
 
--- the part with this stamp, satellite and content
+-- a part
 abbrev pub part : ℕ → Satellite → Body → Part
 part stamp sat body = record { stamp = stamp; sat = sat; body = body }
 
--- the parts of a GPS ephemeris: subframe 1 with its transmission time, and 6 s and 12 s later subframes 2 and 3
+-- those of an ephemeris of GPS: its clock with the transmission time, and the two halves of its orbit
 abbrev pub gps_parts : ℕ → GpsEph → List Part
 gps_parts s e =
     part s e.sat (GpsClock e.clock e.side (Sent (gps_week_number e) (gps_transmission e)))
     ∷ part (s + 6) e.sat (GpsA e.a e.fit) ∷ part (s + 12) e.sat (GpsB e.b) ∷ []
 
--- the parts of a Galileo ephemeris: word types 1 to 4, its health with the transmission time, and an ionosphere of zeros
+-- those of an ephemeris of Galileo: its four words, its health with the transmission time, and an ionosphere of zeros
 abbrev pub galileo_parts : ℕ → GalEph → List Part
 galileo_parts s e =
     part (s + 1) e.sat (GalW1 e.w1) ∷ part (s + 3) e.sat (GalW2 e.w2)
@@ -29,13 +29,13 @@ galileo_parts s e =
     ∷ part (s + 9) e.sat (GalHealth e.health (Sent (galileo_week_number e) (galileo_second e)))
     ∷ part (s + 9) e.sat (GalIon no_ionosphere (galileo_week_number e) (galileo_second e)) ∷ []
 
--- the parts of an item that is transmitted from a stamp on
+-- those of what is sent from a stamp on
 abbrev pub parts_at : ℕ → NavItem → List Part
 parts_at s (Gps e) = gps_parts s e
 parts_at s (Gal e) = galileo_parts s e
 parts_at s (Ion e) = []
 
--- the parts of items that are transmitted in consecutive slots, the first in this one
+-- those of items that are sent one after another, the first in this slot
 abbrev pub slots_parts : ℕ → List NavItem → List Part
 slots_parts slot [] = []
 slots_parts slot (x ∷ xs) = parts_at (slot_stamp slot) x ++ slots_parts (slot + 1) xs

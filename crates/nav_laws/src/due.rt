@@ -8,7 +8,7 @@ ghost use Rattle.nav_laws.specs.Plain.{is_after, due};
 use nav_eph::Part;
 use periods::{Place, comes_before, is_quiet, place_of_part};
 
-// Whether the place comes after the last one given.
+// The place is behind the last one given.
 fn is_behind(last: &Option<Place>, place: &Place) -> bool
     ensures { result ≡ is_after last.now place.now }
 {
@@ -18,7 +18,7 @@ fn is_behind(last: &Option<Place>, place: &Place) -> bool
     }
 }
 
-// Whether no place was found yet, or this one comes before it.
+// No place was found yet, or this one comes before.
 fn is_sooner(best: &Option<Place>, place: &Place) -> bool
     ensures { result ≡ is_better is_before best.now place.now }
 {
@@ -28,7 +28,7 @@ fn is_sooner(best: &Option<Place>, place: &Place) -> bool
     }
 }
 
-// Whether the place is that of a period that is closed at the watermark and was not given.
+// The place is that of a period that is closed at the watermark and was not given.
 fn is_due(parts: &[Part], window: u32, watermark: u64, last: &Option<Place>, place: &Place) -> bool
     ensures { result ≡ due parts.now window watermark last.now place.now }
 {
@@ -36,7 +36,7 @@ fn is_due(parts: &[Part], window: u32, watermark: u64, last: &Option<Place>, pla
         && (is_behind(last, place) && is_quiet(parts, window, &place.key, place.end))
 }
 
-// The first due place so far, after one more place was looked at.
+// The first due place so far, and one more.
 fn place_with(
     best: Option<Place>,
     place: Option<Place>,

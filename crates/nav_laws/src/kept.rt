@@ -3,7 +3,7 @@ ghost use Rattle.std.specs.Prelude.{◌≡◌, ◌∷◌, ◌++◌, [], OnOk, On
 use nav_eph::{Body, Part, SentTag};
 use std::alloc::AllocError;
 
-// Keeps one more part.
+// Keeps a part more.
 pub(crate) fn keep(parts: &mut Vec<Part>, part: &Part) -> Result<(), AllocError>
     ensures ok { OnOk result (parts.new.items ≡ parts.old.items ++ part.now ∷ []) }
     ensures err { OnErr result (parts.new.items ≡ parts.old.items) }

@@ -1,4 +1,4 @@
-//! The laws: each is the contract of an empty function.
+//! The laws: each function does nothing, and its contract is the law.
 
 ghost use Rattle.std.specs.Prelude.{◌≡◌, ◌∷◌, ◌↔◌, ℕ, List, None, Some, All, Contains, codes};
 ghost use Rattle.std.specs.Prelude.{false};
@@ -16,14 +16,14 @@ ghost use Rattle.page_send.specs.SentItems.{sent_items};
 ghost use Rattle.nav_laws.specs.SentCapture.{IsOfLines, IsStillHeard, sent_capture};
 ghost use Rattle.nav_laws.specs.SlotParts.{slots_parts};
 
-/// The items of the periods of the parts of all slots are those that come back of a transmitted list.
+/// The items of the periods of the parts of all slots are those that come back.
 pub fn parts_of_slots_come_back()
     ensures { (r : ℕ) (items : List NavItem) → All IsItem items
         → items_in (periods_of r 7200 (slots_parts 0 (sendable r 0 items))) ≡ sent_items r items }
 {}
 
-/// The capture that transmits items begins with a head that names no week and a window of 7,200 s, its
-/// further lines are those of the slots, and exactly the parts of the slots are received from them.
+/// The text that is sent begins with a head that names no week and a window of 7,200 s, and behind
+/// it the lines stand for what is sent; of them exactly the parts of the slots are heard.
 pub fn what_is_sent_is_heard()
     ensures head { (r : ℕ) (items : List NavItem) → lines_by false (sent_text r items)
         ≡ record { text = plain_head; long = false } ∷ sent_capture r items }
@@ -51,14 +51,14 @@ pub fn what_is_sent_is_heard()
     capture_log::lines_yield_what_is_heard();
 }
 
-/// What is transmitted comes back. Take a capture with a window of 7,200 s from whose further lines
-/// the same parts are received as from the transmission of a list of items. Its items are each
-/// ephemeris that may be transmitted, with the transmission time of its slot, unless it repeats the
-/// last one of its key in every field but that time; after each of Galileo the ionosphere of its slot;
+/// What is sent comes back: of a capture with a window of 7,200 s, whose further lines hear the
+/// parts that are heard of what is sent of a list of items, the items are each ephemeris that may
+/// be sent, with the second at which its slot sends it, but for one that repeats the last of its
+/// key in every field but that second; behind each of Galileo the ionosphere that its slot bears;
 /// and no others.
 ///
-/// This holds for a capture whose lines with a stamp are lines of the transmission, late or not, as
-/// long as each part is still received; and for one that has the same lines in another order or
+/// So it is of a capture of which each line with a stamp is a line of what is sent, late or not,
+/// where each part is still heard; and of one that has the same lines in another order and
 /// repeated, where none is late.
 pub fn what_is_sent_comes_back()
     ensures itself { (r : ℕ) (items : List NavItem) → All IsItem items

@@ -11,12 +11,12 @@ use slot_assembly::Assembly;
 use std::alloc::{AllocError, Global};
 use std::marker::Model;
 
-/// An assembly that keeps every part, and searches them all for what is closed, as the definition
-/// says.
+/// An assembly that keeps every part, and searches them all for what is closed: the definition's
+/// own program.
 ///
-/// A contract sees the reference week `reference`, the `window` in seconds, the `parts` that it keeps,
-/// the greatest `watermark` given, the `last` period given, and the greatest watermark `none_at` at
-/// which no period was due.
+/// A contract sees the week `reference` near which it listens, the `window` in seconds, the `parts`
+/// that it keeps, the greatest `watermark` given, the `last` period given, and the greatest watermark
+/// `none_at` at which there was none to give.
 #[derive(Drop)]
 pub struct PlainAssembly {
     parts: Vec<Part>,
@@ -26,7 +26,7 @@ pub struct PlainAssembly {
     last: Option<Place>,
     // no kept part has an earlier stamp
     least: u32,
-    // the greatest watermark at which no period was due
+    // the greatest watermark at which there was none to give
     none_at: u64,
 }
 
@@ -50,7 +50,7 @@ impl PlainAssembly {
     ghost use Rattle.nav_laws.specs.Plain.{PlainStandsFor};
     ghost use Rattle.slot_assembly.specs.Standing.{nothing_yet};
 
-    /// An assembly without parts, for the reference week `r`, with a window of 60 to 14,400 seconds.
+    /// An assembly of no parts, near the week `r`, with a window of 60 to 14,400 seconds.
     pub fn new(alloc: Global, r: RefWeek, window: u32) -> PlainAssembly
         requires least { 60 ≤ window }
         requires most { window ≤ 14400 }
@@ -93,7 +93,7 @@ impl Assembly for PlainAssembly {
     }
 
     fn next_closed(&mut self, watermark: u64) -> Result<Option<Closed>, AllocError> {
-        // No period was due at this watermark, and parts added since do not end before it; or no kept part
+        // There was none at this watermark, and what came since does not end before it; or no kept part
         // is old enough.
         if watermark <= self.none_at || watermark <= self.least as u64 + self.window as u64 {
             self.watermark = watermark;

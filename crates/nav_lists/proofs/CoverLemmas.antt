@@ -1,4 +1,4 @@
--- The ranges that a set of items covers: existence and uniqueness of their list.
+-- The ranges that a set of items covers: that there is one list of them, and no other.
 use Rattle.std.proofs.Common.{◌≡◌, ℕ, ◌+◌, ◌-◌, ◌<◌, ◌≤◌, ◌==◌, Bool, true, false, cond, List, [], ◌∷◌, ◌⊎◌, ◌↔◌, inl, inr, zero, suc, Option, Some, None, Contains, refl, sym, ap, subst, ◌∙◌, arith}
 use Rattle.std.specs.List.{filter_map, fold}
 use Rattle.std.specs.List.Sorted.{IsStrictlySortedBy}
@@ -92,7 +92,7 @@ joined_of : (xs : List CoverRange) (sat : Satellite) (m : ℕ) → Rising xs →
 joined_of [] sat m r h = h
 joined_of (x ∷ xs) sat m r h = lies_from x xs sat m r.1 h
 
--- the spans of a set ascend
+-- what a set keeps rises
 rises_sorted : (x : CoverRange) (xs : List CoverRange) → IsStrictlySortedBy by_place (x ∷ xs) → AreFilled xs → Rises x xs
 unfolding IsStrictlySortedBy
 rises_sorted x [] s f = tt
@@ -151,7 +151,7 @@ more_covered xs r h f sat m = (to, from)
     from (inl k) = put (inl (joined_to xs sat m (lies (joined xs) sat m k)))
     from (inr k) = put (inr k)
 
--- inserting a span that is not empty keeps all spans not empty
+-- what is filled stays so
 pub filled_put : (xs : List CoverRange) (k : CoverRange) → AreFilled xs → k.from < k.to → AreFilled (insert_key by_place xs k)
 filled_put [] k f l = (l, tt)
 filled_put (x ∷ xs) k f l = at (filled_put xs k f.1 l) (by_place k x)
@@ -222,7 +222,7 @@ are_covers items = record {
     every : (sat : Satellite) (m : ℕ) → AreCovering (Contains items) sat m → IsIn (joined (spans_of items)) sat m
     every sat m h = is_in (joined (spans_of items)) sat m (joined_of (spans_of items) sat m (all_rising [] items tt) (all_from [] items sat m (inr (covered_of items h.0 sat m h.1 h.2))))
 
--- ---- uniqueness
+-- ---- there is no other
 
 -- the order of the list by recursion
 abbrev Order : List CoverRange → Type 0
@@ -243,7 +243,7 @@ precedes_through a b c (inl h) (inr k) = inl (subst (λ (s : Satellite). IsBefor
 precedes_through a b c (inr h) (inl k) = inl (subst (λ (s : Satellite). IsBefore s c.sat) (sym h.0) k)
 precedes_through a b c (inr h) (inr k) = inr (h.0 ∙ k.0, omega (arith, h.1, k.1))
 
--- at most one range with each start
+-- one range of each beginning
 one_beginning : (xs : List CoverRange) → Order xs → (a b : CoverRange) → In a xs → In b xs → a.sat ≡ b.sat → a.from ≡ b.from → a ≡ b
 one_beginning [] o a b h k e f = absurd h
 one_beginning (x ∷ xs) o a b (inl h) (inl k) e f = h ∙ sym k
@@ -251,7 +251,7 @@ one_beginning (x ∷ xs) o a b (inl h) (inr k) e f = absurd (precedes_not a b e 
 one_beginning (x ∷ xs) o a b (inr h) (inl k) e f = absurd (precedes_not b a (sym e) (sym f) (subst (λ (r : CoverRange). Precedes r a) (sym k) (o.0 a h)))
 one_beginning (x ∷ xs) o a b (inr h) (inr k) e f = one_beginning xs o.1 a b h k e f
 
--- a range of one list starts no earlier than the range of the other that contains its first second
+-- a range of one list begins no sooner than the range of the other in which its first second lies
 no_sooner : (covered : Satellite → ℕ → Type 0) (xs ys : List CoverRange) → AreCovers covered xs → AreCovers covered ys → (r s : CoverRange) → Contains xs r → Contains ys s → s.sat ≡ r.sat → s.from ≤ r.from → r.from < s.to → r.from ≤ s.from
 no_sooner covered xs ys h k r s i j e l u = at (cases s.from r.from)
   where
@@ -266,7 +266,7 @@ no_sooner covered xs ys h k r s i j e l u = at (cases s.from r.from)
         let within : r.from - 1 < m.0.to = m.2.2 in
         absurd (omega (arith, before, within))
 
--- and it ends no later
+-- nor does it end later
 no_later : (covered : Satellite → ℕ → Type 0) (xs ys : List CoverRange) → AreCovers covered xs → AreCovers covered ys → (r s : CoverRange) → Contains xs r → Contains ys s → s.sat ≡ r.sat → s.from ≡ r.from → r.to ≤ s.to
 no_later covered xs ys h k r s i j e f = at (cases s.to r.to)
   where
@@ -313,7 +313,7 @@ of_other covered xs ys h k r i =
     let same : s.0 ≡ r = λ n. record { sat = e n; from = f n; to = t n } in
     subst (λ (z : CoverRange). In z ys) same (in_list ys s.0 s.1)
 
--- sorted lists with the same ranges are equal
+-- lists of the same ranges in order are one
 itself_not : (a : CoverRange) → Precedes a a → ⊥
 itself_not a h = precedes_not a a refl refl h
 
@@ -350,7 +350,7 @@ covers_set some other s =
       every = λ sat m k. h.every sat m (k.0, (s k.0).1 k.1, k.2);
     })
 
--- ---- adding an item
+-- ---- an item taken in
 
 pub full_span : (item : NavItem) (r : CoverRange) → span_of item ≡ Some r → r.from < r.to
 full_span item r e = subst IsFull e (span_full item)

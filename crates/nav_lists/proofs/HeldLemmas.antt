@@ -1,4 +1,4 @@
--- The stored map of ranks as a list of items.
+-- The items that are kept by rank, as a list of items.
 use Rattle.std.proofs.Common.{◌≡◌, ℤ, Bool, true, false, cond, List, [], ◌∷◌, ◌++◌, ◌⊎◌, inl, inr, Option, Some, None, IfSome, map, refl, sym, ap, subst, ◌∙◌}
 use Rattle.std.specs.BTreeMap.{insert_entry, is_at}
 use Rattle.std.specs.List.{AllByRecursion}
@@ -32,7 +32,7 @@ place_resent (Gps e) s = refl
 place_resent (Gal e) s = refl
 place_resent (Ion e) s = refl
 
--- the rank does not depend on the transmission time
+-- the rank looks at nothing of the sending
 rank_resent : (x y : NavItem) (s : SentSecond) → by_rank x (resent y s) ≡ by_rank x y
 rank_resent x y s = ap (by_place_of x) (place_resent y s)
   where
@@ -125,7 +125,7 @@ known_stays x (e ∷ es) s n =
     at f g Equal t k = λ i. older x e.0.item e.1 (tied_alike x e.0.item t) k i ∷ held_items es
     at f g Greater t k = λ i. resent e.0.item e.1 ∷ f k i
 
--- items that leave the map as it is, and items that change it
+-- an item that yields no news, and one that yields some
 pub add_known : (v : List NavItem) (es : List Entry) (x : NavItem) → held_items es ≡ v → IsStrictlySortedBy by_key (keys_of es) → is_news (lookup (is_at (by_key (key_of x))) es) (sent_of x) ≡ false → v ≡ merged_of (v ++ x ∷ [])
 add_known v es x e s k = subst (λ w. w ≡ merged_of (w ++ x ∷ [])) e (sym (merged_pushed (held_items es) x (held_ascends es s) ∙ known_stays x es s k))
 

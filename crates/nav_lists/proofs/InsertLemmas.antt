@@ -1,4 +1,4 @@
--- Inserting an item into a list sorted by rank: the elements of the new list, and that it is sorted.
+-- One item more in a list that ascends in rank: what stands in the new list, and that it ascends.
 use Rattle.std.proofs.Common.{◌≡◌, ℕ, ◌<◌, Bool, true, false, cond, List, [], ◌∷◌, ◌++◌, length, inl, inr, ◌⊎◌, refl, sym, ap, subst, ◌∙◌, arith}
 use Rattle.std.specs.List.{AllByRecursion}
 use Rattle.std.specs.List.Sorted.{IsStrictlySortedBy}
@@ -11,12 +11,12 @@ use Rattle.nav_lists.specs.Merging.{by_rank, with_item, earlier_of, is_sooner}
 use Rattle.nav_eph.specs.Ranks.{sent_of}
 use Rattle.nav_lists.proofs.Orders.{order}
 
--- the item is in the list
+-- the item stands in the list
 abbrev pub In : NavItem → List NavItem → Type 0
 In m [] = ⊥
 In m (x ∷ xs) = (m ≡ x) ⊎ In m xs
 
--- each item is below those that follow it
+-- each below those behind it
 abbrev pub Ascends : List NavItem → Type 0
 Ascends [] = Unit {0}
 Ascends (x ∷ xs) = ((m : NavItem) → In m xs → by_rank x m ≡ Less) × Ascends xs
@@ -52,12 +52,12 @@ greater_not {P} o e f = absurd (no (sym e ∙ f))
     no : Greater ≡ Equal → ⊥
     no h = cc
 
--- the new item comes first
+-- where the new one comes first
 below_all : (x y : NavItem) (ys : List NavItem) → Ascends (y ∷ ys) → by_rank x y ≡ Less → (m : NavItem) → In m (y ∷ ys) → by_rank x m ≡ Less
 below_all x y ys s l m (inl e) = ap (by_rank x) e ∙ l
 below_all x y ys s l m (inr h) = order.trans x y m l (s.0 m h)
 
--- the items of the new list
+-- what an item of the new list is
 pub data Stood (x : NavItem) (held : List NavItem) (m : NavItem) : Type 0 where
   as_before : In m held → (by_rank x m ≡ Equal → ⊥) → Stood x held m
   chosen : (y : NavItem) → In y held → by_rank x y ≡ Equal → m ≡ earlier_of x y → Stood x held m
@@ -85,7 +85,7 @@ stood x (y ∷ ys) s m h = at (stood x ys s.1 m) (by_rank x y) refl h
     at f Greater e (inl i) = as_before (inl i) (λ t. greater_not (by_rank x y) e (ap (by_rank x) (sym i) ∙ t))
     at f Greater e (inr k) = one_behind x y ys m (λ t. greater_not (by_rank x y) e t) (f k)
 
--- each item of the old list is in the new one, or the earlier of two alike is
+-- each that was held is there, or the one of the two that was sent first
 pub still : (x : NavItem) (held : List NavItem) (y : NavItem) → In y held → In y (with_item held x) ⊎ ((by_rank x y ≡ Equal) × In (earlier_of x y) (with_item held x))
 still x [] y h = absurd h
 still x (z ∷ zs) y h = at (still x zs y) (by_rank x z) refl h
@@ -109,7 +109,7 @@ chosen_tied x y e = at (is_sooner (sent_of x) (sent_of y))
     at true = tied_itself order x
     at false = e
 
--- an item alike to the new one is in the new list
+-- one that is tied with the new one is there
 pub there : (x : NavItem) (held : List NavItem) → (m : NavItem) × In m (with_item held x) × (by_rank x m ≡ Equal)
 there x [] = (x, inl refl, tied_itself order x)
 there x (y ∷ ys) = at (there x ys) (by_rank x y) refl
@@ -137,7 +137,7 @@ ascends_more x (y ∷ ys) s = at (ascends_more x ys s.1) (by_rank x y) refl
     at f Equal e = (chosen_below x y ys s e, s.1)
     at f Greater e = (λ m h. above_new x y ys s (order.antisymm y x ∙ ap ordering_reverse e) m (stood x ys s.1 m h), f)
 
--- two sorted lists with the same items are equal
+-- two lists that ascend and have the same items are one
 first_is : (x y : NavItem) (xs ys : List NavItem) → Ascends (x ∷ xs) → Ascends (y ∷ ys) → In x (y ∷ ys) → In y (x ∷ xs) → x ≡ y
 first_is x y xs ys s t (inl e) k = e
 first_is x y xs ys s t (inr h) (inl e) = sym e
@@ -156,7 +156,7 @@ one_list (x ∷ xs) (y ∷ ys) s t f g =
     let k = one_list xs ys s.1 t.1 (λ m h. behind_same x y xs ys e s m h (f m (inr h))) (λ m h. behind_same y x ys xs (sym e) t m h (g m (inr h))) in
     λ i. e i ∷ k i
 
--- two items of a sorted list that compare equal are equal
+-- two of a list that ascends that are tied are one
 pub one_tied : (xs : List NavItem) → Ascends xs → (a b : NavItem) → In a xs → In b xs → by_rank a b ≡ Equal → a ≡ b
 one_tied [] s a b h k e = absurd h
 one_tied (x ∷ xs) s a b (inl i) (inl j) e = i ∙ sym j

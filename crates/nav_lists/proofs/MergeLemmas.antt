@@ -1,4 +1,4 @@
--- The merged list of a set of items: existence, uniqueness and laws.
+-- The merged list of a set of items: that there is one, that there is no other, and its laws.
 use Rattle.std.proofs.Common.{◌≡◌, ℕ, ◌<◌, ℤ, Bool, true, false, cond, int_lt, List, [], ◌∷◌, ◌++◌, length, ◌⊎◌, inl, inr, ◌↔◌, Contains, slice_index_or, suc, zero, refl, sym, ap, subst, ◌∙◌, arith, append_assoc, append-nil}
 use Rattle.std.specs.List.{fold}
 use Rattle.std.specs.declared.cmp.Ordering.{Ordering}
@@ -54,7 +54,7 @@ pub no_sooner_itself : (s : SentSecond) → is_sooner s s ≡ false
 no_sooner_itself Unknown = refl
 no_sooner_itself (At s) = not_less s s (λ e. equal_not (sym (tied_itself int_cmp_total s) ∙ e))
 
--- where b is earlier than c and a is not, a is not earlier than b
+-- what comes before one that does not come after a third does not come after it
 pub sooner_through : (a b c : SentSecond) → is_sooner b c ≡ true → is_sooner a c ≡ false → is_sooner a b ≡ false
 sooner_through Unknown b c h k = refl
 sooner_through (At s) Unknown c h k = true_not false h refl
@@ -81,7 +81,7 @@ same_second Unknown (At t) h k = true_not true refl k
 same_second (At s) Unknown h k = true_not true refl h
 same_second (At s) (At t) h k = ap At (exact_signed s t (λ i. cond (h i) Less (cond (k i) Greater Equal)))
 
--- ---- items by their fields and their transmission time
+-- ---- items by what is alike in them and the transmission time
 
 pub resent_own : (x : NavItem) → resent (unsent x) (sent_of x) ≡ x
 resent_own (Gps e) = refl
@@ -99,7 +99,7 @@ alike_same a b e h k =
 
 -- ---- one item more
 
--- a set with one more item
+-- a set with one more
 abbrev pub With : (NavItem → Type 0) → NavItem → NavItem → Type 0
 With items x i = items i ⊎ (i ≡ x)
 
@@ -206,7 +206,7 @@ is_merged items = all_more [] [] items (record {
   every = λ item h. absurd (in_list [] item h);
 })
 
--- ---- uniqueness
+-- ---- there is no other
 
 of_other : (items : NavItem → Type 0) (xs ys : List NavItem) → IsMerged items xs → IsMerged items ys → (m : NavItem) → In m xs → In m ys
 of_other items xs ys h k m i =
@@ -264,6 +264,6 @@ merged_again some more =
     ∙ ap (λ held. fold with_item held more) (merged_itself (merged_of some) (ascends (merged_of some) (is_merged some).ascending))
     ∙ sym (merged_behind some more)
 
--- the merged list of merged items and one more
+-- what is held and one more
 pub merged_pushed : (held : List NavItem) (x : NavItem) → Ascends held → merged_of (held ++ x ∷ []) ≡ with_item held x
 merged_pushed held x s = merged_behind held (x ∷ []) ∙ ap (λ l. with_item l x) (merged_itself held s)

@@ -1,4 +1,4 @@
--- The order of items by rank is total, and items that compare equal are alike.
+-- The order of items by rank is one, and what it does not tell apart is alike.
 use Rattle.std.proofs.Common.{◌≡◌, ℕ, ℤ, pos, Bool, true, false, List, [], ◌∷◌, ◌++◌, length, drop, suc, refl, sym, ap, subst, ◌∙◌, arith}
 use Rattle.std.specs.Cmp.{IsTotalOrder}
 use Rattle.std.specs.Cmp.Lexicographic.{slice_cmp}
@@ -17,7 +17,7 @@ use Rattle.nav_lists.specs.Merging.{place, by_rank, moment_of, class_of}
 pub order : IsTotalOrder by_rank
 order = on_total place (lists_total int_cmp_total)
 
--- comparison of lists that follow lists of the same length
+-- lists that are compared behind lists of the same length
 pub behind : (xs us ys vs : List ℤ) → length xs ≡ length us → slice_cmp int_cmp (xs ++ ys) (us ++ vs) ≡ ordering_then (slice_cmp int_cmp xs us) (slice_cmp int_cmp ys vs)
 behind [] [] ys vs e = refl
 behind [] (u ∷ us) ys vs e = let n : 0 ≡ suc (length us) = e in absurd (omega arith)
@@ -31,7 +31,7 @@ behind (x ∷ xs) (u ∷ us) ys vs e =
     then_then Equal b c = refl
     then_then Greater b c = refl
 
--- lists that compare equal are equal
+-- what is not told apart is equal
 first_tied : (a b : Ordering) → ordering_then a b ≡ Equal → (a ≡ Equal) × (b ≡ Equal)
 first_tied Less b e = absurd (no_less e)
   where
@@ -62,7 +62,7 @@ same_list (x ∷ xs) (y ∷ ys) e =
 pub tied_alike : (a b : NavItem) → by_rank a b ≡ Equal → IsAlike a b
 tied_alike a b e = (ranks_alike a b).0 (ap (drop 2) (same_list (place a) (place b) e))
 
--- the rank does not depend on the transmission time
+-- the place looks at nothing of the sending
 place_unsent : (x : NavItem) → place (unsent x) ≡ place x
 place_unsent (Gps e) = refl
 place_unsent (Gal e) = refl
@@ -74,6 +74,6 @@ alike_place a b e = sym (place_unsent a) ∙ ap place e ∙ place_unsent b
 pub alike_tied : (a b : NavItem) → IsAlike a b → by_rank a b ≡ Equal
 alike_tied a b e = ap (λ l. slice_cmp int_cmp l (place b)) (alike_place a b e) ∙ tied_itself order b
 
--- one comparison followed by another
+-- one comparison behind another
 pub joined : (xs us ys vs : List ℤ) (a b r : Ordering) → length xs ≡ length us → r ≡ ordering_then a b → a ≡ slice_cmp int_cmp xs us → b ≡ slice_cmp int_cmp ys vs → r ≡ slice_cmp int_cmp (xs ++ ys) (us ++ vs)
 joined xs us ys vs a b r n e f g = e ∙ (λ i. ordering_then (f i) (g i)) ∙ sym (behind xs us ys vs n)

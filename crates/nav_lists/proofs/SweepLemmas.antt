@@ -1,4 +1,4 @@
--- Sorted spans and the ranges that they are joined to.
+-- Spans in order and the ranges that they are joined to.
 use Rattle.std.proofs.Common.{◌≡◌, ℕ, ◌+◌, ◌-◌, ◌<◌, ◌≤◌, ◌==◌, ◌&&◌, Bool, true, false, cond, leb, max, List, [], ◌∷◌, ◌⊎◌, inl, inr, refl, sym, ap, subst, ◌∙◌, arith}
 use Rattle.std.specs.BTreeSet.{insert_key}
 use Rattle.std.specs.Ordering.{match_ordering, nat_cmp, ordering_reverse, ordering_then}
@@ -54,9 +54,9 @@ touch_false a b e h =
     let l : leb b.from a.to ≡ false = ap (λ x. x && leb b.from a.to) (sym k) ∙ h in
     grind (arith, nat_tests)
 
--- ---- the order of starts
+-- ---- the order of beginnings
 
--- the second range starts no earlier than the first, or is of a later satellite
+-- a range begins no sooner than another, or is of a later satellite
 abbrev pub Upto : CoverRange → CoverRange → Type 0
 Upto a b = IsBefore a.sat b.sat ⊎ ((a.sat ≡ b.sat) × (a.from ≤ b.from))
 
@@ -107,7 +107,7 @@ less_upto a b h = at (sats a.sat b.sat)
     )
     at (inr (inr k)) = greater_less (by_place a b) (later_greater a b k) h
 
--- spans that compare equal are equal
+-- what is not told apart is one
 tied_numbers : (p q n l f g t u : ℕ) → ordering_then (nat_cmp p q) (ordering_then (nat_cmp n l) (ordering_then (nat_cmp f g) (nat_cmp t u))) ≡ Equal → (p ≡ q) × (n ≡ l) × (f ≡ g) × (t ≡ u)
 tied_numbers p q n l f g t u h = (grind (arith, nat_tests), grind (arith, nat_tests), grind (arith, nat_tests), grind (arith, nat_tests))
 
@@ -119,7 +119,7 @@ one_range a b h =
 
 -- ---- spans in order
 
--- each span starts no earlier than the one before, and is not empty
+-- each begins no sooner than the one before, and has a second
 abbrev pub Rises : CoverRange → List CoverRange → Type 0
 Rises start [] = Unit {0}
 Rises start (x ∷ xs) = Upto start x × (x.from < x.to) × Rises x xs
@@ -190,7 +190,7 @@ lies_back (x ∷ xs) k sat m h = at (lies_back xs k sat m) (by_place k x) h
     at g Greater (inl i) = inl (inl i)
     at g Greater (inr i) = lift (g i)
 
--- joining spans keeps their seconds
+-- the same seconds where spans are joined
 drawn_to : (a b : CoverRange) (sat : Satellite) (m : ℕ) → a.sat ≡ b.sat → b.from ≤ a.to → InRange (drawn_out a b) sat m → InRange a sat m ⊎ InRange b sat m
 drawn_to a b sat m e t h = at (cases m a.to)
   where
@@ -239,7 +239,7 @@ abbrev pub In : CoverRange → List CoverRange → Type 0
 In m [] = ⊥
 In m (x ∷ xs) = (m ≡ x) ⊎ In m xs
 
--- one range ends before the other starts, or is of an earlier satellite
+-- one range ends before another begins, or is of a satellite before
 abbrev pub Ends : CoverRange → CoverRange → Type 0
 Ends a b = IsBefore a.sat b.sat ⊎ ((a.sat ≡ b.sat) × (a.to < b.from))
 

@@ -1,4 +1,4 @@
-//! The times that items cover, collected item by item.
+//! What items cover, while they come.
 
 ghost use Rattle.std.specs.Prelude.{◌≡◌, ◌↔◌, ◌⊎◌, ℕ, [], ◌∷◌, IfSome, IfNone, OnOk, OnErr};
 ghost use Rattle.nav_eph.specs.Satellite.{Satellite};
@@ -11,10 +11,10 @@ use std::alloc::{AllocError, Global};
 use std::collections::BTreeSet;
 use std::marker::Model;
 
-/// The ranges of time that the added items cover.
+/// The ranges that the items that were added cover.
 #[derive(Drop)]
 pub struct Cover {
-    // The range of each ephemeris, without duplicates; overlapping ranges are joined as they are taken.
+    // What each ephemeris covers, each time once; they are joined as they are taken.
     spans: BTreeSet<CoverRange>,
 }
 
@@ -31,7 +31,7 @@ impl Model for Cover {
 }
 
 impl Cover {
-    /// A cover without ranges.
+    /// Covers nothing.
     pub fn new(alloc: Global) -> Cover
         ensures { result ≡ [] }
     {
@@ -40,11 +40,11 @@ impl Cover {
         }
     }
 
-    /// Adds the range that an item covers; an ionosphere item covers none. Costs one search in an ordered set.
+    /// Adds what an item covers; the ionosphere covers nothing. It costs a search in an ordered set.
     ///
     /// # Errors
     ///
-    /// `AllocError` where memory runs out; the cover is then unchanged.
+    /// `AllocError` where no memory is to be had; then what was covered is covered.
     pub fn add(&mut self, item: &NavItem) -> Result<(), AllocError>
         ensures form { OnOk result (AreRanges self.new) }
         ensures covers { OnOk result ((sat : Satellite) (m : ℕ)
@@ -61,7 +61,7 @@ impl Cover {
         }
     }
 
-    /// Removes and returns the first range; `None` where there is none.
+    /// Takes the first range away; `None` where there is none.
     pub fn take_first(&mut self) -> Option<CoverRange>
         ensures first { IfSome result (λ range. self.old ≡ range ∷ self.new) }
         ensures none { IfNone result ((self.old ≡ []) × (self.new ≡ [])) }

@@ -4,7 +4,7 @@ ghost use Rattle.nav_eph.specs.declared.items.NavItem.{NavItem};
 ghost use Rattle.nav_lists.specs.Covering.{AreCovering, AreCovers, CoversSecond, IsIn, covers_of};
 ghost use Rattle.nav_lists.specs.declared.range.CoverRange.{CoverRange};
 
-/// `covers_of` is the only list of the ranges that the items cover, and it depends on the set of the
+/// `covers_of` is the one list of the ranges that some items cover, and it depends on the set of the
 /// items alone.
 pub fn covering()
     ensures are { (items : List NavItem) →
@@ -15,8 +15,8 @@ pub fn covering()
         ((i : NavItem) → Contains some i ↔ Contains other i) → covers_of some ≡ covers_of other }
 {}
 
-/// The ranges of a cover together with that of one more item form exactly one list of ranges: the
-/// contract of `Cover::add` determines its result.
+/// Some ranges, with what one item more covers, make one list of ranges: what the contract of
+/// `Cover::add` says of an answer determines it.
 pub fn one_cover()
     ensures { (old xs ys : List CoverRange) (item : NavItem) →
         AreCovers (λ sat m. IsIn old sat m ⊎ CoversSecond item sat m) xs →

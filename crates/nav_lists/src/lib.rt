@@ -1,16 +1,15 @@
-//! Lists of broadcast navigation data: the merge of several files' items, and the times they cover.
+//! Lists of broadcast navigation data: the items of several files merged, and the times they cover.
 //!
-//! Items are alike where they are equal in every field but the transmission time. The merged list
-//! ([`Merge`]) keeps of alike items the one sent first. It is sorted by time of ephemeris
-//! (IS-GPS-200, 20.3.3.4.3.1; Galileo OS SIS ICD, 5.1.1), or the ionosphere's transmission time,
-//! then by class, then by the remaining fields.
+//! The merged list ([`Merge`]) has, of all items that are alike (equal in every field but the transmission
+//! time), the one that was sent first, and is sorted by rank: the time of ephemeris
+//! (IS-GPS-200, 20.3.3.4.3.1; Galileo OS SIS ICD, 5.1.1) or of sending, the class, and the fields.
 //!
-//! An ephemeris covers the seconds around its toe: three hours before and after where the GPS fit
-//! interval flag is 1 (IS-GPS-200, 20.3.3.4.3.1), else two. [`Cover`] gives these times as ranges,
-//! ordered by satellite and start; ranges that overlap or touch are joined.
+//! An ephemeris covers the seconds around its toe: three hours before and behind it where the fit
+//! interval flag of GPS is 1 (IS-GPS-200, 20.3.3.4.3.1), two hours else. [`Cover`] gives what items
+//! cover as ranges, by satellite and beginning; those that overlap or touch are one.
 //!
-//! Both depend on the set of items alone, not on the order of the files nor on repetition:
-//! [`merging`] and [`covering`] state it.
+//! Both depend on the set of items alone, not on the order in which files come nor on whether one
+//! comes twice: [`merging`] and [`covering`] say so.
 //!
 //! ```rust
 //! use nav_lists::{Cover, Merge};

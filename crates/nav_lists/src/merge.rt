@@ -1,4 +1,4 @@
-//! The merged list of items, built item by item.
+//! Items that are merged while they come.
 
 ghost use Rattle.std.specs.Prelude.{◌≡◌, [], ◌∷◌, ◌++◌, IfSome, IfNone, OnOk, OnErr, length};
 ghost use Rattle.nav_lists.specs.Merging.{merged_of};
@@ -9,10 +9,10 @@ use std::alloc::{AllocError, Global};
 use std::collections::BTreeMap;
 use std::marker::Model;
 
-/// The merged list of the added items.
+/// The merged list of the items that were added.
 #[derive(Drop)]
 pub struct Merge {
-    // By rank, the first added of alike items, with the earliest transmission time of them.
+    // Of the items that are alike the first one that came, with the least transmission time.
     held: BTreeMap<Ranked, SentSecond>,
 }
 
@@ -27,7 +27,7 @@ impl Model for Merge {
 }
 
 impl Merge {
-    /// A list without items.
+    /// Holds nothing.
     pub fn new(alloc: Global) -> Merge
         ensures { result ≡ [] }
     {
@@ -36,12 +36,12 @@ impl Merge {
         }
     }
 
-    /// Adds an item at its place in the order of rank. Where the list has an item that is alike to it,
-    /// the one of the two that was sent first stays. Costs two searches in an ordered map.
+    /// Adds an item: it goes to its place in the order of rank, or, where one that is alike to it is
+    /// held, the one of the two that was sent first stays. It costs two searches in an ordered map.
     ///
     /// # Errors
     ///
-    /// `AllocError` where memory runs out; the list is then unchanged.
+    /// `AllocError` where no memory is to be had for the item; then what was held is held.
     pub fn add(&mut self, item: &NavItem) -> Result<(), AllocError>
         ensures ok { OnOk result (self.new ≡ merged_of (self.old ++ item.now ∷ [])) }
         ensures err { OnErr result (self.new ≡ self.old) }
@@ -57,14 +57,14 @@ impl Merge {
         Ok(())
     }
 
-    /// The number of items.
+    /// How many items are held.
     pub fn len(&self) -> usize
         ensures { result ≡ length self.now }
     {
         self.held.len()
     }
 
-    /// Removes and returns the first item of the list; `None` where the list is empty.
+    /// Takes the first item of the list away; `None` where none is held.
     pub fn take_first(&mut self) -> Option<NavItem>
         ensures first { IfSome result (λ item. self.old ≡ item ∷ self.new) }
         ensures none { IfNone result ((self.old ≡ []) × (self.new ≡ [])) }

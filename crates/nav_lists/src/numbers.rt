@@ -1,4 +1,4 @@
-//! The fields of items as arrays of numbers, in the order in which they are compared.
+//! The numbers of items, in the order of their fields.
 
 ghost use Rattle.std.specs.Prelude.{◌≡◌, pos, [], ◌∷◌};
 ghost use Rattle.nav_eph.specs.Ranks.{clock_rank, gal_ion_rank, gps_ion_rank, health_rank};

@@ -1,4 +1,4 @@
-//! Ranges of time, and the range that an item covers.
+//! Ranges of time, and those that items cover.
 
 ghost use Rattle.std.specs.Prelude.{◌≡◌, Some};
 ghost use Rattle.std.proofs.Common.{refl};
@@ -11,21 +11,21 @@ ghost use Rattle.nav_lists.specs.Ranges.{by_place, by_place_total, drawn_out, is
 use nav_eph::{NavItem, Sat, System};
 use std::cmp::Ordering;
 
-/// A range of seconds of one satellite, start included and end excluded, counted from 1980-01-06
+/// The seconds of a satellite from one moment up to before another, both counted from 1980-01-06
 /// 00:00:00 of GPS time.
 ///
-/// Ranges are ordered by system (GPS first), satellite number, start and end.
+/// Ranges are ordered by system (GPS first), number of the satellite, beginning and end.
 #[derive(Clone, Copy)]
 pub struct CoverRange {
     /// The satellite.
     pub sat: Sat,
     /// The first second.
     pub from: u64,
-    /// The second after the last.
+    /// The second behind the last.
     pub to: u64,
 }
 
-// The order of systems: GPS before Galileo.
+// The place of a system.
 fn place(system: System) -> u8
     ensures { result ≡ place_of system }
 {
@@ -47,21 +47,21 @@ fn compare(a: &CoverRange, b: &CoverRange) -> Ordering
     )
 }
 
-// Both ranges are of the same satellite.
+// Two ranges are of one satellite.
 fn are_of_one(a: &CoverRange, b: &CoverRange) -> bool
     ensures { result ≡ is_of_one a.now b.now }
 {
     place(a.sat.system()) == place(b.sat.system()) && a.sat.number() == b.sat.number()
 }
 
-// `b`, which starts no earlier than `a`, is of the same satellite and overlaps or touches it.
+// One that begins no sooner overlaps a range, or touches its end.
 pub(crate) fn is_touched(a: &CoverRange, b: &CoverRange) -> bool
     ensures { result ≡ touches a.now b.now }
 {
     are_of_one(a, b) && b.from <= a.to
 }
 
-// The range `a`, extended to the end of `b` where that is later.
+// A range, drawn out to the end of another.
 pub(crate) fn draw_out(a: CoverRange, b: CoverRange) -> CoverRange
     ensures { result ≡ drawn_out a b }
 {
@@ -72,7 +72,7 @@ pub(crate) fn draw_out(a: CoverRange, b: CoverRange) -> CoverRange
     }
 }
 
-// The range that an item covers; `None` for the ionosphere.
+// The times that an item covers.
 pub(crate) fn span(item: &NavItem) -> Option<CoverRange>
     ensures { result ≡ span_of item.now }
 {

@@ -1,4 +1,4 @@
-//! The order of items by rank.
+//! Items in the order of rank.
 
 ghost use Rattle.std.specs.Prelude.{◌≡◌, Some};
 ghost use Rattle.std.proofs.Common.{refl};
@@ -22,13 +22,13 @@ use crate::numbers::{
 use nav_eph::{GalEph, GpsEph, IonContent, IonEph, NavItem, SentSecond};
 use std::cmp::Ordering;
 
-// An item, compared by its rank.
+// An item that is compared by rank.
 #[derive(Clone, Copy)]
 pub(crate) struct Ranked {
     pub(crate) item: NavItem,
 }
 
-// The time of ephemeris or, for the ionosphere, the transmission time, as GPS time in seconds.
+// The moment of toe, or of sending.
 fn moment(item: &NavItem) -> u64
     ensures { result ≡ moment_of item.now }
 {
@@ -39,7 +39,7 @@ fn moment(item: &NavItem) -> u64
     }
 }
 
-// The class of an item: GPS ephemeris, Galileo ephemeris, GPS ionosphere, Galileo ionosphere.
+// The class of an item.
 fn class(item: &NavItem) -> u8
     ensures { result ≡ class_of item.now }
 {
@@ -53,7 +53,7 @@ fn class(item: &NavItem) -> u8
     }
 }
 
-// Compares GPS ephemerides by their fields, without the transmission time.
+// Compares ephemerides of GPS by their fields.
 fn compare_gps(a: &GpsEph, b: &GpsEph) -> Ordering
     ensures { result ≡ slice_cmp int_cmp (rank (GpsItem a.now)) (rank (GpsItem b.now)) }
 {
@@ -66,7 +66,7 @@ fn compare_gps(a: &GpsEph, b: &GpsEph) -> Ordering
         .then(orbit_b_numbers(&a.b).cmp(&orbit_b_numbers(&b.b)))
 }
 
-// Compares Galileo ephemerides by their fields, without the transmission time.
+// Compares ephemerides of Galileo by their fields.
 fn compare_gal(a: &GalEph, b: &GalEph) -> Ordering
     ensures { result ≡ slice_cmp int_cmp (rank (GalItem a.now)) (rank (GalItem b.now)) }
 {
@@ -80,7 +80,7 @@ fn compare_gal(a: &GalEph, b: &GalEph) -> Ordering
         .then(health_numbers(&a.health).cmp(&health_numbers(&b.health)))
 }
 
-// Compares the parameters of the ionosphere; GPS before Galileo.
+// Compares what is said of the ionosphere.
 fn compare_content(a: &IonContent, b: &IonContent) -> Ordering
     ensures { result ≡ slice_cmp int_cmp (content_rank a.now) (content_rank b.now) }
 {
@@ -102,7 +102,7 @@ fn compare_ion(a: &IonEph, b: &IonEph) -> Ordering
         .then(compare_content(&a.content, &b.content))
 }
 
-// Compares items by their fields, without the transmission time.
+// Compares items by their fields.
 fn compare_fields(a: &NavItem, b: &NavItem) -> Ordering
     ensures { result ≡ slice_cmp int_cmp (rank a.now) (rank b.now) }
 {
@@ -119,7 +119,7 @@ fn compare_fields(a: &NavItem, b: &NavItem) -> Ordering
     }
 }
 
-// Compares items by rank; fields are compared only where time and class are equal.
+// Compares items by rank; the fields are looked at only where moment and class are the same.
 fn compare(a: &NavItem, b: &NavItem) -> Ordering
     ensures { result ≡ by_rank a.now b.now }
 {
@@ -130,7 +130,7 @@ fn compare(a: &NavItem, b: &NavItem) -> Ordering
     }
 }
 
-// Transmission time `a` is earlier than `b`; an unknown one is the latest.
+// One transmission time comes before another; an unknown one is the last.
 fn is_sent_sooner(a: &SentSecond, b: &SentSecond) -> bool
     ensures { result ≡ is_sooner a.now b.now }
 {
@@ -141,7 +141,7 @@ fn is_sent_sooner(a: &SentSecond, b: &SentSecond) -> bool
     }
 }
 
-// No transmission time is known yet, or `sent` is earlier than the known one.
+// A transmission time is news: none is known, or it comes before the one that is.
 pub(crate) fn is_new(known: &Option<SentSecond>, sent: &SentSecond) -> bool
     ensures { result ≡ is_news known.now sent.now }
 {
@@ -151,7 +151,7 @@ pub(crate) fn is_new(known: &Option<SentSecond>, sent: &SentSecond) -> bool
     }
 }
 
-// The transmission time of an ephemeris; `Unknown` for an ionosphere, whose time is part of its rank.
+// When an item was sent.
 pub(crate) fn transmission(item: &NavItem) -> SentSecond
     ensures { result ≡ sent_of item.now }
 {
@@ -162,7 +162,7 @@ pub(crate) fn transmission(item: &NavItem) -> SentSecond
     }
 }
 
-// The item with its transmission time replaced; an ionosphere is unchanged.
+// The item, sent at another second.
 pub(crate) fn sent_at(item: &NavItem, sent: SentSecond) -> NavItem
     ensures { result ≡ resent item.now sent }
 {

@@ -1,4 +1,4 @@
-//! The first range joined from a sorted set of spans.
+//! The first range of some spans in order.
 
 ghost use Rattle.std.specs.Prelude.{◌≡◌, ◌<◌, [], ◌∷◌, IfSome, IfNone};
 ghost use Rattle.std.specs.BTreeSet.{btree_set_len};
@@ -7,7 +7,7 @@ ghost use Rattle.nav_lists.specs.Ranges.{AreFilled, drawn_out, joined, joined_fr
 use crate::range::{CoverRange, draw_out, is_touched};
 use std::collections::BTreeSet;
 
-// Removes and returns the next span where it overlaps or touches the range.
+// Takes the next span, where the range touches it.
 fn take_touched(spans: &mut BTreeSet<CoverRange>, range: &CoverRange) -> Option<CoverRange>
     ensures some { IfSome result (λ next. joined_from range.now spans.old.keys
         ≡ joined_from (drawn_out range.now next) spans.new.keys) }
@@ -24,7 +24,7 @@ fn take_touched(spans: &mut BTreeSet<CoverRange>, range: &CoverRange) -> Option<
     }
 }
 
-// Removes the spans that the first range is joined from, and returns that range.
+// Takes the spans that are joined in the first range, and gives that.
 pub(crate) fn take_range(spans: &mut BTreeSet<CoverRange>) -> Option<CoverRange>
     ensures some { IfSome result (λ range. joined spans.old.keys
         ≡ range ∷ joined spans.new.keys) }

@@ -1,4 +1,4 @@
--- The number of lines.
+-- How many lines there are.
 use Rattle.std.proofs.Common.{◌≡◌, ℕ, zero, suc, ◌+◌, ◌-◌, ◌*◌, ◌/◌, ◌%◌, Bool, true, false, nat_eq, if◌then◌else◌, List, [], ◌∷◌, length, take, drop, reverse, min, refl, ap, ◌∙◌, eqb-true, arith}
 use Rattle.std.proofs.lemmas.Bool.{eqb-false}
 use Rattle.std.proofs.lemmas.List.{length-append, length-reverse, length-take, length-drop}
@@ -29,7 +29,7 @@ count_at n stamp =
     length-append (if nat_eq (stamp % 6) 0 then subframes_at stamp n else []) (halves_at stamp n)
     ∙ omega (arith, count_some n stamp (nat_eq (stamp % 6) 0), count_halves stamp n)
 
--- one more stamp
+-- one stamp more
 step : (n stamp before at : ℕ) (b : Bool) → nat_eq (stamp % 6) 0 ≡ b → before ≡ n * ((stamp + 5) / 6) + 2 * (n * stamp) → at ≡ (if b then n else 0) + 2 * n
     → before + at ≡ n * ((suc stamp + 5) / 6) + 2 * (n * suc stamp)
 step n stamp before at true is e f =
@@ -60,7 +60,7 @@ count_reversed : (xs : List Sending) → length (reversed xs) ≡ length xs
 unfolding reversed
 count_reversed xs = count_blocks xs ((length xs + 15) / 16) ∙ omega arith
 
--- 600 subframes and 7,200 page parts of each satellite in the hour, and 5 and 60 in its first 30 seconds
+-- 600 subframes and 7,200 halves of each satellite in the hour, and 5 and 60 in its first 30 seconds
 pub count_lines : (n : ℕ) → length (lines_of n) ≡ 7865 * n
 unfolding lines_of
 count_lines n =

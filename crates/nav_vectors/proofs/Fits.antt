@@ -1,4 +1,4 @@
--- The drawn values are within the widths of their fields.
+-- The values that are drawn are within the digits of their fields.
 use Rattle.std.proofs.Common.{ℕ, ◌%◌, ◌^◌, ◌<◌, ◌≤◌, nat_eq, inl, lit<, arith}
 use Rattle.std.specs.Prelude.{◌/◌}
 use Rattle.std.proofs.lemmas.Bool.{cond_both}
@@ -23,7 +23,7 @@ draw_fits x k w most = draw-lt (state_after x k) w most
 signed_fits : (x k w : ℕ) → 1 ≤ w → w ≤ 64 → IsSigned w (draw_signed x k w)
 signed_fits x k w some most = signed_of-fits w (draw x k w) some (draw_fits x k w most)
 
--- the values of a satellite are within the widths of their fields
+-- what a satellite broadcasts is within its digits
 pub record AreGpsValues (v : GpsValues) : Type 0 where
   pub clock : IsGpsClock v.clock
   pub side : IsGpsSide v.side
@@ -164,7 +164,7 @@ pub gal_ion_of_fit : (seed n : ℕ) → IsGalIon (gal_ion_of seed n)
 unfolding gal_ion_of
 gal_ion_of_fit seed n = gal_ion_fit _
 
--- each subframe of the hour has its fields within their widths in bits
+-- each subframe of the hour has its fields within their digits
 pub subframe_fits : (v : GpsValues) (ion : GpsIon) (r k : ℕ) → AreGpsValues v → IsGpsIon ion → HasBits (subframe_of v ion r k)
 unfolding subframe_of
 subframe_fits v ion r k fits ion_fits =

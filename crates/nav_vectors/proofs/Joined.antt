@@ -1,4 +1,4 @@
--- The texts of lines, concatenated.
+-- The texts of lines, one list behind the other.
 use Rattle.std.proofs.Common.{◌≡◌, ℕ, ◌+◌, ◌<◌, List, [], ◌∷◌, ◌++◌, length, get_or, take, ap, refl, sym, ◌∙◌, subst, append_assoc}
 use Rattle.std.proofs.lemmas.List.{append-nil, take_more}
 use Rattle.nav_vectors.specs.declared.sending.Sending.{Sending}
@@ -16,7 +16,7 @@ lines-append seed n r (x ∷ xs) ys a b first second =
 pub grows_none : (seed n r : ℕ) (text : List ℕ) → GrowsByLines seed n r [] text text
 grows_none seed n r text = record { rest = []; lines = refl; text_is = sym (append-nil text) }
 
--- one more line
+-- one line more
 pub grows_more : (seed n r : ℕ) (xs : List Sending) (i : ℕ) (d : Sending) (old now line new : List ℕ) → i < length xs
     → GrowsByLines seed n r (take i xs) old now → IsLine seed n r (get_or xs i d) line → new ≡ now ++ line → GrowsByLines seed n r (take (i + 1) xs) old new
 grows_more seed n r xs i d old now line new inside before is added =

@@ -1,4 +1,4 @@
--- The orders of transmissions.
+-- The orders of what is sent.
 use Rattle.std.proofs.Common.{◌≡◌, ℕ, zero, suc, ◌+◌, ◌-◌, ◌*◌, ◌/◌, ◌<◌, ◌≤◌, true, false, List, [], ◌∷◌, ◌++◌, All, length, get_or, take, drop, reverse, nat_eq, min, if◌then◌else◌, ◌%◌, ap, sym, ◌∙◌, subst, arith}
 use Rattle.std.proofs.lemmas.List.{drop_more, reverse-append, length-reverse, length-drop, take_min, get_or-reverse}
 use Rattle.std.proofs.lemmas.List.Elements.{All-append, All-nil, All-push, All-take, All-drop}
@@ -9,7 +9,7 @@ use Rattle.nav_vectors.specs.Lines.{subframes_at, halves_at, sent_at, sent_befor
 use Rattle.nav_vectors.specs.Capture.{reversed_blocks, reversed, lines_of}
 use Rattle.nav_vectors.specs.Mirrors.{IsOf}
 
--- reversing the last elements, one more of them
+-- one more of the last elements, reversed
 pub reverse_more : (xs : List Sending) (i : ℕ) (d : Sending) → i < length xs
     → reverse (drop (length xs - i) xs) ++ get_or xs (length xs - 1 - i) d ∷ [] ≡ reverse (drop (length xs - (i + 1)) xs)
 reverse_more xs i d h =
@@ -58,7 +58,7 @@ blocks_of n xs (suc k) all =
     All-append (IsOf n) (reversed_blocks xs k) (reverse (take 16 (drop (16 * k) xs))) (blocks_of n xs k all)
     (All-reverse (IsOf n) (take 16 (drop (16 * k) xs)) (All-take (IsOf n) 16 (drop (16 * k) xs) (All-drop (IsOf n) (16 * k) xs all)))
 
--- each line is a transmission of a satellite within the hour
+-- each line says what a satellite sends within the hour
 pub lines_are_of : (n : ℕ) → All (IsOf n) (lines_of n)
 unfolding lines_of reversed
 lines_are_of n =
@@ -73,7 +73,7 @@ block_is xs k inside =
     let size : min (16 * k + 16) (length xs) - 16 * k ≡ min 16 (length (drop (16 * k) xs)) = omega arith in
     ap (λ n. take n (drop (16 * k) xs)) size ∙ take_min 16 (drop (16 * k) xs)
 
--- one more block
+-- one block more
 pub blocks_more : (xs : List Sending) (k : ℕ) → reversed_blocks xs (k + 1) ≡ reversed_blocks xs k ++ reverse (take 16 (drop (16 * k) xs))
 unfolding reversed_blocks
 blocks_more xs k = let e : k + 1 ≡ suc k = omega arith in ap (reversed_blocks xs) e

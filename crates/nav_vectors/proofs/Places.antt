@@ -1,4 +1,4 @@
--- The page at an index of the table, and the page of an hour.
+-- The page at a place of the table, and the page of an hour.
 use Rattle.std.proofs.Common.{◌≡◌, ℕ, zero, suc, ◌+◌, ◌-◌, ◌*◌, ◌/◌, ◌%◌, ◌<◌, ◌≤◌, min, List, subst, refl, arith}
 use Rattle.nav_eph.specs.declared.ion.GalIon.{GalIon}
 use Rattle.nav_vectors.specs.declared.values.GalValues.{GalValues}
@@ -6,7 +6,7 @@ use Rattle.nav_vectors.specs.declared.pages.Page.{Page}
 use Rattle.nav_vectors.specs.Lines.{ArePage, IsWordOf}
 use Rattle.nav_vectors.specs.Mirrors.{IsPageIn}
 
--- word types 1 to 4 do not depend on the time of transmission
+-- words 1 to 4 do not say when they are sent
 at_second : (v : GalValues) (ion : GalIon) (number wn s t m : ℕ) (word : List ℕ) → (m ≡ 4 → s ≡ t) → IsWordOf v ion number wn s m word → IsWordOf v ion number wn t m word
 at_second v ion number wn s t zero word same h = h
 at_second v ion number wn s t (suc zero) word same h = h
@@ -16,7 +16,7 @@ at_second v ion number wn s t (suc (suc (suc (suc zero)))) word same h =
     subst (λ x. IsWordOf v ion number wn x 4 word) (same refl) h
 at_second v ion number wn s t (suc (suc (suc (suc (suc m))))) word same h = h
 
--- the page in the table at the index of a satellite and a slot is the one of the hour
+-- the page in the table at the place of a satellite and a slot is the one of the hour
 pub page_of_hour : (v : ℕ → GalValues) (ion : GalIon) (r number slot j : ℕ) (page : Page) → 1 ≤ number → slot < 124 → min slot 4 ≡ j % 15
     → (j % 15 ≡ 4 → 30 * (slot - 4) + 8 ≡ 2 * j)
     → IsPageIn (v ((124 * (number - 1) + slot) / 124 + 1)) ion r (124 * (number - 1) + slot) page

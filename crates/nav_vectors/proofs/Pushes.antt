@@ -1,8 +1,8 @@
--- Appending an element to a list.
+-- One more element behind a list.
 use Rattle.std.proofs.Common.{◌≡◌, ℕ, ◌+◌, ◌<◌, List, [], ◌∷◌, ◌++◌, length, get_or, sym, subst, below_more, arith}
 use Rattle.std.proofs.lemmas.List.{get_or_append_left, get_or_push}
 
--- a property of each element with its index, kept when the new element has it
+-- what holds of each element with its index still does, and of the new one
 pub each_push : {X : Type 0} (P : ℕ → X → Type 0) (xs : List X) (x : X) (n : ℕ) → length xs ≡ n → ((i : ℕ) → i < n → (d : X) → P i (get_or xs i d)) → P n x
     → (i : ℕ) → i < n + 1 → (d : X) → P i (get_or (xs ++ x ∷ []) i d)
 each_push {X} P xs x n len before here =

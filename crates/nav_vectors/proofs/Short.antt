@@ -1,4 +1,4 @@
--- The lengths of lines, and of the text of a capture.
+-- How long lines are, and the text of a capture.
 use Rattle.std.proofs.Common.{◌≡◌, ℕ, ◌*◌, ◌%◌, ◌^◌, ◌<◌, ◌≤◌, nat_eq, Bool, true, false, cond, List, [], ◌∷◌, ◌++◌, length, ap, ◌∙◌, arith, length-append}
 use Rattle.std.proofs.lemmas.Fmt.{length-decimal-le}
 use Rattle.std.proofs.lemmas.List.Elements.{All-head, All-tail}
@@ -47,7 +47,7 @@ half_short stamp sat signal bits fits size =
       length-append (decimal stamp ++ tail) (10 ∷ []),
     )
 
--- the page part that is sent has 15 bytes
+-- the half that is sent has 15 bytes
 half_size : (b : Bool) (even odd : List ℕ) → length even ≡ 15 → length odd ≡ 15 → length (cond b even odd) ≡ 15
 half_size true even odd first second = first
 half_size false even odd first second = second

@@ -10,7 +10,7 @@ unfolding state_after
 state_after-add x a zero = let e : a ≡ a + 0 = omega arith in ap (state_after x) e
 state_after-add x a (suc b) = let e : suc (a + b) ≡ a + suc b = omega arith in ap next (state_after-add x a b) ∙ ap (state_after x) e
 
--- the high w bits of a state are a number of w bits
+-- the highest w bits of a state have w digits
 pub draw-lt : (x w : ℕ) → w ≤ 64 → next x / 2 ^ (64 - w) < 2 ^ w
 unfolding next
 draw-lt x w most =

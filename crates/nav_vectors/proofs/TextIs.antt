@@ -1,4 +1,4 @@
--- `capture_text` is the text of the capture, and there is no other.
+-- The function of the text gives the text of the capture, and there is no other.
 use Rattle.std.proofs.Common.{◌≡◌, ℕ, zero, suc, ◌+◌, ◌-◌, ◌*◌, ◌/◌, ◌%◌, ◌<◌, All, List, [], ◌∷◌, ◌++◌, nat_eq, if◌then◌else◌, codes, lit<, refl, sym, ap, ◌∙◌, subst, arith}
 use Rattle.std.proofs.lemmas.List.Elements.{All-head, All-tail}
 use Rattle.std.proofs.lemmas.Nat.{mod_below}
@@ -83,7 +83,7 @@ word_size v ion number wn second (suc (suc (suc zero))) = bytes4 v.w4 number
 word_size v ion number wn second (suc (suc (suc (suc zero)))) = bytes5 v.health ion wn second
 word_size v ion number wn second (suc (suc (suc (suc (suc m))))) = are_bytes 16 0
 
--- ---- page parts
+-- ---- halves
 
 week_low : (r : ℕ) → (r - 1024) % 4096 < 4096
 week_low r = mod_below (r - 1024) 4096 (lit< tt)
@@ -160,6 +160,6 @@ unfolding capture_text
 is_capture seed n r few =
     record { rest = text_of_lines seed n r (lines_of n); lines = are_lines seed n r (lines_of n) few (lines_are_of n); text_is = refl }
 
--- the capture is unique
+-- there is one capture
 pub one_capture_of : (seed n r : ℕ) (a b : List ℕ) → IsCapture seed n r a → IsCapture seed n r b → a ≡ b
 one_capture_of seed n r a b x y = text_is seed n r a x ∙ sym (text_is seed n r b y)

@@ -1,22 +1,23 @@
--- The generated capture: the lines of an hour in reversed blocks, then the first ones again.
+-- The generated capture: the lines of an hour in blocks that are reversed, and the first ones once more.
 use Rattle.std.specs.Prelude.{◌≡◌, ℕ, zero, suc, ◌+◌, ◌*◌, ◌/◌, List, [], ◌∷◌, ◌++◌, length, take, drop, reverse, codes}
 use Rattle.nav_vectors.specs.declared.sending.Sending.{Sending}
 use Rattle.nav_vectors.specs.Lines.{IsLine, sent_before}
 
--- the first k blocks of 16, each reversed; the last block of the list may be shorter
+-- the first k blocks of 16, each in the reversed order; the last block of the list is perhaps shorter
 unfoldable pub reversed_blocks : List Sending → ℕ → List Sending
 reversed_blocks xs zero = []
 reversed_blocks xs (suc k) = reversed_blocks xs k ++ reverse (take 16 (drop (16 * k) xs))
 
--- the whole list, its blocks reversed
+-- all of the list, its blocks reversed
 unfoldable pub reversed : List Sending → List Sending
 reversed xs = reversed_blocks xs ((length xs + 15) / 16)
 
--- the transmissions of the lines: those of an hour with their blocks reversed, then those before stamp 30 in order
+-- what the lines say, in their order: what is sent in an hour, its blocks reversed, and what is sent before stamp 30
+-- once more, in the order of sending
 unfoldable pub lines_of : ℕ → List Sending
 lines_of n = reversed (sent_before n 3600) ++ sent_before n 30
 
--- the text is the concatenated lines of the transmissions
+-- the text is that of these lines, concatenated
 abbrev pub AreLines : ℕ → ℕ → ℕ → List Sending → List ℕ → Type 0
 AreLines seed n r [] text = text ≡ []
 AreLines seed n r (x ∷ xs) text =

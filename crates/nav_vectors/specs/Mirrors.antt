@@ -1,4 +1,4 @@
--- The contents of the code's tables, which only private functions cite.
+-- What the tables of the code hold, which private functions say.
 use Rattle.std.specs.Prelude.{◌≡◌, ℕ, ◌+◌, ◌-◌, ◌*◌, ◌/◌, ◌%◌, ◌<◌, ◌≤◌, min, List, ◌++◌, length}
 use Rattle.std.specs.List.{HoldsAt}
 use Rattle.nav_eph.specs.declared.ion.GalIon.{GalIon}
@@ -11,13 +11,13 @@ use Rattle.nav_vectors.specs.Values.{gps_of, gal_of, gps_ion_of, gal_ion_of}
 use Rattle.nav_vectors.specs.Lines.{ArePage}
 use Rattle.nav_vectors.specs.Capture.{AreLines}
 
--- A satellite has 124 pages that are not empty: four of word types 1 to 4, and one of word type 5 in each 30 s. The table
--- has them by satellite; this is the page at an index.
+-- A satellite has 124 pages that are not empty: those of words 1 to 4, and one of word 5 for each round of 15 pages. They
+-- stand satellite after satellite; this is the page at a place.
 abbrev pub IsPageIn : GalValues → GalIon → ℕ → ℕ → Page → Type 0
 IsPageIn v ion r q page =
     ArePage v ion (q / 124 + 1) ((r - 1024) % 4096) (30 * (q % 124 - 4) + 8) (min (q % 124) 4) page.even page.odd
 
--- the page is that of a word with only 0 bits
+-- the page is that of a word whose bits are all 0
 abbrev pub IsEmptyPage : Page → Type 0
 IsEmptyPage page =
     (v : GalValues) (ion : GalIon) (number wn second m : ℕ) → 5 ≤ m → ArePage v ion number wn second m page.even page.odd
@@ -31,7 +31,7 @@ pub record AreTables (s : Senders) : Type 0 where
   pub pages : (q : ℕ) → q < 124 * s.sats → HoldsAt (IsPageIn (gal_of s.seed s.sats (q / 124 + 1)) (gal_ion_of s.seed s.sats) s.week q) s.pages.items q
   pub empty : IsEmptyPage s.empty
 
--- the transmission is within the hour, by one of the satellites 1 to n
+-- what is sent is sent within the hour, by one of the satellites 1 to n
 abbrev pub IsOf : ℕ → Sending → Type 0
 IsOf n (Subframe stamp number) = (stamp < 3600) × (1 ≤ number) × (number ≤ n)
 IsOf n (Half stamp number signal) = (stamp < 3600) × (1 ≤ number) × (number ≤ n)

@@ -1,4 +1,4 @@
--- The text of the generated capture as a function of the seed, the number of satellites and the week.
+-- The text of the generated capture, as a function of the seed, the number of satellites, the week.
 use Rattle.std.specs.Prelude.{ℕ, zero, suc, ◌+◌, ◌-◌, ◌*◌, ◌/◌, ◌%◌, nat_eq, if◌then◌else◌}
 use Rattle.std.specs.Prelude.{List, [], ◌∷◌, ◌++◌, replicate, codes}
 use Rattle.nav_eph.specs.declared.ion.GalIon.{GalIon}
@@ -14,15 +14,15 @@ use Rattle.nav_vectors.specs.Values.{gps_of, gal_of, gps_ion_of, gal_ion_of}
 use Rattle.nav_vectors.specs.Lines.{gps_sat, gal_sat, subframe_of}
 use Rattle.nav_vectors.specs.Capture.{lines_of}
 
--- the line of the subframe that a GPS satellite sends at a stamp
+-- the line of the subframe that a satellite of GPS sends at a stamp
 unfoldable pub subframe_line : ℕ → ℕ → ℕ → ℕ → ℕ → List ℕ
 subframe_line seed n r stamp number =
     lnav_text stamp (gps_sat number)
     (subframe_bytes (subframe_of (gps_of seed number) (gps_ion_of seed n) r (stamp / 6))
     (stamp / 6 + 1))
 
--- the word of a page, counted in its 30 s: word types 1 to 5, word type 5 with week number wn and TOW, then words
--- with only 0 bits
+-- the word of a page, counted in its round of 15: words 1 to 5, word 5 with the week wn and the second at
+-- which it is sent, and then words whose bits are all 0
 abbrev pub word_of_page : GalValues → GalIon → ℕ → ℕ → ℕ → ℕ → List ℕ
 word_of_page v ion number wn second zero = word1_bytes v.w1
 word_of_page v ion number wn second (suc zero) = word2_bytes v.w2
@@ -32,25 +32,25 @@ word_of_page v ion number wn second (suc (suc (suc (suc zero)))) =
     word5_bytes v.health ion wn second
 word_of_page v ion number wn second (suc (suc (suc (suc (suc m))))) = replicate 16 0
 
--- the word of the page that a Galileo satellite sends at a stamp
+-- the word of the page that a satellite of Galileo sends at a stamp
 abbrev pub word_at : ℕ → ℕ → ℕ → ℕ → ℕ → List ℕ
 word_at seed n r stamp number =
     word_of_page (gal_of seed n number) (gal_ion_of seed n) number ((r - 1024) % 4096)
     (2 * (stamp / 2)) (stamp / 2 % 15)
 
--- the line of a part of that page: the even part in the first of its two seconds
+-- the line of the half of that page, the even one in the first of its two seconds
 unfoldable pub page_line : ℕ → ℕ → ℕ → ℕ → ℕ → Signal → List ℕ
 page_line seed n r stamp number signal =
     half_text stamp (gal_sat number) signal
     (if nat_eq (stamp % 2) 0 then bytes_of_half (even_of (word_at seed n r stamp number))
     else bytes_of_half (odd_of (word_at seed n r stamp number)))
 
--- the line of a transmission
+-- the line of what is sent
 abbrev pub line_of : ℕ → ℕ → ℕ → Sending → List ℕ
 line_of seed n r (Subframe stamp number) = subframe_line seed n r stamp number
 line_of seed n r (Half stamp number signal) = page_line seed n r stamp number signal
 
--- the concatenated lines of the transmissions
+-- the lines of what is sent, concatenated
 abbrev pub text_of_lines : ℕ → ℕ → ℕ → List Sending → List ℕ
 text_of_lines seed n r [] = []
 text_of_lines seed n r (x ∷ xs) = line_of seed n r x ++ text_of_lines seed n r xs

@@ -1,5 +1,5 @@
--- The broadcast values, drawn field by field. The numbers after `draw x` are the index of the draw and the width of the
--- field in bits, that of RTCM 10403.3, messages 1019 and 1046.
+-- What the satellites broadcast, drawn field by field. The numbers behind `draw x` are the place of the draw and the
+-- width of the field; the widths are those of the fields in RTCM 10403.3, messages 1019 and 1046.
 use Rattle.std.specs.Prelude.{ℕ, ◌+◌, ◌-◌, ◌*◌, ◌%◌}
 use Rattle.nav_eph.specs.declared.ion.GpsIon.{GpsIon}
 use Rattle.nav_eph.specs.declared.ion.GalIon.{GalIon}
@@ -7,9 +7,9 @@ use Rattle.nav_vectors.specs.declared.values.GpsValues.{GpsValues}
 use Rattle.nav_vectors.specs.declared.values.GalValues.{GalValues}
 use Rattle.nav_vectors.specs.Draws.{draw, draw_signed, state_after}
 
--- a GPS satellite, 24 draws: URA, code on L2, IDOT, af2, af1, af0, IODC, Crs, delta n, M0, Cuc, e, Cus, root A, Cic,
--- Omega0, Cis, i0, Crc, omega, Omega dot, TGD, L2 P flag, fit flag. IODE is the low eight bits of IODC; toc and toe are
--- 7,200 s; the satellite is healthy.
+-- a satellite of GPS, 24 draws: URA, code on L2, IDOT, af2, af1, af0, IODC, Crs, delta n, M0, Cuc, e, Cus, root A, Cic,
+-- Omega0, Cis, i0, Crc, omega, Omega dot, TGD, L2 P flag, fit flag. IODE is the low eight bits of IODC, toc and toe are
+-- 7,200 s, and the satellite is healthy.
 unfoldable pub gps_values : ℕ → GpsValues
 gps_values x = record {
   clock = record {
@@ -46,7 +46,7 @@ gps_values x = record {
   };
 }
 
--- a Galileo satellite, 21 draws: IODnav, IDOT, af2, af1, af0, Crs, delta n, M0, Cuc, e, Cus, root A, Cic, Omega0, Cis,
+-- a satellite of Galileo, 21 draws: IODnav, IDOT, af2, af1, af0, Crs, delta n, M0, Cuc, e, Cus, root A, Cic, Omega0, Cis,
 -- i0, Crc, omega, Omega dot, BGD E1-E5a, BGD E1-E5b. toc and toe are 7,200 s, SISA is 107, and the satellite is healthy.
 unfoldable pub gal_values : ℕ → GalValues
 gal_values x = record {
@@ -104,20 +104,19 @@ gps_ion x = record {
 unfoldable pub gal_ion : ℕ → GalIon
 gal_ion x = record { ai0 = draw x 0 11; ai1 = draw_signed x 1 11; ai2 = draw_signed x 2 14; regions = draw x 3 5 }
 
--- With n satellites of each system the draws from the seed are, in this order, those of the GPS satellites, the Galileo
--- satellites, the ionosphere of GPS and that of Galileo.
--- The values of the GPS satellite with a number.
+-- With n satellites of each system the draws from the seed on are, in this order, those of the satellites of GPS, those of
+-- the satellites of Galileo, of the ionosphere of GPS and of that of Galileo. So this is what the satellite of GPS with a
+-- number broadcasts,
 unfoldable pub gps_of : ℕ → ℕ → GpsValues
 gps_of seed number = gps_values (state_after seed (24 * (number - 1)))
 
--- the values of the Galileo satellite with a number
+-- the satellite of Galileo with a number,
 unfoldable pub gal_of : ℕ → ℕ → ℕ → GalValues
 gal_of seed n number = gal_values (state_after seed (24 * n + 21 * (number - 1)))
 
--- the ionosphere that every GPS satellite sends
+-- and every satellite of either system of the ionosphere
 unfoldable pub gps_ion_of : ℕ → ℕ → GpsIon
 gps_ion_of seed n = gps_ion (state_after seed (24 * n + 21 * n))
 
--- the ionosphere that every Galileo satellite sends
 unfoldable pub gal_ion_of : ℕ → ℕ → GalIon
 gal_ion_of seed n = gal_ion (state_after seed (24 * n + 21 * n + 8))

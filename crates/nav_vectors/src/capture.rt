@@ -8,19 +8,19 @@ use crate::sending::order_of_lines;
 use gnss_week::RefWeek;
 use std::alloc::{AllocError, Global};
 
-// The greatest number of bytes of the lines of one GPS and one Galileo satellite: 605 lines of 88
-// bytes and 7,260 of 44.
+// The most bytes that the lines of a satellite of GPS and one of Galileo take: 605 of 88 bytes and
+// 7,260 of 44.
 const ROOM: usize = 605 * 88 + 7260 * 44;
 
-/// Generates a capture of one hour in the week `r`: the subframes of GPS satellites 1 to `sats` and the
-/// page parts of Galileo satellites 1 to `sats` on E1-B and E5b, with values drawn from the seed.
+/// A capture of an hour in the week `r`: the subframes of the satellites 1 to `sats` of GPS and the
+/// page halves of those of Galileo on both their signals, whose values are drawn from the seed.
 ///
-/// It has `NAVCAP 1` and then `7,865 sats` lines, about 370,000 bytes for each of `sats`. Each
-/// satellite sends one ephemeris of one issue, and all those of a system the same ionosphere. The lines
-/// come in blocks of 16, each in reversed order of time; at the end those of the first 30 seconds are
-/// repeated in order.
+/// It begins with `NAVCAP 1`, has `7,865 sats` lines behind that, and about 370,000 bytes for each
+/// of `sats`. Each satellite sends one ephemeris, issued once, and all those of a system the same
+/// ionosphere. The lines come in blocks of 16, each in the reversed order of time, and at the end
+/// those of the first 30 seconds come once more, in order.
 ///
-/// `AllocError` where memory runs out.
+/// The error is want of memory.
 pub fn make_capture(alloc: Global, seed: u32, sats: u8, r: RefWeek) -> Result<Vec<u8>, AllocError>
     requires low { 1 ≤ sats }
     requires high { sats ≤ 32 }

@@ -6,12 +6,12 @@ ghost use Rattle.nav_vectors.specs.Draws.{next};
 
 use nav_bits::{S, U};
 
-// The multiplier and increment of the generator (Knuth's MMIX).
+// The numbers of the generator (Knuth's, of MMIX).
 const FACTOR: u64 = 6_364_136_223_846_793_005;
 
 const ADDEND: u64 = 1_442_695_040_888_963_407;
 
-// The next state.
+// The state behind this one.
 #[tactic(auto, unfolding(crate::specs::Draws::next))]
 fn next_state(state: u64) -> u64
     ensures { result ≡ next state }
@@ -19,7 +19,7 @@ fn next_state(state: u64) -> u64
     state.wrapping_mul(FACTOR).wrapping_add(ADDEND)
 }
 
-// Draws an unsigned number of `W` bits.
+// Draws `W` bits.
 pub(crate) fn draw<const W: u32>(state: &mut u64) -> U<W>
     requires some { 1 ≤ W }
     requires most { W ≤ 64 }
@@ -30,7 +30,7 @@ pub(crate) fn draw<const W: u32>(state: &mut u64) -> U<W>
     U::from_bits(*state >> (64 - W))
 }
 
-// Draws a number of `W` bits in two's complement.
+// Draws `W` bits in two's complement.
 pub(crate) fn draw_signed<const W: u32>(state: &mut u64) -> S<W>
     requires some { 1 ≤ W }
     requires most { W ≤ 64 }

@@ -1,10 +1,10 @@
-//! Generated captures of broadcast messages: input for tests and measurements of which every byte is
-//! known.
+//! Captures of broadcast messages that are generated: loads for tests and measurements, whose every
+//! byte is known.
 //!
-//! [`make_capture`] gives what a logger could have received in one hour: a subframe of each GPS
-//! satellite every 6 seconds (IS-GPS-200, 20.3), and a page part of each Galileo satellite every second
-//! on E1-B and on E5b (Galileo OS SIS ICD, 4.3). The broadcast values are drawn from a seed, so three
-//! small numbers determine a capture.
+//! [`make_capture`] gives what a logger could have heard in one hour: every 6 seconds a subframe of
+//! each satellite of GPS (IS-GPS-200, 20.3), every second half a page of each satellite of Galileo
+//! on E1-B and on E5b (Galileo OS SIS ICD, 4.3). What the satellites broadcast is drawn from a
+//! seed, so that a capture is named by three small numbers.
 //!
 //! ```rust
 //! use gnss_week::RefWeek;

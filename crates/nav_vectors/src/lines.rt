@@ -19,7 +19,7 @@ use nav_bits::U;
 use nav_eph::{GpsIon, Sat, Signal, System};
 use std::alloc::AllocError;
 
-// The GPS satellite with that number.
+// The satellite of GPS with that number.
 fn gps_sat(number: u8) -> Sat
     requires low { 1 ≤ number }
     requires high { number ≤ 32 }
@@ -31,7 +31,7 @@ fn gps_sat(number: u8) -> Sat
     sat
 }
 
-// Page 1 of subframe 4 or 5, which is not used.
+// A page that is not used.
 fn unused(number: u64) -> SubframeOut
     requires low { 4 ≤ number }
     requires high { number ≤ 5 }
@@ -66,7 +66,7 @@ fn subframe(values: &GpsValues, ion: &GpsIon, week: RefWeek, k: u32) -> Subframe
     }
 }
 
-// Writes the line of a subframe; its TOW count is that of the next subframe.
+// Writes the line of a subframe.
 fn write_subframe_line(senders: &Senders, stamp: u32, number: u8, line: &mut LineText)
     requires tables { AreTables senders.now }
     requires sats { senders.now.sats ≤ 32 }
@@ -85,7 +85,7 @@ fn write_subframe_line(senders: &Senders, stamp: u32, number: u8, line: &mut Lin
     write_lnav(stamp, gps_sat(number), &bits, line);
 }
 
-// The index of page `j` of the hour among its satellite's pages that are not empty.
+// Where page `j` of the hour stands among those of its satellite that are not empty.
 fn slot_of(j: u32) -> u32
     requires page { j < 1800 }
     requires full { j % 15 ≤ 4 }
@@ -114,7 +114,7 @@ fn page_at(senders: &Senders, number: u8, j: u32) -> Page
     senders.pages[PAGES * (usize::from(number) - 1) + slot]
 }
 
-// Writes the line of a page part.
+// Writes the line of half a page.
 fn write_page_line(senders: &Senders, stamp: u32, number: u8, signal: Signal, line: &mut LineText)
     requires tables { AreTables senders.now }
     requires sats { senders.now.sats ≤ 32 }
@@ -130,7 +130,7 @@ fn write_page_line(senders: &Senders, stamp: u32, number: u8, signal: Signal, li
     write_half_line(stamp, gal_sat(number), signal, &half, line);
 }
 
-// Writes the line of a transmission.
+// Writes the line of what was sent.
 fn write_line(senders: &Senders, sending: Sending, line: &mut LineText)
     requires tables { AreTables senders.now }
     requires sats { senders.now.sats ≤ 32 }
@@ -148,7 +148,7 @@ fn write_line(senders: &Senders, sending: Sending, line: &mut LineText)
     }
 }
 
-// Appends the lines of the transmissions, in that order.
+// Appends the lines of what was sent, in that order.
 pub(crate) fn push_lines(
     senders: &Senders,
     order: &[Sending],

@@ -1,4 +1,4 @@
-//! The pages that the Galileo satellites send.
+//! The pages that the satellites of Galileo send.
 
 ghost use Rattle.std.specs.Prelude.{◌≡◌, ℕ, ◌+◌, ◌-◌, ◌*◌, ◌/◌, ◌%◌, ◌<◌, ◌≤◌, IfOk, length};
 ghost use Rattle.std.specs.Prelude.{slice_index_or};
@@ -17,20 +17,20 @@ use nav_bits::{Bits, U};
 use nav_eph::{GalIon, Sat, System};
 use std::alloc::{AllocError, Global};
 
-/// The even and odd part of a page.
+/// The two halves of a page.
 #[derive(Clone, Copy)]
 pub struct Page {
-    /// The even part.
+    /// The even one.
     pub even: Bits<15>,
-    /// The odd part.
+    /// The odd one.
     pub odd: Bits<15>,
 }
 
-// The number of a satellite's pages that are not empty: four of word types 1 to 4, and one of word
-// type 5 for each I/NAV subframe of 15 pages (30 s).
+// The pages of a satellite that are not empty: those of words 1 to 4, and one of word 5 for each
+// round of 15 pages.
 pub(crate) const PAGES: usize = 124;
 
-// The Galileo satellite with that number.
+// The satellite of Galileo with that number.
 pub(crate) fn gal_sat(number: u8) -> Sat
     requires low { 1 ≤ number }
     requires high { number ≤ 32 }
@@ -42,7 +42,7 @@ pub(crate) fn gal_sat(number: u8) -> Sat
     sat
 }
 
-// The two parts of the page of a word.
+// The halves of the page of a word.
 fn halves_of(word: &Bits<16>) -> Page
     ensures { AreHalves word.now result.even result.odd }
 {
@@ -53,7 +53,7 @@ fn halves_of(word: &Bits<16>) -> Page
     }
 }
 
-// The page whose word has only 0 bits.
+// The page whose bits are all 0 in its word.
 pub(crate) fn empty_page() -> Page
     ensures { IsEmptyPage result }
 {
@@ -62,7 +62,7 @@ pub(crate) fn empty_page() -> Page
     halves_of(&word)
 }
 
-// Word type `place` + 1 of the satellite with that number.
+// Word `place` + 1 of the satellite with that number.
 fn word_of(
     values: &GalValues,
     ion: &GalIon,
@@ -85,14 +85,14 @@ fn word_of(
     }
 }
 
-// The Galileo week number, modulo 4096.
+// The week in the twelve digits of Galileo.
 fn galileo_week(week: RefWeek) -> U<12>
     ensures { result ≡ (week - 1024) % 4096 }
 {
     U::from_bits(u64::from((week.value() - 1024) % 4096))
 }
 
-// The page at an index of the table.
+// The page at a place of the table.
 fn page_in(values: &GalValues, ion: &GalIon, week: RefWeek, place: usize) -> Page
     requires { place < 124 * 32 }
     ensures { IsPageIn values.now ion.now week place result }
@@ -105,7 +105,7 @@ fn page_in(values: &GalValues, ion: &GalIon, week: RefWeek, place: usize) -> Pag
     halves_of(&word)
 }
 
-// The pages that are not empty, by satellite.
+// The pages of the satellites that are not empty, satellite after satellite.
 pub(crate) fn pages_of(
     alloc: Global,
     values: &[GalValues],

@@ -1,4 +1,4 @@
-//! Tables of the values and pages that the satellites send.
+//! What the satellites of both systems send, in tables.
 
 ghost use Rattle.std.specs.Prelude.{◌≡◌, ℕ, ◌+◌, ◌*◌, ◌<◌, ◌≤◌, IfOk, OnOk, length};
 ghost use Rattle.std.specs.List.{HoldsAt};
@@ -12,26 +12,26 @@ use gnss_week::RefWeek;
 use nav_eph::GpsIon;
 use std::alloc::{AllocError, Global};
 
-/// The values and pages that the satellites send.
+/// What the satellites send.
 #[derive(Drop)]
 pub struct Senders {
-    /// The seed that the values are drawn from.
+    /// What their values are drawn from.
     pub seed: u32,
-    /// The number of satellites of each system.
+    /// How many there are of each system.
     pub sats: u8,
     /// The week in which they send.
     pub week: RefWeek,
-    /// The values of the GPS satellites.
+    /// The values of those of GPS.
     pub gps: Vec<GpsValues>,
     /// The ionosphere of GPS.
     pub ion: GpsIon,
-    /// The pages of the Galileo satellites that are not empty.
+    /// The pages of those of Galileo that are not empty.
     pub pages: Vec<Page>,
-    /// The empty page.
+    /// The other pages.
     pub empty: Page,
 }
 
-// Draws the values of the GPS satellites.
+// Draws the values of the satellites of GPS.
 fn draw_all_gps(alloc: Global, state: &mut u64, sats: u8) -> Result<Vec<GpsValues>, AllocError>
     ensures after { OnOk result (state.new ≡ state_after state.old (24 * sats)) }
     ensures count { IfOk result (λ all. length all.items ≡ sats) }
@@ -45,7 +45,7 @@ fn draw_all_gps(alloc: Global, state: &mut u64, sats: u8) -> Result<Vec<GpsValue
     Ok(all)
 }
 
-// Draws the values of the Galileo satellites.
+// Draws the values of the satellites of Galileo.
 fn draw_all_gal(alloc: Global, state: &mut u64, sats: u8) -> Result<Vec<GalValues>, AllocError>
     ensures after { OnOk result (state.new ≡ state_after state.old (21 * sats)) }
     ensures count { IfOk result (λ all. length all.items ≡ sats) }
@@ -59,7 +59,7 @@ fn draw_all_gal(alloc: Global, state: &mut u64, sats: u8) -> Result<Vec<GalValue
     Ok(all)
 }
 
-// The values and pages of `sats` satellites of each system in a week.
+// What `sats` satellites of each system send in a week.
 pub(crate) fn senders_of(
     alloc: Global,
     seed: u32,

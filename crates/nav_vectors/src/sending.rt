@@ -1,4 +1,4 @@
-//! The transmissions of each second, in order, and the order of the lines.
+//! What is sent at each second, in the order of sending, and the order of the lines.
 
 ghost use Rattle.std.specs.Prelude.{◌≡◌, ◌+◌, ◌<◌, ◌++◌, IfOk, OnOk, length, reverse};
 ghost use Rattle.nav_vectors.specs.Lines.{halves_at, sent_at, sent_before, subframes_at};
@@ -7,34 +7,34 @@ ghost use Rattle.nav_vectors.specs.Capture.{lines_of, reversed};
 use nav_eph::Signal;
 use std::alloc::{AllocError, Global};
 
-/// A transmission, which one line of the capture records.
+/// What one line of the capture says: that something was sent at a stamp, in seconds.
 #[derive(Clone, Copy)]
 pub enum Sending {
-    /// A subframe of the GPS satellite with that number.
+    /// A subframe of the satellite of GPS with that number.
     Subframe {
-        /// The stamp, in seconds.
+        /// When.
         stamp: u32,
-        /// The satellite number.
+        /// By which.
         number: u8,
     },
-    /// A page part of the Galileo satellite with that number.
+    /// Half a page of the satellite of Galileo with that number.
     Half {
-        /// The stamp, in seconds.
+        /// When.
         stamp: u32,
-        /// The satellite number.
+        /// By which.
         number: u8,
-        /// The signal.
+        /// On which of its signals.
         signal: Signal,
     },
 }
 
-// The seconds of the capture.
+// The lines of an hour, in seconds.
 const HOUR: u32 = 3600;
 
-// The lines before this stamp are repeated.
+// The lines before this stamp come once more.
 const REPEATED: u32 = 30;
 
-// The number of lines in a reversed block.
+// So many lines are reversed together.
 const BLOCK: usize = 16;
 
 // Appends the subframes of the satellites 1 to `sats`.
@@ -52,7 +52,7 @@ fn push_subframes(sent: &mut Vec<Sending>, sats: u8, stamp: u32) -> Result<(), A
     Ok(())
 }
 
-// Appends the page parts of the satellites 1 to `sats`.
+// Appends the halves of the satellites 1 to `sats`.
 #[tactic(auto, unfolding(crate::specs::Lines::halves_at))]
 fn push_halves(sent: &mut Vec<Sending>, sats: u8, stamp: u32) -> Result<(), AllocError>
     requires { sats < 255 }
@@ -76,7 +76,7 @@ fn push_halves(sent: &mut Vec<Sending>, sats: u8, stamp: u32) -> Result<(), Allo
     Ok(())
 }
 
-// Appends the transmissions at a stamp.
+// Appends what is sent at a stamp.
 #[tactic(auto, unfolding(crate::specs::Lines::sent_at))]
 fn push_sent(sent: &mut Vec<Sending>, sats: u8, stamp: u32) -> Result<(), AllocError>
     requires { sats < 255 }
@@ -88,7 +88,7 @@ fn push_sent(sent: &mut Vec<Sending>, sats: u8, stamp: u32) -> Result<(), AllocE
     push_halves(sent, sats, stamp)
 }
 
-// Appends the transmissions before a stamp, in order.
+// Appends what is sent before a stamp, in order.
 #[tactic(auto, unfolding(crate::specs::Lines::sent_before))]
 fn push_sent_before(sent: &mut Vec<Sending>, sats: u8, end: u32) -> Result<(), AllocError>
     requires { sats < 255 }
@@ -100,7 +100,7 @@ fn push_sent_before(sent: &mut Vec<Sending>, sats: u8, end: u32) -> Result<(), A
     Ok(())
 }
 
-// Appends a block in reversed order.
+// Appends a block in the reversed order.
 fn push_reversed(block: &[Sending], order: &mut Vec<Sending>) -> Result<(), AllocError>
     ensures { OnOk result (order.new.items ≡ order.old.items ++ reverse block.now) }
 {
@@ -123,7 +123,7 @@ fn push_reversed_blocks(sent: &[Sending], order: &mut Vec<Sending>) -> Result<()
     Ok(())
 }
 
-// The transmissions of the lines, in their order.
+// What the lines say, in their order.
 #[tactic(auto, unfolding(crate::specs::Capture::lines_of))]
 pub(crate) fn order_of_lines(alloc: Global, sats: u8) -> Result<Vec<Sending>, AllocError>
     requires { sats < 255 }

@@ -1,4 +1,4 @@
-//! The broadcast values of the satellites, drawn field by field.
+//! What the satellites broadcast: its values, drawn field by field.
 
 ghost use Rattle.std.specs.Prelude.{◌≡◌};
 ghost use Rattle.nav_vectors.specs.Draws.{state_after};
@@ -11,37 +11,37 @@ use nav_eph::{
     GpsOrbitB, GpsSide, Sisa, Step16, Step60,
 };
 
-/// The ephemeris of a GPS satellite.
+/// The ephemeris of a satellite of GPS.
 #[derive(Clone, Copy)]
 pub struct GpsValues {
-    /// The clock parameters of subframe 1.
+    /// The clock, of subframe 1.
     pub clock: GpsClock,
-    /// The SV status of subframe 1.
+    /// What stands beside it there.
     pub side: GpsSide,
-    /// The orbit parameters of subframe 2.
+    /// The first half of the orbit, of subframe 2.
     pub a: GpsOrbitA,
-    /// The fit interval flag: 1 where the curve fit interval is longer than 4 hours.
+    /// Whether the curve fit interval is longer than 4 hours.
     pub fit: U<1>,
-    /// The orbit parameters of subframe 3.
+    /// The second half of the orbit, of subframe 3.
     pub b: GpsOrbitB,
 }
 
-/// The ephemeris of a Galileo satellite.
+/// The ephemeris of a satellite of Galileo.
 #[derive(Clone, Copy)]
 pub struct GalValues {
-    /// Word type 1.
+    /// Of word 1.
     pub w1: GalWord1,
-    /// Word type 2.
+    /// Of word 2.
     pub w2: GalWord2,
-    /// Word type 3.
+    /// Of word 3.
     pub w3: GalWord3,
-    /// Word type 4.
+    /// Of word 4.
     pub w4: GalWord4,
-    /// BGD and health of word type 5.
+    /// Group delays and health, of word 5.
     pub health: GalHealth,
 }
 
-// 7,200 s in units of 16 s.
+// 7,200 seconds in steps of 16 s.
 fn gps_time() -> Step16
     ensures { result ≡ 450 }
 {
@@ -51,7 +51,7 @@ fn gps_time() -> Step16
     steps
 }
 
-// 7,200 s in units of 60 s.
+// 7,200 seconds in steps of 60 s.
 fn gal_time() -> Step60
     ensures { result ≡ 120 }
 {
@@ -61,7 +61,7 @@ fn gal_time() -> Step60
     steps
 }
 
-// The SISA index 107.
+// The accuracy index 107.
 fn accuracy() -> Sisa
     ensures { result ≡ 107 }
 {
@@ -71,7 +71,7 @@ fn accuracy() -> Sisa
     sisa
 }
 
-// Draws the values of a GPS satellite.
+// Draws the values of a satellite of GPS.
 #[tactic(auto, unfolding(crate::specs::Values::gps_values, crate::specs::Draws::draw, crate::specs::Draws::state_after))]
 pub(crate) fn draw_gps(state: &mut u64) -> GpsValues
     ensures values { result ≡ gps_values state.old }
@@ -144,7 +144,7 @@ pub(crate) fn draw_gps(state: &mut u64) -> GpsValues
     }
 }
 
-// Draws the values of a Galileo satellite.
+// Draws the values of a satellite of Galileo.
 #[tactic(auto, unfolding(crate::specs::Values::gal_values, crate::specs::Draws::draw, crate::specs::Draws::state_after))]
 pub(crate) fn draw_gal(state: &mut u64) -> GalValues
     ensures values { result ≡ gal_values state.old }

@@ -2,9 +2,9 @@
 //! does so for u-blox's UBX, and `navlog --from sbf` for Septentrio's SBF.
 //!
 //! The report is on standard error: a line for each message that is refused, and nine of counts.
-//! The exit status is 0 where all was read and written, 2 where the command line is neither of these,
-//! 3, 4 and 7 where the input, the output or the report failed, 6 for want of memory, and 8 where
-//! there are too many bytes, 2^64 - 16,384 or more.
+//! The status is 0 where all was read and written, 2 where the words are none of these, 3, 4 and 7
+//! where the input, the output or the report failed, 6 for want of memory, and 8 where there are
+//! too many bytes, 2^64 - 16,384 or more.
 #![tactic(auto)]
 
 use nav_io::{ReadSource, WriteSink};
@@ -15,10 +15,10 @@ use std::io::ErrorKind;
 use std::process::ExitCode;
 use ubx_frames::UbxJudge;
 
-// The command line names no form.
+// The words name no form.
 const NO_FORM: u8 = 2;
 
-// No memory for the command-line words.
+// No memory for the list of words.
 const NO_MEMORY: u8 = 6;
 
 // The forms of logs.
@@ -28,7 +28,7 @@ enum Form {
     Sbf,
 }
 
-// The form with this name.
+// The form of a name.
 fn form_named(name: &str) -> Option<Form> {
     if name == "ubx" {
         Some(Form::Ubx)
@@ -39,7 +39,7 @@ fn form_named(name: &str) -> Option<Form> {
     }
 }
 
-// The form that the command line names.
+// The form that the words name.
 fn form_of(words: &[String]) -> Option<Form> {
     match words {
         [word] => {

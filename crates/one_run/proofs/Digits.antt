@@ -21,7 +21,7 @@ unfolding hex_digits
 hex_digits-more k number =
     ap (λ (n : ℕ). hex_digits n number) (add-one k) ∙ ap (λ (digit : ℕ). hex_digit_of digit ∷ hex_digits k number) (ap (λ m. number / m % 16) (sym (sixteen k)) ∙ sym (and_mask (number / 2 ^ (4 * k)) 4))
 
--- the same after what was written
+-- the same behind what was written
 pub hex_digits_one : (old : List ℕ) (left number : ℕ) → 0 < left
     → (old ++ hex_digit_of (bit_and (number / 2 ^ (4 * (left - 1))) 15) ∷ []) ++ hex_digits (left - 1) number ≡ old ++ hex_digits left number
 hex_digits_one old left number some =

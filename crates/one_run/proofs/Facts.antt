@@ -1,4 +1,4 @@
--- What follows from how a run ended.
+-- What follows of a run from how it ended.
 use Rattle.std.proofs.Common.{◌≡◌, ◌⊎◌, inl, inr, ◌^◌, ◌<◌, ◌≤◌, ℕ, Bool, false, true, List, ◌++◌, length, Option, None, Some, Result, Ok, Err, refl, sym, ap, subst, ◌∙◌, arith, append-nil, length-append}
 use Rattle.std.specs.Prelude.{IfSome, IfOk, IsSome, IsOk, IsErr, IsErrOf, OnOk, MatchResult}
 use Rattle.std.specs.Io.KnownBytes.{Appends, Consumes, IsAtEnd}
@@ -17,13 +17,13 @@ if_some (Some bytes) P each = each bytes refl
 at_some : (o : Option (List ℕ)) (P : List ℕ → Type 0) (bytes : List ℕ) → o ≡ Some bytes → IfSome o P → P bytes
 at_some o P bytes is all = subst (λ (x : Option (List ℕ)). IfSome x P) is all
 
--- what was read up to the end is all of it
+-- what was taken up to the end is all of it
 taken_all : (o o' : Option (List ℕ)) (taken : List ℕ) (P : List ℕ → Type 0) → Consumes o o' taken → IsAtEnd o' → P taken → IfSome o P
 taken_all None o' taken P takes end p = tt
 taken_all (Some bytes) None taken P takes end p = absurd takes
 taken_all (Some bytes) (Some rest) taken P takes end p = subst P (sym (takes ∙ ap (λ (l : List ℕ). taken ++ l) end ∙ append-nil taken)) p
 
--- no more was read than was there
+-- no more was taken than was there
 taken_within : (o o' : Option (List ℕ)) (taken bytes : List ℕ) → o ≡ Some bytes → Consumes o o' taken → length taken ≤ length bytes
 taken_within o o' taken bytes is takes = within o' (subst (λ (x : Option (List ℕ)). Consumes x o' taken) is takes) where
   within : (o' : Option (List ℕ)) → Consumes (Some bytes) o' taken → length taken ≤ length bytes
@@ -82,7 +82,7 @@ accepted_of {C = C} m b a r ended end = by_end r ended end where
   by_end (Err fault) broke (inr (inr (inl is))) = (subst (Ended m b a) is broke).says.2
   by_end (Err fault) broke (inr (inr (inr is))) = (subst (Ended m b a) is broke).says.1
 
--- a run succeeds, or finds no memory, where its input is accepted and nothing fails
+-- a run ends well, or finds no memory, where its input is accepted and nothing fails
 pub complete_of : {C S T U : Type 0} (m : Meaning C) (b a : World S T U) (r : Result C BridgeFault) → Ended m b a r
     → IfSome (bytes_for m b) (λ bytes. length bytes < 2 ^ 32 → IsSome (m.counts bytes)
     → (Rose b.reads_failed a.reads_failed → ⊥) → (Rose b.writes_failed a.writes_failed → ⊥)
@@ -110,7 +110,7 @@ complete_of {C = C} m b a r ended = if_some _ _ (λ bytes is. by_end r ended byt
       absurd (omega (arith, few, broke.says, taken_within _ _ broke.taken bytes is broke.consumes))
   by_end (Err NoMemory) broke bytes is few some reads writes reports = inr (refl, broke.says.0)
 
--- ---- a run that ended early
+-- ---- a run that broke off
 
 pub broke_by : {C S T U : Type 0} (m : Meaning C) (b a : World S T U) (r : Result C BridgeFault) (fault : BridgeFault) → Ended m b a r → IsErrOf r fault
     → Broke m b a fault
@@ -171,7 +171,7 @@ pub ended_as : {C S T U : Type 0} (m : Meaning C) (b a : World S T U) (run : Res
 ended_as m b a (Ok counts) result is done = subst (Ended (uncounted m) b a) (sym is) (any_done m b a counts done)
 ended_as m b a (Err fault) result is broke = subst (Ended (uncounted m) b a) (sym is) (any_broke m b a fault broke)
 
--- ---- by its exit status
+-- ---- by its status
 
 one_fault : (f g : BridgeFault) → fault_status f ≡ fault_status g → f ≡ g
 one_fault f g e = search arith

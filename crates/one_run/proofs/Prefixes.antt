@@ -1,4 +1,4 @@
--- Prefixes of what is written and reported.
+-- Fronts of what is written and reported.
 use Rattle.std.proofs.Common.{ℕ, List, [], ◌++◌, refl, sym, ap, ◌∙◌, append_assoc, append-nil}
 use Rattle.std.specs.Prelude.{Option}
 use Rattle.std.specs.Io.KnownBytes.{Appends}
@@ -20,13 +20,13 @@ prefix_trans xs ys zs (a, e) (b, f) = (a ++ b, f ∙ ap (λ (l : List ℕ). l ++
 pub prefix_more : (xs ys : List ℕ) → IsPrefix xs (xs ++ ys)
 prefix_more xs ys = (ys, refl)
 
--- after the same list
+-- behind the same list
 pub prefix_after : (xs ys zs : List ℕ) → IsPrefix ys zs → IsPrefix (xs ++ ys) (xs ++ zs)
 prefix_after xs ys zs (a, e) = (a, ap (λ (l : List ℕ). xs ++ l) e ∙ sym (append_assoc xs ys a))
 
 -- ---- of what grew
 
--- a prefix after what was written
+-- a prefix behind what was written
 pub prefix_behind : (w w1 w2 : Option (List ℕ)) (some more : List ℕ) → Appends w w1 some → AppendsPrefix w1 w2 more → AppendsPrefix w w2 (some ++ more)
 prefix_behind w w1 w2 some more whole (prefix, within, grew) =
     (some ++ prefix, prefix_after some prefix more within, Appends-trans w w1 w2 some prefix whole grew)
@@ -42,7 +42,7 @@ prefix_within w w1 text longer behind (prefix, within, grew) = (prefix, prefix_t
 pub prefix_longer : (w w1 : Option (List ℕ)) (text more : List ℕ) → AppendsPrefix w w1 text → AppendsPrefix w w1 (text ++ more)
 prefix_longer w w1 text more grew = prefix_within w w1 text (text ++ more) (prefix_more text more) grew
 
--- the empty text is a prefix of each text
+-- nothing is a prefix of each text
 pub no_prefix : (w : Option (List ℕ)) (text : List ℕ) → AppendsPrefix w w text
 no_prefix w text = ([], prefix_nil text, Appends-nil w)
 

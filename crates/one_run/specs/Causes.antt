@@ -16,7 +16,7 @@ pub record Faults : Type 0 where
 abbrev pub faults_of : ℕ → ℕ → ℕ → Faults
 faults_of input output report = record { input = input; output = output; report = report }
 
--- the count of the object that failed rose, and no count rose where the run is done
+-- each fault has its cause, and none of the counts rose where the run is done
 abbrev pub HasItsCause : {T : Type 0} → Faults → Faults → Result T BridgeFault → Type 0
 HasItsCause before now (Ok x) = now ≡ before
 HasItsCause before now (Err ReadFault) = Rose before.input now.input
@@ -24,7 +24,7 @@ HasItsCause before now (Err WriteFault) = Rose before.output now.output
 HasItsCause before now (Err ReportFault) = Rose before.report now.report
 HasItsCause before now (Err fault) = Unit {0}
 
--- the fault of a run whose lines could not be read
+-- the fault of a run whose lines broke off so
 abbrev pub fault_by : LineFault → BridgeFault
 fault_by lines.ReadFault = ReadFault
 fault_by lines.TooLong = TooLong

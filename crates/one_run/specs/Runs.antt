@@ -1,4 +1,4 @@
--- The contract of a run: what it writes and reports of its input, and how it ended.
+-- The contract of a run: what it makes of the bytes of its input, and how it ended.
 use Rattle.std.specs.Prelude.{◌≡◌, ◌^◌, ◌<◌, ℕ, Bool, true, false, List, [], length, Option, None, Some, Result, Ok, Err, IfSome, IsSome, IsTrue, if◌then◌else◌}
 use Rattle.std.specs.Io.KnownBytes.{Appends, Consumes, IsAtEnd}
 use Rattle.nav_io.specs.Causes.{Rose}
@@ -6,41 +6,41 @@ use Rattle.nav_io.specs.Prefix.{AppendsPrefix, IsPrefix}
 use Rattle.one_run.specs.declared.fault.BridgeFault.{BridgeFault}
 use Rattle.one_run.specs.declared.fault.BridgeFault.TheVariants.{ReadFault, WriteFault, ReportFault, NotThisForm, TooLong, NoMemory}
 
--- what is written and reported of some bytes
+-- what is written and reported of bytes
 pub record Texts : Type 0 where
   pub output : List ℕ → List ℕ
   pub report : List ℕ → List ℕ
 
--- what a run makes of its input
+-- what a run makes of the bytes of its input
 pub record Meaning (C : Type 0) : Type 0 where
   -- whether it reads the input
   pub reads : Bool
   -- whether it writes to the report
   pub reports : Bool
-  -- whether it allocates memory
+  -- whether it takes memory
   pub memory : Bool
-  -- what it counts in the bytes; none where they do not begin as the format requires
+  -- what it counts of the bytes; nothing where they do not begin as its form asks
   pub counts : List ℕ → Option C
-  -- what it writes and reports of a whole input
+  -- what it writes and reports of all of them
   pub whole : Texts
-  -- what it has written at least once these bytes were read, whatever fails
+  -- what it has written at least once these were taken, whatever fails
   pub least : List ℕ → List ℕ
-  -- exactly what was written and reported of the bytes read when a read fails, if the meaning determines it
+  -- what exactly is written and reported of them where a read fails, if it says so
   pub flushed : Option Texts
 
--- nothing: the least output where no more is promised
+-- nothing: the least that is written where no more is promised
 abbrev pub no_least : List ℕ → List ℕ
 no_least bytes = []
 
--- known bytes grew by a prefix of whole that has least as a prefix
+-- known bytes grew by a prefix of the one text that has the other as a prefix
 pub record AppendsBetween (old new : Option (List ℕ)) (least whole : List ℕ) : Type 0 where
   pub prefix : List ℕ
   pub within : IsPrefix prefix whole
   pub no_less : IsPrefix least prefix
   pub grew : Appends old new prefix
 
--- Input, output and report as a run sees them: the objects, the bytes known of them, whether the input is known not to fail,
--- and the counts of faults.
+-- An input, an output and a report, as a run sees them: the objects themselves, the bytes that are known of them, whether the
+-- input is known not to fail, and the counts of faults.
 pub record World (S T U : Type 0) : Type 0 where
   pub input : S
   pub output : T
@@ -68,24 +68,24 @@ world input left never_fails reads_failed output written writes_failed report re
   reports_failed = reports_failed;
 }
 
--- the bytes that a run has to read, where they are known; empty for a run that reads nothing
+-- the bytes that a run has to read, where they are known: none of a run that reads nothing
 abbrev pub bytes_for : {C S T U : Type 0} → Meaning C → World S T U → Option (List ℕ)
 bytes_for m w = if m.reads then w.left else Some []
 
--- the bytes are known, and begin as the run's format requires
+-- the bytes begin as the run's form asks, where they are known
 abbrev pub Accepts : {C S T U : Type 0} → Meaning C → World S T U → Type 0
 Accepts m before = IfSome (bytes_for m before) (λ bytes. IsSome (m.counts bytes))
 
--- the bytes are known, and do not
+-- they do not
 abbrev pub Refuses : {C S T U : Type 0} → Meaning C → World S T U → Type 0
 Refuses m before = IfSome (bytes_for m before) (λ bytes. m.counts bytes ≡ None)
 
--- an object that the run does not use is unchanged
+-- what a run leaves as it was
 pub record Leaves {C S T U : Type 0} (m : Meaning C) (before after : World S T U) : Type 0 where
   pub unread : m.reads ≡ false → after.input ≡ before.input
   pub silent : m.reports ≡ false → after.report ≡ before.report
 
--- The run is done: the input was read to its end, nothing failed, and its bytes were counted, written and reported.
+-- The run is done: the input was read to its end, nothing failed, and what its bytes give was counted, written and reported.
 pub record Done {C S T U : Type 0} (m : Meaning C) (before after : World S T U) (counts : C) : Type 0 where
   pub taken : List ℕ
   pub consumes : Consumes (bytes_for m before) (bytes_for m after) taken
@@ -99,13 +99,13 @@ pub record Done {C S T U : Type 0} (m : Meaning C) (before after : World S T U) 
   pub writes : after.writes_failed ≡ before.writes_failed
   pub reports : after.reports_failed ≡ before.reports_failed
 
--- exactly what was written and reported of the bytes read when a read fails, if the meaning determines it
+-- what exactly is written and reported of these bytes where a read fails, if the meaning says so
 abbrev pub Flushes : {S T U : Type 0} → Option Texts → List ℕ → World S T U → World S T U → Type 0
 Flushes None taken before after = Unit {0}
 Flushes (Some texts) taken before after =
     Appends before.written after.written (texts.output taken) × Appends before.reported after.reported (texts.report taken)
 
--- what each fault means for a run that read these bytes
+-- what each fault says of a run that took these bytes
 abbrev pub Says : {C S T U : Type 0} → Meaning C → List ℕ → World S T U → World S T U → BridgeFault → Type 0
 Says m taken before after ReadFault =
     (m.reads ≡ true) × Rose before.reads_failed after.reads_failed × (IsTrue before.never_fails → ⊥) × Flushes m.flushed taken before after
@@ -116,8 +116,8 @@ Says m taken before after NotThisForm =
 Says m taken before after TooLong = length taken ≡ 2 ^ 32
 Says m taken before after NoMemory = (m.memory ≡ true) × Accepts m before
 
--- The run ended early with a fault: a prefix of the output of the bytes read was written, no less than the least, and a
--- prefix of their report.
+-- The run broke off with a fault: of what the bytes that were taken give a prefix was written, no less than the least, and a
+-- prefix was reported.
 pub record Broke {C S T U : Type 0} (m : Meaning C) (before after : World S T U) (fault : BridgeFault) : Type 0 where
   pub taken : List ℕ
   pub consumes : Consumes (bytes_for m before) (bytes_for m after) taken
@@ -131,8 +131,8 @@ abbrev pub Ended : {C S T U : Type 0} → Meaning C → World S T U → World S 
 Ended m before after (Ok counts) = Done m before after counts
 Ended m before after (Err fault) = Broke m before after fault
 
--- The same by what input, output and report tell: the bytes left, whether no read fails, the bytes written, and the counts of
--- faults; then each object before and after.
+-- The same, by what an input, an output and a report tell: the bytes that are left, whether no read fails, the bytes that were
+-- written, and the counts of faults; then each object before and after.
 abbrev pub Ran : {C S T U : Type 0} → Meaning C
     → (S → Option (List ℕ)) → (S → Bool) → (S → ℕ) → (T → Option (List ℕ)) → (T → ℕ) → (U → Option (List ℕ)) → (U → ℕ)
     → S → S → T → T → U → U → Result C BridgeFault → Type 0

@@ -1,7 +1,7 @@
 -- Hexadecimal digits.
 use Rattle.std.specs.Prelude.{ℕ, zero, suc, ◌+◌, ◌/◌, ◌%◌, ◌^◌, nat_lt, if◌then◌else◌, List, [], ◌∷◌}
 
--- the hexadecimal digit of a number below 16, in lower case
+-- the digit of a number below 16, in lower case
 abbrev pub hex_digit_of : ℕ → ℕ
 hex_digit_of value = if nat_lt value 10 then 48 + value else 87 + value
 

@@ -1,11 +1,11 @@
-//! What all runs share: their contract, the lines of report and counts, and why a run ends early.
+//! What every run shares: its contract, the lines of its report and of its counts, and why it ends before it is done.
 //!
 //! - [`BridgeFault`] is why a run ended before it was done;
-//! - [`report_text`] is a line of a report, and [`append_count`] appends a line of counts;
-//! - [`Text`] is a short text in a buffer of fixed size; no memory is allocated.
+//! - [`report_text`] is a line of a report, and [`append_count`] appends one of counts;
+//! - [`Text`] is a short text, which is built in place and takes no memory.
 //!
-//! `specs/Runs.antt` has the contract: `Ended` says how a run ended, from the known bytes and the
-//! fault counts of its input, output and report before and after.
+//! `specs/Runs.antt` has the contract: `Ended` says how a run of some meaning ended, by what its input, its output and its
+//! report were before and after.
 //!
 //! ```rust
 //! let mut text = Text::new();

@@ -1,4 +1,4 @@
-//! Lines of a report, and of counts.
+//! The lines of a report, and those of counts.
 
 ghost use Rattle.std.specs.Prelude.{◌≡◌, ◌+◌, ◌≤◌, ◌++◌, length};
 ghost use Rattle.arrayvec.specs.ArrayVec.{array_vec_len};
@@ -6,7 +6,7 @@ ghost use Rattle.one_run.specs.Reports.{count_line, report_prefix as prefix_of, 
 
 use crate::text::{Text, append, append_decimal};
 
-/// The prefix of a line of a report: the subject, as `line` or `frame`, and its number.
+/// The prefix of a line of a report: what is spoken of, as `line` or `frame`, and its number.
 pub fn report_prefix(subject: &[u8], number: u64) -> Text
     requires { length subject.now ≤ 16 }
     ensures items { result.items ≡ prefix_of subject.now number }
@@ -20,7 +20,7 @@ pub fn report_prefix(subject: &[u8], number: u64) -> Text
     text
 }
 
-/// A line of a report: the subject, as `line` or `frame`, its number, and the reason in one word.
+/// A line of a report: what is spoken of, as `line` or `frame`, its number, and the reason in a word.
 #[tactic(auto, unfolding(crate::specs::Reports::report_line))]
 pub fn report_text(subject: &[u8], number: u64, reason: &[u8]) -> Text
     requires subject { length subject.now ≤ 16 }
@@ -33,7 +33,7 @@ pub fn report_text(subject: &[u8], number: u64, reason: &[u8]) -> Text
     text
 }
 
-/// Appends a line of counts: a name of at most 16 bytes, and the number.
+/// Appends a line of a counts text: a name of at most 16 bytes, and the number.
 #[tactic(auto, unfolding(crate::specs::Reports::count_line))]
 pub fn append_count(text: &mut Text, name: &[u8], number: u64)
     requires name { length name.now ≤ 16 }

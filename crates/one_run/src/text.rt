@@ -1,4 +1,4 @@
-//! Short texts in a buffer of fixed size; no memory is allocated.
+//! Short texts, which are built in place and take no memory.
 
 ghost use Rattle.std.specs.Prelude.{◌≡◌, ◌+◌, ◌^◌, ◌<◌, ◌≤◌, ◌++◌, length, decimal};
 ghost use Rattle.arrayvec.specs.ArrayVec.{array_vec_len};
@@ -7,13 +7,13 @@ ghost use Rattle.one_run.specs.Texts.{hex_digit_of, hex_digits};
 use arrayvec::ArrayVec;
 use itoa::Buffer;
 
-/// The capacity of a text in bytes.
+/// How many bytes a text has room for.
 pub const ROOM: usize = 640;
 
 /// A text of at most 640 bytes.
 pub type Text = ArrayVec<u8, ROOM>;
 
-/// Appends a piece; there must be room for it.
+/// Appends a piece, for which there is room.
 pub fn append(text: &mut Text, piece: &[u8])
     requires { array_vec_len text.old + length piece.now ≤ 640 }
     ensures items { text.new.items ≡ text.old.items ++ piece.now }
@@ -34,7 +34,7 @@ pub fn append_decimal(text: &mut Text, number: u64)
     append(text, digits.format(number).as_bytes());
 }
 
-// The hexadecimal digit of a number below 16, in lower case.
+// The digit of a number below 16, in lower case.
 fn hex_digit(value: u64) -> u8
     requires { value < 16 }
     ensures { result ≡ hex_digit_of value }
@@ -46,7 +46,7 @@ fn hex_digit(value: u64) -> u8
     }
 }
 
-/// Appends the last `count` hexadecimal digits of a number, at most 16, in lower case.
+/// Appends the last so many hexadecimal digits of a number, at most 16.
 pub fn append_hex(text: &mut Text, count: u32, number: u64)
     requires count { count ≤ 16 }
     requires room { array_vec_len text.old + count ≤ 640 }

@@ -9,14 +9,14 @@ use Rattle.periods.specs.declared.closed.Verdict.TheVariants.{Whole, Partial, Co
 use Rattle.outlets.specs.ItemTexts.{issue_text}
 use Rattle.one_run.specs.Texts.{hex_digits}
 
--- the key of a period: an ephemeris by satellite and issue of data, ionosphere parameters by system and their bits
+-- what a period is a period of: an ephemeris by its satellite and issue, an ionosphere by its system and the digits of its content
 abbrev pub key_text : Key → List ℕ
 key_text (Gps sat issue) = issue_text sat issue
 key_text (Gal sat issue) = issue_text sat issue
 key_text (GpsIon content) = codes "ION G " ++ hex_digits 16 (gps_ion_number content)
 key_text (GalIon content) = codes "ION E " ++ hex_digits 11 (gal_ion_number content)
 
--- the verdict on a period in one word
+-- what is said of a period
 abbrev pub verdict_text : Verdict → List ℕ
 verdict_text (Whole item) = codes "whole"
 verdict_text Partial = codes "partial"
@@ -24,6 +24,6 @@ verdict_text Contradicted = codes "contradicted"
 verdict_text NoHealth = codes "nohealth"
 verdict_text Again = codes "again"
 
--- the line of a period in a list: its end, its key, and the verdict
+-- the line of a period in a list: its end, what it is a period of, and what is said of it
 unfoldable pub list_period : Closed → List ℕ
 list_period c = ((((decimal c.end ++ codes " ") ++ key_text c.key) ++ codes " ") ++ verdict_text c.verdict) ++ codes "\n"

@@ -1,4 +1,4 @@
--- The output of items and periods: a first text, one for each, and a last one.
+-- What items and periods become: a text in front, one for each item or period, and one behind.
 use Rattle.std.specs.Prelude.{ℕ, List, []}
 use Rattle.nav_eph.specs.declared.items.NavItem.{NavItem}
 use Rattle.periods.specs.declared.closed.Closed.{Closed}
@@ -11,11 +11,11 @@ use Rattle.outlets.specs.declared.target.Target.{Target}
 use Rattle.outlets.specs.declared.target.Target.TheVariants.{Rinex, Rinex3, Rtcm, ToList, Count}
 use Rattle.outlets.specs.PeriodLines.{list_period}
 
--- the record of an ephemeris (RINEX 3.05); nothing for ionosphere parameters
+-- the record of an ephemeris (RINEX 3.05); nothing of an ionosphere
 abbrev pub rinex3_item : NavItem → List ℕ
 rinex3_item item = text_of (item3_lines item)
 
--- the first text: the header of a navigation file, else nothing
+-- what is written in front: the header of a navigation file
 abbrev pub prefix_text : Target → List ℕ
 prefix_text (Rinex words) = text_of (header_lines words)
 prefix_text (Rinex3 words) = text_of (header3_lines words)
@@ -23,7 +23,7 @@ prefix_text Rtcm = []
 prefix_text ToList = []
 prefix_text Count = []
 
--- the text of an item; a list has the line number of its record
+-- what is written of an item; a list says at which line of its file its record begins
 abbrev pub item_text : Target → ℕ → NavItem → List ℕ
 item_text (Rinex words) line item = rinex_item item
 item_text (Rinex3 words) line item = rinex3_item item
@@ -31,12 +31,12 @@ item_text Rtcm line item = rtcm_item item
 item_text ToList line item = list_item line item
 item_text Count line item = []
 
--- the text of the item of a whole period; nothing for any other
+-- the item of a period that is whole, as a text; nothing of any other
 abbrev pub verdict_item : (NavItem → List ℕ) → Verdict → List ℕ
 verdict_item text (Whole item) = text item
 verdict_item text _ = []
 
--- the text of a closed period
+-- what is written of a period that is closed
 abbrev pub period_text : Target → Closed → List ℕ
 period_text (Rinex words) c = verdict_item rinex_item c.verdict
 period_text (Rinex3 words) c = verdict_item rinex3_item c.verdict
@@ -44,7 +44,7 @@ period_text Rtcm c = verdict_item rtcm_item c.verdict
 period_text ToList c = list_period c
 period_text Count c = []
 
--- the last text: the counts, where only these are asked for
+-- what is written behind them: the text of the counts, where nothing but these is asked for
 abbrev pub back_text : Target → List ℕ → List ℕ
 back_text (Rinex words) counts = []
 back_text (Rinex3 words) counts = []

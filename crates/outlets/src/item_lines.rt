@@ -21,7 +21,7 @@ pub fn append_satellite(text: &mut Text, sat: Sat)
     append(text, &[letter, b'0' + number / 10, b'0' + number % 10]);
 }
 
-/// Appends a satellite and the issue of data of its ephemeris.
+/// Appends an issue of a satellite's ephemeris.
 pub fn append_issue(text: &mut Text, sat: Sat, issue: u64)
     requires { array_vec_len text.old + 48 ≤ 640 }
     ensures items { text.new.items ≡ text.old.items ++ issue_text sat issue }
@@ -33,7 +33,7 @@ pub fn append_issue(text: &mut Text, sat: Sat, issue: u64)
     append_decimal(text, issue);
 }
 
-// Appends an ephemeris: satellite, issue of data, week of toe, and toe in seconds.
+// Appends an ephemeris: its satellite and issue, the week of toe, and toe in seconds.
 fn append_ephemeris(text: &mut Text, sat: Sat, issue: u64, week: u32, second: u64)
     requires { array_vec_len text.old + 130 ≤ 640 }
     ensures items { text.new.items ≡ text.old.items ++ ephemeris_text sat issue week second }
@@ -46,7 +46,7 @@ fn append_ephemeris(text: &mut Text, sat: Sat, issue: u64, week: u32, second: u6
     append_decimal(text, second);
 }
 
-// Appends the description of an item.
+// Appends what an item is.
 fn append_named(text: &mut Text, item: &NavItem)
     requires { array_vec_len text.old + 130 ≤ 640 }
     ensures items { text.new.items ≡ text.old.items ++ named_text item.now }
@@ -74,9 +74,9 @@ fn append_named(text: &mut Text, item: &NavItem)
     }
 }
 
-/// The line of an item in a list, with the line number of its record: `<line> EPH <satellite>
-/// <issue> <week of toe> <toe in seconds>`, or `<line> ION <satellite>`, and LF. The issue is IODE
-/// or IODnav.
+/// The line of an item of a file in a list, with the number of its record's first line:
+/// `<line> EPH <satellite> <issue> <week of toe> <toe in seconds>`, or `<line> ION <satellite>`, and LF. The issue is IODE or
+/// IODnav.
 #[tactic(auto, unfolding(crate::specs::ItemTexts::list_item))]
 pub fn item_line(line: u64, item: &NavItem) -> Text
     ensures { result.items ≡ list_item line item.now }

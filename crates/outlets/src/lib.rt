@@ -1,7 +1,7 @@
-//! The output of items and periods, in each format that a run writes.
+//! What items and periods become, in each form that a run writes.
 //!
-//! A [`Target`] is the format. It writes a first text, one for each item or period, and a last one,
-//! each by one write; no memory is allocated. `specs/Targets.antt` has the texts.
+//! A [`Target`] names the form. It writes a text in front, one for each item or period, and one behind; each is handed over by
+//! one write, and no memory is taken. `specs/Targets.antt` says the texts.
 //!
 //! ```rust
 //! let mut sink = WriteSink::new(rt.stdout());

@@ -8,8 +8,8 @@ use crate::append_issue;
 use one_run::{Text, append, append_decimal, append_hex};
 use periods::{Closed, Key, Verdict};
 
-// Appends the key of a period: an ephemeris by satellite and issue of data, ionosphere parameters
-// by system letter and their bits in hexadecimal.
+// Appends what a period is a period of: an ephemeris by its satellite and issue, an ionosphere by
+// the letter of its system and the hexadecimal digits of its content.
 fn append_key(text: &mut Text, key: &Key)
     requires { array_vec_len text.old + 48 ≤ 640 }
     ensures items { text.new.items ≡ text.old.items ++ key_text key.now }
@@ -29,7 +29,7 @@ fn append_key(text: &mut Text, key: &Key)
     }
 }
 
-// The verdict on a period in one word.
+// What is said of a period, in a word.
 fn verdict_word(verdict: &Verdict) -> &'static [u8]
     ensures word { result.now ≡ verdict_text verdict.now }
     ensures short { length result.now ≤ 12 }

@@ -1,4 +1,4 @@
-//! The output of items and periods: a first text, one for each, and a last one, each by one write.
+//! What is written of items and periods: a text in front, one for each, and one behind, each by one write.
 
 ghost use Rattle.nav_io.specs.Writes.{Writes};
 ghost use Rattle.outlets.specs.Targets.{back_text, prefix_text, item_text, period_text};
@@ -12,12 +12,12 @@ use periods::{Closed, Verdict};
 use rinex_write::{write_header, write_header3, write_item, write_item3};
 
 impl Target {
-    /// Writes the first text: the header of a navigation file, else nothing.
+    /// Writes what stands in front: the header of a navigation file.
     ///
     /// # Errors
     ///
-    /// `Failed` only where the sink's count of faults rose in this call or is at its maximum; a
-    /// prefix of the text was appended then. So in the other three.
+    /// `Failed` only where the sink's count of faults rose in this call, or stands at its last value; a prefix of the text was
+    /// appended then. So in the other three.
     pub fn begin<T: Sink>(&self, out: &mut T) -> Result<(), Failed>
         ensures { Writes (T.written out.old) (T.written out.new) (T.faults out.old) (T.faults out.new)
             result (prefix_text self.now) }
@@ -29,7 +29,7 @@ impl Target {
         }
     }
 
-    /// Writes an item; its record is at this line of its file.
+    /// Writes what an item becomes, whose record begins at that line of its file.
     pub fn put<T: Sink>(&self, line: u32, item: &NavItem, out: &mut T) -> Result<(), Failed>
         ensures { Writes (T.written out.old) (T.written out.new) (T.faults out.old) (T.faults out.new)
             result (item_text self.now line item.now) }
@@ -43,7 +43,7 @@ impl Target {
         }
     }
 
-    /// Writes a closed period.
+    /// Writes what a period that is closed becomes.
     pub fn list<T: Sink>(&self, closed: &Closed, out: &mut T) -> Result<(), Failed>
         ensures { Writes (T.written out.old) (T.written out.new) (T.faults out.old) (T.faults out.new)
             result (period_text self.now closed.now) }
@@ -58,7 +58,7 @@ impl Target {
         }
     }
 
-    /// Writes the last text: the counts, where only these are asked for.
+    /// Writes what stands behind: the text of the counts, where nothing but these is asked for.
     pub fn end<T: Sink>(&self, counts: &[u8], out: &mut T) -> Result<(), Failed>
         ensures { Writes (T.written out.old) (T.written out.new) (T.faults out.old) (T.faults out.new)
             result (back_text self.now counts.now) }

@@ -1,4 +1,4 @@
-//! The messages of items.
+//! What an item becomes, in each form that a run writes.
 
 ghost use Rattle.std.specs.Prelude.{◌≤◌, length};
 ghost use Rattle.nav_io.specs.Writes.{Writes};
@@ -12,7 +12,7 @@ use rtcm_eph::{write_1019, write_1046};
 use rtcm_frame::write_frame;
 
 /// Appends the frame of an ephemeris to a sink, by one write: message 1019 or 1046 (RTCM 10403.3,
-/// 3.5). For ionosphere parameters nothing is written.
+/// 3.5). Nothing is written of an ionosphere.
 #[tactic(auto, unfolding(crate::specs::ItemTexts::rtcm_item))]
 pub fn write_message<T: Sink>(item: &NavItem, out: &mut T) -> Result<(), Failed>
     ensures { Writes (T.written out.old) (T.written out.new) (T.faults out.old) (T.faults out.new)

@@ -1,2 +1,2 @@
--- What other crates cite: the text of two concatenated lists of what is sent.
+-- What other crates cite: the text of one list of what is sent behind another.
 pub use Rattle.page_send.proofs.Texts.{texts_append, slots_append, sendable_append}

@@ -1,4 +1,4 @@
--- The lines of what is sent, and of two lists of it concatenated.
+-- The lines of what is sent, one list of it behind another.
 use Rattle.std.proofs.Common.{◌≡◌, ℕ, suc, ◌+◌, Bool, true, false, if◌then◌else◌, List, [], ◌∷◌, ◌++◌, length, refl, ap, sym, ◌∙◌, append_assoc, append-nil, arith}
 use Rattle.nav_eph.specs.declared.items.NavItem.{NavItem}
 use Rattle.capture_lines.specs.declared.item.LineItem.{LineItem}
@@ -34,7 +34,7 @@ sendable_append r slot (x ∷ xs) more = by (is_sent r x slot) (sendable_append 
         ap (λ t. x ∷ t) (sent ∙ ap (λ s. sendable r (slot + 1) xs ++ sendable r s more) e)
     by false sent kept = kept
 
--- one more page after the pages of a slot
+-- one more page behind the pages of a slot
 pub five_pages : (a b c d e : List LineItem) (p q s t u : List ℕ)
     → p ≡ text_of_items a → q ≡ p ++ text_of_items b → s ≡ q ++ text_of_items c → t ≡ s ++ text_of_items d → u ≡ t ++ text_of_items e
     → u ≡ text_of_items (a ++ (b ++ (c ++ (d ++ e))))

@@ -20,19 +20,19 @@ is_ephemeris (Gps e) = true
 is_ephemeris (Gal e) = true
 is_ephemeris (Ion e) = false
 
--- IODC and IODE of GPS are of different issues: the low eight bits of IODC differ from IODE
+-- the clock and the orbit of GPS have different issues: the low eight digits of iodc are not iode
 abbrev pub has_other_issue : NavItem → Bool
 has_other_issue (Gps e) = not (nat_eq (e.clock.iodc % 256) e.a.iode)
 has_other_issue (Gal e) = false
 has_other_issue (Ion e) = false
 
--- the transmitted week number does not resolve to the week of toe near the week r
+-- the digits that are sent do not mean the week of toe near the week r
 abbrev pub is_far : ℕ → NavItem → Bool
 is_far r (Gps e) = not (near_gps r e.toe_week)
 is_far r (Gal e) = not (near_galileo r e.toe_week)
 is_far r (Ion e) = false
 
--- the slot's stamps do not fit in 32 bits; those of 198,842 slots do
+-- there is no such slot: the stamps of 198,842 have 32 digits
 abbrev pub is_full : ℕ → Bool
 is_full slot = nat_le 198842 slot
 
@@ -41,11 +41,11 @@ abbrev pub first_fault : Bool → Bool → Bool → Option SendFault
 first_fault issue week room =
     if issue then Some Issue else if week then Some Week else if room then Some Room else None
 
--- why an ephemeris may not be sent in a slot near the week r, if so
+-- why an ephemeris may not be sent in a slot, near the week r
 abbrev pub send_fault : ℕ → NavItem → ℕ → Option SendFault
 send_fault r item slot = first_fault (has_other_issue item) (is_far r item) (is_full slot)
 
--- there is no reason against sending
+-- the item is sent in the slot
 abbrev pub no_fault : Option SendFault → Bool
 no_fault None = true
 no_fault (Some fault) = false
@@ -53,7 +53,7 @@ no_fault (Some fault) = false
 abbrev pub is_sent : ℕ → NavItem → ℕ → Bool
 is_sent r item slot = is_ephemeris item && no_fault (send_fault r item slot)
 
--- the items that are sent, the first having this slot; one that may not be sent takes no slot
+-- those of the items that are sent, of which the first has this slot: one that may not be sent takes none
 abbrev pub sendable : ℕ → ℕ → List NavItem → List NavItem
 sendable r slot [] = []
 sendable r slot (x ∷ xs) =
@@ -64,7 +64,7 @@ abbrev pub slots_items : ℕ → List NavItem → List LineItem
 slots_items slot [] = []
 slots_items slot (x ∷ xs) = slot_items slot x ++ slots_items (slot + 1) xs
 
--- the first line of a capture
+-- the first line
 abbrev pub sent_head : List ℕ
 sent_head = codes "NAVCAP 1" ++ 10 ∷ []
 

@@ -1,5 +1,5 @@
--- What is sent of an ephemeris: the subframes of GPS (IS-GPS-200, 20.3.2) or the pages of Galileo (OS SIS ICD, 4.3.2), in a
--- slot of six hours of its own.
+-- What is sent of an ephemeris: the subframes of GPS (IS-GPS-200, 20.3.2) or the pages of Galileo (OS SIS
+-- ICD, 4.3.2), in a slot of six hours of its own.
 use Rattle.std.specs.Prelude.{ℕ, pos, ◌+◌, ◌-◌, ◌*◌, ◌/◌, ◌%◌, List, [], ◌∷◌, ◌++◌}
 use Rattle.nav_eph.specs.Satellite.{Satellite}
 use Rattle.nav_eph.specs.declared.items.GpsEph.{GpsEph}
@@ -17,45 +17,45 @@ use Rattle.capture_lines.specs.Texts.{half_text, lnav_text}
 use Rattle.capture_lines.specs.declared.item.LineItem.{LineItem}
 use Rattle.capture_lines.specs.declared.item.LineItem.TheVariants.{Pass, Lnav, Half, Frame, Malformed}
 
--- the stamp at which a slot begins, one every six hours
+-- the stamp at which a slot begins: there is one every six hours
 abbrev pub slot_stamp : ℕ → ℕ
 slot_stamp slot = 21600 * slot
 
--- toe as a second of the week
+-- the second of the week of toe
 abbrev pub gps_second : GpsEph → ℕ
 gps_second e = 16 * e.a.toe
 
 abbrev pub galileo_second : GalEph → ℕ
 galileo_second e = 60 * e.w1.toe
 
--- the time of week of the first GPS subframe: toe rounded down to a multiple of the 6 s of a subframe
+-- the second of the week at which GPS sends: that of toe, rounded down to a multiple of the 6 s of a subframe
 abbrev pub gps_transmission : GpsEph → ℕ
 gps_transmission e = gps_second e - gps_second e % 6
 
--- The TOW count of subframe 1 to 3, which is the start of the next one; a week has 100,800 counts.
+-- The count of the subframe with that number, 1 to 3, which names the start of the next one; a week has 100,800.
 abbrev pub count_of : GpsEph → ℕ → ℕ
 count_of e number = (gps_transmission e / 6 + number) % 100800
 
--- the week of toe as GPS's 10-bit and as Galileo's 12-bit week number, which counts from GPS week 1024
+-- the week of toe in the ten digits of GPS, and in the twelve of Galileo, which counts from week 1024 on
 abbrev pub gps_week_number : GpsEph → ℕ
 gps_week_number e = e.toe_week % 1024
 
 abbrev pub galileo_week_number : GalEph → ℕ
 galileo_week_number e = (e.toe_week + 3072) % 4096
 
--- ionosphere parameters and disturbance flags that are all 0
+-- an ionosphere whose parameters and disturbance flags are all 0
 abbrev pub no_ionosphere : GalIon
 no_ionosphere = record { ai0 = 0; ai1 = pos 0; ai2 = pos 0; regions = 0 }
 
--- a subframe with its TOW count, at a stamp
+-- a subframe with its count, at a stamp
 unfoldable pub subframe_item : ℕ → Satellite → SubframeOut → ℕ → LineItem
-subframe_item stamp sat body tow_count = Lnav stamp sat (subframe_bytes body tow_count)
+subframe_item stamp sat body count = Lnav stamp sat (subframe_bytes body count)
 
--- a page part on E1-B, at a stamp
+-- a half of a page on E1-B, at a stamp
 unfoldable pub half_item : ℕ → Satellite → ℕ → LineItem
 half_item stamp sat half = Half stamp sat E1b (bytes_of_half half)
 
--- the page of a word on E1-B: the even part at the stamp, the odd part one second later
+-- the page of a word on E1-B: its even half at a stamp, its odd half a second later
 abbrev pub page_items : ℕ → Satellite → List ℕ → List LineItem
 page_items stamp sat word =
     half_item stamp sat (even_of word) ∷ half_item (stamp + 1) sat (odd_of word) ∷ []
@@ -67,7 +67,7 @@ gps_items s e =
     ∷ subframe_item (s + 6) e.sat (OrbitA e.a e.fit) (count_of e 2)
     ∷ subframe_item (s + 12) e.sat (OrbitB e.b) (count_of e 3) ∷ []
 
--- word types 1 to 5, one every two seconds; word type 5 has the health, the week and the second of toe
+-- words 1 to 5, one every two seconds; the fifth says the health, the week and the second of toe
 abbrev pub galileo_items : ℕ → GalEph → List LineItem
 galileo_items s e =
     page_items s e.sat (word1_bytes e.w1)
@@ -77,7 +77,7 @@ galileo_items s e =
     ++ page_items (s + 8) e.sat
     (word5_bytes e.health no_ionosphere (galileo_week_number e) (galileo_second e)))))
 
--- what is sent from a stamp on; nothing of ionosphere parameters
+-- what is sent from a stamp on; nothing of an ionosphere
 abbrev pub items_at : ℕ → NavItem → List LineItem
 items_at s (Gps e) = gps_items s e
 items_at s (Gal e) = galileo_items s e
@@ -87,7 +87,7 @@ items_at s (Ion e) = []
 abbrev pub slot_items : ℕ → NavItem → List LineItem
 slot_items slot item = items_at (slot_stamp slot) item
 
--- the line of an item that is sent, with its end
+-- the line of what is sent, with its end
 abbrev pub text_of_item : LineItem → List ℕ
 text_of_item (Lnav stamp sat bits) = lnav_text stamp sat bits
 text_of_item (Half stamp sat signal bits) = half_text stamp sat signal bits

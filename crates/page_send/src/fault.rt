@@ -11,22 +11,22 @@ use thiserror::Error;
 /// Why an ephemeris may not be sent: the first of these that holds, in this order.
 #[derive(Clone, Copy, PartialEq, Eq, Debug, Error)]
 pub enum SendFault {
-    /// The clock and orbit of GPS are of different issues of data: the low eight bits of IODC
-    /// differ from IODE (IS-GPS-200, 20.3.4.4).
+    /// The clock and the orbit of GPS are of different issues: the low eight bits of iodc are not
+    /// iode (IS-GPS-200, 20.3.4.4).
     #[error("issue")]
     Issue,
-    /// The transmitted week number would be resolved to another week than that of toe.
+    /// The week number that is sent would mean another week than that of toe.
     #[error("week")]
     Week,
-    /// No slot is left: the stamps of 198,842 slots fit in 32 bits.
+    /// No slot is left: the stamps of 198,842 slots have 32 bits.
     #[error("room")]
     Room,
 }
 
-// The number of slots whose stamps fit in 32 bits.
+// The slots whose stamps have 32 bits.
 const SLOTS: u32 = 198_842;
 
-// Whether IODC and IODE of a GPS ephemeris are of different issues.
+// The clock and the orbit of GPS have different issues.
 fn has_two_issues(item: &NavItem) -> bool
     ensures { result ≡ has_other_issue item.now }
 {
@@ -37,7 +37,7 @@ fn has_two_issues(item: &NavItem) -> bool
     }
 }
 
-// Whether the transmitted week number does not resolve to the week of toe.
+// The digits that are sent do not mean the week of toe.
 fn is_far_from(item: &NavItem, r: RefWeek) -> bool
     ensures { result ≡ is_far r item.now }
 {
@@ -48,23 +48,23 @@ fn is_far_from(item: &NavItem, r: RefWeek) -> bool
     }
 }
 
-// Whether the slot's stamps do not fit in 32 bits.
+// There is no such slot.
 fn is_past_the_last(slot: u32) -> bool
     ensures { result ≡ is_full slot }
 {
     slot >= SLOTS
 }
 
-/// Whether an ephemeris may be sent in a slot, counted from 0, to a receiver that resolves week
+/// Whether an ephemeris may be sent in a slot, counted from 0, to a receiver that takes week
 /// numbers near the week `r`.
 ///
 /// # Errors
 ///
 /// The first of these that holds, in this order:
 ///
-/// - `Issue`: a GPS ephemeris where the low eight bits of IODC differ from IODE;
-/// - `Week`: the week of toe is not one that the transmitted number resolves to near `r`: for GPS the
-///   1024 weeks from `r` - 512 on, for Galileo the 4096 weeks from `r` - 2048 or 1024 on, whichever is
+/// - `Issue`: an ephemeris of GPS whose iodc has other low eight bits than iode;
+/// - `Week`: the week of toe is none of those that the digits tell apart near `r`: the 1024 of GPS
+///   from `r` - 512 on, the 4096 of Galileo from `r` - 2048 on, or from 1024 on where that is
 ///   later;
 /// - `Room`: the slot is 198,842 or more.
 pub fn can_send(item: &NavItem, r: RefWeek, slot: u32) -> Result<(), SendFault>

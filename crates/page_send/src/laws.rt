@@ -1,4 +1,4 @@
-//! Laws of what is sent. Each function does nothing; its contract is the law.
+//! Laws of what is sent: each function does nothing, and its contract is the law.
 
 ghost use Rattle.std.specs.Prelude.{◌≡◌, ℕ, ◌+◌, ◌*◌, ◌<◌, ◌≤◌, ◌++◌, List, length, None, true};
 ghost use Rattle.std.specs.Prelude.{All};
@@ -6,7 +6,7 @@ ghost use Rattle.nav_eph.specs.declared.items.NavItem.{NavItem};
 ghost use Rattle.page_send.specs.Sendable.{IsEphemeris, is_sent, send_fault, sendable, slots_items};
 ghost use Rattle.page_send.specs.Slots.{text_of_items};
 
-/// An item is sent in a slot exactly where it is an ephemeris without a fault.
+/// An item is sent in a slot where it is an ephemeris without a fault.
 pub fn what_may_be_sent()
     ensures sent { (r slot : ℕ) (item : NavItem) → IsEphemeris item
         → send_fault r item slot ≡ None → is_sent r item slot ≡ true }
@@ -14,8 +14,8 @@ pub fn what_may_be_sent()
         → IsEphemeris item × (send_fault r item slot ≡ None) × (slot < 198842) }
 {}
 
-/// What is sent of some items followed by more is that of the first, then that of the others in the
-/// following slots.
+/// What is sent of some items and then of more is that of the first, and behind it that of the
+/// others, in the slots behind theirs.
 pub fn sent_text_goes_on()
     ensures items { (r slot : ℕ) (some more : List NavItem) → sendable r slot (some ++ more)
         ≡ sendable r slot some ++ sendable r (slot + length (sendable r slot some)) more }

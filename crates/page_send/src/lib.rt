@@ -1,17 +1,18 @@
-//! Sending: an ephemeris as the bits that its satellite would transmit, each with the second at
-//! which a receiver's logger would receive it.
+//! Sending: an ephemeris as the bits that a satellite would send of it, each with the second at
+//! which a receiver's logger would hear it.
 //!
-//! A GPS ephemeris is sent as subframes 1 to 3 of the LNAV message (IS-GPS-200, 20.3.2), a Galileo
-//! one as the pages of word types 1 to 5 of the I/NAV message on E1-B (OS SIS ICD, 4.3.2). Each has
-//! a slot of six hours of its own, so that parts of two ephemerides are never combined.
+//! An ephemeris of GPS is sent as subframes 1 to 3 of the LNAV message (IS-GPS-200, 20.3.2), one of
+//! Galileo as the pages of the words 1 to 5 of the I/NAV message on E1-B (OS SIS ICD, 4.3.2). Each
+//! has a slot of six hours of its own, so that no two of them share a period in which parts belong
+//! together.
 //!
-//! - [`can_send`] tells whether an ephemeris may be sent in a slot, or the first reason why not
+//! - [`can_send`], whether an ephemeris may be sent in a slot, or the first reason why not
 //!   ([`SendFault`]);
-//! - [`send_item`] writes the lines of a slot.
+//! - [`send_item`], which writes the lines of a slot.
 //!
-//! `specs/Slots.antt` has what is sent in a slot, `specs/Sendable.antt` which ephemerides of a list
-//! are sent and the text of all of them, and `specs/SentItems.antt` the items that are received
-//! from it.
+//! `specs/Slots.antt` says what is sent in a slot, `specs/Sendable.antt` which ephemerides of a
+//! list are sent and the text of all of them, and `specs/SentItems.antt` the items that come back
+//! of it.
 //!
 //! ```rust
 //! match can_send(&item, week, slot) {

@@ -34,25 +34,25 @@ pub(crate) fn push_subframe(
     stamp: u32,
     sat: Sat,
     body: &SubframeOut,
-    tow_count: u32,
+    count: u32,
     text: &mut SlotText,
 )
     requires system { sat.system ≡ Gps }
-    requires week { tow_count < 100800 }
+    requires week { count < 100800 }
     requires page { IsWritable body.now }
     requires room { array_vec_len text.old + 94 ≤ 500 }
     ensures text { text.new.items
-        ≡ text.old.items ++ text_of_item (subframe_item stamp sat body.now tow_count) }
+        ≡ text.old.items ++ text_of_item (subframe_item stamp sat body.now count) }
     ensures len { array_vec_len text.new ≤ array_vec_len text.old + 94 }
 {
-    let bits = write_subframe(body, U::from_bits(u64::from(tow_count)));
+    let bits = write_subframe(body, U::from_bits(u64::from(count)));
     bits.are_bytes();
     let mut line = LineText::new();
     write_lnav(stamp, sat, &bits, &mut line);
     push_line(&line, text);
 }
 
-// Appends the line of a page part on E1-B.
+// Appends the line of a half of a page on E1-B.
 fn push_half(stamp: u32, sat: Sat, half: &Half, text: &mut SlotText)
     requires system { sat.system ≡ Gal }
     requires room { array_vec_len text.old + 50 ≤ 500 }
@@ -66,8 +66,8 @@ fn push_half(stamp: u32, sat: Sat, half: &Half, text: &mut SlotText)
     push_line(&line, text);
 }
 
-// Appends the lines of the page of a word on E1-B: the even part at the stamp, the odd part one
-// second later.
+// Appends the lines of the page of a word on E1-B: the even half at the stamp, the odd one a second
+// later.
 pub(crate) fn push_page(stamp: u32, sat: Sat, word: &Bits<16>, text: &mut SlotText)
     requires system { sat.system ≡ Gal }
     requires stamp { stamp + 1 < 2 ^ 32 }

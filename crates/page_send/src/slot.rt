@@ -19,27 +19,27 @@ use nav_bits::{S, U};
 use nav_eph::{GalEph, GalIon, GpsEph, NavItem};
 use nav_io::{Failed, Sink};
 
-// The length of a slot in seconds.
+// The seconds of a slot.
 const SLOT_SECONDS: u32 = 21_600;
 
-// The TOW counts of a week, one every 6 s.
+// The counts of a week, one every 6 s.
 const COUNTS: u32 = 100_800;
 
-// The 6 s intervals from the start of the week to the first GPS subframe.
-fn first_tow_count(e: &GpsEph) -> u32
+// The 6 s intervals of the week that have passed when GPS begins to send.
+fn first_count(e: &GpsEph) -> u32
     ensures same { result ≡ gps_transmission e.now / 6 }
     ensures week { result < 100800 }
 {
     16 * e.a.toe.value() as u32 / 6
 }
 
-// The TOW count of a subframe, which is the time of the start of the next one.
-fn tow_count(e: &GpsEph, number: u32) -> u32
+// The count of a subframe, which names the start of the next one.
+fn count(e: &GpsEph, number: u32) -> u32
     requires { number ≤ 3 }
     ensures same { result ≡ count_of e.now number }
     ensures week { result < 100800 }
 {
-    (first_tow_count(e) + number) % COUNTS
+    (first_count(e) + number) % COUNTS
 }
 
 // Appends the lines of subframes 1, 2 and 3.
@@ -59,12 +59,12 @@ fn push_gps(stamp: u32, e: &GpsEph, text: &mut SlotText)
         fit: e.fit,
     };
     let b = SubframeOut::OrbitB { orbit: e.b };
-    push_subframe(stamp, e.sat, &clock, tow_count(e, 1), text);
-    push_subframe(stamp + 6, e.sat, &a, tow_count(e, 2), text);
-    push_subframe(stamp + 12, e.sat, &b, tow_count(e, 3), text);
+    push_subframe(stamp, e.sat, &clock, count(e, 1), text);
+    push_subframe(stamp + 6, e.sat, &a, count(e, 2), text);
+    push_subframe(stamp + 12, e.sat, &b, count(e, 3), text);
 }
 
-// Ionosphere parameters and disturbance flags that are all 0.
+// An ionosphere whose parameters and disturbance flags are all 0.
 fn nothing_said() -> GalIon
     ensures { result ≡ no_ionosphere }
 {
@@ -76,21 +76,21 @@ fn nothing_said() -> GalIon
     }
 }
 
-// toe as a second of the week.
+// The second of the week of toe.
 fn toe_second(e: &GalEph) -> Second
     ensures { result ≡ galileo_second e.now }
 {
     Second::from_number(60 * e.w1.toe.value() as u32)
 }
 
-// The week of toe as Galileo's 12-bit week number.
+// The week of toe in the twelve digits of Galileo.
 fn week_number(e: &GalEph) -> U<12>
     ensures { result ≡ galileo_week_number e.now }
 {
     U::from_bits(u64::from((e.toe_week.value() + 3072) % 4096))
 }
 
-// Appends the lines of the pages of word types 1 to 5.
+// Appends the lines of the pages of words 1 to 5.
 fn push_galileo(stamp: u32, e: &GalEph, text: &mut SlotText)
     requires system { e.now.sat.system ≡ Gal }
     requires stamp { stamp + 12 < 2 ^ 32 }
@@ -105,7 +105,7 @@ fn push_galileo(stamp: u32, e: &GalEph, text: &mut SlotText)
     push_page(stamp + 8, e.sat, &word, text);
 }
 
-// The lines of an ephemeris sent from a stamp on.
+// The lines of what is sent from a stamp on.
 fn slot_lines(stamp: u32, item: &NavItem) -> SlotText
     requires whole { IsItem item.now }
     requires stamp { stamp + 12 < 2 ^ 32 }
@@ -120,22 +120,22 @@ fn slot_lines(stamp: u32, item: &NavItem) -> SlotText
     text
 }
 
-/// Writes the lines of an ephemeris in its slot, by one write. Slot `slot` begins at stamp 21,600
-/// times its number.
+/// Writes the lines of an ephemeris in its slot, by one write; the slot `slot` begins at the stamp
+/// 21,600 times its number.
 ///
-/// GPS: subframes 1, 2 and 3, one every six seconds; subframe 1 begins at toe rounded down to a
-/// multiple of 6 s, and its TOW count is the start of subframe 2 (IS-GPS-200, 20.3.3.2). Galileo:
-/// the even and odd page parts of word types 1 to 5, one every second; word type 5 has the health,
-/// the week and second of toe, and ionosphere parameters that are 0 (OS SIS ICD, 4.3.5). The line
-/// format is that of [`write_lnav`](capture_lines::write_lnav) and
+/// GPS: subframes 1, 2 and 3, one every six seconds, the first with the TOW count that names the start
+/// of the second one, at toe rounded down to a multiple of 6 s (IS-GPS-200, 20.3.3.2). Galileo:
+/// the even and the odd page parts of words 1 to 5, one every second; word 5 has the health, the week
+/// and the second of toe, and an ionosphere whose numbers are 0 (OS SIS ICD, 4.3.5). Spelling and
+/// digits are those of [`write_lnav`](capture_lines::write_lnav) and
 /// [`write_half_line`](capture_lines::write_half_line).
 ///
-/// No memory is allocated.
+/// It takes no memory.
 ///
 /// # Errors
 ///
-/// `Failed` only where the sink's count of faults rose in this call or is at its maximum; a prefix
-/// of the lines was appended then.
+/// `Failed` only where the sink's count of faults rose in this call, or stands at its last value; a
+/// prefix of the lines was appended then.
 #[tactic(auto, unfolding(crate::specs::Slots::slot_text))]
 pub fn send_item<T: Sink>(item: &NavItem, r: RefWeek, slot: u32, out: &mut T) -> Result<(), Failed>
     requires ephemeris { IsEphemeris item.now }

@@ -1,4 +1,4 @@
--- Known bytes, with the peeked ones before them.
+-- Known bytes, with those that were looked at in front.
 use Rattle.std.proofs.Common.{◌≡◌, ◌+◌, ◌≤◌, ℕ, List, [], ◌++◌, length, take, drop, Option, None, Some, Result, IfSome, refl, sym, ap, ◌∙◌, append-nil, append_assoc}
 use Rattle.std.proofs.lemmas.List.{drop-drop, take-append-drop, take_all, take_at}
 use Rattle.std.specs.Io.KnownBytes.{Consumes, IsAtEnd, Keeps, ReadConsumes, prepend_known}
@@ -7,7 +7,7 @@ pub prepend_none : (prefix : List ℕ) (known : Option (List ℕ)) → prefix �
 prepend_none prefix None e = refl
 prepend_none prefix (Some xs) e = ap (λ (s : List ℕ). Some (s ++ xs)) e
 
--- a read after a prefix that was given again
+-- a read behind a prefix that was given again
 pub behind : {E : Type 0} (prefix : List ℕ) (old new : Option (List ℕ)) (r : Result ℕ E) (into : List ℕ) → prefix ≡ []
     → ReadConsumes old new r into → ReadConsumes (prepend_known prefix old) (prepend_known prefix new) r into
 behind prefix old new r into e h = rw (prepend_none prefix old e, prepend_none prefix new e) h
@@ -21,7 +21,7 @@ again (Some xs) prefix into place n e =
     ∙ ap (λ (s : List ℕ). take n into ++ s) (drop-drop n place prefix))
     ∙ append_assoc (take n into) (drop (place + n) prefix) xs
 
--- the bytes consumed and then the bytes left are those that were there
+-- what was consumed, in front of what is left, is what was there
 pub put_back : (known left : Option (List ℕ)) (prefix : List ℕ) → Consumes known left prefix → Keeps known (prepend_known prefix left)
 put_back None left prefix h = tt
 put_back (Some xs) None prefix h = h

@@ -1,4 +1,4 @@
-//! A source that counts the bytes read.
+//! A source whose bytes are counted.
 
 ghost use Rattle.std.specs.Prelude.{◌≡◌, ◌+◌, ◌-◌, ◌^◌, ◌≤◌, min, length, IsTrue, IsOk, IfOk};
 ghost use Rattle.std.specs.Prelude.{OnErr};
@@ -8,13 +8,13 @@ ghost use Rattle.nav_io.specs.Causes.{HasCause};
 
 use nav_io::{Failed, Source};
 
-/// Receives the number of bytes that were read. Nothing that it does changes what is read.
+/// Who is told how many bytes were read. Nothing that it does changes what is read.
 pub trait Progress: Drop {
-    /// The number of bytes read so far, at most 2^64 - 1.
+    /// So many bytes were read in all, up to 2^64 - 1.
     fn taken(&mut self, count: u64);
 }
 
-/// Ignores the count.
+/// Nobody is told.
 #[derive(Clone, Copy, Drop)]
 pub struct Untold;
 
@@ -22,7 +22,7 @@ impl Progress for Untold {
     fn taken(&mut self, _count: u64) {}
 }
 
-/// A source that gives what its inner source gives, and counts the bytes.
+/// A source that gives what the source inside gives, and counts the bytes.
 #[derive(Drop)]
 pub struct Counted<S: Source, P: Progress> {
     source: S,
@@ -31,7 +31,7 @@ pub struct Counted<S: Source, P: Progress> {
 }
 
 impl<S: Source, P: Progress> Counted<S, P> {
-    /// A source over this one, with a count of 0.
+    /// Over this source, with a count of 0.
     pub fn new(source: S, progress: P) -> Counted<S, P>
         ensures left { ⟦<Counted<S, P> as Source>⟧.left result ≡ S.left source }
         ensures faults { ⟦<Counted<S, P> as Source>⟧.faults result ≡ S.faults source }
@@ -45,14 +45,14 @@ impl<S: Source, P: Progress> Counted<S, P> {
         }
     }
 
-    /// The number of bytes read so far, at most 2^64 - 1.
+    /// How many bytes were read, up to 2^64 - 1.
     pub fn count(&self) -> u64
         ensures { result ≡ self.now.count }
     {
         self.count
     }
 
-    /// The inner source, and the receiver of counts.
+    /// The source inside, and who was told.
     pub fn into_parts(self) -> (S, P)
         ensures { result ≡ (self.source, self.progress) }
     {
@@ -72,7 +72,7 @@ impl<S: Source, P: Progress> Source for Counted<S, P> {
 
     ghost never_fails = { λ s. S.never_fails s.source };
 
-    /// One `read` of the inner source.
+    /// One `read` of the source inside.
     fn read(&mut self, into: &mut [u8]) -> Result<usize, Failed>
         requires asks { length into.old ≤ 16384 }
         ensures bound { ReadsAtMost result into.new }

@@ -1,8 +1,8 @@
-//! Sources whose first bytes are peeked at, and sources that report their progress.
+//! Sources that are looked at before they are read, and sources that tell how far they have come.
 //!
-//! [`peek`] reads the first bytes of a source, and returns a source that gives them again and then
-//! what follows: nothing is lost, so a pipe can be peeked at like a file. [`Counted`] counts the bytes
-//! that are read, and passes each count to a [`Progress`].
+//! [`peek`] reads the first bytes of a source, and gives a source that gives them again, with what
+//! follows: nothing is lost, so a pipe can be looked at as a file can. [`Counted`] counts the bytes
+//! that are read, and tells each count to a [`Progress`].
 //!
 //! ```rust
 //! let peeked = peek(rt.alloc(), ReadSource::new(rt.stdin()), 80)?;

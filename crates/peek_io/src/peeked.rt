@@ -1,4 +1,4 @@
-//! A source whose first bytes were peeked at.
+//! A source whose first bytes were looked at.
 
 ghost use Rattle.std.specs.Prelude.{◌≡◌, ◌<◌, ◌≤◌, [], length, take, drop};
 ghost use Rattle.std.specs.Prelude.{IsTrue, IsOk, IfOk, OnOk, IfSome, MatchResult};
@@ -8,7 +8,7 @@ ghost use Rattle.nav_io.specs.Causes.{HasCause};
 use nav_io::{Failed, Source};
 use std::alloc::{AllocError, Global};
 
-/// Why a source could not be peeked at.
+/// Why a source could not be looked at.
 #[derive(Clone, Copy, PartialEq, Eq, Debug)]
 pub enum PeekFault {
     /// There was no memory.
@@ -27,25 +27,25 @@ impl From<AllocError> for PeekFault {
     }
 }
 
-/// A source whose first bytes were peeked at. It gives them again, and then what follows.
+/// A source whose first bytes were looked at. It gives them again, and then what follows.
 #[derive(Drop)]
 pub struct Peeked<S: Source> {
     prefix: Vec<u8>,
-    // offset in the prefix: how many of its bytes were given again
+    // how many bytes of the prefix were given again
     place: usize,
     source: S,
     ghost within: { place ≤ length prefix.items },
 }
 
 impl<S: Source> Peeked<S> {
-    /// The bytes that were peeked at.
+    /// The bytes that were looked at.
     pub fn prefix(&self) -> &[u8]
         ensures { result.now ≡ self.now.prefix.items }
     {
         &self.prefix
     }
 
-    /// The inner source. Bytes of the prefix that were not given again are dropped.
+    /// The source inside. What was not given again of the prefix is let go.
     pub fn into_source(self) -> S
         ensures { result ≡ self.source }
     {
@@ -75,7 +75,7 @@ impl<S: Source> Source for Peeked<S> {
 
     ghost never_fails = { λ s. S.never_fails s.source };
 
-    /// Gives the bytes left in the prefix, and after them one `read` of the inner source.
+    /// Gives what is kept of the prefix, and behind it one `read` of the source inside.
     fn read(&mut self, into: &mut [u8]) -> Result<usize, Failed> {
         if self.place == self.prefix.len() {
             return self.source.read(into);
@@ -86,15 +86,15 @@ impl<S: Source> Source for Peeked<S> {
     }
 }
 
-/// Peeks at the first `most` bytes of a source, or at all where it has fewer.
+/// Looks at the first bytes of a source, so many at most: fewer only where it has no more.
 pub fn peek<S: Source + Drop>(alloc: Global, source: S, most: usize) -> Result<Peeked<S>, PeekFault>
-    // The source returned has the bytes of this one.
+    // The source that is given has the bytes of this one.
     ensures left { IfOk result (λ peeked.
         Keeps (S.left source) (⟦<Peeked<S> as Source>⟧.left peeked)) }
     ensures prefix { IfOk result (λ peeked.
         IfSome (S.left source) (λ bytes. peeked.prefix.items ≡ take most bytes)) }
 
-    // Its fault count is that of the source, and a read fails only where one of the source does.
+    // It has failed as often, and a read fails only where one of the source does.
     ensures faults { IfOk result (λ peeked.
         ⟦<Peeked<S> as Source>⟧.faults peeked ≡ S.faults source) }
     ensures never { IsTrue (S.never_fails source) → MatchResult result
@@ -111,7 +111,7 @@ pub fn peek<S: Source + Drop>(alloc: Global, source: S, most: usize) -> Result<P
     })
 }
 
-// Reads until `most` bytes are there, or the source is at its end.
+// Reads until so many bytes are there, or the source is at its end.
 fn fill<S: Source>(source: &mut S, prefix: &mut Vec<u8>, most: usize) -> Result<(), PeekFault>
     requires { prefix.old.items ≡ [] }
     ensures bytes { OnOk result (Consumes (S.left source.old) (S.left source.new)
@@ -133,7 +133,7 @@ fn fill<S: Source>(source: &mut S, prefix: &mut Vec<u8>, most: usize) -> Result<
     Ok(())
 }
 
-// Reads at most `most` bytes into the start of the piece.
+// Reads so many bytes at most into the front of the piece.
 fn read_part<S: Source>(source: &mut S, piece: &mut [u8], most: usize) -> Result<usize, Failed>
     requires some { 0 < most }
     requires room { 0 < length piece.old }
@@ -152,7 +152,7 @@ fn read_part<S: Source>(source: &mut S, piece: &mut [u8], most: usize) -> Result
     source.read(&mut piece[..len])
 }
 
-// Copies the first of the bytes left in the prefix.
+// Copies the first bytes that are kept.
 fn give(kept: &[u8], into: &mut [u8]) -> usize
     ensures kept { result ≤ length kept.now }
     ensures fits { result ≤ length into.new }

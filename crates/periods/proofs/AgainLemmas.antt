@@ -1,4 +1,4 @@
--- The key's last complete period before an end, and its repetition: the same for equal sets, kept by later parts, and unique.
+-- The key's last complete period before an end, and what repeats it: the same for the same set, kept by later parts, and one.
 use Rattle.std.proofs.Common.{◌≡◌, ℕ, ◌+◌, ◌<◌, inl, inr, sym, subst, ◌∙◌, arith}
 use Rattle.periods.proofs.EndSurface.{Same, same_sym}
 use Rattle.nav_eph.specs.declared.items.NavItem.{NavItem}
@@ -69,7 +69,7 @@ IsLastBefore-was r w watermark old new key e item l low h = record {
   last = λ f other c k. h.last f other (IsComplete-keeps r w watermark old new key f other l (omega arith) c) k;
 }
 
--- the last complete period before an end is unique
+-- there is one last complete period before an end
 pub IsLastBefore-one : (r w : ℕ) (parts : Part → Type 0) (key : Key) (e : ℕ) (a b : NavItem)
     → ((p : Part) → parts p → IsPartValue p) → IsLastBefore r w parts key e a → IsLastBefore r w parts key e b → a ≡ b
 IsLastBefore-one r w parts key e a b values h k =
@@ -103,7 +103,7 @@ Repeats-was r w watermark old new q item l low h = record {
   alike = h.alike;
 }
 
--- the verdict on a finding is unique, and depends only on whether the item repeats an earlier one
+-- the verdict on a finding is one, and the same where the same is repeated
 pub IsJudged-same : (a b : NavItem → Type 0) (f : Finding) (v : Verdict) → Same a b → IsJudged a f v → IsJudged b f v
 IsJudged-same a b Differs v s h = h
 IsJudged-same a b Misses v s h = h

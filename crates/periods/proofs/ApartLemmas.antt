@@ -1,4 +1,4 @@
--- Parts that lie more than a window before others change none of their periods, and vice versa.
+-- Parts that are farther than a window before others change none of their periods, nor do the others change theirs.
 use Rattle.std.proofs.Common.{ℕ, ◌+◌, ◌<◌, ◌≤◌, ◌⊎◌, inl, inr, List, ◌++◌, Contains, All, refl, subst, arith}
 use Rattle.std.proofs.lemmas.List.Elements.{All-contains, Contains-append_left, Contains-append_right, Contains-append_cases}
 use Rattle.periods.specs.Ends.{IsEndOf}
@@ -36,7 +36,7 @@ splits_same w watermark first second a b s h = record {
   ends = h.ends;
 }
 
--- a list of parts, and later ones
+-- a list of parts, and others behind it
 pub splits_lists : (w watermark : ℕ) (some more : List Part) → All (λ p. p.stamp + w < watermark) some → All (λ p. watermark ≤ p.stamp) more
     → Splits w watermark (Contains some) (Contains more) (Contains (some ++ more))
 splits_lists w watermark some more low high = record {
@@ -62,7 +62,7 @@ stamps_apart w watermark first second all key h = record {
   ends = h.ends key;
 }
 
--- bounds of the ends of the periods of either set
+-- where the periods of either end
 pub left_low : (w watermark : ℕ) (first second all : Part → Type 0) (q : Place) → Splits w watermark first second all → IsPeriod w first q → q.end + w < watermark
 left_low w watermark first second all q h p = (stamps_apart w watermark first second all q.key h).low q.end p.heard
 
@@ -122,7 +122,7 @@ right_members w watermark first second all q h hq =
       };
     }
 
--- and the same health near their ends
+-- with the same health near their ends
 left_before : (w watermark : ℕ) (first second all : Part → Type 0) (key : Key) (e : ℕ) → Splits w watermark first second all → e + w < watermark
     → Same (IsUpToEnd w first key e) (IsUpToEnd w all key e)
 left_before w watermark first second all key e h l = record {
@@ -151,7 +151,7 @@ right_behind w watermark first second all key e h l = record {
   from = λ x v. behind_to w all second key e x (λ p k n i. elim (h.cases p i) [ inl a ↦ absurd (omega (arith, h.low p a, k)) | inr b ↦ b ]) v;
 }
 
--- and so the same findings
+-- and so they come to the same
 pub found_left : (r w watermark : ℕ) (first second all : Part → Type 0) (q : Place) → Splits w watermark first second all → IsPeriod w first q
     → Same (IsFound r w first q) (IsFound r w all q)
 found_left r w watermark first second all q h hq =

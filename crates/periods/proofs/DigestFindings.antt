@@ -1,4 +1,4 @@
--- The finding of the members' digest with the health near the end is the finding of the members.
+-- What a digest and the health near the end come to is what the members do.
 use Rattle.std.proofs.Common.{◌≡◌, ℕ, inl, inr, Bool, true, false, ◌||◌, if◌then◌else◌, List, [], ◌∷◌, Option, None, Some, refl}
 use Rattle.std.specs.List.{AllByRecursion}
 use Rattle.std.proofs.lemmas.Bool.{both_ways, or_cases, or_parts}
@@ -34,7 +34,7 @@ use Rattle.periods.specs.DigestsOf.{gps_item, gal_item, digest_finding}
 use Rattle.periods.specs.Mirrors.{or_else, seen_differs, seen_only}
 use Rattle.periods.proofs.ValueLemmas.{only_agrees, only_there, none_any}
 
--- the contents seen of some kinds, and whether two of one kind differ
+-- what is known of each of some kinds, and whether two of one of them differ
 abbrev Judged : (Part → Type 0) → Kind → Type 0
 Judged members k = (s : Seen (Value k)) × IsSeen (HasValue k members) s
 
@@ -66,7 +66,7 @@ none_differ members (k ∷ l ∷ ks) h e =
     let p = or_parts (seen_differs h.0.0) (differ_any members (l ∷ ks) h.1) e in
     ((h.0.0, h.0.1, p.0), none_differ members (l ∷ ks) h.1 p.1)
 
--- the only value, or none
+-- the one value there is, or that there is none
 abbrev IsOne : {X : Type 0} → (X → Type 0) → Option X → Type 0
 IsOne values None = IsEmpty values
 IsOne values (Some x) = IsOnly values x
@@ -84,7 +84,7 @@ agree : (key : Key) (members : Part → Type 0) → AllByRecursion (Agrees membe
 agree key members h =
     none_any _ _ (kinds_of key) (λ k a d. one_agrees (HasValue k members) (seen_only a.0) (seen_one (HasValue k members) a.0 a.1 a.2) d) h
 
--- a clock comes with SV status and a tag, subframe 2 with the fit interval flag
+-- beside a clock stand its side and a tag, beside the first half of an orbit the fit interval flag
 has_side : (members : Part → Type 0) (clock : GpsClock) → HasValue Clock members clock → IsEmpty (HasValue Side members) → ⊥
 has_side members clock h none =
     none (h.part.stamp, h.says.0) (record { part = h.part; here = h.here; says = (clock, h.says.1, h.says.2, refl) })
@@ -101,7 +101,7 @@ has_tag members clock h none nor = named h.says.1 h.says.2
 has_fit : (members : Part → Type 0) (orbit : GpsOrbitA) → HasValue OrbitA members orbit → IsEmpty (HasValue FitFlag members) → ⊥
 has_fit members orbit h none = none (h.part.stamp, h.says.0) (record { part = h.part; here = h.here; says = (orbit, h.says.1, refl) })
 
--- the tag of GPS, or none
+-- the tag of GPS, or that there is none
 abbrev IsBestTag : (Part → Type 0) → Option (ℕ × SentTag) → Type 0
 IsBestTag members None = IsEmpty (HasValue TransmissionTag members) × IsEmpty (HasValue ToeTag members)
 IsBestTag members (Some t) = IsGpsTag members t

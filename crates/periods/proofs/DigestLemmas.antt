@@ -1,4 +1,4 @@
--- Digests: of one part, of the union of two sets of parts, and of equal sets.
+-- Digests: that of one part, that of two sets of parts together, and that of the same set.
 use Rattle.std.proofs.Common.{◌≡◌, ℕ, inl, inr, Bool, true, false, if◌then◌else◌, List, Option, None, Some, refl, sym, ap, subst, ◌∙◌, rules}
 use Rattle.std.specs.Bool.{Decides}
 use Rattle.std.proofs.lemmas.Bool.{both_ways}
@@ -35,14 +35,14 @@ use Rattle.periods.proofs.Folds.{some_is, none_some, IsBest-same, Grows, best_jo
 use Rattle.periods.proofs.ReadingLemmas.{part_of, said_of, reading_of}
 use Rattle.periods.proofs.ValueLemmas.{IsUnion, same_values, union_values, IsEmpty-same, IsOnly-same, Differ-same, first_same}
 
--- the test holds exactly of equal values
+-- the test says yes exactly of values that are the same
 abbrev IsExact : {T : Type 0} → (T → T → Bool) → Type 0
 IsExact {T} eq = (x y : T) → Decides (eq x y) (x ≡ y)
 
 word1_decided : IsExact word1_eq.it
 word1_decided = λ x y. search rules
 
--- contents of the union of two sets
+-- contents of two sets together
 one_and_one : {X : Type 0} (eq : X → X → Bool) (exact : IsExact eq) (a b c : X → Type 0) (x y : X) → Grows a c b → IsOnly a x → IsOnly b y
     → (t : Bool) → eq x y ≡ t → IsSeen c (if t then One x else Different)
 one_and_one eq exact a b c x y g h k true e = record {
@@ -81,7 +81,7 @@ IsSeen-same a b Nothing s h = IsEmpty-same a b s h
 IsSeen-same a b (One x) s h = IsOnly-same a b x s h
 IsSeen-same a b Different s h = Differ-same a b s h
 
--- of one part: the value of `reading`
+-- of one part: what its reading gives
 reads : (k : Kind) (p : Part) (v : Value k) → HasValue k (λ q. q ≡ p) v → reading k p ≡ Some v
 reads k p v h = sym (ap (reading k) h.here) ∙ reading_of k h.part v h.says
 
@@ -159,7 +159,7 @@ digest_some p key e = some_digest p.stamp p.sat p.body key e
 pub digest_none : (p : Part) → key_of p ≡ None → digest_of p ≡ None
 digest_none p e = ap (λ (o : Option Key). digest_for o p) e
 
--- of the union of two sets
+-- of two sets together
 seen_union : (k : Kind) (eq : Value k → Value k → Bool) (exact : IsExact eq) (a b c : Part → Type 0) (x y : Seen (Value k)) → IsUnion a b c
     → IsSeen (HasValue k a) x → IsSeen (HasValue k b) y → IsSeen (HasValue k c) (seen_join eq x y)
 seen_union k eq exact a b c x y u h i = seen_join-is eq exact (HasValue k a) (HasValue k b) (HasValue k c) x y (union_values k a b c u) h i
@@ -214,7 +214,7 @@ digest_join-is (GpsIon n) a b c (IonForm x) y u h k = absurd k
 digest_join-is (GalIon n) a b c (IonForm x) y u h k = absurd k
 digest_join-is key a b c x y u h k = absurd h
 
--- equal sets have the same digest
+-- the same set has the same digest
 seen_same : (k : Kind) (a b : Part → Type 0) (x : Seen (Value k)) → Same a b → IsSeen (HasValue k a) x → IsSeen (HasValue k b) x
 seen_same k a b x s h = IsSeen-same (HasValue k a) (HasValue k b) x (same_values k a b s) h
 

@@ -1,4 +1,4 @@
--- Ends: at most one for a stamp, one for each stamp of a list, and those that later stamps keep.
+-- Ends: one at most for a stamp, one for each stamp of a list, and those that later stamps leave.
 use Rattle.std.proofs.Common.{◌≡◌, ℕ, zero, suc, ◌+◌, ◌<◌, ◌≤◌, ◌⊎◌, inl, inr, List, [], ◌∷◌, Option, Some, None, max, refl, sym, ap, ◌∙◌, arith}
 use Rattle.std.proofs.lemmas.Bool.{cases_lt}
 use Rattle.periods.specs.Ends.{IsEnd, IsEndOf, IsLaterSet}
@@ -22,7 +22,7 @@ IsEndOf-same w a b e s same h = record {
   first = λ o io. h.first o (IsEnd-same w b a o (same_sym a b same) io);
 }
 
--- an end is the end of itself
+-- an end is its own
 pub own_end : (w : ℕ) (at : ℕ → Type 0) (e : ℕ) → IsEnd w at e → IsEndOf w at e e
 own_end w at e h = record { is_end = h; after = omega arith; first = λ o io l. l }
 
@@ -56,7 +56,7 @@ IsKnown-same w a b same k = record {
   next = λ x. elim (k.next x) [ inl n ↦ inl (n.0, same.to n.0 n.1, n.2, n.3) | inr q ↦ inr (λ y h. q y (same.from y h)) ];
 }
 
--- a stamp after the next one
+-- a stamp behind the next one
 next_end : (w : ℕ) (at : ℕ → Type 0) (e s y : ℕ) → s < y → y ≤ s + w → at y → IsEndOf w at e y → IsEndOf w at e s
 next_end w at e s y l k hy h = carried w at e y s h (λ o io a b. absurd (omega arith)) (λ o io a b. omega (arith, io.quiet y hy b))
 
@@ -90,7 +90,7 @@ pub bridge : (w : ℕ) (at : ℕ → Type 0) (k : IsKnown w at) (e z x : ℕ) �
     → (y : ℕ) × at y × IsEndOf w at e y × (x < y) × (y ≤ x + w)
 bridge w at k e z x hz h l m = bridge_by (suc x) w at k e z x hz h l m (omega arith)
 
--- whether a stamp is one of a list's elements is decidable
+-- the stamps that a list's elements have are known
 known_none : (w : ℕ) (at : ℕ → Type 0) → ((s : ℕ) → at s → ⊥) → IsKnown w at
 known_none w at none = record { greatest = 0; bound = λ s h. absurd (none s h); next = λ x. inr (λ y h. absurd (none y h)) }
 
@@ -110,7 +110,7 @@ known_more w t a b cases keeps here k = record {
   ];
 }
 
--- a value read from some element of a list
+-- what a reading gives of some element of a list
 abbrev pub ReadOf : {X V : Type 0} → (X → Option V) → List X → V → Type 0
 ReadOf {X} read xs v = (x : X) × In xs x × (read x ≡ Some v)
 
@@ -127,7 +127,7 @@ pub known_list : {X : Type 0} (w : ℕ) (read : X → Option ℕ) (xs : List X) 
 known_list w read [] = known_none w _ (λ s h. h.1)
 known_list w read (x ∷ xs) = known_at w read x xs (read x) refl (known_list w read xs)
 
--- later stamps keep the ends that are closed at the watermark, with their stamps
+-- later stamps leave the ends that are closed at the watermark, with their stamps
 pub IsEnd-later : (w watermark : ℕ) (old new : ℕ → Type 0) (e : ℕ) → IsLaterSet watermark old new → e + w < watermark → IsEnd w old e → IsEnd w new e
 IsEnd-later w watermark old new e later low h = record {
   heard = later.keeps e h.heard;

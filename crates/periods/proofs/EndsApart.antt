@@ -1,4 +1,4 @@
--- Two sets of stamps, the second more than a window after the first: the ends of the union are those of either.
+-- Two sets of stamps, of which the second begins farther than a window behind the first: each end of both together is one of either.
 use Rattle.std.proofs.Common.{◌≡◌, ℕ, ◌+◌, ◌<◌, ◌≤◌, ◌⊎◌, inl, inr, arith}
 use Rattle.periods.specs.Ends.{IsEnd, IsEndOf}
 

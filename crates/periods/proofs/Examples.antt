@@ -51,7 +51,7 @@ ion = record { alpha0 = pos 11; alpha1 = pos 0; alpha2 = pos 0; alpha3 = pos 0; 
 ion_from : Satellite → ℕ → Part
 ion_from sat s = record { stamp = s; sat = sat; body = OfGpsIon ion 18 }
 
--- sent in the last subframe of week 2295, with toe at the start of a week: toe is in week 2296
+-- sent at the last count of week 2295, with toe at the start of a week: that is the next one
 whole : periods_of 2295 7200 (clock_at 0 ∷ orbit_a_at 7200 ∷ orbit_b_at 14400 ∷ [])
     ≡ record { end = 14400; key = Gps g05 0; verdict = Whole (GpsItem (record { sat = g05; clock = a_clock; side = a_side; a = an_orbit_a 0; fit = 0; b = an_orbit_b; toe_week = 2296; sent = At (negsuc 5) })) } ∷ []
 unfolding periods_of gps_week_to moment_near clock_at orbit_a_at orbit_b_at a_clock a_side an_orbit_a an_orbit_b g05

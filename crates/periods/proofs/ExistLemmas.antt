@@ -24,7 +24,7 @@ use Rattle.periods.proofs.ListLemmas.{before_trans, All-in, all_of, Precedes, Ar
 use Rattle.periods.proofs.SearchLemmas.{end_from_quiet, quiet_from_end}
 use Rattle.periods.proofs.LastLemmas.{verdict_at-is}
 
--- inserting a period
+-- a period in its place
 insert_all-at : (P : Closed → Type 0) (c d : Closed) (ds : List Closed) (t u : Bool) → P c → P d → AllByRecursion P ds → AllByRecursion P (insert c ds)
     → AllByRecursion P (if t then c ∷ d ∷ ds else (if u then d ∷ insert c ds else d ∷ ds))
 insert_all-at P c d ds true u hc hd h ih = (hc, (hd, h))
@@ -60,7 +60,7 @@ insert_keeps : (c x : Closed) (ds : List Closed) → In ds x → In (insert c ds
 insert_keeps c x [] i = absurd i
 insert_keeps c x (d ∷ ds) i = insert_keeps-at c d x ds (is_before (closed_place c) (closed_place d)) (is_before (closed_place d) (closed_place c)) i (λ j. insert_keeps c x ds j)
 
--- the list has a period at the place
+-- a period of the list stands at the place
 abbrev pub StandsIn : List Closed → Place → Type 0
 StandsIn xs q = (c : Closed) × In xs c × (closed_place c ≡ q)
 
@@ -92,7 +92,7 @@ is-place_at p q k s = ap (place_in p.stamp) k ∙ ap (λ (x : ℕ). Some (place_
     place_with : ℕ → Key → Place
     place_with x key = record { end = x; key = key }
 
--- each element of the list is a period of the parts
+-- each of the list is a period of the parts: what holds of these holds of each
 all_if : (Is : Closed → Type 0) (r w : ℕ) (parts : List Part) (q : Place) (p : Part) (cs : List Closed) (t : Bool)
     → ((z : Place) → IsPeriod w (Contains parts) z → Is (closed_with z (verdict_at r w parts z))) → quiet parts w q.key q.end ≡ t → In parts p → place_at p ≡ Some q
     → AllByRecursion Is cs → AllByRecursion Is (if t then insert (closed_with q (verdict_at r w parts q)) cs else cs)
@@ -197,7 +197,7 @@ periods_of-only r w parts xs values h = ArePeriods-one r w (Contains parts) xs (
 pub closed_of-only : (r w watermark : ℕ) (parts : List Part) (xs : List Closed) → ((p : Part) → Contains parts p → IsPartValue p) → AreClosed r w (Contains parts) watermark xs → xs ≡ closed_of r w watermark parts
 closed_of-only r w watermark parts xs values h = AreClosed-one r w (Contains parts) watermark xs (closed_of r w watermark parts) values h (closed_of-are r w watermark parts values)
 
--- order and repetition do not matter
+-- order and repetition are nothing
 pub order_nothing : (r w : ℕ) (some other : List Part) → ((p : Part) → Contains some p → IsPartValue p) → Same (Contains some) (Contains other) → periods_of r w some ≡ periods_of r w other
 order_nothing r w some other values s = sym (ArePeriods-one r w (Contains some) (periods_of r w other) (periods_of r w some) values
     (ArePeriods-same r w (Contains other) (Contains some) (periods_of r w other) (record { to = s.from; from = s.to }) (periods_of-are r w other (λ p i. values p (s.from p i))))

@@ -1,4 +1,4 @@
--- The best value read from a list's elements, and the better of two bests.
+-- The best of what a reading gives of a list's elements, and the better of two bests.
 use Rattle.std.proofs.Common.{◌≡◌, ◌⊎◌, inl, inr, Bool, true, false, ◌&&◌, if◌then◌else◌, List, [], ◌∷◌, Option, None, Some, refl, sym, ap, subst, ◌∙◌}
 use Rattle.std.proofs.lemmas.Bool.{both_ways}
 use Rattle.periods.proofs.EndSurface.{In}
@@ -52,19 +52,19 @@ best_none R old new more (Some b) g none h = record {
   first = λ w hw r. elim (g.only w hw) [ inl o ↦ h.first w o r | inr n ↦ none w n ];
 }
 
--- equal sets have the same best
+-- the best is the best of the same set
 pub IsBest-same : {V : Type 0} (R : V → V → Type 0) (old new : V → Type 0) (b : Option V) → ((v : V) → old v → new v) → ((v : V) → new v → old v) → IsBest R old b → IsBest R new b
 IsBest-same R old new None to from h = λ v hv. h v (from v hv)
 IsBest-same R old new (Some b) to from h = record { here = to b h.here; first = λ w hw r. h.first w (from w hw) r }
 
--- the value read from an element, where it passes the test
+-- what the reading gives of an element, where the test lets it pass
 pub record Passing {X V : Type 0} (read : X → Option V) (test : V → Bool) (xs : List X) (v : V) : Type 0 where
   pub element : X
   pub here : In xs element
   pub is : read element ≡ Some v
   pub passes : test v ≡ true
 
--- one more element: the value read from it, where it passes the test
+-- one element more: what its reading gives, where the test lets it pass
 abbrev pub Adds : {V : Type 0} → (V → Bool) → Option V → V → Type 0
 Adds test o v = (o ≡ Some v) × (test v ≡ true)
 
@@ -103,7 +103,7 @@ best_among-more read test better R d so_far (x ∷ xs) b h =
     ])
     (best_among-more read test better R d (λ w. so_far w ⊎ Adds test (read x) w) xs (best_with test better b (read x)) step)
 
--- the fold finds the best of the values that pass the test
+-- the fold finds the best of what passes
 pub best_among-is : {X V : Type 0} (read : X → Option V) (test : V → Bool) (better : V → V → Bool) (R : V → V → Type 0) (d : Decides better R) (xs : List X)
     → IsBest R (Passing read test xs) (best_among read test better xs None)
 best_among-is read test better R d xs =
@@ -111,7 +111,7 @@ best_among-is read test better R d xs =
     (λ w hw. elim hw [ inl k ↦ absurd k | inr k ↦ k ]) (λ w hw. inr hw)
     (best_among-more read test better R d (λ w. ⊥) xs None (λ w hw. hw))
 
--- the better of the bests of two sets is the best of their union
+-- the better of the bests of two sets is the best of both together
 best_pair : {V : Type 0} (better : V → V → Bool) (R : V → V → Type 0) (d : Decides better R) (a b c : V → Type 0) (x y : V) → Grows a c b
     → IsFirstBy R a x → IsFirstBy R b y → (t : Bool) → better y x ≡ t → IsBest R c (if t then Some y else Some x)
 best_pair better R d a b c x y g hx hy true e = record {

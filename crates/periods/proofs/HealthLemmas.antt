@@ -1,4 +1,4 @@
--- The health that the search finds near an end is the one that the period takes.
+-- The health near an end that the search finds is the one that counts.
 use Rattle.std.proofs.Common.{ℕ, ◌+◌, inl, inr, nat_lt, nat_le, List, Option, None, Some, Contains, ltb-true, lt-ltb}
 use Rattle.std.proofs.lemmas.Bool.{and_parts, and_from, leb-true, le-leb}
 use Rattle.nav_eph.specs.Satellite.{Satellite}
@@ -20,7 +20,7 @@ use Rattle.periods.proofs.ReadingLemmas.{said_of, reading_of}
 use Rattle.periods.proofs.Orders.{earlier_decides, later_decides}
 use Rattle.periods.proofs.Folds.{IsBest-same, Passing, best_among-is}
 
--- the healths that pass the tests of the windows before and after the end
+-- what passes the test up to the end, and behind it
 up_to_end_set : (window : ℕ) (parts : List Part) (sat : Satellite) (issue e : ℕ)
     → Same (Passing (reading (HealthOf sat)) (up_to_end window e) parts) (IsUpToEnd window (Contains parts) (Gal sat issue) e)
 up_to_end_set window parts sat issue e = record {
@@ -63,7 +63,7 @@ best_health before behind None None h k = (h, k)
 best_health before behind None (Some y) h k = inr (h, k)
 best_health before behind (Some x) y h k = inl h
 
--- keys other than of Galileo ephemerides take no health
+-- no health counts for other keys
 pub no_health : (w : ℕ) (parts : Part → Type 0) (key : Key) (e : ℕ) → ((h : ℕ × GalHealth × SentTag) → HasHealth key parts h → ⊥)
     → IsBestHealth (IsUpToEnd w parts key e) (IsBehindEnd w parts key e) None
 no_health w parts key e none = (λ v h. none v h.heard, λ v h. none v h.heard)

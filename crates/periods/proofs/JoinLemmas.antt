@@ -1,22 +1,22 @@
--- One more stamp: the ends within the window of it become one, all others stay.
+-- One stamp more: what it touches becomes one, all else stays.
 use Rattle.std.proofs.Common.{◌≡◌, ℕ, ◌+◌, ◌<◌, ◌≤◌, inl, inr, sym, subst, arith}
 use Rattle.std.proofs.lemmas.Bool.{cases_lt, cases_eq}
 use Rattle.periods.specs.Ends.{IsEnd, IsEndOf}
 use Rattle.periods.specs.Joining.{IsWith, IsTouchedEnd, StaysEnd, IsJoinedEnd}
 use Rattle.periods.proofs.EndLemmas.{IsKnown, IsEndOf-one, own_end, carried, covered, bridge}
 
--- an end of the new set that is an old stamp was an end
+-- an end of the new set that was heard before was an end
 was_end : (w s : ℕ) (old new : ℕ → Type 0) (o : ℕ) → IsWith old new s → old o → IsEnd w new o → IsEnd w old o
 was_end w s old new o with_it h io = record { heard = h; quiet = λ x hx. io.quiet x (with_it.keeps x hx) }
 
--- an old end stays an end where the new stamp is not in the window after it
+-- an old end stays one where the new stamp is not in the window behind it
 stays_end : (w s : ℕ) (old new : ℕ → Type 0) (o : ℕ) → IsWith old new s → (o < s → o + w < s) → IsEnd w old o → IsEnd w new o
 stays_end w s old new o with_it far io = record {
   heard = with_it.keeps o io.heard;
   quiet = λ x hx l. elim (with_it.only x hx) [ inl h ↦ io.quiet x h l | inr e ↦ let k : o < s = omega arith in omega (arith, far k) ];
 }
 
--- the stamps of a touched end have the end of the new stamp
+-- what a touched end had, the end of the new stamp has
 pub joined_has : (w s : ℕ) (old new : ℕ → Type 0) (e t q : ℕ) → IsKnown w old → IsWith old new s → IsEndOf w new e s
     → IsTouchedEnd w old s t → old q → IsEndOf w old t q → IsEndOf w new e q
 joined_has w s old new e t q k with_it he touch hq hqt =
@@ -32,7 +32,7 @@ joined_has w s old new e t q k with_it he touch hq hqt =
       | inr is ↦ let r = bridge w old k t x o hx ex a (omega (arith, ey.after)) in omega (arith, io.quiet r.0 (with_it.keeps r.0 r.1) r.3, r.4)
     ]
 
--- a stamp with the end of the new stamp had a touched end, or is the new stamp
+-- what has the end of the new stamp had a touched end, or is the new stamp
 pub joined_cases : (w s : ℕ) (old new : ℕ → Type 0) (e q : ℕ) → IsKnown w old → IsKnown w new → IsWith old new s → IsEndOf w new e s
     → old q → IsEndOf w new e q → (t : ℕ) × IsTouchedEnd w old s t × IsEndOf w old t q
 joined_cases w s old new e q k kn with_it he hq heq =
@@ -58,14 +58,14 @@ joined_cases w s old new e q k kn with_it he hq heq =
       ]
     ]
 
--- an old end that is the end of the new stamp is touched
+-- an old end that the new stamp has is touched
 pub joined_touched : (w s : ℕ) (old new : ℕ → Type 0) (u : ℕ) → IsKnown w old → IsKnown w new → IsWith old new s → IsEnd w old u
     → IsEndOf w new u s → IsTouchedEnd w old s u
 joined_touched w s old new u k kn with_it hu he =
     let c = joined_cases w s old new u u k kn with_it he hu.heard (own_end w new u he.is_end) in
     subst (λ (x : ℕ). IsTouchedEnd w old s x) (IsEndOf-one w old c.0 u u c.2 (own_end w old u hu)) c.1
 
--- an end that is not touched has the new stamp far after it, or before it
+-- an end that is not touched has the new stamp far behind it, or before it
 not_near : (w s : ℕ) (old : ℕ → Type 0) (u : ℕ) → IsEnd w old u → (IsTouchedEnd w old s u → ⊥) → u < s → u + w < s
 not_near w s old u hu none l = elim (cases_lt (u + w) s) [
   | inl far ↦ far
@@ -109,7 +109,7 @@ other_had w s old new u q k kn with_it hu none hq h =
     ] in
     subst (λ (x : ℕ). IsEndOf w old x q) same c.1
 
--- ends that are not touched stay
+-- what is not touched stays
 pub other_stays : (w s : ℕ) (old new : ℕ → Type 0) (u : ℕ) → IsKnown w old → IsKnown w new → IsWith old new s → IsEnd w old u
     → (IsTouchedEnd w old s u → ⊥) → StaysEnd w old new u
 other_stays w s old new u k kn with_it hu none = record {
@@ -121,7 +121,7 @@ other_stays w s old new u k kn with_it hu none = record {
   ];
 }
 
--- the new stamp's end, and the stamps of this end
+-- the new stamp's end, and what it has
 pub joined : (w s : ℕ) (old new : ℕ → Type 0) → IsKnown w old → IsKnown w new → IsWith old new s → (e : ℕ) × IsJoinedEnd w old new s e
 joined w s old new k kn with_it =
     let e = covered w new kn s with_it.has in (

@@ -1,4 +1,4 @@
--- The code's test of keys, and the numbers of keys, decide whether two keys are equal.
+-- Keys are told apart by the test of the code, and by their numbers.
 use Rattle.std.proofs.Common.{◌≡◌, ℕ, ◌⊎◌, inl, inr, Bool, true, false, ◌==◌, List, ◌∷◌, Option, None, Some, refl, sym, ap, subst, arith, eqb-true, eq-eqb}
 use Rattle.std.proofs.lemmas.Bool.{and_parts, and_from, both_ways}
 use Rattle.nav_eph.specs.Satellite.{Satellite, place_of}
@@ -79,7 +79,7 @@ is-same_key (Gal s i) = and_from (same_sat s s) (i == i) (is-same_sat s) (eq-eqb
 is-same_key (GpsIon a) = is-same_gps_ion a
 is-same_key (GalIon a) = is-same_gal_ion a
 
--- equality of keys is decidable
+-- whether two keys are one can be told
 pub cases_key : (a b : Key) → (a ≡ b) ⊎ (a ≡ b → ⊥)
 cases_key a b = told (same_key a b) refl
   where
@@ -98,7 +98,7 @@ is_of-is key p h = is_key-is (key_of p) key h
 pub is-is_of : (key : Key) (p : Part) → key_of p ≡ Some key → is_of key p ≡ true
 is-is_of key p e = subst (λ (o : Option Key). is_key o key ≡ true) (sym e) (is-same_key key)
 
--- the content of an ionosphere key is within its ranges
+-- what holds of the key of a part
 abbrev pub IsKeyValue : Key → Type 0
 IsKeyValue (Gps s i) = Unit {0}
 IsKeyValue (Gal s i) = Unit {0}
@@ -120,7 +120,7 @@ key_value_in sat (OfGalIon i w s) key v e = subst IsKeyValue (some_is (GalIon i)
 pub key_value : (p : Part) (key : Key) → IsPartValue p → key_of p ≡ Some key → IsKeyValue key
 key_value p key v e = key_value_in p.sat p.body key v.body e
 
--- keys with the same numbers are equal
+-- keys with the same numbers are one
 same_numbers_key : (a b : Key) → IsKeyValue a → IsKeyValue b → key_numbers a ≡ key_numbers b → a ≡ b
 same_numbers_key (Gps s i) (Gps t j) v w h =
     let e = satellite_is s t (same_system s.system t.system (heads (tails h))) (heads (tails (tails h))) in let f = heads (tails (tails (tails h))) in λ k. Gps (e k) (f k)

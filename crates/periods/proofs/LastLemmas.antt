@@ -1,4 +1,4 @@
--- The search for the key's last complete period before an end, and the verdict by the item found.
+-- The search for the key's last complete period before an end, and the verdict by what it finds.
 use Rattle.std.proofs.Common.{◌≡◌, ℕ, ◌<◌, ◌↔◌, inl, inr, Bool, true, false, nat_lt, if◌then◌else◌, List, Option, None, Some, Contains, refl, sym, ap, subst, ◌∙◌, ltb-true, lt-ltb}
 use Rattle.std.proofs.lemmas.Bool.{and_parts, and_from, both_ways, cases_lt}
 use Rattle.nav_eph.specs.Items.{IsAlike}
@@ -81,7 +81,7 @@ complete_before-is r w parts key e values =
     (λ s h. passing_complete r w parts key e s h) (λ s h. complete_passing r w parts key e s values h)
     (best_among-is (stamp_of key) (complete_below r w parts key e) (λ a b. nat_lt b a) IsAbove above_decides parts)
 
--- the item of the key's last complete period before, or none
+-- the item of the key's last complete period before, or that there is none
 abbrev pub IsKnownBefore : ℕ → ℕ → (Part → Type 0) → Key → ℕ → Option NavItem → Type 0
 IsKnownBefore r w parts key e None = (s : ℕ) (item : NavItem) → IsComplete r w parts key s item → s < e → ⊥
 IsKnownBefore r w parts key e (Some item) = IsLastBefore r w parts key e item
@@ -105,7 +105,7 @@ pub last_item-is : (r w : ℕ) (parts : List Part) (key : Key) (e : ℕ) → ((p
 last_item-is r w parts key e values =
     known_at r w parts key e (complete_before r w parts key e) values (complete_before-is r w parts key e values)
 
--- comparison with the item before decides whether the period repeats it
+-- what is repeated is told by the item before
 abbrev pub Compares : (NavItem → Type 0) → Option NavItem → Type 0
 Compares repeats None = (item : NavItem) → repeats item → ⊥
 Compares repeats (Some before) = (item : NavItem) → repeats item ↔ IsAlike before item

@@ -24,7 +24,7 @@ before_irr a h = irreflexive (place_numbers a) h
 pub before_trans : (a b c : Place) → IsBefore a b → IsBefore b c → IsBefore a c
 before_trans a b c h k = transitive (place_numbers a) (place_numbers b) (place_numbers c) h k
 
--- the first of two places ends no later
+-- of two places the first ends no later
 pub before_end : (a b : Place) → IsBefore a b → a.end ≤ b.end
 before_end a b (inl l) = omega arith
 before_end a b (inr e) = omega (arith, e.0)
@@ -48,7 +48,7 @@ same_heads x y xs ys ax ay (inr i) (inl e) = e
 same_heads x y xs ys ax ay (inr i) (inr j) =
     absurd (before_irr (closed_place x) (before_trans (closed_place x) (closed_place y) (closed_place x) (All-in (Precedes x) xs y ax.0 j) (All-in (Precedes y) ys x ay.0 i)))
 
--- the elements after the head of one list are those after the head of the other
+-- what is behind the head of one is behind that of the other
 tail_in : (x y c : Closed) (xs ys : List Closed) → x ≡ y → AllByRecursion (Precedes x) xs → In xs c → In (y ∷ ys) c → In ys c
 tail_in x y c xs ys e h i (inl f) = absurd (before_irr (closed_place c) (subst (λ (z : Closed). IsBefore (closed_place z) (closed_place c)) (e ∙ f) (All-in (Precedes x) xs c h i)))
 tail_in x y c xs ys e h i (inr j) = j
@@ -62,7 +62,7 @@ ascending_one (x ∷ xs) (y ∷ ys) ax ay to from =
     let rest = ascending_one xs ys ax.1 ay.1 (λ c i. tail_in x y c xs ys e ax.0 i (to c (inr i))) (λ c i. tail_in y x c ys xs (sym e) ay.0 i (from c (inr i))) in
     λ i. e i ∷ rest i
 
--- two lists of exactly the same periods have the same elements
+-- two lists of exactly the periods of some kind are one
 one_of_kind : (Here : Place → Type 0) (Is : Closed → Type 0) (xs ys : List Closed) → ((c d : Closed) → closed_place c ≡ closed_place d → Is c → Is d → c ≡ d)
     → ((c : Closed) → Contains xs c → Is c × Here (closed_place c)) → ((c : Closed) → Contains ys c → Is c)
     → ((q : Place) → Here q → (d : Closed) × Contains ys d × (closed_place d ≡ q)) → (c : Closed) → In xs c → In ys c
@@ -143,7 +143,7 @@ closed_at-are r w parts watermark xs h =
           (f.0, contains_from_In (filter t xs) f.0 (in_filter t xs f.0 (In-from_contains xs f.0 f.1) (lt-ltb (f.0.end + w) watermark (subst (λ (z : Place). z.end + w < watermark) (sym f.2) l))), f.2);
     }
 
--- where the first is not closed, none is
+-- where the first is not closed none is
 none_low : (w watermark : ℕ) (x : Closed) (xs : List Closed) → AllByRecursion (Precedes x) xs → watermark ≤ x.end + w → closed_at w watermark xs ≡ []
 none_low w watermark x [] h l = refl
 none_low w watermark x (y ∷ ys) h l =
@@ -158,7 +158,7 @@ prefix_at : (w watermark : ℕ) (x : Closed) (xs : List Closed) (b : Bool) → n
 prefix_at w watermark x xs true e h p = prefix_more x (closed_at w watermark xs) xs p
 prefix_at w watermark x xs false e h p = (x ∷ xs, ap (λ (l : List Closed). l ++ x ∷ xs) (sym (none_low w watermark x xs h (ltb-false (x.end + w) watermark e))))
 
--- the closed periods are a prefix
+-- what is closed stands at the front
 pub closed_at-prefix : (w watermark : ℕ) (xs : List Closed) → IsAscending xs → IsPeriodPrefix (closed_at w watermark xs) xs
 closed_at-prefix w watermark [] h = ([], refl)
 closed_at-prefix w watermark (x ∷ xs) h = prefix_at w watermark x xs (nat_lt (x.end + w) watermark) refl h.0 (closed_at-prefix w watermark xs h.1)
@@ -175,7 +175,7 @@ filter_twice : (s t : Closed → Bool) (xs : List Closed) → ((x : Closed) → 
 filter_twice s t [] l = refl
 filter_twice s t (x ∷ xs) l = twice_at s t x xs (s x) (t x) refl refl (l x) (filter_twice s t xs l)
 
--- a higher watermark adds closed periods at the end
+-- at a higher watermark more is closed, behind it
 pub closed_at-rise : (w watermark higher : ℕ) (xs : List Closed) → watermark ≤ higher → IsAscending xs → IsPeriodPrefix (closed_at w watermark xs) (closed_at w higher xs)
 closed_at-rise w watermark higher xs l h =
     subst (λ (z : List Closed). IsPeriodPrefix z (closed_at w higher xs))
@@ -190,7 +190,7 @@ pub filter_all : (t : Closed → Bool) (xs : List Closed) → ((x : Closed) → 
 filter_all t [] h = refl
 filter_all t (x ∷ xs) h = all_at t x xs (t x) refl (h x (inl refl)) (filter_all t xs (λ y i. h y (inr i)))
 
--- the items of concatenated lists of periods
+-- the items of periods behind others
 pub items_append : (xs ys : List Closed) → items_in (xs ++ ys) ≡ items_in xs ++ items_in ys
 items_append [] ys = refl
 items_append (x ∷ xs) ys = ap (λ (l : List NavItem). item_in x.verdict ++ l) (items_append xs ys) ∙ sym (append_assoc (item_in x.verdict) (items_in xs) (items_in ys))

@@ -1,4 +1,4 @@
--- Lexicographic order, and its test.
+-- The order of a dictionary, and its test.
 use Rattle.std.proofs.Common.{◌≡◌, ℕ, ◌⊎◌, inl, inr, Bool, true, false, ◌&&◌, nat_lt, ◌==◌, List, [], ◌∷◌, refl, sym, subst, ◌∙◌, arith, ltb-true, lt-ltb, eqb-true, eq-eqb}
 use Rattle.std.proofs.lemmas.Bool.{cases_order, or_cases, and_parts, or_left, or_right, and_from}
 use Rattle.periods.specs.Values.{IsBelow, IsEarlier, IsLater}
@@ -33,7 +33,7 @@ trichotomy (x ∷ xs) (y ∷ ys) = elim (cases_order x y) [
   | inr o ↦ elim o [ inl l ↦ inl (inl l) | inr g ↦ inr (inr (inl g)) ]
 ]
 
--- where ws is below xs, ys is above ws or below xs
+-- what stands between: below x, then below y or y below x
 pub between : (ws xs ys : List ℕ) → IsBelow ws xs → IsBelow ws ys ⊎ IsBelow ys xs
 between ws xs ys h = elim (trichotomy ws ys) [
   | inl l ↦ inl l
@@ -46,7 +46,7 @@ between ws xs ys h = elim (trichotomy ws ys) [
     subst_below : (xs ys zs : List ℕ) → xs ≡ ys → IsBelow xs zs → IsBelow ys zs
     subst_below xs ys zs e k = subst (λ (l : List ℕ). IsBelow l zs) e k
 
--- the test decides the order
+-- the test says yes exactly where it is so
 pub is_below-true : (xs ys : List ℕ) → is_below xs ys ≡ true → IsBelow xs ys
 is_below-true [] [] e = absurd (let f : false ≡ true = e in cc)
 is_below-true [] (y ∷ ys) e = tt
@@ -63,7 +63,7 @@ below-is_below (x ∷ xs) [] h = absurd h
 below-is_below (x ∷ xs) (y ∷ ys) (inl l) = or_left (nat_lt x y) ((x == y) && is_below xs ys) (lt-ltb x y l)
 below-is_below (x ∷ xs) (y ∷ ys) (inr h) = or_right (nat_lt x y) ((x == y) && is_below xs ys) (and_from (x == y) (is_below xs ys) (eq-eqb x y h.0) (below-is_below xs ys h.1))
 
--- a test of a strict order in which incomparable values are alike
+-- a test of a strict order in which what is not told apart is alike
 pub record Decides {V : Type 0} (better : V → V → Bool) (R : V → V → Type 0) : Type 0 where
   pub yes : (a b : V) → better a b ≡ true → R a b
   pub is : (a b : V) → R a b → better a b ≡ true

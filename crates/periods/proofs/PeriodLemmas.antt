@@ -1,4 +1,4 @@
--- Periods of sets of parts, and their findings: the same for equal sets, kept by later parts where they are closed.
+-- Periods of sets of parts, and what they come to by themselves: the same for the same set, kept by later parts where they are closed.
 use Rattle.std.proofs.Common.{◌≡◌, ℕ, ◌+◌, ◌<◌, ◌≤◌, ◌⊎◌, inl, inr, subst, arith}
 use Rattle.periods.specs.Ends.{IsLaterSet}
 use Rattle.periods.proofs.EndSurface.{Same, same_sym, IsEnd-same, IsEndOf-same, IsEnd-later, IsEnd-was, IsEndOf-later, IsEndOf-was}
@@ -34,7 +34,7 @@ IsMember-same w a b q p s h = record {
 pub members_same : (w : ℕ) (a b : Part → Type 0) (q : Place) → Same a b → Same (IsMember w a q) (IsMember w b q)
 members_same w a b q s = record { to = λ p h. IsMember-same w a b q p s h; from = λ p h. IsMember-same w b a q p (same_sym a b s) h }
 
--- a part carries health of the key's satellite, at its stamp
+-- a part says a health that counts for the key, at its stamp
 abbrev HasHealthIn : Key → ℕ × GalHealth × SentTag → Part → Type 0
 HasHealthIn (Gal sat i) h p = Says (HealthOf sat) p h
 HasHealthIn key h p = ⊥
@@ -126,7 +126,7 @@ before_value w parts key e h v b = health_in_value key parts h v b.heard
 pub behind_value : (w : ℕ) (parts : Part → Type 0) (key : Key) (e : ℕ) (h : ℕ × GalHealth × SentTag) → ((p : Part) → parts p → IsPartValue p) → IsBehindEnd w parts key e h → IsHealthValue h
 behind_value w parts key e h v b = health_in_value key parts h v b.heard
 
--- the finding of a period: the same for equal sets, kept by later parts where the period is closed, and unique
+-- what a period comes to by itself: the same for the same set, kept by later parts where the period is closed, and one
 pub IsFound-same : (r w : ℕ) (a b : Part → Type 0) (q : Place) (f : Finding) → Same a b → IsFound r w a q f → IsFound r w b q f
 IsFound-same r w a b q f s h =
     IsFoundIn-same r q.key (IsMember w a q) (IsMember w b q)

@@ -1,4 +1,4 @@
--- An item has its fields within their widths in bits where its members have.
+-- An item that is found of members whose fields are within their digits has its own within theirs.
 use Rattle.std.proofs.Common.{◌≡◌, ℕ, ◌+◌, ◌*◌, ◌^◌, ◌<◌, ◌≤◌, inl, inr, Some, sym, subst, ◌∙◌, arith}
 use Rattle.gnss_week.specs.Weeks.{IsMoment, IsReference, IsSecond, IsWeek}
 use Rattle.gnss_week.specs.Functions.{gps_week_to, galileo_week_to}
@@ -77,7 +77,7 @@ gal_ion_ranges sat (OfGalIon i w n) content h e = subst IsGalIon (gal_ion_key e)
 gal_ion_ranges sat (OfHealth h t) content k e = absurd (none_some (GalIon content) e)
 gal_ion_ranges sat _ content h e = absurd cc
 
--- ---- weeks and GPS times
+-- ---- weeks and moments
 
 gps_week_high : (r n : ℕ) → IsReference r → gps_week_to r n ≤ 8702
 unfolding gps_week_to
@@ -87,7 +87,7 @@ tag_second_is : (tag : SentTag) → IsSentTag tag → IsSecond (tag_second tag)
 tag_second_is (Sent wn second) h = h.1
 tag_second_is (Toe wn second) h = h.1
 
--- the week of the GPS time nearest to one in the weeks 2 to 10,238
+-- the week of the moment nearest to one of the weeks from 2 to 10,238
 near_week : (week second toe : ℕ) → 2 ≤ week → week ≤ 10238 → IsSecond second → IsSecond toe
     → IsWeek (toe_week_of (604800 * week + second) toe)
 near_week week second toe low high small toe_small =
@@ -118,7 +118,7 @@ gal_ion_moment_is r s reference small =
 
 -- ---- the item
 
--- the members are of the key; each has a satellite of its system and fields within their widths in bits
+-- the members are of the key, and each is a value whose satellite is one of its system and whose fields are within their digits
 record AreRanged (key : Key) (members : Part → Type 0) : Type 0 where
   of_key : (p : Part) → members p → key_of p ≡ Some key
   has : (p : Part) → members p → HasPartRanges p
@@ -199,7 +199,7 @@ item_ranges r (GalIon content) members before behind (IonItem e) reference are f
     }
 item_ranges r key members before behind item reference are first second h = absurd h
 
--- the item of a complete period of parts whose fields are within their widths in bits
+-- the item of a whole period of parts whose fields are within their digits
 pub period_ranges : (r w : ℕ) (parts : Part → Type 0) (c : Closed) (item : NavItem) → IsReference r
     → ((p : Part) → parts p → IsPartValue p) → ((p : Part) → parts p → HasPartRanges p)
     → IsClosed r w parts c → c.verdict ≡ Whole item → HasRanges item

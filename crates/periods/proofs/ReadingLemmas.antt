@@ -1,4 +1,4 @@
--- The function `reading` gives exactly the values that a part carries.
+-- The function that reads a part gives what the part says, and nothing else.
 use Rattle.std.proofs.Common.{◌≡◌, ℕ, inl, inr, Bool, true, false, if◌then◌else◌, None, Some, refl, sym, ap, ◌∙◌}
 use Rattle.nav_eph.specs.Satellite.{Satellite}
 use Rattle.nav_eph.specs.declared.galileo.GalHealth.{GalHealth}

@@ -1,4 +1,4 @@
--- The searches among stored parts find ends, the end before, and members; their digest gives the period's finding.
+-- The searches among kept parts find ends, the end before, and members, and their digest comes to the period's finding.
 use Rattle.std.proofs.Common.{◌≡◌, ℕ, ◌+◌, ◌<◌, ◌≤◌, ◌⊎◌, inl, inr, Bool, true, false, not, ◌&&◌, ◌||◌, nat_lt, nat_le, if◌then◌else◌, List, [], ◌∷◌, Option, None, Some, Contains, refl, sym, ap, subst, ◌∙◌, arith, ltb-true, lt-ltb, leb-true, le-leb}
 use Rattle.std.specs.List.{list_all}
 use Rattle.std.proofs.lemmas.Bool.{and_parts, and_from, or_cases, or_left, or_right, both_ways, not-true, not_from_false, cases_lt}
@@ -25,7 +25,7 @@ use Rattle.periods.proofs.DigestLemmas.{digest_some, digest_of-is, digest_join-i
 use Rattle.periods.proofs.DigestFindings.{digest_finding-is}
 use Rattle.periods.proofs.HealthLemmas.{health_at-is}
 
--- the part is not a part of the key in the window after a stamp
+-- the part says nothing against the silence after a stamp
 quiet_at-says : (w : ℕ) (key : Key) (e : ℕ) (p : Part) → quiet_at w key e p ≡ true → key_of p ≡ Some key → e < p.stamp → e + w < p.stamp
 quiet_at-says w key e p h k l = elim (or_cases (not (is_of key p)) (nat_le p.stamp e || nat_lt (e + w) p.stamp) h) [
   | inl n ↦ absurd (both_ways (is_of key p) (not-true (is_of key p) n) (is-is_of key p k))
@@ -51,7 +51,7 @@ all_by : (t : Part → Bool) (ps : List Part) → ((p : Part) → In ps p → t 
 all_by t [] h = refl
 all_by t (q ∷ qs) h = and_from (t q) (list_all t qs) (h q (inl refl)) (all_by t qs (λ p i. h p (inr i)))
 
--- a stamp of the key is an end exactly where no part of the key is in the window after it
+-- a stamp of the key behind which it is quiet is an end, and the other way round
 pub end_from_quiet : (w : ℕ) (parts : List Part) (key : Key) (e : ℕ) (p : Part) → Contains parts p → key_of p ≡ Some key → p.stamp ≡ e → quiet parts w key e ≡ true
     → IsEnd w (IsHeardAt (Contains parts) key) e
 end_from_quiet w parts key e p i k s h = record {
@@ -108,7 +108,7 @@ end_before-is w parts key e = IsBest-same IsAbove (Passing (stamp_of key) (end_b
     })
     (best_among-is (stamp_of key) (end_below parts w key e) (λ a b. nat_lt b a) IsAbove above_decides parts)
 
--- the members are the key's parts after the end before and up to the end
+-- the members are the key's parts behind the end before and up to the end
 ends_from : (w : ℕ) (parts : Part → Type 0) (q : Place) (before : Option ℕ) (s : ℕ) → IsPeriod w parts q → IsBest IsAbove (IsEndBelow w parts q.key q.end) before
     → is_above before s ≡ true → s ≤ q.end → IsEndOf w (IsHeardAt parts q.key) q.end s
 ends_from w parts q None s hq b a l = record {
@@ -155,7 +155,7 @@ tested_members w parts q before hq b = record {
   );
 }
 
--- the digest of a set, or none where it has no part
+-- the digest of a set, or that the set has no part
 abbrev pub IsSomeDigest : Key → (Part → Type 0) → Option Digest → Type 0
 IsSomeDigest key members None = (p : Part) → members p → ⊥
 IsSomeDigest key members (Some d) = IsDigest key members d
@@ -206,7 +206,7 @@ pub members_digest-is : (key : Key) (e : ℕ) (before : Option ℕ) (parts : Lis
 members_digest-is key e before parts = IsSomeDigest-same key (λ q. ⊥ ⊎ Tested key e before parts q) (Tested key e before parts) (members_digest key e before parts None)
     (record { to = λ q i. elim i [ inl x ↦ absurd x | inr x ↦ x ]; from = λ q i. inr i }) (members_more key e before parts (λ q. ⊥) None (λ p i. i))
 
--- the digest of the members, with the health near the end, gives the period's finding
+-- the digest of the members, with the health near the end, comes to the period's finding
 finding_with-is : (r w : ℕ) (parts : List Part) (q : Place) (o : Option Digest) → IsPeriod w (Contains parts) q → IsSomeDigest q.key (IsMember w (Contains parts) q) o
     → IsFound r w (Contains parts) q (finding_with r w parts q o)
 finding_with-is r w parts q None hq h =

@@ -1,4 +1,4 @@
--- Lemmas that other crates cite: over sets of parts, which a law over lists cannot state.
+-- What other crates cite: lemmas over sets of parts, which a law over lists can't say.
 pub use Rattle.periods.proofs.EndSurface.{Same, same_sym}
 pub use Rattle.periods.proofs.Orders.{Decides, earlier_decides, is_below-true, below-is_below}
 pub use Rattle.periods.proofs.Folds.{some_is, none_some, Grows, best_join-is, Passing, best_among-is, IsBest-same}

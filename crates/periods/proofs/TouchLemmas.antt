@@ -1,4 +1,4 @@
--- One more part: the periods within the window of it become one period with it, all others stay.
+-- One more part: what it touches becomes one period with it, all else stays.
 use Rattle.std.proofs.Common.{◌≡◌, ℕ, ◌+◌, ◌<◌, ◌≤◌, ◌⊎◌, inl, inr, List, [], ◌∷◌, ◌++◌, Option, None, Some, Contains, refl, sym, ap, subst, ◌∙◌}
 use Rattle.std.proofs.lemmas.List.Elements.{Contains-append_left, Contains-push, Contains-push_cases}
 use Rattle.nav_eph.specs.declared.part.Part.{Part}
@@ -17,7 +17,7 @@ use Rattle.periods.proofs.Folds.{some_is}
 use Rattle.periods.proofs.KeyLemmas.{cases_key}
 use Rattle.periods.proofs.SearchLemmas.{stamp_of-is, is-stamp_of}
 
--- whether a stamp is of a part of the key is decidable
+-- the stamps of a key's parts are known
 pub known_parts : (w : ℕ) (parts : List Part) (key : Key) → IsKnown w (IsHeardAt (Contains parts) key)
 known_parts w parts key = IsKnown-same w (ReadOf (stamp_of key) parts) (IsHeardAt (Contains parts) key) (record {
   to = λ s h. let f = stamp_of-is key h.0 s h.2 in record { part = h.0; here = contains_from_In parts h.0 h.1; of_key = f.0; at_stamp = f.1 };
@@ -59,7 +59,7 @@ heard_other old new p key m apart = record {
   ];
 }
 
--- touched ends and touched periods
+-- touching, of stamps and of parts
 touched_end : (w : ℕ) (old : Part → Type 0) (p : Part) (q : Place) → IsTouched w old p q → IsTouchedEnd w (IsHeardAt old q.key) p.stamp q.end
 touched_end w old p q t = record {
   member = t.member.stamp;
@@ -90,7 +90,7 @@ rekeyed q key e = λ i. record { end = q.end; key = e i }
 one_key : (p : Part) (j k : Key) → key_of p ≡ Some j → key_of p ≡ Some k → j ≡ k
 one_key p j k a b = some_is j k (sym a ∙ b)
 
--- the periods that the new part touches
+-- what the new part touches
 has_touched : (w : ℕ) (old new : Part → Type 0) (p : Part) (key : Key) (e : ℕ) → IsWithPart old new p → IsJoinedEnd w (IsHeardAt old key) (IsHeardAt new key) p.stamp e
     → (t : ℕ) → IsTouched w old p (at_place t key) → (x : Part) → IsMember w old (at_place t key) x → IsMember w new (at_place e key) x
 has_touched w old new p key e m j t touch x h = record {
@@ -106,7 +106,7 @@ others_at w old new p key e k j o h = elim (j.others o h) [
   | inr u ↦ inr (u.0, λ touch. u.1 (touched_end w old p (at_place o key) touch))
 ]
 
--- the new part and the touched periods make one period
+-- the new part and what it touches make one period
 pub joined_part : (w : ℕ) (old new : Part → Type 0) (p : Part) (key : Key) → IsKnown w (IsHeardAt old key) → IsKnown w (IsHeardAt new key) → IsWithPart old new p → key_of p ≡ Some key
     → (q : Place) × IsJoined w old p new q
 joined_part w old new p key kn kn' m k =
@@ -138,7 +138,7 @@ joined_part w old new p key kn kn' m k =
       },
     )
 
--- periods that are not touched stay
+-- what is not touched stays
 other_key_stays : (w : ℕ) (old new : Part → Type 0) (p : Part) (q : Place) → IsWithPart old new p → (key_of p ≡ Some q.key → ⊥) → IsPeriod w old q → Stays w old new q
 other_key_stays w old new p q m apart hq =
     let s = heard_other old new p q.key m apart in
@@ -183,7 +183,7 @@ rest_stays w old new p q kn kn' m hq none = elim (is_of_cases (key_of p) q.key) 
   | inr apart ↦ other_key_stays w old new p q m apart hq
 ]
 
--- at most two periods are touched
+-- two periods at most are touched
 touched_at : (w : ℕ) (old : Part → Type 0) (p : Part) (q : Place) (key : Key) → key_of p ≡ Some key → IsTouched w old p q → IsTouchedEnd w (IsHeardAt old key) p.stamp q.end
 touched_at w old p q key k t = subst (λ (z : Key). IsTouchedEnd w (IsHeardAt old z) p.stamp q.end) (one_key p q.key key t.of_key k) (touched_end w old p q t)
 

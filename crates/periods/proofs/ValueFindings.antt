@@ -1,4 +1,4 @@
--- The finding of members and the health near an end: at most one, and the same for equal sets.
+-- What members and the health near an end come to: one finding at most, and the same of the same sets.
 use Rattle.std.proofs.Common.{◌≡◌, ℕ, ◌*◌, inl, inr, ◌==◌, List, ◌∷◌, sym, ap, subst, refl, ◌∙◌, eq-eqb}
 use Rattle.std.specs.List.{AllByRecursion}
 use Rattle.std.proofs.lemmas.Bool.{and_from}
@@ -39,12 +39,12 @@ heads e = cc
 tails : {x y : ℕ} {xs ys : List ℕ} → x ∷ xs ≡ y ∷ ys → xs ≡ ys
 tails e = cc
 
--- a health and its tag are within their ranges
+-- what holds of a health with its tag
 pub record IsHealthValue (h : ℕ × GalHealth × SentTag) : Type 0 where
   pub health : IsGalHealth h.1
   pub tag : IsSentTag h.2
 
--- the values of the parts are within their widths in bits
+-- what the parts say is within its digits
 transmission_value-in : (p : Part) (v : Transmission) → IsBodyValue p.body → Says IonTransmission p v → IsSecond v.second
 transmission_value-in p v b h = elim h.2 [
   | inl g ↦ (subst IsBodyValue g.1 b).1
@@ -66,7 +66,7 @@ toe_value members v are h = subst (λ (x : ℕ × SentTag). IsSentTag x.1) (sym 
 pub health_value : (sat : Satellite) (p : Part) (h : ℕ × GalHealth × SentTag) → IsPartValue p → Says (HealthOf sat) p h → IsHealthValue h
 health_value sat p h v says = let b = subst IsBodyValue says.1 v.body in record { health = b.0; tag = b.1 }
 
--- only values are equal, and so are first values
+-- two that are the only one, and two that are first, are one
 one_only : {X : Type 0} (values : X → Type 0) (v w : X) → IsOnly values v → IsOnly values w → v ≡ w
 one_only values v w h k = k.only v h.here
 
@@ -119,7 +119,7 @@ one_transmission_of members v w are h k =
     let time = one_transmission v.wn w.wn v.second w.second (transmission_value members v are h.here) (transmission_value members w are k.here) (heads (tails (tails (tails e)))) in
     λ i. record { stamp = stamp i; sat = sat i; wn = time.0 i; second = time.1 i }
 
--- the item is unique
+-- the items are one
 one_gps_item : (r : ℕ) (sat : Satellite) (members : Part → Type 0) (e f : GpsEph) → ((p : Part) → members p → IsPartValue p)
     → IsGpsItemOf r sat members e → IsGpsItemOf r sat members f → e ≡ f
 one_gps_item r sat members e f are h k =
@@ -172,7 +172,7 @@ one_item r (GpsIon content) members before behind (IonItem e) f are x y h k = ab
 one_item r (GalIon content) members before behind (IonItem e) f are x y h k = absurd k
 one_item r key members before behind e f are x y h k = absurd h
 
--- where there is an item, the members agree, and each kind and health are there
+-- where there is an item, the members agree, each kind is there, and so is health
 only_each : (r : ℕ) (key : Key) (members : Part → Type 0) (before behind : ℕ × GalHealth × SentTag → Type 0) (e : NavItem)
     → IsItemOf r key members before behind e → AllByRecursion (λ k. (v : Value k) × IsOnly (HasValue k members) v) (kinds_of key)
 only_each r (Gps sat issue) members before behind (GpsItem e) h = ((e.clock, h.clock), ((e.a, h.a), ((e.b, h.b), tt)))
@@ -223,7 +223,7 @@ IsFoundIn-one r key members before behind (Complete i) Misses are x y h k = absu
 IsFoundIn-one r key members before behind (Complete i) LacksHealth are x y h k = absurd (item_healthy r key members before behind i h k.2)
 IsFoundIn-one r key members before behind (Complete i) (Complete j) are x y h k = ap Complete (one_item r key members before behind i j are x y h k)
 
--- findings of equal sets
+-- of the same sets
 contradicted_same : (key : Key) (a b : Part → Type 0) → Same a b → IsContradicted key a → IsContradicted key b
 contradicted_same key a b s = any_same _ _ (kinds_of key) (λ k. Differ-same (HasValue k a) (HasValue k b) (same_values k a b s))
 

@@ -1,4 +1,4 @@
--- An item of valid parts is valid: one satellite of the right system, equal issues of data, and times within
+-- An item that is found of members that are parts fits together: one satellite of the right system, equal issues, and times within
 -- their ranges.
 use Rattle.std.proofs.Common.{◌≡◌, ℕ, ◌+◌, ◌*◌, ◌/◌, ◌^◌, ◌<◌, ◌≤◌, Some, pos, neg_ℤ, ◌-ℤ◌, ◌≤ℤ◌, refl, sym, ap, subst, ◌∙◌, arith}
 use Rattle.std.proofs.lemmas.Int.{ints}
@@ -35,7 +35,7 @@ use Rattle.periods.specs.Verdicts.{IsItemOf}
 use Rattle.periods.proofs.Folds.{none_some}
 use Rattle.periods.proofs.ValueFindings.{transmission_value}
 
--- the members are of the key, and each is of a satellite of the right system
+-- the members are of the key, and each is a part of a satellite that sends such
 pub record AreParts (key : Key) (members : Part → Type 0) : Type 0 where
   pub of_key : (p : Part) → members p → key_of p ≡ Some key
   pub is_part : (p : Part) → members p → IsPart p.sat p.body
@@ -83,14 +83,14 @@ gal_ion_system sat (OfGalIon i w n) content e p = p.system
 gal_ion_system sat (OfHealth h t) content e p = absurd (none_some (GalIon content) e)
 gal_ion_system sat _ content e p = absurd cc
 
--- the issue of data in a content is the key's
+-- the issue that a content bears is the key's
 gps_issue_is : (p : Part) (s : Satellite) (body : Body) (issue n : ℕ) → key_of p ≡ Some (Gps s issue) → p.body ≡ body → key_in p.sat body ≡ Some (Gps p.sat n) → n ≡ issue
 gps_issue_is p s body issue n e h k = gps_issue (sym k ∙ sym (ap (key_in p.sat) h) ∙ e)
 
 gal_issue_is : (p : Part) (s : Satellite) (body : Body) (issue n : ℕ) → key_of p ≡ Some (Gal s issue) → p.body ≡ body → key_in p.sat body ≡ Some (Gal p.sat n) → n ≡ issue
 gal_issue_is p s body issue n e h k = gal_issue (sym k ∙ sym (ap (key_in p.sat) h) ∙ e)
 
--- ranges of resolved week numbers
+-- the weeks that numbers mean, whatever the numbers
 pub gps_week_low : (r n : ℕ) → IsReference r → 512 ≤ gps_week_to r n
 unfolding gps_week_to
 gps_week_low r n reference = omega (arith, reference.0)
@@ -135,12 +135,12 @@ gal_ion_week r s reference small =
     let high : galileo_week_to r s.wn ≤ 10238 = galileo_week_high r s.wn reference in
     (omega arith, omega arith)
 
--- the transmission time of the item
+-- the transmission time as the item has it
 sent_is : (tag : SentTag) (moment second week : ℕ) (sent : SentSecond) → week ≡ toe_week_of moment second → sent ≡ sent_second tag moment week
     → IsSentSecond (sent_second tag moment (toe_week_of moment second)) → IsSentSecond sent
 sent_is tag moment second week sent e f h = subst IsSentSecond (sym (f ∙ ap (λ (w : ℕ). sent_second tag moment w) e)) h
 
--- an ionosphere is of its satellite's system, and its week is in range
+-- an ionosphere is of its sender's system, and its week is one
 ion_fits : (r : ℕ) (key : Key) (moment_of : Transmission → ℕ) (said : IonContent) (members : Part → Type 0) (e : IonEph) → AreParts key members → HasRanges (IonItem e)
     → IsIonItemOf moment_of said members e
     → ((p : Part) → key_of p ≡ Some key → IsPart p.sat p.body → p.sat.system ≡ content_system said)

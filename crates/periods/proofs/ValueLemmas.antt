@@ -1,4 +1,4 @@
--- Values of equal sets of parts, and of the union of two sets.
+-- Values that sets of parts have, where the sets are the same, and where one is two others together.
 use Rattle.std.proofs.Common.{◌⊎◌, inl, inr, List, [], ◌∷◌, sym, ◌∙◌}
 use Rattle.std.specs.List.{AllByRecursion}
 use Rattle.nav_eph.specs.declared.part.Part.{Part}
@@ -7,7 +7,7 @@ use Rattle.periods.specs.Values.{IsEmpty, IsOnly, Differ, IsFirstBy, IsFirstOrEl
 use Rattle.periods.specs.Parts.{Kind, Value, HasValue, AnyOf}
 use Rattle.periods.proofs.Folds.{Grows}
 
--- a set that is the union of two others
+-- a set that is two others together
 pub record IsUnion (a b c : Part → Type 0) : Type 0 where
   pub left : (p : Part) → a p → c p
   pub right : (p : Part) → b p → c p
@@ -21,7 +21,7 @@ HasValue-to k a b v to h = record { part = h.part; here = to h.part h.here; says
 pub same_values : (k : Kind) (a b : Part → Type 0) → Same a b → Same (HasValue k a) (HasValue k b)
 same_values k a b s = record { to = λ v h. HasValue-to k a b v s.to h; from = λ v h. HasValue-to k b a v s.from h }
 
--- the values of the union of two sets
+-- the values of two sets together
 pub union_values : (k : Kind) (a b c : Part → Type 0) → IsUnion a b c → Grows (HasValue k a) (HasValue k c) (HasValue k b)
 union_values k a b c u = record {
   keeps = λ v h. HasValue-to k a c v u.left h;
@@ -56,7 +56,7 @@ IsFirstOrElse-same R S a b c d v s t h = elim h [
   | inr k ↦ inr (IsEmpty-same a b s k.0, IsFirstBy-same S c d v t k.1)
 ]
 
--- where all values are equal, no two differ
+-- where all values are one, no two differ
 pub only_agrees : {X : Type 0} (values : X → Type 0) (v : X) → IsOnly values v → Differ values → ⊥
 only_agrees values v h d = d.differ (h.only d.one d.one_here ∙ sym (h.only d.other d.other_here))
 

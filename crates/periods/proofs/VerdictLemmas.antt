@@ -1,4 +1,4 @@
--- Verdicts: the same for equal sets, kept by later parts where the period is closed, and unique.
+-- Verdicts: the same for the same set, kept by later parts where the period is closed, and one.
 use Rattle.std.proofs.Common.{◌≡◌, ℕ, ◌+◌, ◌<◌, inl, inr, sym, ap, subst, ◌∙◌}
 use Rattle.periods.proofs.EndSurface.{Same, same_sym}
 use Rattle.gnss_week.specs.Weeks.{IsReference}
@@ -30,7 +30,7 @@ IsVerdict-same r w a b q v s h = record {
 pub IsClosed-same : (r w : ℕ) (a b : Part → Type 0) (c : Closed) → Same a b → IsClosed r w a c → IsClosed r w b c
 IsClosed-same r w a b c s h = record { period = IsPeriod-same w a b (closed_place c) s h.period; verdict = IsVerdict-same r w a b (closed_place c) c.verdict s h.verdict }
 
--- a closed period keeps its verdict
+-- what is closed keeps its verdict
 pub IsVerdict-keeps : (r w watermark : ℕ) (old new : Part → Type 0) (q : Place) (v : Verdict)
     → AreLater watermark old new → q.end + w < watermark → IsVerdict r w old q v → IsVerdict r w new q v
 IsVerdict-keeps r w watermark old new q v l low h = record {
@@ -62,7 +62,7 @@ IsClosed-one r w parts c d values e h k =
     let g : c.key ≡ d.key = ap (λ (q : Place). q.key) e in
     λ i. record { end = f i; key = g i; verdict = v i }
 
--- the item of a period with the verdict `Whole` is that of its finding
+-- the item of a whole period is what it comes to
 pub whole_item : (repeats : NavItem → Type 0) (f : Finding) (item : NavItem) (v : Verdict) → IsJudged repeats f v → v ≡ Whole item → f ≡ Complete item
 whole_item repeats Differs item v h e = absurd (let g : Contradicted ≡ Whole item = sym h ∙ e in cc)
 whole_item repeats Misses item v h e = absurd (let g : Partial ≡ Whole item = sym h ∙ e in cc)
@@ -72,7 +72,7 @@ whole_item repeats (Complete x) item v h e = elim h [
   | inr y ↦ let g : Whole x ≡ Whole item = sym y.1 ∙ e in cc
 ]
 
--- a period with the verdict `Again` repeats an earlier one
+-- what is said again repeats
 pub again_repeats : (repeats : NavItem → Type 0) (f : Finding) (v : Verdict) → IsJudged repeats f v → v ≡ Again → (item : NavItem) × repeats item
 again_repeats repeats Differs v h e = absurd (let g : Contradicted ≡ Again = sym h ∙ e in cc)
 again_repeats repeats Misses v h e = absurd (let g : Partial ≡ Again = sym h ∙ e in cc)

@@ -1,4 +1,4 @@
--- The digest of a set of parts, by kind.
+-- What a set of parts comes to, kind by kind and choice by choice.
 use Rattle.std.specs.Prelude.{ℕ, Option, None, Some}
 use Rattle.nav_eph.specs.declared.galileo.GalHealth.{GalHealth}
 use Rattle.nav_eph.specs.declared.tag.SentTag.{SentTag}
@@ -15,13 +15,12 @@ use Rattle.periods.specs.Items.{IsHealth}
 use Rattle.periods.specs.Values.{IsEmpty, IsOnly, Differ, IsBest, IsFirstBy, IsEarlier, IsLater}
 use Rattle.periods.specs.Parts.{HasValue, Clock, OrbitA, OrbitB, Word1, Word2, Word3, Word4, Side, FitFlag, TransmissionTag, ToeTag, IonTransmission, side_numbers, fit_numbers, tag_numbers, transmission_numbers}
 
--- there is no value, exactly one, or two that differ
+-- there is no value, one value, or there are two that differ
 abbrev pub IsSeen : {X : Type 0} → (X → Type 0) → Seen X → Type 0
 IsSeen values Nothing = IsEmpty values
 IsSeen values (One x) = IsOnly values x
 IsSeen values Different = Differ values
 
--- the digest of members of a GPS key: the contents, the latest SV status and fit flag, the earliest time tags
 pub record IsGpsDigest (members : Part → Type 0) (d : GpsDigest) : Type 0 where
   pub clock : IsSeen (HasValue Clock members) d.clock
   pub a : IsSeen (HasValue OrbitA members) d.a
@@ -31,14 +30,13 @@ pub record IsGpsDigest (members : Part → Type 0) (d : GpsDigest) : Type 0 wher
   pub sent : IsBest (IsEarlier tag_numbers) (HasValue TransmissionTag members) d.sent
   pub toe : IsBest (IsEarlier tag_numbers) (HasValue ToeTag members) d.toe
 
--- the digest of members of a Galileo key: the contents of word types 1 to 4
 pub record IsGalDigest (members : Part → Type 0) (d : GalDigest) : Type 0 where
   pub w1 : IsSeen (HasValue Word1 members) d.w1
   pub w2 : IsSeen (HasValue Word2 members) d.w2
   pub w3 : IsSeen (HasValue Word3 members) d.w3
   pub w4 : IsSeen (HasValue Word4 members) d.w4
 
--- the digest of the members of a key
+-- what the members of a key come to, in the key's form
 abbrev pub IsDigest : Key → (Part → Type 0) → Digest → Type 0
 IsDigest (Gps sat issue) members (GpsForm d) = IsGpsDigest members d
 IsDigest (Gal sat issue) members (GalForm d) = IsGalDigest members d
@@ -46,7 +44,7 @@ IsDigest (GpsIon content) members (IonForm s) = IsFirstBy (IsEarlier transmissio
 IsDigest (GalIon content) members (IonForm s) = IsFirstBy (IsEarlier transmission_numbers) (HasValue IonTransmission members) s
 IsDigest key members digest = ⊥
 
--- the health that a period takes; none where there is none in the window up to the end nor in that after it
+-- the health that counts, or that there is none up to the end and behind it
 abbrev pub IsBestHealth : (ℕ × GalHealth × SentTag → Type 0) → (ℕ × GalHealth × SentTag → Type 0) → Option (ℕ × GalHealth × SentTag) → Type 0
 IsBestHealth before behind None = IsEmpty before × IsEmpty behind
 IsBestHealth before behind (Some h) = IsHealth before behind h

@@ -1,4 +1,4 @@
--- The test whether a part is of a key; the law `keys_are_told` states that it agrees with `key_of`.
+-- That a part is of a key, as a test; `keys_are_told` says that it is `key_of`.
 use Rattle.std.specs.Prelude.{Bool, false, ◌&&◌, ◌==◌, Option, None, Some}
 use Rattle.nav_eph.specs.declared.part.Part.{Part}
 use Rattle.nav_eph.specs.contracts.ion.GpsIonPartialEq.TheImpl.{eq-value as gps_ion_eq}
@@ -8,7 +8,7 @@ use Rattle.periods.specs.declared.key.Key.TheVariants.{Gps, Gal, GpsIon, GalIon}
 use Rattle.periods.specs.Parts.{key_of}
 use Rattle.periods.specs.Readings.{same_sat}
 
--- both keys are the same
+-- the two keys are one
 abbrev pub same_key : Key → Key → Bool
 same_key (Gps s i) (Gps t j) = same_sat s t && (i == j)
 same_key (Gal s i) (Gal t j) = same_sat s t && (i == j)
@@ -16,7 +16,6 @@ same_key (GpsIon a) (GpsIon b) = gps_ion_eq.it a b
 same_key (GalIon a) (GalIon b) = gal_ion_eq.it a b
 same_key a b = false
 
--- the option is that key
 abbrev pub is_key : Option Key → Key → Bool
 is_key None key = false
 is_key (Some k) key = same_key k key

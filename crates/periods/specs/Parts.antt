@@ -1,4 +1,4 @@
--- Keys of parts, and the values that parts carry.
+-- What parts are parts of: keys, contents, and what stands beside the contents.
 use Rattle.std.specs.Prelude.{◌≡◌, ℕ, ◌%◌, ◌⊎◌, List, [], ◌∷◌, Option, None, Some}
 use Rattle.nav_eph.specs.Satellite.{Satellite, place_of}
 use Rattle.nav_eph.specs.Numbers.{side_number, tag_number, health_number, gal_transmission}
@@ -22,8 +22,8 @@ use Rattle.periods.specs.declared.key.Key.{Key}
 use Rattle.periods.specs.declared.key.Key.TheVariants.{Gps, Gal, GpsIon, GalIon}
 use Rattle.periods.specs.declared.key.Transmission.{Transmission}
 
--- the key of a satellite and body: the satellite with the low eight bits of IODC, with IODE or with IODnav; the content of an
--- ionosphere; none for health (IS-GPS-200, 20.3.3.3.1.5 and 20.3.4.4; Galileo OS SIS ICD, 5.1.9.2)
+-- the key of what a satellite says: the satellite with the low eight bits of iodc, with iode or with iodnav; for an ionosphere the
+-- content itself, whoever says it; health has none (IS-GPS-200, 20.3.3.3.1.5 and 20.3.4.4; Galileo OS SIS ICD, 5.1.9.2)
 abbrev pub key_in : Satellite → Body → Option Key
 key_in sat (OfClock clock side tag) = Some (Gps sat (clock.iodc % 256))
 key_in sat (OfOrbitA orbit fit) = Some (Gps sat orbit.iode)
@@ -40,7 +40,7 @@ key_in sat (OfGalIon ionosphere wn second) = Some (GalIon ionosphere)
 abbrev pub key_of : Part → Option Key
 key_of p = key_in p.sat p.body
 
--- the kinds of values that parts carry: contents, and values that are sent along with a content
+-- the kinds of values that parts say: the contents, and what stands beside these
 pub data Kind : Type 0 where
   Clock : Kind
   OrbitA : Kind
@@ -56,7 +56,7 @@ pub data Kind : Type 0 where
   IonTransmission : Kind
   HealthOf : Satellite → Kind
 
--- the values of a kind; those sent along with a content have the stamp of their part
+-- the values of a kind; with what stands beside a content goes the stamp of its part
 abbrev pub Value : Kind → Type 0
 Value Clock = GpsClock
 Value OrbitA = GpsOrbitA
@@ -72,8 +72,8 @@ Value ToeTag = ℕ × SentTag
 Value IonTransmission = Transmission
 Value (HealthOf sat) = ℕ × GalHealth × SentTag
 
--- The part carries the value. A GPS tag names a transmission time or a toe; the week of a GPS ionosphere is not sent and is 0;
--- health is that of the part's satellite.
+-- The part says the value. A tag of GPS names the transmission time or a toe; GPS names no week with an ionosphere, and 0 stands
+-- in its place; health is said of the part's own satellite.
 abbrev pub Says : (k : Kind) → Part → Value k → Type 0
 Says Clock p clock = (side : GpsSide) × (tag : SentTag) × (p.body ≡ OfClock clock side tag)
 Says OrbitA p orbit = (fit : ℕ) × (p.body ≡ OfOrbitA orbit fit)
@@ -90,41 +90,38 @@ Says IonTransmission p s = (p.stamp ≡ s.stamp) × (p.sat ≡ s.sat)
     × (((ion : GpsIonosphere) × (p.body ≡ OfGpsIon ion s.second) × (s.wn ≡ 0)) ⊎ ((ion : GalIonosphere) × (p.body ≡ OfGalIon ion s.wn s.second)))
 Says (HealthOf sat) p v = (p.sat ≡ sat) × (p.body ≡ OfHealth v.1 v.2) × (p.stamp ≡ v.0)
 
--- some part of the set carries the value
+-- some part of a set says the value
 pub record HasValue (k : Kind) (set : Part → Type 0) (v : Value k) : Type 0 where
   pub part : Part
   pub here : set part
   pub says : Says k part v
 
--- the kinds of contents that make an item of the key; none for an ionosphere, whose content is the key
+-- the kinds of contents that an item of the key is made of; an ionosphere's content is its key
 abbrev pub kinds_of : Key → List Kind
 kinds_of (Gps sat issue) = Clock ∷ OrbitA ∷ OrbitB ∷ []
 kinds_of (Gal sat issue) = Word1 ∷ Word2 ∷ Word3 ∷ Word4 ∷ []
 kinds_of (GpsIon content) = []
 kinds_of (GalIon content) = []
 
--- P holds of one of the kinds
+-- it holds of one of the kinds
 abbrev pub AnyOf : (Kind → Type 0) → List Kind → Type 0
 AnyOf P [] = ⊥
 AnyOf P (k ∷ []) = P k
 AnyOf P (k ∷ l ∷ ks) = P k ⊎ AnyOf P (l ∷ ks)
 
--- the order of SV statuses: by stamp, then by the number of their bits
+-- the numbers by which these are compared: the stamp, and then the number that the bits give
 abbrev pub side_numbers : ℕ × GpsSide → List ℕ
 side_numbers v = v.0 ∷ side_number v.1 ∷ []
 
--- the order of fit interval flags: by stamp, then by flag
 abbrev pub fit_numbers : ℕ × ℕ → List ℕ
 fit_numbers v = v.0 ∷ v.1 ∷ []
 
--- the order of tags: by stamp, then by the number of their bits
 abbrev pub tag_numbers : ℕ × SentTag → List ℕ
 tag_numbers v = v.0 ∷ tag_number v.1 ∷ []
 
--- the order of healths: by stamp, then by the number of their bits and those of the tag
 abbrev pub health_numbers : ℕ × GalHealth × SentTag → List ℕ
 health_numbers v = v.0 ∷ health_number v.1 v.2 ∷ []
 
--- the order of transmissions: by stamp, satellite, and week number and second
+-- of a sending the stamp, the satellite, and the number of its time
 abbrev pub transmission_numbers : Transmission → List ℕ
 transmission_numbers s = s.stamp ∷ place_of s.sat.system ∷ s.sat.number ∷ gal_transmission s.wn s.second ∷ []

@@ -1,4 +1,4 @@
--- Periods of a set of parts: their ends, members and order.
+-- Issue periods of a set of parts: their ends, their members, and their order.
 use Rattle.std.specs.Prelude.{◌≡◌, ℕ, List, [], ◌∷◌, Some}
 use Rattle.periods.specs.Ends.{IsEnd, IsEndOf}
 use Rattle.nav_eph.specs.Satellite.{place_of}
@@ -10,7 +10,7 @@ use Rattle.periods.specs.declared.key.Place.{Place}
 use Rattle.periods.specs.Values.{IsBelow}
 use Rattle.periods.specs.Parts.{key_of}
 
--- a part of the key was received at the stamp
+-- a part of the key was heard at the stamp
 pub record IsHeardAt (parts : Part → Type 0) (key : Key) (stamp : ℕ) : Type 0 where
   pub part : Part
   pub here : parts part
@@ -27,18 +27,18 @@ pub record IsMember (window : ℕ) (parts : Part → Type 0) (place : Place) (pa
   pub of_key : key_of part ≡ Some place.key
   pub ends : IsEndOf window (IsHeardAt parts place.key) place.end part.stamp
 
--- the order of keys: ephemerides of GPS, of Galileo, ionospheres of GPS, of Galileo; then the satellite; then the issue
--- of data or, for an ionosphere, the number of its content
+-- a key's numbers in the order of periods: GPS ephemerides, then those of Galileo, then the ionospheres of GPS and of Galileo; then
+-- the satellite; then the issue or, of an ionosphere, the number of its content
 abbrev pub key_numbers : Key → List ℕ
 key_numbers (Gps sat issue) = 0 ∷ place_of sat.system ∷ sat.number ∷ issue ∷ []
 key_numbers (Gal sat issue) = 1 ∷ place_of sat.system ∷ sat.number ∷ issue ∷ []
 key_numbers (GpsIon content) = 2 ∷ 0 ∷ 0 ∷ gps_ion_number content ∷ []
 key_numbers (GalIon content) = 3 ∷ 0 ∷ 0 ∷ gal_ion_number content ∷ []
 
--- the order of periods: by end, then by key
+-- a period's numbers: its end comes first
 abbrev pub place_numbers : Place → List ℕ
 place_numbers place = place.end ∷ key_numbers place.key
 
--- the first period comes before the second
+-- one period comes before another
 abbrev pub IsBefore : Place → Place → Type 0
 IsBefore a b = IsBelow (place_numbers a) (place_numbers b)

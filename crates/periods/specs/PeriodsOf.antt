@@ -19,74 +19,71 @@ use Rattle.periods.specs.DigestsOf.{digest_of, digest_join, digest_finding, heal
 use Rattle.periods.specs.KeyTests.{is_of}
 use Rattle.periods.specs.Mirrors.{earlier, best_among}
 
--- the part is not a part of the key in the window after stamp e
+-- no part of the key in the window after a stamp
 abbrev pub quiet_at : ℕ → Key → ℕ → Part → Bool
 quiet_at window key e p = not (is_of key p) || (nat_le p.stamp e || nat_lt (e + window) p.stamp)
 
--- no part of the key is in the window after stamp e
 abbrev pub quiet : List Part → ℕ → Key → ℕ → Bool
 quiet parts window key e = list_all (quiet_at window key e) parts
 
--- the end and key of a period that ends with a part of that stamp and key
+-- the place of a period that ends with the part
 abbrev pub place_in : ℕ → Option Key → Option Place
 place_in stamp None = None
 place_in stamp (Some key) = Some (record { end = stamp; key = key })
 
--- the end and key of a period that ends with the part; none for health, which has no key
 abbrev pub place_at : Part → Option Place
 place_at p = place_in p.stamp (key_of p)
 
--- the stamp of a part of the key; none for other parts
+-- the stamp of a part of the key
 abbrev pub stamp_of : Key → Part → Option ℕ
 stamp_of key p = if is_of key p then Some p.stamp else None
 
--- stamp s of a part of the key is an end of it, below e
+-- an end of the key below another
 abbrev pub end_below : List Part → ℕ → Key → ℕ → ℕ → Bool
 end_below parts window key e s = nat_lt s e && quiet parts window key s
 
--- the key's last end below e
+-- the key's last end before another
 abbrev pub end_before : List Part → ℕ → Key → ℕ → Option ℕ
 end_before parts window key e = best_among (stamp_of key) (end_below parts window key e) (λ a b. nat_lt b a) parts None
 
--- the stamp is after the end before, if there is one
+-- the part is of the key, behind the end before and up to the end
 abbrev pub is_above : Option ℕ → ℕ → Bool
 is_above None s = true
 is_above (Some before) s = nat_lt before s
 
--- the part is of the key, after the end before and up to the end e
 abbrev pub is_member : Key → ℕ → Option ℕ → Part → Bool
 is_member key e before p = is_of key p && (is_above before p.stamp && nat_le p.stamp e)
 
--- the union of two digests
+-- the digest so far with one more
 abbrev pub join_some : Option Digest → Option Digest → Option Digest
 join_some all None = all
 join_some None (Some d) = Some d
 join_some (Some x) (Some y) = Some (digest_join x y)
 
--- the digest of the members, added to the digest so far
+-- the digest of the members
 abbrev pub members_digest : Key → ℕ → Option ℕ → List Part → Option Digest → Option Digest
 members_digest key e before [] all = all
 members_digest key e before (p ∷ ps) all = members_digest key e before ps (if is_member key e before p then join_some all (digest_of p) else all)
 
--- the finding of the members' digest; `Misses` where there is none
+-- a finding of a digest that some member has given
 abbrev pub finding_with : ℕ → ℕ → List Part → Place → Option Digest → Finding
 finding_with r window parts place None = Misses
 finding_with r window parts place (Some d) = digest_finding r place.key d (health_at window parts place.key place.end)
 
--- the finding of the period at a place
+-- what a period comes to by itself
 abbrev pub finding_at : ℕ → ℕ → List Part → Place → Finding
 finding_at r window parts place =
     finding_with r window parts place (members_digest place.key place.end (end_before parts window place.key place.end) parts None)
 
--- the period's end and key
+-- the place of the key's period with that end
 abbrev pub end_place : Key → ℕ → Place
 end_place key e = record { end = e; key = key }
 
--- stamp s of a part of the key ends a complete period of it, below e
+-- a complete period of the key ends below another end
 abbrev pub complete_below : ℕ → ℕ → List Part → Key → ℕ → ℕ → Bool
 complete_below r window parts key e s = end_below parts window key e s && is_complete (finding_at r window parts (end_place key s))
 
--- the end of the key's last complete period below e
+-- the end of the key's last complete period below another end
 abbrev pub complete_before : ℕ → ℕ → List Part → Key → ℕ → Option ℕ
 complete_before r window parts key e = best_among (stamp_of key) (complete_below r window parts key e) (λ a b. nat_lt b a) parts None
 
@@ -95,11 +92,11 @@ abbrev pub item_at : ℕ → ℕ → List Part → Key → Option ℕ → Option
 item_at r window parts key None = None
 item_at r window parts key (Some e) = item_of (finding_at r window parts (end_place key e))
 
--- the item of the key's last complete period below e
+-- the item of the key's last complete period below an end
 abbrev pub last_item : ℕ → ℕ → List Part → Key → ℕ → Option NavItem
 last_item r window parts key e = item_at r window parts key (complete_before r window parts key e)
 
--- the earlier item that a period's item is compared with; none for an ionosphere
+-- the item with which that of a period is compared; an ionosphere is compared with none
 abbrev pub item_before : ℕ → ℕ → List Part → Key → ℕ → Option NavItem
 item_before r window parts (Gps sat issue) e = last_item r window parts (Gps sat issue) e
 item_before r window parts (Gal sat issue) e = last_item r window parts (Gal sat issue) e
@@ -110,25 +107,23 @@ item_before r window parts (GalIon content) e = None
 abbrev pub verdict_at : ℕ → ℕ → List Part → Place → Verdict
 verdict_at r window parts place = verdict_of (item_before r window parts place.key place.end) (finding_at r window parts place)
 
--- a closed period of end, key and verdict
 abbrev pub closed_with : Place → Verdict → Closed
 closed_with place verdict = record { end = place.end; key = place.key; verdict = verdict }
 
--- the first period comes before the second
+-- one period before another
 abbrev pub is_before : Place → Place → Bool
 is_before = earlier place_numbers
 
--- inserts a period into a sorted list; unchanged where it has one with that end and key
+-- a period more, in its place; none where there is one at the place
 abbrev pub insert : Closed → List Closed → List Closed
 insert c [] = c ∷ []
 insert c (d ∷ ds) = if is_before (closed_place c) (closed_place d) then c ∷ d ∷ ds else (if is_before (closed_place d) (closed_place c) then d ∷ insert c ds else d ∷ ds)
 
--- inserts the period at a place into a list, where no part of the key is in the window after its end
 abbrev pub insert_at : ℕ → ℕ → List Part → Option Place → List Closed → List Closed
 insert_at r window parts None cs = cs
 insert_at r window parts (Some q) cs = if quiet parts window q.key q.end then insert (closed_with q (verdict_at r window parts q)) cs else cs
 
--- the periods of the first list of parts that end with a part of the second
+-- the periods that end with a part of the second list
 abbrev pub periods_ending : ℕ → ℕ → List Part → List Part → List Closed
 periods_ending r window parts [] = []
 periods_ending r window parts (p ∷ ps) = insert_at r window parts (place_at p) (periods_ending r window parts ps)
@@ -137,6 +132,6 @@ periods_ending r window parts (p ∷ ps) = insert_at r window parts (place_at p)
 unfoldable pub periods_of : ℕ → ℕ → List Part → List Closed
 periods_of r window parts = periods_ending r window parts parts
 
--- the periods closed at a watermark: end plus window is below it
+-- those that are closed at a watermark
 unfoldable pub closed_of : ℕ → ℕ → ℕ → List Part → List Closed
 closed_of r window watermark parts = closed_at window watermark (periods_of r window parts)

@@ -1,4 +1,4 @@
--- The value of a kind that a part carries, as a function; `ReadingLemmas` proves that it agrees with `Says`.
+-- What a part says of a kind, as a function, as the code reads it; `Readings` of the proofs says that it is what `Says` describes.
 use Rattle.std.specs.Prelude.{ℕ, Option, None, Some, Bool, if◌then◌else◌, ◌==◌, ◌&&◌}
 use Rattle.nav_eph.specs.Satellite.{Satellite, place_of}
 use Rattle.nav_eph.specs.declared.tag.SentTag.{SentTag}
@@ -8,21 +8,19 @@ use Rattle.nav_eph.specs.declared.part.Body.{Body}
 use Rattle.nav_eph.specs.declared.part.Body.TheVariants.{GpsClock as OfClock, GpsA as OfOrbitA, GpsB as OfOrbitB, GalW1 as OfWord1, GalW2 as OfWord2, GalW3 as OfWord3, GalW4 as OfWord4, GalHealth as OfHealth, GpsIon as OfGpsIon, GalIon as OfGalIon}
 use Rattle.periods.specs.Parts.{Kind, Clock, OrbitA, OrbitB, Word1, Word2, Word3, Word4, Side, FitFlag, TransmissionTag, ToeTag, IonTransmission, HealthOf, Value}
 
--- both are the same satellite
+-- the two are one satellite
 abbrev pub same_sat : Satellite → Satellite → Bool
 same_sat s t = (place_of s.system == place_of t.system) && (s.number == t.number)
 
--- a tag with its stamp, where it names a transmission time
+-- a tag, where it names the transmission time, and where it names a toe
 abbrev pub sent_in : ℕ → SentTag → Option (ℕ × SentTag)
 sent_in stamp (Sent wn second) = Some (stamp, Sent wn second)
 sent_in stamp (Toe wn second) = None
 
--- a tag with its stamp, where it names a toe
 abbrev pub toe_in : ℕ → SentTag → Option (ℕ × SentTag)
 toe_in stamp (Sent wn second) = None
 toe_in stamp (Toe wn second) = Some (stamp, Toe wn second)
 
--- the value of a kind in a part's stamp, satellite and body
 abbrev pub reading_in : (k : Kind) → ℕ → Satellite → Body → Option (Value k)
 reading_in Clock stamp sat (OfClock clock side tag) = Some clock
 reading_in OrbitA stamp sat (OfOrbitA orbit fit) = Some orbit
@@ -40,6 +38,5 @@ reading_in IonTransmission stamp sat (OfGalIon ionosphere wn second) = Some (rec
 reading_in (HealthOf of) stamp sat (OfHealth health tag) = if same_sat sat of then Some (stamp, health, tag) else None
 reading_in k stamp sat body = None
 
--- the value of a kind that a part carries
 abbrev pub reading : (k : Kind) → Part → Option (Value k)
 reading k p = reading_in k p.stamp p.sat p.body

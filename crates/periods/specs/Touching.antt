@@ -1,11 +1,11 @@
--- One more part: the periods within the window of it become one.
+-- One more part: the periods that it touches, which become one with it.
 use Rattle.std.specs.Prelude.{◌≡◌, ℕ, ◌+◌, ◌≤◌, ◌⊎◌, Some}
 use Rattle.nav_eph.specs.declared.part.Part.{Part}
 use Rattle.periods.specs.declared.key.Place.{Place}
 use Rattle.periods.specs.Parts.{key_of}
 use Rattle.periods.specs.Periods.{IsPeriod, IsMember}
 
--- the period is of the part's key, and has a member within the window of the part, on either side
+-- the period is of the part's key, and has a member within the window of it, on either side
 pub record IsTouched (window : ℕ) (parts : Part → Type 0) (part : Part) (place : Place) : Type 0 where
   pub of_key : key_of part ≡ Some place.key
   pub member : Part
@@ -13,7 +13,7 @@ pub record IsTouched (window : ℕ) (parts : Part → Type 0) (part : Part) (pla
   pub not_far_after : member.stamp ≤ part.stamp + window
   pub not_far_before : part.stamp ≤ member.stamp + window
 
--- the period is one of the new set too, with the same members
+-- the period is there again, with the same members
 pub record Stays (window : ℕ) (old new : Part → Type 0) (place : Place) : Type 0 where
   pub period : IsPeriod window new place
   pub keeps : (q : Part) → IsMember window old place q → IsMember window new place q

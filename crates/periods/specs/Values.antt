@@ -1,4 +1,4 @@
--- Values of a set: the only one, and the first in an order.
+-- Values that some of a set have: the only one, and the first in an order.
 use Rattle.std.specs.Prelude.{◌≡◌, ◌≢◌, ℕ, ◌<◌, ◌⊎◌, List, [], ◌∷◌, Option, None, Some}
 
 -- the set has no value
@@ -32,7 +32,7 @@ abbrev pub IsBest : {X : Type 0} → (X → X → Type 0) → (X → Type 0) →
 IsBest R values None = IsEmpty values
 IsBest R values (Some v) = IsFirstBy R values v
 
--- lexicographic order
+-- numbers in the order of a dictionary: the first in which they differ decides
 abbrev pub IsBelow : List ℕ → List ℕ → Type 0
 IsBelow [] [] = ⊥
 IsBelow [] (y ∷ ys) = Unit {0}

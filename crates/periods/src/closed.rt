@@ -1,32 +1,32 @@
 use crate::key::{Key, Place};
 use nav_eph::NavItem;
 
-/// What the parts of a period come to, without a look at earlier periods.
+/// What a period comes to by itself.
 #[derive(Clone, Copy)]
 pub enum Finding {
-    /// Two parts of one kind differ in content.
+    /// Two members of one kind differ in content.
     Differs,
-    /// A part is missing: a subframe of GPS, or a word of Galileo.
+    /// A kind has no member.
     Misses,
-    /// No health (word type 5) of the Galileo satellite was received within the window of the end.
+    /// No health of the Galileo satellite was heard near the end.
     LacksHealth,
-    /// All parts are there and agree; this is the item.
+    /// All is there and agrees; this is its item.
     Complete(NavItem),
 }
 
-/// The verdict on a period.
+/// What is said of a period.
 #[derive(Clone, Copy, PartialEq, Eq)]
 pub enum Verdict {
-    /// All parts were received and agree; this is their item, which is new.
+    /// All of its parts were heard and agree, and make a new item, which this is.
     Whole(NavItem),
-    /// A part was not received: a subframe of GPS, or a word of Galileo.
+    /// A kind of part was not heard.
     Partial,
     /// Two parts of one kind differ in content.
     Contradicted,
-    /// No health of the Galileo satellite was received within the window of the end.
+    /// No health of the Galileo satellite was heard within the window of the end.
     NoHealth,
-    /// All parts were received and agree, and equal in all but the transmission time the last
-    /// complete period of the same key.
+    /// All of its parts were heard and agree, and in all but the transmission time they repeat
+    /// the last complete period of the same ephemeris.
     Again,
 }
 
@@ -35,8 +35,8 @@ pub enum Verdict {
 pub struct Closed {
     /// The stamp of its last part.
     pub end: u32,
-    /// The key of its parts.
+    /// What its parts are parts of.
     pub key: Key,
-    /// The verdict on it.
+    /// What is said of it.
     pub verdict: Verdict,
 }

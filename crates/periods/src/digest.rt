@@ -4,56 +4,56 @@ use nav_eph::{
     GalWord1, GalWord2, GalWord3, GalWord4, GpsClock, GpsOrbitA, GpsOrbitB, GpsSide, SentTag,
 };
 
-/// The contents of one kind that were received.
+/// What is known of the contents of one kind.
 #[derive(Clone, Copy, PartialEq, Eq)]
 pub enum Seen<T> {
-    /// None.
+    /// None was heard.
     Nothing,
-    /// One content, perhaps repeated.
+    /// All that were heard are this one.
     One(T),
-    /// Two that differ.
+    /// Two that were heard differ.
     Different,
 }
 
-/// The digest of parts of a GPS ephemeris key.
+/// What members of a key of GPS ephemerides come to.
 #[derive(Clone, Copy)]
 pub struct GpsDigest {
-    /// The clock parameters of subframe 1.
+    /// The clocks.
     pub clock: Seen<GpsClock>,
-    /// The orbit parameters of subframe 2.
+    /// The first halves of the orbit.
     pub a: Seen<GpsOrbitA>,
-    /// The orbit parameters of subframe 3.
+    /// The second halves of the orbit.
     pub b: Seen<GpsOrbitB>,
-    /// The latest SV status of subframe 1, with its stamp.
+    /// The side that came last, with its stamp.
     pub side: Option<(u32, GpsSide)>,
-    /// The latest fit interval flag, with its stamp.
+    /// The fit interval flag that came last, with its stamp.
     pub fit: Option<(u32, U<1>)>,
-    /// The earliest tag that names a transmission time, with its stamp.
+    /// The tag that came first of those that name the transmission time, with its stamp.
     pub sent: Option<(u32, SentTag)>,
-    /// The earliest tag that names a toe, with its stamp.
+    /// The tag that came first of those that name a toe, with its stamp.
     pub toe: Option<(u32, SentTag)>,
 }
 
-/// The digest of parts of a Galileo ephemeris key.
+/// What members of a key of Galileo ephemerides come to.
 #[derive(Clone, Copy)]
 pub struct GalDigest {
-    /// Word type 1.
+    /// The words 1.
     pub w1: Seen<GalWord1>,
-    /// Word type 2.
+    /// The words 2.
     pub w2: Seen<GalWord2>,
-    /// Word type 3.
+    /// The words 3.
     pub w3: Seen<GalWord3>,
-    /// Word type 4.
+    /// The words 4.
     pub w4: Seen<GalWord4>,
 }
 
-/// The digest of one or more parts of a key.
+/// What members of a key come to, one at least.
 #[derive(Clone, Copy)]
 pub enum Digest {
-    /// Of a GPS ephemeris key.
+    /// Of a key of GPS ephemerides.
     Gps(GpsDigest),
-    /// Of a Galileo ephemeris key.
+    /// Of a key of Galileo ephemerides.
     Gal(GalDigest),
-    /// Of an ionosphere key: the earliest transmission.
+    /// Of a key of an ionosphere: the sending that came first.
     Ion(Transmission),
 }

@@ -22,10 +22,10 @@ use nav_eph::{
     GpsOrbitA, GpsOrbitB, GpsSide, IonContent, IonEph, NavItem, Sat, SentSecond, SentTag,
 };
 
-// Seconds in a week.
+// The seconds of a week.
 const WEEK: u64 = 604_800;
 
-// The week number of a tag.
+// The week number that a tag bears.
 fn tag_wn(tag: &SentTag) -> U<12>
     ensures { result ≡ wn_of tag.now }
 {
@@ -35,7 +35,7 @@ fn tag_wn(tag: &SentTag) -> U<12>
     }
 }
 
-// The second of the week of a tag.
+// The second of the week that a tag names.
 fn second_of_tag(tag: &SentTag) -> Second
     ensures { result ≡ tag_second tag.now }
 {
@@ -45,7 +45,7 @@ fn second_of_tag(tag: &SentTag) -> Second
     }
 }
 
-// The GPS time of a GPS tag; its 10-bit week number is resolved near the reference week `r`.
+// The moment that a tag of GPS names, for a reader near the week `r`.
 fn gps_moment_near(r: RefWeek, tag: &SentTag) -> Moment
     ensures same { result ≡ gps_moment r tag.now }
     ensures low { 2 ≤ week_of result }
@@ -56,7 +56,7 @@ fn gps_moment_near(r: RefWeek, tag: &SentTag) -> Moment
     Moment::from_seconds(WEEK * week.value() as u64 + second.value() as u64)
 }
 
-// The GPS time of a second of the Galileo week `wn` (12 bits), resolved near the reference week `r`.
+// The moment of that second of the Galileo week that `wn` means near the week `r`.
 fn gal_moment_at(r: RefWeek, wn: U<12>, second: Second) -> Moment
     ensures same { result ≡ 604800 * galileo_week_to r wn + second }
     ensures low { 2 ≤ week_of result }
@@ -66,7 +66,7 @@ fn gal_moment_at(r: RefWeek, wn: U<12>, second: Second) -> Moment
     Moment::from_seconds(WEEK * week.value() as u64 + second.value() as u64)
 }
 
-// Seconds from the start of the week of toe; negative before it.
+// So many seconds after the start of the week of toe, or before it.
 fn seconds_from(week: Week, moment: Moment) -> i32
     requires near { 604800 * week ≤ moment + 302400 }
     requires close { moment ≤ 604800 * week + 907199 }
@@ -75,7 +75,7 @@ fn seconds_from(week: Week, moment: Moment) -> i32
     (moment.value() as i64 - (WEEK * week.value() as u64) as i64) as i32
 }
 
-// The week of toe nearest to the tag's time, and the transmission time counted from its start.
+// The week of toe by a tag's moment and the second of toe, and the transmission time in it.
 fn toe_and_sent(tag: SentTag, moment: Moment, toe_second: Second) -> (Week, SentSecond)
     requires low { 2 ≤ week_of moment }
     requires high { week_of moment ≤ 16381 }
@@ -90,14 +90,14 @@ fn toe_and_sent(tag: SentTag, moment: Moment, toe_second: Second) -> (Week, Sent
     }
 }
 
-// toe of GPS in seconds of the week; the scale factor is 2^4.
+// The second of toe of GPS.
 fn gps_toe(a: &GpsOrbitA) -> Second
     ensures { result ≡ 16 * a.now.toe }
 {
     Second::from_number(16 * a.toe.value() as u32)
 }
 
-// toe of Galileo in seconds of the week; the scale factor is 60.
+// The second of toe of Galileo.
 fn gal_toe(word: &GalWord1) -> Second
     ensures { result ≡ 60 * word.now.toe }
 {
@@ -105,7 +105,7 @@ fn gal_toe(word: &GalWord1) -> Second
 }
 
 impl<T: Copy> Seen<T> {
-    // Two contents differ.
+    // Two that were heard differ.
     fn differs(&self) -> bool
         ensures { result ≡ seen_differs self.now }
     {
@@ -116,7 +116,7 @@ impl<T: Copy> Seen<T> {
         }
     }
 
-    // The content, where there is exactly one.
+    // The one there is.
     fn only(&self) -> Option<T>
         ensures { result ≡ seen_only self.now }
     {
@@ -128,7 +128,7 @@ impl<T: Copy> Seen<T> {
     }
 }
 
-// The first option that is not `None`.
+// The first of two that is there.
 fn either(one: Option<(u32, SentTag)>, other: Option<(u32, SentTag)>) -> Option<(u32, SentTag)>
     ensures { result ≡ or_else one other }
 {
@@ -138,7 +138,7 @@ fn either(one: Option<(u32, SentTag)>, other: Option<(u32, SentTag)>) -> Option<
     }
 }
 
-// The finding of a GPS period with all its parts.
+// The ephemeris of GPS, where all of it is there.
 fn complete_gps(
     r: RefWeek,
     sat: Sat,
@@ -165,7 +165,7 @@ fn complete_gps(
     }))
 }
 
-// The finding of a Galileo period with all its parts and health.
+// The ephemeris of Galileo, where all of it is there.
 fn complete_gal(
     r: RefWeek,
     sat: Sat,
@@ -191,7 +191,7 @@ fn complete_gal(
     }))
 }
 
-// The finding of a GPS digest.
+// What the members of a GPS key come to.
 fn find_gps(r: RefWeek, sat: Sat, d: GpsDigest) -> Finding
     ensures { result ≡ gps_finding r sat d }
 {
@@ -207,7 +207,7 @@ fn find_gps(r: RefWeek, sat: Sat, d: GpsDigest) -> Finding
     }
 }
 
-// The finding of a Galileo digest and the health near the end.
+// What the members of a Galileo key and the health near the end come to.
 fn find_gal(
     r: RefWeek,
     sat: Sat,
@@ -228,8 +228,8 @@ fn find_gal(
     }
 }
 
-// The GPS time at which GPS sent an ionosphere: the one nearest to the stamp, taken as seconds from
-// the start of the reference week `r`.
+// The moment at which GPS sent an ionosphere: the nearest to the stamp, counted from the week `r`
+// on.
 fn gps_ion_moment_near(r: RefWeek, transmission: &Transmission) -> Moment
     ensures { result ≡ gps_ion_moment r transmission.now }
 {
@@ -237,7 +237,7 @@ fn gps_ion_moment_near(r: RefWeek, transmission: &Transmission) -> Moment
     nearest_moment(near, transmission.second)
 }
 
-// The ionosphere of GPS, with its earliest transmission.
+// The ionosphere of GPS, as it was sent first.
 fn gps_ionosphere(r: RefWeek, transmission: Transmission, content: GpsIon) -> Finding
     ensures { result ≡ digest_finding r (OfGpsIon content) (IonForm transmission) None }
 {
@@ -248,7 +248,7 @@ fn gps_ionosphere(r: RefWeek, transmission: Transmission, content: GpsIon) -> Fi
     }))
 }
 
-// The ionosphere of Galileo, with its earliest transmission.
+// The ionosphere of Galileo, as it was sent first.
 fn gal_ionosphere(r: RefWeek, transmission: Transmission, content: GalIon) -> Finding
     ensures { result ≡ digest_finding r (OfGalIon content) (IonForm transmission) None }
 {
@@ -260,8 +260,8 @@ fn gal_ionosphere(r: RefWeek, transmission: Transmission, content: GalIon) -> Fi
 }
 
 impl Digest {
-    /// The finding of a period from the digest of its members and the health near its end; week numbers
-    /// are resolved near the reference week `r`. `Misses` where the key is of another kind than the digest.
+    /// What the members of a key, and the health near the end of their period, come to, near the
+    /// week `r`.
     pub fn finding(self, r: RefWeek, key: Key, health: Option<(u32, GalHealth, SentTag)>) -> Finding
         ensures { result ≡ digest_finding r key self health }
     {

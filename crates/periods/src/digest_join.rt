@@ -11,7 +11,7 @@ use nav_bits::U;
 use nav_eph::{GpsSide, SentTag, gal_transmission_number};
 
 impl<T: PartialEq + Copy> Seen<T> {
-    // The contents of one kind in the union of two sets.
+    // What the contents of two sets come to together.
     fn join(self, other: Seen<T>) -> Seen<T>
         ensures { result ≡ seen_join T.eq self other }
     {
@@ -31,14 +31,14 @@ impl<T: PartialEq + Copy> Seen<T> {
     }
 }
 
-// Lexicographic order of stamp and number.
+// A stamp and a number come before another stamp and number.
 fn is_before(stamp: u32, number: u64, other_stamp: u32, other_number: u64) -> bool
     ensures { result ≡ is_below (stamp ∷ number ∷ []) (other_stamp ∷ other_number ∷ []) }
 {
     stamp < other_stamp || (stamp == other_stamp && number < other_number)
 }
 
-// The later of two SV statuses.
+// The later of two sides.
 fn later_side(one: Option<(u32, GpsSide)>, other: Option<(u32, GpsSide)>) -> Option<(u32, GpsSide)>
     ensures { result ≡ best_join (later side_numbers) one other }
 {
@@ -89,7 +89,7 @@ fn earlier_tag(one: Option<(u32, SentTag)>, other: Option<(u32, SentTag)>) -> Op
     }
 }
 
-// One transmission is before another: by stamp, then satellite, then time of transmission.
+// One sending comes before another: by its stamp, its satellite, and the number of its time.
 fn is_earlier_transmission(one: &Transmission, other: &Transmission) -> bool
     ensures { result ≡ earlier transmission_numbers one.now other.now }
 {
@@ -107,7 +107,7 @@ fn is_earlier_transmission(one: &Transmission, other: &Transmission) -> bool
     gal_transmission_number(one.wn, one.second) < gal_transmission_number(other.wn, other.second)
 }
 
-// The earlier of two transmissions.
+// The earlier of two sendings.
 fn earlier_transmission(one: Transmission, other: Transmission) -> Transmission
     ensures { result ≡ (if earlier transmission_numbers other one then other else one) }
 {
@@ -118,7 +118,7 @@ fn earlier_transmission(one: Transmission, other: Transmission) -> Transmission
     }
 }
 
-// The digest of the union of two sets of parts of a GPS key.
+// What the parts of two sets of a GPS key come to together.
 fn join_gps(one: GpsDigest, other: GpsDigest) -> GpsDigest
     ensures { result ≡ gps_join one other }
 {
@@ -133,7 +133,7 @@ fn join_gps(one: GpsDigest, other: GpsDigest) -> GpsDigest
     }
 }
 
-// The digest of the union of two sets of parts of a Galileo key.
+// What the parts of two sets of a Galileo key come to together.
 fn join_gal(one: GalDigest, other: GalDigest) -> GalDigest
     ensures { result ≡ gal_join one other }
 {
@@ -146,7 +146,7 @@ fn join_gal(one: GalDigest, other: GalDigest) -> GalDigest
 }
 
 impl Digest {
-    /// The digest of the union of two sets of parts of one key.
+    /// What the parts of two sets of a key come to together.
     pub fn join(self, other: Digest) -> Digest
         ensures { result ≡ digest_join self other }
     {

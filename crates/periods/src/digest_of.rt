@@ -7,7 +7,7 @@ use crate::key::Transmission;
 use nav_bits::U;
 use nav_eph::{Body, Part, SentTag};
 
-// The empty GPS digest.
+// Nothing of GPS.
 const NO_GPS: GpsDigest = GpsDigest {
     clock: Seen::Nothing,
     a: Seen::Nothing,
@@ -18,7 +18,7 @@ const NO_GPS: GpsDigest = GpsDigest {
     toe: None,
 };
 
-// The empty Galileo digest.
+// Nothing of Galileo.
 const NO_GAL: GalDigest = GalDigest {
     w1: Seen::Nothing,
     w2: Seen::Nothing,
@@ -26,7 +26,7 @@ const NO_GAL: GalDigest = GalDigest {
     w4: Seen::Nothing,
 };
 
-// The tag with its stamp, where it names a transmission time.
+// The tag, where it names the transmission time.
 fn sent_tag(stamp: u32, tag: &SentTag) -> Option<(u32, SentTag)>
     ensures { result ≡ sent_in stamp tag.now }
 {
@@ -36,7 +36,7 @@ fn sent_tag(stamp: u32, tag: &SentTag) -> Option<(u32, SentTag)>
     }
 }
 
-// The tag with its stamp, where it names a toe.
+// The tag, where it names a toe.
 fn toe_tag(stamp: u32, tag: &SentTag) -> Option<(u32, SentTag)>
     ensures { result ≡ toe_in stamp tag.now }
 {
@@ -47,7 +47,7 @@ fn toe_tag(stamp: u32, tag: &SentTag) -> Option<(u32, SentTag)>
 }
 
 impl Digest {
-    /// The digest of one part; `None` for Galileo health, which has no key.
+    /// What one part comes to; `None` where it has no key.
     pub fn of(part: &Part) -> Option<Digest>
         ensures { result ≡ digest_of part.now }
     {

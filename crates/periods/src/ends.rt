@@ -14,7 +14,7 @@ pub fn each_stamp_has_one_end()
         → IsEndOf window (Contains stamps) e s → d ≡ e }
 {}
 
-/// One more stamp: the ends within the window of it, at most two, become one end with it; all others stay.
+/// One stamp more: what it touches, two ends at most, becomes one end with it, and all else stays.
 pub fn one_more_stamp()
     ensures one { (window : ℕ) (stamps : List ℕ) (stamp : ℕ)
         → (e : ℕ)
@@ -29,8 +29,8 @@ pub fn one_more_stamp()
         → StaysEnd window (Contains stamps) (Contains (stamps ++ stamp ∷ [])) e }
 {}
 
-/// Later stamps change neither the ends whose window they do not reach nor the stamps of these, and
-/// add no end there.
+/// Later stamps leave the ends whose window they do not reach, with their stamps, and yield no end
+/// before them.
 pub fn later_stamps_change_no_closed_end()
     ensures end_stays { (window watermark : ℕ) (stamps later : List ℕ) (e : ℕ)
         → All (λ s. watermark ≤ s) later → e + window < watermark → IsEnd window (Contains stamps) e

@@ -1,4 +1,4 @@
-//! The finding and the verdict of a period among stored parts.
+//! What a period among kept parts comes to.
 
 ghost use Rattle.std.specs.Prelude.{◌≡◌, None, if◌then◌else◌, nat_lt};
 ghost use Rattle.periods.specs.DigestsOf.{digest_of, is_complete, item_of};
@@ -17,7 +17,7 @@ use crate::search::{is_later, is_quiet, last_end_before};
 use gnss_week::RefWeek;
 use nav_eph::{NavItem, Part};
 
-// The stamp is after the key's previous end, if there is one.
+// The stamp is behind the end before.
 fn is_behind_end(before: Option<u32>, stamp: u32) -> bool
     ensures { result ≡ is_above before stamp }
 {
@@ -27,14 +27,14 @@ fn is_behind_end(before: Option<u32>, stamp: u32) -> bool
     }
 }
 
-// The part is of the key, after its previous end and up to its end.
+// The part is of the key, behind the end before and up to the end.
 fn belongs(key: &Key, end: u32, before: Option<u32>, part: &Part) -> bool
     ensures { result ≡ is_member key.now end before part.now }
 {
     is_part_of(key, part) && (is_behind_end(before, part.stamp) && part.stamp <= end)
 }
 
-// The union of two digests.
+// The digest so far with that of one part more.
 fn joined(all: Option<Digest>, one: Option<Digest>) -> Option<Digest>
     ensures { result ≡ join_some all one }
 {
@@ -45,7 +45,7 @@ fn joined(all: Option<Digest>, one: Option<Digest>) -> Option<Digest>
     }
 }
 
-// The digest so far, with that of the part where it is a member.
+// The digest of the members so far, and one part more.
 fn joined_with(
     all: Option<Digest>,
     part: &Part,
@@ -63,7 +63,7 @@ fn joined_with(
     }
 }
 
-// The digest of the members of the period.
+// The digest of the members.
 fn digest_members(parts: &[Part], key: &Key, end: u32, before: Option<u32>) -> Option<Digest>
     ensures { result ≡ members_digest key.now end before parts.now None }
 {
@@ -74,7 +74,7 @@ fn digest_members(parts: &[Part], key: &Key, end: u32, before: Option<u32>) -> O
     all
 }
 
-/// What the period at a place comes to by itself; week numbers are resolved near the reference week `r`.
+/// What the period of some parts at a place comes to by itself, near the week `r`.
 pub fn finding_on(parts: &[Part], r: RefWeek, window: u32, place: &Place) -> Finding
     ensures { result ≡ finding_at r window parts.now place.now }
 {
@@ -89,8 +89,8 @@ pub fn finding_on(parts: &[Part], r: RefWeek, window: u32, place: &Place) -> Fin
     }
 }
 
-/// The verdict on a finding; `before` is the item of the last complete period of the same key, `None`
-/// for an ionosphere.
+/// What is said of a finding, where `before` is the item of the last complete period of the same
+/// ephemeris.
 pub fn judge(before: Option<NavItem>, finding: Finding) -> Verdict
     ensures { result ≡ verdict_of before finding }
 {
@@ -111,7 +111,7 @@ pub fn judge(before: Option<NavItem>, finding: Finding) -> Verdict
     }
 }
 
-// The period is complete and its parts agree.
+// All is there and agrees.
 fn is_whole(finding: &Finding) -> bool
     ensures { result ≡ is_complete finding.now }
 {
@@ -123,7 +123,7 @@ fn is_whole(finding: &Finding) -> bool
     }
 }
 
-// The item of a complete period.
+// The item, where all is there and agrees.
 fn item_found(finding: Finding) -> Option<NavItem>
     ensures { result ≡ item_of finding }
 {
@@ -135,7 +135,7 @@ fn item_found(finding: Finding) -> Option<NavItem>
     }
 }
 
-// The stamp is below `end` and ends a complete period of the key.
+// A complete period of the key ends with the stamp, below the end.
 fn is_complete_below(
     parts: &[Part],
     r: RefWeek,
@@ -154,7 +154,7 @@ fn is_complete_below(
         && is_whole(&finding_on(parts, r, window, &place))
 }
 
-// The later of `best` and a further stamp that ends a complete period of the key below `end`.
+// The end of the key's last complete period below the end so far, and one more stamp.
 fn complete_with(
     best: Option<u32>,
     stamp: Option<u32>,
@@ -180,7 +180,7 @@ fn complete_with(
     }
 }
 
-// The end of the key's last complete period below `end`.
+// The end of the key's last complete period below the end.
 fn last_complete(parts: &[Part], r: RefWeek, window: u32, key: &Key, end: u32) -> Option<u32>
     ensures { result ≡ complete_before r window parts.now key.now end }
 {
@@ -191,7 +191,7 @@ fn last_complete(parts: &[Part], r: RefWeek, window: u32, key: &Key, end: u32) -
     best
 }
 
-// The item of the key's last complete period below `end`.
+// The item of the key's last complete period below the end.
 fn last_known(parts: &[Part], r: RefWeek, window: u32, key: &Key, end: u32) -> Option<NavItem>
     ensures { result ≡ last_item r window parts.now key.now end }
 {
@@ -207,7 +207,7 @@ fn last_known(parts: &[Part], r: RefWeek, window: u32, key: &Key, end: u32) -> O
     }
 }
 
-// The earlier item that the period's item is compared with; `None` for an ionosphere.
+// The item with which that of a period is compared: none for an ionosphere.
 fn known_before(parts: &[Part], r: RefWeek, window: u32, place: &Place) -> Option<NavItem>
     ensures { result ≡ item_before r window parts.now place.now.key place.now.end }
 {
@@ -219,7 +219,7 @@ fn known_before(parts: &[Part], r: RefWeek, window: u32, place: &Place) -> Optio
     }
 }
 
-/// The verdict on the period at a place; week numbers are resolved near the reference week `r`.
+/// The verdict on the period of some parts at a place, near the week `r`.
 pub fn verdict_on(parts: &[Part], r: RefWeek, window: u32, place: &Place) -> Verdict
     ensures { result ≡ verdict_at r window parts.now place.now }
 {

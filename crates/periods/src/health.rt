@@ -10,7 +10,7 @@ use crate::key::Key;
 use crate::order::is_same_sat;
 use nav_eph::{Body, GalHealth, Part, Sat, SentTag};
 
-// The health of a satellite in a part, with its stamp and time tag.
+// The health that a part says of a satellite, with its stamp.
 fn read_health(part: &Part, sat: Sat) -> Option<(u32, GalHealth, SentTag)>
     ensures { result ≡ reading (HealthOf sat) part.now }
 {
@@ -26,8 +26,8 @@ fn read_health(part: &Part, sat: Sat) -> Option<(u32, GalHealth, SentTag)>
     }
 }
 
-// One health is before another: by stamp, then by the number that its bits and those of its tag
-// form.
+// One health comes before another: by its stamp, and then by the number of its digits and the
+// tag's.
 fn is_earlier(one: &(u32, GalHealth, SentTag), other: &(u32, GalHealth, SentTag)) -> bool
     ensures { result ≡ earlier health_numbers one.now other.now }
 {
@@ -35,7 +35,7 @@ fn is_earlier(one: &(u32, GalHealth, SentTag), other: &(u32, GalHealth, SentTag)
     one.0 < other.0 || (one.0 == other.0 && number < other.1.number_with(&other.2))
 }
 
-// There is no best so far, or this health is later.
+// No health was found yet, or this one is later.
 fn is_last(best: &Option<(u32, GalHealth, SentTag)>, health: &(u32, GalHealth, SentTag)) -> bool
     ensures { result ≡ is_better (later health_numbers) best.now health.now }
 {
@@ -45,7 +45,7 @@ fn is_last(best: &Option<(u32, GalHealth, SentTag)>, health: &(u32, GalHealth, S
     }
 }
 
-// There is no best so far, or this health is earlier.
+// No health was found yet, or this one is earlier.
 fn is_first(best: &Option<(u32, GalHealth, SentTag)>, health: &(u32, GalHealth, SentTag)) -> bool
     ensures { result ≡ is_better (earlier health_numbers) best.now health.now }
 {
@@ -55,7 +55,7 @@ fn is_first(best: &Option<(u32, GalHealth, SentTag)>, health: &(u32, GalHealth, 
     }
 }
 
-// The later of `best` and a further health that lies within the window up to the end.
+// The later of the last health so far and of one more, where this is up to the end and near it.
 fn last_with(
     best: Option<(u32, GalHealth, SentTag)>,
     health: Option<(u32, GalHealth, SentTag)>,
@@ -77,7 +77,7 @@ fn last_with(
     }
 }
 
-// The earlier of `best` and a further health that lies within the window after the end.
+// The earlier of the first health so far and of one more, where this is behind the end and near it.
 fn first_with(
     best: Option<(u32, GalHealth, SentTag)>,
     health: Option<(u32, GalHealth, SentTag)>,
@@ -99,7 +99,7 @@ fn first_with(
     }
 }
 
-// The satellite's last health in the window up to the end.
+// The satellite's last health up to the end, within the window.
 fn last_up_to(parts: &[Part], window: u32, sat: Sat, end: u32) -> Option<(u32, GalHealth, SentTag)>
     ensures { result
         ≡ best_among (reading (HealthOf sat)) (up_to_end window end)
@@ -112,7 +112,7 @@ fn last_up_to(parts: &[Part], window: u32, sat: Sat, end: u32) -> Option<(u32, G
     best
 }
 
-// The satellite's first health in the window after the end.
+// The satellite's first health behind the end, within the window.
 pub(crate) fn first_behind(
     parts: &[Part],
     window: u32,
@@ -129,7 +129,7 @@ pub(crate) fn first_behind(
     best
 }
 
-// The satellite's last health up to the end or, where there is none, the first one after it.
+// The satellite's last health up to the end or, where there is none, the first one behind it.
 fn sat_health(parts: &[Part], window: u32, sat: Sat, end: u32) -> Option<(u32, GalHealth, SentTag)>
     ensures { result ≡ satellite_health window parts.now sat end }
 {
@@ -139,8 +139,8 @@ fn sat_health(parts: &[Part], window: u32, sat: Sat, end: u32) -> Option<(u32, G
     }
 }
 
-// The health that a period of the key with that end takes: its satellite's, for a Galileo
-// ephemeris, with stamp and time tag; `None` for any other key.
+// The health that counts for a period of the key with that end: that of a Galileo key's satellite,
+// with its stamp and its tag.
 pub(crate) fn health_near(
     parts: &[Part],
     window: u32,

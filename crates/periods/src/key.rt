@@ -2,38 +2,38 @@ use gnss_week::Second;
 use nav_bits::U;
 use nav_eph::{GalIon, GpsIon, Sat};
 
-/// What a part belongs to: an issue of a satellite's ephemeris, or a content of the ionosphere.
+/// What parts are parts of: an issue of a satellite's ephemeris, or a content of the ionosphere.
 #[derive(Clone, Copy, PartialEq, Eq)]
 pub enum Key {
-    /// A GPS satellite and its issue of data: the IODE of subframes 2 and 3, equal to the low eight
-    /// bits of the IODC of subframe 1 (IS-GPS-200, 20.3.4.4).
+    /// A GPS satellite, and the issue of its orbit: the iode of both halves, and the low eight bits
+    /// of iodc (IS-GPS-200, 20.3.4.4).
     Gps(Sat, U<8>),
-    /// A Galileo satellite, and the IODnav of word types 1 to 4 (Galileo OS SIS ICD, 5.1.9.2).
+    /// A Galileo satellite, and the issue of the four words (Galileo OS SIS ICD, 5.1.9.2).
     Gal(Sat, U<10>),
-    /// The content of a GPS ionosphere, from any satellite.
+    /// The ionosphere of GPS, whoever sent it.
     GpsIon(GpsIon),
-    /// The content of a Galileo ionosphere, from any satellite.
+    /// The ionosphere of Galileo, whoever sent it.
     GalIon(GalIon),
 }
 
-/// What identifies a period: its end and its key. A key has at most one period with a given end.
+/// A period's end and its key: there is at most one period of a key with an end.
 #[derive(Clone, Copy)]
 pub struct Place {
     /// The stamp of the last part of the period.
     pub end: u32,
-    /// The key of its parts.
+    /// What its parts are parts of.
     pub key: Key,
 }
 
-/// The transmission of an ionosphere: by which satellite, and when.
+/// Who sent an ionosphere, and when.
 #[derive(Clone, Copy)]
 pub struct Transmission {
-    /// The stamp at which it was received, in seconds of the logger's clock.
+    /// The second at which it was heard, as the logger counts.
     pub stamp: u32,
-    /// The satellite that sent it.
+    /// Who sent it.
     pub sat: Sat,
-    /// The week number as sent, 12 bits; 0 for GPS, whose subframe 4 page 18 has none.
+    /// The week number as sent; 0 for GPS, which sends none with the ionosphere.
     pub wn: U<12>,
-    /// The second of the week of its transmission.
+    /// The second of the week.
     pub second: Second,
 }

@@ -25,8 +25,8 @@ ghost use Rattle.periods.specs.PeriodLists.{ArePeriods, AreClosed, IsPeriodPrefi
 ghost use Rattle.periods.specs.PeriodsOf.{periods_of, closed_of};
 ghost use Rattle.periods.specs.Touching.{IsTouched, IsJoined, Stays};
 
-/// Each list of parts has exactly one list of periods, and one of the periods closed at a watermark:
-/// those that `periods_of` and `closed_of` give.
+/// Each list of parts has exactly one list of periods, and one of those closed at a watermark: the
+/// computed ones.
 pub fn periods_are()
     ensures are { (r window : ℕ) (parts : List Part) → All IsPartValue parts
         → ArePeriods r window (Contains parts) (periods_of r window parts) }
@@ -46,8 +46,8 @@ pub fn order_does_not_matter()
         → periods_of r window some ≡ periods_of r window other }
 {}
 
-/// Closed periods stay: parts from the watermark on change none of them, a higher watermark adds
-/// periods after them, and they are a prefix of all periods.
+/// What is closed stays: later parts change nothing of it, more is closed at a higher watermark behind
+/// it, and all of it is at the front of the periods.
 pub fn closed_stays()
     ensures later { (r window watermark : ℕ) (parts later : List Part)
         → All IsPartValue (parts ++ later) → All (λ p. watermark ≤ p.stamp) later
@@ -61,8 +61,8 @@ pub fn closed_stays()
         → closed_of r window watermark parts ≡ periods_of r window parts }
 {}
 
-/// One more part: the periods of its key within the window of it, at most two, become one period with
-/// it; all others stay.
+/// One more part: what it touches, at most two periods of its key, becomes one period with it, and
+/// all else stays.
 pub fn one_more_part()
     ensures one { (window : ℕ) (parts : List Part) (part : Part) (key : Key)
         → key_of part ≡ Some key → (place : Place)
@@ -76,9 +76,9 @@ pub fn one_more_part()
         → Stays window (Contains parts) (Contains (parts ++ part ∷ [])) place }
 {}
 
-/// Parts that lie more than a window before others change none of their periods, and vice versa: the
-/// periods of both together are those of either, with the same findings. Verdicts may differ, since a
-/// period may repeat an earlier one.
+/// Parts that lie more than a window before others change none of their periods, nor the others
+/// theirs: the periods of both together are those of either, and each comes to the same by itself.
+/// The verdict of one may differ, since it may repeat an earlier one.
 pub fn parts_far_apart()
     ensures periods { (window watermark : ℕ) (some more : List Part) (place : Place)
         → All (λ p. p.stamp + window < watermark) some → All (λ p. watermark ≤ p.stamp) more
@@ -98,8 +98,8 @@ pub fn parts_far_apart()
         ↔ IsFound r window (Contains more) place finding }
 {}
 
-/// The computed digests and findings are the specified ones: for one part, for the union of two sets
-/// of parts, and for the members of a period with the health near its end.
+/// What the calls compute of parts is what is described: of one part, of the parts of two sets
+/// together, and of the members of a period with the health near its end.
 pub fn digests_are()
     ensures one { (part : Part) (key : Key) (d : Digest)
         → key_of part ≡ Some key → digest_of part ≡ Some d
@@ -113,27 +113,27 @@ pub fn digests_are()
         (digest_finding r place.key d (health_at window parts place.key place.end)) }
 {}
 
-/// The test `is_of` holds exactly where the key is that of the part.
+/// A part is told to be of a key exactly where that is its key.
 pub fn keys_are_told()
     ensures { (key : Key) (part : Part)
         → (is_of key part ≡ true) ↔ (key_of part ≡ Some key) }
 {}
 
-/// Only the period of an ephemeris has the verdict `Again`, never that of an ionosphere.
+/// Only an ephemeris can repeat an earlier one, and never an ionosphere.
 pub fn only_ephemerides_are_said_again()
     ensures { (r window : ℕ) (parts : List Part) (c : Closed)
         → IsClosed r window (Contains parts) c → c.verdict ≡ Again → IsOfEphemeris c.key }
 {}
 
-/// The items of concatenated lists of periods are the concatenated items.
+/// The items of periods that follow others are those of the first, and then those of the second.
 pub fn items_concatenate()
     ensures { (some more : List Closed)
         → items_in (some ++ more) ≡ items_in some ++ items_in more }
 {}
 
-/// The item of a period meets the conditions of the item constructors, where each part is of a
-/// satellite of the right system and its fields are within their widths: field ranges, system, issue
-/// of data, transmission time, week of an ionosphere.
+/// The item of a period fits together, as the constructors of items demand, where each part is of a
+/// satellite that sends such and has its fields within their digits: its ranges, the satellite's
+/// system, the issues of its halves or words, the transmission time, the week of an ionosphere.
 pub fn items_fit_together()
     ensures { (r window : ℕ) (parts : List Part) (c : Closed) (item : NavItem) → IsReference r
         → All IsPartValue parts → All (λ p. IsPart p.sat p.body) parts → All HasPartRanges parts

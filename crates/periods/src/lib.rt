@@ -1,23 +1,23 @@
-//! Periods of the received parts of broadcast ephemerides and of the broadcast ionosphere, with
-//! their verdicts and items.
+//! What a set of parts of broadcast ephemerides and of the broadcast ionosphere makes: its periods,
+//! their verdicts and their items.
 //!
-//! A satellite repeats an ephemeris in parts (GPS subframes, Galileo I/NAV words) under an issue of
-//! data (IODE and IODC of GPS, IS-GPS-200, 20.3.4.4; IODnav of Galileo, Galileo OS SIS ICD, 5.1.9.2).
-//! A [`Key`] names a satellite and an issue. The parts of a key fall into *periods*: a period ends
-//! with a part after which no part of the key is received for a window. A complete period, whose
-//! parts agree, makes an item; every other one is partial, contradicted or, for Galileo, without
-//! health ([`Verdict`]). Ionosphere parts have no issue of data: their content is the key.
+//! A satellite sends an ephemeris in parts, again and again, under an issue number (iode and iodc
+//! of GPS, IS-GPS-200, 20.3.4.4; iodnav of Galileo, Galileo OS SIS ICD, 5.1.9.2). A [`Key`] names
+//! what parts are parts of. Its parts fall into *periods*: a period ends with a part behind which
+//! none of the key is heard for a window. A period whose parts are all there and agree makes an
+//! item; every other one is said to be partial, contradicted or, for Galileo, without health
+//! ([`Verdict`]). The ionosphere is its own issue: its content is its key.
 //!
-//! Where parts return after a longer gap and make an ephemeris that equals, in all but the transmission
-//! time, that of the last complete period of the key, the verdict is `Again`: no further item.
+//! An ephemeris whose parts come again after a longer silence, equal in all but the transmission time
+//! to that of the last complete period of its key, has the verdict `Again`: it yields no further item.
 //!
-//! The definitions depend on the set of the parts alone; `periods_of` computes the periods of any list
-//! of parts. The laws state that order and repetition do not matter, and which periods later parts
-//! leave unchanged. An assembly of parts is built from the calls: the digest of the members of a
-//! period ([`Digest`]), and the search for the verdict among stored parts ([`verdict_on`]).
+//! The definitions look at the set of the parts alone, and the list of the periods is a function of
+//! any list of them (`periods_of`); the laws say that order and repetition do not matter, and what
+//! later parts leave as it is. The calls are what an assembly of parts is built from: what members
+//! come to ([`Digest`]), and the search of the verdict among parts that are kept ([`verdict_on`]).
 //!
-//! Periods stand on the ends of a set of stamps ([`one_more_stamp`]): an end is a stamp with no other
-//! in the window after it, whatever was received then.
+//! Below them stand the ends of a set of stamps ([`one_more_stamp`]): a group of stamps ends with one
+//! behind which nothing follows for a window, whatever was heard then.
 //!
 //! ```rust
 //! use periods::order_does_not_matter;

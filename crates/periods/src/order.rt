@@ -10,14 +10,14 @@ use crate::key::{Key, Place};
 use nav_bits::U;
 use nav_eph::{Body, Part, Sat, System};
 
-/// Both are the same satellite.
+/// The two are one satellite.
 pub fn is_same_sat(a: &Sat, b: &Sat) -> bool
     ensures { result ≡ same_sat a.now b.now }
 {
     a.system() == b.system() && a.number() == b.number()
 }
 
-// Both keys are the same.
+// The two keys are one.
 fn is_same_key(a: &Key, b: &Key) -> bool
     ensures { result ≡ same_key a.now b.now }
 {
@@ -60,7 +60,7 @@ pub fn is_part_of(key: &Key, part: &Part) -> bool
     }
 }
 
-// The stamp of a part of the key; `None` for other parts.
+// The stamp of a part of the key.
 pub(crate) fn stamp_in(key: &Key, part: &Part) -> Option<u32>
     ensures { result ≡ stamp_of key.now part.now }
 {
@@ -71,7 +71,7 @@ pub(crate) fn stamp_in(key: &Key, part: &Part) -> Option<u32>
     }
 }
 
-/// The end and key of a period that ends with the part; `None` for health, which has no key.
+/// The place of a period that ends with the part; `None` for health, which has no key.
 pub fn place_of_part(part: &Part) -> Option<Place>
     ensures { result ≡ place_at part.now }
 {
@@ -84,7 +84,7 @@ pub fn place_of_part(part: &Part) -> Option<Place>
     }
 }
 
-/// The number of a system in the order: GPS 0, Galileo 1.
+/// The place of a system in the order: GPS, then Galileo.
 pub fn system_number(system: System) -> u8
     ensures { result ≡ place_of system }
 {
@@ -94,7 +94,7 @@ pub fn system_number(system: System) -> u8
     }
 }
 
-// The numbers by which keys are ordered: class, system, satellite number, and issue of data or content.
+// The numbers by which keys are ordered: class, system, satellite, and issue or content.
 fn numbers(key: &Key) -> (u8, u8, u8, u64)
     ensures { key_numbers key.now ≡ result.0 ∷ result.1 ∷ result.2 ∷ result.3 ∷ [] }
 {
@@ -106,7 +106,7 @@ fn numbers(key: &Key) -> (u8, u8, u8, u64)
     }
 }
 
-/// Period `a` comes before `b`: by end, then by key.
+/// One period comes before another: by its end, and then by its key.
 pub fn comes_before(a: &Place, b: &Place) -> bool
     ensures { result ≡ is_before a.now b.now }
 {

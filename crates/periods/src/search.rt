@@ -8,7 +8,7 @@ use crate::key::Key;
 use crate::order::{is_part_of, stamp_in};
 use nav_eph::Part;
 
-// The part is not a part of the key in the window after the stamp `end`.
+// The part says nothing against silence of the key in the window after a stamp.
 fn is_quiet_at(window: u32, key: &Key, end: u32, part: &Part) -> bool
     ensures { result ≡ quiet_at window key.now end part.now }
 {
@@ -16,14 +16,14 @@ fn is_quiet_at(window: u32, key: &Key, end: u32, part: &Part) -> bool
         || (part.stamp <= end || end as u64 + (window as u64) < part.stamp as u64)
 }
 
-/// No part of the key has a stamp in the window after `end`.
+/// No part of the key has a stamp in the window after this one.
 pub fn is_quiet(parts: &[Part], window: u32, key: &Key, end: u32) -> bool
     ensures { result ≡ quiet parts.now window key.now end }
 {
     parts.iter().all(|part| is_quiet_at(window, key, end, part))
 }
 
-// There is no stamp so far, or this one is later.
+// No stamp was found yet, or this one is later.
 pub(crate) fn is_later(best: Option<u32>, stamp: u32) -> bool
     ensures { result ≡ is_better (λ a b. nat_lt b a) best stamp }
 {
@@ -33,7 +33,7 @@ pub(crate) fn is_later(best: Option<u32>, stamp: u32) -> bool
     }
 }
 
-// The later of `best` and a further stamp that is an end of the key below `end`.
+// The last end of the key below another so far, and one more stamp.
 fn end_with(
     best: Option<u32>,
     stamp: Option<u32>,
@@ -57,7 +57,7 @@ fn end_with(
     }
 }
 
-// The key's last end below `end`.
+// The key's last end before another.
 pub(crate) fn last_end_before(parts: &[Part], window: u32, key: &Key, end: u32) -> Option<u32>
     ensures { result ≡ end_before parts.now window key.now end }
 {

@@ -28,7 +28,7 @@ use Rattle.receiver_log.specs.Steps.{Hears, Stops}
 use Rattle.receiver_log.proofs.LogSteps.{hears_fed, hears_nothing, hears_on, lines_prefix}
 use Rattle.receiver_log.proofs.LogSteps.{refusals_prefix, stops_of, stops_on}
 
--- these bytes were read, and their decided messages processed
+-- these bytes were taken, and what is decided of them was heard
 pub record LogSoFar (h : Heading) (said : List ℕ → Said)
     (left left_new written written_new reported reported_new : Option (List ℕ))
     (held : DeframerState) (state : LogState) (taken : ℕ) : Type 0 where
@@ -39,7 +39,7 @@ pub record LogSoFar (h : Heading) (said : List ℕ → Said)
       reported_new
   pub may_feed : MayFeed (format_of h) held
 
--- what a failed run did, whatever its fault
+-- what a run that broke off did, whatever its fault
 pub record Broken (h : Heading) (said : List ℕ → Said)
     (left left_new written written_new reported reported_new : Option (List ℕ)) : Type 0 where
   pub taken : List ℕ
@@ -61,14 +61,14 @@ none_read : (l1 l2 : Option (List ℕ)) (n : ℕ) (buffer : List ℕ) → n ≡ 
     → Consumes l1 l2 (take n buffer) → Consumes l1 l2 []
 none_read l1 l2 n buffer zero read = subst (λ (k : ℕ). Consumes l1 l2 (take k buffer)) zero read
 
--- no message is decided of bytes that wait
+-- no message is decided of what waits
 waiting_decided : (h : Heading) (rest : List ℕ) → IsWaiting (format_of h) rest
     → decided (format_of h) rest ≡ []
 waiting_decided h [] w = refl
 waiting_decided h (x ∷ xs) w = elim w [ inl e ↦ cc | inr o ↦ rw o refl ]
 
 module _ (h : Heading) (said : List ℕ → Said) where
-  -- a run that failed
+  -- a run that stopped
   broken_by : (left l1 : Option (List ℕ)) (w w1 r r1 : Option (List ℕ)) (bytes : List ℕ)
       (more : Bool)
       → Consumes left l1 bytes → Stops h said more bytes begun w w1 [] r r1
@@ -105,7 +105,7 @@ module _ (h : Heading) (said : List ℕ → Said) where
       none_taken None = tt
       none_taken (Some xs) = refl
 
-  -- a piece was read
+  -- a piece was taken
   pub log_piece : (left l1 l2 w w1 w2 r r1 r2 : Option (List ℕ)) (held new : DeframerState)
       (state next : LogState) (taken : ℕ) (piece : List ℕ) (n : ℕ)
       → LogSoFar h said left l1 w w1 r r1 held state taken → Consumes l1 l2 piece → length piece ≡ n
@@ -125,7 +125,7 @@ module _ (h : Heading) (said : List ℕ → Said) where
         may_feed = may;
       }
 
-  -- what was written and reported of the messages processed
+  -- what was written and reported of what was heard
   written_of : (more : Bool) (a b : List ℕ) (s s1 : LogState) (w w1 r r1 : Option (List ℕ))
       (x : Hears h said more a b s s1 w w1 [] [] r r1)
       → Appends w w1 (lines_from said s x.heard)
@@ -184,7 +184,7 @@ module _ (h : Heading) (said : List ℕ → Said) where
     many = rw far.size many;
   }
 
-  -- a piece was not fed to its end
+  -- a piece was not taken to its end
   pub broken_piece : (left l1 l2 w w1 w2 r r1 r2 : Option (List ℕ)) (held : DeframerState)
       (state : LogState) (taken : ℕ) (piece : List ℕ)
       → LogSoFar h said left l1 w w1 r r1 held state taken → Consumes l1 l2 piece
@@ -225,7 +225,7 @@ module _ (h : Heading) (said : List ℕ → Said) where
       (stops_on h said false far.bytes held.rest begun state w w1 w2 [] [] r r1 r2
       (at_end far.bytes held.rest begun state w w1 r r1 far.hears) ends)
 
-  -- all messages were processed
+  -- all messages were heard
   pub record Whole (left left_new written written_new reported reported_new : Option (List ℕ))
       (state : LogState) (count : ℕ) : Type 0 where
     pub taken : List ℕ
@@ -277,7 +277,7 @@ module _ (h : Heading) (said : List ℕ → Said) where
       (subst (Appends r2 r3) (ap (λ s. counts_report s.counts count) whole.state_is
       ∙ ap (counts_report _) (sym whole.size)) told)
 
-  -- the counts were not reported
+  -- the counts were not
   pub counts_failed : (left l2 w w2 r r2 r3 : Option (List ℕ)) (state : LogState) (count : ℕ)
       → Whole left l2 w w2 r r2 state count
       → AppendsPrefix r2 r3 (counts_report state.counts count) → Broken h said left l2 w w2 r r3
@@ -290,7 +290,7 @@ module _ (h : Heading) (said : List ℕ → Said) where
         ∙ ap (counts_report _) (sym whole.size)) told);
   }
 
-  -- ---- in the words of the contract
+  -- ---- as the contract says it
 
   pub read_broke : {S T U : Type 0} (b a : World S T U)
       → Flushed b.left a.left b.written a.written b.reported a.reported

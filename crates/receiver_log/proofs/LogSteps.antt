@@ -1,4 +1,4 @@
--- Steps of a run over a log: messages are processed, and their lines written.
+-- Steps of a run over a log: messages are heard, and their lines written.
 use Rattle.std.proofs.Common.{◌≡◌, ℕ, ◌+◌, Bool, true, false, not, List, [], ◌∷◌, ◌++◌, length}
 use Rattle.std.proofs.Common.{take, drop}
 use Rattle.std.proofs.Common.{refl, sym, ap, subst, ◌∙◌, append-nil, append_assoc}
@@ -12,7 +12,7 @@ use Rattle.framing.specs.Headings.{Heading, IsHeading, format_of}
 use Rattle.framing.specs.Messages.{messages, decided}
 use Rattle.framing.specs.State.{TakesMessage, TakesNone}
 use Rattle.one_run.proofs.Surface.{prefix_behind, prefix_longer, no_prefix, whole_prefix}
-use Rattle.framing.proofs.Surface.{decided_message, decided_none}
+use Rattle.framing.proofs.Going.{decided_message, decided_none}
 use Rattle.receiver_messages.specs.declared.said.Said.{Said}
 use Rattle.receiver_log.specs.declared.state.LogState.{LogState}
 use Rattle.receiver_log.specs.Capture.{lines_from, refusal_text, refusals_from, state_after}
@@ -86,7 +86,7 @@ state_on : (said : List ℕ → Said) (s : LogState) (xs ys : List (List ℕ))
 state_on said s [] ys = refl
 state_on said s (m ∷ ms) ys = state_on said (given s (length m) (said m)).state ms ys
 
--- the lines of the first of some messages are a prefix of the lines of all
+-- what the first of some messages give is a prefix of what all give
 pub lines_prefix : (said : List ℕ → Said) (s : LogState) (xs ys : List (List ℕ))
     (w w1 : Option (List ℕ))
     → AppendsPrefix w w1 (lines_from said s xs) → AppendsPrefix w w1 (lines_from said s (xs ++ ys))
@@ -275,7 +275,7 @@ module _ (h : Heading) (said : List ℕ → Said) where
       stops_on more a b s s1 w w1 w1 l l1 r r1 r2 x
       (stops_one more b d m s1 w1 w1 l1 r1 r2 takes (no_prefix w1 _) told)
 
-  -- the lines of a message were not written
+  -- the lines behind a message were not written
   pub stops_put : (more : Bool) (a b d m : List ℕ) (s s1 : LogState) (w w1 w2 : Option (List ℕ))
       (l l1 l2 : List ℕ) (r r1 r2 : Option (List ℕ))
       → Hears h said more a b s s1 w w1 l l1 r r1 → TakesMessage (format_of h) more b m d
@@ -300,7 +300,7 @@ module _ (h : Heading) (said : List ℕ → Said) where
         told = no_prefix r1 _;
       })
 
-  -- more bytes follow
+  -- more bytes are to follow
   pub stops_fed : (a p : List ℕ) (s : LogState) (w w1 : Option (List ℕ)) (l : List ℕ)
       (r r1 : Option (List ℕ))
       → Stops h said true a s w w1 l r r1 → Stops h said true (a ++ p) s w w1 l r r1
@@ -315,7 +315,7 @@ module _ (h : Heading) (said : List ℕ → Said) where
     told = x.told;
   }
 
-  -- messages that were processed are the first, whatever follows
+  -- where messages were heard, they are the first whatever follows
   pub stops_of : (more : Bool) (a b : List ℕ) (s s1 : LogState) (w w1 : Option (List ℕ))
       (l : List ℕ) (r r1 : Option (List ℕ))
       → Hears h said more a b s s1 w w1 l [] r r1 → Stops h said more a s w w1 l r r1

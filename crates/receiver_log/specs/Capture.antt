@@ -9,7 +9,7 @@ use Rattle.receiver_log.specs.declared.state.LogState.{LogState}
 use Rattle.receiver_log.specs.Log.{LinesGiven, begun, given}
 use Rattle.receiver_log.specs.Report.{counts_report, reason_word}
 
--- the lines of messages, from a state, by their content
+-- the lines that messages give, going on from a state, for what each message says
 abbrev pub lines_from : (List ℕ → Said) → LogState → List (List ℕ) → List ℕ
 lines_from said s [] = []
 lines_from said s (m ∷ ms) =
@@ -20,16 +20,16 @@ abbrev pub state_after : (List ℕ → Said) → LogState → List (List ℕ) �
 state_after said s [] = s
 state_after said s (m ∷ ms) = state_after said (given s (length m) (said m)).state ms
 
--- the report line of a refused message, by its number in the log
+-- the line of a message that is refused, which has this number
 abbrev pub refusal_line : ℕ → Option Reason → List ℕ
 refusal_line number None = []
 refusal_line number (Some reason) = report_line (codes "message") number (reason_word reason)
 
--- the report line of a message, if it was refused
+-- the line of the report that a message gives, if any
 abbrev pub refusal_text : LinesGiven → List ℕ
 refusal_text g = refusal_line g.state.counts.messages g.refused
 
--- the report lines of messages
+-- those that messages give
 abbrev pub refusals_from : (List ℕ → Said) → LogState → List (List ℕ) → List ℕ
 refusals_from said s [] = []
 refusals_from said s (m ∷ ms) =
@@ -40,17 +40,18 @@ refusals_from said s (m ∷ ms) =
 abbrev pub capture_of : Heading → (List ℕ → Said) → List ℕ → List ℕ
 capture_of heading said bytes = lines_from said begun (messages (format_of heading) bytes)
 
--- the report of a log: a line for each refused message, and the counts
+-- what is reported of it: a line for each message that is refused, and the counts
 abbrev pub report_of : Heading → (List ℕ → Said) → List ℕ → List ℕ
 report_of heading said bytes =
     refusals_from said begun (messages (format_of heading) bytes)
     ++ counts_report (state_after said begun (messages (format_of heading) bytes)).counts
     (length bytes)
 
--- the capture of the first bytes of a log: the lines of the decided messages, which stay whatever follows
+-- what is written and reported of bytes behind which more may come: that of the messages which
+-- stay,
+-- whatever follows
 abbrev pub decided_capture : Heading → (List ℕ → Said) → List ℕ → List ℕ
 decided_capture heading said bytes = lines_from said begun (decided (format_of heading) bytes)
 
--- the report lines of the decided messages
 abbrev pub decided_report : Heading → (List ℕ → Said) → List ℕ → List ℕ
 decided_report heading said bytes = refusals_from said begun (decided (format_of heading) bytes)

@@ -1,4 +1,4 @@
--- The lines of a log's messages, message by message.
+-- The capture that the messages of a log give, message by message.
 use Rattle.std.specs.Prelude.{◌≡◌, ℕ, ◌+◌, ◌-◌, ◌*◌, ◌/◌, ◌^◌, nat_lt, nat_le, min, Bool}
 use Rattle.std.specs.Prelude.{if◌then◌else◌, List, [], ◌++◌, codes, decimal}
 use Rattle.std.specs.Prelude.{Option, Some, None}
@@ -15,30 +15,30 @@ use Rattle.receiver_messages.specs.declared.said.Said.TheVariants.{Other, Time, 
 use Rattle.receiver_log.specs.declared.state.LogState.{LogState}
 use Rattle.receiver_log.specs.declared.state.Counts.{Counts}
 
--- one more; a count saturates at 2^64 - 1
+-- one more; a count stays at 2^64 - 1
 abbrev pub one_more : ℕ → ℕ
 one_more n = min (n + 1) (2 ^ 64 - 1)
 
--- one more if b
+-- one more where it is so
 abbrev pub more_if : Bool → ℕ → ℕ
 more_if b n = if b then one_more n else n
 
--- the result of a message: the new state, its lines, and the reason where it is refused
+-- what a message gives: the log's new state, lines, and a reason where it is refused
 pub record LinesGiven : Type 0 where
   pub state : LogState
   pub text : List ℕ
   pub refused : Option Reason
 
--- the first line of a capture: its week, and a window of 7,200 s
+-- the first line of a capture: its week, and a window of two hours
 abbrev pub head_line : ℕ → List ℕ
 head_line week = (codes "NAVCAP 2 " ++ decimal week) ++ codes " 7200\n"
 
--- the week of the first line: that of the second two hours before the first stamp
+-- the week of the first line: that in which the second two hours before the first stamp lies
 abbrev pub week_of : Option ℕ → ℕ → ℕ
 week_of (Some week) first = week
 week_of None first = (first - 7200) / 604800
 
--- the first line, before the first stamp only
+-- the first line stands before the first stamp alone
 abbrev pub head_text : Option ℕ → ℕ → List ℕ
 head_text (Some week) first = []
 head_text None first = head_line (week_of None first)
@@ -50,7 +50,7 @@ reason_in week first last =
     else if nat_le (604800 * (week + 512)) last then Some Far
     else None
 
--- the result of a refused message
+-- a message is refused
 abbrev pub refused_by : LogState → Reason → LinesGiven
 refused_by s reason = record {
   state = record s { counts = record s.counts { refused = one_more s.counts.refused } };
@@ -58,7 +58,7 @@ refused_by s reason = record {
   refused = Some reason;
 }
 
--- the counts after a subframe that is written
+-- a subframe is written
 abbrev pub subframe_counted : Counts → List ℕ → Counts
 subframe_counted c words = record c {
   subframes = one_more c.subframes;
@@ -66,7 +66,6 @@ subframe_counted c words = record c {
   parity = if has_good_reading words then c.parity else one_more c.parity;
 }
 
--- the result of a subframe
 abbrev pub subframe_in : LogState → ℕ → Satellite → List ℕ → Option Reason → LinesGiven
 subframe_in s time sat words (Some reason) = refused_by s reason
 subframe_in s time sat words None = record {
@@ -76,7 +75,7 @@ subframe_in s time sat words None = record {
   refused = None;
 }
 
--- the result of a page; its even page part is stamped a second before its time
+-- a page is written, its even half a second before its time
 abbrev pub page_in : LogState → ℕ → Satellite → Signal → List ℕ → List ℕ → Option Reason → LinesGiven
 page_in s time sat signal even odd (Some reason) = refused_by s reason
 page_in s time sat signal even odd None = record {
@@ -92,7 +91,7 @@ page_in s time sat signal even odd None = record {
   refused = None;
 }
 
--- the result of a subframe or a page received at a time
+-- what a subframe or a page gives at a time
 abbrev pub given_at : LogState → Option ℕ → Content → LinesGiven
 given_at s time (Refused reason) = refused_by s reason
 given_at s None (Subframe sat words) = refused_by s Untimed
@@ -102,7 +101,7 @@ given_at s None (Page sat signal even odd) = refused_by s Untimed
 given_at s (Some time) (Page sat signal even odd) =
     page_in s time sat signal even odd (reason_in (week_of s.week (time - 1)) (time - 1) time)
 
--- the result of a message of another type, or of a time message without a valid time
+-- a message that is passed over, or a time message that gives no time
 abbrev pub passed_over : LogState → Option ℕ → LinesGiven
 passed_over s time = record {
   state = record s { time = time; counts = record s.counts { other = one_more s.counts.other } };
@@ -110,7 +109,7 @@ passed_over s time = record {
   refused = None;
 }
 
--- the result of a message, by its content
+-- what a message gives that says so much
 abbrev pub given_by : LogState → Said → LinesGiven
 given_by s Other = passed_over s s.time
 given_by s (Time (Some time)) = record {
@@ -126,7 +125,7 @@ given_by s (Time None) = passed_over s None
 given_by s (Heard content) = given_at s s.time content
 given_by s (Dated time content) = given_at s time content
 
--- the state with one more message of this many bytes counted
+-- the same, and the message is counted, and so many bytes of it
 abbrev pub counted : LogState → ℕ → LogState
 counted s bytes = record s {
   counts =
@@ -137,11 +136,10 @@ counted s bytes = record s {
       };
 }
 
--- the result of a message of this many bytes, which is counted
 abbrev pub given : LogState → ℕ → Said → LinesGiven
 given s bytes said = given_by (counted s bytes) said
 
--- the state before the first message
+-- the state of a log of which nothing was heard
 abbrev pub begun : LogState
 begun = record {
   time = None;
@@ -159,7 +157,7 @@ begun = record {
   };
 }
 
--- state, lines and reason are those of the result
+-- what was done to a state and to lines, and was answered, is what is given
 pub record Gives (state : LogState) (old new : List ℕ) (answer : Option Reason)
     (g : LinesGiven) : Type 0 where
   pub state_is : state ≡ g.state

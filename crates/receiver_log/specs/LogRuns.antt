@@ -13,11 +13,12 @@ use Rattle.one_run.specs.declared.fault.BridgeFault.TheVariants.{NotThisForm, To
 use Rattle.receiver_messages.specs.declared.said.Said.{Said}
 use Rattle.receiver_log.specs.Capture.{capture_of, decided_capture, decided_report, report_of}
 
--- the count of bytes from which a log is too long
+-- how many bytes are too many
 abbrev pub too_many : ℕ
 too_many = 2 ^ 64 - 16384
 
--- The run is done: the input was read to its end without a fault, and the capture and report of its bytes were written.
+-- The run is done: the input was read to its end, nothing failed, and the capture and the report of
+-- its bytes were written.
 pub record LogDone {S T U : Type 0} (h : Heading) (said : List ℕ → Said)
     (before after : World S T U) : Type 0 where
   pub taken : List ℕ
@@ -30,8 +31,8 @@ pub record LogDone {S T U : Type 0} (h : Heading) (said : List ℕ → Said)
   pub writes : after.writes_failed ≡ before.writes_failed
   pub reports : after.reports_failed ≡ before.reports_failed
 
--- what each fault tells of a run that read these bytes: after a failed read, the lines and refusals of all decided messages
--- were written
+-- what each fault says of a run that took these bytes: after a failed read exactly what they decide
+-- was written and reported
 abbrev pub LogSays : {S T U : Type 0} → Heading → (List ℕ → Said) → List ℕ → World S T U
     → World S T U
     → BridgeFault → Type 0
@@ -45,7 +46,7 @@ LogSays h said taken before after TooLong = too_many ≤ length taken
 LogSays h said taken before after NotThisForm = ⊥
 LogSays h said taken before after NoMemory = ⊥
 
--- The run failed: a prefix of the capture and of the report of the bytes read was written.
+-- The run broke off: of what the bytes that were taken give, a prefix was written and reported.
 pub record LogBroke {S T U : Type 0} (h : Heading) (said : List ℕ → Said)
     (before after : World S T U) (fault : BridgeFault) : Type 0 where
   pub taken : List ℕ
@@ -60,7 +61,7 @@ abbrev pub LogEnded : {S T U : Type 0} → Heading → (List ℕ → Said) → W
 LogEnded h said before after (Ok done) = LogDone h said before after
 LogEnded h said before after (Err fault) = LogBroke h said before after fault
 
--- the run ended with this exit status
+-- the run ended with this status
 pub record LogEndedBy {S T U : Type 0} (h : Heading) (said : List ℕ → Said)
     (before after : World S T U) (status : ℕ) : Type 0 where
   pub result : Result (Unit {0}) BridgeFault

@@ -6,7 +6,7 @@ use Rattle.receiver_messages.specs.declared.said.Reason.TheVariants.{Length, Sat
 use Rattle.receiver_messages.specs.declared.said.Reason.TheVariants.{Late, Far}
 use Rattle.receiver_log.specs.declared.state.Counts.{Counts}
 
--- the report's word for a reason
+-- the word of a reason
 abbrev pub reason_word : Reason → List ℕ
 reason_word Length = codes "length"
 reason_word Satellite = codes "satellite"
@@ -14,7 +14,7 @@ reason_word Untimed = codes "untimed"
 reason_word Late = codes "late"
 reason_word Far = codes "far"
 
--- the nine lines of counts, of a log of this many bytes
+-- the nine lines of counts, of a log of so many bytes
 abbrev pub counts_report : Counts → ℕ → List ℕ
 counts_report c bytes =
     (((((((count_line (codes "messages") c.messages

@@ -1,4 +1,4 @@
--- A run over a log while it reads; cited by private functions.
+-- A run over a log while it reads. Private functions cite these.
 use Rattle.std.specs.Prelude.{◌≡◌, ℕ, Bool, true, false, List, [], ◌++◌, Option}
 use Rattle.std.specs.Io.KnownBytes.{Appends}
 use Rattle.nav_io.specs.Prefix.{AppendsPrefix}
@@ -8,14 +8,15 @@ use Rattle.receiver_messages.specs.declared.said.Said.{Said}
 use Rattle.receiver_log.specs.declared.state.LogState.{LogState}
 use Rattle.receiver_log.specs.Capture.{lines_from, refusals_from, state_after}
 
--- some of the lines that waited were written, and lines_new are left
+-- lines were written: of those that waited, these are left
 pub record Puts (written written_new : Option (List ℕ)) (lines lines_new : List ℕ) : Type 0 where
   pub put : List ℕ
   pub grew : Appends written written_new put
   pub parts : lines ≡ put ++ lines_new
 
--- Messages were processed: they are the first of the bytes, whatever follows; their lines were written, but for those that
--- wait, and their refusals reported.
+-- These messages were heard: they are the first of the bytes, whatever follows, and their lines
+-- were
+-- written, but for those that wait, and their refusals reported.
 pub record Hears (h : Heading) (said : List ℕ → Said) (more : Bool) (bytes rest : List ℕ)
     (s s_new : LogState)
     (written written_new : Option (List ℕ)) (lines lines_new : List ℕ)
@@ -31,8 +32,9 @@ pub record Hears (h : Heading) (said : List ℕ → Said) (more : Bool) (bytes r
   pub puts : Puts written written_new (lines ++ lines_from said s heard) lines_new
   pub told : Appends reported reported_new (refusals_from said s heard)
 
--- A run failed: a prefix of the lines that waited and of those of the first messages of the bytes was written, and a prefix
--- of their refusals reported.
+-- Of the lines that waited and of what the first messages of the bytes give, whatever follows, a
+-- prefix
+-- was written and reported.
 pub record Stops (h : Heading) (said : List ℕ → Said) (more : Bool) (bytes : List ℕ) (s : LogState)
     (written written_new : Option (List ℕ)) (lines : List ℕ)
     (reported reported_new : Option (List ℕ)) : Type 0 where

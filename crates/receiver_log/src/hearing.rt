@@ -1,4 +1,4 @@
-//! The lines of one message.
+//! What one message gives.
 
 ghost use Rattle.std.specs.Prelude.{◌≡◌, ◌+◌, ◌-◌, ◌*◌, ◌^◌, ◌<◌, ◌≤◌, ◌++◌};
 ghost use Rattle.arrayvec.specs.ArrayVec.{array_vec_len};
@@ -19,11 +19,12 @@ use receiver_messages::{Content, Reason, Said, read_words, subframe_bits};
 // The seconds of a week.
 const WEEK: u64 = 604_800;
 
-// Half the range in weeks of a ten-bit week number.
+// How many weeks the numbers of weeks in messages tell apart, at half.
 const FAR: u64 = 512;
 
-/// Processes a message of `bytes` bytes with this content: appends its lines, and gives the reason
-/// where it is refused.
+/// Hears a message of so many bytes that says so much: appends its lines, and gives the reason
+/// where
+/// it is refused.
 pub fn hear(state: &mut LogState, bytes: usize, said: &Said, lines: &mut Lines) -> Option<Reason>
     requires room { array_vec_len lines.old + 8192 ≤ 16384 }
     requires system { SaysOfSystem said.now }
@@ -52,7 +53,7 @@ pub fn hear(state: &mut LogState, bytes: usize, said: &Said, lines: &mut Lines) 
     }
 }
 
-// Processes a subframe or a page received at a time.
+// Hears a subframe or a page at a time.
 fn hear_at(
     state: &mut LogState,
     time: Option<Moment>,
@@ -82,7 +83,7 @@ fn hear_at(
     }
 }
 
-// Counts a refused message.
+// Counts a message that is refused.
 fn refuse(state: &mut LogState, reason: Reason) -> Option<Reason>
     ensures state { state.new ≡ (refused_by state.old reason).state }
     ensures reason { result ≡ Some reason }
@@ -91,7 +92,7 @@ fn refuse(state: &mut LogState, reason: Reason) -> Option<Reason>
     Some(reason)
 }
 
-// The week of the capture's first line, where the first stamp is this second.
+// The week of the first line, for lines from this second on.
 fn week_of(week: Option<u32>, first: u64) -> u64
     requires { first < 2 ^ 40 }
     ensures value { result ≡ head_week week first }
@@ -119,7 +120,7 @@ fn reason_in(week: u64, first: u64, last: u64) -> Option<Reason>
     None
 }
 
-// Writes the first line, with this week, where it was not written.
+// Writes the first line, which has this week, where it was not written.
 fn begin(state: &mut LogState, week: u64, lines: &mut Lines)
     requires fits { week < 2 ^ 32 }
     requires room { array_vec_len lines.old + 640 ≤ 16384 }
@@ -135,7 +136,7 @@ fn begin(state: &mut LogState, week: u64, lines: &mut Lines)
     }
 }
 
-// Processes a subframe.
+// Hears a subframe.
 fn hear_subframe(
     state: &mut LogState,
     time: Moment,
@@ -171,7 +172,7 @@ fn hear_subframe(
     None
 }
 
-// Processes a page, whose even page part was sent one second before its odd part.
+// Hears a page, of which the even half was sent a second earlier.
 fn hear_page(
     state: &mut LogState,
     time: Moment,

@@ -1,12 +1,12 @@
-//! Captures of GNSS receiver logs.
+//! Logs of GNSS receivers as captures.
 //!
-//! A receiver's log has UBX messages or SBF blocks, with any other bytes between them. Its GPS LNAV
-//! subframes and Galileo I/NAV pages become lines of a capture, each stamped with its second
-//! counted from the start of the week in the first line.
+//! A receiver's log is messages of UBX or blocks of SBF, with anything between them. Of these,
+//! subframes of GPS LNAV and pages of Galileo I/NAV are lines of a capture, each with its second
+//! counted from the week in the first line.
 //!
-//! - [`Receiver`], a format of messages and their content: `UbxJudge` and `SbfJudge`;
-//! - [`hear`], the lines of one message;
-//! - [`run_log`], which writes the capture of a log, and reports refused messages and counts.
+//! - [`Receiver`], a format of messages and what each says: `UbxJudge` and `SbfJudge` are two;
+//! - [`hear`], what one message gives;
+//! - [`run_log`], which writes it, and reports what was refused and the counts.
 //!
 //! ```rust
 //! let mut input = ReadSource::new(rt.stdin());

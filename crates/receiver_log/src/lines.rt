@@ -1,4 +1,4 @@
-//! Lines that wait to be written.
+//! Lines that wait to be given.
 
 ghost use Rattle.std.specs.Prelude.{◌≡◌, ◌+◌, ◌*◌, ◌<◌, ◌≤◌, ◌++◌, length, decimal};
 ghost use Rattle.arrayvec.specs.ArrayVec.{array_vec_len};
@@ -12,7 +12,7 @@ use nav_bits::Bits;
 use nav_eph::{Sat, Signal};
 use one_run::{Text, append, append_decimal};
 
-/// A buffer of lines.
+/// Room for lines.
 pub type Lines = ArrayVec<u8, 16_384>;
 
 // Appends a piece, for which there is room.
@@ -26,7 +26,7 @@ pub fn append_lines(lines: &mut Lines, piece: &[u8])
     }
 }
 
-// Appends the first line of a capture, with this week.
+// Appends the first line of a capture.
 pub fn append_head(lines: &mut Lines, week: u32)
     requires { array_vec_len lines.old + 640 ≤ 16384 }
     ensures items { lines.new.items ≡ lines.old.items ++ head_line week }
@@ -51,7 +51,7 @@ pub fn append_subframe(lines: &mut Lines, stamp: u32, sat: Sat, bits: &Bits<38>)
     append_lines(lines, line.as_slice());
 }
 
-// Appends the line of a page part.
+// Appends the line of a half of a page.
 pub fn append_half(lines: &mut Lines, stamp: u32, sat: Sat, signal: Signal, bits: &Bits<15>)
     requires room { array_vec_len lines.old + 2201 ≤ 16384 }
     requires system { sat.system ≡ Gal }

@@ -11,12 +11,12 @@ use receiver_messages::{Said, sbf_said, ubx_said};
 use sbf_frames::SbfJudge;
 use ubx_frames::UbxJudge;
 
-/// A format of messages, and their content.
+/// A format of messages, and what each message says.
 pub trait Receiver: Judge {
-    // The content of a whole message.
+    // What a whole message says.
     ghost said: { List ℕ → WhatIsSaid };
 
-    /// The content of a whole message.
+    /// What a whole message says.
     fn tell(message: &[u8]) -> Said
         ensures value { result ≡ said message.now }
         ensures system { SaysOfSystem result };

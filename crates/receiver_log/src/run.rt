@@ -1,4 +1,4 @@
-//! A run over a whole log.
+//! A whole run.
 
 ghost use Rattle.std.specs.Prelude.{◌≡◌, ◌≤◌, length, take, IsTrue, IsOk, IfOk, IfErr, OnOk, OnErr};
 ghost use Rattle.std.specs.Prelude.{MatchResult};
@@ -19,23 +19,24 @@ use framing::Deframer;
 use nav_io::{Failed, Sink, Source};
 use one_run::BridgeFault;
 
-// The most bytes of one read.
+// How many bytes are read at most at a time.
 const PIECE: usize = 16_384;
 
-// The count of bytes from which a log is too long: 2^64 - 16,384.
+// How many bytes are too many: 2^64 - 16,384.
 const TOO_MANY: u64 = 18_446_744_073_709_535_232;
 
-/// Writes the capture of a log, reports refused messages and counts, and gives the exit status.
+/// Writes the capture of a log, and reports what was refused and the counts; answers the status.
 ///
-/// | Status | Meaning |
+/// | Status | Comes |
 /// |---|---|
 /// | 0 | the log was read to its end, and its capture and report were written |
-/// | 3 | a read failed; the decided messages of the bytes before it were written and reported |
+/// | 3 | a read failed; what the bytes before it decide was written and reported |
 /// | 4 | a write failed |
 /// | 7 | a write of the report failed |
 /// | 8 | there were 18,446,744,073,709,535,232 bytes or more |
 ///
-/// On 3, 4, 7 and 8 a prefix of the capture and of the report of the bytes read was written.
+/// On 3, 4, 7 and 8 a prefix of the capture and of the report of the bytes that were read was
+/// written.
 pub fn run_log<J: Receiver, S: Source, T: Sink, U: Sink>(
     input: &mut S,
     output: &mut T,
@@ -54,7 +55,7 @@ pub fn run_log<J: Receiver, S: Source, T: Sink, U: Sink>(
     status_of(&end)
 }
 
-// The exit status of a result.
+// The status of a run that ended so.
 fn status_of(end: &Result<(), BridgeFault>) -> u8
     ensures { result ≡ status_of_end end.now }
 {
@@ -69,7 +70,7 @@ fn status_of(end: &Result<(), BridgeFault>) -> u8
     }
 }
 
-// Reads a log to its end, writing its capture and its report on the way.
+// Reads a log to its end, and writes its capture and its report while it reads.
 fn convert_log<J: Receiver, S: Source, T: Sink, U: Sink>(
     input: &mut S,
     output: &mut T,
@@ -121,7 +122,7 @@ fn read_some<S: Source>(source: &mut S, piece: &mut [u8]) -> Result<usize, Faile
     source.read(piece)
 }
 
-// Reports the counts, for a log of `taken` bytes.
+// Reports the counts of a log of so many bytes.
 fn report_counts<U: Sink>(counts: &Counts, taken: u64, report: &mut U) -> Result<(), BridgeFault>
     ensures told { OnOk result (Appends (U.written report.old) (U.written report.new)
         (counts_report counts.now taken)) }

@@ -1,46 +1,46 @@
-//! The state of a log.
+//! What is known of a log so far.
 
 ghost use Rattle.std.specs.Prelude.{◌≡◌};
 ghost use Rattle.receiver_log.specs.Log.{begun};
 
 use gnss_week::Moment;
 
-/// Counts of a log. Each saturates at 18,446,744,073,709,551,615.
+/// What was counted in a log. A count stays at 18,446,744,073,709,551,615.
 #[derive(Clone, Copy, PartialEq, Eq)]
 pub struct Counts {
-    /// Complete messages with the right checksum.
+    /// Whole messages of right checksum.
     pub messages: u64,
     /// Bytes in them.
     pub within: u64,
-    /// Time messages with a valid time.
+    /// Time messages that gave a time.
     pub times: u64,
-    /// Subframes written.
+    /// Subframes that were written.
     pub subframes: u64,
-    /// Pages written.
+    /// Pages that were written.
     pub pages: u64,
-    /// Messages with a subframe or a page that were refused.
+    /// Messages with a subframe or a page that gave no line.
     pub refused: u64,
-    /// Messages of other types, and time messages without a valid time.
+    /// Messages that were passed over, and time messages that gave none.
     pub other: u64,
-    /// Subframes whose words had to be inverted back.
+    /// Subframes that were written otherwise than they stood.
     pub turned: u64,
-    /// Subframes of which no reading has right parity.
+    /// Subframes without a good reading.
     pub parity: u64,
 }
 
-/// The state of a log after some of its messages.
+/// What is known of a log so far.
 #[derive(Clone, Copy, PartialEq, Eq)]
 pub struct LogState {
-    /// The time of the last time message; `None` where it was not valid, or before the first.
+    /// The time of the last time message, if it gave one.
     pub time: Option<Moment>,
-    /// The week in the first line of the capture, once written.
+    /// The week in the first line of the capture, where that was written.
     pub week: Option<u32>,
-    /// The counts.
+    /// What was counted.
     pub counts: Counts,
 }
 
 impl LogState {
-    /// The state before the first message.
+    /// Nothing was heard.
     pub fn new() -> Self
         ensures { result ≡ begun }
     {

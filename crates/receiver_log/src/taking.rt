@@ -22,10 +22,10 @@ use framing::Deframer;
 use nav_io::{Failed, Sink};
 use one_run::BridgeFault;
 
-// While at most this many bytes of lines wait, the lines of one more message have room.
+// The most bytes of lines with which the lines of one more message have room.
 const ROOM: usize = 8_192;
 
-// Processes the message found last, and reports it where it is refused.
+// Hears the message that was taken last, and reports it where it is refused.
 fn hear_message<J: Receiver, U: Sink>(
     deframer: &Deframer<J>,
     state: &mut LogState,
@@ -81,7 +81,7 @@ fn put_lines<T: Sink>(lines: &mut Lines, output: &mut T) -> Result<(), BridgeFau
     }
 }
 
-// Writes the lines that wait, where more than 8,192 bytes do.
+// Writes the lines that wait, where they are many.
 fn put_many<T: Sink>(lines: &mut Lines, output: &mut T) -> Result<(), BridgeFault>
     ensures room { OnOk result (length lines.new.items ≤ 8192) }
     ensures puts { OnOk result (Puts (T.written output.old) (T.written output.new)
@@ -98,7 +98,7 @@ fn put_many<T: Sink>(lines: &mut Lines, output: &mut T) -> Result<(), BridgeFaul
     Ok(())
 }
 
-// Processes the decided messages, and writes their lines.
+// Hears the messages that are decided, and writes their lines.
 pub(crate) fn process_messages<J: Receiver, T: Sink, U: Sink>(
     deframer: &mut Deframer<J>,
     state: &mut LogState,
@@ -128,7 +128,7 @@ pub(crate) fn process_messages<J: Receiver, T: Sink, U: Sink>(
     put_lines(&mut lines, output)
 }
 
-// Feeds a piece, processes the messages decided then, and writes their lines.
+// Feeds a piece, hears the messages that are decided then, and writes their lines.
 pub(crate) fn process_piece<J: Receiver, T: Sink, U: Sink>(
     deframer: &mut Deframer<J>,
     state: &mut LogState,

@@ -13,7 +13,7 @@ table_of w =
     ∷ (30, get_or w 5 0) ∷ (30, get_or w 6 0) ∷ (30, get_or w 7 0) ∷ (30, get_or w 8 0)
     ∷ (30, get_or w 9 0) ∷ (4, 0) ∷ []
 
--- bytes that hold the table are those of the words
+-- bytes in which it stands are those of the words
 pub words_packed : (w bytes : List ℕ) → AllFit (word_fields w) → AreBytes 38 bytes
     → Stand bytes 0 0 (table_of w) → bytes ≡ subframe_bytes w
 unfolding subframe_bytes

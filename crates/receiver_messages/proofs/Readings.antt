@@ -1,4 +1,4 @@
--- At most one reading of a subframe's words has right parity, and it is what was sent.
+-- There is one good reading of the words of a subframe, and it is what was sent.
 use Rattle.std.proofs.Common.{◌≡◌, ℕ, ◌%◌, inl, inr, nat_eq, Bool, true, false, cond}
 use Rattle.std.proofs.Common.{List, [], ◌∷◌, refl, sym, ap, subst, ◌∙◌}
 use Rattle.std.proofs.lemmas.Bool.{and_parts, both_ways}
@@ -15,7 +15,7 @@ use Rattle.receiver_messages.proofs.Turns.{not_both_parity}
 good : (word last : ℕ) → is_good word last ≡ true → IsGood word last
 good word last e = (good-decides word last).0 e
 
--- inverting twice changes nothing
+-- inverted twice
 twice : (w m : ℕ) → bit_xor (bit_xor w m) m ≡ w
 twice w m = xor_assoc w m m ∙ ap (bit_xor w) (xor_self m) ∙ xor_zero_r w
 
@@ -30,7 +30,7 @@ from_data w last a b =
     xor_assoc w data_mask parity_mask in
     not_both_parity (bit_xor w data_mask) last a (subst (λ u. IsGood u last) (sym split) b)
 
--- a word with right parity by two masks is the same by both
+-- a word that is good by two masks is the same by both
 one_inverted : (w a b last : ℕ) → IsMask a → IsMask b → is_good (bit_xor w a) last ≡ true
     → is_good (bit_xor w b) last ≡ true → bit_xor w a ≡ bit_xor w b
 one_inverted w a b last (inl x) (inl y) g h = ap (bit_xor w) (x ∙ sym y)
@@ -78,7 +78,7 @@ one_behind a b last (w ∷ ws) x y g h =
     subst (λ n. are_good_behind n (reading_behind b n ws) ≡ true) (sym same) q.1 in
     ap (λ xs. r ∷ xs) (one_behind a b r ws x y p.1 rest) ∙ ap (λ n. n ∷ reading_behind b n ws) same
 
--- at most one reading has right parity
+-- at most one reading is good
 pub one_reading : (words : List ℕ) (a b : ℕ) → IsMask a → IsMask b
     → are_good (reading a words) ≡ true → are_good (reading b words) ≡ true
     → reading a words ≡ reading b words
@@ -98,7 +98,7 @@ read_behind m last (w ∷ ws) =
     ap (λ n. n ∷ reading_behind m n (logged_behind m w ws)) same
     ∙ ap (λ xs. w ∷ xs) (read_behind m w ws)
 
--- reading by the mask of logging gives what was sent
+-- the reading by the mask by which the words were logged is what was sent
 pub reading_of_logged : (m : ℕ) (sent : List ℕ) → reading m (logged m sent) ≡ sent
 reading_of_logged m sent = read_behind m 0 sent
 
@@ -113,7 +113,7 @@ none_behind last (w ∷ ws) =
     ap (λ n. n ∷ reading_behind 0 n ws) (none_at w last _ refl)
     ∙ ap (λ xs. w ∷ xs) (none_behind w ws)
 
--- reading by mask 0 leaves the words
+-- by no mask the words are read as they stand
 pub reading_none : (words : List ℕ) → reading 0 words ≡ words
 reading_none words = none_behind 0 words
 
@@ -137,7 +137,7 @@ choose words m (inr (inl x)) g false false false e f h =
 choose words m (inr (inr x)) g false false false e f h =
     absurd (both_ways _ h (ap (λ n. are_good (reading n words)) (sym x) ∙ g))
 
--- a reading with right parity is what `read_words` gives
+-- a good reading is what is read
 pub good_is_read : (words : List ℕ) (m : ℕ) → IsMask m → are_good (reading m words) ≡ true
     → read_words words ≡ reading m words
 good_is_read words m mask g = choose words m mask g _ _ _ refl refl refl

@@ -1,4 +1,4 @@
--- A word with right parity has wrong parity once inverted.
+-- A word that is inverted has wrong parity where it had right parity.
 use Rattle.std.proofs.Common.{◌≡◌, ℕ, ◌+◌, ◌-◌, ◌%◌, map, sum, refl, arith}
 use Rattle.std.specs.Int.{bit_at}
 use Rattle.std.specs.Int.Bits.{bit_xor}
@@ -6,7 +6,7 @@ use Rattle.std.proofs.lemmas.Nat.Bits.{bit_at-lt, bit_at_xor}
 use Rattle.lnav_subframe.specs.Parity.{source, d29_star, d30_star, row_25, row_29, IsGood}
 use Rattle.receiver_messages.specs.Words.{data_mask, whole_mask}
 
--- the difference of the two masks: the parity bits
+-- what differs from data bits inverted and all bits inverted: the parity bits
 abbrev pub parity_mask : ℕ
 parity_mask = 0x3F
 
@@ -29,7 +29,7 @@ bit_inverted u m i one = omega (arith, bit_at_xor u m i, bit_at-lt u i)
 bit_kept : (u m i : ℕ) → bit_at m i ≡ 0 → bit_at (bit_xor u m) i ≡ bit_at u i
 bit_kept u m i none = omega (arith, bit_at_xor u m i, bit_at-lt u i)
 
--- the parity sums of a row with an odd number of bits inverted
+-- the sums of a row with an odd number of bits inverted
 sums_25 : (f g : ℕ → ℕ) → f 1 + g 1 ≡ 1 → f 2 + g 2 ≡ 1 → f 3 + g 3 ≡ 1 → f 5 + g 5 ≡ 1
     → f 6 + g 6 ≡ 1 → f 10 + g 10 ≡ 1 → f 11 + g 11 ≡ 1
     → f 12 + g 12 ≡ 1 → f 13 + g 13 ≡ 1 → f 14 + g 14 ≡ 1 → f 17 + g 17 ≡ 1 → f 18 + g 18 ≡ 1

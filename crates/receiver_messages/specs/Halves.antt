@@ -1,9 +1,9 @@
--- The two parts of an I/NAV page as receivers log them: eight words of 32 bits, the first bit sent highest.
+-- The halves of a page as a receiver logs them: eight words of 32 bits, the highest bit first.
 use Rattle.std.specs.Prelude.{ℕ, ◌+◌, ◌*◌, ◌^◌, List, [], ◌∷◌, slice_index}
 use Rattle.std.specs.Int.{bytes_high_first}
 use Rattle.nav_bits.specs.Bits.{number_at}
 
--- the bytes of eight words in the order sent; each word is little-endian
+-- the bits of eight words, of which each stands with its low byte first
 abbrev pub page_bits : List ℕ → ℕ → List ℕ
 page_bits xs at =
     slice_index xs (at + 3) ∷ slice_index xs (at + 2) ∷ slice_index xs (at + 1) ∷ slice_index xs at
@@ -22,18 +22,16 @@ page_bits xs at =
     ∷ slice_index xs (at + 31) ∷ slice_index xs (at + 30) ∷ slice_index xs (at + 29)
     ∷ slice_index xs (at + 28) ∷ []
 
--- the even page part in UBX: bits 0 to 119
+-- UBX: the even half is bits 0 to 119, the odd one bits 128 to 247
 unfoldable pub ubx_even : List ℕ → ℕ → List ℕ
 ubx_even xs at = bytes_high_first 15 (number_at (page_bits xs at) 0 120)
 
--- the odd page part in UBX: bits 128 to 247
 unfoldable pub ubx_odd : List ℕ → ℕ → List ℕ
 ubx_odd xs at = bytes_high_first 15 (number_at (page_bits xs at) 128 120)
 
--- the even page part in SBF: bits 0 to 113, and six tail bits 0
+-- SBF: the even half is bits 0 to 113 and six zeros, the odd one bits 114 to 233
 unfoldable pub sbf_even : List ℕ → ℕ → List ℕ
 sbf_even xs at = bytes_high_first 15 (number_at (page_bits xs at) 0 114 * 2 ^ 6)
 
--- the odd page part in SBF: bits 114 to 233
 unfoldable pub sbf_odd : List ℕ → ℕ → List ℕ
 sbf_odd xs at = bytes_high_first 15 (number_at (page_bits xs at) 114 120)

@@ -1,4 +1,4 @@
--- A subframe is of a GPS satellite, a page of a Galileo satellite.
+-- Which satellite a message speaks of: a subframe of one of GPS, a page of one of Galileo.
 use Rattle.std.specs.Prelude.{◌≡◌}
 use Rattle.nav_eph.specs.declared.sat.System.TheVariants.{Gps, Gal}
 use Rattle.receiver_messages.specs.declared.said.Content.{Content}
@@ -6,13 +6,11 @@ use Rattle.receiver_messages.specs.declared.said.Content.TheVariants.{Refused, S
 use Rattle.receiver_messages.specs.declared.said.Said.{Said}
 use Rattle.receiver_messages.specs.declared.said.Said.TheVariants.{Other, Time, Heard, Dated}
 
--- the satellite of a subframe is of GPS, that of a page of Galileo
 abbrev pub IsOfSystem : Content → Type 0
 IsOfSystem (Refused reason) = Unit {0}
 IsOfSystem (Subframe sat words) = sat.system ≡ Gps
 IsOfSystem (Page sat signal even odd) = sat.system ≡ Gal
 
--- the same of the content of a message
 abbrev pub SaysOfSystem : Said → Type 0
 SaysOfSystem Other = Unit {0}
 SaysOfSystem (Time time) = Unit {0}

@@ -1,4 +1,4 @@
--- The content of UBX messages.
+-- What a message of UBX says.
 use Rattle.std.specs.Prelude.{ℕ, ◌+◌, ◌-◌, ◌*◌, ◌==◌, ◌&&◌, nat_lt, nat_le, if◌then◌else◌, List}
 use Rattle.std.specs.Prelude.{length, take, drop, slice_index, Option, Some, None}
 use Rattle.nav_eph.specs.Satellite.{Satellite, most}
@@ -32,25 +32,25 @@ abbrev pub page_with : Option Satellite → Signal → List ℕ → List ℕ →
 page_with (Some sat) signal even odd = Page sat signal even odd
 page_with None signal even odd = Refused NoSatellite
 
--- the payload: the bytes between the six header bytes and the two checksum bytes
+-- the payload
 abbrev pub payload_of : List ℕ → List ℕ
 payload_of message = take (length message - 8) (drop 6 message)
 
--- RXM-SFRBX of GPS L1 C/A: ten words from offset 8
+-- RXM-SFRBX of L1 C/A: ten words from 8 on
 unfoldable pub gps_words : List ℕ → Content
 gps_words payload =
     if slice_index payload 4 == 10 && length payload == 48
     then subframe_with (satellite_of Gps (slice_index payload 1))
     (words_at payload 8) else Refused Length
 
--- RXM-SFRBX of a signal with I/NAV: eight words or more from offset 8
+-- RXM-SFRBX of a signal with I/NAV: eight words or more from 8 on
 unfoldable pub galileo_words : Signal → List ℕ → Content
 galileo_words signal payload =
     if nat_le 8 (slice_index payload 4) && length payload == 8 + 4 * slice_index payload 4
     then page_with (satellite_of Gal (slice_index payload 1)) signal (ubx_even payload 8)
     (ubx_odd payload 8) else Refused Length
 
--- RXM-SFRBX: gnssId at offset 0, svId at 1, sigId at 2, number of words at 4
+-- RXM-SFRBX: the system at 0, the satellite at 1, the signal at 2, the number of words at 4
 unfoldable pub words_said : List ℕ → Said
 words_said payload =
     if nat_lt (length payload) 8 then Heard (Refused Length)
@@ -61,7 +61,8 @@ words_said payload =
     && slice_index payload 2 == 5 then Heard (galileo_words E5b payload)
     else Other
 
--- the content of a payload by class and ID: NAV-TIMEGPS is 01 20, NAV-PVT 01 07, RXM-RAWX 02 15, RXM-SFRBX 02 13
+-- what a payload of a class and a number says: NAV-TIMEGPS is 01 20, NAV-PVT 01 07, RXM-RAWX 02 15,
+-- RXM-SFRBX 02 13
 unfoldable pub payload_said : ℕ → ℕ → List ℕ → Said
 payload_said class number payload =
     if class == 1 && number == 0x20 then Time (time_of_week payload)
@@ -70,7 +71,7 @@ payload_said class number payload =
     else if class == 2 && number == 0x13 then words_said payload
     else Other
 
--- the content of a whole message
+-- what a whole message says
 unfoldable pub ubx_said : List ℕ → Said
 ubx_said message =
     if nat_lt (length message) 8 then Other

@@ -1,4 +1,4 @@
-//! The two parts of an I/NAV page, in eight words of 32 bits.
+//! The halves of a page, in eight words of 32 bits.
 
 ghost use Rattle.std.specs.Prelude.{◌≡◌, ◌+◌, ◌*◌, ◌^◌, ◌<◌, ◌≤◌, length};
 ghost use Rattle.std.specs.Int.{bytes_high_first};
@@ -7,7 +7,7 @@ ghost use Rattle.receiver_messages.specs.Halves.{page_bits, sbf_even, sbf_odd, u
 
 use nav_bits::Bits;
 
-// The 256 bits of the eight words at byte offset `at`, as sent.
+// The bits of the eight words from a place on.
 fn bits_from(b: &[u8], at: usize) -> Bits<32>
     requires { at + 32 ≤ length b.now }
     ensures { result ≡ page_bits b.now at }
@@ -59,7 +59,7 @@ fn bits_of(number: u128) -> Bits<15>
     ])
 }
 
-// The value of the 120 bits from bit offset `at`.
+// The number of the 120 bits from a place on.
 fn number_of_120(bits: &Bits<32>, at: usize) -> u128
     requires { at + 120 ≤ 256 }
     ensures { result ≡ number_at bits.now at 120 }
@@ -67,7 +67,7 @@ fn number_of_120(bits: &Bits<32>, at: usize) -> u128
     (u128::from(bits.get(at, 60)) << 60) + u128::from(bits.get(at + 60, 60))
 }
 
-// The value of the first 114 bits.
+// The number of the first 114 bits.
 fn first_114(bits: &Bits<32>) -> u128
     ensures value { result ≡ number_at bits.now 0 114 }
     ensures fits { result < 2 ^ 114 }
@@ -75,7 +75,7 @@ fn first_114(bits: &Bits<32>) -> u128
     (u128::from(bits.get(0, 57)) << 57) + u128::from(bits.get(57, 57))
 }
 
-/// The even page part in UBX: bits 0 to 119.
+/// The even half in UBX: bits 0 to 119.
 #[tactic(auto, unfolding(crate::specs::Halves::ubx_even))]
 pub fn even_of_ubx(bytes: &[u8], at: usize) -> Bits<15>
     requires { at + 32 ≤ length bytes.now }
@@ -84,7 +84,7 @@ pub fn even_of_ubx(bytes: &[u8], at: usize) -> Bits<15>
     bits_of(number_of_120(&bits_from(bytes, at), 0))
 }
 
-/// The odd page part in UBX: bits 128 to 247.
+/// The odd half in UBX: bits 128 to 247.
 #[tactic(auto, unfolding(crate::specs::Halves::ubx_odd))]
 pub fn odd_of_ubx(bytes: &[u8], at: usize) -> Bits<15>
     requires { at + 32 ≤ length bytes.now }
@@ -93,7 +93,7 @@ pub fn odd_of_ubx(bytes: &[u8], at: usize) -> Bits<15>
     bits_of(number_of_120(&bits_from(bytes, at), 128))
 }
 
-/// The even page part in SBF: bits 0 to 113, and six tail bits 0.
+/// The even half in SBF: bits 0 to 113, and six zeros.
 #[tactic(auto, unfolding(crate::specs::Halves::sbf_even))]
 pub fn even_of_sbf(bytes: &[u8], at: usize) -> Bits<15>
     requires { at + 32 ≤ length bytes.now }
@@ -102,7 +102,7 @@ pub fn even_of_sbf(bytes: &[u8], at: usize) -> Bits<15>
     bits_of(first_114(&bits_from(bytes, at)) * 64)
 }
 
-/// The odd page part in SBF: bits 114 to 233.
+/// The odd half in SBF: bits 114 to 233.
 #[tactic(auto, unfolding(crate::specs::Halves::sbf_odd))]
 pub fn odd_of_sbf(bytes: &[u8], at: usize) -> Bits<15>
     requires { at + 32 ≤ length bytes.now }

@@ -1,11 +1,11 @@
-//! Laws of receiver messages: each function does nothing, and its contract is the law.
+//! Laws of what messages say: each function does nothing, and its contract is the law.
 
 ghost use Rattle.std.specs.Prelude.{◌≡◌, ℕ, List, true};
 ghost use Rattle.receiver_messages.specs.Words.{are_good, read_words, reading};
 ghost use Rattle.receiver_messages.specs.Readings.{IsMask, logged};
 
-/// At most one of the three readings of ten words has right parity throughout, and `read_words`
-/// gives it.
+/// At most one of the three readings of some words is good, and where there is one it is what is
+/// read.
 pub fn one_reading_is_good()
     ensures one { (words : List ℕ) (a b : ℕ) → IsMask a → IsMask b
         → are_good (reading a words) ≡ true → are_good (reading b words) ≡ true
@@ -14,8 +14,8 @@ pub fn one_reading_is_good()
         → are_good (reading mask words) ≡ true → read_words words ≡ reading mask words }
 {}
 
-/// Words sent with right parity are read as sent, in whichever of the three forms the receiver
-/// logged them (IS-GPS-200, 20.3.5.2).
+/// What a satellite sent with right parity is what is read, in whichever of the three forms the
+/// receiver logged it (IS-GPS-200, 20.3.5.2).
 pub fn sent_words_are_read()
     ensures { (sent : List ℕ) (mask : ℕ) → IsMask mask → are_good sent ≡ true
         → read_words (logged mask sent) ≡ sent }

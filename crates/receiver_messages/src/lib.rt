@@ -1,10 +1,10 @@
-//! Decoding of GNSS receiver messages for a capture: times, GPS LNAV subframes and Galileo I/NAV
-//! pages, from u-blox UBX and Septentrio SBF.
+//! What messages of GNSS receivers say that a capture needs: times, subframes of GPS LNAV and pages
+//! of Galileo I/NAV, of u-blox's UBX and Septentrio's SBF.
 //!
-//! - [`ubx_said`] and [`sbf_said`], the content of a whole message ([`Said`]): a time, a subframe
-//!   or a page ([`Content`]), or nothing that is used;
-//! - [`read_words`], the ten words of a subframe as sent, in whichever of three forms the receiver
-//!   logged them (IS-GPS-200, 20.3.5.2), and [`subframe_bits`], their 300 bits.
+//! - [`ubx_said`] and [`sbf_said`], what a whole message says ([`Said`]): a time, a subframe or a
+//!   page ([`Content`]), or nothing of these;
+//! - [`read_words`], the ten words of a subframe as they were sent, in whichever of three forms the
+//!   receiver logged them (IS-GPS-200, 20.3.5.2), and [`subframe_bits`], their bits.
 //!
 //! ```rust
 //! match ubx_said(message) {

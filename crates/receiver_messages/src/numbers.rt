@@ -1,9 +1,9 @@
-//! Little-endian numbers in messages.
+//! Numbers in messages: the low byte comes first.
 
 ghost use Rattle.std.specs.Prelude.{◌≡◌, ◌+◌, ◌^◌, ◌<◌, ◌≤◌, length};
 ghost use Rattle.receiver_messages.specs.Numbers.{eight_at, four_at, two_at};
 
-// The two-byte number at byte offset `at`.
+// The number of the two bytes from a place on.
 pub fn two(bytes: &[u8], at: usize) -> u32
     requires { at + 2 ≤ length bytes.now }
     ensures value { result ≡ two_at bytes.now at }
@@ -12,7 +12,7 @@ pub fn two(bytes: &[u8], at: usize) -> u32
     u32::from(bytes[at]) + 256 * u32::from(bytes[at + 1])
 }
 
-// The four-byte number.
+// Of four.
 pub fn four(bytes: &[u8], at: usize) -> u32
     requires { at + 4 ≤ length bytes.now }
     ensures { result ≡ four_at bytes.now at }
@@ -20,7 +20,7 @@ pub fn four(bytes: &[u8], at: usize) -> u32
     two(bytes, at) + 65_536 * two(bytes, at + 2)
 }
 
-// The eight-byte number.
+// Of eight.
 pub fn eight(bytes: &[u8], at: usize) -> u64
     requires { at + 8 ≤ length bytes.now }
     ensures { result ≡ eight_at bytes.now at }

@@ -1,4 +1,4 @@
-//! The content of a message.
+//! What a message may say.
 
 use gnss_week::Moment;
 use nav_bits::{Bits, U};
@@ -7,52 +7,52 @@ use nav_eph::{Sat, Signal};
 /// Why a message with a subframe or a page gives no line of a capture.
 #[derive(Clone, Copy, PartialEq, Eq)]
 pub enum Reason {
-    /// Its length is wrong for its type.
+    /// It is shorter than its form asks, or longer.
     Length,
-    /// Its satellite number is not one of the system.
+    /// Its satellite is none of the system.
     Satellite,
-    /// No time of reception is known.
+    /// It has no time.
     Untimed,
-    /// It was received before the week in the capture's first line.
+    /// It was heard before the week of the capture's first line.
     Late,
-    /// It was received 512 weeks after the start of that week, or later.
+    /// It was heard 512 weeks after the beginning of that week, or later.
     Far,
 }
 
-/// A subframe or a page, or why the message gives none.
+/// A subframe or a page, or why there is none.
 #[derive(Clone, Copy, PartialEq, Eq)]
 pub enum Content {
-    /// None, for this reason.
+    /// None.
     Refused(Reason),
-    /// A GPS LNAV subframe.
+    /// A subframe of GPS.
     Subframe {
         /// The satellite.
         sat: Sat,
-        /// The ten words of 30 bits, as logged.
+        /// The ten words of 30 bits, as they stand in the message.
         words: [U<30>; 10],
     },
-    /// A Galileo I/NAV page, in two page parts of 120 bits.
+    /// A page of Galileo, in its two halves of 120 bits.
     Page {
         /// The satellite.
         sat: Sat,
-        /// The signal on which it was received.
+        /// The signal on which it was heard.
         signal: Signal,
-        /// The even page part.
+        /// The even half.
         even: Bits<15>,
-        /// The odd page part.
+        /// The odd half.
         odd: Bits<15>,
     },
 }
 
-/// The content of a message.
+/// What a message says.
 #[derive(Clone, Copy, PartialEq, Eq)]
 pub enum Said {
-    /// Nothing that a capture uses.
+    /// Nothing that a capture needs.
     Other,
-    /// The receiver's time from here on; `None` where it is not valid.
+    /// The time from here on, or that there is none.
     Time(Option<Moment>),
-    /// A subframe or a page, received at the time of the last time message.
+    /// A subframe or a page, heard at the time of the last message that gave one.
     Heard(Content),
-    /// A subframe or a page with its own time of reception.
+    /// A subframe or a page with its own time.
     Dated(Option<Moment>, Content),
 }

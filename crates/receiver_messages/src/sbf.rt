@@ -1,4 +1,4 @@
-//! The content of SBF blocks.
+//! What blocks of SBF say.
 
 ghost use Rattle.std.specs.Prelude.{◌≡◌, ◌+◌, ◌<◌, ◌≤◌, length};
 ghost use Rattle.receiver_messages.specs.Sbf.{block_said as block_of, page_said as page_of};
@@ -15,10 +15,11 @@ use crate::words::words_from;
 use gnss_week::Moment;
 use nav_eph::{Signal, System};
 
-/// The content of a whole SBF block.
+/// What a whole block of SBF says.
 ///
 /// GPSRawCA gives a subframe, GALRawINAV a page of E1-B or E5b, each with the block's own time, or
-/// the reason why it gives none.
+/// a
+/// reason why it gives none.
 #[tactic(auto, unfolding(crate::specs::Sbf::sbf_said))]
 pub fn sbf_said(block: &[u8]) -> Said
     ensures value { result ≡ said_of block.now }
@@ -30,7 +31,7 @@ pub fn sbf_said(block: &[u8]) -> Said
     block_said(two(block, 4) % 8192, block)
 }
 
-// The content of a block with this ID.
+// What a block of a number says.
 #[tactic(auto, unfolding(crate::specs::Sbf::block_said))]
 fn block_said(number: u32, block: &[u8]) -> Said
     ensures value { result ≡ block_of number block.now }
@@ -43,7 +44,7 @@ fn block_said(number: u32, block: &[u8]) -> Said
     }
 }
 
-// The time stamp of a block (WNc and TOW).
+// The time of a block.
 fn time_of(block: &[u8]) -> Option<Moment>
     requires { 14 ≤ length block.now }
     ensures { result ≡ time_at block.now }
@@ -51,7 +52,7 @@ fn time_of(block: &[u8]) -> Option<Moment>
     time_in(u64::from(two(block, 12)), four(block, 8))
 }
 
-// The content of GPSRawCA.
+// What GPSRawCA says.
 #[tactic(auto, unfolding(crate::specs::Sbf::subframe_said))]
 fn subframe_said(block: &[u8]) -> Said
     ensures value { result ≡ subframe_of block.now }
@@ -73,7 +74,7 @@ fn subframe_said(block: &[u8]) -> Said
     }
 }
 
-// The content of GALRawINAV.
+// What GALRawINAV says.
 #[tactic(auto, unfolding(crate::specs::Sbf::pages_said))]
 fn pages_said(block: &[u8]) -> Said
     ensures value { result ≡ pages_of block.now }
@@ -89,7 +90,7 @@ fn pages_said(block: &[u8]) -> Said
     }
 }
 
-// The page of GALRawINAV on this signal.
+// A page of a signal.
 fn page_said(signal: Signal, block: &[u8]) -> Said
     requires { 52 ≤ length block.now }
     ensures value { result ≡ page_of signal block.now }

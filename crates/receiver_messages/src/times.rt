@@ -1,4 +1,4 @@
-//! GPS times in messages.
+//! The times that messages give.
 
 ghost use Rattle.std.specs.Prelude.{◌≡◌, ◌+◌, ◌-◌, ◌*◌, ◌/◌, ◌%◌, ◌^◌, ◌<◌, ◌≤◌, nat_lt, IsTrue};
 ghost use Rattle.receiver_messages.specs.Times.{digits_of as double_digits, exponent_of};
@@ -17,14 +17,14 @@ use gnss_week::{Civil, Moment, moment_of};
 // The seconds of a week.
 const WEEK: u64 = 604_800;
 
-// Whether a week number is plausible: 1025 to 8191.
+// Whether receivers are believed that are in this week.
 fn is_week(week: u64) -> bool
     ensures { result ≡ in_weeks week }
 {
     1025 <= week && week <= 8191
 }
 
-// The time at this many milliseconds of a week, rounded to a second.
+// The time of so many milliseconds of a week.
 #[tactic(auto, unfolding(crate::specs::Times::time_in))]
 pub fn time_in(week: u64, milliseconds: u32) -> Option<Moment>
     ensures { result ≡ moment_in week milliseconds }
@@ -47,7 +47,7 @@ pub fn time_of_week(payload: &[u8]) -> Option<Moment>
     time_in(u64::from(two(payload, 8)), four(payload, 0))
 }
 
-// The week in which this time of week, in milliseconds, is within half a week of `second`.
+// The only week in which so many milliseconds of it are within half a week of a second.
 fn nearest_week(second: u64, milliseconds: u32) -> u64
     requires { second < 2 ^ 40 }
     ensures { result ≡ near_week second milliseconds }
@@ -74,7 +74,7 @@ pub fn time_of_date(payload: &[u8]) -> Option<Moment>
     nearest_time(&minute, payload[10], four(payload, 0))
 }
 
-// The GPS time with this time of week, in milliseconds, nearest to a second of a minute.
+// The time of so many milliseconds of the week near a second of a minute.
 fn nearest_time(minute: &Civil, second: u8, milliseconds: u32) -> Option<Moment>
     ensures { result ≡ moment_near (moment_to minute.now) second milliseconds }
 {
@@ -98,7 +98,7 @@ pub fn time_of_raw(payload: &[u8]) -> Option<Moment>
     time_of_seconds(u64::from(two(payload, 8)), eight(payload, 0))
 }
 
-// The time at a number of seconds of a week, given as the bits of a double.
+// The time of so many seconds of a week, which are the bits of a double.
 #[tactic(auto, unfolding(crate::specs::Times::time_of_seconds))]
 fn time_of_seconds(week: u64, double: u64) -> Option<Moment>
     ensures { result ≡ seconds_time week double }
@@ -112,14 +112,14 @@ fn time_of_seconds(week: u64, double: u64) -> Option<Moment>
     Some(Moment::from_seconds(WEEK * week + nearest(double)))
 }
 
-// The exponent field of a double.
+// The bits of the exponent.
 fn exponent(double: u64) -> u64
     ensures { result ≡ exponent_of double }
 {
     (double >> 52) % 2048
 }
 
-// The significand of a double, as an integer.
+// The bits of the number itself.
 #[tactic(auto, unfolding(crate::specs::Times::digits_of))]
 fn digits(double: u64) -> u64
     ensures value { result ≡ double_digits double }
@@ -133,7 +133,7 @@ fn digits(double: u64) -> u64
     }
 }
 
-// How many fraction bits the significand has.
+// How many of them stand behind the point.
 #[tactic(auto, unfolding(crate::specs::Times::places_of))]
 fn places(double: u64) -> u64
     ensures { result ≡ places_of double }
@@ -145,7 +145,7 @@ fn places(double: u64) -> u64
     }
 }
 
-// Whether the double is from 0 to below 604,800.
+// Whether it is a number from 0 to below 604,800.
 #[tactic(auto, unfolding(crate::specs::Times::is_in_week))]
 fn is_below_week(double: u64) -> bool
     ensures { result ≡ is_in_week double }
@@ -157,7 +157,7 @@ fn is_below_week(double: u64) -> bool
     exponent(double) <= 1075 && whole(digits, places(double)) < WEEK
 }
 
-// The integer part.
+// The bits before the point.
 fn whole(digits: u64, places: u64) -> u64
     requires { digits < 2 ^ 53 }
     ensures { result ≡ digits / 2 ^ places }
@@ -165,7 +165,7 @@ fn whole(digits: u64, places: u64) -> u64
     if places > 60 { 0 } else { digits >> places }
 }
 
-// Whether the fraction is less than a half.
+// Whether the bits behind the point are less than a half.
 fn is_low(digits: u64, places: u64) -> bool
     requires { digits < 2 ^ 53 }
     ensures { result ≡ nat_lt (2 * (digits % 2 ^ places)) (2 ^ places) }
@@ -176,7 +176,7 @@ fn is_low(digits: u64, places: u64) -> bool
     2 * (digits % (1 << places)) < 1 << places
 }
 
-// The nearest integer, halves up.
+// The nearest whole number.
 #[tactic(auto, unfolding(crate::specs::Times::is_in_week, crate::specs::Times::nearest_to))]
 fn nearest(double: u64) -> u64
     requires { IsTrue (is_in_week double) }

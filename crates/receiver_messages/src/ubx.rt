@@ -1,4 +1,4 @@
-//! The content of UBX messages.
+//! What messages of UBX say.
 
 ghost use Rattle.std.specs.Prelude.{◌≡◌, ◌+◌, ◌≤◌, length, IfSome};
 ghost use Rattle.receiver_messages.specs.Ubx.{galileo_words as galileo_of, gps_words as gps_of};
@@ -12,10 +12,10 @@ use crate::times::{time_of_date, time_of_raw, time_of_week};
 use crate::words::words_from;
 use nav_eph::{Sat, Signal, System};
 
-/// The content of a whole UBX message, from sync bytes to checksum.
+/// What a whole message of UBX says, from its sync to its sums.
 ///
-/// NAV-TIMEGPS, NAV-PVT and RXM-RAWX set the time, or clear it where theirs is not valid; RXM-SFRBX
-/// gives a GPS L1 C/A subframe or a Galileo E1-B or E5b page, or the reason why it gives none.
+/// NAV-TIMEGPS, NAV-PVT and RXM-RAWX give a time, or take it away where they give none; RXM-SFRBX a
+/// subframe of GPS L1 C/A or a page of Galileo E1-B or E5b, or a reason why it gives none.
 #[tactic(auto, unfolding(crate::specs::Ubx::ubx_said))]
 pub fn ubx_said(message: &[u8]) -> Said
     ensures value { result ≡ said_of message.now }
@@ -27,7 +27,7 @@ pub fn ubx_said(message: &[u8]) -> Said
     payload_said(message[2], message[3], &message[6..message.len() - 2])
 }
 
-// The content of a payload of this class and ID.
+// What a payload of a class and a number says.
 #[tactic(auto, unfolding(crate::specs::Ubx::payload_said))]
 fn payload_said(class: u8, number: u8, payload: &[u8]) -> Said
     ensures value { result ≡ payload_of_kind class number payload.now }
@@ -42,7 +42,7 @@ fn payload_said(class: u8, number: u8, payload: &[u8]) -> Said
     }
 }
 
-// The content of RXM-SFRBX.
+// What RXM-SFRBX says.
 #[tactic(auto, unfolding(crate::specs::Ubx::words_said))]
 fn words_said(payload: &[u8]) -> Said
     ensures value { result ≡ words_of payload.now }
@@ -59,7 +59,7 @@ fn words_said(payload: &[u8]) -> Said
     }
 }
 
-// The GPS subframe of RXM-SFRBX.
+// A subframe of GPS.
 #[tactic(auto, unfolding(crate::specs::Ubx::gps_words, crate::specs::Ubx::satellite_of))]
 fn gps_words(payload: &[u8]) -> Content
     requires { 8 ≤ length payload.now }
@@ -78,7 +78,7 @@ fn gps_words(payload: &[u8]) -> Content
     }
 }
 
-// The Galileo page of RXM-SFRBX.
+// A page of Galileo.
 #[tactic(auto, unfolding(crate::specs::Ubx::galileo_words))]
 fn galileo_words(signal: Signal, payload: &[u8]) -> Content
     requires { 8 ≤ length payload.now }

@@ -1,4 +1,4 @@
-//! The words of a subframe, in whichever of three forms the receiver logged them.
+//! The words of a subframe, in whichever of three forms a receiver logged them.
 
 ghost use Rattle.std.specs.Prelude.{◌≡◌, ◌+◌, ◌%◌, ◌^◌, ◌<◌, ◌≤◌, ◌==◌, if◌then◌else◌, length};
 ghost use Rattle.std.specs.Prelude.{bit_xor};
@@ -11,24 +11,24 @@ use crate::numbers::four;
 use lnav_subframe::check_word;
 use nav_bits::{Bits, U, packed_are_the_only, put_numbers};
 
-// Masks of the 24 data bits and of all 30 bits of a word.
+// The 24 data bits of a word, and all 30.
 const DATA: u64 = 0x3FFF_FFC0;
 
 const WHOLE: u64 = 0x3FFF_FFFF;
 
-/// The words of a subframe, as read.
+/// The words of a subframe, read.
 #[derive(Clone, Copy, PartialEq, Eq)]
 pub struct ReadWords {
-    /// The ten words as sent; as logged where no reading has right parity.
+    /// The ten words as they were sent, or as they stand in the message where no reading is good.
     pub words: [U<30>; 10],
     /// Whether all ten have right parity.
     pub is_good: bool,
-    /// Whether data bits had to be inverted back.
+    /// Whether they are read otherwise than they stand.
     pub is_inverted: bool,
 }
 
-/// The words of a subframe as sent: the one of three readings in which all ten have right parity
-/// (IS-GPS-200, 20.3.5.2), or the words as logged where there is none.
+/// The words of a subframe as they were sent: the one reading of three by which all ten have right
+/// parity (IS-GPS-200, 20.3.5.2), or the words as they stand where there is none.
 #[tactic(auto, unfolding(crate::specs::Words::read_words, crate::specs::Words::has_good_reading, crate::specs::Words::is_inverted))]
 pub fn read_words(words: &[U<30>; 10]) -> ReadWords
     ensures words { result.words ≡ read_of words.now }
@@ -65,8 +65,8 @@ pub fn read_words(words: &[U<30>; 10]) -> ReadWords
     }
 }
 
-// The first word as logged, and each further one XOR the mask where the word before it, as read,
-// ends in 1 (D30*).
+// The first word as it stands, and each further one inverted by the mask where the one before
+// it, as it is read, ends in 1.
 fn reading(words: &[U<30>; 10], mask: u64) -> [U<30>; 10]
     requires { mask < 2 ^ 30 }
     ensures { result ≡ reading_by mask words.now }
@@ -80,7 +80,7 @@ fn reading(words: &[U<30>; 10], mask: u64) -> [U<30>; 10]
     read
 }
 
-// A word XOR the mask where the word before it ends in 1.
+// A word, inverted where the one before it ends in 1.
 fn inverted(word: u64, last: u64, mask: u64) -> u64
     requires word { word < 2 ^ 30 }
     requires mask { mask < 2 ^ 30 }
@@ -104,14 +104,14 @@ fn are_good(words: &[U<30>; 10]) -> bool
     true
 }
 
-// Whether a word has right parity after a word that ends in the two low bits of `last`.
+// Whether a word has right parity behind one that ends so.
 fn has_parity(word: U<30>, last: u64) -> bool
     ensures { result ≡ is_good word (last % 4) }
 {
     check_word(word, U::from_bits(last % 4)).is_some()
 }
 
-// The word at byte offset `at`: the lower 30 of 32 bits.
+// The word at a place: the lower 30 of 32 bits.
 fn word(bytes: &[u8], at: usize) -> U<30>
     requires { at + 4 ≤ length bytes.now }
     ensures { result ≡ word_at bytes.now at }
@@ -119,7 +119,7 @@ fn word(bytes: &[u8], at: usize) -> U<30>
     U::from_bits(u64::from(four(bytes, at) % (1 << 30)))
 }
 
-/// The ten words of a subframe at byte offset `at`.
+/// The ten words of a subframe from a place on.
 pub fn words_from(bytes: &[u8], at: usize) -> [U<30>; 10]
     requires { at + 40 ≤ length bytes.now }
     ensures { result ≡ words_at bytes.now at }
@@ -138,7 +138,7 @@ pub fn words_from(bytes: &[u8], at: usize) -> [U<30>; 10]
     ]
 }
 
-/// The 300 bits of ten words, and four bits 0.
+/// The 300 bits of ten words, and four that are 0.
 #[tactic(auto, unfolding(crate::specs::Words::subframe_bytes))]
 pub fn subframe_bits(words: &[U<30>; 10]) -> Bits<38>
     ensures { result ≡ subframe_bytes words.now }

@@ -1,4 +1,4 @@
--- The search in the upper bounds of the URA indices, and the SISA indices by a formula.
+-- The walk over the greatest values of indices, and the indices of signal in space accuracy by a formula.
 use Rattle.std.proofs.Common.{◌≡◌, ℕ, zero, suc, ◌+◌, ◌<◌, ◌≤◌, ◌==◌, ◌&&◌, Bool, true, if◌then◌else◌, List, [], ◌∷◌, length, get_or, drop, refl, ap, sym, ◌∙◌, ⊎_elim, arith, drop-cons, add-one, eqb-true}
 use Rattle.std.proofs.lemmas.Bool.{and_parts, cases_lt, le-leb, lt-leb}
 use Rattle.rinex_write.specs.Accuracies.{first_from, sisa_from}

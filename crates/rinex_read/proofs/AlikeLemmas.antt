@@ -1,4 +1,4 @@
--- Columns past 80, lines past the last of a layout, and what is cut off long lines do not matter.
+-- Columns past 80, lines past the last of a layout and what is cut off long lines are not looked at.
 use Rattle.std.proofs.Common.{◌≡◌, ℕ, zero, suc, ◌+◌, ◌*◌, ◌<◌, ◌≤◌, ◌==◌, ◌&&◌, nat_le, Bool, true, false, if◌then◌else◌, List, [], ◌∷◌, ◌++◌, length, get_or, take, map, codes, Ok, Err, refl, ap, sym, ◌∙◌, ⊎_elim, arith, append_assoc}
 use Rattle.std.proofs.lemmas.Bool.{and_parts, cases_lt, leb-true, le-leb, lt-leb}
 use Rattle.scaled_decimal.specs.ScaleValue.{size_of}
@@ -83,7 +83,7 @@ date_alike l m h =
     let second = columns_alike 2 21 l m h (omega arith) in
     rw (year, month, day, hour, minute, second) refl
 
--- a kind whose title and rows are in the first 80 columns, with at most eight rows
+-- a kind whose title and rows lie in the first 80 columns, and which has at most eight rows
 record IsLaidOut (k : Kind) : Type 0 where
   pub class : 2 + length k.class ≤ 80
   pub message : 10 + length k.message ≤ 80
@@ -134,7 +134,7 @@ ionosphere_alike k t u ls ms laid h a =
     let rows = rows_alike k.rows 8 23 ls ms laid.few a laid.fit in
     rw (sat, all, date, rows) refl
 
--- judging looks only at the first 80 columns of the first nine lines
+-- what is judged goes by the first 80 columns of the first nine lines
 pub judged_alike : (ls ms : List (List ℕ)) → AreAlike 9 ls ms → judged ls ≡ judged ms
 unfolding judged
 judged_alike [] [] a = refl
@@ -156,7 +156,7 @@ looked_alike zero ls = tt
 looked_alike (suc n) [] = tt
 looked_alike (suc n) (l ∷ ls) = (padded_alike l, looked_alike n ls)
 
--- what matters of lines is judged as the lines are
+-- what is looked at of lines is judged as the lines are
 pub judged_looked_at : (ls : List (List ℕ)) → judged (map padded (take 9 ls)) ≡ judged ls
 judged_looked_at ls = judged_alike (map padded (take 9 ls)) ls (looked_alike 9 ls)
 
@@ -165,6 +165,6 @@ are_itself zero ls = tt
 are_itself (suc n) [] = tt
 are_itself (suc n) (l ∷ ls) = (alike_itself l, are_itself n ls)
 
--- of a title what is kept matters
+-- of a title what is kept is looked at
 pub judged_title : (title : List ℕ) (ls : List (List ℕ)) → judged (padded title ∷ ls) ≡ judged (title ∷ ls)
 judged_title title ls = judged_alike (padded title ∷ ls) (title ∷ ls) (padded_alike title, are_itself 8 ls)

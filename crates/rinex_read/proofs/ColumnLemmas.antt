@@ -3,11 +3,11 @@ use Rattle.std.proofs.Common.{◌≡◌, ℕ, zero, suc, ◌+◌, ◌<◌, ◌�
 use Rattle.std.proofs.Math.Seq.{get_or-append_seam}
 use Rattle.rinex_read.specs.Lines.{columns, stands_at}
 
--- the character after a prefix
+-- the character behind a prefix
 pub column_behind : (prefix rest : List ℕ) (x a : ℕ) → length prefix ≡ a → get_or (prefix ++ x ∷ rest) a 32 ≡ x
 column_behind prefix rest x a e = ap (λ i. get_or (prefix ++ x ∷ rest) i 32) (sym e) ∙ get_or-append_seam prefix x rest 32
 
--- a part of a line is in its columns
+-- a part of a line stands in its columns
 pub columns_part : (a : ℕ) (prefix text tail line : List ℕ) → line ≡ prefix ++ (text ++ tail) → length prefix ≡ a → columns a (length text) line ≡ text
 unfolding columns
 columns_part a prefix [] tail line e at = refl
@@ -25,7 +25,7 @@ pub stands_first : (a b c : ℕ) (rest : List ℕ) → stands_at 0 (a ∷ b ∷ 
 unfolding stands_at
 stands_first a b c rest = rw (eq-eqb a a refl, eq-eqb b b refl, eq-eqb c c refl) refl
 
--- the same characters are in the first 80 columns
+-- the same characters stand in the first 80 columns
 pub record IsAlike (l m : List ℕ) : Type 0 where
   pub same : (i : ℕ) → i < 80 → get_or l i 32 ≡ get_or m i 32
 

@@ -58,7 +58,7 @@ second_at : (a b c d : ℕ) (date : Civil) (tail : List ℕ) → columns 21 2 (a
 unfolding columns date_text digits
 second_at a b c d date tail = refl
 
--- a date after four characters is read
+-- a date behind four characters is read
 pub date_again : (a b c d : ℕ) (date : Civil) (tail : List ℕ) → IsShort date → date_of (a ∷ b ∷ c ∷ d ∷ (date_text date ++ tail)) ≡ Ok date
 unfolding date_of
 date_again a b c d date tail short =

@@ -132,7 +132,7 @@ all_sisa_small : all_below 256 is_sisa_small ≡ true
 unfolding sisa_nominal
 all_sisa_small = refl
 
--- the number of a field has at most 32 bits
+-- the number of a field has at most 32 digits
 shown_small : (r : Rule) (z : ℤ) → is_good_rule r ≡ true → IsField r z → unsigned_abs (shown r z) ≤ 4294967295
 shown_small (Plain low high) z good h = range_small low high z good h.0 h.1
 shown_small (OrZero low high) z good h = range_small low high z good h.0 h.1
@@ -151,7 +151,7 @@ shown_small (Unread n) z good h =
     let both = and_parts (int_le (negsuc 4294967294) n) (int_le n (pos 4294967295)) good in
     abs_small n (le_from (negsuc 4294967294) n both.0) (le_from n (pos 4294967295) both.1)
 
--- the bounds of a good scale and a good range
+-- what a good scale and a good range are within
 pub scale_within : (s : Scale) → is_good_scale s ≡ true → AreWithin s.factor s.two s.ten
 scale_within s good =
     let a = nat_le 1 s.factor in
@@ -178,7 +178,7 @@ range_within low high good =
     let both = and_parts (int_le (negsuc 4294967294) low) (int_le high (pos 4294967295)) good in
     (le_from (negsuc 4294967294) low both.0, le_from high (pos 4294967295) both.1)
 
--- a good scale can express each number
+-- a good scale is one at which each number is in reach
 good_scale : (s : Scale) → is_good_scale s ≡ true → IsScale (size_of s)
 good_scale s good = is_scale s (scale_within s good)
 

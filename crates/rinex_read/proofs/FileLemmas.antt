@@ -1,4 +1,4 @@
--- The text of a header and of a list of items is read as that list, where each record gives its item.
+-- What is read of the text of a header and of a list of items is that list, where each record stands for its item.
 use Rattle.std.proofs.Common.{◌≡◌, ℕ, ◌+◌, ◌==◌, Bool, true, false, if◌then◌else◌, List, [], ◌∷◌, ◌++◌, length, map, codes, Ok, refl, ap, sym, ◌∙◌, arith, append_assoc, append-nil, length-append, ne_eqb}
 use Rattle.std.specs.List.{flat_map}
 use Rattle.scaled_decimal.specs.NumberText.{AreShown}
@@ -36,7 +36,7 @@ lines_again (l ∷ ls) rest h =
     ∙ ap (λ t. t ∷ lines_of (text_of ls ++ rest)) (shown_cr l h.0)
     ∙ ap (λ t. l ∷ t) (lines_again ls rest h.1)
 
--- lines that begin no record are skipped
+-- lines that begin no record are passed
 passed : (f : Form) (n : ℕ) (ls rest : List (List ℕ)) → NoneBegins f ls → reads f n (ls ++ rest) ≡ reads f (n + length ls) rest
 passed f n [] rest h = ap (λ m. reads f m rest) (omega arith)
 passed f n (l ∷ ls) rest h =
@@ -48,7 +48,7 @@ up_to_more f [] rest h = refl
 up_to_more f (l ∷ ls) rest h =
     ap (λ b. if b then [] else l ∷ up_to_next f (ls ++ rest)) h.0 ∙ ap (λ t. l ∷ t) (up_to_more f ls rest h.1)
 
--- a record that gives an item is read, whatever lines follow
+-- a record that stands for an item is read, whatever lines follow
 item_read : (f : Form) (n : ℕ) (lines : List (List ℕ)) (i : NavItem) (rest : List (List ℕ)) → StandFor f lines i → reads f n (lines ++ rest) ≡ Item (n + 1) i ∷ reads f (n + length lines) rest
 item_read f n lines i rest is =
     let h = is.are in
@@ -91,7 +91,7 @@ items_numbered : (write : NavItem → List (List ℕ)) (n : ℕ) (is : List NavI
 items_numbered write n [] rs = refl
 items_numbered write n (i ∷ is) rs = ap (λ js. i ∷ js) (items_numbered write (n + length (write i)) is rs)
 
--- numbering leaves the items the same
+-- the items of what is numbered are these items
 pub items_are : (write : NavItem → List (List ℕ)) (n : ℕ) (is : List NavItem) → items_of (numbered_by write n is) ≡ is
 items_are write n is = ap items_of (sym (append-nil (numbered_by write n is))) ∙ items_numbered write n is [] ∙ append-nil is
 

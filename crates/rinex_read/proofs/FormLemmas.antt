@@ -1,4 +1,4 @@
--- What a form looks at: the kept lines, and long lines as they are cut.
+-- What a form goes by: the lines as they are kept, and long lines as they are cut.
 use Rattle.std.proofs.Common.{◌≡◌, ℕ, zero, suc, ◌+◌, ◌<◌, ◌≤◌, ◌==◌, ◌&&◌, Bool, true, false, if◌then◌else◌, List, [], ◌∷◌, ◌++◌, length, get_or, take, map, codes, Ok, Err, refl, ap, sym, ◌∙◌, ⊎_elim, arith, append_assoc}
 use Rattle.std.proofs.lemmas.Bool.{cases_lt, lt-ltb, le-ltb}
 use Rattle.std.proofs.lemmas.List.{get_or-take}
@@ -12,13 +12,13 @@ use Rattle.rinex_read.specs.Files.{is_navigation, ends_header, header_passed, he
 use Rattle.rinex_read.proofs.ColumnLemmas.{IsAlike, columns_alike, stands_alike, padded_alike, alike_itself}
 use Rattle.rinex_read.proofs.AlikeLemmas.{AreAlike, are_itself}
 
--- replacing a line by one that is alike
+-- one line in place of another that is alike
 replaced_alike : (n : ℕ) (ks : List (List ℕ)) (l m : List ℕ) (more : List (List ℕ)) → IsAlike l m → AreAlike n (ks ++ l ∷ more) (ks ++ m ∷ more)
 replaced_alike zero ks l m more h = tt
 replaced_alike (suc n) [] l m more h = (h, are_itself n more)
 replaced_alike (suc n) (k ∷ ks) l m more h = (alike_itself k, replaced_alike n ks l m more h)
 
--- lines after the first n
+-- lines behind the first n
 behind_alike : (n : ℕ) (ks xs ys : List (List ℕ)) → n ≤ length ks → AreAlike n (ks ++ xs) (ks ++ ys)
 behind_alike zero ks xs ys h = tt
 behind_alike (suc n) [] xs ys h = absurd (omega arith)
@@ -37,7 +37,7 @@ same_kept (suc n) (l ∷ ls) (m ∷ ms) a =
 form_alike : (f : Form) → LooksAtKept f → (ls ms : List (List ℕ)) → AreAlike 9 ls ms → f.judged ls ≡ f.judged ms
 form_alike f law ls ms a = sym (law ls) ∙ ap f.judged (same_kept 9 ls ms a) ∙ law ms
 
--- kept lines are judged as the lines are, whatever lines follow
+-- what is kept of lines is judged as the lines are, whatever lines follow
 pub form_kept : (f : Form) → LooksAtKept f → (ks : List (List ℕ)) (l : List ℕ) (more : List (List ℕ)) → f.judged (kept_with ks l ++ more) ≡ f.judged (ks ++ l ∷ more)
 form_kept f law ks l more = ⊎_elim
     (λ (room : length ks < 9).
@@ -131,10 +131,10 @@ unfolding line_of
 told_cut [] = refl
 told_cut (p ∷ ps) = ap (λ t. cut (without_cr p) ∷ t) (told_cut ps)
 
--- the lines of a reader of lines give what the file gives
+-- what is read of the lines that a reader of lines gives is what is read of the file
 pub file_told : (f : Form) → LooksAtKept f → (n : ℕ) (bytes : List ℕ) → reads_behind f (header_of f n (told_lines bytes)) ≡ reads_behind f (header_of f n (lines_of bytes))
 file_told f law n bytes = ap (λ ls. reads_behind f (header_of f n ls)) (told_cut (pieces false bytes)) ∙ header_cut f law n (lines_of bytes)
 
--- the same of the complete lines
+-- the same of the lines that have ended
 pub ended_told : (f : Form) → LooksAtKept f → (n : ℕ) (bytes : List ℕ) → reads_behind f (header_of f n (map text_of_line (lines_by true bytes))) ≡ reads_behind f (header_of f n (ended_lines bytes))
 ended_told f law n bytes = ap (λ ls. reads_behind f (header_of f n ls)) (told_cut (pieces true bytes)) ∙ header_cut f law n (ended_lines bytes)

@@ -1,4 +1,4 @@
--- A reader that has paused has given what the whole records of the bytes give.
+-- What was given where a reader has paused is what the whole records of the bytes give.
 use Rattle.std.proofs.Common.{◌≡◌, ℕ, ◌==◌, Bool, true, false, if◌then◌else◌, List, [], ◌∷◌, ◌++◌, map, Ok, Err, refl, sym, ap, subst, ◌∙◌, append-nil}
 use Rattle.std.specs.Prelude.{Option, Result}
 use Rattle.std.proofs.lemmas.List.{map-append}
@@ -31,7 +31,7 @@ no_line xs none = ap (map line_of) (no_piece xs none) where
 no_end : (s : RecordsState) → s.lines.ended ≡ false → s.lines.ended ≡ true → ⊥
 no_end s more ended = cc
 
--- the complete lines of the bytes are those that were given
+-- the lines that have ended in the bytes are those that were given
 lines_are : (left left_new : Option (List ℕ)) (old new : RecordsState) (lines : List Line) → (r : Reads left left_new old.lines new.lines lines) → IsNew old → IsPaused new
     → lines_by true r.taken ≡ lines
 lines_are left left_new old new lines r first paused =
@@ -51,7 +51,7 @@ by_lines f law old taken lines first are =
     ∙ ap (λ (n : ℕ). whole_behind (reads_behind f (header_of f n (map text_of_line lines)))) (sym first.number)
     ∙ ap (λ (h : HeaderState). whole_behind (file_by f h old (map text_of_line lines))) (sym first.header)
 
--- after the header
+-- behind the header
 pub records_whole : (f : Form) → LooksAtKept f → (left middle left_new : Option (List ℕ)) (old now new : RecordsState) (given : List ItemRead) → IsNew old
     → (header : PassesHeader f left middle old now) → (steps : Steps f middle left_new now new given) → IsPaused new
     → whole_reads f (header.steps.reads.taken ++ steps.reads.taken) ≡ Ok given

@@ -1,4 +1,4 @@
--- How far a header was read, and the result.
+-- How far a header was read, and what is then answered.
 use Rattle.std.proofs.Common.{◌≡◌, ℕ, ◌+◌, ◌^◌, ◌<◌, Bool, true, false, if◌then◌else◌, List, [], ◌∷◌, ◌++◌, map, Result, Ok, Err, OnOk, IfErr, MatchResult, refl, sym, ap, ◌∙◌, subst}
 use Rattle.std.specs.Prelude.{Option}
 use Rattle.nav_io.specs.Lines.{Line}
@@ -20,7 +20,7 @@ use Rattle.rinex_read.proofs.StepLemmas.{header_steps_none, header_steps_more}
 use Rattle.rinex_read.specs.Mirrors.{state_of, header_after, HeaderRefused}
 use Rattle.rinex_read.proofs.RecordSteps.{HasLine}
 
--- the result of a header from its lines
+-- what a header answers by what is read of its lines
 abbrev answers_by : Form → HeaderState → ℕ → List (List ℕ) → Result (List ItemRead) HeaderFault
 answers_by f New n ls = reads_behind f (header_of f n ls)
 answers_by f Open n ls = reads_behind f (header_passed n ls)
@@ -145,7 +145,7 @@ pub refused_now : (f : Form) (r : Result (Unit {0}) HeaderFault) (o : Option (Li
 refused_now f (Ok x) o s header e done h = tt
 refused_now f (Err fault) o s header e done h = record { steps = header_steps_none f o s; by = refused_so fault s header e done h }
 
--- the lines of a header, whatever is kept before, with nothing kept after
+-- the lines of a header, whatever was kept before and with nothing kept behind
 pub header_all : (f : Form) (p q : Option (List ℕ)) (s : RecordsState) (header new : HeaderState) (kept none : List (List ℕ)) (first : ℕ) (lines lines_new : LinesState) → state_of header kept first lines ≡ s → none ≡ [] → is_waiting header ≡ true
     → HeaderSteps f p q (state_of header [] first lines) (state_of new [] first lines_new) → HeaderSteps f p q s (state_of new none first lines_new)
 header_all f p q s header new kept none first lines lines_new e empty waits steps =
@@ -177,7 +177,7 @@ answer_low (Err faults.NotRinexNav) old new s t low h = (h, λ waits. low)
 answer_low (Err faults.Version) old new s t low h = (h, λ waits. low)
 answer_low (Err (faults.Line fault)) old new s t low h = absurd h
 
--- a line of the header after others
+-- a line of the header behind others
 pub header_more : (f : Form) (o p q : Option (List ℕ)) (old header after : HeaderState) (first : ℕ) (s t u : LinesState) (text : List ℕ) → HeaderSteps f o p (state_of old [] first s) (state_of header [] first t) → HasLine p q t u → is_waiting header ≡ true
     → text ≡ u.text → after ≡ header_after f header text → HeaderSteps f o q (state_of old [] first s) (state_of after [] first u)
 header_more f o p q old header after first s t u text steps h waits e same =

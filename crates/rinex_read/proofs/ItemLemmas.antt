@@ -1,4 +1,4 @@
--- The fields of an item are in the ranges of their columns, they give that item, and its epoch gives toc.
+-- The fields of an item may stand in their columns, the item of these fields is that item, and its epoch gives toc.
 use Rattle.std.proofs.Common.{◌≡◌, ℕ, ◌+◌, ◌-◌, ◌*◌, ◌/◌, ◌%◌, ◌^◌, ◌<◌, ◌≤◌, ◌==◌, nat_lt, nat_le, true, Ok, refl, ap, sym, inl, inr, arith, ℤ, pos, neg_ℤ, ◌≤ℤ◌, if◌then◌else◌, eq-eqb}
 use Rattle.std.proofs.lemmas.Int.{ints}
 use Rattle.std.proofs.lemmas.Bool.{lt-ltb, le-leb}
@@ -285,7 +285,7 @@ pub galileo_ionosphere_whole : (i : GalIon) → galileo_ionosphere_of (galileo_i
 unfolding galileo_ionosphere_of
 galileo_ionosphere_whole i = refl
 
--- toc from a time near toe
+-- toc from a moment near toe
 toc_16 : (w toe toc m : ℕ) → m % 604800 ≡ 16 * toc → 604800 * w + 16 * toe < m + 302400 → m ≤ 604800 * w + 16 * toe + 302400 → toc_of 16 m w toe ≡ Ok toc
 toc_16 w toe toc m is from to =
     let whole : (m % 604800 % 16 == 0) ≡ true = eq-eqb (m % 604800 % 16) 0 (omega arith) in

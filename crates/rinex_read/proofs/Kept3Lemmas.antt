@@ -1,4 +1,4 @@
--- Only the kept lines of a RINEX 3 record matter, and the items that it gives are consistent.
+-- What is looked at of a record of RINEX 3 is what is kept of it, and the items that it stands for fit together.
 use Rattle.std.proofs.Common.{◌≡◌, ℕ, zero, suc, ◌<◌, ◌==◌, ◌&&◌, Bool, true, false, if◌then◌else◌, List, [], ◌∷◌, ◌++◌, length, get_or, codes, nat_le, pos, refl, ap, ◌∙◌, subst, arith}
 use Rattle.scaled_decimal.specs.ScaleValue.{size_of}
 use Rattle.scaled_decimal.specs.NumberReading.{seen, read_of}

@@ -1,4 +1,4 @@
--- Parts of lines as slices, and the loop that compares a text with a line.
+-- Parts of lines as slices of the program, and the walk that looks for a text in a line.
 use Rattle.std.proofs.Common.{◌≡◌, ◌≢◌, ℕ, zero, suc, ◌+◌, ◌-◌, ◌<◌, ◌≤◌, min, ◌&&◌, true, false, List, [], ◌∷◌, ◌++◌, length, get_or, take, drop, replicate, refl, ap, sym, ◌∙◌, ⊎_elim, arith, drop-cons, add-one, eq-eqb, ne_eqb}
 use Rattle.std.proofs.lemmas.Bool.{cases_lt}
 use Rattle.std.proofs.lemmas.List.{get_or_past, get_or_default, drop-replicate}
@@ -34,7 +34,7 @@ columns_split (suc m) n a l =
     let place : a + 1 + m ≡ a + suc m = omega arith in
     ap (λ k. columns a k l) count ∙ ap (λ t. get_or l a 32 ∷ t) (columns_split m n (a + 1) l ∙ ap (λ b. columns (a + 1) m l ++ columns b n l) place)
 
--- a line filled with blanks
+-- a line with blanks behind it where it is short
 pub padded_is : (c : ℕ) (prefix line : List ℕ) → c ≡ min (length line) 80 → prefix ≡ take c line → prefix ++ drop c (replicate 80 32) ≡ columns 0 80 line
 unfolding columns
 padded_is c prefix line e f =
@@ -50,7 +50,7 @@ padded_is c prefix line e f =
     ∙ sym (columns_split c (80 - c) 0 line)
     ∙ ap (λ k. columns 0 k line) whole
 
--- one more character agrees
+-- a character more that stands there
 pub stands_more : (text line : List ℕ) (a i : ℕ) → i < length text → a + i < length line → get_or line (a + i) 0 ≡ get_or text i 0
     → stands_at a text line ≡ stands_at (a + i) (drop i text) line → stands_at a text line ≡ stands_at (a + (i + 1)) (drop (i + 1) text) line
 unfolding stands_at
@@ -60,7 +60,7 @@ stands_more text line a i h k is so =
     ∙ ap (λ b. b && stands_at (a + i + 1) (drop (i + 1) text) line) (eq-eqb (get_or line (a + i) 32) (get_or text i 0) (get_or_default line (a + i) 32 0 k ∙ is))
     ∙ ap (λ b. stands_at b (drop (i + 1) text) line) next
 
--- a character differs
+-- a character that does not
 pub stands_none : (text line : List ℕ) (a i : ℕ) → i < length text → a + i < length line → get_or line (a + i) 0 ≢ get_or text i 0
     → stands_at a text line ≡ stands_at (a + i) (drop i text) line → false ≡ stands_at a text line
 unfolding stands_at

@@ -1,4 +1,4 @@
--- Fields in the ranges of their columns are within their widths.
+-- Fields that may stand in their columns are within their digits.
 use Rattle.std.proofs.Common.{◌≡◌, ℕ, zero, suc, ◌+◌, ◌-◌, ◌^◌, ◌<◌, List, [], ◌∷◌, length, get_or, refl, inl, inr, subst, sym, arith, ℤ, pos, negsuc, ◌≤ℤ◌, unsigned_abs}
 use Rattle.std.proofs.lemmas.Int.{ints}
 use Rattle.nav_eph.specs.Steps.{IsSisa}

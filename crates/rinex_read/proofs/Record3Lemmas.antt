@@ -1,4 +1,4 @@
--- The records that are written of ephemerides give them.
+-- The records that are written of ephemerides stand for them.
 use Rattle.std.proofs.Common.{◌≡◌, ℕ, ◌≤◌, ◌==◌, ◌&&◌, not, true, false, if◌then◌else◌, List, [], ◌∷◌, ◌++◌, length, get_or, drop, codes, refl, ap, sym, ◌∙◌, arith, le-leb, ℤ, pos}
 use Rattle.std.proofs.lemmas.Int.{ints}
 use Rattle.std.specs.List.{flat_map}
@@ -58,7 +58,7 @@ galileo_some : 1 ≤ length galileo_kind.rows
 unfolding galileo_kind galileo_rows
 galileo_some = omega arith
 
--- the characters of a first line after its letter
+-- the characters of a first line behind its letter
 abbrev behind_letter : Satellite → ℕ → List ℕ
 behind_letter sat moment = (digits 2 sat.number ++ 32 ∷ []) ++ date_text (civil_to moment)
 
@@ -70,7 +70,7 @@ galileo_record : (e : GalEph) → AreRecordLines rinex3 (body_lines (GalItem e))
 unfolding body_lines
 galileo_record e = table_is (letter_of e.sat.system) (behind_letter e.sat (galileo_epoch e)) galileo_kind.rows (galileo_fields e) galileo_some (letter_seen e.sat.system) (body_shown (GalItem e))
 
--- the title that is added to a first line is that of RINEX 4
+-- the title that a first line is given is that of RINEX 4
 titled_gps : (sat : Satellite) (date row : List ℕ) → titled (codes "LNAV") (((satellite_text sat ++ 32 ∷ []) ++ date) ++ row) ≡ title_line gps_kind sat
 unfolding columns digits gps_kind
 titled_gps sat date row = refl
@@ -110,7 +110,7 @@ galileo_table sat date (r ∷ rs) zs more some h inav =
 whole_within : AreWithin 1 (pos 0) (pos 0)
 whole_within = (omega arith, omega arith, omega (arith, ints), omega (arith, ints), omega (arith, ints), omega (arith, ints))
 
--- 517 in the columns of the data sources means I/NAV
+-- 517 in the columns of the data sources says I/NAV
 sources_say : (lines : List (List ℕ)) (prefix rest : List ℕ) → 6 ≤ length lines → get_or lines 5 [] ≡ prefix ++ (number_text (size_of whole) (pos 517) ++ rest) → length prefix ≡ 23 → is_inav lines ≡ true
 unfolding is_inav
 sources_say lines prefix rest many line at =

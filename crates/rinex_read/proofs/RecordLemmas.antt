@@ -1,4 +1,4 @@
--- The record of an item gives that item, whatever lines follow.
+-- The record of an item stands for that item, whatever lines follow.
 use Rattle.std.proofs.Common.{◌≡◌, ℕ, suc, ◌+◌, ◌-◌, ◌*◌, ◌/◌, ◌%◌, ◌<◌, ◌==◌, ◌||◌, ◌&&◌, nat_le, true, false, List, [], ◌∷◌, ◌++◌, length, drop, codes, Ok, Err, refl, ap, sym, ◌∙◌, subst, arith, ℤ, if◌then◌else◌, length-append, ne_eqb}
 use Rattle.std.proofs.lemmas.Bool.{le-leb}
 use Rattle.scaled_decimal.specs.NumberText.{digits}
@@ -68,11 +68,11 @@ length-row_lines start (r ∷ rs) zs = ap suc (length-row_lines (codes "    ") r
 abbrev first_line : ℕ → ℕ → ℕ → ℕ → ℕ → List Column → List ℤ → List ℕ
 first_line a b c d moment r fields = a ∷ b ∷ c ∷ d ∷ (date_text (civil_to moment) ++ row_text r fields)
 
--- the lines of a record after its title
+-- the lines of a record behind its title
 abbrev behind_title : ℕ → ℕ → ℕ → ℕ → ℕ → List (List Column) → List ℤ → List (List ℕ)
 behind_title a b c d moment rows fields = row_lines (a ∷ b ∷ c ∷ d ∷ date_text (civil_to moment)) rows fields
 
--- an ephemeris that is written is read with the same contents
+-- what is written of an ephemeris is said of it
 ephemeris_again : (class message : List ℕ) (system : System) (r : List Column) (rs : List (List Column)) (title : List ℕ) (sat : Satellite) (a b c d moment : ℕ) (fields : List ℤ) (more : List (List ℕ))
     → sat_of system title ≡ Ok sat → same_sat title (first_line a b c d moment r fields) ≡ true → IsMoment moment
     → are_good (joined_rows (r ∷ rs)) ≡ true → AreFields (joined_rows (r ∷ rs)) fields
@@ -93,7 +93,7 @@ ephemeris_again class message system r rs title sat a b c d moment fields more s
     ∙ bind_ok (moment_at (first_line a b c d moment r fields)) moment _ (bind_ok (date_of (first_line a b c d moment r fields)) (civil_to moment) _ date ∙ moment_again moment is)
     ∙ bind_ok (read_rows (r ∷ rs) 23 lines) fields _ rows
 
--- an ionosphere that is written is read with the same contents
+-- what is written of an ionosphere is said of it
 ionosphere_again : (class message : List ℕ) (system : System) (r : List Column) (rs : List (List Column)) (title : List ℕ) (sat : Satellite) (a b c d moment : ℕ) (fields : List ℤ) (more : List (List ℕ))
     → sat_of system title ≡ Ok sat → IsMoment moment → IsWeek (week_of moment)
     → are_good (joined_rows (r ∷ rs)) ≡ true → AreFields (joined_rows (r ∷ rs)) fields
@@ -192,7 +192,7 @@ galileo_ionosphere_said n moment fields more is m week are =
     ionosphere_again _ _ Gal _ _ (title_line galileo_ionosphere_kind (galileo_sat n)) (galileo_sat n) 32 32 32 32 moment fields more
     (satellite_again Gal n is (omega (arith, is.1))) m week galileo_ionosphere_good are
 
--- how the lines of each kind are judged
+-- what the lines of each kind are judged
 gps_judged : (n moment : ℕ) (fields : List ℤ) (more : List (List ℕ)) → IsSat Gps n → IsMoment moment → AreFields (joined_rows gps_rows) fields
     → judged (title_line gps_kind (gps_sat n) ∷ (ephemeris_rows gps_kind (gps_sat n) moment fields ++ more)) ≡ outcome (gps_item (record { sat = gps_sat n; moment = moment; fields = fields }))
 unfolding judged
@@ -261,7 +261,7 @@ ionosphere_item_again e (OfGal i) more h =
     (sym h.whole.system) (λ is. galileo_ionosphere_judged e.sat.number e.moment (galileo_ionosphere_fields i) more is h.ranges.moment h.whole.week (galileo_ionosphere_fields_are i h.ranges.content)) h.ranges.sat
     ∙ ap (λ c. judgments.Item (IonItem (record { sat = e.sat; moment = e.moment; content = OfGal c }))) (galileo_ionosphere_whole i)
 
--- the record of an item gives that item, whatever lines follow
+-- the record of an item stands for that item, whatever lines follow
 pub item_again : (i : NavItem) (more : List (List ℕ)) → IsItem i → judged (item_lines i ++ more) ≡ judgments.Item i
 item_again (GpsItem e) more h = gps_again e more h
 item_again (GalItem e) more h = galileo_again e more h

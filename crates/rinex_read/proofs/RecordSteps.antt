@@ -1,4 +1,4 @@
--- How far the next record was read, and the result.
+-- How far the next record was read, and what is then answered.
 use Rattle.std.proofs.Common.{◌≡◌, ℕ, ◌≤◌, Bool, true, false, List, [], ◌∷◌, ◌++◌, map, refl, sym, ap, ◌∙◌, subst, arith, append-nil}
 use Rattle.std.specs.Prelude.{Option}
 use Rattle.nav_io.specs.Lines.{Line}
@@ -20,7 +20,7 @@ use Rattle.rinex_read.proofs.StepLemmas.{steps_more}
 use Rattle.rinex_read.proofs.TakeLemmas.{line_whole}
 use Rattle.rinex_read.specs.Mirrors.{TakesLine, TakesEnd, EndsWith, IsRecord}
 
--- a line of any kind
+-- a line that was given, of whatever kind
 pub record HasLine (p q : Option (List ℕ)) (s t : LinesState) : Type 0 where
   pub long : Bool
   pub gives : GivesLine p q s t (record { text = t.text; long = long })
@@ -151,7 +151,7 @@ breaks f TooLong o p q old now new steps b kept first header = record {
   by = b.too_many;
 }
 
--- there are at most as many lines as bytes
+-- how many lines were given is at most how many bytes were taken
 pub break_numbered : (fault : LineFault) (p q : Option (List ℕ)) (s t : LinesState) → Breaks fault p q s t → s.number ≤ s.taken → t.number ≤ t.taken
 break_numbered ReadFault p q s t b h = omega (arith, b.number, b.reads.count)
 break_numbered TooLong p q s t b h = omega (arith, b.number, b.reads.count)

@@ -1,4 +1,4 @@
--- The loops over the columns of a row and over rows give what the definitions say.
+-- The walk over the columns of a row and over rows, and what is read is what the definitions say.
 use Rattle.std.proofs.Common.{◌≡◌, ℕ, zero, suc, ◌+◌, ◌*◌, ◌<◌, ◌≤◌, ◌&&◌, nat_le, true, List, [], ◌∷◌, ◌++◌, length, get_or, take, drop, map, sum, Result, Ok, Err, refl, ap, sym, ◌∙◌, arith, ℤ, append_assoc, append-nil, drop-cons, add-one}
 use Rattle.std.proofs.lemmas.Bool.{and_parts, leb-true}
 use Rattle.std.proofs.lemmas.List.Sums.{sum_by-cons}
@@ -26,7 +26,7 @@ row_more whole cs now i d place line z h is so =
     ∙ behind now z (read_row (drop (i + 1) cs) (place + 19 * i + 19) line)
     ∙ ap (λ a. with_prefix (now ++ z ∷ []) (read_row (drop (i + 1) cs) a line)) next
 
--- a field that cannot be read
+-- a field that is none
 pub row_stops : (whole : Result (List ℤ) Reason) (cs : List Column) (now : List ℤ) (i : ℕ) (d : Column) (place : ℕ) (line : List ℕ) (e : Reason) → i < length cs
     → field_at (get_or cs i d) (place + 19 * i) line ≡ Err e → whole ≡ with_prefix now (read_row (drop i cs) (place + 19 * i) line) → whole ≡ Err e
 row_stops whole cs now i d place line e h is so =
@@ -73,7 +73,7 @@ dropped zero n xs = let none : n ≡ 0 + n = omega arith in ap (λ k. drop k xs)
 dropped (suc a) n [] = drop_none n ∙ sym (drop_none (suc a + n))
 dropped (suc a) n (x ∷ xs) = let next : suc (a + n) ≡ suc a + n = omega arith in dropped a n xs ∙ ap (λ k. drop k (x ∷ xs)) next
 
--- one more row, with its number of columns
+-- one more row, of so many columns
 pub rows_more : (whole : Result (List ℤ) Reason) (ns : List ℕ) (cs : List Column) (now new : List ℤ) (i at j place : ℕ) (ls : List (List ℕ)) (d : List ℕ) → i < length ns → i < length ls
     → j ≡ get_or ns i 0 → with_prefix now (read_row (take j (drop at cs)) place (get_or ls i d)) ≡ Ok new
     → whole ≡ with_prefix now (flat_rows (drop i ns) (drop at cs) place (drop i ls))
@@ -84,7 +84,7 @@ rows_more whole ns cs now new i at j place ls d h k count is so =
     ∙ prefix_more now new (read_row (take (get_or ns i 0) (drop at cs)) place (get_or ls i d)) (flat_rows (drop (i + 1) ns) (drop (get_or ns i 0) (drop at cs)) 4 (drop (i + 1) ls)) read
     ∙ ap (λ t. with_prefix new (flat_rows (drop (i + 1) ns) t 4 (drop (i + 1) ls))) (dropped at (get_or ns i 0) cs)
 
--- a row with a field that cannot be read
+-- a row with a field that is none
 pub rows_stop : (whole : Result (List ℤ) Reason) (ns : List ℕ) (cs : List Column) (now : List ℤ) (i j place : ℕ) (ls : List (List ℕ)) (d : List ℕ) (e : Reason) → i < length ns → i < length ls
     → j ≡ get_or ns i 0 → with_prefix now (read_row (take j cs) place (get_or ls i d)) ≡ Err e
     → whole ≡ with_prefix now (flat_rows (drop i ns) cs place (drop i ls)) → whole ≡ Err e
@@ -117,7 +117,7 @@ good_drop (suc n) (c ∷ cs) h =
     let parts = and_parts (is_good_scale c.scale && is_good_rule c.rule) (are_good cs) h in
     good_drop n cs parts.1
 
--- the next line of columns fits, and those after it
+-- the next line of columns fits, and those behind it
 pub fit_next : (ns : List ℕ) (a i : ℕ) → i < length ns → do_fit a (drop i ns) ≡ true → (a + 19 * get_or ns i 0 ≤ 80) × (do_fit 4 (drop (i + 1) ns) ≡ true)
 fit_next ns a i h fit =
     let both = and_parts (nat_le (a + 19 * get_or ns i 0) 80) (do_fit 4 (drop (i + 1) ns)) (ap (do_fit a) (sym (number_place ns i h)) ∙ fit) in

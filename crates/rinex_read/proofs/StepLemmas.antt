@@ -18,7 +18,7 @@ steps_none f o s = record { lines = []; reads = reads_none o s.lines; header = r
 none_after : (a b : List ℕ) → a ≡ [] → b ≡ [] → a ++ b ≡ []
 none_after a b x y = rw (x, y) refl
 
--- the bytes of two steps concatenated
+-- what a second step took follows what a first one did
 may_before : (p q : Option (List ℕ)) (s t : LinesState) (g : List Line) (r : Reads p q s t g) (following : List ℕ) → (t.ended ≡ true → following ≡ []) → s.ended ≡ true → r.taken ++ following ≡ []
 may_before p q s t g r following may ended =
     let after = r.after_end ended in
@@ -26,7 +26,7 @@ may_before p q s t g r following may ended =
 
 -- ---- the end
 
--- no text is in no lines
+-- nothing stands in no lines
 nothing_there : (xs : List ℕ) → lines_by false xs ≡ [] → xs ≡ []
 nothing_there [] e = refl
 nothing_there (x ∷ xs) e = absurd (by (x == 10) (pieces false xs) e) where
@@ -39,7 +39,7 @@ both_none : {X : Type 0} (xs ys : List X) → [] ≡ xs ++ ys → (xs ≡ []) ×
 both_none [] ys e = (refl, sym e)
 both_none (x ∷ xs) ys e = absurd (cc)
 
--- after the end there is no line
+-- behind the end there is no line
 pub none_behind : (p q : Option (List ℕ)) (s t : LinesState) (lines : List Line) → Reads p q s t lines → s.ended ≡ true → s.rest ≡ []
     → (lines ≡ []) × (t.rest ≡ []) × (t.ended ≡ true)
 none_behind p q s t lines r ended rest =
@@ -69,7 +69,7 @@ over_stays f p q s t given steps over =
 
 -- ---- concatenated
 
--- lines after lines
+-- lines behind lines
 lines_behind : (some more : List Line) (next : List (List ℕ)) → map text_of_line (some ++ more) ++ next ≡ map text_of_line some ++ (map text_of_line more ++ next)
 lines_behind some more next =
     ap (λ (ls : List (List ℕ)). ls ++ next) (map-append text_of_line some more) ∙ append_assoc (map text_of_line some) (map text_of_line more) next

@@ -1,5 +1,5 @@
--- What proofs of other crates cite: columns of lines, lines that agree in what matters, records and headers as they are
--- written, and consecutive steps of a reader.
+-- What proofs of other crates cite: columns of lines, lines that are alike as far as they are looked at, records and headers
+-- as they are written, and steps of a reader one after another.
 pub use Rattle.rinex_read.proofs.ColumnLemmas.{IsAlike, columns_at, columns_alike, padded_alike, alike_itself}
 pub use Rattle.rinex_read.proofs.AlikeLemmas.{AreAlike, all_alike, judged_alike, looked_alike}
 pub use Rattle.rinex_read.proofs.RecordLemmas.{item_again}

@@ -72,12 +72,12 @@ line_next f law (k ∷ ks) new first number line read some e h is_read = record 
 
 -- ---- the records that are whole
 
--- the lines in progress are a record
+-- what is held is a record
 pub held_nil : (f : Form) (ks : List (List ℕ)) (first n : ℕ) (more : List (List ℕ)) → held_reads f ks first n more ≡ [] → ks ≡ []
 held_nil f [] first n more e = refl
 held_nil f (k ∷ ks) first n more e = absurd (cc)
 
--- with no line after it, it is not known to be whole
+-- with no line behind it, that is not known to be whole
 pub none_whole : (f : Form) (ks : List (List ℕ)) (first n : ℕ) → but_last (held_reads f ks first n []) ≡ []
 none_whole f [] first n = refl
 none_whole f (k ∷ ks) first n = refl

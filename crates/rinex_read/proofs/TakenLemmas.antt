@@ -1,4 +1,4 @@
--- The fields that are read are in the ranges of their columns.
+-- The fields that are read may stand in their columns.
 use Rattle.std.proofs.Common.{◌≡◌, ℕ, zero, suc, ◌+◌, ◌≤◌, ◌==◌, ◌&&◌, ◌||◌, nat_le, Bool, true, false, if◌then◌else◌, List, [], ◌∷◌, ◌++◌, length, map, Result, Ok, Err, IfOk, refl, ap, ◌∙◌, inl, inr, subst, arith, ℤ, pos, negsuc, ◌≤ℤ◌, int_le, unsigned_abs}
 use Rattle.std.proofs.lemmas.Bool.{and_parts}
 use Rattle.std.proofs.lemmas.Int.{ints}
@@ -86,7 +86,7 @@ sent_is z = go (int_le (negsuc 302399) z) (int_le z (pos 907199)) refl refl
     go true false p q = inr refl
     go false b p q = inr refl
 
--- a range that holds 0 where a blank is read as 0
+-- a range that holds 0 where a blank is 0
 abbrev pub has_zero : Rule → Bool
 has_zero (Plain low high) = true
 has_zero (OrZero low high) = int_le low (pos 0) && int_le (pos 0) high
@@ -100,7 +100,7 @@ abbrev pub have_zero : List Column → Bool
 have_zero [] = true
 have_zero (c ∷ cs) = has_zero c.rule && have_zero cs
 
--- a field that is read is in the range of its column
+-- a field that is read is one that may stand in its column
 taken_is : (r : Rule) (s : NumberSeen) (z : ℤ) → has_zero r ≡ true → taken r s ≡ Ok z → IsField r z
 taken_is (Plain low high) blank z good h = absurd (cc)
 taken_is (Plain low high) unread z good h = absurd (cc)
@@ -161,7 +161,7 @@ zero_parts (c ∷ cs) ds h =
     let more = zero_parts cs ds both.1 in
     (ap (λ b. b && have_zero cs) both.0 ∙ more.0, more.1)
 
--- the fields that are read of a record are in the ranges of its columns
+-- the fields that are read of a record may stand in its columns
 pub rows_are : (rows : List (List Column)) (a : ℕ) (ls : List (List ℕ)) (zs : List ℤ) → have_zero (joined_rows rows) ≡ true → read_rows rows a ls ≡ Ok zs → AreFields (joined_rows rows) zs
 rows_are [] a ls [] good h = tt
 rows_are [] a ls (z ∷ zs) good h = absurd (cc)
@@ -175,7 +175,7 @@ rows_are (r ∷ rs) a (l ∷ ls) zs good h =
     fields_more r (joined_rows rs) first.value next.value (row_is r a l first.value parts.0 first.is) (rows_are rs 4 ls next.value parts.1 next.is)
     )
 
--- the contents of a record have the fields of its columns
+-- what is read of a record has the fields of its columns
 pub are_from : {X : Type 0} (view : X → List ℤ) (result : Result X Reason) (rows : List (List Column)) (a : ℕ) (ls : List (List ℕ)) → have_zero (joined_rows rows) ≡ true
     → Gives view result (read_rows rows a ls) → IfOk result (λ f. AreFields (joined_rows rows) (view f))
 are_from view (Ok f) rows a ls good h = rows_are rows a ls (view f) good h

@@ -1,4 +1,4 @@
--- An item that a record gives is consistent, each field within its width.
+-- An item that a record stands for has fields within their digits, and its parts fit together.
 use Rattle.std.proofs.Common.{◌≡◌, ℕ, ◌+◌, ◌-◌, ◌*◌, ◌/◌, ◌%◌, ◌<◌, ◌==◌, ◌&&◌, ◌||◌, nat_le, nat_lt, Bool, true, false, if◌then◌else◌, List, [], ◌∷◌, length, Result, Ok, Err, refl, ap, subst, arith, ℤ, pos, negsuc, ◌≤ℤ◌, int_le, unsigned_abs, get_or}
 use Rattle.std.proofs.lemmas.Bool.{leb-true}
 use Rattle.std.proofs.lemmas.Int.{ints}
@@ -66,7 +66,7 @@ moment_at_is line m h =
     let b = bound (date_of line) (λ date. moment_said (moment_to date)) m h in
     moment_is (moment_to b.value) b.value m (moment_to-answer b.value) b.rest
 
--- the facts about the contents of a record
+-- what is known of what a record says
 record IsSaid (k : Kind) (s : Said) : Type 0 where
   pub sat : IsOf k.system s.sat
   pub moment : IsMoment s.moment
@@ -302,7 +302,7 @@ outcome_is : (r : Result NavItem Reason) (item : NavItem) → outcome r ≡ judg
 outcome_is (Ok i) item h = let is : i ≡ item = cc in ap Ok is
 outcome_is (Err e) item h = absurd (cc)
 
--- an item that a record gives is consistent
+-- an item that lines stand for is one whose parts fit together
 pub judged_whole : (lines : List (List ℕ)) (item : NavItem) → judged lines ≡ judgments.Item item → IsItem item
 unfolding judged
 judged_whole [] item h = absurd (cc)

@@ -1,4 +1,4 @@
--- The fields of the numbers of a record, and why a number gives none.
+-- The fields that the numbers of a record say, and why a number says none.
 use Rattle.std.specs.Prelude.{ℕ, ◌+◌, ◌==◌, ◌&&◌, ◌||◌, if◌then◌else◌, List, [], ◌∷◌, ◌++◌, Result, Ok, Err, ℤ, pos, negsuc, int_le, unsigned_abs}
 use Rattle.scaled_decimal.specs.ScaleValue.{size_of}
 use Rattle.scaled_decimal.specs.NumberReading.{NumberSeen, blank, unread, number, seen}
@@ -10,25 +10,25 @@ use Rattle.rinex_read.specs.declared.reason.Reason.{Reason}
 use Rattle.rinex_read.specs.declared.reason.Reason.TheVariants as reasons
 use Rattle.rinex_read.specs.Lines.{columns}
 
--- continue with the value, or stop with the reason
+-- what follows where this gave a value, and its reason where it gave none
 infixl 10 ◌>>=◌
 abbrev pub ◌>>=◌ : {A B : Type 0} → Result A Reason → (A → Result B Reason) → Result B Reason
 (Ok x) >>= f = f x
 (Err e) >>= f = Err e
 
--- the number where it is from low to high, else `OutOfRange`
+-- the number, which is out of range outside low to high
 abbrev pub in_range : ℤ → ℤ → ℤ → Result ℤ Reason
 in_range low high z = if int_le low z && int_le z high then Ok z else Err reasons.OutOfRange
 
--- the fit interval flag of an interval in hours: 0 for 0 or 4, none for 2 and 3, else 1 (IS-GPS-200, 20.3.3.4.3.1)
+-- the flag of a fit interval in hours: 0 of no hours and of 4, none of 2 and 3, else 1 (IS-GPS-200, 20.3.3.4.3.1)
 abbrev pub flag_of : ℕ → Result ℤ Reason
 flag_of n = if n == 0 || n == 4 then Ok (pos 0) else if n == 2 || n == 3 then Err reasons.Fit else Ok (pos 1)
 
--- the transmission time, unknown where it is not from -302,400 to 907,199 s: the week of toe and half a week around it
+-- the transmission time; outside half a week before the week of toe to half a week after it, it is not known
 abbrev pub sent_or_unknown : ℤ → ℤ
 sent_or_unknown z = if int_le (negsuc 302399) z && int_le z (pos 907199) then z else pos 999900000
 
--- the field of a column by its rule, from a number, blanks, or any other text
+-- the field that is said by a number, blanks, or neither
 abbrev pub taken : Rule → NumberSeen → Result ℤ Reason
 taken (Plain low high) blank = Err reasons.Blank
 taken (Plain low high) unread = Err reasons.NotANumber
@@ -52,16 +52,16 @@ taken (Unread n) blank = Ok n
 taken (Unread n) unread = Ok n
 taken (Unread n) (number z) = Ok n
 
--- the field of the 19 characters of a line from offset a on
+-- the field that a line says in the column at place a, of 19 characters
 abbrev pub field_at : Column → ℕ → List ℕ → Result ℤ Reason
 field_at c a line = taken c.rule (seen (size_of c.scale) (columns a 19 line))
 
--- the fields of a line whose numbers begin at offset a, or the first reason
+-- the fields of a line whose numbers begin at place a, in order, or the first reason
 abbrev pub read_row : List Column → ℕ → List ℕ → Result (List ℤ) Reason
 read_row [] a line = Ok []
 read_row (c ∷ cs) a line = field_at c a line >>= λ z. read_row cs (a + 19) line >>= λ zs. Ok (z ∷ zs)
 
--- the fields of some lines; the numbers begin at offset a in the first line, at offset 4 in the others
+-- the fields of lines, of which the numbers of the first begin at place a and those of each other at place 4
 abbrev pub read_rows : List (List Column) → ℕ → List (List ℕ) → Result (List ℤ) Reason
 read_rows [] a lines = Ok []
 read_rows (r ∷ rs) a [] = Err reasons.Short

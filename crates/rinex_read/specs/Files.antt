@@ -1,5 +1,5 @@
--- Navigation files of a form as read: the header, the records with their line numbers, and the list of items (RINEX 4.01 and
--- 3.05, header section and navigation records).
+-- Navigation files of a form as read: the header, the records with the numbers of their lines, and the list of items (RINEX
+-- 4.01 and 3.05, header section and navigation records).
 use Rattle.std.specs.Prelude.{ℕ, ◌+◌, ◌&&◌, Bool, if◌then◌else◌, List, [], ◌∷◌, codes, Result, Ok, Err}
 use Rattle.nav_eph.specs.declared.items.NavItem.{NavItem}
 use Rattle.rinex_read.specs.declared.judged.Judged.{Judged}
@@ -11,54 +11,54 @@ use Rattle.rinex_read.specs.declared.judged.HeaderFault.TheVariants.{NotRinexNav
 use Rattle.rinex_read.specs.Lines.{stands_at, lines_of, ended_lines}
 use Rattle.rinex_read.specs.Forms.{Form, is_version, begins, rinex4}
 
--- the first line is that of a navigation file: the label in columns 61-80, and `N` in column 21
+-- the first line says that this is a navigation file: the label in columns 61-80, and `N` in column 21
 unfoldable pub is_navigation : List ℕ → Bool
 is_navigation line = stands_at 60 (codes "RINEX VERSION / TYPE") line && stands_at 20 (codes "N") line
 
--- the line ends the header: the label is in columns 61-73
+-- the line ends the header: its label begins so in column 61
 unfoldable pub ends_header : List ℕ → Bool
 ends_header line = stands_at 60 (codes "END OF HEADER") line
 
--- the lines after a header, and how many lines were before them
+-- what stands behind a header: lines, of which so many went before
 pub record Body : Type 0 where
   pub number : ℕ
   pub lines : List (List ℕ)
 
--- what follows the next line that ends a header, n lines being before these
+-- what stands behind the next line that ends a header, where n lines went before these
 abbrev pub header_passed : ℕ → List (List ℕ) → Result Body HeaderFault
 header_passed n [] = Err NotRinexNav
 header_passed n (l ∷ ls) = if ends_header l then Ok (record { number = n + 1; lines = ls }) else header_passed (n + 1) ls
 
--- what follows the header at the start of these lines
+-- what stands behind the header with which these lines begin
 abbrev pub header_of : Form → ℕ → List (List ℕ) → Result Body HeaderFault
 header_of f n [] = Err NotRinexNav
 header_of f n (l ∷ ls) =
     if is_navigation l then (if is_version f l then header_passed (n + 1) ls else Err Version) else Err NotRinexNav
 
--- the lines before the next that begins a record
+-- the lines up to the next that begins a record
 abbrev pub up_to_next : Form → List (List ℕ) → List (List ℕ)
 up_to_next f [] = []
 up_to_next f (l ∷ ls) = if begins f l then [] else l ∷ up_to_next f ls
 
--- the result for a record that begins at line n
+-- what is read of a record that begins at line n
 abbrev pub read_at : ℕ → Judged → ItemRead
 read_at n (judgments.Item item) = Item n item
 read_at n (judgments.Refused reason) = Refused n reason
 read_at n judgments.PassedOver = PassedOver n
 
--- the records of some lines, n lines being before them: a record is a line that begins one and the lines up to the next such
--- line or the end
+-- what is read of the records of lines, where n lines went before: a record is a line that begins one and the lines up to
+-- the next such line or the end
 abbrev pub reads : Form → ℕ → List (List ℕ) → List ItemRead
 reads f n [] = []
 reads f n (l ∷ ls) =
     if begins f l then read_at (n + 1) (f.judged (l ∷ up_to_next f ls)) ∷ reads f (n + 1) ls else reads f (n + 1) ls
 
--- the records after a header
+-- what is read of the records behind a header
 abbrev pub reads_behind : Form → Result Body HeaderFault → Result (List ItemRead) HeaderFault
 reads_behind f (Ok body) = Ok (reads f body.number body.lines)
 reads_behind f (Err fault) = Err fault
 
--- the records of the bytes of a file
+-- what is read of the bytes of a file
 abbrev pub file_reads : Form → List ℕ → Result (List ItemRead) HeaderFault
 file_reads f bytes = reads_behind f (header_of f 0 (lines_of bytes))
 
@@ -68,20 +68,20 @@ but_last [] = []
 but_last (x ∷ []) = []
 but_last (x ∷ y ∷ ys) = x ∷ but_last (y ∷ ys)
 
--- the records that are whole whatever lines follow: those after which another one begins
+-- what is read of the records that are whole, whatever lines follow: of those behind which another one begins
 abbrev pub whole_behind : Result (List ItemRead) HeaderFault → Result (List ItemRead) HeaderFault
 whole_behind (Ok rs) = Ok (but_last rs)
 whole_behind (Err fault) = Err fault
 
--- the same of the first lines of a file
+-- of the lines with which a file begins
 abbrev pub whole_in : Form → List (List ℕ) → Result (List ItemRead) HeaderFault
 whole_in f lines = whole_behind (reads_behind f (header_of f 0 lines))
 
--- the same of the first bytes of a file
+-- of the bytes with which it begins
 abbrev pub whole_reads : Form → List ℕ → Result (List ItemRead) HeaderFault
 whole_reads f bytes = whole_in f (ended_lines bytes)
 
--- the items of the records
+-- the items among what is read
 abbrev pub items_of : List ItemRead → List NavItem
 items_of [] = []
 items_of (Item line item ∷ rs) = item ∷ items_of rs

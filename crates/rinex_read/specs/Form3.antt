@@ -1,5 +1,5 @@
--- The form of RINEX 3 navigation files: its versions, and how its records are judged (RINEX 3.05, navigation message files;
--- GPS LNAV and Galileo I/NAV).
+-- The form of RINEX 3 navigation files: versions, records, and what they stand for (RINEX 3.05, navigation message files; GPS
+-- LNAV and Galileo I/NAV).
 use Rattle.std.specs.Prelude.{ℕ, ◌/◌, ◌%◌, ◌==◌, ◌&&◌, ◌||◌, nat_le, not, Bool, false, if◌then◌else◌, List, [], ◌∷◌, ◌++◌, length, get_or, codes, Result, Ok, Err, ℤ, pos, unsigned_abs}
 use Rattle.scaled_decimal.specs.declared.scales.Scale.{Scale}
 use Rattle.scaled_decimal.specs.declared.reading.DecimalFault.{DecimalFault}
@@ -18,30 +18,30 @@ abbrev pub is_three : List ℕ → Bool
 is_three (a ∷ b ∷ c ∷ d ∷ []) = a == 51 && b == 46 && c == 48 && nat_le 50 d && nat_le d 53
 is_three _ = false
 
--- the data sources mean I/NAV: bit 0 or bit 2 is set, and bit 1, F/NAV, is not (RINEX 3.05, Galileo record)
+-- the data sources are those of I/NAV: bit 0 or bit 2 is set, and bit 1, that of F/NAV, is not (RINEX 3.05, Galileo record)
 abbrev pub is_inav_number : ℕ → Bool
 is_inav_number n = n / 2 % 2 == 0 && (n % 2 == 1 || n / 4 % 2 == 1)
 
--- where there is no number from 0 to 1023 it is not I/NAV
+-- no number of 0 to 1023 says none
 abbrev pub says_inav : Result ℤ DecimalFault → Bool
 says_inav (Ok z) = is_inav_number (unsigned_abs z)
 says_inav (Err fault) = false
 
--- the scale of integers
+-- the scale of whole numbers
 abbrev pub whole : Scale
 whole = record { pi = false; factor = 1; two = pos 0; ten = pos 0 }
 
--- the sixth line of a record says I/NAV in its data sources, columns 24-42
+-- the sixth line of a record says in columns 24-42 that it is one of I/NAV
 unfoldable pub is_inav : List (List ℕ) → Bool
 is_inav lines =
     nat_le 6 (length lines) && says_inav (read_of (pos 0) (pos 1023) (seen (size_of whole) (columns 23 19 (get_or lines 5 []))))
 
--- the RINEX 4 title of a record, from the satellite in columns 1-3 of its first line and its message type
+-- the title that a record has in RINEX 4, from the satellite in columns 1-3 of its first line and its message
 abbrev pub titled : List ℕ → List ℕ → List ℕ
 titled message line = codes "> EPH " ++ (columns 0 3 line ++ 32 ∷ message)
 
--- how a record is judged: GPS, and Galileo whose data sources say I/NAV, as the RINEX 4 record with the title added; others
--- are passed over
+-- what the lines of a record stand for: of GPS, and of Galileo where it says that it is one of I/NAV, what they stand for
+-- behind their title of RINEX 4; each other record is passed over
 unfoldable pub judged3 : List (List ℕ) → Judged
 judged3 [] = judgments.PassedOver
 judged3 (l ∷ ls) =

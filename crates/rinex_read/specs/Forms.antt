@@ -1,4 +1,4 @@
--- File forms: what tells the files of one RINEX version from those of another.
+-- Forms of navigation files: what tells the files of one version from those of another.
 use Rattle.std.specs.Prelude.{◌≡◌, ℕ, ◌==◌, ◌&&◌, Bool, false, List, [], ◌∷◌, map, take, get_or}
 use Rattle.scaled_decimal.specs.NumberReading.{trim_start, trim_end, is_decimal}
 use Rattle.nav_eph.specs.declared.items.NavItem.{NavItem}
@@ -11,22 +11,22 @@ use Rattle.rinex_read.specs.Judging.{judged}
 
 -- a form of navigation files
 pub record Form : Type 0 where
-  -- the text in columns 1-9 of the first line, without blanks around it, is a version of the form
+  -- the text in columns 1-9 of the first line, without blanks at its ends, names a version of the form
   pub names : List ℕ → Bool
   -- a line with this first character begins a record
   pub starts : ℕ → Bool
-  -- how a record is judged by its lines, the title included
+  -- what the lines of a record stand for, its first line among them
   pub judged : List (List ℕ) → Judged
 
--- only the first nine lines of a record, and of each the first 80 characters, matter
+-- lines of a record behind the ninth, and characters of a line behind the 80th, are not looked at
 abbrev pub LooksAtKept : Form → Type 0
 LooksAtKept f = (lines : List (List ℕ)) → f.judged (map padded (take 9 lines)) ≡ f.judged lines
 
--- each item that a record gives is consistent, each field within its width
+-- each item for which lines stand has fields within their digits, and its parts fit together
 abbrev pub GivesItems : Form → Type 0
 GivesItems f = (lines : List (List ℕ)) (item : NavItem) → f.judged lines ≡ judgments.Item item → IsItem item
 
--- the version, in columns 1-9 with blanks around it allowed, is one of the form
+-- the version, in columns 1-9 without blanks at the ends, is one of the form
 unfoldable pub is_version : Form → List ℕ → Bool
 is_version f line = f.names (trim_end (trim_start (columns 0 9 line)))
 

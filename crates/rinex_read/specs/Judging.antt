@@ -1,5 +1,5 @@
--- How a record is judged: the item that it gives, or the first reason why it gives none (RINEX 4.01, navigation records: EPH
--- LNAV and INAV, and ION).
+-- What a record says: the item that it stands for, or the first reason why it stands for none (RINEX 4.01, navigation
+-- records: EPH LNAV and INAV, and ION).
 use Rattle.std.specs.Prelude.{ℕ, ◌+◌, ◌-◌, ◌*◌, ◌/◌, ◌%◌, ◌==◌, ◌&&◌, ◌||◌, nat_le, nat_lt, Bool, true, false, if◌then◌else◌, List, [], ◌∷◌, length, Result, Ok, Err, ℤ, pos, int_le, unsigned_abs, get_or}
 use Rattle.scaled_decimal.specs.NumberReading.{trim_start, trim_end, Span, span, is_decimal, is_nothing}
 use Rattle.gnss_week.specs.declared.calendar.Civil.{Civil}
@@ -35,17 +35,17 @@ use Rattle.rinex_read.specs.declared.judged.Judged.TheVariants as judgments
 use Rattle.rinex_read.specs.Lines.{columns, stands_at}
 use Rattle.rinex_read.specs.Fields.{◌>>=◌, read_rows}
 
--- true where the condition holds, else the reason
+-- nothing where this holds, and the reason where it does not
 abbrev pub need : Bool → Reason → Result Bool Reason
 need true e = Ok true
 need false e = Err e
 
--- the first of the lines, or an empty one
+-- the first of the lines, an empty one where there is none
 abbrev pub first_of : List (List ℕ) → List ℕ
 first_of [] = []
 first_of (l ∷ ls) = l
 
--- the title is one of that kind: record type in columns 3-5, system letter in column 7, message type in columns 11-14
+-- the title is one of that kind: class in columns 3-5, the system's letter in column 7, message in columns 11-14
 abbrev pub is_kind : Kind → List ℕ → Bool
 is_kind k title = stands_at 2 k.class title && stands_at 6 (letter_of k.system ∷ []) title && stands_at 10 k.message title
 
@@ -53,7 +53,7 @@ is_kind k title = stands_at 2 k.class title && stands_at 6 (letter_of k.system �
 abbrev pub named : System → ℕ → Result Satellite Reason
 named system n = if nat_le 1 n && nat_le n (most system) then Ok (record { system = system; number = n }) else Err reasons.BadSat
 
--- the satellite of a system with a two-digit number, the first digit possibly blank
+-- the satellite of a system whose number these two characters are, of which the first may be a blank
 abbrev pub satellite_of : System → ℕ → ℕ → Result Satellite Reason
 satellite_of system tens ones =
     if is_decimal ones && (tens == 32 || is_decimal tens) then named system ((if tens == 32 then 0 else 10 * (tens - 48)) + (ones - 48))
@@ -63,11 +63,11 @@ satellite_of system tens ones =
 abbrev pub sat_of : System → List ℕ → Result Satellite Reason
 sat_of system title = satellite_of system (get_or title 7 32) (get_or title 8 32)
 
--- a line begins with the satellite in columns 7-9 of the title
+-- a line begins with the satellite that stands in columns 7-9 of the title
 abbrev pub same_sat : List ℕ → List ℕ → Bool
 same_sat title line = stands_at 0 (columns 6 3 title) line
 
--- a decimal number, with blanks before and after it allowed
+-- the number that decimal digits are, with blanks at their ends or none
 abbrev pub digits_alone : Span → Result ℕ Reason
 digits_alone s = if is_nothing s.rest && nat_le 1 s.count then Ok s.number else Err reasons.NotANumber
 
@@ -85,29 +85,29 @@ date_of line = do
   second ← whole_number (columns 21 2 line)
   Ok (record { year = year; month = month; day = day; hour = hour; minute = minute; second = second })
 
--- GPS time of a date in seconds since the GPS epoch, or why there is none
+-- the moment of a date, or why it has none
 abbrev pub moment_said : Result ℕ WeekFault → Result ℕ Reason
 moment_said (Ok m) = Ok m
 moment_said (Err weeks.NoSuchDate) = Err reasons.NoSuchDate
 moment_said (Err weeks.BeforeEpoch) = Err reasons.Week
 moment_said (Err weeks.TooFar) = Err reasons.Week
 
--- GPS time of the date of a line
+-- the moment of the date of a line
 abbrev pub moment_at : List ℕ → Result ℕ Reason
 moment_at line = date_of line >>= λ date. moment_said (moment_to date)
 
--- the time is in GPS weeks 1 to 16382
+-- the moment lies in a week that has one before it and one after it
 abbrev pub is_named_week : ℕ → Bool
 is_named_week m = nat_le 1 (m / 604800) && nat_le (m / 604800) 16382
 
--- the contents of a record: satellite, date as GPS time, and fields
+-- what a record says: its satellite, the moment of its date, and its fields
 pub record Said : Type 0 where
   pub sat : Satellite
   pub moment : ℕ
   pub fields : List ℤ
 
--- the contents of an ephemeris record, or the first reason. Tested in this order: satellite, number of lines, the same
--- satellite in the first line, date, numbers
+-- what an ephemeris says, or the first reason: its satellite, then all its lines, the same satellite in the first of
+-- them, the date, and the numbers in order
 unfoldable pub ephemeris_said : Kind → List ℕ → List (List ℕ) → Result Said Reason
 ephemeris_said k title lines = do
   sat ← sat_of k.system title
@@ -117,7 +117,7 @@ ephemeris_said k title lines = do
   fields ← read_rows k.rows 23 lines
   Ok (record { sat = sat; moment = moment; fields = fields })
 
--- the contents of an ionosphere record, or the first reason. In this order: satellite, number of lines, date, numbers
+-- what an ionosphere says, or the first reason: its satellite, then all its lines, the date, and the numbers in order
 unfoldable pub ionosphere_said : Kind → List ℕ → List (List ℕ) → Result Said Reason
 ionosphere_said k title lines = do
   sat ← sat_of k.system title
@@ -127,26 +127,26 @@ ionosphere_said k title lines = do
   fields ← read_rows k.rows 23 lines
   Ok (record { sat = sat; moment = moment; fields = fields })
 
--- field k, and its magnitude
+-- field k, and as a number without a sign
 abbrev pub field : List ℤ → ℕ → ℤ
 field zs k = get_or zs k (pos 0)
 
 abbrev pub natural : List ℤ → ℕ → ℕ
 natural zs k = unsigned_abs (field zs k)
 
--- a transmission time above 907,199 is unknown
+-- a transmission time above the greatest, 907,199, is not known
 abbrev pub sent_of : ℤ → SentSecond
 sent_of z = if int_le z (pos 907199) then At z else Unknown
 
--- toc in steps of the week: the time of week of the epoch is a multiple of the step, and the epoch is within half a week of
--- toe, given by its week and steps
+-- The steps of toc in the week: the moment is a whole number of steps of so many seconds, and lies within half a week of
+-- toe, which has a week and so many steps in it.
 abbrev pub toc_of : ℕ → ℕ → ℕ → ℕ → Result ℕ Reason
 toc_of step moment toe_week toe = do
   whole ← need (moment % 604800 % step == 0) reasons.EpochStep
   near ← need (nat_lt (604800 * toe_week + step * toe) (moment + 302400) && nat_le moment (604800 * toe_week + step * toe + 302400)) reasons.EpochFar
   Ok (moment % 604800 / step)
 
--- the parts of a GPS ephemeris from its fields
+-- the parts of an ephemeris of GPS of these fields
 unfoldable pub gps_clock_of : ℕ → List ℤ → GpsClock
 gps_clock_of toc zs = record { iodc = natural zs 26; toc = toc; af2 = field zs 2; af1 = field zs 1; af0 = field zs 0; tgd = field zs 25 }
 
@@ -179,7 +179,7 @@ gps_orbit_b_of zs = record {
   idot = field zs 19;
 }
 
--- the GPS ephemeris of these fields
+-- the ephemeris of GPS of these fields
 unfoldable pub gps_of : Satellite → ℕ → List ℤ → GpsEph
 gps_of sat toc zs = record {
   sat = sat;
@@ -192,7 +192,7 @@ gps_of sat toc zs = record {
   sent = sent_of (field zs 27);
 }
 
--- the parts of a Galileo ephemeris from its fields
+-- the parts of an ephemeris of Galileo of these fields
 unfoldable pub galileo_word1_of : List ℤ → GalWord1
 galileo_word1_of zs = record { iodnav = natural zs 3; toe = natural zs 11; m0 = field zs 6; e = natural zs 8; root_a = natural zs 10 }
 
@@ -222,7 +222,7 @@ galileo_word4_of toc zs = record {
   af2 = field zs 2;
 }
 
--- the health of a Galileo satellite from its number: bit 0 E1-B DVS, bits 1-2 E1-B HS, bit 6 E5b DVS, bits 7-8 E5b HS
+-- the health of a Galileo satellite of its number: bit 0 E1-B DVS, bits 1-2 E1-B HS, bit 6 E5b DVS, bits 7-8 E5b HS
 abbrev pub health_said : ℤ → ℤ → ℕ → GalHealth
 health_said bgd_a bgd_b n = record {
   bgd_a = bgd_a;
@@ -233,7 +233,7 @@ health_said bgd_a bgd_b n = record {
   dvs_e1b = n % 2;
 }
 
--- the Galileo ephemeris of these fields
+-- the ephemeris of Galileo of these fields
 unfoldable pub galileo_of : Satellite → ℕ → List ℤ → GalEph
 galileo_of sat toc zs = record {
   sat = sat;
@@ -246,7 +246,7 @@ galileo_of sat toc zs = record {
   sent = sent_of (field zs 26);
 }
 
--- the ionosphere parameters of these fields
+-- the ionospheres of these fields
 unfoldable pub gps_ionosphere_of : List ℤ → GpsIon
 gps_ionosphere_of zs = record {
   alpha0 = field zs 0;
@@ -262,7 +262,7 @@ gps_ionosphere_of zs = record {
 unfoldable pub galileo_ionosphere_of : List ℤ → GalIon
 galileo_ionosphere_of zs = record { ai0 = natural zs 0; ai1 = field zs 1; ai2 = field zs 2; regions = natural zs 3 }
 
--- the items of the contents, or the reason why there is none
+-- the items of what was said, or why they are none
 abbrev pub gps_item : Said → Result NavItem Reason
 gps_item s = toc_of 16 s.moment (natural s.fields 21) (natural s.fields 11) >>= λ toc. Ok (GpsItem (gps_of s.sat toc s.fields))
 
@@ -275,7 +275,7 @@ gps_ionosphere_item s = Ok (IonItem (record { sat = s.sat; moment = s.moment; co
 abbrev pub galileo_ionosphere_item : Said → Result NavItem Reason
 galileo_ionosphere_item s = Ok (IonItem (record { sat = s.sat; moment = s.moment; content = OfGal (galileo_ionosphere_of s.fields) }))
 
--- the item of a record of each kind
+-- what the lines of a record of each kind stand for
 abbrev pub gps_read : List ℕ → List (List ℕ) → Result NavItem Reason
 gps_read title lines = ephemeris_said gps_kind title lines >>= gps_item
 
@@ -293,7 +293,7 @@ abbrev pub outcome : Result NavItem Reason → Judged
 outcome (Ok item) = judgments.Item item
 outcome (Err reason) = judgments.Refused reason
 
--- how a record is judged; records of other kinds are passed over
+-- what the lines of a record stand for; records of other kinds are passed over
 unfoldable pub judged : List (List ℕ) → Judged
 judged [] = judgments.PassedOver
 judged (title ∷ lines) =

@@ -1,11 +1,11 @@
--- The lines kept of a record: the first nine, of each the first 80 characters, filled with blanks.
+-- What is kept of the lines of a record: the first nine, of each the first 80 characters, blanks where it is shorter.
 use Rattle.std.specs.Prelude.{ℕ, nat_lt, if◌then◌else◌, List, [], ◌∷◌, ◌++◌, length}
 use Rattle.rinex_read.specs.Lines.{columns}
 
--- the first 80 characters of a line, filled with blanks
+-- the first 80 characters of a line
 abbrev pub padded : List ℕ → List ℕ
 padded line = columns 0 80 line
 
--- the kept lines after one more
+-- the lines that are kept, with one more
 abbrev pub kept_with : List (List ℕ) → List ℕ → List (List ℕ)
 kept_with kept line = if nat_lt (length kept) 9 then kept ++ padded line ∷ [] else kept

@@ -1,4 +1,4 @@
--- Invariants and helper definitions of private functions; no public clause cites them.
+-- What private functions keep on the way, cited by no public clause.
 use Rattle.std.specs.Prelude.{◌≡◌, ℕ, ◌+◌, ◌-◌, ◌*◌, ◌/◌, ◌^◌, ◌<◌, ◌≤◌, nat_lt, nat_le, ◌&&◌, Bool, true, false, if◌then◌else◌, List, [], ◌∷◌, ◌++◌, length, take, drop, sum, Result, Ok, Err, ℤ, pos, negsuc, ◌≤ℤ◌}
 use Rattle.nav_eph.specs.Steps.{IsSisa}
 use Rattle.nav_bits.specs.Signed.{IsSigned}
@@ -23,47 +23,47 @@ use Rattle.rinex_read.specs.declared.judged.HeaderFault.TheVariants as faults
 use Rattle.rinex_read.specs.States.{RecordsState, held_reads}
 use Rattle.rinex_read.specs.declared.said.RecordSaid.{RecordSaid}
 
--- the definition of each kind of record
+-- the kinds of the forms
 abbrev pub kind_by : RecordKind → Kind
 kind_by GpsEphemeris = gps_kind
 kind_by GalileoEphemeris = galileo_kind
 kind_by GpsIonosphere = gps_ionosphere_kind
 kind_by GalileoIonosphere = galileo_ionosphere_kind
 
--- the result, seen by view, is the expected one
+-- what a function returned, seen by view, is what was to be read
 abbrev pub Gives : {X Y : Type 0} → (X → Y) → Result X Reason → Result Y Reason → Type 0
 Gives view (Ok x) read = read ≡ Ok (view x)
 Gives view (Err e) read = read ≡ Err e
 
--- fields before those that are read
+-- fields that go before what is read
 abbrev pub with_prefix : List ℤ → Result (List ℤ) Reason → Result (List ℤ) Reason
 with_prefix zs (Ok ws) = Ok (zs ++ ws)
 with_prefix zs (Err e) = Err e
 
--- all was read, or the reason is the expected one
+-- all was read, or the reason is that of the reading
 abbrev pub ReadsTo : {T : Type 0} → Result T Reason → List ℤ → Result (List ℤ) Reason → Type 0
 ReadsTo (Ok x) new read = read ≡ Ok new
 ReadsTo (Err e) new read = read ≡ Err e
 
--- the fields of lines with these numbers of columns, the columns of all lines being one list
+-- the fields of lines of so many columns each, the columns of all lines being one list
 abbrev pub flat_rows : List ℕ → List Column → ℕ → List (List ℕ) → Result (List ℤ) Reason
 flat_rows [] cs a ls = Ok []
 flat_rows (n ∷ ns) cs a [] = Err reasons.Short
 flat_rows (n ∷ ns) cs a (l ∷ ls) = read_row (take n cs) a l >>= λ zs. flat_rows ns (drop n cs) 4 ls >>= λ ws. Ok (zs ++ ws)
 
--- each line's columns end by column 80
+-- each line of columns ends by column 80
 abbrev pub do_fit : ℕ → List ℕ → Bool
 do_fit a [] = true
 do_fit a (n ∷ ns) = nat_le (a + 19 * n) 80 && do_fit 4 ns
 
--- a table: its columns, and how many each line has
+-- a table of columns, and how many of them each line has
 pub record IsLayout (columns : List Column) (rows : List ℕ) : Type 0 where
   pub good : are_good columns ≡ true
   pub count : sum rows ≡ length columns
   pub few : length columns ≤ 29
   pub fit : do_fit 23 rows ≡ true
 
--- the least SISA index whose value is at least n, for n up to 600
+-- the least index of signal in space accuracy whose value is at least n, for n up to 600
 abbrev pub sisa_index : ℕ → ℕ
 sisa_index n =
     if nat_lt n 50 then n
@@ -71,7 +71,7 @@ sisa_index n =
     else if nat_lt n 200 then 75 + (n - 97) / 4
     else 100 + (n - 185) / 16
 
--- field k is an unsigned number of w bits, or one in two's complement
+-- field k is a number of w digits without a sign, or in two's complement
 pub record IsUnsignedAt (w : ℕ) (zs : List ℤ) (k : ℕ) : Type 0 where
   pub within : k < length zs
   pub low : pos 0 ≤ℤ field zs k
@@ -81,7 +81,7 @@ pub record IsSignedAt (w : ℕ) (zs : List ℤ) (k : ℕ) : Type 0 where
   pub within : k < length zs
   pub is : IsSigned w (field zs k)
 
--- field k is a number below n, a week, a SISA index, a transmission time or unknown
+-- field k is a number below n, a week, an index of signal in space accuracy, a transmission time or that it is not known
 pub record IsBelowAt (n : ℕ) (zs : List ℤ) (k : ℕ) : Type 0 where
   pub within : k < length zs
   pub low : pos 0 ≤ℤ field zs k
@@ -101,11 +101,11 @@ pub record IsSentAt (zs : List ℤ) (k : ℕ) : Type 0 where
   pub within : k < length zs
   pub low : negsuc 302399 ≤ℤ field zs k
 
--- the contents of a record as the definitions have them
+-- what the definitions see of what a record says
 abbrev pub view_said : RecordSaid → Said
 view_said s = record { sat = s.sat; moment = s.moment; fields = s.fields.items }
 
--- the fields of a GPS ephemeris are within their widths
+-- the fields of an ephemeris of GPS are within their digits
 pub record AreGpsFields (zs : List ℤ) : Type 0 where
   pub af0 : IsSignedAt 22 zs 0
   pub af1 : IsSignedAt 16 zs 1
@@ -137,7 +137,7 @@ pub record AreGpsFields (zs : List ℤ) : Type 0 where
   pub sent : IsSentAt zs 27
   pub fit : IsUnsignedAt 1 zs 28
 
--- the fields of a Galileo ephemeris are within their widths
+-- the fields of an ephemeris of Galileo are within their digits
 pub record AreGalileoFields (zs : List ℤ) : Type 0 where
   pub af0 : IsSignedAt 31 zs 0
   pub af1 : IsSignedAt 21 zs 1
@@ -166,7 +166,7 @@ pub record AreGalileoFields (zs : List ℤ) : Type 0 where
   pub bgd_b : IsSignedAt 10 zs 25
   pub sent : IsSentAt zs 26
 
--- the ionosphere parameters are within their widths
+-- the fields of the ionospheres are within their digits
 pub record AreGpsIonosphereFields (zs : List ℤ) : Type 0 where
   pub alpha0 : IsSignedAt 8 zs 0
   pub alpha1 : IsSignedAt 8 zs 1
@@ -183,29 +183,29 @@ pub record AreGalileoIonosphereFields (zs : List ℤ) : Type 0 where
   pub ai2 : IsSignedAt 14 zs 2
   pub regions : IsUnsignedAt 5 zs 3
 
--- A line was processed: the old state with it and any further lines gives these records, then those of the new state. No
--- record is given unless another is in progress.
+-- A line was taken: what is held with it and any lines behind it gives these records, and then what is held now gives; behind a record
+-- that was given another one is held.
 pub record TakesLine (f : Form) (kept : List (List ℕ)) (first : ℕ) (kept_new : List (List ℕ)) (first_new : ℕ) (line : List ℕ) (number : ℕ) (given : List ItemRead) : Type 0 where
   pub answers : (n : ℕ) (more : List (List ℕ)) → number ≡ n + 1 → held_reads f kept first n (line ∷ more) ≡ given ++ held_reads f kept_new first_new number more
   pub begun : kept_new ≡ [] → given ≡ []
 
--- No line is left: the record in progress gives these records.
+-- No line is left: what is held gives these records.
 pub record TakesEnd (f : Form) (kept : List (List ℕ)) (first : ℕ) (given : List ItemRead) : Type 0 where
   pub answers : (n : ℕ) → held_reads f kept first n [] ≡ given
 
--- what was read is a record, not the end
+-- what was read is a record, of which there is one
 abbrev pub IsRecord : ItemRead → Type 0
 IsRecord (Item line item) = Unit {0}
 IsRecord (Refused line reason) = Unit {0}
 IsRecord (PassedOver line) = Unit {0}
 IsRecord End = ⊥
 
--- the record in progress, or the end where there was none
+-- the end where nothing was held, and else the record that was
 abbrev pub EndsWith : Form → List (List ℕ) → ℕ → ItemRead → Type 0
 EndsWith f [] first read = read ≡ End
 EndsWith f (k ∷ ks) first read = read ≡ read_at first (f.judged (k ∷ ks))
 
--- the state of the header after one more line
+-- how far the header is read with one more line
 abbrev pub header_after : Form → HeaderState → List ℕ → HeaderState
 header_after f New line = if is_navigation line then (if is_version f line then Open else OtherVersion) else NotRinexNav
 header_after f Open line = if ends_header line then Passed else Open
@@ -213,11 +213,11 @@ header_after f Passed line = Passed
 header_after f NotRinexNav line = NotRinexNav
 header_after f OtherVersion line = OtherVersion
 
--- the state of a reader from its parts
+-- a reader of records of these parts
 abbrev pub state_of : HeaderState → List (List ℕ) → ℕ → LinesState → RecordsState
 state_of header kept first lines = record { header = header; kept = kept; first = first; lines = lines }
 
--- the error of a header that was refused
+-- how a header that was read is answered
 abbrev pub HeaderRefused : HeaderState → HeaderFault → Type 0
 HeaderRefused header faults.NotRinexNav = header ≡ NotRinexNav
 HeaderRefused header faults.Version = header ≡ OtherVersion

@@ -1,4 +1,4 @@
--- What the laws of written and read files assume and state.
+-- What the laws of written and read files take and say.
 use Rattle.std.specs.Prelude.{◌≡◌, ℕ, ◌+◌, true, false, List, [], ◌∷◌, ◌++◌, length, Ok}
 use Rattle.nav_eph.specs.declared.items.NavItem.{NavItem}
 use Rattle.nav_eph.specs.Ranges.{IsItem}
@@ -9,17 +9,17 @@ use Rattle.rinex_read.specs.declared.judged.ItemRead.TheVariants.{Item, Refused,
 use Rattle.rinex_read.specs.Forms.{Form, begins}
 use Rattle.rinex_read.specs.Files.{header_of}
 
--- each item is consistent, each field within its width
+-- each field of each item is within its digits, and its parts fit together
 abbrev pub AreItems : List NavItem → Type 0
 AreItems [] = Unit {0}
 AreItems (i ∷ is) = IsItem i × AreItems is
 
--- no line begins a record of the form
+-- lines of which none begins a record of the form
 abbrev pub NoneBegins : Form → List (List ℕ) → Type 0
 NoneBegins f [] = Unit {0}
 NoneBegins f (l ∷ ls) = (begins f l ≡ false) × NoneBegins f ls
 
--- lines of one record: only the first begins one, and each byte is at least 32
+-- lines of a record: the first one begins it, no other of them begins one, and all are shown
 pub record AreRecordLines (f : Form) (lines : List (List ℕ)) : Type 0 where
   pub title : List ℕ
   pub others : List (List ℕ)
@@ -28,22 +28,22 @@ pub record AreRecordLines (f : Form) (lines : List (List ℕ)) : Type 0 where
   pub rest : NoneBegins f others
   pub shown : AreLines lines
 
--- lines of a record that gives the item, whatever lines follow
+-- lines of a record that stand for an item, whatever lines follow
 pub record StandFor (f : Form) (lines : List (List ℕ)) (item : NavItem) : Type 0 where
   pub are : AreRecordLines f lines
   pub judged : (more : List (List ℕ)) → f.judged (lines ++ more) ≡ judgments.Item item
 
--- the lines written for each item give it
+-- the lines that are written of each item stand for it
 abbrev pub AllStand : Form → (NavItem → List (List ℕ)) → List NavItem → Type 0
 AllStand f write [] = Unit {0}
 AllStand f write (i ∷ is) = StandFor f (write i) i × AllStand f write is
 
--- lines of a header: each byte is at least 32, and what follows is read after the header
+-- lines of a header: all are shown, and they are passed whatever lines follow
 pub record AreHeaderLines (f : Form) (lines : List (List ℕ)) : Type 0 where
   pub shown : AreLines lines
   pub passed : (more : List (List ℕ)) → header_of f 0 (lines ++ more) ≡ Ok (record { number = length lines; lines = more })
 
--- each item with the first line's number of its record, n lines being before these
+-- each item, with the number of the first line of its record, where n lines go before and these lines are written of it
 abbrev pub numbered_by : (NavItem → List (List ℕ)) → ℕ → List NavItem → List ItemRead
 numbered_by write n [] = []
 numbered_by write n (i ∷ is) = Item (n + 1) i ∷ numbered_by write (n + length (write i)) is
@@ -52,7 +52,7 @@ numbered_by write n (i ∷ is) = Item (n + 1) i ∷ numbered_by write (n + lengt
 abbrev pub numbered : ℕ → List NavItem → List ItemRead
 numbered = numbered_by item_lines
 
--- an item that was read is consistent, each field within its width
+-- what was read is no item, or one whose fields are within their digits and whose parts fit together
 abbrev pub IsWholeRead : ItemRead → Type 0
 IsWholeRead (Item line item) = IsItem item
 IsWholeRead (Refused line reason) = Unit {0}

@@ -1,4 +1,4 @@
--- What contracts see of a reader of records, and what its calls do.
+-- What a contract sees of a reader of records, and what its calls do.
 use Rattle.std.specs.Prelude.{◌≡◌, ◌+◌, ◌-◌, ◌*◌, ◌^◌, ◌<◌, ◌++◌, ℕ, Bool, true, false, List, [], ◌∷◌, Option, Result, Ok, Err, map}
 use Rattle.nav_io.specs.Lines.{Line, ends}
 use Rattle.nav_io.specs.LinesState.{LinesState, Reads}
@@ -16,25 +16,25 @@ use Rattle.rinex_read.specs.Files.{but_last, header_of, header_passed, up_to_nex
 
 -- a reader of records
 pub record RecordsState : Type 0 where
-  -- the state of the header
+  -- how far the header was read
   pub header : HeaderState
-  -- the lines kept of the record in progress, empty where there is none
+  -- what is kept of the lines of the record that was begun, none where none was
   pub kept : List (List ℕ)
   -- the number of its first line
   pub first : ℕ
   -- the reader of the lines
   pub lines : LinesState
 
--- the records still to be read from lines ls, n lines being before them and kept being of the record in progress
+-- what is read where these lines of a record are held, the first of them with that number, and n lines went before those to come
 abbrev pub held_reads : Form → List (List ℕ) → ℕ → ℕ → List (List ℕ) → List ItemRead
 held_reads f [] first n ls = reads f n ls
 held_reads f (k ∷ ks) first n ls = read_at first (f.judged ((k ∷ ks) ++ up_to_next f ls)) ∷ reads f n ls
 
--- the records still to be read after the header, where these bytes follow
+-- what is still to be read behind the header where these bytes follow
 abbrev pub records_to_come : Form → RecordsState → List ℕ → List ItemRead
 records_to_come f s following = held_reads f s.kept s.first s.lines.number (told_lines (s.lines.rest ++ following))
 
--- the records still to be read of the file, where these lines follow
+-- what is still to be read of the file where these lines follow
 abbrev pub file_by : Form → HeaderState → RecordsState → List (List ℕ) → Result (List ItemRead) HeaderFault
 file_by f New s ls = reads_behind f (header_of f s.lines.number ls)
 file_by f Open s ls = reads_behind f (header_passed s.lines.number ls)
@@ -67,7 +67,7 @@ pub record IsNew (s : RecordsState) : Type 0 where
   pub taken : s.lines.taken ≡ 0
   pub number : s.lines.number ≡ 0
 
--- no line is left, and no record is in progress
+-- no line is left, and no record is held
 pub record IsOver (s : RecordsState) : Type 0 where
   pub kept : s.kept ≡ []
   pub rest : s.lines.rest ≡ []
@@ -77,13 +77,13 @@ pub record IsOver (s : RecordsState) : Type 0 where
 abbrev pub MayStand : RecordsState → List (List ℕ) → Type 0
 MayStand s next = s.lines.ended ≡ true → s.lines.rest ≡ [] → next ≡ []
 
--- more bytes may come, and those read hold no complete line
+-- more bytes may come, and no line has ended in those that were taken
 pub record IsPaused (s : RecordsState) : Type 0 where
   pub more : s.lines.ended ≡ false
   pub none : ends s.lines.rest ≡ false
 
--- Lines were read and these records given: they come before those of the new state, whatever bytes follow. Unless the file is
--- over, they also come before in the list of the records that are whole.
+-- Lines were read, and these records, which stand before those of the new state, whatever bytes follow; but at the end they are those
+-- that are whole in the lines and in any that follow, before those that the new state makes whole.
 pub record Steps (f : Form) (left left_new : Option (List ℕ)) (old new : RecordsState) (given : List ItemRead) : Type 0 where
   pub lines : List Line
   pub reads : Reads left left_new old.lines new.lines lines
@@ -94,7 +94,7 @@ pub record Steps (f : Form) (left left_new : Option (List ℕ)) (old new : Recor
       → but_last (held_reads f old.kept old.first old.lines.number (map text_of_line lines ++ next))
       ≡ given ++ but_last (held_reads f new.kept new.first new.lines.number next)
 
--- a bound on the calls still to come; it falls with each record that is read
+-- how many lines may still come, and whether a record is held: this falls with each record that is read
 abbrev pub held_count : List (List ℕ) → ℕ
 held_count [] = 0
 held_count (k ∷ ks) = 1
@@ -123,7 +123,7 @@ GivesRead f (Refused line reason) left left_new old new = GivesRecord f left lef
 GivesRead f (PassedOver line) left left_new old new = GivesRecord f left left_new old new (PassedOver line)
 GivesRead f End left left_new old new = GivesNone f left left_new old new
 
--- A read failed before the end, with no complete line left; or too many bytes were read.
+-- A read failed before a byte was missing at the end, and no line has ended in what is held; or too many bytes were taken.
 abbrev pub BrokeBy : LineFault → RecordsState → Type 0
 BrokeBy ReadFault new = (new.lines.ended ≡ false) × (new.lines.taken < 2 ^ 32) × (ends new.lines.rest ≡ false)
 BrokeBy TooLong new = new.lines.taken ≡ 2 ^ 32
@@ -133,7 +133,7 @@ pub record BreaksRecord (f : Form) (left left_new : Option (List ℕ)) (old new 
   pub steps : Steps f left left_new old new []
   pub by : BrokeBy fault new
 
--- Lines of the header were read; the rest gives the same file, whatever bytes or lines follow.
+-- Lines were read of the header, which leaves the same file to come, whatever bytes or lines follow.
 pub record HeaderSteps (f : Form) (left left_new : Option (List ℕ)) (old new : RecordsState) : Type 0 where
   pub lines : List Line
   pub reads : Reads left left_new old.lines new.lines lines
@@ -142,23 +142,23 @@ pub record HeaderSteps (f : Form) (left left_new : Option (List ℕ)) (old new :
   pub told : (next : List (List ℕ)) → MayStand new next
       → file_by f old.header old (map text_of_line lines ++ next) ≡ file_by f new.header new next
 
--- where lines of the header were read, there were at most 4,294,967,295 bytes so far
+-- where lines of the header were read, at most 4,294,967,295 bytes were taken
 abbrev pub ReadLow : RecordsState → RecordsState → Type 0
 ReadLow old new = is_waiting old.header ≡ true → new.lines.taken < 2 ^ 32
 
--- The header was read: the rest of the file is its records.
+-- The header was read: of the file, its records are left.
 pub record PassesHeader (f : Form) (left left_new : Option (List ℕ)) (old new : RecordsState) : Type 0 where
   pub steps : HeaderSteps f left left_new old new
   pub header : new.header ≡ Passed
   pub low : ReadLow old new
 
--- how a header is refused, or can be read on
+-- how a header is refused, or goes on at a further call
 abbrev pub RefusedBy : HeaderFault → RecordsState → RecordsState → Type 0
 RefusedBy faults.NotRinexNav old new = (new.header ≡ NotRinexNav) × ReadLow old new
 RefusedBy faults.Version old new = (new.header ≡ OtherVersion) × ReadLow old new
 RefusedBy (faults.Line fault) old new = (is_waiting new.header ≡ true) × BrokeBy fault new
 
--- The header is refused, or can be read on.
+-- The header is refused, or it goes on at a further call.
 pub record BreaksHeader (f : Form) (left left_new : Option (List ℕ)) (old new : RecordsState) (fault : HeaderFault) : Type 0 where
   pub steps : HeaderSteps f left left_new old new
   pub by : RefusedBy fault old new

@@ -10,7 +10,7 @@ use crate::reason::Reason;
 use gnss_week::{Civil, Moment, WeekFault, moment_of};
 use scaled_decimal::{leading_digits, trimmed};
 
-// A decimal number, with blanks before and after it allowed.
+// The number that decimal digits are, with blanks at their ends or none.
 #[tactic(auto, unfolding(crate::specs::Judging::whole_number))]
 fn whole_number(text: &[u8]) -> Result<u16, Reason>
     requires { length text.now ≤ 4 }
@@ -55,7 +55,7 @@ fn date_of(line: &PaddedLine) -> Result<Civil, Reason>
     })
 }
 
-// GPS time of a date, in seconds since the GPS epoch.
+// The moment of a date.
 fn moment_said(date: &Civil) -> Result<Moment, Reason>
     ensures { result ≡ moment_said (moment_to date.now) }
 {
@@ -67,7 +67,7 @@ fn moment_said(date: &Civil) -> Result<Moment, Reason>
     }
 }
 
-/// GPS time of the date of a line, in seconds since the GPS epoch.
+/// The moment of the date of a line.
 pub(crate) fn moment_in(line: &PaddedLine) -> Result<Moment, Reason>
     ensures { result ≡ moment_at line.now }
 {

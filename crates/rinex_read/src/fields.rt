@@ -1,4 +1,4 @@
-//! The fields of a record, from its numbers.
+//! The fields that the numbers of a record say.
 
 ghost use Rattle.std.specs.Prelude.{◌≡◌, ◌+◌, ◌*◌, ◌≤◌, ◌≤ℤ◌, pos};
 ghost use Rattle.std.specs.Prelude.{true, length, unsigned_abs, OnOk};
@@ -19,13 +19,13 @@ use scaled_decimal::{DecimalFault, read};
 /// The fields of a record, of which there are at most 29.
 pub(crate) type Fields = ArrayVec<i64, 29>;
 
-// The transmission time that means unknown.
+// The transmission time that is not known.
 const UNKNOWN: i64 = 999_900_000;
 
-// The bound of the accuracy values that are read, in centimetres.
+// The greatest accuracy that is read, in centimetres.
 const GREATEST: i64 = 100_000_000;
 
-// The fit interval flag of an interval in hours.
+// The flag of a fit interval in hours.
 fn flag_of(hours: i64) -> Result<i64, Reason>
     requires { pos 0 ≤ℤ hours }
     ensures { result ≡ flag_of (unsigned_abs hours) }
@@ -37,7 +37,7 @@ fn flag_of(hours: i64) -> Result<i64, Reason>
     }
 }
 
-// The field of the text in a column.
+// The field that a text in a column says.
 fn field(column: &Column, text: &[u8]) -> Result<i64, Reason>
     requires text { length text.now ≤ 19 }
     requires scale { is_good_scale column.now.scale ≡ true }
@@ -85,7 +85,7 @@ fn field(column: &Column, text: &[u8]) -> Result<i64, Reason>
     }
 }
 
-// Appends the fields of a line; its numbers begin at offset `place`.
+// Appends the fields of a line whose numbers begin at a place.
 fn read_row(
     columns_of_row: &[Column],
     place: usize,
@@ -107,8 +107,8 @@ fn read_row(
     Ok(())
 }
 
-/// The fields of the lines of a record after its title. The numbers of the first line begin at
-/// offset 23.
+/// The fields of the lines of a record behind its title, of which the numbers of the first begin at
+/// place 23.
 pub(crate) fn read_fields(layout: &RecordLayout, lines: &[PaddedLine]) -> Result<Fields, Reason>
     requires layout { IsLayout layout.now.columns.now layout.now.rows.now }
     requires lines { length layout.now.rows.now ≤ length lines.now }

@@ -1,4 +1,4 @@
-//! File forms: what tells the files of one RINEX version from those of another.
+//! Forms of navigation files: what tells the files of one version from those of another.
 
 ghost use Rattle.std.specs.Prelude.{◌≡◌};
 ghost use Rattle.rinex_read.specs.Forms.{is_four};
@@ -9,34 +9,34 @@ use scaled_decimal::is_decimal;
 
 /// A form of navigation files, read by a [`RecordReader`](crate::RecordReader).
 ///
-/// Contracts see the form as a ghost: its versions, the first characters of its records, and how
-/// the lines of a record are judged.
+/// A contract sees the form as a ghost: the names of its versions, the characters with which its
+/// records begin, and what the lines of a record stand for.
 pub trait FileForm {
     ghost use Rattle.std.specs.Prelude.{◌≡◌};
     ghost use Rattle.rinex_read.specs.Forms.{Form, GivesItems, LooksAtKept};
 
     ghost form: { Form };
 
-    /// Whether the text in columns 1-9 of the first line, without blanks around it, is a version of
-    /// the form.
+    /// The text in columns 1-9 of the first line of a file, without blanks at its ends, names a
+    /// version of the form.
     fn names(text: &[u8]) -> bool
         ensures { result ≡ form.names text.now };
 
-    /// Whether a line with this first character begins a record; an empty line counts as a blank.
+    /// A line with this first character begins a record; a line of no character counts as a blank.
     fn starts(first: u8) -> bool
         ensures { result ≡ form.starts first };
 
-    /// The item of the lines of a record, its title included, or why there is none.
+    /// What the lines of a record stand for, its first line among them.
     fn judge(lines: &RecordLines) -> Judged
         ensures { result ≡ form.judged lines.now };
 
-    /// Only what [`RecordLines`] keeps of a record matters. It does nothing; its contract is the
-    /// law.
+    /// Of the lines of a record only what [`RecordLines`] keeps is looked at. It does nothing: its
+    /// contract is the law.
     fn looks_at_kept()
         ensures { LooksAtKept form };
 
-    /// Each item that a record gives is consistent, each field within its width. It does nothing;
-    /// its contract is the law.
+    /// Each item for which lines stand has fields within their digits, and its parts fit together.
+    /// It does nothing: its contract is the law.
     fn gives_items()
         ensures { GivesItems form };
 }

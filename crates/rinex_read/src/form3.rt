@@ -1,4 +1,4 @@
-//! The form of RINEX 3.
+//! The form of RINEX 3: what its records stand for.
 
 ghost use Rattle.std.specs.Prelude.{◌≡◌, List, ℕ, length, pos};
 ghost use Rattle.rinex_read.specs.Form3.{is_inav, is_inav_number, is_three};
@@ -20,7 +20,7 @@ fn is_three(text: &[u8]) -> bool
     }
 }
 
-// The scale of integers.
+// The scale of whole numbers.
 const WHOLE: Scale = Scale {
     pi: false,
     factor: 1,
@@ -28,14 +28,14 @@ const WHOLE: Scale = Scale {
     ten: 0,
 };
 
-// The data sources mean I/NAV: bit 0 or bit 2 is set, and bit 1 (F/NAV) is not.
+// The data sources are those of I/NAV: bit 0 or bit 2 is set, and bit 1 is not.
 fn is_inav_number(number: u64) -> bool
     ensures { result ≡ is_inav_number number }
 {
     number / 2 % 2 == 0 && (number % 2 == 1 || number / 4 % 2 == 1)
 }
 
-// The same of a number as read; where there is none it is not I/NAV.
+// The same of what was read; no number says none.
 fn says_inav(sources: Result<i64, DecimalFault>) -> bool
     ensures { result ≡ says_inav sources }
 {
@@ -45,7 +45,7 @@ fn says_inav(sources: Result<i64, DecimalFault>) -> bool
     }
 }
 
-// Whether the sixth line says I/NAV in its data sources.
+// The sixth line says that the record is one of I/NAV.
 #[tactic(auto, unfolding(crate::specs::Form3::is_inav))]
 fn is_inav(lines: &[[u8; 80]]) -> bool
     ensures { result ≡ is_inav lines.now }
@@ -56,7 +56,7 @@ fn is_inav(lines: &[[u8; 80]]) -> bool
     says_inav(read(columns(&lines[5], 23, 19), &WHOLE, 0, 1023))
 }
 
-// The title of the same record in RINEX 4.
+// The title that a record has in RINEX 4.
 fn titled(message: &[u8; 4], line: &[u8; 80]) -> [u8; 14]
     ensures { result ≡ titled message.now line.now }
 {
@@ -67,7 +67,7 @@ fn titled(message: &[u8; 4], line: &[u8; 80]) -> [u8; 14]
     ]
 }
 
-// The item of a record, or why there is none.
+// What the lines of a record stand for.
 #[tactic(auto, unfolding(crate::specs::Form3::judged3))]
 fn judge(lines: &RecordLines) -> Judged
     ensures { result ≡ judged3 lines.now }
@@ -90,9 +90,9 @@ fn judge(lines: &RecordLines) -> Judged
 /// Versions 3.02 to 3.05: a record begins at each line whose first column is not blank (RINEX 3.05,
 /// navigation message files).
 ///
-/// A GPS record is judged as the RINEX 4 record with the title `> EPH G05 LNAV` of its satellite
-/// before it, a Galileo record whose data sources say I/NAV with `> EPH E11 INAV`. Other records
-/// are passed over.
+/// A record of GPS is judged as the record of RINEX 4 with the title `> EPH G05 LNAV` of its
+/// satellite before it; one of Galileo with `> EPH E11 INAV`, where the data sources in its sixth
+/// line say that it is of I/NAV. Each other record is passed over.
 pub struct Rinex3;
 
 impl FileForm for Rinex3 {

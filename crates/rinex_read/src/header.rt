@@ -11,7 +11,7 @@ use crate::judged::HeaderState;
 use crate::line::{PaddedLine, columns, padded, stands_at};
 use scaled_decimal::trimmed;
 
-// Whether the line is the first of a navigation file.
+// The line is the first one of a navigation file.
 #[tactic(auto, unfolding(crate::specs::Files::is_navigation))]
 fn is_navigation(line: &PaddedLine) -> bool
     ensures { result ≡ is_navigation line.now }
@@ -19,7 +19,7 @@ fn is_navigation(line: &PaddedLine) -> bool
     stands_at(line, 60, b"RINEX VERSION / TYPE") && stands_at(line, 20, b"N")
 }
 
-// Whether the version of the line is one of the form.
+// The version of the line is one of the form.
 #[tactic(auto, unfolding(crate::specs::Forms::is_version))]
 fn is_version<F: FileForm>(line: &PaddedLine) -> bool
     ensures { result ≡ is_version F.form line.now }
@@ -27,7 +27,7 @@ fn is_version<F: FileForm>(line: &PaddedLine) -> bool
     F::names(trimmed(columns(line, 0, 9)))
 }
 
-// Whether the line ends a header.
+// The line ends a header.
 #[tactic(auto, unfolding(crate::specs::Files::ends_header))]
 fn ends_header(line: &PaddedLine) -> bool
     ensures { result ≡ ends_header line.now }
@@ -35,7 +35,7 @@ fn ends_header(line: &PaddedLine) -> bool
     stands_at(line, 60, b"END OF HEADER")
 }
 
-// The same of a line cut to 80 characters.
+// The same of a line as it is kept.
 fn after_kept<F: FileForm>(state: HeaderState, line: &PaddedLine) -> HeaderState
     ensures { result ≡ header_after F.form state line.now }
 {
@@ -62,7 +62,7 @@ fn after_kept<F: FileForm>(state: HeaderState, line: &PaddedLine) -> HeaderState
     }
 }
 
-/// The state of reading a header after one more line.
+/// How far a header is read with one more line.
 pub(crate) fn header_after<F: FileForm>(state: HeaderState, line: &[u8]) -> HeaderState
     ensures { result ≡ header_after F.form state line.now }
 {

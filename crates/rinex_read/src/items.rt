@@ -1,4 +1,4 @@
-//! Items from the fields of records.
+//! The items of what records say.
 
 ghost use Rattle.std.specs.Prelude.{◌≡◌, ◌+◌, ◌*◌, ◌^◌, ◌<◌, ◌≤◌, IfOk};
 ghost use Rattle.nav_eph.specs.Steps.{IsStep16, IsStep60};
@@ -23,7 +23,7 @@ use nav_eph::{
     Step60,
 };
 
-// Field k as an unsigned number, and in two's complement.
+// Field k as a number of digits without a sign, and in two's complement.
 fn unsigned<const W: u32>(fields: &[i64], k: usize) -> U<W>
     requires few { W ≤ 32 }
     requires field { IsUnsignedAt W fields.now k }
@@ -86,7 +86,7 @@ fn week(fields: &[i64], k: usize) -> Week
     Week::from_number(fields[k] as u32)
 }
 
-// The SISA index of field k.
+// The accuracy of field k.
 fn sisa(fields: &[i64], k: usize) -> Sisa
     requires { IsSisaAt fields.now k }
     ensures { result ≡ natural fields.now k }
@@ -110,7 +110,7 @@ fn sent(fields: &[i64], k: usize) -> SentSecond
     }
 }
 
-// toc in steps of the week, from the epoch.
+// The steps of toc in the week.
 fn toc_of(step: u64, moment: Moment, toe_week: u64, toe: u64) -> Result<u64, Reason>
     requires step { 1 ≤ step }
     requires small { step ≤ 60 }
@@ -133,7 +133,7 @@ fn toc_of(step: u64, moment: Moment, toe_week: u64, toe: u64) -> Result<u64, Rea
     Ok(second / step)
 }
 
-// The parts of a GPS ephemeris from its fields.
+// The parts of an ephemeris of GPS of these fields.
 #[tactic(auto, unfolding(crate::specs::Judging::gps_clock_of))]
 fn gps_clock_of(toc: u64, fields: &[i64]) -> GpsClock
     requires toc { IsStep16 toc }
@@ -199,7 +199,7 @@ fn gps_orbit_b_of(fields: &[i64]) -> GpsOrbitB
     }
 }
 
-// The GPS ephemeris of these fields.
+// The ephemeris of GPS of these fields.
 #[tactic(auto, unfolding(crate::specs::Judging::gps_of))]
 fn gps_of(sat: Sat, toc: u64, fields: &[i64]) -> GpsEph
     requires toc { IsStep16 toc }
@@ -218,7 +218,7 @@ fn gps_of(sat: Sat, toc: u64, fields: &[i64]) -> GpsEph
     }
 }
 
-// The parts of a Galileo ephemeris from its fields.
+// The parts of an ephemeris of Galileo of these fields.
 #[tactic(auto, unfolding(crate::specs::Judging::galileo_word1_of))]
 fn galileo_word1_of(fields: &[i64]) -> GalWord1
     requires { AreGalileoFields fields.now }
@@ -299,7 +299,7 @@ fn health_said(fields: &[i64]) -> GalHealth
     }
 }
 
-// The Galileo ephemeris of these fields.
+// The ephemeris of Galileo of these fields.
 #[tactic(auto, unfolding(crate::specs::Judging::galileo_of))]
 fn galileo_of(sat: Sat, toc: u64, fields: &[i64]) -> GalEph
     requires toc { IsStep60 toc }
@@ -318,7 +318,7 @@ fn galileo_of(sat: Sat, toc: u64, fields: &[i64]) -> GalEph
     }
 }
 
-// The ionosphere parameters of these fields.
+// The ionospheres of these fields.
 #[tactic(auto, unfolding(crate::specs::Judging::gps_ionosphere_of))]
 fn gps_ionosphere_of(fields: &[i64]) -> GpsIon
     requires { AreGpsIonosphereFields fields.now }
@@ -349,7 +349,7 @@ fn galileo_ionosphere_of(fields: &[i64]) -> GalIon
     }
 }
 
-/// The GPS ephemeris of a satellite with this epoch and these fields.
+/// The ephemeris of GPS of a satellite whose clock's date and fields are these.
 pub(crate) fn gps_item(sat: Sat, moment: Moment, fields: &[i64]) -> Result<NavItem, Reason>
     requires { AreGpsFields fields.now }
     ensures { result ≡ gps_item (record { sat = sat; moment = moment; fields = fields.now }) }
@@ -360,7 +360,7 @@ pub(crate) fn gps_item(sat: Sat, moment: Moment, fields: &[i64]) -> Result<NavIt
     Ok(NavItem::Gps(gps_of(sat, toc, fields)))
 }
 
-/// The Galileo ephemeris of a satellite with this epoch and these fields.
+/// The ephemeris of Galileo of a satellite whose clock's date and fields are these.
 pub(crate) fn galileo_item(sat: Sat, moment: Moment, fields: &[i64]) -> Result<NavItem, Reason>
     requires { AreGalileoFields fields.now }
     ensures { result ≡ galileo_item (record { sat = sat; moment = moment; fields = fields.now }) }
@@ -371,7 +371,7 @@ pub(crate) fn galileo_item(sat: Sat, moment: Moment, fields: &[i64]) -> Result<N
     Ok(NavItem::Gal(galileo_of(sat, toc, fields)))
 }
 
-/// The GPS ionosphere parameters of a satellite with this transmission time and these fields.
+/// The ionosphere of GPS that a satellite sent at a moment, of these fields.
 pub(crate) fn gps_ionosphere_item(
     sat: Sat,
     moment: Moment,
@@ -389,7 +389,7 @@ pub(crate) fn gps_ionosphere_item(
     }))
 }
 
-/// The Galileo ionosphere parameters of a satellite with this transmission time and these fields.
+/// The ionosphere of Galileo that a satellite sent at a moment, of these fields.
 pub(crate) fn galileo_ionosphere_item(
     sat: Sat,
     moment: Moment,

@@ -2,21 +2,21 @@ use crate::reason::Reason;
 use nav_eph::NavItem;
 use nav_io::LineFault;
 
-/// How a record is judged.
+/// What the lines of a record stand for.
 #[derive(Clone, Copy, PartialEq, Eq)]
 pub enum Judged {
-    /// It gives this item.
+    /// An item.
     Item(NavItem),
-    /// It is of a kind that is read, but gives no item; this is the first reason.
+    /// None: the record is of a kind that is read, and this is the first reason.
     Refused(Reason),
-    /// It is of another kind.
+    /// None: the record is of another kind.
     PassedOver,
 }
 
-/// What `next_item` reads after the header.
+/// What is read of a file behind its header.
 #[derive(Clone, Copy, PartialEq, Eq)]
 pub enum ItemRead {
-    /// A record that gives an item.
+    /// A record that stands for an item.
     Item {
         /// The number of its first line, counted from 1.
         line: u32,
@@ -35,7 +35,7 @@ pub enum ItemRead {
         /// The number of its first line, counted from 1.
         line: u32,
     },
-    /// There is no further record.
+    /// No record is left.
     End,
 }
 
@@ -44,23 +44,23 @@ pub enum ItemRead {
 pub enum HeaderFault {
     /// The first line is not that of a RINEX navigation file, or no line ends the header.
     NotRinexNav,
-    /// The version is not one of the form.
+    /// The version is not 4.
     Version,
-    /// The lines could not be read.
+    /// The lines break off.
     Line(LineFault),
 }
 
-/// The state of reading a header.
+/// How far a header was read.
 #[derive(Clone, Copy)]
 pub enum HeaderState {
-    /// No line was read.
+    /// No line of it was read.
     New,
-    /// The first line was read: a navigation file, of a version of the form.
+    /// Its first line was read and is that of a navigation file of version 4.
     Open,
-    /// The whole header was read.
+    /// It was read.
     Passed,
-    /// It is not the header of a navigation file.
+    /// It is not that of a navigation file.
     NotRinexNav,
-    /// The version is not one of the form.
+    /// It is of another version than 4.
     OtherVersion,
 }

@@ -1,4 +1,5 @@
-//! Laws of written and read records and files. Each function does nothing; its contract is the law.
+//! Laws of records and files as written and as read: each function does nothing, and its contract
+//! is the law.
 
 ghost use Rattle.std.specs.Prelude.{◌≡◌, ℕ, ◌+◌, ◌^◌, ◌<◌, ◌++◌, [], List};
 ghost use Rattle.std.specs.Prelude.{Option, Err, Ok, true, length, map, take};
@@ -26,8 +27,8 @@ ghost use Rattle.rinex_read.specs.RoundTrip.{StandFor, numbered, numbered_by};
 
 use crate::form::FileForm;
 
-/// The record that is written for an item is one version 4 record and gives that item, whatever
-/// lines follow.
+/// The record that is written of an item is one record of version 4 and stands for that item,
+/// whatever lines follow.
 pub fn record_lines_stand()
     ensures { (item : NavItem) → IsItem item → StandFor rinex4 (item_lines item) item }
 {}
@@ -37,8 +38,8 @@ pub fn header_lines_are_read()
     ensures { (h : HeaderWords) → IsHeader h → AreHeaderLines rinex4 (header_lines h) }
 {}
 
-/// A file that is written from a header and records that give items is read as these items, each
-/// with its first line's number; no record is refused or passed over.
+/// A file of a form that is written of a header and of records that stand for items is read as
+/// these items, each with the number of its first line, and no record is refused or passed over.
 pub fn written_files_are_read<F: FileForm>()
     ensures { (header : List (List ℕ)) (write : NavItem → List (List ℕ)) (items : List NavItem)
         → AreHeaderLines F.form header → AllStand F.form write items
@@ -47,19 +48,19 @@ pub fn written_files_are_read<F: FileForm>()
         × (items_of (numbered_by write (length header) items) ≡ items) }
 {}
 
-/// The record that is written for an item is read as that item, whatever lines follow.
+/// The record that is written of an item stands for that item, whatever lines follow.
 pub fn records_are_read()
     ensures { (item : NavItem) (more : List (List ℕ)) → IsItem item
         → judged (item_lines item ++ more) ≡ judgments.Item item }
 {}
 
-/// An item that a record gives is consistent, each field within its width.
+/// An item for which a record stands has fields within their digits, and its parts fit together.
 pub fn items_are_whole()
     ensures { (lines : List (List ℕ)) (item : NavItem) → judged lines ≡ judgments.Item item
         → IsItem item }
 {}
 
-/// Each item of a file is consistent, each field within its width.
+/// Each item of a file has fields within their digits, and its parts fit together.
 pub fn listed_items_are_whole<F: FileForm>()
     ensures list { (bytes : List ℕ) → AreItems (list_by F.form bytes) }
     ensures records { (number : ℕ) (lines : List (List ℕ))
@@ -70,14 +71,14 @@ pub fn listed_items_are_whole<F: FileForm>()
     F::gives_items();
 }
 
-/// Of a record only the first nine lines and the first 80 characters of each matter; a shorter line
-/// counts as filled with blanks.
+/// Of the lines of a record, those behind the ninth and the characters behind the 80th are not
+/// looked at; a shorter line is as if blanks followed it.
 pub fn columns_behind_the_last_are_not_looked_at()
     ensures { (lines : List (List ℕ)) → judged (map padded (take 9 lines)) ≡ judged lines }
 {}
 
-/// A list of items that is written and read back is that list, and no record is refused or passed
-/// over.
+/// The list read from the text of a list of items is that list, and no record of it is refused or
+/// passed over.
 pub fn files_are_read()
     ensures list { (h : HeaderWords) (items : List NavItem) → IsHeader h → AreItems items
         → rinex_list (rinex_text h items) ≡ items }
@@ -85,7 +86,7 @@ pub fn files_are_read()
         → file_reads rinex4 (rinex_text h items) ≡ Ok (numbered 4 items) }
 {}
 
-/// The list of two concatenated texts is the two lists concatenated.
+/// The list of two texts concatenated is the two lists concatenated.
 pub fn joined_files_are_read()
     ensures list { (h k : HeaderWords) (some more : List NavItem) → IsHeader h → IsHeader k
         → AreItems some → AreItems more
@@ -96,7 +97,7 @@ pub fn joined_files_are_read()
         ≡ Ok (numbered 4 some ++ numbered (8 + length (flat_map item_lines some)) more) }
 {}
 
-/// From the first call on, what is still to be read is what the file gives, whatever bytes it has.
+/// From the first call on, what is to come is what the file says, whatever bytes it has.
 pub fn readers_begin_with_the_file<F: FileForm>()
     ensures { (s : RecordsState) (bytes : List ℕ) → IsNew s → file_to_come F.form s bytes
         ≡ file_reads F.form bytes }
@@ -104,7 +105,7 @@ pub fn readers_begin_with_the_file<F: FileForm>()
     F::looks_at_kept();
 }
 
-/// Consecutive steps of a reader are one step.
+/// Steps of a reader, one after another, are one step.
 pub fn steps_compose<F: FileForm>()
     ensures none { (left : Option (List ℕ)) (state : RecordsState)
         → Steps F.form left left state state [] }
@@ -119,8 +120,8 @@ pub fn steps_compose<F: FileForm>()
         → HeaderSteps F.form left left_new old new }
 {}
 
-/// A reader that has paused, as after a failed read, has given exactly the records that are whole
-/// in the bytes read: those after which another one begins, in a complete line.
+/// A reader that has paused, as after a failed read, has given exactly the records that are whole in the bytes taken: those
+/// behind which another one begins, in a line that has ended.
 pub fn whole_records_are_given<F: FileForm>()
     ensures records { (left middle left_new : Option (List ℕ)) (old now new : RecordsState)
         (given : List ItemRead) → IsNew old → (header : PassesHeader F.form left middle old now)
@@ -133,7 +134,7 @@ pub fn whole_records_are_given<F: FileForm>()
     F::looks_at_kept();
 }
 
-/// After the end each further call gives the end again.
+/// After the end no further call answers anything else.
 pub fn the_end_stays<F: FileForm>()
     ensures read { (read : ItemRead) (left left_new : Option (List ℕ)) (old new : RecordsState)
         → old.kept ≡ [] → old.lines.rest ≡ [] → old.lines.ended ≡ true
@@ -143,7 +144,7 @@ pub fn the_end_stays<F: FileForm>()
         → BreaksRecord F.form left left_new old new fault → ⊥ }
 {}
 
-/// Once there were too many bytes, each further call gives `TooLong`.
+/// Once the bytes were too many, no further call answers a record, a header or another fault.
 pub fn too_many_bytes_stay_too_many<F: FileForm>()
     ensures read { (read : ItemRead) (left left_new : Option (List ℕ)) (old new : RecordsState)
         → old.lines.taken ≡ 2 ^ 32 → GivesRead F.form read left left_new old new → ⊥ }

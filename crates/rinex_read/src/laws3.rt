@@ -1,4 +1,5 @@
-//! Laws of written and read records and files. Each function does nothing; its contract is the law.
+//! Laws of records and files as written and as read: each function does nothing, and its contract
+//! is the law.
 
 ghost use Rattle.std.specs.Prelude.{◌≡◌, List, ℕ, Ok};
 ghost use Rattle.nav_eph.specs.declared.items.NavItem.{NavItem};
@@ -13,7 +14,7 @@ ghost use Rattle.rinex_write.specs.Texts3.{item3_lines, rinex3_text};
 
 use crate::form3::Rinex3;
 
-/// The record that is written for an ephemeris is one record and gives that ephemeris, whatever
+/// The record that is written of an ephemeris is one record and stands for that ephemeris, whatever
 /// lines follow.
 pub fn records3_are_read()
     ensures { (items : List NavItem) → AreItems items
@@ -25,8 +26,8 @@ pub fn headers3_are_read()
     ensures { (h : HeaderWords) → IsHeader h → AreHeaderLines rinex3 (header3_lines h) }
 {}
 
-/// A list of items that is written and read back is the list of its ephemerides, each with its
-/// first line's number; no record is refused or passed over.
+/// The list read from the text of a list of items is the list of its ephemerides, each with the
+/// number of its first line, and no record of it is refused or passed over.
 pub fn files3_are_read()
     ensures list { (h : HeaderWords) (items : List NavItem) → IsHeader h → AreItems items
         → rinex3_list (rinex3_text h items) ≡ ephemerides items }

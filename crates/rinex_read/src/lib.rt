@@ -1,19 +1,20 @@
-//! Reads RINEX navigation files of versions 4.01 and 3.02 to 3.05: ephemerides of GPS (LNAV) and
-//! Galileo (INAV) and, in version 4, ionosphere parameters (RINEX 4.01, header section and
+//! RINEX navigation files as items, of versions 4.01 and 3.02 to 3.05: the records of ephemerides of
+//! GPS (LNAV) and Galileo (INAV) and, in version 4, of the ionosphere (RINEX 4.01, header section and
 //! navigation records; RINEX 3.05, navigation message files).
 //!
 //! [`Records`] reads the header of a [`Source`](nav_io::Source) and then its records one by one, in
-//! buffers of fixed size: an item, a refused record with its first [`Reason`], or a record of
-//! another kind, each with the number of its `>` line. It is the [`RecordReader`] of version 4,
-//! over the form [`Rinex4`]. A [`FileForm`] says which versions a header may name, what begins a
-//! record and how it is judged; the contracts hold for each form. [`RecordLines`] judges a single
-//! record. Reading is exact: each number gives the nearest raw integer, ties to even, and the
-//! record that `rinex_write` writes of an item is read as that item ([`records_are_read`],
-//! [`files_are_read`], [`joined_files_are_read`]).
+//! buffers of fixed size: an item, a record that is refused, with the first [`Reason`], or one of
+//! another kind, each with the number of its `>` line. It is the reader of files of version 4, a
+//! [`RecordReader`] over the form [`Rinex4`]: which versions a header may name, what begins a
+//! record and how it is judged is a [`FileForm`], and all that is promised here is promised of each
+//! form. [`RecordLines`] judges the lines of a single record. What is read is exact: each number
+//! gives the nearest raw integer, halves to even, as it was sent, and the record that `rinex_write`
+//! writes of an item is read as that item ([`records_are_read`], [`files_are_read`],
+//! [`joined_files_are_read`]).
 //!
-//! [`Records3`] is the same reader over the form [`Rinex3`]: a record has no title, begins at each
-//! line whose first column is not blank, and is judged as the RINEX 4 record with its title added
-//! ([`records3_are_read`], [`files3_are_read`]).
+//! [`Records3`] is the same reader over the form [`Rinex3`]: a record has no title line, begins at
+//! each line whose first column is not blank, and is judged as the record of RINEX 4 with its title
+//! put before it ([`records3_are_read`], [`files3_are_read`]).
 //!
 //! ```rust
 //! let mut source = ReadSource::new(rt.stdin());

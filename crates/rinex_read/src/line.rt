@@ -1,4 +1,4 @@
-//! Lines of a record, cut to 80 characters.
+//! Lines of a record as they are kept: their first 80 characters.
 
 ghost use Rattle.std.specs.Prelude.{◌≡◌, ◌+◌, ◌≤◌, length};
 ghost use Rattle.rinex_read.specs.Kept.{padded};
@@ -7,10 +7,10 @@ ghost use Rattle.rinex_read.specs.Forms.{begins};
 
 use crate::form::FileForm;
 
-/// The first 80 characters of a line, filled with blanks.
+/// The first 80 characters of a line, blanks where it is shorter.
 pub(crate) type PaddedLine = [u8; 80];
 
-/// The first 80 characters of a line, filled with blanks.
+/// The first 80 characters of a line.
 pub(crate) fn padded(line: &[u8]) -> PaddedLine
     ensures { result ≡ padded line.now }
 {
@@ -20,7 +20,7 @@ pub(crate) fn padded(line: &[u8]) -> PaddedLine
     columns
 }
 
-/// `count` characters of a line from offset `place` on, counted from 0.
+/// The characters in so many columns of a line from a place on, places being counted from 0.
 pub fn columns(line: &[u8; 80], place: usize, count: usize) -> &[u8]
     requires { place + count ≤ 80 }
     ensures text { result.now ≡ columns place count line.now }
@@ -29,7 +29,7 @@ pub fn columns(line: &[u8; 80], place: usize, count: usize) -> &[u8]
     &line[place..place + count]
 }
 
-/// Whether the text is at this offset of the line.
+/// The text stands in the columns from a place on.
 pub(crate) fn stands_at(line: &PaddedLine, place: usize, text: &[u8]) -> bool
     requires { place + length text.now ≤ 80 }
     ensures { result ≡ stands_at place text.now line.now }

@@ -21,9 +21,9 @@ use std::marker::{Model, PhantomData};
 
 /// Reads the records of a RINEX navigation file of one form one by one, in buffers of fixed size.
 ///
-/// Contracts see the state `header` of the header, the lines `kept` of the record in progress, the
-/// number `first` of its first line, and the reader of `lines`; they determine what is still to be
-/// read, whatever bytes follow.
+/// A contract sees how far the `header` was read, the lines `kept` of the record that was begun and
+/// the number of the `first` of them, and the reader of `lines`; from these follows what is still
+/// to be read whatever bytes follow.
 #[derive(Drop)]
 pub struct RecordReader<F: FileForm> {
     of: PhantomData<F>,
@@ -63,7 +63,7 @@ fn is_end(kind: LineKind) -> bool
     }
 }
 
-// What is read of a record that begins at this line.
+// What is read of a record that begins at a line.
 fn read_at(line: u32, judged: Judged) -> ItemRead
     ensures value { result ≡ read_at line judged }
     ensures record { IsRecord result }
@@ -75,7 +75,7 @@ fn read_at(line: u32, judged: Judged) -> ItemRead
     }
 }
 
-// Whether lines of the header are still to come.
+// Lines of the header are still to come.
 fn is_waiting(header: HeaderState) -> bool
     ensures { result ≡ is_waiting header }
 {
@@ -88,7 +88,7 @@ fn is_waiting(header: HeaderState) -> bool
     }
 }
 
-// The result of reading a header, from its final state.
+// How a header that was read is answered.
 fn answer_of(header: HeaderState) -> Result<(), HeaderFault>
     requires { is_waiting header ≡ false }
     ensures { MatchResult result (λ _. header ≡ Passed) (λ fault. HeaderRefused header fault) }
@@ -102,7 +102,7 @@ fn answer_of(header: HeaderState) -> Result<(), HeaderFault>
     }
 }
 
-// Processes the next line: it continues the record in progress, or ends it and begins another.
+// Takes the next line of a file: of the record that was begun, or of another one, which ends that.
 fn process_line<F: FileForm>(
     kept: &mut RecordLines,
     first: &mut u32,
@@ -135,7 +135,7 @@ fn process_line<F: FileForm>(
     Some(read)
 }
 
-// Ends the record in progress, if there is one.
+// Ends the record that was begun, where one was.
 fn process_end<F: FileForm>(kept: &mut RecordLines, first: u32) -> ItemRead
     ensures kept { kept.new ≡ [] }
     ensures read { EndsWith F.form kept.old first result }
@@ -150,7 +150,7 @@ fn process_end<F: FileForm>(kept: &mut RecordLines, first: u32) -> ItemRead
     read
 }
 
-// Reads the remaining lines of a header.
+// Reads the lines of a header that are still to come.
 fn pass_header<F: FileForm, S: Source>(
     lines: &mut Lines,
     header: &mut HeaderState,
@@ -190,7 +190,7 @@ fn pass_header<F: FileForm, S: Source>(
     }
 }
 
-// Reads the next record, after the lines kept of the record in progress.
+// The next record of lines, of which some of a record that was begun may be kept.
 fn next_record<F: FileForm, S: Source>(
     lines: &mut Lines,
     kept: &mut RecordLines,
@@ -240,7 +240,7 @@ impl<F: FileForm> RecordReader<F> {
     ghost use Rattle.rinex_read.specs.States.{PassesHeader, BreaksHeader};
     ghost use Rattle.rinex_read.specs.RoundTrip.{IsWholeRead};
 
-    /// A reader that has read nothing.
+    /// A reader of which nothing was read.
     pub fn new() -> RecordReader<F>
         ensures { IsNew result }
     {
@@ -255,24 +255,23 @@ impl<F: FileForm> RecordReader<F> {
 
     /// Reads the header of a file.
     ///
-    /// Its first line has `RINEX VERSION / TYPE` in columns 61-80, `N` in column 21, and in columns
-    /// 1-9 a version of the form, for [`Records`] `4.` and one digit or two; the lines up to the
-    /// next with `END OF HEADER` in columns 61-73 are skipped (RINEX 4.01, header section).
-    /// `NotRinexNav`: the first line is another one, or no line ends the header. `Version`: another
-    /// version. Each further call gives the same error. `Line`: as for `next_item`; after a failed
-    /// read a further call continues with the same header, and `TooLong` stays. The other results
-    /// come only where at most 4,294,967,295 bytes were read.
+    /// Its first line has `RINEX VERSION / TYPE` in columns 61-80 and `N` in column 21, and in
+    /// columns 1-9 a version of the form, for [`Records`] `4.` and one digit or two; the lines up
+    /// to the next with `END OF HEADER` in columns 61-73 are passed (RINEX 4.01, header section).
+    /// `NotRinexNav`: the first line is another one, or no line ends the header; each further call
+    /// answers the same. `Version`: another version; each further call answers the same. `Line`: as
+    /// for `next_item`; after a failed read a further call goes on with the same header, and
+    /// `TooLong` stays. The other answers come only where at most 4,294,967,295 bytes were taken.
     pub fn read_header<S: Source>(&mut self, source: &mut S) -> Result<(), HeaderFault>
-        // The rest of the file is its records, whatever bytes follow.
+        // What is to come behind the header are the records of the file, whatever bytes follow.
         ensures header { OnOk result (PassesHeader F.form (S.left source.old)
             (S.left source.new) self.old self.new) }
 
-        // The header is refused, whatever bytes follow, or after a read fault the file can be read
-        // on.
+        // The header is refused, whatever bytes follow, or after a fault the same file is to come.
         ensures fault { IfErr result (λ fault.
             BreaksHeader F.form (S.left source.old) (S.left source.new) self.old self.new fault) }
 
-        // The result for a header that was read or refused is repeated, and nothing is read.
+        // A header that was read or refused is answered again, and nothing is read.
         ensures passed { self.old.header ≡ Passed
             → IsOk result × (self.new ≡ self.old) × (source.new ≡ source.old) }
         ensures refused { self.old.header ≡ NotRinexNav
@@ -282,7 +281,7 @@ impl<F: FileForm> RecordReader<F> {
             → IsErrOf result HeaderFault.Version × (self.new ≡ self.old)
             × (source.new ≡ source.old) }
 
-        // `ReadFault` only where the source's count of faults rose.
+        // A read fails only by the source's own count.
         ensures failed { IsErrOf result (HeaderFault.Line LineFault.ReadFault)
             → Rose (S.faults source.old) (S.faults source.new) }
         ensures quiet { (IsErrOf result (HeaderFault.Line LineFault.ReadFault) → ⊥)
@@ -298,29 +297,29 @@ impl<F: FileForm> RecordReader<F> {
         pass_header::<F, S>(&mut self.lines, &mut self.header, source)
     }
 
-    /// Reads the next record of a file whose header was read.
+    /// The next record of a file whose header was read.
     ///
     /// A record is a line that begins one, for [`Records`] with `>`, and the lines up to the next
-    /// such line or the end. Its number is that of its first line in the file, counted from 1.
-    /// `ReadFault`: a read failed, and the source's count of faults rose; a further call continues
-    /// with the same record. `TooLong`: there were more than 4,294,967,295 bytes.
+    /// such line or the end. Its line is the number of its first line in the file, counted from 1.
+    /// `ReadFault`: a read failed, and the source's count of faults says so; a further call goes on
+    /// with the same record. `TooLong`: 4,294,967,295 bytes were taken and one more was there.
     pub fn next_item<S: Source>(&mut self, source: &mut S) -> Result<ItemRead, LineFault>
         requires header { self.old.header ≡ Passed }
 
-        // The record is the next of the file, whatever bytes follow.
+        // The record is that of the file, whatever bytes follow.
         ensures read { IfOk result (λ read.
             GivesRead F.form read (S.left source.old) (S.left source.new) self.old self.new) }
 
-        // An item that is read is consistent, each field within its width.
+        // An item that is read has fields within their digits, and its parts fit together.
         ensures whole { IfOk result (λ read. IsWholeRead read) }
 
         ensures header { self.new.header ≡ Passed }
 
-        // After a fault the same records are still to come.
+        // After a fault the same records are to come.
         ensures fault { IfErr result (λ fault.
             BreaksRecord F.form (S.left source.old) (S.left source.new) self.old self.new fault) }
 
-        // `ReadFault` only where the source's count of faults rose.
+        // A read fails only by the source's own count.
         ensures failed { IsErrOf result LineFault.ReadFault
             → Rose (S.faults source.old) (S.faults source.new) }
         ensures quiet { OnOk result (S.faults source.new ≡ S.faults source.old) }

@@ -4,16 +4,16 @@ use thiserror::Error;
 /// judged.
 #[derive(Clone, Copy, PartialEq, Eq, Debug, Error)]
 pub enum Reason {
-    /// The title names no satellite of the system, or the second line names another one.
+    /// The title names no satellite of the system, or the second line another one.
     #[error("satellite")]
     BadSat,
-    /// The record has fewer lines than its kind.
+    /// The record ends before the last line of its layout.
     #[error("short")]
     Short,
-    /// A number or a part of the date is not a number.
+    /// A number or a part of the date is none.
     #[error("number")]
     NotANumber,
-    /// A column is blank that must not be.
+    /// A number is blank that may not be.
     #[error("blank")]
     Blank,
     /// A number is out of the range of its field.
@@ -22,16 +22,16 @@ pub enum Reason {
     /// The calendar has no such day, or the clock no such time.
     #[error("date")]
     NoSuchDate,
-    /// The date is before 1980-01-06 or, of an ionosphere record, not in GPS weeks 1 to 16382.
+    /// The date lies in no week that has a number here.
     #[error("week")]
     Week,
-    /// The fit interval is 2 or 3 hours, to which no flag corresponds.
+    /// The fit interval is 2 or 3 hours, which no flag means.
     #[error("fit")]
     Fit,
     /// The second of the week of the clock's epoch is not a multiple of the step of toc (16 s for GPS, 60 s for Galileo).
     #[error("step")]
     EpochStep,
-    /// The epoch is not within half a week of toe.
+    /// The clock's date is not within half a week of toe.
     #[error("far")]
     EpochFar,
 }

@@ -1,4 +1,4 @@
-//! The lines of a record, and how it is judged.
+//! The lines of a record, and what they stand for.
 
 ghost use Rattle.std.specs.Prelude.{◌≡◌, ◌↔◌, ◌∷◌, ◌++◌, [], List, ℕ, IsTrue};
 ghost use Rattle.rinex_read.specs.Judging.{galileo_ionosphere_read, galileo_read};
@@ -14,10 +14,11 @@ use crate::title::{RecordKind, is_kind};
 use nav_eph::NavItem;
 use std::marker::Model;
 
-/// The lines of a record as far as they matter: the first nine, of each the first 80 characters.
+/// The lines of a record as far as they are looked at: the first nine, of each the first 80
+/// characters.
 ///
-/// Contracts see the list of these lines, filled with blanks. They are judged as all lines that
-/// were pushed would be.
+/// A contract sees the list of these lines, with blanks behind each that is shorter. What is left
+/// out changes nothing: they are judged as all lines that were pushed would be.
 #[derive(Drop)]
 pub struct RecordLines {
     lines: [PaddedLine; 9],
@@ -34,7 +35,7 @@ impl Model for RecordLines {
     ghost invariant = { λ r. r.count ≤ 9 };
 }
 
-// The GPS ephemeris of a record.
+// The ephemeris of GPS for which the lines stand.
 fn gps_read(title: &PaddedLine, lines: &[PaddedLine]) -> Result<NavItem, Reason>
     ensures { result ≡ gps_read title.now lines.now }
 {
@@ -42,7 +43,7 @@ fn gps_read(title: &PaddedLine, lines: &[PaddedLine]) -> Result<NavItem, Reason>
     gps_item(said.sat, said.moment, said.fields.as_slice())
 }
 
-// The Galileo ephemeris of a record.
+// The ephemeris of Galileo for which the lines stand.
 fn galileo_read(title: &PaddedLine, lines: &[PaddedLine]) -> Result<NavItem, Reason>
     ensures { result ≡ galileo_read title.now lines.now }
 {
@@ -50,7 +51,7 @@ fn galileo_read(title: &PaddedLine, lines: &[PaddedLine]) -> Result<NavItem, Rea
     galileo_item(said.sat, said.moment, said.fields.as_slice())
 }
 
-// The GPS ionosphere parameters of a record.
+// The ionosphere of GPS for which the lines stand.
 fn gps_ionosphere_read(title: &PaddedLine, lines: &[PaddedLine]) -> Result<NavItem, Reason>
     ensures { result ≡ gps_ionosphere_read title.now lines.now }
 {
@@ -58,7 +59,7 @@ fn gps_ionosphere_read(title: &PaddedLine, lines: &[PaddedLine]) -> Result<NavIt
     gps_ionosphere_item(said.sat, said.moment, said.fields.as_slice())
 }
 
-// The Galileo ionosphere parameters of a record.
+// The ionosphere of Galileo for which the lines stand.
 fn galileo_ionosphere_read(title: &PaddedLine, lines: &[PaddedLine]) -> Result<NavItem, Reason>
     ensures { result ≡ galileo_ionosphere_read title.now lines.now }
 {
@@ -76,7 +77,7 @@ fn outcome(read: Result<NavItem, Reason>) -> Judged
     }
 }
 
-// Judges the lines after a title.
+// What the lines behind a title stand for with it.
 #[tactic(auto, unfolding(crate::specs::Judging::judged))]
 fn judge_lines(title: &PaddedLine, lines: &[PaddedLine]) -> Judged
     ensures { result ≡ judged (title.now ∷ lines.now) }
@@ -97,7 +98,7 @@ fn judge_lines(title: &PaddedLine, lines: &[PaddedLine]) -> Judged
 }
 
 impl RecordLines {
-    /// A record without lines.
+    /// A record of no line.
     pub fn new() -> RecordLines
         ensures { result ≡ [] }
     {
@@ -107,14 +108,14 @@ impl RecordLines {
         }
     }
 
-    /// Whether there is no line.
+    /// There is no line.
     pub fn is_empty(&self) -> bool
         ensures { IsTrue result ↔ (self.now ≡ []) }
     {
         self.count == 0
     }
 
-    // Keeps what matters of one more line.
+    // Keeps what is looked at of one more line.
     fn keep(&mut self, line: &[u8])
         ensures { self.new ≡ kept_with self.old line.now }
     {
@@ -124,39 +125,40 @@ impl RecordLines {
         }
     }
 
-    /// Takes the next line of the record, without its line end; the first one is the title, as `>
-    /// EPH G05 LNAV`.
+    /// Takes the next line of the record, without the end of the line; the first one is its title,
+    /// as `> EPH G05 LNAV`.
     ///
-    /// Lines after the ninth and characters after the 80th are dropped; they do not matter.
+    /// Lines behind the ninth and characters behind the 80th are not kept, since they are not
+    /// looked at.
     pub fn push(&mut self, line: &[u8])
         ensures kept { self.new ≡ kept_with self.old line.now }
 
-        // The kept lines are judged as those that were pushed, whatever lines follow.
+        // The lines that are kept are judged as those that were pushed, whatever lines follow.
         ensures means { (more : List (List ℕ)) → judged (self.new ++ more)
             ≡ judged (self.old ++ line.now ∷ more) }
     {
         self.keep(line);
     }
 
-    /// The kept lines, each filled with blanks to 80 characters.
+    /// The lines that are kept, each with blanks behind it where it is shorter than 80 characters.
     pub fn lines(&self) -> &[[u8; 80]]
         ensures { result.now ≡ self.now }
     {
         &self.lines[..self.count]
     }
 
-    /// Judges the lines after this title, as [`judge`](RecordLines::judge) does a record with that
-    /// title as its first line.
+    /// What a title and the lines behind it stand for: as [`judge`](RecordLines::judge) of a record
+    /// that has the title as its first line.
     pub fn judge_behind(&self, title: &[u8]) -> Judged
         ensures { result ≡ judged (title.now ∷ self.now) }
     {
         judge_lines(&padded(title), &self.lines[..self.count])
     }
 
-    /// Judges the record (RINEX 4.01, navigation records: EPH LNAV and INAV, and ION).
+    /// What the lines stand for (RINEX 4.01, navigation records: EPH LNAV and INAV, and ION).
     ///
-    /// It gives an item, or the first [`Reason`] why a record of these kinds gives none; records of
-    /// other kinds, and no lines, are passed over.
+    /// An item; or the first [`Reason`] for which a record of these kinds stands for none; or, of
+    /// records of other kinds and where there is no line, that they are passed over.
     pub fn judge(&self) -> Judged
         ensures { result ≡ judged self.now }
     {

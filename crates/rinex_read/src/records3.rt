@@ -1,4 +1,4 @@
-//! The records of a RINEX 3 file.
+//! The records of a source.
 
 ghost use Rattle.std.specs.Prelude.{◌≡◌, ◌≤◌};
 ghost use Rattle.rinex_read.specs.States.{RecordsState};
@@ -11,8 +11,8 @@ use std::marker::Model;
 
 /// Reads the records of a RINEX 3 navigation file one by one, in buffers of fixed size.
 ///
-/// Contracts see the same as of a [`RecordReader`]: the state of the header, the lines kept of the
-/// record in progress and the number of its first line, and the reader of lines.
+/// A contract sees what it sees of a [`RecordReader`]: how far the header was read, the lines kept
+/// of the record that was begun and the number of the first of them, and the reader of lines.
 #[derive(Drop)]
 pub struct Records3 {
     records: RecordReader<Rinex3>,
@@ -36,7 +36,7 @@ impl Records3 {
     ghost use Rattle.rinex_read.specs.RoundTrip.{IsWholeRead};
     ghost use Rattle.rinex_read.specs.Form3.{rinex3};
 
-    /// A reader that has read nothing.
+    /// A reader of which nothing was read.
     pub fn new() -> Records3
         ensures { IsNew result }
     {
@@ -45,19 +45,18 @@ impl Records3 {
         }
     }
 
-    /// Reads the header of a file, as [`read_header`](RecordReader::read_header). Its version is
-    /// 3.02 to 3.05, in columns 1-9 with blanks around it allowed (RINEX 3.05, table A5).
+    /// Reads the header of a file, as [`read_header`](RecordReader::read_header); its version is
+    /// 3.02 to 3.05, in columns 1-9 without blanks at the ends (RINEX 3.05, table A5).
     pub fn read_header3<S: Source>(&mut self, source: &mut S) -> Result<(), HeaderFault>
-        // The rest of the file is its records, whatever bytes follow.
+        // What is to come behind the header are the records of the file, whatever bytes follow.
         ensures header { OnOk result (PassesHeader rinex3 (S.left source.old)
             (S.left source.new) self.old self.new) }
 
-        // The header is refused, whatever bytes follow, or after a read fault the file can be read
-        // on.
+        // The header is refused, whatever bytes follow, or after a fault the same file is to come.
         ensures fault { IfErr result (λ fault.
             BreaksHeader rinex3 (S.left source.old) (S.left source.new) self.old self.new fault) }
 
-        // The result for a header that was read or refused is repeated, and nothing is read.
+        // A header that was read or refused is answered again, and nothing is read.
         ensures passed { self.old.header ≡ Passed
             → IsOk result × (self.new ≡ self.old) × (source.new ≡ source.old) }
         ensures refused { self.old.header ≡ NotRinexNav
@@ -67,7 +66,7 @@ impl Records3 {
             → IsErrOf result HeaderFault.Version × (self.new ≡ self.old)
             × (source.new ≡ source.old) }
 
-        // `ReadFault` only where the source's count of faults rose.
+        // A read fails only by the source's own count.
         ensures failed { IsErrOf result (HeaderFault.Line LineFault.ReadFault)
             → Rose (S.faults source.old) (S.faults source.new) }
         ensures quiet { (IsErrOf result (HeaderFault.Line LineFault.ReadFault) → ⊥)
@@ -79,28 +78,28 @@ impl Records3 {
         self.records.read_header(source)
     }
 
-    /// Reads the next record of a file whose header was read, as
-    /// [`next_item`](RecordReader::next_item).
+    /// The next record of a file whose header was read, as [`next_item`](RecordReader::next_item).
     ///
     /// A record is a line whose first column is not blank and the lines up to the next such line or
-    /// the end. Records of GPS and of Galileo I/NAV are judged; others are passed over.
+    /// the end. Records of GPS and of Galileo's I/NAV are judged; each other one is passed over.
+    /// The line is that of the record's first line.
     pub fn next_item3<S: Source>(&mut self, source: &mut S) -> Result<ItemRead, LineFault>
         requires header { self.old.header ≡ Passed }
 
-        // The record is the next of the file, whatever bytes follow.
+        // The record is that of the file, whatever bytes follow.
         ensures read { IfOk result (λ read.
             GivesRead rinex3 read (S.left source.old) (S.left source.new) self.old self.new) }
 
-        // An item that is read is consistent, each field within its width.
+        // An item that is read has fields within their digits, and its parts fit together.
         ensures whole { IfOk result (λ read. IsWholeRead read) }
 
         ensures header { self.new.header ≡ Passed }
 
-        // After a fault the same records are still to come.
+        // After a fault the same records are to come.
         ensures fault { IfErr result (λ fault.
             BreaksRecord rinex3 (S.left source.old) (S.left source.new) self.old self.new fault) }
 
-        // `ReadFault` only where the source's count of faults rose.
+        // A read fails only by the source's own count.
         ensures failed { IsErrOf result LineFault.ReadFault
             → Rose (S.faults source.old) (S.faults source.new) }
         ensures quiet { OnOk result (S.faults source.new ≡ S.faults source.old) }

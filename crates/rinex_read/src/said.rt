@@ -1,4 +1,4 @@
-//! The contents of records: satellite, date and fields.
+//! What records say: satellites, moments and fields.
 
 ghost use Rattle.std.specs.Prelude.{◌≡◌, ◌≤◌, map, length, IfOk};
 ghost use Rattle.rinex_write.specs.Columns.{AreFields, joined_rows};
@@ -17,18 +17,18 @@ use rinex_write::{
     RecordLayout, galileo_ionosphere_layout, galileo_layout, gps_ionosphere_layout, gps_layout,
 };
 
-/// The contents of a record.
+/// What a record says.
 #[derive(Drop)]
 pub(crate) struct RecordSaid {
     /// The satellite of its title.
     pub(crate) sat: Sat,
-    /// Its date as GPS time, in seconds since the GPS epoch.
+    /// The moment of its date.
     pub(crate) moment: Moment,
     /// The fields of its numbers.
     pub(crate) fields: Fields,
 }
 
-// The layout of a kind of record.
+// The layout of a kind.
 #[tactic(auto, unfolding(rinex_write::specs::Layouts::gps_kind, rinex_write::specs::Layouts::galileo_kind, rinex_write::specs::Layouts::gps_ionosphere_kind, rinex_write::specs::Layouts::galileo_ionosphere_kind,))]
 fn layout_of(kind: RecordKind) -> RecordLayout
     ensures columns { result.columns.now ≡ joined_rows (kind_by kind).rows }
@@ -42,7 +42,7 @@ fn layout_of(kind: RecordKind) -> RecordLayout
     }
 }
 
-// The satellite system of a kind.
+// The system of a kind.
 #[tactic(auto, unfolding(rinex_write::specs::Layouts::gps_kind, rinex_write::specs::Layouts::galileo_kind, rinex_write::specs::Layouts::gps_ionosphere_kind, rinex_write::specs::Layouts::galileo_ionosphere_kind,))]
 fn system_of(kind: RecordKind) -> System
     ensures { result ≡ (kind_by kind).system }
@@ -53,7 +53,7 @@ fn system_of(kind: RecordKind) -> System
     }
 }
 
-// How many lines a kind has after the title.
+// How many lines a kind has behind the title.
 fn count_of(kind: RecordKind) -> usize
     ensures count { result ≡ length (kind_by kind).rows }
     ensures some { 1 ≤ result }
@@ -72,21 +72,21 @@ fn fields_of(kind: RecordKind, lines: &[PaddedLine]) -> Result<Fields, Reason>
     read_fields(&layout, lines)
 }
 
-// `Ok` where the condition holds, else the reason.
+// Nothing where this holds, and the reason where it does not.
 fn need(holds: bool, reason: Reason) -> Result<bool, Reason>
     ensures { result ≡ need holds reason }
 {
     if holds { Ok(true) } else { Err(reason) }
 }
 
-// Whether the time is in GPS weeks 1 to 16382.
+// The moment lies in a week that has one before it and one after it.
 fn is_named_week(moment: Moment) -> bool
     ensures { result ≡ is_named_week moment }
 {
     moment.week() >= 1 && moment.week() <= 16_382
 }
 
-/// The contents of an ephemeris record.
+/// What an ephemeris says.
 #[tactic(auto, unfolding(crate::specs::Judging::ephemeris_said))]
 pub(crate) fn ephemeris_said(
     kind: RecordKind,
@@ -109,7 +109,7 @@ pub(crate) fn ephemeris_said(
     })
 }
 
-/// The contents of an ionosphere record.
+/// What an ionosphere says.
 #[tactic(auto, unfolding(crate::specs::Judging::ionosphere_said))]
 pub(crate) fn ionosphere_said(
     kind: RecordKind,

@@ -13,17 +13,17 @@ use scaled_decimal::is_decimal;
 /// The kinds of records that are read.
 #[derive(Clone, Copy)]
 pub(crate) enum RecordKind {
-    /// A GPS LNAV ephemeris.
+    /// An ephemeris of GPS, of its LNAV message.
     GpsEphemeris,
-    /// A Galileo I/NAV ephemeris.
+    /// An ephemeris of Galileo, of its I/NAV message.
     GalileoEphemeris,
-    /// GPS ionosphere parameters.
+    /// The ionosphere of GPS.
     GpsIonosphere,
-    /// Galileo ionosphere parameters.
+    /// The ionosphere of Galileo.
     GalileoIonosphere,
 }
 
-// Whether the title has this record type, system letter and message type.
+// The class, the letter of the system and the message stand in the title.
 fn has_title(title: &PaddedLine, class: &[u8], letter: &[u8], message: &[u8]) -> bool
     requires class { length class.now ≤ 4 }
     requires letter { length letter.now ≤ 4 }
@@ -34,7 +34,7 @@ fn has_title(title: &PaddedLine, class: &[u8], letter: &[u8], message: &[u8]) ->
     stands_at(title, 2, class) && stands_at(title, 6, letter) && stands_at(title, 10, message)
 }
 
-/// Whether the title is one of that kind.
+/// The title is one of that kind.
 #[tactic(auto, unfolding(rinex_write::specs::Layouts::gps_kind, rinex_write::specs::Layouts::galileo_kind, rinex_write::specs::Layouts::gps_ionosphere_kind, rinex_write::specs::Layouts::galileo_ionosphere_kind,))]
 pub(crate) fn is_kind(kind: RecordKind, title: &PaddedLine) -> bool
     ensures { result ≡ is_kind (kind_by kind) title.now }
@@ -57,7 +57,7 @@ fn named(system: System, number: u8) -> Result<Sat, Reason>
     }
 }
 
-// The satellite of a system with this two-digit number.
+// The satellite of a system whose number these two characters are.
 fn satellite_of(system: System, tens: u8, ones: u8) -> Result<Sat, Reason>
     ensures { result ≡ satellite_of system tens ones }
 {
@@ -80,7 +80,7 @@ pub(crate) fn sat_of(system: System, title: &PaddedLine) -> Result<Sat, Reason>
     satellite_of(system, title[7], title[8])
 }
 
-/// Whether a line begins with the satellite of the title.
+/// A line begins with the satellite of a title.
 pub(crate) fn same_sat(title: &PaddedLine, line: &PaddedLine) -> bool
     ensures { result ≡ same_sat title.now line.now }
 {

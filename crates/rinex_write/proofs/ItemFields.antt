@@ -1,4 +1,4 @@
--- The fields of items are in the ranges of their columns, and their texts can be written.
+-- The fields of items may stand in their columns, and their texts can be written.
 use Rattle.std.proofs.Common.{◌≡◌, ℕ, ◌-◌, ◌^◌, ◌<◌, ◌&&◌, Bool, true, List, [], ◌∷◌, refl, ◌∙◌, ap, inl, inr, arith, ℤ, pos, negsuc, neg_ℤ, ◌≤ℤ◌, FitsSigned, w64, to_z, of_z, rules, false, map, length, lit<, lit≤}
 use lib.Signed.{mag}
 use Rattle.std.proofs.lemmas.Int.{ints, to_z-of_z}
@@ -133,7 +133,7 @@ galileo_ionosphere_kept P i is =
     entry (below _ _ is.regions) (
     tt))))
 
--- a field unchanged by the conversion to `i64`
+-- a field that is the same behind the width of an `i64`
 pub cell : {x y : ℤ} {xs ys : List ℤ} → mag x < 9223372036854775808 → x ≡ y → xs ≡ ys → to_z w64 (of_z w64 x) ∷ xs ≡ y ∷ ys
 cell {x} {y} {xs} {ys} h e f =
     let fits : FitsSigned w64 x = search rules in
@@ -169,7 +169,7 @@ kept_writable Fit z e h = h
 kept_writable Sent z e h = h
 kept_writable (Unread n) z e h = let r = good_range n n e in small_between n r.0 r.1
 
--- a field in the range of a good column can be written
+-- what may stand in good columns can be written
 pub kept_ready : (cs : List Column) (zs : List ℤ) → are_good cs ≡ true → AreKept IsSmall cs zs → AreReady cs zs
 kept_ready [] zs e h = tt
 kept_ready (c ∷ cs) [] e h = h

@@ -19,7 +19,7 @@ row_head : (whole now : List ℕ) (c : Column) (cs : List Column) (z : ℤ) (zs 
     → IsReady c z × RowSoFar whole (now ++ column_text c z) cs zs
 row_head whole now c cs z zs r = (r.ready.0, record { ready = r.ready.1; text = append_assoc now (column_text c z) (row_text cs zs) ∙ r.text })
 
--- after the next column is written the others are left
+-- the next column can be written, and after it the others are left
 pub row_next : (whole now : List ℕ) (cs : List Column) (zs : List ℤ) (i : ℕ) (d : Column) → RowSoFar whole now (drop i cs) (drop i zs) → i < length cs
     → IsReady (get_or cs i d) (get_or zs i (pos 0))
     × RowSoFar whole (now ++ column_text (get_or cs i d) (get_or zs i (pos 0))) (drop (i + 1) cs) (drop (i + 1) zs)
@@ -31,7 +31,7 @@ row_next whole now cs zs i d r h =
     subst (λ b. RowSoFar whole now (get_or cs i d ∷ drop (suc i) cs) b) f (subst (λ a. RowSoFar whole now a (drop i zs)) e r) in
     rw add-one (row_head whole now (get_or cs i d) (drop (suc i) cs) (get_or zs i (pos 0)) (drop (suc i) zs) s)
 
--- the default column, read past the end of a list
+-- a column that is none, which stands past the end of a list
 abbrev pub no_column : Column
 no_column = record { scale = record { pi = false; factor = 0; two = pos 0; ten = pos 0 }; rule = Plain (pos 0) (pos 0) }
 

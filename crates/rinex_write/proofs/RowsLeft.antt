@@ -23,7 +23,7 @@ ready_drop (suc n) [] zs a = tt
 ready_drop (suc n) (c ∷ cs) [] a = absurd a
 ready_drop (suc n) (c ∷ cs) (z ∷ zs) a = ready_drop n cs zs a.1
 
--- the next row has at most as many columns and fields as are left
+-- a row that is left has at most as many columns as are left, and fields
 pub row_fits : (whole now : List ℕ) (ns : List ℕ) (cs : List Column) (zs : List ℤ) (i : ℕ) → RowsSoFar whole now (drop i ns) cs zs → i < length ns
     → (get_or ns i 0 ≤ length cs) × (get_or ns i 0 ≤ length zs)
 row_fits whole now ns cs zs i r h =
@@ -40,7 +40,7 @@ rows_head whole now n ns cs zs r = record {
   text = simp append_assoc r.text;
 }
 
--- after the next row is written the others are left
+-- the next row is written, and after it the others are left
 pub rows_after : (whole now first second third : List ℕ) (ns : List ℕ) (cs : List Column) (zs : List ℤ) (i : ℕ)
     → RowsSoFar whole now (drop i ns) cs zs → i < length ns → first ≡ now ++ codes "    " → second ≡ first ++ row_text (take (get_or ns i 0) cs) zs
     → third ≡ second ++ 10 ∷ [] → RowsSoFar whole third (drop (i + 1) ns) (drop (get_or ns i 0) cs) (drop (get_or ns i 0) zs)
@@ -58,12 +58,12 @@ rows_text-lines [] zs = refl
 rows_text-lines (r ∷ rs) zs =
     rw (take-append_seam r (joined_rows rs), drop-append_seam r (joined_rows rs), rows_text-lines rs (drop (length r) zs)) refl
 
--- the first row fits where the rows have as many columns as there are
+-- the first row fits where all rows are as many columns as there are
 pub first_fits : (ns : List ℕ) (cs : List Column) (zs : List ℤ) → sum ns ≡ length cs → AreReady cs zs → 0 < length ns → get_or ns 0 0 ≤ length zs
 first_fits ns cs zs e a h =
     (row_fits ([] ++ rows_text ns cs zs) [] ns cs zs 0 (record { count = e; ready = a; text = refl }) h).1
 
--- the slice pattern that leaves out the first
+-- what a pattern leaves behind the first
 pub behind_first : (ns : List ℕ) → take (length ns - 1) (drop 1 ns) ≡ drop 1 ns
 behind_first [] = refl
 behind_first (n ∷ ns) = let e : suc (length ns) - 1 ≡ length ns = omega arith in rw (e, take-length ns) refl
@@ -92,7 +92,7 @@ start_joined : (start : List ℕ) (rows : List (List Column)) (zs : List ℤ) �
 start_joined start [] zs h = absurd (omega arith)
 start_joined start (r ∷ rs) zs h = simp append_assoc
 
--- a title, four columns, a date and the lines of all rows make a record
+-- a title, four columns, a date and the lines of all rows are a record
 pub record_joined : (title four date with_title with_four with_date new : List ℕ) (rows : List (List Column)) (zs : List ℤ) → 0 < length (map length rows)
     → with_title ≡ title ++ 10 ∷ [] → with_four ≡ with_title ++ four → with_date ≡ with_four ++ date
     → new ≡ with_date ++ text_of (row_lines [] rows zs) → new ≡ title ++ 10 ∷ text_of (row_lines (four ++ date) rows zs)
@@ -102,7 +102,7 @@ record_joined title four date with_title with_four with_date new rows zs h e f g
     simp append_assoc in
     cc
 
--- the pieces of a header make its lines
+-- the pieces of a header are its lines
 pub header_joined : (version first program date label before leap after end : List ℕ)
     → ((((((([] ++ version) ++ (first ++ 10 ∷ [])) ++ program) ++ date) ++ (label ++ 10 ∷ before)) ++ leap) ++ (after ++ 10 ∷ [])) ++ (end ++ 10 ∷ [])
     ≡ text_of ((version ++ first) ∷ (program ++ (date ++ label)) ∷ (before ++ (leap ++ after)) ∷ end ∷ [])

@@ -1,4 +1,4 @@
--- The lines of records and of headers: which begin with `>`, and that each byte is at least 32.
+-- The lines of records and of headers: which of them begin with `>`, and that each character is shown.
 use Rattle.std.proofs.Common.{◌≡◌, ℕ, zero, suc, ◌+◌, ◌≤◌, ◌<◌, ◌==◌, ◌&&◌, ◌/◌, Bool, true, false, nat_le, nat_lt, if◌then◌else◌, List, [], ◌∷◌, ◌++◌, length, drop, codes, refl, ap, sym, ◌∙◌, subst, arith, ℤ, append_assoc, length-append}
 use Rattle.std.proofs.lemmas.Bool.{and_parts, leb-true}
 use Rattle.scaled_decimal.specs.ScaleValue.{size_of}
@@ -27,7 +27,7 @@ shown_more : (a b : List ℕ) → AreShown a → AreShown b → AreShown (a ++ b
 shown_more [] b p q = q
 shown_more (c ∷ a) b p q = (p.0, shown_more a b p.1 q)
 
--- each byte of a row is at least 32
+-- the texts of a row are shown
 row_shown : (cs : List Column) (zs : List ℤ) → AreShown (row_text cs zs)
 row_shown [] zs = tt
 row_shown (c ∷ cs) [] = tt
@@ -114,7 +114,7 @@ satellite_shown : (sat : Satellite) → AreShown (satellite_text sat)
 unfolding digits
 satellite_shown sat = (letter_shown sat.system, (digit_shown _, (digit_shown _, tt)))
 
--- each byte of a kind is at least 32
+-- the texts of a kind are shown
 record IsShownKind (k : Kind) : Type 0 where
   pub class : AreShown k.class
   pub message : AreShown k.message
@@ -151,7 +151,7 @@ title_shown : (k : Kind) (sat : Satellite) → IsShownKind k → AreShown (title
 title_shown k sat h =
     (omega arith, (omega arith, shown_more k.class _ h.class (omega arith, shown_more (satellite_text sat) _ (satellite_shown sat) (omega arith, h.message))))
 
--- a record after its title: the lines of its rows, of which the first begins with some characters and a date
+-- a record behind its title: the lines of its rows, of which the first begins with some characters and a date
 start_shown : (start : List ℕ) (moment : ℕ) → AreShown start → AreShown (start ++ date_text (civil_to moment))
 start_shown start moment h = shown_more start (date_text (civil_to moment)) h (date_shown moment)
 
@@ -182,7 +182,7 @@ ionosphere_untitled : (moment : ℕ) (content : IonContent) → NoneTitled (iono
 ionosphere_untitled moment (OfGps i) = rows_begin gps_ionosphere_kind.rows 32 _ (gps_ionosphere_fields i) refl
 ionosphere_untitled moment (OfGal i) = rows_begin galileo_ionosphere_kind.rows 32 _ (galileo_ionosphere_fields i) refl
 
--- no line after the title begins with `>`
+-- no line behind the title begins with `>`
 pub body_untitled : (i : NavItem) → NoneTitled (body_lines i)
 unfolding body_lines
 body_untitled (GpsItem e) = rows_begin gps_kind.rows (letter_of e.sat.system) _ (gps_fields e) (letter_begins e.sat.system)

@@ -1,4 +1,4 @@
--- Numbers in columns: which number is written for a field, and the lines of a table of columns.
+-- Numbers in columns: which number is written for a field, and the lines of rows of columns.
 use Rattle.std.specs.Prelude.{◌≡◌, ℕ, ◌⊎◌, ◌&&◌, nat_le, Bool, true, List, [], ◌∷◌, ◌++◌, length, drop, codes, ℤ, pos, negsuc, ◌≤ℤ◌, int_le, unsigned_abs, get_or}
 use Rattle.scaled_decimal.specs.declared.scales.Scale.{Scale}
 use Rattle.scaled_decimal.specs.ScaleValue.{size_of}
@@ -18,7 +18,7 @@ shown Fit z = pos (fit_hours (unsigned_abs z))
 shown Sent z = z
 shown (Unread n) z = n
 
--- the range of a field by its rule
+-- the values that a field may have
 abbrev pub IsField : Rule → ℤ → Type 0
 IsField (Plain low high) z = (low ≤ℤ z) × (z ≤ℤ high)
 IsField (OrZero low high) z = (low ≤ℤ z) × (z ≤ℤ high)
@@ -28,7 +28,7 @@ IsField Fit z = (pos 0 ≤ℤ z) × (z ≤ℤ pos 1)
 IsField Sent z = ((negsuc 302399 ≤ℤ z) × (z ≤ℤ pos 907199)) ⊎ (z ≡ pos 999900000)
 IsField (Unread n) z = z ≡ n
 
--- there are as many fields as columns, each in its column's range
+-- each field may stand in its column, and there are as many fields as columns
 abbrev pub AreFields : List Column → List ℤ → Type 0
 AreFields [] [] = Unit {0}
 AreFields [] (z ∷ zs) = ⊥
@@ -45,7 +45,7 @@ row_text [] zs = []
 row_text (c ∷ cs) [] = []
 row_text (c ∷ cs) (z ∷ zs) = column_text c z ++ row_text cs zs
 
--- the lines of a table of fields: the first begins with start, each other with four blanks
+-- the lines of rows of fields: the first begins with this start, each other with four blanks
 abbrev pub row_lines : List ℕ → List (List Column) → List ℤ → List (List ℕ)
 row_lines start [] zs = []
 row_lines start (r ∷ rs) zs = (start ++ row_text r zs) ∷ row_lines (codes "    ") rs (drop (length r) zs)
@@ -55,13 +55,13 @@ abbrev pub joined_rows : List (List Column) → List Column
 joined_rows [] = []
 joined_rows (r ∷ rs) = r ++ joined_rows rs
 
--- each number of this scale can be written and read back
+-- the scale is one at which each number can be written
 abbrev pub is_good_scale : Scale → Bool
 is_good_scale s =
     nat_le 1 s.factor && nat_le s.factor 60 && int_le (negsuc 58) s.two && int_le s.two (pos 16)
     && int_le (negsuc 1) s.ten && int_le s.ten (pos 0)
 
--- the range has numbers of at most 32 bits and a sign
+-- the range has numbers of at most 32 bits beside their signs
 abbrev pub is_good_range : ℤ → ℤ → Bool
 is_good_range low high = int_le (negsuc 4294967294) low && int_le high (pos 4294967295)
 
@@ -74,7 +74,7 @@ is_good_rule Fit = true
 is_good_rule Sent = true
 is_good_rule (Unread n) = is_good_range n n
 
--- each number of these columns can be written and read back
+-- each number of these columns can be written, and is read again
 abbrev pub are_good : List Column → Bool
 are_good [] = true
 are_good (c ∷ cs) = is_good_scale c.scale && is_good_rule c.rule && are_good cs

@@ -1,4 +1,4 @@
--- Items as lists of fields, in the order of their columns, and the epochs of their records.
+-- Items as lists of fields, in the order of the columns of their records, and the moments of their records.
 use Rattle.std.specs.Prelude.{ℕ, ◌+◌, ◌*◌, List, [], ◌∷◌, ℤ, pos}
 use Rattle.gnss_week.specs.Functions.{moment_near}
 use Rattle.nav_eph.specs.declared.items.GpsEph.{GpsEph}
@@ -9,12 +9,12 @@ use Rattle.nav_eph.specs.declared.ion.GpsIon.{GpsIon}
 use Rattle.nav_eph.specs.declared.ion.GalIon.{GalIon}
 use Rattle.rinex_write.specs.Accuracies.{health_of}
 
--- the transmission time in seconds, 999,900,000 where it is unknown
+-- the transmission time, 999,900,000 where it is not known
 abbrev pub sent_field : SentSecond → ℤ
 sent_field Unknown = pos 999900000
 sent_field (At second) = second
 
--- the fields of a GPS ephemeris
+-- the fields of an ephemeris of GPS
 abbrev pub gps_fields : GpsEph → List ℤ
 gps_fields e =
     e.clock.af0 ∷ e.clock.af1 ∷ e.clock.af2
@@ -26,7 +26,7 @@ gps_fields e =
     ∷ pos e.side.ura ∷ pos e.side.health ∷ e.clock.tgd ∷ pos e.clock.iodc
     ∷ sent_field e.sent ∷ pos e.fit ∷ []
 
--- the fields of a Galileo ephemeris
+-- the fields of an ephemeris of Galileo
 abbrev pub galileo_fields : GalEph → List ℤ
 galileo_fields e =
     e.w4.af0 ∷ e.w4.af1 ∷ e.w4.af2
@@ -38,16 +38,16 @@ galileo_fields e =
     ∷ pos e.w3.sisa ∷ pos (health_of e.health) ∷ e.health.bgd_a ∷ e.health.bgd_b
     ∷ sent_field e.sent ∷ []
 
--- the fields of the GPS ionosphere parameters, the last being the region code 0
+-- the fields of the ionosphere of GPS, the last being the region
 abbrev pub gps_ionosphere_fields : GpsIon → List ℤ
 gps_ionosphere_fields i =
     i.alpha0 ∷ i.alpha1 ∷ i.alpha2 ∷ i.alpha3 ∷ i.beta0 ∷ i.beta1 ∷ i.beta2 ∷ i.beta3 ∷ pos 0 ∷ []
 
--- the fields of the Galileo ionosphere parameters, the last being the disturbance flags
+-- the fields of the ionosphere of Galileo
 abbrev pub galileo_ionosphere_fields : GalIon → List ℤ
 galileo_ionosphere_fields i = pos i.ai0 ∷ i.ai1 ∷ i.ai2 ∷ pos i.regions ∷ []
 
--- the epoch of an ephemeris: the time with the time of week toc that is nearest to toe
+-- the moment of the clock of an ephemeris: that nearest to the moment of toe
 unfoldable pub gps_epoch : GpsEph → ℕ
 gps_epoch e = moment_near (604800 * e.toe_week + 16 * e.a.toe) (16 * e.clock.toc)
 

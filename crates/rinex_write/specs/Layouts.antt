@@ -1,5 +1,5 @@
--- The records of a navigation file, each a table: a line a row, a number a column (RINEX 4.01, GPS LNAV and Galileo INAV
--- navigation records). A column has the unit of its number and the rule by which number and field correspond.
+-- The records of a navigation file, each a table: a line of numbers a row, and a number a column (RINEX 4.01, GPS LNAV
+-- and Galileo INAV navigation records). A column says what its number counts and how it belongs to its field.
 use Rattle.std.specs.Prelude.{ℕ, ◌-◌, ◌^◌, true, false, List, [], ◌∷◌, codes, pos, neg_ℤ}
 use Rattle.nav_eph.specs.declared.sat.System.{System}
 use Rattle.nav_eph.specs.declared.sat.System.TheVariants.{Gps, Gal}
@@ -7,22 +7,22 @@ use Rattle.rinex_write.specs.declared.columns.Rule.{Rule}
 use Rattle.rinex_write.specs.declared.columns.Rule.TheVariants.{Plain, OrZero, Ura, Sisa, Fit, Sent, Unread}
 use Rattle.rinex_write.specs.declared.columns.Column.{Column}
 
--- the range of w bits, in two's complement and unsigned
+-- the numbers of w digits, in two's complement and without a sign
 abbrev pub signed : ℕ → Rule
 signed w = Plain (neg_ℤ (pos (2 ^ (w - 1)))) (pos (2 ^ (w - 1) - 1))
 
 abbrev pub unsigned : ℕ → Rule
 unsigned w = Plain (pos 0) (pos (2 ^ w - 1))
 
--- the range 0 to n
+-- the numbers from 0 to n
 abbrev pub up_to : ℕ → Rule
 up_to n = Plain (pos 0) (pos n)
 
--- w flags as one unsigned number; blank is 0
+-- the numbers of w digits without a sign, of which 0 may be left out
 abbrev pub flags : ℕ → Rule
 flags w = OrZero (pos 0) (pos (2 ^ w - 1))
 
--- a number in units of 2^-k, of 2^-k semicircles, of 2^k, of n, and of a hundredth
+-- a number that counts steps of 2^-k, of 2^-k semicircles, of 2^k, of n, and of a hundredth
 abbrev pub down : ℕ → Rule → Column
 down k rule = record { scale = record { pi = false; factor = 1; two = neg_ℤ (pos k); ten = pos 0 }; rule = rule }
 
@@ -38,11 +38,11 @@ steps n rule = record { scale = record { pi = false; factor = n; two = pos 0; te
 abbrev pub hundredths : Rule → Column
 hundredths rule = record { scale = record { pi = false; factor = 1; two = pos 0; ten = neg_ℤ (pos 2) }; rule = rule }
 
--- a number in units of 1
+-- a number as it is
 abbrev pub plain : Rule → Column
 plain rule = steps 1 rule
 
--- the orbit parameters, which GPS and Galileo transmit at the same scales: four numbers a row
+-- the orbit, which GPS and Galileo send at the same scales: four numbers a row
 abbrev pub motion_row : Rule → List Column
 motion_row issue = plain issue ∷ down 5 (signed 16) ∷ semicircles 43 (signed 16) ∷ semicircles 31 (signed 32) ∷ []
 
@@ -59,8 +59,8 @@ plane_row = semicircles 31 (signed 32) ∷ down 5 (signed 16) ∷ semicircles 31
 abbrev pub toe_week : Column
 toe_week = plain (Plain (pos 1) (pos 16382))
 
--- a GPS ephemeris: af0, af1, af2; IODE, Crs, delta n, M0; Cuc, e, Cus, root A; toe, Cic, Omega0, Cis; i0, Crc, omega, Omega
--- dot; IDOT, codes on L2, week of toe, L2 P flag; URA, health, TGD, IODC; transmission time, fit interval
+-- an ephemeris of GPS: af0, af1, af2; IODE, Crs, delta n, M0; Cuc, e, Cus, root A; toe, Cic, Omega0, Cis; i0, Crc, omega,
+-- Omega dot; IDOT, codes on L2, week of toe, L2 P flag; accuracy, health, TGD, IODC; transmission time, fit interval
 unfoldable pub gps_rows : List (List Column)
 gps_rows =
     (down 31 (signed 22) ∷ down 43 (signed 16) ∷ down 55 (signed 8) ∷ [])
@@ -73,8 +73,9 @@ gps_rows =
     ∷ (plain Sent ∷ plain Fit ∷ [])
     ∷ []
 
--- a Galileo ephemeris: af0, af1, af2; IODnav, Crs, delta n, M0; Cuc, e, Cus, root A; toe, Cic, Omega0, Cis; i0, Crc, omega,
--- Omega dot; IDOT, the data sources 517 (I/NAV), week of toe; SISA, health, BGD E5a/E1, BGD E5b/E1; transmission time
+-- an ephemeris of Galileo: af0, af1, af2; IODnav, Crs, delta n, M0; Cuc, e, Cus, root A; toe, Cic, Omega0, Cis; i0, Crc,
+-- omega, Omega dot; IDOT, the data sources 517 (I/NAV), week of toe; accuracy, health, BGD E5a/E1, BGD E5b/E1; second of
+-- sending
 unfoldable pub galileo_rows : List (List Column)
 galileo_rows =
     (down 34 (signed 31) ∷ down 46 (signed 21) ∷ down 59 (signed 6) ∷ [])
@@ -87,7 +88,7 @@ galileo_rows =
     ∷ (plain Sent ∷ [])
     ∷ []
 
--- the GPS ionosphere parameters: alpha0, alpha1, alpha2; alpha3, beta0, beta1, beta2; beta3, the region code 0
+-- the ionosphere of GPS: alpha0, alpha1, alpha2; alpha3, beta0, beta1, beta2; beta3, the region 0
 unfoldable pub gps_ionosphere_rows : List (List Column)
 gps_ionosphere_rows =
     (down 30 (signed 8) ∷ down 27 (signed 8) ∷ down 24 (signed 8) ∷ [])
@@ -95,14 +96,14 @@ gps_ionosphere_rows =
     ∷ (up 16 (signed 8) ∷ plain (Unread (pos 0)) ∷ [])
     ∷ []
 
--- the Galileo ionosphere parameters: ai0, ai1, ai2; the five disturbance flags as one number
+-- the ionosphere of Galileo: ai0, ai1, ai2; the five region flags as one number
 unfoldable pub galileo_ionosphere_rows : List (List Column)
 galileo_ionosphere_rows =
     (down 2 (unsigned 11) ∷ down 8 (signed 11) ∷ down 15 (signed 14) ∷ [])
     ∷ (plain (flags 5) ∷ [])
     ∷ []
 
--- a kind of record: record type and message type of its title, its satellite system, and its rows
+-- a kind of record: its class and message, as they stand in its title, the system whose satellites it is of, and its rows
 pub record Kind : Type 0 where
   pub class : List ℕ
   pub message : List ℕ

@@ -1,4 +1,4 @@
--- Invariants and helper definitions of private functions; no public clause cites them.
+-- What private functions keep on the way, cited by no public clause.
 use Rattle.std.specs.Prelude.{◌≡◌, ℕ, ◌+◌, ◌*◌, ◌<◌, ◌≤◌, ◌++◌, List, [], ◌∷◌, length, sum, take, drop, codes, ℤ, pos, ◌≤ℤ◌, unsigned_abs}
 use Rattle.scaled_decimal.specs.ScaleValue.{AreWithin}
 use Rattle.rinex_write.specs.declared.columns.Rule.{Rule}
@@ -6,11 +6,11 @@ use Rattle.rinex_write.specs.declared.columns.Rule.TheVariants.{Plain, OrZero, U
 use Rattle.rinex_write.specs.declared.columns.Column.{Column}
 use Rattle.rinex_write.specs.Columns.{IsField, row_text}
 
--- a number that can be written
+-- a number that has a text
 abbrev pub IsSmall : ℤ → Type 0
 IsSmall z = unsigned_abs z ≤ 4294967295
 
--- a field whose number can be written
+-- a field for which a number can be written
 abbrev pub IsWritable : Rule → ℤ → Type 0
 IsWritable (Plain low high) z = IsSmall z
 IsWritable (OrZero low high) z = IsSmall z
@@ -31,23 +31,23 @@ AreReady [] zs = Unit {0}
 AreReady (c ∷ cs) [] = ⊥
 AreReady (c ∷ cs) (z ∷ zs) = IsReady c z × AreReady cs zs
 
--- the lines of rows with these numbers of columns, four blanks before each
+-- the lines of rows of so many columns each, four blanks before each
 abbrev pub rows_text : List ℕ → List Column → List ℤ → List ℕ
 rows_text [] cs zs = []
 rows_text (n ∷ ns) cs zs = codes "    " ++ (row_text (take n cs) zs ++ 10 ∷ rows_text ns (drop n cs) (drop n zs))
 
--- the text so far and that of the remaining columns are the whole text
+-- the columns and fields that are left give what is missing of a text
 pub record RowSoFar (whole now : List ℕ) (columns : List Column) (fields : List ℤ) : Type 0 where
   pub ready : AreReady columns fields
   pub text : now ++ row_text columns fields ≡ whole
 
--- the text so far and that of the remaining rows are the whole text
+-- the rows, columns and fields that are left give what is missing of a text
 pub record RowsSoFar (whole now : List ℕ) (lengths : List ℕ) (columns : List Column) (fields : List ℤ) : Type 0 where
   pub count : sum lengths ≡ length columns
   pub ready : AreReady columns fields
   pub text : now ++ rows_text lengths columns fields ≡ whole
 
--- the range of a field by its rule, with P for the transmission time
+-- the values that a field may have, where P is said of the transmission time
 abbrev pub IsKept : (ℤ → Type 0) → Rule → ℤ → Type 0
 IsKept P (Plain low high) z = IsField (Plain low high) z
 IsKept P (OrZero low high) z = IsField (OrZero low high) z
@@ -63,7 +63,7 @@ AreKept P [] (z ∷ zs) = ⊥
 AreKept P (c ∷ cs) [] = ⊥
 AreKept P (c ∷ cs) (z ∷ zs) = IsKept P c.rule z × AreKept P cs zs
 
--- a table with at least one row, whose text has room
+-- a table of rows of so many columns each, of which there is one, whose text has room
 pub record IsTable (lengths : List ℕ) (columns : List Column) : Type 0 where
   pub some : 0 < length lengths
   pub count : sum lengths ≡ length columns

@@ -10,7 +10,7 @@ use Rattle.rinex_write.specs.Texts.{text_of, header_lines_by, body_lines}
 abbrev pub header3_lines : HeaderWords → List (List ℕ)
 header3_lines h = header_lines_by (codes "     3.05") h
 
--- the record of an ephemeris: that of RINEX 4 without its title line; an ionosphere has none
+-- the record of an ephemeris: that of RINEX 4 without its first line; an ionosphere has none
 abbrev pub item3_lines : NavItem → List (List ℕ)
 item3_lines (GpsItem e) = body_lines (GpsItem e)
 item3_lines (GalItem e) = body_lines (GalItem e)

@@ -1,9 +1,10 @@
 use scaled_decimal::Scale;
 
-/// How a field and the number in its column correspond.
+/// How a field and the number in its column belong together.
 ///
-/// A field is an integer: the raw value of a parameter as transmitted, an accuracy index, the fit
-/// interval flag, or the transmission time in seconds, 999,900,000 where it is unknown.
+/// A field is a whole number: the raw number of a parameter as it is sent, the index of an
+/// accuracy, the fit interval flag, or the transmission time, which is 999,900,000 where it is not
+/// known.
 #[derive(Clone, Copy)]
 pub enum Rule {
     /// The number is the field, from `low` to `high`.
@@ -13,33 +14,33 @@ pub enum Rule {
         /// The greatest.
         high: i64,
     },
-    /// As `Plain`, and a blank column is read as 0.
+    /// The same, and a blank column is 0.
     OrZero {
         /// The least.
         low: i64,
         /// The greatest.
         high: i64,
     },
-    /// A URA index, 0 to 15, written in metres.
+    /// An index of the user range accuracy, 0 to 15, written in metres.
     Ura,
-    /// A SISA index, 0 to 125 or 255, written in metres.
+    /// An index of the signal in space accuracy, 0 to 125 or 255, written in metres.
     Sisa,
     /// The fit interval flag, written as 4 or 6 hours.
     Fit,
-    /// The transmission time in seconds from the start of the week of toe.
+    /// The transmission time, counted from the start of the week of toe.
     Sent,
-    /// A constant that is always written and is ignored when read.
+    /// A number that is always written, and is not looked at.
     Unread {
-        /// The constant.
+        /// That number.
         number: i64,
     },
 }
 
-/// A column of a record: 19 characters with one number.
+/// A column of a record: 19 characters with the number of a field.
 #[derive(Clone, Copy)]
 pub struct Column {
-    /// The unit of the number.
+    /// What the number counts.
     pub scale: Scale,
-    /// How the number and its field correspond.
+    /// How the number and the field belong together.
     pub rule: Rule,
 }

@@ -10,7 +10,7 @@ use gnss_week::Week;
 use nav_bits::U;
 use nav_eph::{GalEph, GalHealth, GalIon, GpsEph, GpsIon, SentSecond, Sisa, Step16, Step60};
 
-// An unsigned number.
+// A number without a sign.
 fn unsigned<const W: u32>(number: &U<W>) -> i64
     requires { W ≤ 32 }
     ensures { result ≡ pos number.now }
@@ -18,14 +18,14 @@ fn unsigned<const W: u32>(number: &U<W>) -> i64
     number.value() as i64
 }
 
-// A GPS time of week, in steps of 16 s.
+// A time of GPS.
 fn steps16(steps: &Step16) -> i64
     ensures { result ≡ pos steps.now }
 {
     steps.value() as i64
 }
 
-// A Galileo time of week, in steps of 60 s.
+// A time of Galileo.
 fn steps60(steps: &Step60) -> i64
     ensures { result ≡ pos steps.now }
 {
@@ -39,7 +39,7 @@ fn week(week: &Week) -> i64
     i64::from(week.value())
 }
 
-// A SISA index.
+// An accuracy of Galileo.
 fn accuracy(index: &Sisa) -> i64
     ensures { result ≡ pos index.now }
 {
@@ -57,7 +57,7 @@ fn sent_field(sent: &SentSecond) -> i64
     }
 }
 
-// The SV health of a Galileo satellite.
+// The health of a Galileo satellite.
 fn health_of(health: &GalHealth) -> i64
     ensures { result ≡ pos (health_of health.now) }
 {

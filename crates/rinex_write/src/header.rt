@@ -42,13 +42,13 @@ fn header_text(version: &[u8; 9], words: &HeaderWords) -> Record
     text
 }
 
-/// Appends the header of a navigation file to a sink, by one write (RINEX 4.01, table A2; RINEX
-/// 3.05, table A5). `version` is the text of columns 1-9, as `     4.01`.
+/// Appends the header of a navigation file of a version to a sink, by one write (RINEX 4.01, table
+/// A2; RINEX 3.05, table A5). The version stands in columns 1-9, as ` 4.01`.
 ///
 /// # Errors
 ///
-/// `Failed` only where the sink's count of faults rose in this call or is at its maximum; a prefix
-/// of the header was appended then.
+/// `Failed` only where the sink's count of faults rose in this call, or stands at its last value; a
+/// prefix of the header was appended then.
 pub fn write_header_of<T: Sink>(
     version: &[u8; 9],
     words: &HeaderWords,

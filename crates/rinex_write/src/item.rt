@@ -22,14 +22,14 @@ use gnss_week::{Moment, Second, civil, nearest_moment};
 use nav_eph::{GalEph, GpsEph, IonContent, IonEph, NavItem, Sat};
 use nav_io::{Failed, Sink};
 
-// Record type and message type in the title of a kind of record.
+// The class and the message of a kind of record, as they stand in its title.
 #[derive(Clone, Copy)]
 struct Title {
     class: [u8; 3],
     message: [u8; 4],
 }
 
-// toc of a GPS ephemeris as GPS time in seconds since the GPS epoch.
+// The moment of the clock of an ephemeris of GPS.
 fn gps_epoch(e: &GpsEph) -> Moment
     ensures { result ≡ gps_epoch e.now }
 {
@@ -38,7 +38,7 @@ fn gps_epoch(e: &GpsEph) -> Moment
     nearest_moment(toe, Second::from_number((16 * e.clock.toc.value()) as u32))
 }
 
-// toc of a Galileo ephemeris as GPS time in seconds since the GPS epoch.
+// The moment of the clock of an ephemeris of Galileo.
 fn galileo_epoch(e: &GalEph) -> Moment
     ensures { result ≡ galileo_epoch e.now }
 {
@@ -114,7 +114,7 @@ const GALILEO_IONOSPHERE: Title = Title {
     message: *b"IFNV",
 };
 
-// The record of a GPS ephemeris.
+// The record of an ephemeris of GPS.
 fn gps_record(e: &GpsEph) -> Record
     requires { HasGpsRanges e.now }
     ensures { result.items ≡ text_of (item_lines (Gps e.now)) }
@@ -124,7 +124,7 @@ fn gps_record(e: &GpsEph) -> Record
     record_of(&GPS, &e.sat, &start, gps_epoch(e), &gps_layout(), &fields)
 }
 
-// The record of a Galileo ephemeris.
+// The record of an ephemeris of Galileo.
 fn galileo_record(e: &GalEph) -> Record
     requires { HasGalRanges e.now }
     ensures { result.items ≡ text_of (item_lines (Gal e.now)) }
@@ -187,15 +187,15 @@ fn item_record(item: &NavItem) -> Record
 /// Appends the record of an item to a sink, by one write: its title, as `> EPH G05 LNAV`, and the
 /// lines of its numbers (RINEX 4.01, GPS LNAV and Galileo INAV navigation records).
 ///
-/// Angles are written in radians, times in seconds, lengths in metres, accuracies in metres by
-/// their nominal value, the fit interval in hours, the transmission time from the start of the week
-/// of toe, 999,900,000 where it is unknown. The epoch of an ephemeris is toc, at most half a week
-/// from toe.
+/// Angles are written in radians, times in seconds, lengths in metres; the accuracy in metres by
+/// its nominal value, the fit interval in hours, the transmission time counted from the start of
+/// the week of toe, 999,900,000 where it is not known. The date of an ephemeris is that of its
+/// clock, at most half a week from toe.
 ///
 /// # Errors
 ///
-/// `Failed` only where the sink's count of faults rose in this call or is at its maximum; a prefix
-/// of the record was appended then.
+/// `Failed` only where the sink's count of faults rose in this call, or stands at its last value; a
+/// prefix of the record was appended then.
 pub fn write_item<T: Sink>(item: &NavItem, out: &mut T) -> Result<(), Failed>
     ensures { Writes (T.written out.old) (T.written out.new) (T.faults out.old) (T.faults out.new)
         result (text_of (item_lines item.now)) }
@@ -203,10 +203,10 @@ pub fn write_item<T: Sink>(item: &NavItem, out: &mut T) -> Result<(), Failed>
     out.write(&item_record(item))
 }
 
-// The length in bytes of the first line of a record, with its LF.
+// How many bytes the first line of a record has, with its LF.
 const TITLE_LINE: usize = 15;
 
-// The record of an item; its first line has this length.
+// The record of an item, whose first line is so long.
 fn titled_record(item: &NavItem) -> Record
     ensures title { 15 ≤ length result.items }
     ensures body { drop 15 result.items ≡ text_of (body_lines item.now) }
@@ -214,14 +214,14 @@ fn titled_record(item: &NavItem) -> Record
     item_record(item)
 }
 
-/// Appends the record of an item without its title line to a sink, by one write: the record as in
-/// RINEX 3 (RINEX 3.05, GPS and Galileo navigation message files). The lines are those of
+/// Appends the record of an item without its first line to a sink, by one write: the record as
+/// RINEX 3 has it (RINEX 3.05, GPS and Galileo navigation message files). The lines are those of
 /// [`write_item`].
 ///
 /// # Errors
 ///
-/// `Failed` only where the sink's count of faults rose in this call or is at its maximum; a prefix
-/// of these lines was appended then.
+/// `Failed` only where the sink's count of faults rose in this call, or stands at its last value; a
+/// prefix of these lines was appended then.
 pub fn write_body<T: Sink>(item: &NavItem, out: &mut T) -> Result<(), Failed>
     ensures { Writes (T.written out.old) (T.written out.new) (T.faults out.old) (T.faults out.new)
         result (text_of (body_lines item.now)) }

@@ -1,4 +1,4 @@
-//! Laws of the definitions. Each function does nothing; its contract is the law.
+//! Laws of the definitions: each is the contract of a function that does nothing.
 
 ghost use Rattle.std.specs.Prelude.{◌≡◌, ℕ, true, false, List, ◌∷◌, ◌++◌, length};
 ghost use Rattle.nav_eph.specs.Bodies.{IsGalIon, IsGpsIon};
@@ -20,7 +20,7 @@ ghost use Rattle.rinex_write.specs.Fields.{gps_ionosphere_fields, galileo_ionosp
 ghost use Rattle.rinex_write.specs.Layouts.{gps_rows, galileo_rows, gps_ionosphere_rows};
 ghost use Rattle.rinex_write.specs.Layouts.{galileo_ionosphere_rows};
 
-/// Each field of an item is in the range of its column.
+/// Each field of an item is one that its column can say.
 pub fn fields_fit_their_columns()
     ensures gps { (e : GpsEph) → IsItem (Gps e) → AreFields (joined_rows gps_rows) (gps_fields e) }
     ensures galileo { (e : GalEph) → IsItem (Gal e)
@@ -31,8 +31,7 @@ pub fn fields_fit_their_columns()
         → AreFields (joined_rows galileo_ionosphere_rows) (galileo_ionosphere_fields i) }
 {}
 
-/// Each column has a scale at which numbers are read back exactly, and a range whose numbers can be
-/// written.
+/// Each column has a scale at which numbers are read again, and a range of numbers that have texts.
 pub fn columns_are_good()
     ensures gps { are_good (joined_rows gps_rows) ≡ true }
     ensures galileo { are_good (joined_rows galileo_rows) ≡ true }
@@ -40,8 +39,8 @@ pub fn columns_are_good()
     ensures galileo_ionosphere { are_good (joined_rows galileo_ionosphere_rows) ≡ true }
 {}
 
-/// The record of an item is its title, which begins with `>`, and lines that do not; each byte
-/// is at least 32.
+/// The lines of the record of an item are its title, which begins with `>`, and lines of which none
+/// does; in each line each character is shown.
 pub fn records_are_a_title_and_a_body()
     ensures lines { (item : NavItem) → item_lines item ≡ title_of item ∷ body_lines item }
     ensures title { (item : NavItem) → begins_record (title_of item) ≡ true }
@@ -50,8 +49,8 @@ pub fn records_are_a_title_and_a_body()
     ensures body_shown { (item : NavItem) → AreLines (body_lines item) }
 {}
 
-/// A header has four lines. None begins with `>` unless the version does; each byte is at
-/// least 32 if those of version and date are.
+/// A header has four lines; none of them begins with `>` where the version does not, and each
+/// character is shown where the version and the date are.
 pub fn headers_are_lines()
     ensures four { (version : List ℕ) (h : HeaderWords) → length (header_lines_by version h) ≡ 4 }
     ensures untitled { (version : List ℕ) (h : HeaderWords) → begins_record version ≡ false
@@ -60,7 +59,7 @@ pub fn headers_are_lines()
         → AreLines (header_lines_by version h) }
 {}
 
-/// The text of two concatenated lists of lines is their two texts concatenated.
+/// The text of two lists of lines concatenated is the two texts concatenated.
 pub fn texts_concatenate()
     ensures { (lines more : List (List ℕ)) → text_of (lines ++ more)
         ≡ text_of lines ++ text_of more }

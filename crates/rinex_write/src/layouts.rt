@@ -9,7 +9,7 @@ ghost use Rattle.rinex_write.specs.Layouts.{galileo_ionosphere_rows};
 use crate::columns::{Column, Rule};
 use scaled_decimal::Scale;
 
-/// The columns of a record, and how many each of its lines after the title has.
+/// The columns of a record, and how many of them stand in each of its lines behind the title.
 #[derive(Clone, Copy)]
 pub struct RecordLayout {
     /// The columns of all lines.
@@ -18,7 +18,7 @@ pub struct RecordLayout {
     pub rows: &'static [usize],
 }
 
-// The rule of a field of some width in bits, in two's complement or unsigned.
+// A number of so many digits in two's complement, and one without a sign.
 macro_rules! signed {
     ($width:literal) => {
         Rule::Plain {
@@ -46,7 +46,7 @@ macro_rules! flags {
     };
 }
 
-// A column in units of 2^two; times pi where the field is in semicircles.
+// A column that counts steps of 2^two, with the factor pi where the field is in semicircles.
 macro_rules! power {
     ($two:literal, $rule:expr) => {
         Column {
@@ -75,7 +75,7 @@ macro_rules! semicircles {
     };
 }
 
-// A column in units of an integer, and one in hundredths.
+// A column that counts steps of a whole number, and one that counts hundredths.
 macro_rules! steps {
     ($factor:literal, $rule:expr) => {
         Column {
@@ -214,7 +214,7 @@ static GALILEO_IONOSPHERE: [Column; 4] = [
 
 static GALILEO_IONOSPHERE_ROWS: [usize; 2] = [3, 1];
 
-/// The record of a GPS ephemeris (RINEX 4.01, GPS LNAV navigation record).
+/// The record of an ephemeris of GPS (RINEX 4.01, GPS LNAV navigation record).
 #[tactic(auto, unfolding(crate::specs::Layouts::gps_rows))]
 pub fn gps_layout() -> RecordLayout
     ensures columns { result.columns.now ≡ joined_rows gps_rows }
@@ -226,7 +226,7 @@ pub fn gps_layout() -> RecordLayout
     }
 }
 
-/// The record of a Galileo ephemeris (RINEX 4.01, Galileo INAV navigation record).
+/// The record of an ephemeris of Galileo (RINEX 4.01, Galileo INAV navigation record).
 #[tactic(auto, unfolding(crate::specs::Layouts::galileo_rows))]
 pub fn galileo_layout() -> RecordLayout
     ensures columns { result.columns.now ≡ joined_rows galileo_rows }
@@ -238,7 +238,7 @@ pub fn galileo_layout() -> RecordLayout
     }
 }
 
-/// The record of the GPS ionosphere parameters.
+/// The record of the ionosphere of GPS.
 #[tactic(auto, unfolding(crate::specs::Layouts::gps_ionosphere_rows))]
 pub fn gps_ionosphere_layout() -> RecordLayout
     ensures columns { result.columns.now ≡ joined_rows gps_ionosphere_rows }
@@ -250,7 +250,7 @@ pub fn gps_ionosphere_layout() -> RecordLayout
     }
 }
 
-/// The record of the Galileo ionosphere parameters.
+/// The record of the ionosphere of Galileo.
 #[tactic(auto, unfolding(crate::specs::Layouts::galileo_ionosphere_rows))]
 pub fn galileo_ionosphere_layout() -> RecordLayout
     ensures columns { result.columns.now ≡ joined_rows galileo_ionosphere_rows }

@@ -1,17 +1,17 @@
 //! Headers and records of RINEX navigation files, versions 4.01 and 3.05, as text.
 //!
-//! [`write_header`] and [`write_item`] append a header, and the record of an ephemeris or of
-//! ionosphere parameters, to a [`Sink`](nav_io::Sink): whole, or a prefix of it where the sink
-//! failed. A text is built in a buffer of fixed size and handed over by one write; no memory is
-//! allocated.
+//! [`write_header`] and [`write_item`] append the text of a header, and of the record of an
+//! ephemeris or of an ionosphere, to a [`Sink`](nav_io::Sink): whole, or a prefix of it where the
+//! sink failed. A text is built in a buffer of fixed size and handed over by one write; no memory
+//! is taken.
 //!
-//! [`write_header3`] and [`write_item3`] do the same for version 3.05, which has no ionosphere
-//! record.
+//! [`write_header3`] and [`write_item3`] do the same for version 3.05, which has no record of an
+//! ionosphere.
 //!
-//! A record (RINEX 4.01, GPS LNAV and Galileo INAV navigation records) is a table of columns, one
-//! number each: a [`Column`] has the unit of its number, and the [`Rule`] by which number and field
-//! correspond. Each number is the exact value of the raw integer, correctly rounded to thirteen
-//! digits.
+//! A record (RINEX 4.01, GPS LNAV and Galileo INAV navigation records) is a table of columns, a
+//! number a column: a [`Column`] has the scale of its number, and the [`Rule`] by which the number
+//! belongs to a field of the item. Numbers are exact: each stands for the raw integer that was
+//! sent, correctly rounded to thirteen digits.
 //!
 //! ```rust
 //! let words = HeaderWords {

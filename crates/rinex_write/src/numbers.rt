@@ -1,4 +1,4 @@
-//! The numbers that are written for fields.
+//! The numbers that stand for fields.
 
 ghost use Rattle.std.specs.Prelude.{◌≡◌, ◌<◌, ◌≤◌, ◌≤ℤ◌, pos, get_or, unsigned_abs};
 ghost use Rattle.rinex_write.specs.Accuracies.{sisa_nominal, ura_nominal};
@@ -7,13 +7,13 @@ ghost use Rattle.rinex_write.specs.Mirrors.{IsSmall, IsWritable};
 
 use crate::columns::Rule;
 
-// The nominal values of the URA indices, in centimetres.
+// The nominal values of user range accuracy, in centimetres.
 const URA: [i64; 16] = [
     200, 280, 400, 570, 800, 1_130, 1_600, 3_200, 6_400, 12_800, 25_600, 51_200, 102_400, 204_800,
     409_600, 819_200,
 ];
 
-// The nominal value of a URA index, in centimetres.
+// The nominal value of an index of user range accuracy, in centimetres.
 #[tactic(auto, unfolding(crate::specs::Accuracies::ura_nominal))]
 fn ura(index: usize) -> i64
     requires { index < 16 }
@@ -23,7 +23,7 @@ fn ura(index: usize) -> i64
     URA[index]
 }
 
-// The value that is written for a SISA index, in centimetres.
+// The value that is written for an index of signal in space accuracy, in centimetres.
 #[tactic(auto, unfolding(crate::specs::Accuracies::sisa_nominal))]
 fn sisa(index: u64) -> i64
     requires { index ≤ 255 }

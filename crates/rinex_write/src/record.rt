@@ -1,4 +1,4 @@
-//! The text of a record, built in a buffer of fixed size.
+//! The text of a record, which is built in place.
 
 ghost use Rattle.std.specs.Prelude.{◌≡◌, List, map, ◌+◌, ◌*◌, ◌<◌, ◌≤◌, ◌∷◌};
 ghost use Rattle.std.specs.Prelude.{◌++◌, [], length, take, drop, codes, sum};
@@ -17,10 +17,10 @@ use gnss_week::Civil;
 use nav_eph::{Sat, System};
 use scaled_decimal::print;
 
-/// The text of a record or of a header; no memory is allocated.
+/// The text of a record or of a header, which takes no memory.
 pub(crate) type Record = ArrayVec<u8, 704>;
 
-// Appends a piece; there must be room for it.
+// Appends a piece, for which there is room.
 pub(crate) fn append(text: &mut Record, piece: &[u8])
     requires { array_vec_len text.old + length piece.now ≤ 704 }
     ensures items { text.new.items ≡ text.old.items ++ piece.now }
@@ -46,7 +46,7 @@ pub(crate) fn append_row(text: &mut Record, columns: &[Column], fields: &[i64])
     }
 }
 
-// Appends the lines of rows with these numbers of columns, four blanks before each.
+// Appends the lines of rows of so many columns each, four blanks before each.
 pub(crate) fn append_rows(text: &mut Record, rows: &[usize], columns: &[Column], fields: &[i64])
     requires rows { sum rows.now ≡ length columns.now }
     requires ready { AreReady columns.now fields.now }
@@ -103,7 +103,7 @@ pub(crate) fn date_columns(date: &Civil) -> [u8; 19]
     ]
 }
 
-// A satellite in three columns, as `G05`.
+// A satellite in three columns.
 pub(crate) fn satellite_columns(sat: &Sat) -> [u8; 3]
     ensures { result ≡ satellite_text sat.now }
 {
@@ -115,8 +115,7 @@ pub(crate) fn satellite_columns(sat: &Sat) -> [u8; 3]
     [letter, tens, ones]
 }
 
-// Appends the lines of a table of fields; the text before the first line's numbers is already
-// there.
+// Appends the lines of a table of fields; what stands before the first line's numbers is there.
 pub(crate) fn append_table(text: &mut Record, layout: &RecordLayout, fields: &[i64])
     requires table { IsTable layout.now.rows.now layout.now.columns.now }
     requires ready { AreReady layout.now.columns.now fields.now }

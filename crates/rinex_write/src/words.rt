@@ -1,9 +1,9 @@
 ghost use Rattle.std.specs.Prelude.{◌<◌};
 
-/// The variable contents of a header.
+/// What a header says of its file, beside what each header says.
 #[derive(Clone, Copy)]
 pub struct HeaderWords {
-    /// The creation date, in 19 characters as `20240101 000000 UTC`.
+    /// When the file was made, in 19 characters as `20240101 000000 UTC`.
     pub date: [u8; 19],
     /// The leap seconds between UTC and GPS time, 0 to 99.
     pub leap: u8,

@@ -15,8 +15,8 @@ use nav_io::{Failed, Sink};
 ///
 /// # Errors
 ///
-/// `Failed` only where the sink's count of faults rose in this call or is at its maximum; a prefix
-/// of the header was appended then.
+/// `Failed` only where the sink's count of faults rose in this call, or stands at its last value; a
+/// prefix of the header was appended then.
 pub fn write_header3<T: Sink>(words: &HeaderWords, out: &mut T) -> Result<(), Failed>
     ensures { Writes (T.written out.old) (T.written out.new) (T.faults out.old) (T.faults out.new)
         result (text_of (header3_lines words.now)) }
@@ -25,13 +25,13 @@ pub fn write_header3<T: Sink>(words: &HeaderWords, out: &mut T) -> Result<(), Fa
 }
 
 /// Appends the record of an ephemeris to a sink, by one write: the lines of its numbers, the first
-/// beginning with the satellite (RINEX 3.05, tables A6 and A8). For ionosphere parameters nothing
-/// is written.
+/// of which begins with the satellite (RINEX 3.05, tables A6 and A8). An ionosphere has no record:
+/// nothing is written.
 ///
 /// # Errors
 ///
-/// `Failed` only where the sink's count of faults rose in this call or is at its maximum; a prefix
-/// of the record was appended then.
+/// `Failed` only where the sink's count of faults rose in this call, or stands at its last value; a
+/// prefix of the record was appended then.
 pub fn write_item3<T: Sink>(item: &NavItem, out: &mut T) -> Result<(), Failed>
     ensures { Writes (T.written out.old) (T.written out.new) (T.faults out.old) (T.faults out.new)
         result (text_of (item3_lines item.now)) }

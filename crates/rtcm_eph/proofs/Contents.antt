@@ -13,7 +13,7 @@ use Rattle.rtcm_eph.specs.declared.fault.MessageFault.{MessageFault}
 use Rattle.rtcm_eph.specs.declared.fault.MessageFault.TheVariants.{NoNumber, OtherMessage, Short, BadSat, BadTime, SpareSisa}
 use Rattle.rtcm_eph.specs.Reading.{GivesItem, content_1019, content_1046, content_by, gps_eph, gal_eph, judged_1019, judged_1046, is_sisa}
 
--- the choice of the first fault, over any tests
+-- the choices of the first fault, over any tests
 abbrev by_tests : Bool → Bool → Bool → Bool → Bool → ℕ → Result Content MessageFault → Result Content MessageFault → Result Content MessageFault
 by_tests none is_gps short_gps is_gal short_gal number gps gal =
     if none then Err NoNumber
@@ -27,7 +27,7 @@ abbrev judged_gal : Bool → Bool → Bool → Message1046 → Result Content Me
 judged_gal sat times sisa m =
     if sat then (if times then (if sisa then Ok (OfGal (content_1046 m)) else Err SpareSisa) else Err BadTime) else Err BadSat
 
--- what holds where a GPS ephemeris is given
+-- what stands where an ephemeris of GPS is given
 record GpsTests (none is_gps short : Bool) (r : ℕ) (m : Message1019) (e : GpsEph) : Type 0 where
   number : is_gps ≡ true
   long : short ≡ false
@@ -89,7 +89,7 @@ gal_tests false false s true false sat times sat' times' sisa number r m m' e h 
     record { number = refl; long = refl; week = known.0; same = known.1 }
 gal_tests false false s false t sat times sat' times' sisa number r m m' e h = absurd h
 
--- a payload that gives a GPS ephemeris is long enough, has message number 1019, and gives its fields
+-- a payload that gives an ephemeris of GPS is long enough, has that number, and gives its fields
 pub record GivenGps (bytes number r : ℕ) (m : Message1019) (e : GpsEph) : Type 0 where
   pub number_is : number ≡ 1019
   pub long : 61 ≤ bytes
@@ -126,7 +126,7 @@ given_gal bytes number r m m' e h =
     let long : nat_lt bytes 63 ≡ false = known.long in
     record { number_is = grind (arith, nat_tests); long = grind (arith, nat_tests); week = known.week; same = known.same }
 
--- what is accepted
+-- what is judged good
 pub good_1019 : (m : Message1019) → 1 ≤ m.satellite → m.satellite ≤ 32 → m.toe < 37800 → m.toc < 37800
     → judged_1019 m ≡ Ok (OfGps (content_1019 m))
 good_1019 m low high toe toc =
@@ -142,7 +142,7 @@ good_1046 m low high toe toc sisa =
     ap (λ b. judged_gal b (nat_lt m.toe 10080 && nat_lt m.toc 10080) (is_sisa m.sisa) m) sat
     ∙ ap (λ b. judged_gal true b (is_sisa m.sisa) m) times ∙ ap (λ b. judged_gal true true b m) sisa
 
--- the content of a payload that is long enough and has its message number
+-- the content of a payload that is long enough and has that number
 pub content_gps : (bytes : ℕ) (m : Message1019) (m' : Message1046) → 61 ≤ bytes → content_by bytes 1019 m m' ≡ judged_1019 m
 content_gps bytes m m' long =
     let some : nat_lt bytes 2 ≡ false = grind (arith, nat_tests) in

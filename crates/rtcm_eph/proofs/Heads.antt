@@ -1,4 +1,4 @@
--- The first bytes of a list as bits.
+-- The head of a list of bytes as bits.
 use Rattle.std.proofs.Common.{◌≡◌, ℕ, ◌*◌, ◌/◌, ◌-◌, ◌%◌, ◌<◌, ◌≤◌, List, length, take, slice_index, sym, ap, ◌∙◌, arith}
 use Rattle.std.proofs.lemmas.List.{get_or-take, ext_get_or, length-take-le}
 use Rattle.std.specs.Int.{bit_at}
@@ -13,7 +13,7 @@ head_bits p n = record {
       ap (λ byte. bit_at byte (7 - i % 8)) (get_or-take n p (i / 8) 0 (omega arith));
 }
 
--- bytes with the same bits are the same
+-- bytes of the same bits are the same
 pub same_bytes : (p q : List ℕ) (n : ℕ) → n ≤ length p → length q ≡ n → ((k : ℕ) → slice_index p k < 256)
     → ((k : ℕ) → slice_index q k < 256) → ((i : ℕ) → i < 8 * n → bit p i ≡ bit q i) → take n p ≡ q
 same_bytes p q n long long' bytes bytes' same =

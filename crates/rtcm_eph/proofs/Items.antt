@@ -1,4 +1,4 @@
--- What a message carries: its item is `item_in`, each field within its width.
+-- What a message yields: its item is the function's, and its fields are within their bits.
 use Rattle.std.proofs.Common.{◌≡◌, ℕ, ◌*◌, ◌<◌, ◌≤◌, ◌^◌, ◌&&◌, ◌||◌, IfOk, All, List, length, nat_eq, nat_le, nat_lt, true, false, Bool, Result, Ok, Err, inl, inr, refl, ap, ◌∙◌, subst, arith}
 use Rattle.std.specs.List.{AllByRecursion}
 use Rattle.std.proofs.lemmas.Bool.{and_parts, cond_both, eqb-true, leb-true, ltb-true}
@@ -130,7 +130,7 @@ content_fits payload =
 
 -- ---- the item
 
--- each answer is that of `item_in`
+-- whatever answers is the function's
 gives_only : (r : ℕ) (x : Result Content MessageFault) (answer : Result NavItem MessageFault) → GivesItem r x answer → answer ≡ item_of r x
 gives_only r (Ok (OfGps c)) (Ok (GpsItem e)) is = let week : e.toe_week ≡ gps_week_to r c.week = gps_week-only r c.week e.toe_week is.0 in ap (λ x. Ok (GpsItem x)) is.1 ∙ ap (λ w. Ok (GpsItem (gps_eph c w))) week
 gives_only r (Ok (OfGal c)) (Ok (GalItem e)) is = let week : e.toe_week ≡ galileo_week_to r c.week = galileo_week-only r c.week e.toe_week is.0 in ap (λ x. Ok (GalItem x)) is.1 ∙ ap (λ w. Ok (GalItem (gal_eph c w))) week
@@ -155,7 +155,7 @@ pub item_gives : (r : ℕ) (payload : List ℕ) → IsReference r → GivesItem 
 unfolding item_in
 item_gives r payload reference = gives_by r (content_of payload) reference (content_fits payload)
 
--- a week near a reference week is within the range of a `Week`
+-- a week near a reference week is one that a value may name
 gps_week_is : (r n w : ℕ) → IsReference r → IsGpsWeek r n w → IsWeek w
 gps_week_is r n w reference is = (omega (arith, reference.0, is.from), omega (arith, reference.1, is.to))
 
@@ -195,7 +195,7 @@ item_whole r payload reference = whole_by r (content_of payload) reference (cont
 
 -- ---- the parts
 
--- what holds of each part
+-- what is said of each part
 record IsHeardPart (stamp : ℕ) (p : Part) : Type 0 where
   at : p.stamp ≡ stamp
   part : IsPart p.sat p.body

@@ -1,4 +1,4 @@
--- The bytes of a message hold its fields, and no other bytes do.
+-- The bytes of a message are those in which its table stands, and no others are.
 use Rattle.std.proofs.Common.{◌≡◌, ℕ, ◌<◌, List, lit<, inl, inr, refl, ap, arith}
 use Rattle.std.proofs.lemmas.Nat.{mod_below}
 use Rattle.nav_bits.specs.Fields.{StandFrom}

@@ -26,7 +26,7 @@ or_parts : (a b : Bool) → (a || b) ≡ false → (a ≡ false) × (b ≡ false
 or_parts true b e = absurd (true≢false e)
 or_parts false b e = (refl, e)
 
--- a number is within two bounds, or outside
+-- a number within two bounds, or without
 within : (n high : ℕ) → (nat_le 1 n && nat_le n high) ≡ true → (n < 1) ⊎ (high < n) → ⊥
 within n high e bad =
     let both = and_parts (nat_le 1 n) (nat_le n high) e in
@@ -83,7 +83,7 @@ order-lt BadSat = omega arith
 order-lt BadTime = omega arith
 order-lt SpareSisa = omega arith
 
--- the answer is the fault of lowest rank, or there is none
+-- the answer has its fault in the order, or there is none
 abbrev Judges : (MessageFault → Type 0) → Result Content MessageFault → Type 0
 Judges has_fault (Ok content) = (fault : MessageFault) → has_fault fault → ⊥
 Judges has_fault (Err fault) = IsFirstOf has_fault fault
@@ -176,7 +176,7 @@ judges bytes number m w =
 
 -- ---- there is one first fault
 
--- the fault of a rank
+-- the fault at a place of the order
 fault_at : ℕ → ℕ → MessageFault
 fault_at number (suc zero) = NoNumber
 fault_at number (suc (suc zero)) = OtherMessage number

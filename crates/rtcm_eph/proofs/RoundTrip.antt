@@ -1,4 +1,4 @@
--- Reading what is written, and writing what is read.
+-- What is sent is read, and what is read is sent.
 use Rattle.std.proofs.Common.{◌≡◌, ℕ, ◌+◌, ◌-◌, ◌%◌, ◌<◌, ◌≤◌, max, List, length, take, sym, ap, ◌∙◌, subst, inl, inr, true, rules, arith, Result, Ok, Err}
 use Rattle.std.proofs.lemmas.Bool.Decides.{nat_tests}
 use Rattle.nav_bits.specs.Bits.{bit, number_at}
@@ -35,14 +35,14 @@ fields_again_1019 m week h = ap (λ (k : ℕ). let n : Message1019 = record m { 
 fields_again_1046 : (m : Message1046) (week : ℕ) → (week + 3072) % 4096 ≡ m.week → message_1046 (gal_eph (content_1046 m) week) ≡ m
 fields_again_1046 m week h = ap (λ (k : ℕ). let n : Message1046 = record m { week = k } in n) h
 
--- the fields of a message are in the bits from which they are read
+-- the table of a message stands in the bits of which its fields are read
 table_at_1019 : (p : List ℕ) → number_at p 0 12 ≡ 1019 → StandFrom p 0 0 (fields_1019 (message1019_at p 0))
 table_at_1019 p h = search (rules, h)
 
 table_at_1046 : (p : List ℕ) → number_at p 0 12 ≡ 1046 → StandFrom p 0 0 (fields_1046 (message1046_at p 0))
 table_at_1046 p h = search (rules, h)
 
--- two payloads with one message in them have the same bits
+-- the bits of two payloads in which one message stands
 same_1019 : (a b : List ℕ) (m : Message1019) → StandFrom a 0 0 (fields_1019 m) → StandFrom b 0 0 (fields_1019 m)
     → (i : ℕ) → i < 488 → bit a i ≡ bit b i
 same_1019 a b m s t i h = same_table a b 0 0 (fields_1019 m) (search rules) s t i (omega arith) (omega arith)
@@ -57,7 +57,7 @@ gps_week_again r n w fits is = let same : w % 1024 ≡ n % 1024 = is.same in ome
 galileo_week_again : (r n w : ℕ) → n < 4096 → IsGalileoWeek r n w → (w + 3072) % 4096 ≡ n
 galileo_week_again r n w fits is = let same : w % 4096 ≡ (n + 1024) % 4096 = is.same in omega arith
 
--- a payload that is read as an ephemeris has the bits of each payload that is written for it
+-- a payload that is read as an ephemeris has the bits of each payload that is sent for it
 pub read_is_sent_1019 : (e : GpsEph) (payload sent : List ℕ) (r : ℕ) → GivesItem r (content_of payload) (Ok (GpsItem e))
     → Begins1019 sent e → (61 ≤ length payload) × ((i : ℕ) → i < 488 → bit payload i ≡ bit sent i)
 read_is_sent_1019 e payload sent r given begins =
@@ -88,14 +88,14 @@ read_1019_is_sent e payload sent r bytes bytes' given begins long =
     let known : (61 ≤ length payload) × ((i : ℕ) → i < 488 → bit payload i ≡ bit sent i) = read_is_sent_1019 e payload sent r given begins in
     same_bytes payload sent 61 known.0 long bytes.each bytes'.each known.1
 
--- the fields of a message determine it
+-- the table of a message says each of its fields
 pub one_1019 : (bits : List ℕ) (at : ℕ) (m : Message1019) → StandFrom bits at 0 (fields_1019 m) → m ≡ message1019_at bits at
 one_1019 bits at m s = search rules
 
 pub one_1046 : (bits : List ℕ) (at : ℕ) (m : Message1046) → StandFrom bits at 0 (fields_1046 m) → m ≡ message1046_at bits at
 one_1046 bits at m s = search rules
 
--- a week number has one full week near a reference week
+-- the weeks that a cut number means are one
 gps_week_is : (r w v : ℕ) → IsNearGps r w → IsGpsWeek r (w % 1024) v → v ≡ w
 gps_week_is r w v near is =
     let same : v % 1024 ≡ w % 1024 % 1024 = is.same in
@@ -160,7 +160,7 @@ sisa_passes : (n : ℕ) → IsSisa n → is_sisa n ≡ true
 sisa_passes n (inl h) = grind (arith, nat_tests)
 sisa_passes n (inr h) = grind (arith, nat_tests)
 
--- a payload that begins with the message of an ephemeris reads as its fields
+-- a payload that begins with the message of an ephemeris yields its fields
 sent_content_1019 : (e : GpsEph) (payload : List ℕ) → IsGps e → Begins1019 payload e
     → content_of payload ≡ Ok (OfGps (content_1019 (message_1019 e)))
 sent_content_1019 e payload g begins =

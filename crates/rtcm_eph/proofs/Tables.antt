@@ -1,4 +1,4 @@
--- Two runs of bits that hold the same list of fields are equal.
+-- Two runs of bits for which the same table of fields stands are the same bits.
 use Rattle.std.proofs.Common.{◌≡◌, ℕ, zero, suc, ◌+◌, ◌<◌, ◌≤◌, List, [], ◌∷◌, sym, ◌∙◌, inl, inr, below_more, arith}
 use Rattle.std.proofs.lemmas.Bool.Decides.{leb_tells}
 use Rattle.nav_bits.specs.Bits.{bit, number_at}
@@ -6,7 +6,7 @@ use Rattle.nav_bits.specs.Fields.{Field, unsigned, signed, reserved, StandFrom}
 use Rattle.nav_bits.specs.Laws.{bit-lt, number_at-lt}
 use Rattle.nav_bits.proofs.Surface.{signed_of-same}
 
--- what holds below and above an offset holds at both
+-- what holds below and above a place holds at both
 joined : (P : ℕ → Type 0) (from middle end : ℕ) → ((i : ℕ) → from ≤ i → i < middle → P i)
     → ((i : ℕ) → middle ≤ i → i < end → P i) → (i : ℕ) → from ≤ i → i < end → P i
 joined P from middle end below above i low high =
@@ -22,14 +22,14 @@ same_digits a b at (suc w) e i low high =
     let last : bit a (at + w) ≡ bit b (at + w) = omega (arith, bit-lt a (at + w), bit-lt b (at + w)) in
     below_more (λ k. at ≤ k → bit a k ≡ bit b k) (at + w) (λ k h l. same_digits a b at w head k l h) (λ l. last) i (omega arith) low
 
--- the bit offsets before the first reserved ones
+-- the places before the first reserved ones
 abbrev pub plain_width : List Field → ℕ
 plain_width [] = 0
 plain_width (unsigned w n ∷ fs) = w + plain_width fs
 plain_width (signed w z ∷ fs) = w + plain_width fs
 plain_width (reserved w ∷ fs) = 0
 
--- each number in two's complement has a first bit
+-- each number in two's complement has a bit
 abbrev pub HaveSigns : List Field → Type 0
 HaveSigns [] = Unit {0}
 HaveSigns (unsigned w n ∷ fs) = HaveSigns fs

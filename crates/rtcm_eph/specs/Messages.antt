@@ -1,4 +1,4 @@
--- The fields of the ephemeris messages in their order, and at their bit offsets.
+-- The fields of the ephemeris messages in the order of their tables, and where they stand in bits.
 use Rattle.std.specs.Prelude.{◌≡◌, ℕ, ◌+◌, List, [], ◌∷◌}
 use Rattle.nav_bits.specs.Bits.{number_at, signed_at, SameInside}
 use Rattle.nav_bits.specs.Fields.{Field, unsigned, signed, reserved}
@@ -28,7 +28,7 @@ fields_1046 m =
     ∷ signed 24 m.omega_dot ∷ signed 10 m.bgd_a ∷ signed 10 m.bgd_b ∷ unsigned 2 m.hs_e5b
     ∷ unsigned 1 m.dvs_e5b ∷ unsigned 2 m.hs_e1b ∷ unsigned 1 m.dvs_e1b ∷ reserved 2 ∷ []
 
--- the fields of message 1019 at their bit offsets, the message beginning at bit offset at
+-- the same by places, the first bit of the message being at the place at: what its fields are
 abbrev pub message1019_at : List ℕ → ℕ → Message1019
 message1019_at bits at = record {
   satellite = number_at bits (at + 12) 6;
@@ -63,7 +63,7 @@ message1019_at bits at = record {
   fit = number_at bits (at + 487) 1;
 }
 
--- the message number, which the record of fields leaves out
+-- and what stands beside them: the message number
 abbrev pub message1019_rest : List ℕ → ℕ → Type 0
 message1019_rest bits at = number_at bits (at + 0) 12 ≡ 1019
 
@@ -101,11 +101,11 @@ message1046_at bits at = record {
   dvs_e1b = number_at bits (at + 501) 1;
 }
 
--- the message number, and the two reserved bits at the end
+-- the message number, and the reserved bits at the end
 abbrev pub message1046_rest : List ℕ → ℕ → Type 0
 message1046_rest bits at = (number_at bits (at + 0) 12 ≡ 1046) × (number_at bits (at + 502) 2 ≡ 0)
 
--- the fields of a message depend only on its own bits
+-- the fields of a message rest on its own bits alone
 pub message1019_own_bits : (a b : List ℕ) (at : ℕ) → SameInside a b at (at + 488) → message1019_at a at ≡ message1019_at b at
 message1019_own_bits a b at same = simp (number_within a b at 488 same)
 

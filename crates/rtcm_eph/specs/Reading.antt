@@ -1,4 +1,4 @@
--- What the payload of an ephemeris message carries, or its first fault.
+-- What the payload of a frame stands for as an ephemeris message, or the first of its faults.
 use Rattle.std.specs.Prelude.{◌≡◌, ℕ, ◌*◌, ◌&&◌, ◌||◌, Bool, List, [], ◌∷◌, length, nat_eq, nat_le, nat_lt, if◌then◌else◌, Result, Ok, Err}
 use Rattle.nav_bits.specs.Bits.{number_at}
 use Rattle.gnss_week.specs.Functions.{galileo_week_to, gps_week_to}
@@ -25,7 +25,7 @@ use Rattle.rtcm_eph.specs.declared.read.MessageParts.{MessageParts}
 use Rattle.rtcm_eph.specs.declared.read.MessageParts.TheVariants.{Gps as GpsParts, Gal as GalParts}
 use Rattle.rtcm_eph.specs.Messages.{message1019_at, message1046_at}
 
--- the parts of the ephemeris in message 1019
+-- what the fields of message 1019 yield
 abbrev pub content_1019 : Message1019 → GpsContent
 content_1019 m = record {
   sat = record { system = Gps; number = m.satellite };
@@ -57,7 +57,7 @@ content_1019 m = record {
   };
 }
 
--- the parts of the ephemeris in message 1046
+-- what the fields of message 1046 yield
 abbrev pub content_1046 : Message1046 → GalContent
 content_1046 m = record {
   sat = record { system = Gal; number = m.satellite };
@@ -93,19 +93,20 @@ content_1046 m = record {
   };
 }
 
--- message 1019 is accepted where its satellite is 1 to 32 and its times are within the week, in steps of 16 s
+-- message 1019 is one where its satellite is 1 to 32, and then its times are within the week, in steps
+-- of 16 s
 abbrev pub judged_1019 : Message1019 → Result Content MessageFault
 judged_1019 m =
     if nat_le 1 m.satellite && nat_le m.satellite 32
     then (if nat_lt m.toe 37800 && nat_lt m.toc 37800 then Ok (OfGps (content_1019 m)) else Err BadTime)
     else Err BadSat
 
--- the SISA index is not a spare one
+-- an accuracy index that has a meaning
 abbrev pub is_sisa : ℕ → Bool
 is_sisa n = nat_le n 125 || nat_eq n 255
 
--- message 1046 is accepted where its satellite is 1 to 36, its times are within the week, in steps of 60 s, and its SISA
--- index is not spare
+-- message 1046 is one where its satellite is 1 to 36, then its times are within the week, in steps of
+-- 60 s, and then its accuracy is no spare one
 abbrev pub judged_1046 : Message1046 → Result Content MessageFault
 judged_1046 m =
     if nat_le 1 m.satellite && nat_le m.satellite 36
@@ -113,8 +114,9 @@ judged_1046 m =
     then (if is_sisa m.sisa then Ok (OfGal (content_1046 m)) else Err SpareSisa) else Err BadTime)
     else Err BadSat
 
--- what a payload of this many bytes with this message number carries, gps and gal being its fields as either message. The
--- first of: fewer than two bytes, another message, fewer bytes than the message takes, a fault of its fields
+-- what a payload of so many bytes that begins with this number yields, where its fields are those if it is
+-- message 1019 or 1046: the first fault in this order, fewer bytes than the number takes, another number,
+-- fewer bytes than the message takes, and what the message is judged by
 abbrev pub content_by : ℕ → ℕ → Message1019 → Message1046 → Result Content MessageFault
 content_by bytes number gps gal =
     if nat_lt bytes 2 then Err NoNumber
@@ -122,11 +124,11 @@ content_by bytes number gps gal =
     else (if nat_eq number 1046 then (if nat_lt bytes 63 then Err Short else judged_1046 gal)
     else Err (OtherMessage number)))
 
--- what a payload carries, or its first fault
+-- what a payload yields, or its first fault
 abbrev pub content_of : List ℕ → Result Content MessageFault
 content_of payload = content_by (length payload) (number_at payload 0 12) (message1019_at payload 0) (message1046_at payload 0)
 
--- the parts of an ephemeris received at a second of the logger; the clock names the week and toe
+-- the parts of an ephemeris that a content gives, heard at a second; the tag names its toe
 abbrev pub gps_parts : ℕ → GpsContent → MessageParts
 gps_parts stamp c = GpsParts
     (record { stamp = stamp; sat = c.sat; body = GpsClock c.clock c.side (Toe c.week (16 * c.a.toe)) })
@@ -152,12 +154,12 @@ ArePartsOf (GpsParts clock a b) = IsPart clock.sat clock.body × IsPart a.sat a.
 ArePartsOf (GalParts w1 w2 w3 w4 health) =
     IsPart w1.sat w1.body × IsPart w2.sat w2.body × IsPart w3.sat w3.body × IsPart w4.sat w4.body × IsPart health.sat health.body
 
--- the satellite is one of the message's system
+-- the content is of a satellite of its system
 abbrev pub IsOfSystem : Content → Type 0
 IsOfSystem (OfGps c) = c.sat.system ≡ Gps
 IsOfSystem (OfGal c) = c.sat.system ≡ Gal
 
--- the ephemeris with this full week of toe; a message has no transmission time
+-- the ephemeris that a content gives with a week of toe; a message names no transmission time
 abbrev pub gps_eph : GpsContent → ℕ → GpsEph
 gps_eph c week = record {
   sat = c.sat;
@@ -182,13 +184,13 @@ gal_eph c week = record {
   sent = Unknown;
 }
 
--- the item is the content's ephemeris, its week being the one near reference week r with the message's week number
+-- a content gives an item near the reference week r: its week is the one that the message's number means
 abbrev pub IsItemOf : ℕ → Content → NavItem → Type 0
 IsItemOf r (OfGps c) (GpsItem e) = IsGpsWeek r c.week e.toe_week × (e ≡ gps_eph c e.toe_week)
 IsItemOf r (OfGal c) (GalItem e) = IsGalileoWeek r c.week e.toe_week × (e ≡ gal_eph c e.toe_week)
 IsItemOf _ _ _ = ⊥
 
--- the answer for a payload: an item of its content, or its fault
+-- what asking for the item of a content, or of its lack by a fault, answers
 abbrev pub GivesItem : ℕ → Result Content MessageFault → Result NavItem MessageFault → Type 0
 GivesItem r (Ok content) (Ok item) = IsItemOf r content item
 GivesItem r (Err fault) (Err answer) = answer ≡ fault
@@ -196,7 +198,7 @@ GivesItem _ _ _ = ⊥
 
 -- ---- the same as functions
 
--- the ephemeris of a content near reference week r
+-- the item of a content near the reference week r
 abbrev pub item_with : ℕ → Content → NavItem
 item_with r (OfGps c) = GpsItem (gps_eph c (gps_week_to r c.week))
 item_with r (OfGal c) = GalItem (gal_eph c (galileo_week_to r c.week))
@@ -205,11 +207,11 @@ abbrev pub item_of : ℕ → Result Content MessageFault → Result NavItem Mess
 item_of r (Ok content) = Ok (item_with r content)
 item_of r (Err fault) = Err fault
 
--- the ephemeris of a payload near reference week r, or its first fault
+-- the item that a payload yields near the reference week r, or its first fault
 unfoldable pub item_in : ℕ → List ℕ → Result NavItem MessageFault
 item_in r payload = item_of r (content_of payload)
 
--- the parts of a message as one list
+-- the parts of a message as one list, in the order of an ephemeris
 abbrev pub all_parts : MessageParts → List Part
 all_parts (GpsParts clock a b) = clock ∷ a ∷ b ∷ []
 all_parts (GalParts w1 w2 w3 w4 health) = w1 ∷ w2 ∷ w3 ∷ w4 ∷ health ∷ []

@@ -1,4 +1,4 @@
--- What the laws of the round trip assume: consistent ephemerides, and bytes.
+-- What the laws of the round trip take: ephemerides as they are, and bytes.
 use Rattle.std.specs.Prelude.{ℕ, ◌<◌, ◌≤◌, List, length, slice_index}
 use Rattle.nav_bits.specs.Fields.{StandFrom}
 use Rattle.nav_eph.specs.Items.{IsGalEph, IsGpsEph}
@@ -9,14 +9,15 @@ use Rattle.nav_eph.specs.declared.items.GalEph.{GalEph}
 use Rattle.rtcm_eph.specs.Messages.{fields_1019, fields_1046}
 use Rattle.rtcm_eph.specs.Writing.{message_1019, message_1046}
 
--- a consistent GPS ephemeris: one IODE, a GPS satellite, times within the week
+-- an ephemeris of GPS: its two halves are of one issue, and its times are within the week
 pub record IsGps (e : GpsEph) : Type 0 where
   pub whole : IsGpsEph e.sat e.a e.b e.sent
   pub number : IsSat e.sat.system e.sat.number
   pub toe : IsStep16 e.a.toe
   pub toc : IsStep16 e.clock.toc
 
--- a consistent Galileo ephemeris: one IODnav, a Galileo satellite, times within the week, a SISA index that is not spare
+-- an ephemeris of Galileo: its four words are of one issue, its times are within the week, and its accuracy
+-- is no spare one
 pub record IsGal (e : GalEph) : Type 0 where
   pub whole : IsGalEph e.sat e.w1 e.w2 e.w3 e.w4 e.sent
   pub number : IsSat e.sat.system e.sat.number

@@ -1,4 +1,4 @@
--- The messages that are written for ephemerides.
+-- The messages that are sent for ephemerides.
 use Rattle.std.specs.Prelude.{ℕ, ◌+◌, ◌%◌, List}
 use Rattle.nav_bits.specs.Packed.{packed}
 use Rattle.nav_eph.specs.declared.items.GpsEph.{GpsEph}
@@ -7,7 +7,7 @@ use Rattle.rtcm_eph.specs.Messages.{fields_1019, fields_1046}
 use Rattle.rtcm_eph.specs.declared.message1019.Message1019.{Message1019}
 use Rattle.rtcm_eph.specs.declared.message1046.Message1046.{Message1046}
 
--- the fields of message 1019 for a GPS ephemeris; the week is that of toe modulo 1024
+-- the fields of message 1019 for an ephemeris of GPS: its week is that of toe in ten bits
 abbrev pub message_1019 : GpsEph → Message1019
 message_1019 e = record {
   satellite = e.sat.number;
@@ -42,7 +42,8 @@ message_1019 e = record {
   fit = e.fit;
 }
 
--- the fields of message 1046 for a Galileo ephemeris; the week is that of toe counted from GPS week 1024, modulo 4096
+-- the fields of message 1046 for an ephemeris of Galileo: its week is that of toe, counted from Galileo's
+-- first week, which is GPS week 1024, in twelve bits
 abbrev pub message_1046 : GalEph → Message1046
 message_1046 e = record {
   satellite = e.sat.number;
@@ -77,10 +78,10 @@ message_1046 e = record {
   dvs_e1b = e.health.dvs_e1b;
 }
 
--- the 61 bytes of message 1019 for a GPS ephemeris
+-- the 61 bytes of message 1019 for an ephemeris of GPS
 unfoldable pub bytes_1019 : GpsEph → List ℕ
 bytes_1019 e = packed 61 (fields_1019 (message_1019 e))
 
--- the 63 bytes of message 1046 for a Galileo ephemeris, its reserved bits 0
+-- the 63 bytes of message 1046 for an ephemeris of Galileo, the reserved bits being 0
 unfoldable pub bytes_1046 : GalEph → List ℕ
 bytes_1046 e = packed 63 (fields_1046 (message_1046 e))

@@ -3,45 +3,45 @@ use nav_eph::{
     GalHealth, GalWord1, GalWord2, GalWord3, GalWord4, GpsClock, GpsOrbitA, GpsOrbitB, GpsSide, Sat,
 };
 
-/// What message 1019 carries: a GPS ephemeris with its week number modulo 1024.
+/// What message 1019 yields: an ephemeris of GPS, its week in ten bits.
 #[derive(Clone, Copy)]
 pub struct GpsContent {
     /// The satellite.
     pub sat: Sat,
-    /// The week number of toe, modulo 1024.
+    /// The week number of toe.
     pub week: U<10>,
-    /// The clock parameters.
+    /// Its clock.
     pub clock: GpsClock,
-    /// Code on L2, URA, health and L2 P data flag.
+    /// What stands beside the clock.
     pub side: GpsSide,
-    /// The orbit parameters of subframe 2.
+    /// The first half of its orbit.
     pub a: GpsOrbitA,
     /// The fit interval flag.
     pub fit: U<1>,
-    /// The orbit parameters of subframe 3.
+    /// The second half of its orbit.
     pub b: GpsOrbitB,
 }
 
-/// What message 1046 carries: a Galileo I/NAV ephemeris with its week number modulo 4096.
+/// What message 1046 yields: an ephemeris of Galileo, its week in twelve bits.
 #[derive(Clone, Copy)]
 pub struct GalContent {
     /// The satellite.
     pub sat: Sat,
-    /// The week number of toe, counted in Galileo System Time, modulo 4096.
+    /// The week number of toe.
     pub week: U<12>,
-    /// The parameters of I/NAV word type 1.
+    /// The first part of its orbit.
     pub w1: GalWord1,
-    /// The parameters of word type 2.
+    /// The second part.
     pub w2: GalWord2,
-    /// The parameters of word type 3.
+    /// The third part.
     pub w3: GalWord3,
-    /// The parameters of word type 4, with the clock.
+    /// The last part and the clock.
     pub w4: GalWord4,
-    /// The broadcast group delays, signal health and data validity status.
+    /// Its delays and health.
     pub health: GalHealth,
 }
 
-/// What an ephemeris message carries.
+/// What an ephemeris message yields.
 #[derive(Clone, Copy)]
 pub enum Content {
     /// Message 1019.

@@ -11,7 +11,7 @@ use crate::satellite::{accuracy_of, index_of, sat_number, satellite_of};
 use nav_bits::U;
 use nav_eph::{GalEph, GalHealth, GalWord1, GalWord2, GalWord3, GalWord4, Sisa, Step60, System};
 
-// Word type 1 by message 1046.
+// The first part of the orbit that message 1046 yields.
 fn word1(m: &Message1046, toe: Step60) -> GalWord1
     requires { toe ≡ m.now.toe }
     ensures { result ≡ (content_1046 m.now).w1 }
@@ -25,7 +25,7 @@ fn word1(m: &Message1046, toe: Step60) -> GalWord1
     }
 }
 
-// Word type 2.
+// The second part.
 fn word2(m: &Message1046) -> GalWord2
     ensures { result ≡ (content_1046 m.now).w2 }
 {
@@ -38,7 +38,7 @@ fn word2(m: &Message1046) -> GalWord2
     }
 }
 
-// Word type 3.
+// The third part.
 fn word3(m: &Message1046, sisa: Sisa) -> GalWord3
     requires { sisa ≡ m.now.sisa }
     ensures { result ≡ (content_1046 m.now).w3 }
@@ -55,7 +55,7 @@ fn word3(m: &Message1046, sisa: Sisa) -> GalWord3
     }
 }
 
-// Word type 4.
+// The last part and the clock.
 fn word4(m: &Message1046, toc: Step60) -> GalWord4
     requires { toc ≡ m.now.toc }
     ensures { result ≡ (content_1046 m.now).w4 }
@@ -71,7 +71,7 @@ fn word4(m: &Message1046, toc: Step60) -> GalWord4
     }
 }
 
-// Group delays, signal health and data validity status.
+// The delays and the health.
 fn health(m: &Message1046) -> GalHealth
     ensures { result ≡ (content_1046 m.now).health }
 {
@@ -85,7 +85,7 @@ fn health(m: &Message1046) -> GalHealth
     }
 }
 
-// What message 1046 carries, or its first fault.
+// What message 1046 yields, or its first fault.
 pub(crate) fn judge_1046(m: &Message1046) -> Result<Content, MessageFault>
     ensures judged { result ≡ judged_1046 m.now }
     ensures system { IfOk result IsOfSystem }

@@ -11,7 +11,7 @@ use crate::satellite::{sat_number, satellite_of};
 use nav_bits::U;
 use nav_eph::{GpsClock, GpsEph, GpsOrbitA, GpsOrbitB, GpsSide, Sat, Step16, System};
 
-// The clock parameters of message 1019.
+// The clock that message 1019 yields.
 fn clock(m: &Message1019, toc: Step16) -> GpsClock
     requires { toc ≡ m.now.toc }
     ensures { result ≡ (content_1019 m.now).clock }
@@ -26,7 +26,7 @@ fn clock(m: &Message1019, toc: Step16) -> GpsClock
     }
 }
 
-// Code on L2, URA, health and L2 P data flag.
+// What it says beside the clock.
 fn side(m: &Message1019) -> GpsSide
     ensures { result ≡ (content_1019 m.now).side }
 {
@@ -38,7 +38,7 @@ fn side(m: &Message1019) -> GpsSide
     }
 }
 
-// The orbit parameters of subframe 2.
+// The first half of the orbit.
 fn orbit_a(m: &Message1019, toe: Step16) -> GpsOrbitA
     requires { toe ≡ m.now.toe }
     ensures { result ≡ (content_1019 m.now).a }
@@ -56,7 +56,7 @@ fn orbit_a(m: &Message1019, toe: Step16) -> GpsOrbitA
     }
 }
 
-// The orbit parameters of subframe 3.
+// The second half of the orbit.
 fn orbit_b(m: &Message1019) -> GpsOrbitB
     ensures { result ≡ (content_1019 m.now).b }
 {
@@ -73,7 +73,7 @@ fn orbit_b(m: &Message1019) -> GpsOrbitB
     }
 }
 
-// What message 1019 carries, or its first fault.
+// What message 1019 yields, or its first fault.
 pub(crate) fn judge_1019(m: &Message1019) -> Result<Content, MessageFault>
     ensures judged { result ≡ judged_1019 m.now }
     ensures system { IfOk result IsOfSystem }

@@ -22,22 +22,22 @@ ghost use Rattle.rtcm_eph.specs.Writing.{bytes_1019, bytes_1046, message_1019, m
 ghost use Rattle.rtcm_eph.specs.RoundTrip.{AreBytes, Begins1019, Begins1046, IsGal, IsGps};
 ghost use Rattle.gnss_week.specs.Weeks.{IsNearGalileo, IsNearGps, IsReference};
 
-/// Where the fields of message 1019 are in some bits, reading at their bit offsets gives these
-/// fields.
+/// The bits in which the table of message 1019 stands are those of one message: its fields by
+/// places.
 pub fn one_message_1019()
     ensures { (bits : List ℕ) (at : ℕ) (m : Message1019) →
         StandFrom bits at 0 (fields_1019 m) → m ≡ message1019_at bits at }
 {}
 
-/// Where the fields of message 1046 are in some bits, reading at their bit offsets gives these
-/// fields.
+/// The bits in which the table of message 1046 stands are those of one message: its fields by
+/// places.
 pub fn one_message_1046()
     ensures { (bits : List ℕ) (at : ℕ) (m : Message1046) →
         StandFrom bits at 0 (fields_1046 m) → m ≡ message1046_at bits at }
 {}
 
-/// A GPS ephemeris that is sent as message 1019, its week near the reference week, is read back
-/// equal but for the transmission time.
+/// An ephemeris of GPS that is sent as message 1019, with its week near the reference week, is read
+/// as itself, but for when it was sent.
 pub fn sent_1019_is_read()
     ensures { (e : GpsEph) (payload : List ℕ) (r : ℕ) (answer : Result NavItem MessageFault) →
         IsGps e → IsNearGps r e.toe_week → Begins1019 payload e →
@@ -45,8 +45,8 @@ pub fn sent_1019_is_read()
         answer ≡ Ok (Gps (record e { sent = Unknown })) }
 {}
 
-/// A Galileo ephemeris that is sent as message 1046, its week near the reference week, is read back
-/// equal but for the transmission time.
+/// An ephemeris of Galileo that is sent as message 1046, with its week near the reference week, is
+/// read as itself, but for when it was sent.
 pub fn sent_1046_is_read()
     ensures { (e : GalEph) (payload : List ℕ) (r : ℕ) (answer : Result NavItem MessageFault) →
         IsGal e → IsNearGalileo r e.toe_week → Begins1046 payload e →
@@ -54,22 +54,22 @@ pub fn sent_1046_is_read()
         answer ≡ Ok (Gal (record e { sent = Unknown })) }
 {}
 
-/// A payload that is read as a GPS ephemeris begins with the 61 bytes that are sent for it.
+/// A payload that is read as an ephemeris of GPS begins with the 61 bytes that are sent for it.
 pub fn read_1019_is_sent()
     ensures { (e : GpsEph) (payload sent : List ℕ) (r : ℕ) →
         AreBytes payload → AreBytes sent → GivesItem r (content_of payload) (Ok (Gps e)) →
         Begins1019 sent e → length sent ≡ 61 → take 61 payload ≡ sent }
 {}
 
-/// A payload that is read as a Galileo ephemeris begins with the 63 bytes that are sent for it, but
-/// for the two reserved bits at their end.
+/// A payload that is read as an ephemeris of Galileo begins with the 63 bytes that are sent for it,
+/// but for the two reserved bits at their end.
 pub fn read_1046_is_sent()
     ensures { (e : GalEph) (payload sent : List ℕ) (r : ℕ) →
         GivesItem r (content_of payload) (Ok (Gal e)) → Begins1046 sent e →
         (i : ℕ) → i < 502 → bit payload i ≡ bit sent i }
 {}
 
-/// The bytes of a message have its fields in order, and the reserved bits are 0.
+/// In the bytes of a message its table stands, and what is reserved is 0.
 pub fn message_bytes()
     ensures fields_1019 { (e : GpsEph) → HasGpsRanges e →
         StandFrom (bytes_1019 e) 0 0 (fields_1019 (message_1019 e)) }
@@ -81,7 +81,7 @@ pub fn message_bytes()
     ensures size_1046 { (e : GalEph) → AreSoManyBytes 63 (bytes_1046 e) }
 {}
 
-/// No other 61 or 63 bytes have these fields in order with reserved bits 0.
+/// No other 61 or 63 bytes hold the table of a message with 0 in what is reserved.
 pub fn messages_are_the_functions()
     ensures message_1019 { (e : GpsEph) (bits : List ℕ) → HasGpsRanges e → AreSoManyBytes 61 bits →
         StandFrom bits 0 0 (fields_1019 (message_1019 e)) →
@@ -91,7 +91,8 @@ pub fn messages_are_the_functions()
         ZerosFrom bits 0 0 (fields_1046 (message_1046 e)) → bits ≡ bytes_1046 e }
 {}
 
-/// `read_item` gives `item_in`; an item that it gives is consistent, each field within its width.
+/// The answer to asking for the item of a payload is `item_in`, and an item that it gives fits
+/// together.
 pub fn item_function()
     ensures answer { (r : ℕ) (payload : List ℕ) → IsReference r →
         GivesItem r (content_of payload) (item_in r payload) }
@@ -100,8 +101,8 @@ pub fn item_function()
     ensures whole { (r : ℕ) (payload : List ℕ) → IsReference r → IfOk (item_in r payload) IsItem }
 {}
 
-/// The parts of a message have the given stamp and a satellite of the message's system, fit that
-/// satellite, and have each field within its width.
+/// The parts that a message yields have the stamp with which it was heard, are such as their
+/// satellite can send, and have their fields within their bits; it is a satellite of its system.
 pub fn message_parts()
     ensures stamps { (payload : List ℕ) (stamp : ℕ) (parts : MessageParts) →
         parts_of stamp (content_of payload) ≡ Ok parts →
@@ -115,7 +116,7 @@ pub fn message_parts()
         parts_of stamp (content_of payload) ≡ Ok parts → All HasPartRanges (all_parts parts) }
 {}
 
-/// A payload is refused with the first fault that it has, in the order of `MessageFault`.
+/// A payload is refused with a fault exactly where it is the first that the payload has.
 pub fn refused_by_the_first_fault()
     ensures content { (payload : List ℕ) (fault : MessageFault) →
         (content_of payload ≡ Err fault) ↔ IsFirstFault payload fault }

@@ -1,12 +1,13 @@
 //! The ephemeris messages of RTCM, read and written (RTCM 10403.3, 3.5).
 //!
-//! The payload of a frame begins with a message number of twelve bits. Message 1019 carries a GPS
-//! ephemeris, message 1046 a Galileo I/NAV ephemeris.
+//! The payload of a frame begins with a message number of twelve bits. Message 1019 carries an
+//! ephemeris of GPS, and message 1046 the I/NAV ephemeris of Galileo, as concatenated fields.
+//! Here are
 //!
-//! - [`read_message`] gives the parts of a payload's ephemeris, or its first fault
+//! - [`read_message`], the parts that a payload yields, or the first fault in it
 //!   ([`MessageFault`]);
-//! - [`read_item`] gives the same as one ephemeris;
-//! - [`write_1019`] and [`write_1046`] give the payload of an ephemeris.
+//! - [`read_item`], the same as one ephemeris;
+//! - [`write_1019`] and [`write_1046`], the payload of an ephemeris.
 //!
 //! ```rust
 //! use gnss_week::RefWeek;

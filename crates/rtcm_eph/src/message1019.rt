@@ -1,22 +1,22 @@
 use nav_bits::{Layout, S, U, put_numbers};
 
-/// The fields of message 1019, the ephemeris of a GPS satellite, in order after the message number
-/// (RTCM 10403.3, 3.5, message type 1019).
+/// The fields of message 1019, the ephemeris of a GPS satellite, in their order behind the message
+/// number (RTCM 10403.3, 3.5, message type 1019).
 #[derive(Clone, Copy)]
 pub struct Message1019 {
-    /// The satellite number.
+    /// The number of the satellite.
     pub satellite: U<6>,
-    /// The week number of toe, modulo 1024.
+    /// The week number of the time of the ephemeris.
     pub week: U<10>,
-    /// The URA index.
+    /// User range accuracy, an index.
     pub ura: U<4>,
-    /// The code on L2.
+    /// The codes on L2.
     pub l2_code: U<2>,
     /// Rate of the inclination, in 2^-43 semicircles/s.
     pub idot: S<14>,
     /// Issue of data, ephemeris.
     pub iode: U<8>,
-    /// toc, in steps of 16 s.
+    /// The time of the clock's data, in steps of 16 s.
     pub toc: U<16>,
     /// Clock drift rate, in 2^-55 s/s².
     pub af2: S<8>,
@@ -30,7 +30,7 @@ pub struct Message1019 {
     pub crs: S<16>,
     /// Correction to the mean motion, in 2^-43 semicircles/s.
     pub delta_n: S<16>,
-    /// Mean anomaly at toe, in 2^-31 semicircles.
+    /// Mean anomaly at the time of the ephemeris, in 2^-31 semicircles.
     pub m0: S<32>,
     /// Cosine correction to the argument of latitude, in 2^-29 rad.
     pub cuc: S<16>,
@@ -40,7 +40,7 @@ pub struct Message1019 {
     pub cus: S<16>,
     /// Square root of the semi-major axis, in 2^-19 √m.
     pub root_a: U<32>,
-    /// toe, in steps of 16 s.
+    /// The time of the ephemeris, in steps of 16 s.
     pub toe: U<16>,
     /// Cosine correction to the inclination, in 2^-29 rad.
     pub cic: S<16>,
@@ -48,7 +48,7 @@ pub struct Message1019 {
     pub omega0: S<32>,
     /// Sine correction to the inclination, in 2^-29 rad.
     pub cis: S<16>,
-    /// Inclination at toe, in 2^-31 semicircles.
+    /// Inclination at the time of the ephemeris, in 2^-31 semicircles.
     pub i0: S<32>,
     /// Cosine correction to the orbit's radius, in 2^-5 m.
     pub crc: S<16>,
@@ -56,11 +56,11 @@ pub struct Message1019 {
     pub omega: S<32>,
     /// Rate of the right ascension, in 2^-43 semicircles/s.
     pub omega_dot: S<24>,
-    /// TGD, in 2^-31 s.
+    /// Group delay, in 2^-31 s.
     pub tgd: S<8>,
-    /// The SV health.
+    /// The health of the satellite.
     pub health: U<6>,
-    /// The L2 P data flag: 1 where the P code on L2 carries no navigation data.
+    /// Whether the P code on L2 bears no data.
     pub l2p: U<1>,
     /// The fit interval flag.
     pub fit: U<1>,
@@ -93,29 +93,29 @@ impl Layout for Message1019 {
                 (10, self.week.value()),
                 (4, self.ura.value()),
                 (2, self.l2_code.value()),
-                (14, self.idot.bit_pattern()),
+                (14, self.idot.digits()),
                 (8, self.iode.value()),
                 (16, self.toc.value()),
-                (8, self.af2.bit_pattern()),
-                (16, self.af1.bit_pattern()),
-                (22, self.af0.bit_pattern()),
+                (8, self.af2.digits()),
+                (16, self.af1.digits()),
+                (22, self.af0.digits()),
                 (10, self.iodc.value()),
-                (16, self.crs.bit_pattern()),
-                (16, self.delta_n.bit_pattern()),
-                (32, self.m0.bit_pattern()),
-                (16, self.cuc.bit_pattern()),
+                (16, self.crs.digits()),
+                (16, self.delta_n.digits()),
+                (32, self.m0.digits()),
+                (16, self.cuc.digits()),
                 (32, self.e.value()),
-                (16, self.cus.bit_pattern()),
+                (16, self.cus.digits()),
                 (32, self.root_a.value()),
                 (16, self.toe.value()),
-                (16, self.cic.bit_pattern()),
-                (32, self.omega0.bit_pattern()),
-                (16, self.cis.bit_pattern()),
-                (32, self.i0.bit_pattern()),
-                (16, self.crc.bit_pattern()),
-                (32, self.omega.bit_pattern()),
-                (24, self.omega_dot.bit_pattern()),
-                (8, self.tgd.bit_pattern()),
+                (16, self.cic.digits()),
+                (32, self.omega0.digits()),
+                (16, self.cis.digits()),
+                (32, self.i0.digits()),
+                (16, self.crc.digits()),
+                (32, self.omega.digits()),
+                (24, self.omega_dot.digits()),
+                (8, self.tgd.digits()),
                 (6, self.health.value()),
                 (1, self.l2p.value()),
                 (1, self.fit.value()),

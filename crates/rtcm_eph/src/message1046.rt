@@ -1,20 +1,20 @@
 use nav_bits::{Layout, S, U, put_numbers};
 
-/// The fields of message 1046, the I/NAV ephemeris of a Galileo satellite, in order after the
-/// message number (RTCM 10403.3, 3.5, message type 1046).
+/// The fields of message 1046, the I/NAV ephemeris of a Galileo satellite, in their order behind
+/// the message number (RTCM 10403.3, 3.5, message type 1046).
 #[derive(Clone, Copy)]
 pub struct Message1046 {
-    /// The satellite number.
+    /// The number of the satellite.
     pub satellite: U<6>,
-    /// The week number of toe, counted in Galileo System Time, modulo 4096.
+    /// The week number of the time of the ephemeris, counted from Galileo's first week.
     pub week: U<12>,
-    /// IODnav, the issue of data.
+    /// Issue of data.
     pub iodnav: U<10>,
-    /// The SISA index.
+    /// The accuracy of signal in space, an index.
     pub sisa: U<8>,
     /// Rate of the inclination, in 2^-43 semicircles/s.
     pub idot: S<14>,
-    /// toc, in steps of 60 s.
+    /// The time of the clock's data, in steps of 60 s.
     pub toc: U<14>,
     /// Clock drift rate, in 2^-59 s/s².
     pub af2: S<6>,
@@ -26,7 +26,7 @@ pub struct Message1046 {
     pub crs: S<16>,
     /// Correction to the mean motion, in 2^-43 semicircles/s.
     pub delta_n: S<16>,
-    /// Mean anomaly at toe, in 2^-31 semicircles.
+    /// Mean anomaly at the time of the ephemeris, in 2^-31 semicircles.
     pub m0: S<32>,
     /// Cosine correction to the argument of latitude, in 2^-29 rad.
     pub cuc: S<16>,
@@ -36,7 +36,7 @@ pub struct Message1046 {
     pub cus: S<16>,
     /// Square root of the semi-major axis, in 2^-19 √m.
     pub root_a: U<32>,
-    /// toe, in steps of 60 s.
+    /// The time of the ephemeris, in steps of 60 s.
     pub toe: U<14>,
     /// Cosine correction to the inclination, in 2^-29 rad.
     pub cic: S<16>,
@@ -44,7 +44,7 @@ pub struct Message1046 {
     pub omega0: S<32>,
     /// Sine correction to the inclination, in 2^-29 rad.
     pub cis: S<16>,
-    /// Inclination at toe, in 2^-31 semicircles.
+    /// Inclination at the time of the ephemeris, in 2^-31 semicircles.
     pub i0: S<32>,
     /// Cosine correction to the orbit's radius, in 2^-5 m.
     pub crc: S<16>,
@@ -52,17 +52,17 @@ pub struct Message1046 {
     pub omega: S<32>,
     /// Rate of the right ascension, in 2^-43 semicircles/s.
     pub omega_dot: S<24>,
-    /// BGD E1/E5a, in 2^-32 s.
+    /// Group delay between E1 and E5a, in 2^-32 s.
     pub bgd_a: S<10>,
-    /// BGD E1/E5b, in 2^-32 s.
+    /// Group delay between E1 and E5b, in 2^-32 s.
     pub bgd_b: S<10>,
-    /// E5b signal health status.
+    /// The health of the signal E5b.
     pub hs_e5b: U<2>,
-    /// E5b data validity status: 1 is working without guarantee.
+    /// Whether the data of E5b are without guarantee.
     pub dvs_e5b: U<1>,
-    /// E1-B signal health status.
+    /// The health of the signal E1-B.
     pub hs_e1b: U<2>,
-    /// E1-B data validity status: 1 is working without guarantee.
+    /// Whether the data of E1-B are without guarantee.
     pub dvs_e1b: U<1>,
 }
 
@@ -93,28 +93,28 @@ impl Layout for Message1046 {
                 (12, self.week.value()),
                 (10, self.iodnav.value()),
                 (8, self.sisa.value()),
-                (14, self.idot.bit_pattern()),
+                (14, self.idot.digits()),
                 (14, self.toc.value()),
-                (6, self.af2.bit_pattern()),
-                (21, self.af1.bit_pattern()),
-                (31, self.af0.bit_pattern()),
-                (16, self.crs.bit_pattern()),
-                (16, self.delta_n.bit_pattern()),
-                (32, self.m0.bit_pattern()),
-                (16, self.cuc.bit_pattern()),
+                (6, self.af2.digits()),
+                (21, self.af1.digits()),
+                (31, self.af0.digits()),
+                (16, self.crs.digits()),
+                (16, self.delta_n.digits()),
+                (32, self.m0.digits()),
+                (16, self.cuc.digits()),
                 (32, self.e.value()),
-                (16, self.cus.bit_pattern()),
+                (16, self.cus.digits()),
                 (32, self.root_a.value()),
                 (14, self.toe.value()),
-                (16, self.cic.bit_pattern()),
-                (32, self.omega0.bit_pattern()),
-                (16, self.cis.bit_pattern()),
-                (32, self.i0.bit_pattern()),
-                (16, self.crc.bit_pattern()),
-                (32, self.omega.bit_pattern()),
-                (24, self.omega_dot.bit_pattern()),
-                (10, self.bgd_a.bit_pattern()),
-                (10, self.bgd_b.bit_pattern()),
+                (16, self.cic.digits()),
+                (32, self.omega0.digits()),
+                (16, self.cis.digits()),
+                (32, self.i0.digits()),
+                (16, self.crc.digits()),
+                (32, self.omega.digits()),
+                (24, self.omega_dot.digits()),
+                (10, self.bgd_a.digits()),
+                (10, self.bgd_b.digits()),
                 (2, self.hs_e5b.value()),
                 (1, self.dvs_e5b.value()),
                 (2, self.hs_e1b.value()),

@@ -16,34 +16,34 @@ use gnss_week::{RefWeek, Second, gal_week, gps_week};
 use nav_bits::{Layout, U};
 use nav_eph::{Body, GalEph, GpsEph, NavItem, Part, Sat, SentSecond, SentTag};
 
-/// The parts of an ephemeris in one message, each with its reception stamp.
+/// The parts of an ephemeris that one message yields, as they were heard.
 #[derive(Clone, Copy, PartialEq, Eq)]
 pub enum MessageParts {
-    /// From message 1019.
+    /// Of message 1019.
     Gps {
         /// The clock.
         clock: Part,
-        /// The orbit parameters of subframe 2.
+        /// The first half of the orbit.
         a: Part,
-        /// The orbit parameters of subframe 3.
+        /// The second half of the orbit.
         b: Part,
     },
-    /// From message 1046.
+    /// Of message 1046.
     Gal {
-        /// Word type 1.
+        /// The first part of the orbit.
         w1: Part,
-        /// Word type 2.
+        /// The second part.
         w2: Part,
-        /// Word type 3.
+        /// The third part.
         w3: Part,
-        /// Word type 4.
+        /// The last part and the clock.
         w4: Part,
-        /// Group delays, signal health and data validity status.
+        /// The delays and the health.
         health: Part,
     },
 }
 
-// Message 1019 at the start of a payload.
+// Message 1019 at the head of a payload.
 fn message_1019_in(payload: &[u8]) -> Message1019
     requires { 61 ≤ length payload.now }
     ensures { result ≡ message1019_at payload.now 0 }
@@ -52,7 +52,7 @@ fn message_1019_in(payload: &[u8]) -> Message1019
     Message1019::read_bits(own, 0)
 }
 
-// Message 1046 at the start of a payload.
+// Message 1046 at the head of a payload.
 fn message_1046_in(payload: &[u8]) -> Message1046
     requires { 63 ≤ length payload.now }
     ensures { result ≡ message1046_at payload.now 0 }
@@ -61,7 +61,7 @@ fn message_1046_in(payload: &[u8]) -> Message1046
     Message1046::read_bits(own, 0)
 }
 
-// The message number at the start of a payload.
+// The message number at the head of a payload.
 fn number_in(payload: &[u8]) -> u16
     requires { 2 ≤ length payload.now }
     ensures { result ≡ number_at payload.now 0 12 }
@@ -71,7 +71,7 @@ fn number_in(payload: &[u8]) -> u16
     number.value() as u16
 }
 
-// What a payload carries, or its first fault.
+// What a payload yields, or its first fault.
 fn read_content(payload: &[u8]) -> Result<Content, MessageFault>
     ensures content { result ≡ content_of payload.now }
     ensures system { IfOk result IsOfSystem }
@@ -95,7 +95,7 @@ fn read_content(payload: &[u8]) -> Result<Content, MessageFault>
     Err(MessageFault::OtherMessage { number })
 }
 
-// The parts of a GPS ephemeris; the clock names the week and toe.
+// The parts of a content of GPS, the tag naming its toe.
 fn gps_parts_of(c: &GpsContent, stamp: u32) -> MessageParts
     requires { c.now.sat.system ≡ Gps }
     ensures are { result ≡ gps_parts stamp c.now }
@@ -125,14 +125,14 @@ fn gps_parts_of(c: &GpsContent, stamp: u32) -> MessageParts
     }
 }
 
-// A part received from a satellite.
+// A part heard from a satellite.
 fn heard(stamp: u32, sat: Sat, body: Body) -> Part
     ensures { result ≡ record { stamp = stamp; sat = sat; body = body } }
 {
     Part { stamp, sat, body }
 }
 
-// The parts of a Galileo ephemeris; the health names the week and toe.
+// The parts of a content of Galileo, the tag naming its toe.
 fn gal_parts_of(c: &GalContent, stamp: u32) -> MessageParts
     requires { c.now.sat.system ≡ Gal }
     ensures are { result ≡ gal_parts stamp c.now }
@@ -151,11 +151,11 @@ fn gal_parts_of(c: &GalContent, stamp: u32) -> MessageParts
     }
 }
 
-/// The parts of the ephemeris in a payload of message 1019 or 1046 (RTCM 10403.3, 3.5), received at
-/// `stamp`, a second of the logger. The clock of GPS and the health of Galileo also have the
-/// message's week number and toe in seconds. Bytes after the message are ignored.
+/// The parts that a payload yields as message 1019 or 1046 (RTCM 10403.3, 3.5), heard at a second
+/// of the logger. The clock of GPS and the health of Galileo bear the message's week and its toe in
+/// seconds; a payload that is longer than its message is accepted, and the rest is not looked at.
 ///
-/// The error is the first fault, in the order of [`MessageFault`].
+/// The error is the first fault, as [`MessageFault`] orders them.
 pub fn read_message(payload: &[u8], stamp: u32) -> Result<MessageParts, MessageFault>
     ensures answer { result ≡ parts_of stamp (content_of payload.now) }
     ensures parts { IfOk result ArePartsOf }
@@ -167,7 +167,7 @@ pub fn read_message(payload: &[u8], stamp: u32) -> Result<MessageParts, MessageF
     }
 }
 
-// The ephemeris of a message, with its full week near the reference week.
+// The item of a content, its week near the reference week.
 fn item_of(content: &Content, r: RefWeek) -> NavItem
     ensures { IsItemOf r content.now result }
 {
@@ -195,11 +195,11 @@ fn item_of(content: &Content, r: RefWeek) -> NavItem
     }
 }
 
-/// The ephemeris in a payload of message 1019 or 1046 (RTCM 10403.3, 3.5). Its full week of toe is
-/// the one near the reference week that has the message's week number; its transmission time is
-/// unknown. Bytes after the message are ignored.
+/// The ephemeris that a payload yields as message 1019 or 1046 (RTCM 10403.3, 3.5): its week of toe
+/// is the one that the message's week number means near the reference week, and when it was sent is
+/// not known. A payload that is longer than its message is accepted, and the rest is not looked at.
 ///
-/// The error is the first fault, in the order of [`MessageFault`].
+/// The error is the first fault, as [`MessageFault`] orders them.
 pub fn read_item(payload: &[u8], r: RefWeek) -> Result<NavItem, MessageFault>
     ensures item { GivesItem r (content_of payload.now) result }
     ensures answer { result ≡ item_in r payload.now }

@@ -5,7 +5,7 @@ ghost use Rattle.nav_eph.specs.Steps.{IsSisa};
 use nav_bits::U;
 use nav_eph::{Sat, Sisa, System};
 
-// The satellite of a system with this number, if it has one.
+// The satellite of a system with the number that a message names.
 pub(crate) fn satellite_of(system: System, number: U<6>) -> Option<Sat>
     ensures exactly { IsSome result ↔ IsSat system number }
     ensures same { IfSome result (λ s. s ≡ record { system = system; number = number }) }
@@ -20,7 +20,7 @@ pub(crate) fn sat_number(sat: &Sat) -> U<6>
     U::from_bits(sat.number() as u64)
 }
 
-// The SISA of this index; none for a spare one.
+// The accuracy with the index that a message names.
 pub(crate) fn accuracy_of(index: U<8>) -> Option<Sisa>
     ensures exactly { IsSome result ↔ IsSisa index }
     ensures same { IfSome result (λ s. s ≡ index) }
@@ -28,7 +28,7 @@ pub(crate) fn accuracy_of(index: U<8>) -> Option<Sisa>
     Sisa::new(index.value())
 }
 
-// The SISA index in eight bits.
+// The index of an accuracy in eight bits.
 pub(crate) fn index_of(sisa: &Sisa) -> U<8>
     ensures { result ≡ sisa.now }
 {

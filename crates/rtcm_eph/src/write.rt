@@ -9,18 +9,18 @@ use crate::{galileo, gps};
 use nav_bits::{BitForm, Bits};
 use nav_eph::{GalEph, GpsEph};
 
-// Each field of a GPS ephemeris is within its width.
+// Each field of an ephemeris of GPS is within its bits.
 fn gps_ranges(e: GpsEph)
     ensures { HasGpsRanges e }
 {}
 
-// Each field of a Galileo ephemeris is within its width.
+// Each field of an ephemeris of Galileo is within its bits.
 fn gal_ranges(e: GalEph)
     ensures { HasGalRanges e }
 {}
 
-/// Message 1019 of an ephemeris, 61 bytes (RTCM 10403.3, 3.5). Its week is that of toe, modulo
-/// 1024. The message has no transmission time.
+/// Message 1019 of an ephemeris (RTCM 10403.3, 3.5): its week is that of toe in ten bits. When it
+/// was sent is not said.
 pub fn write_1019(eph: &GpsEph) -> Bits<61>
     ensures fields { StandFrom result 0 0 (fields_1019 (message_1019 eph.now)) }
     ensures bytes { result ≡ bytes_1019 eph.now }
@@ -32,8 +32,8 @@ pub fn write_1019(eph: &GpsEph) -> Bits<61>
     bits
 }
 
-/// Message 1046 of an ephemeris, 63 bytes (RTCM 10403.3, 3.5). Its week is that of toe, counted in
-/// Galileo System Time, modulo 4096. The message has no transmission time; its reserved bits are 0.
+/// Message 1046 of an ephemeris (RTCM 10403.3, 3.5): its week is that of toe, counted from
+/// Galileo's first week, in twelve bits. When it was sent is not said. The reserved bits are 0.
 pub fn write_1046(eph: &GalEph) -> Bits<63>
     ensures fields { StandFrom result 0 0 (fields_1046 (message_1046 eph.now)) }
     ensures reserved_bits { number_at result 502 2 ≡ 0 }

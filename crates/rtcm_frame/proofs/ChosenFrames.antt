@@ -1,11 +1,11 @@
--- The frames by recursion are those at the chosen offsets.
+-- The frames by going on are those at the chosen places.
 use Rattle.std.proofs.Common.{◌≡◌, ℕ, zero, suc, ◌+◌, ◌-◌, ◌<◌, ◌≤◌, nat_lt, Bool, true, false, List, [], ◌∷◌, take, drop, refl, sym, ap, arith}
 use Rattle.std.proofs.lemmas.Bool.{ltb-true, ltb-false}
 use Rattle.rtcm_frame.specs.Frames.{frame_size, frames_past}
 use Rattle.rtcm_frame.specs.Places.{AreChosen, size_at, frames_from}
 use Rattle.rtcm_frame.proofs.Reaching.{Reaches, inside_is_passed, none_is_passed, outside_is_chosen, next_inside, next_outside, next_begun, behind}
 
--- from offset p on, the first k bytes being inside the last chosen frame
+-- from place p on, of which the first k bytes stand in the last chosen frame
 abbrev Agree : List ℕ → (ℕ → Bool) → List ℕ → ℕ → ℕ → Type 0
 Agree bytes chosen rest p k = rest ≡ drop p bytes → Reaches bytes chosen p k → frames_from chosen p rest ≡ frames_past false rest k
 

@@ -1,14 +1,14 @@
--- There is exactly one set of chosen offsets, whatever the sizes of the frames are.
+-- There is exactly one set of chosen places, whatever the sizes of the frames are.
 use Rattle.std.proofs.Common.{◌≡◌, ℕ, zero, suc, ◌+◌, ◌<◌, ◌≤◌, ◌&&◌, ◌↔◌, ◌⊎◌, nat_lt, nat_le, Bool, true, false, IsTrue, inl, inr, refl, arith}
 use Rattle.std.proofs.lemmas.Bool.{and_parts, and_from, leb-true, ltb-true, le-leb, lt-ltb, both_ways, cases_eq}
 use Rattle.std.proofs.lemmas.Bool.Decides.{same_from_decides}
 use Rattle.rtcm_frame.specs.Places.{reach, chosen_by}
 
--- the frames at the chosen offsets before p end by m
+-- the frames at the places of this set that begin before p end by m
 abbrev pub End : (ℕ → ℕ) → (ℕ → Bool) → ℕ → ℕ → Type 0
 End size chosen p m = (q : ℕ) → IsTrue (chosen q) → q < p → q + size q ≤ m
 
--- the property of the chosen offsets, at one offset
+-- what is said of the chosen places, at one place
 abbrev pub Fits : (ℕ → ℕ) → (ℕ → Bool) → ℕ → Type 0
 Fits size chosen p = (0 < size p) × End size chosen p p
 
@@ -24,7 +24,7 @@ above_at size p below true here = λ q c h.
 above_at size p below false here = λ q c h.
     rw here (elim (earlier q p h) [ inl lt ↦ below q c lt | inr e ↦ absurd (both_ways _ here (rw e at c)) ])
 
--- the chosen frames that begin before p end by their reach
+-- the chosen frames that begin before p end by the place that they reach
 pub reach_is_above : (size : ℕ → ℕ) (p : ℕ) → End size (chosen_by size) p (reach size p)
 reach_is_above size zero = λ q c h. absurd (omega arith)
 reach_is_above size (suc p) = above_at size p (reach_is_above size p) _ refl
@@ -34,12 +34,12 @@ least_at : (size : ℕ → ℕ) (p m : ℕ) → (End size (chosen_by size) p m �
 least_at size p m go true here ends = rw here (ends p here (omega arith))
 least_at size p m go false here ends = rw here (go (λ q c h. ends q c (omega arith)))
 
--- and not earlier
+-- and by no earlier one
 pub reach_is_least : (size : ℕ → ℕ) (p m : ℕ) → End size (chosen_by size) p m → reach size p ≤ m
 reach_is_least size zero m ends = omega arith
 reach_is_least size (suc p) m ends = least_at size p m (reach_is_least size p m) _ refl ends
 
--- there is a set of chosen offsets
+-- there is a set of chosen places
 pub chosen_fits : (size : ℕ → ℕ) (p : ℕ) → IsTrue (chosen_by size p) ↔ Fits size (chosen_by size) p
 chosen_fits size p = (
   λ c.
@@ -49,7 +49,7 @@ chosen_fits size p = (
   λ fits. and_from (nat_le (reach size p) p) (nat_lt 0 (size p)) (le-leb _ _ (reach_is_least size p p fits.1)) (lt-ltb _ _ fits.0),
 )
 
--- the set is the only one: below each offset
+-- the set is the only one: below each place
 same_below : (size : ℕ → ℕ) (c d : ℕ → Bool) → ((p : ℕ) → IsTrue (c p) ↔ Fits size c p) → ((p : ℕ) → IsTrue (d p) ↔ Fits size d p)
     → (n p : ℕ) → p < n → c p ≡ d p
 same_below size c d cs ds zero p h = absurd (omega arith)

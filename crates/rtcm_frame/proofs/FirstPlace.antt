@@ -1,11 +1,11 @@
--- The first offset where a frame begins or is incomplete, and functions that look only from there on.
+-- The first place where a frame begins or that is open, and what is looked at from there.
 use Rattle.std.proofs.Common.{◌≡◌, ℕ, ◌≤◌, ◌&&◌, ◌⊎◌, nat_lt, Bool, true, false, List, [], ◌∷◌, ◌++◌, length, refl, ◌∙◌, inl, inr, arith, append-nil}
 use Rattle.std.proofs.lemmas.Bool.{ltb-true, and_parts}
 use Rattle.rtcm_frame.specs.Frames.{frame_size, is_open, frames_past, frames, undecided, after_first}
 use Rattle.rtcm_frame.specs.Mirrors.{from_first}
 use Rattle.rtcm_frame.proofs.FormLaws.{size-append}
 
--- no frame begins at the first byte
+-- nothing begins at the first byte
 record Passed (more : Bool) (x : ℕ) (xs : List ℕ) : Type 0 where
   pub closed : (more && is_open (x ∷ xs)) ≡ false
   pub none : nat_lt 0 (frame_size (x ∷ xs)) ≡ false
@@ -16,7 +16,7 @@ pass_at F more x xs same go true o found f = rw o refl
 pass_at F more x xs same go false o true f = rw (o, f) refl
 pass_at F more x xs same go false o false f = rw (o, f) (same (record { closed = o; none = f }) ∙ go)
 
--- a function that ignores a byte where no frame begins ignores all before the first offset
+-- what doesn't look at a byte where nothing begins doesn't look at those before the first place
 pass_prefix : {A : Type 0} (F : List ℕ → A) (more : Bool) → ((x : ℕ) (xs : List ℕ) → Passed more x xs → F (x ∷ xs) ≡ F xs)
     → (b : List ℕ) → F b ≡ F (from_first more b)
 pass_prefix F more same [] = refl
@@ -32,7 +32,7 @@ pub length-from_first : (more : Bool) (b : List ℕ) → length (from_first more
 length-from_first more [] = omega arith
 length-from_first more (x ∷ xs) = shorter_at more x xs (length-from_first more xs) _ refl _ refl
 
--- nothing is left, or an incomplete frame while more bytes may come
+-- nothing is left, or it is open and more bytes may come
 abbrev pub IsHeld : Bool → List ℕ → Type 0
 IsHeld more rest = (rest ≡ []) ⊎ ((more ≡ true) × (is_open rest ≡ true))
 
@@ -43,12 +43,12 @@ held_at more x xs go true o found f = rw o (λ none. inr (and_parts more (is_ope
 held_at more x xs go false o true f = rw (o, f) (λ none. absurd (omega (arith, ltb-true 0 (frame_size (x ∷ xs)) f)))
 held_at more x xs go false o false f = rw (o, f) go
 
--- where no frame begins at the first offset, what is there is held
+-- where no frame begins at the first place, what is there is held
 pub first_is_held : (more : Bool) (b : List ℕ) → frame_size (from_first more b) ≡ 0 → IsHeld more (from_first more b)
 first_is_held more [] none = inl refl
 first_is_held more (x ∷ xs) none = held_at more x xs (first_is_held more xs) _ refl _ refl none
 
--- the frames with bytes appended ignore a byte where no frame begins
+-- the frames with bytes behind, none after the last one, don't look at a byte where nothing begins
 abbrev Follows : Bool → List ℕ → Type 0
 Follows more following = more ≡ false → following ≡ []
 

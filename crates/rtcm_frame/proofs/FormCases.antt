@@ -49,14 +49,14 @@ size_many (x ∷ y ∷ z ∷ zs) h =
 pub size_other : (xs : List ℕ) → 3 ≤ length xs → (slice_index xs 0 ≡ 211 → ⊥) → frame_size xs ≡ 0
 size_other xs h other = let e : nat_eq (slice_index xs 0) 211 ≡ false = ne_eqb _ _ other in rw (size_many xs h, e) refl
 
--- no whole frame begins where the announced one is longer than the bytes
+-- no whole frame begins where one is announced that is longer than the bytes
 pub size_long : (xs : List ℕ) → 3 ≤ length xs → slice_index xs 0 ≡ 211 → length xs < announced_by xs → frame_size xs ≡ 0
 size_long xs h start long =
     let e : nat_eq (slice_index xs 0) 211 ≡ true = eq-eqb _ _ start in
     let f : nat_le (announced_by xs) (length xs) ≡ false = lt-leb _ _ long in
     rw (size_many xs h, e, f) refl
 
--- a frame that the bytes hold is whole where its checksum is right
+-- a frame that ends in the bytes is one where its checksum is right
 pub size_within : (xs : List ℕ) → 3 ≤ length xs → slice_index xs 0 ≡ 211 → announced_by xs ≤ length xs → frame_size xs ≡ cond (is_right (take (announced_by xs) xs)) (announced_by xs) 0
 size_within xs h start within =
     let e : nat_eq (slice_index xs 0) 211 ≡ true = eq-eqb _ _ start in

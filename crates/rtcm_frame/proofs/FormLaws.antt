@@ -1,26 +1,26 @@
--- Laws of a single frame. Nothing above unfolds `frame_size` and `is_open`.
+-- What the form of one frame gives. Nothing above looks into `frame_size` and `is_open`.
 use Rattle.std.proofs.Common.{◌≡◌, ℕ, ◌+◌, ◌<◌, ◌≤◌, ◌&&◌, nat_lt, nat_le, nat_eq, Bool, true, false, cond, List, [], ◌∷◌, ◌++◌, length, take, refl, sym, ◌∙◌, inl, inr, arith, length-append}
 use Rattle.std.proofs.lemmas.Bool.{and_left, and_right, and_cases, and_parts, ltb-true, ltb-false, leb-true, le-ltb, le-leb, lt-leb, false≢true, cond_both}
 use Rattle.std.proofs.lemmas.List.{take-append-le}
 use Rattle.rtcm_frame.specs.Frames.{announced, frame_size, is_open, is_right}
 
--- an empty list is not incomplete
+-- no bytes are not open
 pub none_open : is_open [] ≡ true → ⊥
 unfolding is_open
 none_open h = false≢true h
 
--- bytes that don't begin with D3 are not incomplete
+-- bytes that don't begin with D3 are not open
 not_started : (x : ℕ) (ys : List ℕ) → nat_eq x 211 ≡ false → is_open (x ∷ ys) ≡ false
 unfolding is_open
 not_started x [] h = h
 not_started x (y ∷ []) h = h
 not_started x (y ∷ z ∷ zs) h = and_left (nat_eq x 211) _ h
 
--- what ends by an offset ends by a later one
+-- what ends by some place ends by a later one
 ends_later : (size m n : ℕ) → nat_lt (m + 3) size ≡ false → m ≤ n → nat_lt (n + 3) size ≡ false
 ends_later size m n e h = let ends : size ≤ m + 3 = ltb-false _ _ e in le-ltb _ _ (omega arith)
 
--- more bytes make nothing incomplete that isn't
+-- more bytes behind don't open what isn't open
 pub open-append : (x : ℕ) (xs ys : List ℕ) → is_open (x ∷ xs) ≡ false → is_open (x ∷ (xs ++ ys)) ≡ false
 unfolding is_open
 open-append x [] ys h = not_started x ys h
@@ -38,7 +38,7 @@ no_start x [] h = refl
 no_start x (y ∷ []) h = refl
 no_start x (y ∷ z ∷ zs) h = rw h refl
 
--- more bytes don't change the frame of bytes that aren't incomplete
+-- more bytes behind don't change the frame that begins where it isn't open
 pub size-append : (x : ℕ) (xs ys : List ℕ) → is_open (x ∷ xs) ≡ false → frame_size (x ∷ (xs ++ ys)) ≡ frame_size (x ∷ xs)
 unfolding is_open frame_size
 size-append x [] ys h = no_start x ys h
@@ -60,7 +60,7 @@ sized_le size n start right =
     (λ e. let p = and_parts (start && nat_le size (n + 3)) right e in let q = and_parts start (nat_le size (n + 3)) p.0 in leb-true _ _ q.1)
     (λ _. omega arith)
 
--- the frame at the start of the bytes is inside them
+-- the frame that begins the bytes stands in them
 pub size_le : (xs : List ℕ) → frame_size xs ≤ length xs
 unfolding frame_size
 size_le [] = omega arith
@@ -69,7 +69,7 @@ size_le (x ∷ y ∷ []) = omega arith
 size_le (x ∷ y ∷ z ∷ zs) =
     omega (arith, sized_le (announced y z) (length zs) (nat_eq x 211) (is_right (take (announced y z) (x ∷ y ∷ z ∷ zs))))
 
--- an incomplete frame is no whole one
+-- no whole frame begins where it is open
 pub size_of_open : (xs : List ℕ) → is_open xs ≡ true → frame_size xs ≡ 0
 unfolding is_open frame_size
 size_of_open [] h = refl
@@ -86,7 +86,7 @@ size_of_open (x ∷ y ∷ z ∷ zs) h =
 announced_le : (y z : ℕ) → announced y z ≤ 1029
 announced_le y z = omega arith
 
--- an incomplete frame is shorter than the longest one
+-- what is open is shorter than the longest frame
 pub open_is_short : (xs : List ℕ) → is_open xs ≡ true → length xs < 1029
 unfolding is_open
 open_is_short [] h = absurd (false≢true h)

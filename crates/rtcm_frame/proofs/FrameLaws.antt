@@ -1,4 +1,4 @@
--- Laws of the frames by recursion.
+-- Laws of the frames by going on.
 use Rattle.std.proofs.Common.{◌≡◌, ℕ, zero, suc, ◌-◌, ◌<◌, ◌≤◌, nat_lt, Bool, true, false, List, [], ◌∷◌, ◌++◌, length, take, drop, refl, sym, ap, arith}
 use Rattle.std.proofs.lemmas.List.{take-append-le}
 use Rattle.std.proofs.lemmas.Bool.{ltb-true}
@@ -24,7 +24,7 @@ frames_stay [] more (suc k) h = absurd (omega arith)
 frames_stay (x ∷ xs) more zero h = stay_at x xs more (frames_stay xs more) _ refl _ refl
 frames_stay (x ∷ xs) more (suc k) h = frames_stay xs more k (omega arith)
 
--- passing the first bytes is looking at the rest
+-- passing bytes is looking at what is left
 pub frames_past-drop : (more : Bool) (xs : List ℕ) (k : ℕ) → frames_past more xs k ≡ frames_past more (drop k xs) 0
 frames_past-drop more [] zero = refl
 frames_past-drop more [] (suc k) = refl
@@ -37,7 +37,7 @@ open_past-drop [] (suc k) = refl
 open_past-drop (x ∷ xs) zero = refl
 open_past-drop (x ∷ xs) (suc k) = open_past-drop xs k
 
--- dropping a positive count from a list that begins with x
+-- what a count above zero passes of a list that begins with x
 pub drop_first : {A : Type 0} (x : A) (xs : List A) (n : ℕ) → 0 < n → drop n (x ∷ xs) ≡ drop (n - 1) xs
 drop_first x xs zero h = absurd (omega arith)
 drop_first x xs (suc n) h = let same : suc n - 1 ≡ n = omega arith in rw same refl

@@ -1,4 +1,4 @@
--- The decided frames are the chosen ones before the first unfinished one.
+-- The decided frames are the chosen ones before the open place.
 use Rattle.std.proofs.Common.{◌≡◌, ℕ, zero, suc, ◌+◌, ◌-◌, ◌<◌, ◌≤◌, ◌&&◌, nat_lt, Bool, true, false, List, [], ◌∷◌, take, drop, refl, sym, ap, ◌∙◌, inl, inr, arith}
 use Rattle.std.proofs.lemmas.Bool.{ltb-true, ltb-false, lt-ltb, le-ltb, and_right, both_ways, cases_eq}
 use Rattle.std.proofs.lemmas.List.{drop-drop, drop_all}
@@ -7,11 +7,11 @@ use Rattle.rtcm_frame.specs.Places.{AreChosen, size_at, frames_from, IsUnfinishe
 use Rattle.rtcm_frame.proofs.FormLaws.{none_open}
 use Rattle.rtcm_frame.proofs.Reaching.{Reaches, inside_is_passed, none_is_passed, outside_is_chosen, next_inside, next_outside, next_begun, behind}
 
--- the chosen offsets before this one
+-- the places before this one
 abbrev before : (ℕ → Bool) → ℕ → ℕ → Bool
 before chosen place = λ p. chosen p && nat_lt p place
 
--- from the offset on no chosen one is before it
+-- at the place and behind it no place is before it
 none_behind : (chosen : ℕ → Bool) (place : ℕ) (rest : List ℕ) (p : ℕ) → place ≤ p → frames_from (before chosen place) p rest ≡ []
 none_behind chosen place [] p h = refl
 none_behind chosen place (x ∷ xs) p h =
@@ -19,14 +19,14 @@ none_behind chosen place (x ∷ xs) p h =
     let closed : (chosen p && nat_lt p place) ≡ false = and_right (chosen p) _ past in
     rw closed (none_behind chosen place xs (p + 1) (omega arith))
 
--- no byte is at an offset or after it where none is at an earlier one
+-- no byte stands at a place or behind it where none stands before it
 no_byte : (bytes : List ℕ) (p place : ℕ) → p ≤ place → [] ≡ drop p bytes → drop place bytes ≡ []
 no_byte bytes p place h e =
     let from_p : drop (place - p) (drop p bytes) ≡ drop (p + (place - p)) bytes = drop-drop (place - p) p bytes in
     let there : p + (place - p) ≡ place = omega arith in
     sym (rw there at from_p) ∙ ap (drop (place - p)) (sym e) ∙ drop_all (place - p) [] (omega arith)
 
--- from offset p on, the first k bytes being inside the last chosen frame
+-- from place p on, of which the first k bytes stand in the last chosen frame
 abbrev Stand : List ℕ → (ℕ → Bool) → ℕ → List ℕ → ℕ → ℕ → Type 0
 Stand bytes chosen place rest p k =
     rest ≡ drop p bytes → Reaches bytes chosen p k → p + k ≤ place
@@ -44,7 +44,7 @@ stand_inside bytes chosen place set x xs p k go e r h =
     let closed = inside_is_passed bytes chosen set p k r in
     rw closed (go (behind bytes p x xs e) (next_inside bytes chosen p k closed r) (omega arith))
 
--- an incomplete frame outside the chosen ones is unfinished
+-- a place that is open outside the chosen frames is unfinished
 unfinished_at : (bytes : List ℕ) (chosen : ℕ → Bool) (x : ℕ) (xs : List ℕ) (p : ℕ) → x ∷ xs ≡ drop p bytes → is_open (x ∷ xs) ≡ true
     → Reaches bytes chosen p 0 → IsUnfinished bytes chosen p
 unfinished_at bytes chosen x xs p e o r = record {
@@ -52,7 +52,7 @@ unfinished_at bytes chosen x xs p e o r = record {
   outside = λ q c h. omega (arith, r.before q c h);
 }
 
--- an incomplete frame up to the first unfinished one is that one
+-- a place up to the open one that is open is this one
 held_at : (bytes : List ℕ) (chosen : ℕ → Bool) (place : ℕ) → IsOpenPlace bytes chosen place → (x : ℕ) (xs : List ℕ) (p : ℕ) → x ∷ xs ≡ drop p bytes
     → is_open (x ∷ xs) ≡ true → Reaches bytes chosen p 0 → p ≤ place → p ≡ place
 held_at bytes chosen place open_place x xs p e o r h =
@@ -61,7 +61,7 @@ held_at bytes chosen place open_place x xs p e o r h =
       | inr other ↦ absurd (open_place.least p (omega arith) (unfinished_at bytes chosen x xs p e o r))
     ]
 
--- an offset up to the first unfinished one without an incomplete frame is before it
+-- a place up to the open one that isn't open is before it
 before_at : (bytes : List ℕ) (chosen : ℕ → Bool) (place : ℕ) → IsOpenPlace bytes chosen place → (x : ℕ) (xs : List ℕ) (p : ℕ) → x ∷ xs ≡ drop p bytes
     → is_open (x ∷ xs) ≡ false → p ≤ place → p < place
 before_at bytes chosen place open_place x xs p e o h =
@@ -104,7 +104,7 @@ stand_before bytes chosen place set open_place (x ∷ xs) p zero =
 stand_before bytes chosen place set open_place (x ∷ xs) p (suc k) =
     stand_inside bytes chosen place set x xs p k (stand_before bytes chosen place set open_place xs (p + 1) k)
 
--- from offset p on, all frames are decided
+-- from place p on, all frames are decided
 abbrev Whole : List ℕ → (ℕ → Bool) → List ℕ → ℕ → ℕ → Type 0
 Whole bytes chosen rest p k =
     rest ≡ drop p bytes → Reaches bytes chosen p k → (frames_past true rest k ≡ frames_past false rest k) × (open_past rest k ≡ [])

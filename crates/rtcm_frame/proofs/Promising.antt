@@ -1,4 +1,4 @@
--- While few bytes come no frame is decided.
+-- While few bytes come nothing is decided.
 use Rattle.std.proofs.Common.{◌≡◌, ℕ, ◌+◌, ◌<◌, ◌≤◌, nat_lt, nat_eq, true, List, [], ◌∷◌, ◌++◌, length, slice_index, refl, sym, ap, ◌∙◌, inl, inr, arith, append-nil, append_assoc, length-append}
 use Rattle.std.proofs.lemmas.Bool.{lt-ltb, ltb-true, and_parts, and_from}
 use Rattle.rtcm_frame.specs.Frames.{announced, is_open}
@@ -8,20 +8,20 @@ use Rattle.rtcm_frame.proofs.FormLaws.{open_is_short, none_open}
 use Rattle.rtcm_frame.proofs.FormCases.{announced_by, open_many}
 use Rattle.rtcm_frame.proofs.Takes.{waits_for_more}
 
--- waiting bytes are fewer than the longest frame
+-- what waits is shorter than the longest frame
 pub waiting_is_short : (rest : List ℕ) → IsWaiting rest → length rest < 1029
 waiting_is_short rest w = elim w [ inl e ↦ rw e (omega arith) | inr o ↦ open_is_short rest o ]
 
--- a count that is reached already promises nothing
+-- nothing is promised of fewer than no bytes
 pub promises_none : (rest : List ℕ) (count : ℕ) → count ≤ length rest → Promises rest count
 promises_none rest count h = λ following short. absurd (omega arith)
 
--- a promise holds on with more bytes
+-- more bytes leave what was promised
 pub promises_more : (rest more : List ℕ) (count : ℕ) → Promises rest count → Promises (rest ++ more) count
 promises_more rest more count promise = λ following short.
     rw (append_assoc rest more following) (promise (more ++ following) (omega (arith, length-append rest more, length-append more following)))
 
--- without a byte no frame is decided
+-- no byte comes before the first
 pub promises_first : Promises [] 1
 promises_first = λ following short. nothing following short
   where
@@ -39,7 +39,7 @@ open_few_more (x ∷ y ∷ []) [] o short = o
 open_few_more (x ∷ y ∷ []) (z ∷ zs) o short = absurd (omega arith)
 open_few_more (x ∷ y ∷ z ∷ zs) following o short = absurd (omega arith)
 
--- with fewer than three bytes the header is incomplete
+-- without three bytes no header is whole
 pub promises_header : (rest : List ℕ) → IsWaiting rest → 1 ≤ length rest → Promises rest 3
 promises_header rest w some = λ following short.
     elim w [ inl e ↦ absurd (omega (arith, ap length e)) | inr o ↦ inr (open_few_more rest following o short) ]
@@ -51,7 +51,7 @@ open_many_more x y z zs following o short =
     let ends : nat_lt (length (zs ++ following) + 3) (announced y z) ≡ true = lt-ltb _ _ (omega (arith, length-append zs following)) in
     and_from (nat_eq x 211) _ parts.0 ends
 
--- with fewer bytes than the header announces the frame is incomplete
+-- without all bytes of the frame that the header announces it has not ended
 pub promises_whole : (rest : List ℕ) → IsWaiting rest → 3 ≤ length rest → Promises rest (announced_by rest)
 promises_whole [] w many = absurd (omega arith)
 promises_whole (x ∷ []) w many = absurd (omega arith)
@@ -59,7 +59,7 @@ promises_whole (x ∷ y ∷ []) w many = absurd (omega arith)
 promises_whole (x ∷ y ∷ z ∷ zs) w many = λ following short.
     elim w [ inl e ↦ cc | inr o ↦ inr (open_many_more x y z zs following o short) ]
 
--- waiting bytes are fewer than their header announces
+-- what waits is shorter than the frame that its header announces
 pub waiting_is_shorter : (rest : List ℕ) → IsWaiting rest → 3 ≤ length rest → length rest < announced_by rest
 waiting_is_shorter rest w many =
     elim w [
@@ -67,7 +67,7 @@ waiting_is_shorter rest w many =
       | inr o ↦ ltb-true _ _ (and_parts (nat_eq (slice_index rest 0) 211) (nat_lt (length rest) (announced_by rest)) (sym (open_many rest many) ∙ o)).1
     ]
 
--- with fewer bytes than promised no frame is taken
+-- with fewer bytes than promised none is taken
 pub promised_none : (rest : List ℕ) (count : ℕ) → Promises rest count → length rest < count → TakesNone true rest rest
 promised_none rest count promise short =
     waits_for_more rest (rw append-nil at (promise [] (omega arith)))

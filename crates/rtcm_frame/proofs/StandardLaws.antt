@@ -16,7 +16,7 @@ use Rattle.rtcm_frame.specs.Standard.{AreBytes, BeginsFrame}
 first_byte : (bytes : List ℕ) → AreBytes bytes → number_at bytes 0 8 ≡ slice_index bytes 0
 first_byte bytes b = number_at-byte bytes 0 (b 0)
 
--- the ten bits of length after six bits of the second byte
+-- behind six bits of the second byte stand ten bits of length
 length_bits : (bytes : List ℕ) → AreBytes bytes → number_at bytes 14 10 + 6 ≡ announced (slice_index bytes 1) (slice_index bytes 2)
 length_bits bytes b =
     let high : number_at bytes 14 2 ≡ slice_index bytes 1 / 1 % 4 = number_at-part bytes 14 6 1 2 refl refl (omega arith) in
@@ -25,7 +25,7 @@ length_bits bytes b =
     let byte = b 2 in
     omega arith
 
--- three bytes and their bits are one number
+-- the number of three bytes is that of their bits
 three_bytes_bits : (bytes : List ℕ) (i : ℕ) → AreBytes bytes → number_at bytes (8 * i) 24 ≡ (slice_index bytes i * 256 + slice_index bytes (i + 1)) * 256 + slice_index bytes (i + 2)
 three_bytes_bits bytes i b =
     let two : number_at bytes (8 * i) 24 ≡ number_at bytes (8 * i) 16 * 2 ^ 8 + number_at bytes (8 * i + 16) 8 = number_at-append bytes (8 * i) 16 8 in

@@ -1,4 +1,4 @@
--- No frame begins with a byte other than D3.
+-- Bytes that don't begin with D3 begin nothing.
 use Rattle.std.proofs.Common.{◌≡◌, ℕ, ◌+◌, ◌<◌, nat_eq, Bool, false, List, [], ◌∷◌, length, get_or, drop, refl, ap, ◌∙◌, sym, add-zero}
 use Rattle.std.proofs.lemmas.Bool.{ne_eqb, and_right}
 use Rattle.std.proofs.lemmas.List.{get_or-drop}

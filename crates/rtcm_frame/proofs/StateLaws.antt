@@ -1,5 +1,5 @@
--- The CRC registers beside the bytes of a window: the bytes between two of them, and what keeps them right when bytes are
--- cut, appended or passed.
+-- The registers beside the bytes of a window: what they say of the bytes between two of them, and that they stay right
+-- where bytes are cut, appended or gone over.
 use Rattle.std.proofs.Common.{◌≡◌, ℕ, zero, suc, ◌+◌, ◌-◌, ◌^◌, ◌<◌, ◌≤◌, List, [], ◌∷◌, ◌++◌, length, get_or, take, drop, sym, ap, subst, ◌∙◌, arith, add-zero, length-drop, ◌⊎◌, inl, inr}
 use Rattle.std.proofs.lemmas.Bool.{cases_lt}
 use Rattle.std.proofs.lemmas.List.{take-take, length-take-le, take_more, get_or-drop, get_or_append_left, get_or_push, length_push}
@@ -15,7 +15,7 @@ state-lt bytes states are (suc i) h =
     subst (λ n. n < 2 ^ 24) (sym step ∙ ap (λ n. get_or states n 0) next)
     (with_byte_of-lt (get_or states i 0) (get_or bytes i 0) (state-lt bytes states are i (omega arith)))
 
--- the register some bytes later is the one before advanced by these bytes
+-- the register some bytes on is the one before them with these bytes
 pub state_after : (bytes states : List ℕ) → AreStates bytes states → (a n : ℕ) → a + n < length states
     → get_or states (a + n) 0 ≡ crc_from (get_or states a 0) (take n (drop a bytes))
 unfolding crc_from
@@ -84,7 +84,7 @@ states_more bytes states place next are count inside is = record {
         get_or_push states next 0 (i + 1) at ∙ is ∙ ap (λ n. with_byte_of (get_or states n 0) (get_or bytes n 0)) same
         ∙ ap (λ r. with_byte_of r (get_or bytes i 0)) (sym (before i (omega arith)))
 
--- the register at the end of a frame's body is the one at its start advanced by the body
+-- the register at the end of a frame's body is the one at its beginning with the body
 pub after_body : (bytes states before after frame : List ℕ) → AreStates bytes states → before ≡ states → after ≡ states → frame ≡ bytes
     → (place size : ℕ) → 3 ≤ size → place + size ≤ length bytes → place + size - 3 < length states
     → get_or after (place + size - 3) 0
@@ -103,7 +103,7 @@ after_body bytes states before after frame are before_is after_is frame_is place
     ∙ ap (λ xs. crc_from (get_or before place 0) (take (length (take size (drop place xs)) - 3) (take size (drop place xs)))) (sym frame_is)
     ∙ ap (λ n. crc_from (get_or before place 0) (take (length (take n (drop place frame)) - 3) (take n (drop place frame)))) (sym range)
 
--- the register at the start of a frame has 24 bits
+-- the register at the beginning of a frame has 24 digits
 pub before-lt : (bytes states before : List ℕ) → AreStates bytes states → before ≡ states → (place : ℕ) → place < length states → get_or before place 0 < 2 ^ 24
 before-lt bytes states before are before_is place inside =
     subst (λ xs. get_or xs place 0 < 2 ^ 24) (sym before_is) (state-lt bytes states are place inside)

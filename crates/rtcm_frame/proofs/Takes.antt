@@ -1,4 +1,4 @@
--- The step of a deframer: it takes a frame, or none.
+-- The step of a deframer at the first place: it takes a frame, or none.
 use Rattle.std.proofs.Common.{get_or, ◌≡◌, ℕ, zero, suc, ◌+◌, ◌-◌, ◌<◌, ◌≤◌, ◌&&◌, ◌⊎◌, nat_lt, Bool, true, false, if◌then◌else◌, List, [], ◌∷◌, ◌++◌, length, take, drop, refl, sym, ap, ◌∙◌, inl, inr, arith, length-drop, length-take}
 use Rattle.std.proofs.lemmas.Bool.{lt-ltb, le-ltb, false_from_ne_true, and_right, and_parts, false≢true}
 use Rattle.std.proofs.lemmas.List.{take-append-le, drop-append-le, drop_more, take_rest}
@@ -9,15 +9,15 @@ use Rattle.rtcm_frame.proofs.FormLaws.{size-append, size_le, size_least, size_mo
 use Rattle.rtcm_frame.proofs.FrameLaws.{frames_past-drop, drop_first}
 use Rattle.rtcm_frame.proofs.FirstPlace.{IsHeld, first_is_held, length-from_first, frames_from_first, past_from_first, after_from_first, open_from_first}
 
--- no frame begins in no bytes
+-- no bytes begin no frame
 none_size : 0 < frame_size [] → ⊥
 none_size h = omega (arith, size_le [])
 
--- a whole frame is not incomplete
+-- where a whole frame begins, it is not open
 closed_by : (xs : List ℕ) → 0 < frame_size xs → is_open xs ≡ false
 closed_by xs h = false_from_ne_true _ (λ o. omega (arith, size_of_open xs o))
 
--- a frame at the start, with bytes after it
+-- a frame at the front, with bytes behind
 pub frames-prefix : (r c : List ℕ) → 0 < frame_size r → frames (r ++ c) ≡ take (frame_size r) r ∷ frames (drop (frame_size r) r ++ c)
 frames-prefix [] c h = absurd (none_size h)
 frames-prefix (x ∷ xs) c h =
@@ -29,7 +29,7 @@ frames-prefix (x ∷ xs) c h =
     let behind : drop (frame_size (x ∷ xs)) (x ∷ xs) ≡ drop (frame_size (x ∷ xs) - 1) xs = drop_first x xs (frame_size (x ∷ xs)) h in
     rw (size-append x xs c (closed_by (x ∷ xs) h), f, prefix, behind, frames_past-drop false (xs ++ c) (frame_size (x ∷ xs) - 1), rest) refl
 
--- a frame at the start
+-- a frame at the front
 past-prefix : (more : Bool) (r : List ℕ) → 0 < frame_size r → frames_past more r 0 ≡ take (frame_size r) r ∷ frames_past more (drop (frame_size r) r) 0
 past-prefix more [] h = absurd (none_size h)
 past-prefix more (x ∷ xs) h =
@@ -42,7 +42,7 @@ after-prefix : (r : List ℕ) → 0 < frame_size r → after_first r ≡ drop (f
 after-prefix [] h = absurd (none_size h)
 after-prefix (x ∷ xs) h = let f : nat_lt 0 (frame_size (x ∷ xs)) ≡ true = lt-ltb _ _ h in rw f refl
 
--- the first frame is taken
+-- the frame that begins at the first place is taken
 pub takes_frame : (more : Bool) (old : List ℕ) → 0 < frame_size (from_first more old)
     → TakesFrame more old (take (frame_size (from_first more old)) (from_first more old)) (drop (frame_size (from_first more old)) (from_first more old))
 takes_frame more old h = record {
@@ -52,7 +52,7 @@ takes_frame more old h = record {
   shorter = omega (arith, length-from_first more old, size_le (from_first more old), length-drop (frame_size (from_first more old)) (from_first more old));
 }
 
--- what is held has no frame, and all of it is undecided
+-- what is held has no frame, and is what is undecided
 held_none : (more : Bool) (r : List ℕ) → IsHeld more r → frames_past more r 0 ≡ []
 held_none more [] held = refl
 held_none more (x ∷ xs) held = elim held [ inl e ↦ cc | inr h ↦ rw (h.0, h.1) refl ]
@@ -68,7 +68,7 @@ held_rest : (more : Bool) (old : List ℕ) → IsHeld more (from_first more old)
 held_rest true old held = sym (open_from_first old ∙ held_open (from_first true old) held)
 held_rest false old held = elim held [ inl e ↦ e | inr h ↦ absurd (false≢true h.0) ]
 
--- where no frame begins at the first offset, none is taken
+-- where no frame begins at the first place, none is taken
 pub takes_none : (more : Bool) (old : List ℕ) → frame_size (from_first more old) ≡ 0 → TakesNone more old (from_first more old)
 takes_none more old none =
     let held = first_is_held more old none in

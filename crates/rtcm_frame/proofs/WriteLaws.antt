@@ -19,7 +19,7 @@ big_number-three_bytes n h = omega arith
 pub length-frame_bytes : (payload : List ℕ) → length (frame_bytes payload) ≡ length payload + 6
 length-frame_bytes payload = omega (arith, length-append payload (three_bytes (crc_from 0 (body_of payload))))
 
--- a checksum after the bytes that it covers is right
+-- a checksum behind the bytes that it is of is right
 right_behind : (body : List ℕ) → is_right (body ++ three_bytes (crc_from 0 body)) ≡ true
 unfolding is_right
 right_behind body =

@@ -1,9 +1,9 @@
--- What the deframer's private functions compute; only their contracts cite it.
+-- What the deframer's inner functions compute; only their contracts cite it.
 use Rattle.std.specs.Prelude.{ℕ, ◌+◌, ◌<◌, ◌&&◌, ◌++◌, nat_lt, Bool, if◌then◌else◌, List, [], ◌∷◌, length}
 use Rattle.rtcm_frame.specs.Frames.{frame_size, is_open}
 use Rattle.rtcm_frame.specs.State.{IsWaiting}
 
--- the bytes from the first frame on or, with `more`, from the first incomplete one if that is earlier
+-- the bytes from the first place on where a frame begins or, where more bytes may come, that is open
 abbrev pub from_first : Bool → List ℕ → List ℕ
 from_first more [] = []
 from_first more (x ∷ xs) =
@@ -11,6 +11,6 @@ from_first more (x ∷ xs) =
     else if nat_lt 0 (frame_size (x ∷ xs)) then x ∷ xs
     else from_first more xs
 
--- no frame is decided while the bytes, with any that follow, are fewer than count
+-- with fewer bytes than so many, whichever follow these, nothing is decided
 abbrev pub Promises : List ℕ → ℕ → Type 0
 Promises rest count = (following : List ℕ) → length rest + length following < count → IsWaiting (rest ++ following)

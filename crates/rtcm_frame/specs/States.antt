@@ -1,8 +1,8 @@
--- CRC registers beside some bytes; only the contracts of the window's parts cite it.
+-- The registers of the checksum beside some bytes; only the contracts of the window's parts cite it.
 use Rattle.std.specs.Prelude.{◌≡◌, ℕ, ◌+◌, ◌^◌, ◌<◌, ◌≤◌, List, length, slice_index}
 use Rattle.crc24q.specs.Register.{with_byte_of}
 
--- Each register is the one before it advanced by one byte. The first may be any register; the last may be before any byte.
+-- Each register is the one before it with one byte more. They may begin with any register, and stop before any byte.
 pub record AreStates (bytes states : List ℕ) : Type 0 where
   pub some : 1 ≤ length states
   pub most : length states ≤ length bytes + 1

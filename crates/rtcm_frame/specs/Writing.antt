@@ -2,7 +2,7 @@
 use Rattle.std.specs.Prelude.{ℕ, ◌/◌, ◌%◌, List, [], ◌∷◌, ◌++◌, length}
 use Rattle.rtcm_frame.specs.Checksum.{checksum}
 
--- a number in three bytes, most significant first
+-- three bytes, the high one first
 abbrev pub three_bytes : ℕ → List ℕ
 three_bytes n = n / 65536 ∷ n / 256 % 256 ∷ n % 256 ∷ []
 

@@ -1,26 +1,26 @@
-//! Advances a CRC register over the body of a frame, by tables for a size that comes repeatedly.
+//! Registers moved past the body of a frame, by tables where one size comes again and again.
 
 ghost use Rattle.std.specs.Prelude.{◌≡◌, ◌*◌, ◌^◌, ◌<◌};
 ghost use Rattle.crc24q.specs.Register.{shift};
 
 use crc24q::{Mover, shifted};
 
-// After how many occurrences of a size in a row its tables are made. Making them costs about as
-// much as twenty moves without tables.
+// How often a size comes in a row before its tables are made, which takes the time of some twenty
+// moves without tables.
 const OFTEN: u32 = 64;
 
-// Advances registers over bodies of any size. A stream of one repeated byte announces the same size
-// at each offset; with tables made for that size a move is cheaper than the general one.
+// Moves registers past bodies of any size. A stream of one byte alone announces the same size at
+// each place, and the tables of that size take less time than what goes for all sizes.
 #[derive(Drop)]
 pub struct BodyMover {
     mover: Mover,
-    // the last size without tables, and how often it was repeated in a row
+    // the last size that there were no tables for, and how often it came in a row
     last: usize,
     times: u32,
 }
 
 impl BodyMover {
-    // A mover without tables.
+    // One that has moved no register.
     pub fn new() -> Self {
         BodyMover {
             mover: Mover::new(0),
@@ -29,7 +29,7 @@ impl BodyMover {
         }
     }
 
-    // The register after this many further zero bytes.
+    // The register after so many bytes 0, going on from this one.
     pub fn moved(&mut self, state: u32, count: usize) -> u32
         requires state { state < 2 ^ 24 }
         requires count { count < 1029 }
@@ -42,7 +42,7 @@ impl BodyMover {
         shifted(state, count)
     }
 
-    // Counts this size, and makes its tables when it came often in a row.
+    // Notes that this size came, and makes its tables where it came often.
     fn note(&mut self, count: usize)
         requires { count < 1029 }
     {

@@ -1,4 +1,4 @@
-//! Finds the frames in a stream that is fed byte by byte or in pieces.
+//! Frames of bytes that come one by one.
 
 ghost use Rattle.std.specs.Prelude.{◌≡◌, ◌+◌, ◌-◌, ◌<◌, ◌≤◌, ◌↔◌, [], ◌∷◌, ◌++◌, length, take};
 ghost use Rattle.std.specs.Prelude.{drop, true, false, not, IsTrue, IfSome, IfNone};
@@ -11,17 +11,17 @@ use crate::frame::Frame;
 use crate::window::Window;
 use std::marker::Model;
 
-/// Finds the frames in a stream of bytes and gives them in order (RTCM 10403.3, the transport
-/// layer).
+/// Takes the bytes of a stream one by one and gives the frames in them, in order (RTCM 10403.3, the
+/// transport layer).
 ///
-/// Contracts see `rest`, the bytes that were fed and are not yet consumed, and `finished`, whether
-/// `finish` was called.
+/// A contract sees the bytes that were fed and not passed yet, `rest`, and whether `finish` was
+/// called, `finished`.
 #[derive(Drop)]
 pub struct Deframer {
     window: Window,
-    // the offset of the first byte that is not yet consumed
+    // where the bytes begin that were not passed yet
     start: usize,
-    // while the window has fewer bytes than this, no frame can be decided
+    // with fewer bytes than so many in the window nothing is decided
     wanted: usize,
     finished: bool,
 }
@@ -44,7 +44,7 @@ impl Deframer {
     ghost use Rattle.std.specs.Prelude.{not, IsTrue, IfSome, IfNone};
     ghost use Rattle.rtcm_frame.specs.State.{MayFeed, TakesFrame, TakesNone};
 
-    /// A deframer that has been fed no byte.
+    /// A deframer that has taken no byte.
     pub fn new() -> Self
         ensures rest { result.rest ≡ [] }
         ensures finished { result.finished ≡ false }
@@ -57,8 +57,8 @@ impl Deframer {
         }
     }
 
-    /// Feeds one byte. Allowed where `may_feed` holds: after `new`, and after each `next_frame`
-    /// that returned `None`, until `finish` is called.
+    /// Takes one more byte. It may be called where `may_feed` holds: after `new`, and after each
+    /// `next_frame` that answered `None`, until `finish` is called.
     pub fn feed(&mut self, byte: u8)
         requires { MayFeed self.old }
         ensures rest { self.new.rest ≡ self.old.rest ++ byte ∷ [] }
@@ -68,10 +68,11 @@ impl Deframer {
         self.window.push(byte);
     }
 
-    /// Feeds bytes from the start of a piece, as many as there is room for but at least one, and
+    /// Takes bytes from the front of a piece, as many as there is room for and at least one, and
     /// gives how many.
     ///
-    /// Allowed where `may_feed` holds, as `feed`. This is faster than feeding the bytes one by one.
+    /// It may be called where `may_feed` holds, as `feed`. A piece that is fed so costs less than
+    /// one that is fed byte by byte.
     pub fn feed_some(&mut self, piece: &[u8]) -> usize
         requires may_feed { MayFeed self.old }
         requires some { 0 < length piece.now }
@@ -86,11 +87,11 @@ impl Deframer {
         count
     }
 
-    /// Gives the next frame and consumes the bytes up to its end.
+    /// The next frame, and passes the bytes up to its end.
     ///
-    /// Before `finish`, `None` means that no frame is decided yet: what is left is empty or begins
-    /// with an incomplete frame. After `finish`, `None` means that there is no further frame, and
-    /// nothing is left.
+    /// Before `finish` it answers `None` exactly where no frame is decided: what is kept then
+    /// begins with a frame that has not ended, or nothing is kept. After `finish` it answers `None`
+    /// exactly where there is no frame any more, and keeps nothing.
     pub fn next_frame(&mut self) -> Option<Frame>
         ensures frame { IfSome result (λ frame.
             TakesFrame (not self.old.finished) self.old.rest frame self.new.rest) }
@@ -116,8 +117,8 @@ impl Deframer {
         Some(frame)
     }
 
-    /// Says that no byte follows. A frame that is incomplete stays so; the bytes after its preamble
-    /// are then searched for frames.
+    /// Says that no byte follows: a frame that has not ended will not, and the frames inside it are
+    /// looked for.
     pub fn finish(&mut self)
         ensures rest { self.new.rest ≡ self.old.rest }
         ensures finished { self.new.finished ≡ true }
@@ -133,8 +134,8 @@ impl Deframer {
     }
 }
 
-// Consumes the bytes before the first frame or, where more may come, the first incomplete frame.
-// Gives the size of the frame there, or 0 where it is incomplete or there is none.
+// Passes the bytes before the first place where a frame begins or, where more may come, that is
+// open, and gives the size of the frame that begins there, or 0 where none does.
 #[inline(never)]
 fn decide(window: &mut Window, start: &mut usize, wanted: &mut usize, more: bool) -> usize
     requires { start.old ≤ length window.old }
@@ -152,8 +153,8 @@ fn decide(window: &mut Window, start: &mut usize, wanted: &mut usize, more: bool
     size
 }
 
-// The first offset from `start` on where a frame begins or, where more bytes may come, an
-// incomplete one does; and the size of the frame there, or 0.
+// The first place from this one on where a frame begins or, where more bytes may come, that is
+// open, and the size of the frame, or 0 where none begins.
 #[tactic(auto, using(crate::proofs::Takes::steps))]
 fn find(window: &mut Window, start: usize, more: bool) -> (usize, usize)
     requires { start ≤ length window.old }
@@ -177,7 +178,7 @@ fn find(window: &mut Window, start: usize, more: bool) -> (usize, usize)
     (place, 0)
 }
 
-// The frame of `size` bytes at this offset.
+// The frame of so many bytes from this place on.
 #[tactic(auto, using(crate::proofs::Takes::sizes))]
 fn frame_at(window: &Window, place: usize, size: usize) -> Frame
     requires size { size ≡ frame_size (drop place window.now) }
@@ -188,8 +189,7 @@ fn frame_at(window: &Window, place: usize, size: usize) -> Frame
     Frame::new(&window.bytes()[place..place + size])
 }
 
-// The number of bytes in the window below which no frame is decided. An all-consumed window is
-// cleared.
+// Below how many bytes in the window nothing is decided; a window with no bytes to pass is cleared.
 #[tactic(auto, using(crate::proofs::Promising::promises))]
 fn undecided_below(window: &mut Window, start: &mut usize) -> usize
     requires inside { start.old ≤ length window.old }
@@ -206,7 +206,7 @@ fn undecided_below(window: &mut Window, start: &mut usize) -> usize
     *start + wanted_of(&window.bytes()[*start..])
 }
 
-// Moves the unconsumed bytes to the start of a full window.
+// Moves the bytes that were not passed to the front of a full window.
 fn make_room(window: &mut Window, start: &mut usize, wanted: &mut usize)
     requires inside { start.old ≤ length window.old }
     requires short { length (drop start.old window.old) < 4096 }

@@ -1,5 +1,4 @@
-//! Header, length and checksum of the frame at the start of some bytes (RTCM 10403.3, the transport
-//! layer).
+//! The form of one frame, at the beginning of some bytes (RTCM 10403.3, the transport layer).
 
 ghost use Rattle.std.specs.Prelude.{◌≡◌, ◌<◌, ◌≤◌, ◌^◌, ◌&&◌, ◌↔◌, IsTrue, length, take, drop};
 ghost use Rattle.std.specs.Prelude.{slice_index, if◌then◌else◌, Bool};
@@ -11,7 +10,7 @@ ghost use Rattle.rtcm_frame.specs.Mirrors.{from_first, Promises};
 use byteorder::{BigEndian, ByteOrder};
 use crc24q::crc_bytes;
 
-// The preamble of each frame.
+// The first byte of each frame.
 pub const PREAMBLE: u8 = 0xD3;
 
 // The size of the longest frame: three bytes of header, 1,023 of payload and three of checksum.
@@ -27,7 +26,7 @@ pub fn has_right_checksum(frame: &[u8]) -> bool
     crc_bytes(&frame[..end]).value() == u64::from(BigEndian::read_u24(&frame[end..]))
 }
 
-// The size of the whole frame, header and checksum included, by the length in this header.
+// The size of the whole frame whose header begins these bytes.
 fn announced_size(bytes: &[u8]) -> usize
     requires { 3 ≤ length bytes.now }
     ensures { result ≡ announced (slice_index bytes.now 1) (slice_index bytes.now 2) }
@@ -35,8 +34,7 @@ fn announced_size(bytes: &[u8]) -> usize
     (BigEndian::read_u16(&bytes[1..]) % 1024) as usize + 6
 }
 
-// Whether the bytes begin with an incomplete frame: a preamble, and fewer bytes than its frame
-// takes.
+// Whether the bytes begin with a frame that has not ended in them.
 #[tactic(auto, using(crate::proofs::FormCases::form_cases))]
 pub fn opens(bytes: &[u8]) -> bool
     ensures { result ≡ is_open bytes.now }
@@ -55,7 +53,7 @@ pub fn is_held(bytes: &[u8], more: bool) -> bool
     more && opens(bytes)
 }
 
-// The first offset from `from` on of a byte D3, or the end of the bytes.
+// The first place from this one on at which a byte D3 stands, or the end.
 pub fn next_start(bytes: &[u8], from: usize) -> usize
     requires { from ≤ length bytes.now }
     ensures onward { from ≤ result }
@@ -71,8 +69,8 @@ pub fn next_start(bytes: &[u8], from: usize) -> usize
     place
 }
 
-// The size of the frame that the header at the start of these bytes announces, if the bytes hold
-// all of it, else 0. The checksum is not looked at.
+// The size of the frame that is announced at the beginning of these bytes and ends in them, or 0
+// where none does.
 #[tactic(auto, using(crate::proofs::FormCases::form_cases))]
 pub fn announced_within(bytes: &[u8]) -> usize
     ensures none { result ≡ 0 → frame_size bytes.now ≡ 0 }
@@ -94,7 +92,7 @@ pub fn announced_within(bytes: &[u8]) -> usize
     }
 }
 
-// The number of bytes from here on below which no frame can be decided.
+// With fewer bytes than so many that begin with these nothing is decided.
 #[tactic(auto, using(crate::proofs::Promising::promises))]
 pub fn wanted_of(rest: &[u8]) -> usize
     requires { IsWaiting rest.now }
@@ -109,14 +107,14 @@ pub fn wanted_of(rest: &[u8]) -> usize
     }
 }
 
-// Whether the bytes are empty or begin with an incomplete frame.
+// Whether nothing is held, or what is held begins with a frame that has not ended.
 pub fn waits(rest: &[u8]) -> bool
     ensures { IsTrue result ↔ IsWaiting rest.now }
 {
     rest.is_empty() || opens(rest)
 }
 
-// The size of the frame with right checksum at the start of these bytes, or 0 where there is none.
+// The size of the whole frame that begins these bytes, or 0 where none does.
 pub fn size_of_frame(bytes: &[u8]) -> usize
     ensures { result ≡ frame_size bytes.now }
 {

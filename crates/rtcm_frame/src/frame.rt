@@ -8,8 +8,8 @@ use crate::form::{LONGEST, size_of_frame};
 use arrayvec::ArrayVec;
 use std::marker::Model;
 
-/// One whole frame with a right checksum (RTCM 10403.3, the transport layer). Contracts see the
-/// list of its bytes, of which there are at least 6.
+/// One whole frame (RTCM 10403.3, the transport layer). A contract sees the list of its bytes, of
+/// which there are 6 at least.
 #[derive(Drop)]
 pub struct Frame {
     bytes: ArrayVec<u8, LONGEST>,
@@ -26,7 +26,7 @@ impl Model for Frame {
 }
 
 impl Frame {
-    // The frame with these bytes.
+    // The frame of these bytes.
     pub(crate) fn new(bytes: &[u8]) -> Self
         requires shortest { 6 ≤ length bytes.now }
         requires longest { length bytes.now ≤ 1029 }
@@ -46,7 +46,7 @@ impl Frame {
         self.bytes.as_slice()
     }
 
-    /// The payload, 0 to 1,023 bytes, between header and checksum.
+    /// The payload, 0 to 1,023 bytes: what stands between the header and the checksum.
     pub fn payload(&self) -> &[u8]
         ensures value { result.now ≡ payload_of self.now }
         ensures longest { length result.now ≤ 1023 }
@@ -56,8 +56,8 @@ impl Frame {
     }
 }
 
-/// The frame that these bytes are. `None` exactly where they are not one whole frame with a right
-/// checksum and nothing after it.
+/// The frame that these bytes are; `None` exactly where they are not one whole frame of right
+/// checksum and nothing else.
 #[tactic(auto, using(crate::proofs::Takes::sizes))]
 pub fn frame_of(bytes: &[u8]) -> Option<Frame>
     ensures whole { IsSome result ↔

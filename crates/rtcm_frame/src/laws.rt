@@ -1,4 +1,4 @@
-//! Laws of the definitions. Each function does nothing; its contract is the law.
+//! Laws of the definitions: each function does nothing, and its contract is the law.
 
 ghost use Rattle.std.specs.Prelude.{◌≡◌, ℕ, ◌+◌, ◌≤◌, length, ◌<◌, ◌↔◌, ◌&&◌, ◌++◌, ◌∷◌, nat_lt};
 ghost use Rattle.std.specs.Prelude.{Bool, List, [], take, drop};
@@ -9,8 +9,8 @@ ghost use Rattle.rtcm_frame.specs.Writing.{frame_bytes};
 ghost use Rattle.rtcm_frame.specs.Places.{AreChosen, is_chosen, frames_from, IsUnfinished};
 ghost use Rattle.rtcm_frame.specs.Places.{IsOpenPlace};
 
-/// `frame_size` finds a frame of a size at the start of the bytes exactly where the standard's bit
-/// layout has one there.
+/// A frame begins the bytes, and has this size, exactly where one of this size begins them in the
+/// standard's own terms.
 pub fn frames_are_those_of_the_standard()
     ensures { (bytes : List ℕ) (n : ℕ) → AreBytes bytes
         → ((0 < n) × (frame_size bytes ≡ n)) ↔ BeginsFrame bytes n }
@@ -19,14 +19,14 @@ pub fn frames_are_those_of_the_standard()
     crc24q::the_register_holds_the_crc();
 }
 
-/// Decided frames stay whatever bytes follow; the frames after them are those of the undecided
-/// bytes with these.
+/// The decided frames stay, whatever bytes follow, and the others are those of what is undecided
+/// with these bytes.
 pub fn decided_frames_stay()
     ensures { (bytes more : List ℕ)
         → frames (bytes ++ more) ≡ decided bytes ++ frames (undecided bytes ++ more) }
 {}
 
-/// There is exactly one set of chosen offsets, and the frames are those at its offsets, ascending.
+/// There is exactly one set of chosen places, and the frames are those at its places, ascending.
 pub fn frames_are_at_the_chosen_places()
     ensures exist { (bytes : List ℕ) → AreChosen bytes (is_chosen bytes) }
     ensures only { (bytes : List ℕ) (chosen : ℕ → Bool) → AreChosen bytes chosen
@@ -35,7 +35,7 @@ pub fn frames_are_at_the_chosen_places()
         → frames_from chosen 0 bytes ≡ frames bytes }
 {}
 
-/// The decided frames are the chosen ones before the first unfinished frame.
+/// The decided frames are the chosen ones before the open place, the least that is unfinished.
 pub fn decided_frames_stand_before_the_open_place()
     ensures before { (bytes : List ℕ) (chosen : ℕ → Bool) (place : ℕ) → AreChosen bytes chosen
         → IsOpenPlace bytes chosen place
@@ -51,14 +51,14 @@ pub fn frames_after_the_first()
     ensures { (bytes : List ℕ) → frames (after_first bytes) ≡ drop 1 (frames bytes) }
 {}
 
-/// While the bytes are empty or begin with an incomplete frame, no frame is decided and all of them
-/// are undecided.
+/// While nothing is held, or what is held begins with a frame that has not ended, no frame is
+/// decided, and what is held begins at its open place.
 pub fn nothing_is_decided_while_bytes_wait()
     ensures decided { (rest : List ℕ) → IsWaiting rest → decided rest ≡ [] }
     ensures undecided { (rest : List ℕ) → IsWaiting rest → undecided rest ≡ rest }
 {}
 
-/// What is written for a payload is exactly one whole frame, with this payload.
+/// What is written for a payload is a whole frame and nothing else, of this payload.
 pub fn written_frames_are_whole()
     ensures whole { (payload : List ℕ) → length payload ≤ 1023
         → frame_size (frame_bytes payload) ≡ length payload + 6 }
@@ -66,14 +66,13 @@ pub fn written_frames_are_whole()
     ensures payload { (payload : List ℕ) → payload_of (frame_bytes payload) ≡ payload }
 {}
 
-/// The frames of a written frame followed by more bytes are that frame, then the frames of those
-/// bytes.
+/// The frames of a written frame and more bytes are that frame and the frames of the other bytes.
 pub fn frames_behind_a_written_frame()
     ensures { (payload more : List ℕ) → length payload ≤ 1023
         → frames (frame_bytes payload ++ more) ≡ frame_bytes payload ∷ frames more }
 {}
 
-/// The result of `next_frame` is determined: one frame or none, and one rest.
+/// A deframer has one answer: one frame or none, and one rest.
 pub fn one_frame_is_next()
     ensures frame { (more : Bool) (old frame new frame' new' : List ℕ)
         → TakesFrame more old frame new → TakesFrame more old frame' new'

@@ -1,10 +1,11 @@
 //! Frames of RTCM 10403.3 (the transport layer, section 4): writing one, reading one, and finding
 //! them in a stream of bytes.
 //!
-//! A frame is the preamble D3, six reserved bits that are ignored, a length in ten bits, a payload
-//! of that many bytes (0 to 1,023), and the CRC-24Q of all before it in three bytes, most
-//! significant first. A frame may begin at each byte D3 of a stream: where the frame is whole and
-//! its checksum right, the search goes on after its end, else at the next byte.
+//! A frame is the preamble D3, six reserved bits that are not looked at, ten bits of length, a
+//! payload of so many bytes (0 to 1,023), and the CRC-24Q of all before it in three bytes, the high
+//! one first. In a stream a frame is looked for at each byte D3: where a whole frame of right
+//! checksum begins, that frame is taken and the search goes on behind it, else it goes on one byte
+//! further.
 //!
 //! ```rust
 //! let mut deframer = Deframer::new();

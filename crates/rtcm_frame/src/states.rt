@@ -1,5 +1,5 @@
-//! CRC registers beside the bytes of a window. From the registers before and after a run of bytes
-//! its checksum takes the same time for any length.
+//! The registers of the checksum beside the bytes of a window: with those before and after some
+//! bytes, the checksum of these takes the same time whatever their number.
 
 ghost use Rattle.std.specs.Prelude.{◌≡◌, ℕ, ◌-◌, ◌^◌, ◌<◌, ◌≤◌, List, length, take, drop};
 ghost use Rattle.arrayvec.specs.ArrayVec.{array_vec_len};
@@ -12,7 +12,7 @@ use arrayvec::ArrayVec;
 use byteorder::{BigEndian, ByteOrder};
 use crc24q::with_byte;
 
-// Computes the registers up to the one before offset `end`.
+// Computes the registers up to the one before this place.
 pub fn extend(bytes: &[u8], states: &mut ArrayVec<u32, 4097>, end: usize)
     requires states { AreStates bytes.now states.old.items }
     requires inside { end ≤ length bytes.now }
@@ -28,7 +28,7 @@ pub fn extend(bytes: &[u8], states: &mut ArrayVec<u32, 4097>, end: usize)
     }
 }
 
-// Removes the registers of the first `count` bytes.
+// Removes the registers of so many bytes in front.
 pub fn cut_states(states: &mut ArrayVec<u32, 4097>, count: usize)
     ensures { (bytes : List ℕ) → AreStates bytes states.old.items →
         AreStates (drop count bytes) states.new.items }
@@ -40,7 +40,7 @@ pub fn cut_states(states: &mut ArrayVec<u32, 4097>, count: usize)
     }
 }
 
-// Removes the first `count` registers.
+// Removes so many registers in front.
 fn cut_prefix(states: &mut ArrayVec<u32, 4097>, count: usize)
     requires { count ≤ array_vec_len states.old }
     ensures { states.new.items ≡ drop count states.old.items }
@@ -48,7 +48,7 @@ fn cut_prefix(states: &mut ArrayVec<u32, 4097>, count: usize)
     states.drain(..count);
 }
 
-// Leaves one register, the initial one.
+// Leaves one register alone, that of a message that begins.
 pub fn begin_states(states: &mut ArrayVec<u32, 4097>)
     ensures { (bytes : List ℕ) → AreStates bytes states.new.items }
 {
@@ -56,8 +56,8 @@ pub fn begin_states(states: &mut ArrayVec<u32, 4097>)
     states.push(0);
 }
 
-// Whether the last three bytes are the checksum of those before them, from the registers before and
-// after the latter.
+// Whether the last three bytes are the checksum of those before them, by the registers before and
+// after these.
 #[tactic(auto, unfolding(crate::specs::Frames::is_right))]
 pub fn has_right_checksum_by(mover: &mut BodyMover, before: u32, after: u32, frame: &[u8]) -> bool
     requires before { before < 2 ^ 24 }

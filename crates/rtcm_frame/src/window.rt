@@ -9,17 +9,18 @@ use crate::states::{begin_states, cut_states, extend, has_right_checksum_by};
 use arrayvec::ArrayVec;
 use std::marker::Model;
 
-// The capacity of a window in bytes.
+// How many bytes a window holds at most.
 const CAPACITY: usize = 4096;
 
-// The bytes, and CRC registers beside them. The registers are computed only as far as a checksum
-// was wrong: good frames cost no registers, and no byte is processed twice.
+// The bytes, seen as their list. Beside the first of them stand the registers of the checksum: as
+// far as a checksum by itself was wrong, so that good frames never pay for them, and no byte is
+// gone over twice.
 #[derive(Drop)]
 pub struct Window {
     bytes: ArrayVec<u8, CAPACITY>,
     // the register before each byte, up to some byte
     states: ArrayVec<u32, 4097>,
-    // advances registers over the bodies of frames
+    // moves them past the bodies of frames
     mover: BodyMover,
 }
 
@@ -35,7 +36,7 @@ impl Model for Window {
 }
 
 impl Window {
-    // An empty window.
+    // A window of no bytes.
     pub fn new() -> Self
         ensures { result ≡ [] }
     {
@@ -71,7 +72,7 @@ impl Window {
         self.bytes.push(byte);
     }
 
-    // Appends bytes; there must be room for them.
+    // Appends bytes, for which there is room.
     pub fn append(&mut self, piece: &[u8])
         requires { length self.old + length piece.now ≤ 4096 }
         ensures { self.new ≡ self.old ++ piece.now }
@@ -81,7 +82,7 @@ impl Window {
         }
     }
 
-    // Removes the first `count` bytes.
+    // Removes so many bytes in front.
     pub fn cut_prefix(&mut self, count: usize)
         requires { count ≤ length self.old }
         ensures { self.new ≡ drop count self.old }
@@ -98,8 +99,7 @@ impl Window {
         begin_states(&mut self.states);
     }
 
-    // Whether the last three of the `size` bytes at this offset are the checksum of those before
-    // them.
+    // Whether the last three of these bytes are the checksum of those before.
     pub fn is_right_at(&mut self, place: usize, size: usize) -> bool
         requires inside { place + size ≤ length self.old }
         requires shortest { 3 ≤ size }
@@ -119,7 +119,7 @@ impl Window {
         has_right_checksum_by(&mut self.mover, before, after, frame)
     }
 
-    // The size of the frame with right checksum at this offset, or 0 where there is none.
+    // The size of the frame that begins at this place, or 0 where none does.
     pub fn size_at(&mut self, place: usize) -> usize
         requires { place ≤ length self.old }
         ensures value { result ≡ frame_size (drop place self.old) }

@@ -8,7 +8,7 @@ use crate::form::PREAMBLE;
 use arrayvec::ArrayVec;
 use crc24q::crc_bytes;
 
-/// Writes the frame of a payload of at most 1,023 bytes: the preamble, six reserved bits 0, the
+/// Writes the frame of this payload of at most 1,023 bytes: the preamble, six reserved bits 0, the
 /// payload's length, the payload, and the CRC-24Q of all these (RTCM 10403.3, the transport layer).
 pub fn write_frame(payload: &[u8], into: &mut ArrayVec<u8, 1029>)
     requires short { length payload.now ≤ 1023 }
@@ -34,7 +34,7 @@ fn push_body(payload: &[u8], into: &mut ArrayVec<u8, 1029>)
     }
 }
 
-// Appends a number of 24 bits in three bytes, most significant first.
+// Appends a number of 24 bits in three bytes, the high one first.
 fn push_three(number: u64, into: &mut ArrayVec<u8, 1029>)
     requires fits { number < 2 ^ 24 }
     requires room { array_vec_len into.old + 3 ≤ 1029 }

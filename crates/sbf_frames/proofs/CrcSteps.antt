@@ -1,4 +1,4 @@
--- The CRC byte by byte, the registers after each byte, and a register advanced over zero bytes.
+-- The CRC byte by byte, the registers beside bytes, and a register moved past bytes that are 0.
 use Rattle.std.proofs.Common.{◌≡◌, ℕ, zero, suc, ◌+◌, ◌-◌, ◌*◌, ◌/◌, ◌%◌, ◌^◌, ◌<◌, ◌≤◌, ◌⊎◌, inl}
 use Rattle.std.proofs.Common.{inr, nat_eq, List, [], ◌∷◌, ◌++◌, length, get_or, take, drop, refl}
 use Rattle.std.proofs.Common.{sym, ap, subst, ◌∙◌, arith, add-zero, length-drop}
@@ -16,7 +16,7 @@ use Rattle.sbf_frames.proofs.RegisterLaws.{stepped_small, shift-xor, shift-add}
 use Rattle.sbf_frames.proofs.RegisterLaws.{shift-zero, with_byte_of-lt, crc_from-append}
 use Rattle.sbf_frames.proofs.RegisterLaws.{crc_of_part}
 
--- one more byte
+-- one byte more of some bytes
 pub crc_next : (r : ℕ) (xs : List ℕ) (i : ℕ) → i < length xs
     → crc_from r (take (i + 1) xs) ≡ with_byte_of (crc_from r (take i xs)) (get_or xs i 0)
 unfolding crc_from
@@ -34,7 +34,7 @@ state-lt bytes states are (suc i) h =
     (with_byte_of-lt (get_or states i 0) (get_or bytes i 0)
     (state-lt bytes states are i (omega arith)))
 
--- a later register is an earlier one after the bytes between
+-- the register some bytes on is the one before them with these bytes
 pub state_after : (bytes states : List ℕ) → AreStates bytes states → (a n : ℕ)
     → a + n < length states
     → get_or states (a + n) 0 ≡ crc_from (get_or states a 0) (take n (drop a bytes))
@@ -96,20 +96,20 @@ states_more bytes states place next are count inside is = record {
         ∙ ap (λ n. with_byte_of (get_or states n 0) (get_or bytes n 0)) same
         ∙ ap (λ r. with_byte_of r (get_or bytes i 0)) (sym (before i (omega arith)))
 
--- x times a remainder, advanced
+-- x times a remainder that is moved on
 twice : (n m : ℕ) → m < 2 ^ 15 → shift n (m * 2) ≡ stepped (shift n m)
 unfolding shift
 twice n m h =
     let order : n + 1 ≡ suc n = omega arith in
     ap (shift n) (sym (stepped_small m h)) ∙ sym (shift-add n 1 m) ∙ ap (λ k. shift k m) order
 
--- one bit, advanced
+-- a digit that is moved on
 digit : (n d : ℕ) → d < 2 → shift n d ≡ d * shift n 1
 digit n zero h = shift-zero n ∙ omega arith
 digit n (suc zero) h = omega arith
 digit n (suc (suc d)) h = absurd (omega arith)
 
--- one more bit of the register that is advanced
+-- one digit more of the register that is moved on
 pub bit_step : (n state k sum power : ℕ) → state < 2 ^ 16 → power < 2 ^ 16 → k < 16
     → power ≡ shift n 1 → sum ≡ shift n (state / 2 ^ (16 - k))
     → bit_xor (stepped sum) (state / 2 ^ (15 - k) % 2 * power) ≡ shift n (state / 2 ^ (16 - (k + 1)))
@@ -142,17 +142,17 @@ bit_step n state k sum power fits less inside power_is sum_is =
         ∙ ap (λ x. bit_xor x (shift n d)) (twice n m hm)
         ∙ ap (bit_xor (stepped (shift n m))) (digit n d hd)
 
--- no bit of the register
+-- no digit of the register
 pub no_bits : (n state : ℕ) → state < 2 ^ 16 → 0 ≡ shift n (state / 2 ^ 16)
 no_bits n state fits =
     let none : state / 2 ^ 16 ≡ 0 = omega arith in
     sym (ap (shift n) none ∙ shift-zero n)
 
--- all its bits
+-- all of them
 pub all_bits : (n state : ℕ) → shift n (state / 2 ^ 0) ≡ shift n state
 all_bits n state = let same : state / 2 ^ 0 ≡ state = omega arith in ap (shift n) same
 
--- the power for no byte
+-- the power of no byte
 pub first_power : ArePowers (1 ∷ [])
 unfolding shift
 first_power = record { some = omega arith; each = λ n h. at n h }
@@ -161,7 +161,7 @@ first_power = record { some = omega arith; each = λ n h. at n h }
     at zero h = refl
     at (suc n) h = absurd (omega arith)
 
--- one more power
+-- one power more
 pub powers_more : (powers : List ℕ) (k power : ℕ) → ArePowers powers → length powers ≡ k + 1
     → power ≡ shift 32 (get_or powers k 0)
     → ArePowers (powers ++ power ∷ [])
@@ -180,7 +180,7 @@ powers_more powers k power are count is = record {
         get_or_push powers power 0 n last ∙ is ∙ ap (shift 32) (are.each k (omega arith))
         ∙ sym (shift-add 32 (32 * k) 1) ∙ ap (λ m. shift m 1) place
 
--- the register after four zero bytes
+-- the register with four bytes 0
 pub four_zeros : (r a b c d : ℕ) → r < 2 ^ 16 → a ≡ with_byte_of r 0 → b ≡ with_byte_of a 0
     → c ≡ with_byte_of b 0 → d ≡ with_byte_of c 0 → d ≡ shift 32 r
 unfolding with_byte_of
@@ -192,7 +192,7 @@ four_zeros r a b c d h a_is b_is c_is d_is =
     ∙ ap (λ x. shift 8 (shift 8 x)) (sym (shift-add 8 8 r)) ∙ ap (shift 8) (sym (shift-add 8 16 r))
     ∙ sym (shift-add 8 24 r)
 
--- the registers tell whether a block has the right CRC
+-- the registers beside the bytes tell whether a block has its CRC
 pub right_by : (bytes states : List ℕ) → AreStates bytes states → (place size moved : ℕ) → 8 ≤ size
     → place + size ≤ length bytes → place + size < length states
     → moved ≡ shift (8 * (size - 4)) (get_or states (place + 4) 0)

@@ -1,10 +1,10 @@
--- The entries of the table, by a test that computes.
+-- What stands in the table, by a test that computes.
 use Rattle.std.proofs.Common.{◌≡◌, ℕ, ◌*◌, ◌^◌, ◌<◌, true, get_or, refl, ap, ◌∙◌, zero-add}
 use Rattle.sbf_frames.specs.Register.{stepped, shift}
 use Rattle.sbf_frames.specs.declared.register.TheConstants.{MOVED_8}
 use Rattle.sbf_frames.proofs.TableLemmas.{are_entries, entry_is}
 
--- a byte at the head of the register, advanced by eight bits
+-- a byte at the head of the register, eight places on
 unfoldable pub moved : ℕ → ℕ
 moved byte = shift 8 (byte * 2 ^ 8)
 

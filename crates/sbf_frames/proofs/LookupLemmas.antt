@@ -1,4 +1,4 @@
--- The register by look-ups: its high byte goes through a table, and the rest shifts without loss.
+-- The register by look-ups: its head goes through a table, and the rest moves without loss.
 use Rattle.std.proofs.Common.{◌≡◌, ℕ, ◌+◌, ◌*◌, ◌/◌, ◌%◌, ◌^◌, ◌<◌, ◌≤◌}
 use Rattle.std.proofs.Common.{refl, sym, ap, ◌∙◌, arith}
 use Rattle.std.proofs.lemmas.Nat.{xor_block, xor_lt, and_mask}
@@ -9,7 +9,7 @@ use Rattle.sbf_frames.specs.Register.{stepped, shift, with_byte_of}
 use Rattle.sbf_frames.proofs.RegisterLaws.{stepped_small, shift-xor}
 use Rattle.sbf_frames.proofs.RegisterLaws.{shift_small}
 
--- the high byte of the sum of a byte at the head and a register
+-- a sum of a byte at the head and a register
 head_sum : (r x : ℕ) → bit_xor r (x * 2 ^ 8) ≡ bit_xor (bit_xor (r / 2 ^ 8) x * 2 ^ 8) (r % 2 ^ 8)
 head_sum r x =
     let low : r % 2 ^ 8 < 2 ^ 8 = omega arith in
@@ -20,7 +20,7 @@ head_sum r x =
     ∙ ap (λ n. bit_xor (r / 2 ^ 8) x * 2 ^ 8 + n) (xor_zero_r (r % 2 ^ 8))
     ∙ sym (xor_shifted (bit_xor (r / 2 ^ 8) x) 8 (r % 2 ^ 8) low)
 
--- a byte at the head fits the register
+-- a byte at the head of a register
 pub head_fits : (h : ℕ) → h < 2 ^ 8 → h * 2 ^ 8 < 2 ^ 16
 head_fits h less = omega arith
 
@@ -38,7 +38,7 @@ with_byte_split r x hr hx =
     (head_fits (bit_xor (r / 2 ^ 8) x) (head_of r x hr hx)) (omega arith)
     ∙ ap (bit_xor (shift 8 (bit_xor (r / 2 ^ 8) x * 2 ^ 8))) (shift_small 8 8 (r % 2 ^ 8) refl low)
 
--- the low bits of a register by a mask, shifted in 32 bits
+-- the low digits of a register by a mask, moved in 32 bits
 low_moved : (r : ℕ) → bit_and r 0xff * 2 ^ 8 % 2 ^ 32 ≡ r % 2 ^ 8 * 2 ^ 8
 low_moved r =
     let low : bit_and r 0xff ≡ r % 2 ^ 8 = and_mask r 8 in
@@ -52,7 +52,7 @@ one_byte r x entry hr hx is =
     ∙ ap (bit_xor (shift 8 (bit_xor (r / 2 ^ 8) x * 2 ^ 8))) (low_moved r)
     ∙ sym (with_byte_split r x hr hx)
 
--- ---- the register advanced
+-- ---- the register moved on
 
 pub one_place : (r : ℕ) → r * 2 % 2 ^ 32 < 2 ^ 16 → r < 2 ^ 16 → r * 2 % 2 ^ 32 ≡ stepped r
 one_place r less h =

@@ -22,14 +22,14 @@ stepped-xor a b ha hb =
     ∙ ap (bit_xor (bit_xor (a * 2) (b * 2))) top
     ∙ regroup (a * 2) (b * 2) (a / 2 ^ 15 * generator) (b / 2 ^ 15 * generator)
 
--- where the highest bit is 0 nothing is subtracted
+-- where the first digit is 0 nothing is taken off
 pub stepped_small : (r : ℕ) → r < 2 ^ 15 → stepped r ≡ r * 2
 unfolding stepped
 stepped_small r h =
     let none : r / 2 ^ 15 * generator ≡ 0 = omega arith in
     ap (bit_xor (r * 2)) none ∙ xor_zero_r (r * 2)
 
--- where the highest bit is 1, subtracting the generator leaves less than 2^16
+-- where the first digit is 1, the rest is below 2^24 once the generator is taken off
 stepped_large : (low : ℕ) → low < 2 ^ 16 → bit_xor (2 ^ 16 + low) generator < 2 ^ 16
 stepped_large low h =
     let e : bit_xor (1 * 2 ^ 16 + low) (1 * 2 ^ 16 + 0x1021)
@@ -77,7 +77,7 @@ unfolding shift
 shift-add zero j r = ap (λ n. shift n r) (zero-add j)
 shift-add (suc i) j r = ap (λ n. shift n r) (suc-add i j) ∙ ap stepped (shift-add i j r)
 
--- k more bits where the highest k are 0: nothing is subtracted
+-- k more digits where the first k are 0: nothing is taken off
 pub shift_small : (k j r : ℕ) → k + j ≡ 16 → r < 2 ^ j → shift k r ≡ r * 2 ^ k
 unfolding shift
 shift_small zero j r e h = omega arith
@@ -97,7 +97,7 @@ shift-zero (suc k) = ap stepped (shift-zero k) ∙ stepped_small 0 (omega arith)
 
 -- ---- bytes
 
--- a byte at the head fits the register
+-- a byte at the head of the register
 pub head-lt : (byte : ℕ) → byte % 256 * 2 ^ 8 < 2 ^ 16
 head-lt byte = omega arith
 
@@ -139,13 +139,13 @@ crc_from-xor a b (x ∷ xs) ha hb =
     ∙ ap (λ r. bit_xor r (crc_from (with_byte_of b x) xs))
     (sym (ap (λ n. shift n a) count ∙ shift-add (8 * length xs) 8 a))
 
--- the register after bytes: their own CRC plus the earlier register advanced
+-- what the bytes alone make, and what they make of the state before them
 pub crc_from-parts : (r : ℕ) (xs : List ℕ) → r < 2 ^ 16
     → crc_from r xs ≡ bit_xor (shift (8 * length xs) r) (crc_from 0 xs)
 crc_from-parts r xs h = ap (λ n. crc_from n xs) (sym (xor_zero_r r))
     ∙ crc_from-xor r 0 xs h (omega arith)
 
--- the CRC of a range of bytes by the registers before and after it
+-- the CRC of some bytes by the states before and after them
 pub crc_of_part : (r : ℕ) (xs : List ℕ) → r < 2 ^ 16
     → crc_from 0 xs ≡ bit_xor (crc_from r xs) (shift (8 * length xs) r)
 crc_of_part r xs h =

@@ -1,4 +1,4 @@
--- The size of a complete block.
+-- The size of a whole block.
 use Rattle.std.proofs.Common.{◌≡◌, ℕ, ◌+◌, ◌-◌, ◌%◌, ◌≤◌, ◌&&◌, nat_le, nat_eq, true, List, length}
 use Rattle.std.proofs.Common.{get_or, take, drop, refl, sym, ◌∙◌, arith, length-drop}
 use Rattle.std.proofs.lemmas.Bool.{and_parts, leb-true, eqb-true}
@@ -8,7 +8,7 @@ use Rattle.framing.specs.SyncLaws.{whole_has_header, wanted_many, begins_many}
 use Rattle.sbf_frames.specs.Form.{announced, may_be, sbf_sync}
 use Rattle.sbf_frames.specs.FormLaws.{sbf_is_sync}
 
--- a complete block has 8 to 65,535 bytes, a multiple of 4
+-- a whole block has 8 to 65,535 bytes, a multiple of 4
 pub whole_size : (bytes : List ℕ) (place size : ℕ) → place + size ≤ length bytes
     → begins_by sbf_sync (drop place bytes) ≡ true
     → size ≡ wanted_by sbf_sync (drop place bytes) → (8 ≤ size) × (size ≤ 65535) × (size % 4 ≡ 0)

@@ -1,4 +1,4 @@
--- Sums of polynomials: regrouping, cancelling, and the products with x^k and with a single bit.
+-- Sums of polynomials: regrouping, cancelling, and the products with x^k and with a single digit.
 use Rattle.std.proofs.Common.{◌≡◌, ℕ, zero, suc, ◌*◌, ◌^◌, ◌<◌, sym, ap, ◌∙◌, arith, add-zero}
 use Rattle.std.specs.Int.Bits.{bit_xor, xor_assoc, xor_self, xor_zero_l, xor_zero_r}
 use Rattle.std.proofs.lemmas.Nat.{xor_comm, xor_block, pow_pos}
@@ -22,7 +22,7 @@ same_from_zero a b e = sym (xor_zero_r a) ∙ ap (bit_xor a) (sym e) ∙ cancel 
 pub xor-mul_pow : (k a b : ℕ) → bit_xor a b * 2 ^ k ≡ bit_xor (a * 2 ^ k) (b * 2 ^ k)
 xor-mul_pow k a b = sym (simp add-zero at (xor_block k a b 0 0 (pow_pos k) (pow_pos k)))
 
--- a sum of two single bits, times a polynomial
+-- a sum of two single digits, times a polynomial
 pub digits-mul : (g s t : ℕ) → s < 2 → t < 2 → bit_xor s t * g ≡ bit_xor (s * g) (t * g)
 digits-mul g zero t hs ht = ap (λ x. x * g) (xor_zero_l t)
     ∙ sym (ap (λ x. bit_xor x (t * g)) zero_times ∙ xor_zero_l (t * g))

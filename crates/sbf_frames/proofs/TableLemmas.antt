@@ -1,9 +1,9 @@
--- A table whose entries pass a test that computes has the tested entry at each index.
+-- A table whose entries pass a test that computes has the tested entry at each place.
 use Rattle.std.proofs.Common.{◌≡◌, ℕ, zero, suc, ◌+◌, ◌<◌, Bool, true, false, nat_eq, ◌&&◌, List}
 use Rattle.std.proofs.Common.{[], ◌∷◌, length, get_or, refl, sym, ap, ◌∙◌, arith, add-zero}
 use Rattle.std.proofs.lemmas.Bool.{eqb-true}
 
--- the table has f at each index, counted from i
+-- the table has f at each place, counted from i
 abbrev pub are_entries : (ℕ → ℕ) → ℕ → List ℕ → Bool
 are_entries f i [] = true
 are_entries f i (t ∷ ts) = nat_eq t (f i) && are_entries f (suc i) ts

@@ -1,23 +1,25 @@
--- SBF blocks: sync bytes $@, a CRC, a block ID and a length of two bytes each, low byte first, and the body.
+-- The blocks of SBF: $@, a CRC of two bytes, a number and a length of two bytes each, and the rest;
+-- the low byte of a
+-- number comes first.
 use Rattle.std.specs.Prelude.{ℕ, ◌+◌, ◌*◌, ◌%◌, ◌==◌, ◌&&◌, nat_le, Bool, if◌then◌else◌, List}
 use Rattle.std.specs.Prelude.{drop, slice_index}
 use Rattle.framing.specs.Headings.{Heading}
 use Rattle.framing.specs.Syncs.{Sync, heading_by}
 use Rattle.sbf_frames.specs.Register.{crc_from}
 
--- the length of the whole block, in its header
+-- the length of the whole block that a header tells
 abbrev pub announced : List ℕ → ℕ
 announced xs = (slice_index xs 7 * 256 + slice_index xs 6) % 65536
 
--- a block can have length n: at least 8 bytes, and a multiple of 4
+-- a length is one of a block: at least 8 bytes, and a multiple of 4
 abbrev pub may_be : ℕ → Bool
 may_be n = nat_le 8 n && n % 4 == 0
 
--- the two bytes after the sync bytes are the CRC of all bytes after them
+-- the two bytes behind the sync are the CRC of all behind them
 unfoldable pub has_right_crc : List ℕ → Bool
 has_right_crc block = crc_from 0 (drop 4 block) == slice_index block 3 * 256 + slice_index block 2
 
--- the format of SBF
+-- the form of a block
 abbrev pub sbf_sync : Sync
 sbf_sync = record {
   first = 0x24;
@@ -29,6 +31,5 @@ sbf_sync = record {
   is_right = has_right_crc;
 }
 
--- its heading
 abbrev pub sbf : Heading
 sbf = heading_by sbf_sync

@@ -1,4 +1,4 @@
--- CRC registers stay right when more bytes come.
+-- Registers beside bytes stay right where more bytes come.
 use Rattle.std.proofs.Common.{ℕ, List, ◌++◌, get_or, sym, ap, ◌∙◌}
 use Rattle.std.proofs.Common.{arith, length-append}
 use Rattle.std.proofs.lemmas.List.{get_or_append_left}

@@ -1,4 +1,4 @@
-//! SBF as a format of `framing`.
+//! Which bytes are a block of SBF.
 
 ghost use Rattle.std.specs.Prelude.{◌≡◌, ◌+◌, ◌≤◌, List, ℕ, length, take, drop, slice_index};
 ghost use Rattle.sbf_frames.specs.Form.{announced, may_be as is_length, sbf};
@@ -10,16 +10,16 @@ use crate::states::{Powers, begin_states, cut_states, extend, has_right_crc, has
 use arrayvec::ArrayVec;
 use framing::{Deframer, Judge};
 
-/// Finds SBF blocks in bytes that come in pieces.
+/// The blocks of SBF in bytes that come in pieces.
 pub type SbfDeframer = Deframer<SbfJudge>;
 
-/// Checks SBF blocks.
+/// Judges blocks of SBF.
 ///
-/// Once a block has failed its CRC, keeps the CRC register after each byte up to its end, so that no
-/// byte is processed twice; valid blocks need none.
+/// Beside the bytes stand the registers of their CRC, as far as the CRC of a block by itself was
+/// wrong, so that good blocks never pay for them, and no byte is gone over twice.
 #[derive(Drop)]
 pub struct SbfJudge {
-    // the CRC register before each byte read so far, from an arbitrary start
+    // the register before each byte, up to some byte
     states: ArrayVec<u16, 98_305>,
     powers: Powers,
 }
@@ -83,7 +83,7 @@ impl Judge for SbfJudge {
     ghost stays = { λ judge xs ys. states_stay xs ys judge.states.items };
 }
 
-// The block length in this header.
+// The length that the header of these bytes tells.
 fn told(bytes: &[u8]) -> usize
     requires { 8 ≤ length bytes.now }
     ensures { result ≡ announced bytes.now }
@@ -91,7 +91,7 @@ fn told(bytes: &[u8]) -> usize
     bytes[7] as usize * 256 + bytes[6] as usize
 }
 
-// Whether a block can have this length.
+// Whether it is one of a block.
 fn may_be(length: usize) -> bool
     ensures { result ≡ is_length length }
 {

@@ -3,7 +3,7 @@
 ghost use Rattle.framing.specs.Headings.{IsHeading};
 ghost use Rattle.sbf_frames.specs.Form.{sbf};
 
-/// SBF has a heading, so the laws of `framing` hold for its blocks.
+/// The form of SBF is a heading, so what `framing` says of messages holds of its blocks.
 pub fn sbf_is_a_format()
     ensures { IsHeading sbf }
 {}

@@ -1,10 +1,9 @@
 //! Blocks of SBF, the protocol of Septentrio receivers, in a stream of bytes.
 //!
-//! A block is the sync bytes `$@`, a CRC, a block ID and the length of the whole block, two bytes
-//! each, low byte first, and the body. The length is at least 8 and a multiple of 4. The CRC covers
-//! all bytes after it: polynomial x^16 + x^12 + x^5 + 1, initial value 0, no reflection.
-//! [`SbfJudge`] defines this for the `Deframer` of `framing`, which finds the blocks in bytes that
-//! come in any pieces.
+//! A block is `$@`, a CRC of two bytes, a number and a length of the whole block of two bytes each,
+//! the low one first, and the rest. The length is at least 8 and a multiple of 4. The CRC is the
+//! remainder by x^16 + x^12 + x^5 + 1 of all behind it, from 0 on, without reflection. [`SbfJudge`]
+//! says so to the `Deframer` of `framing`, which finds the blocks in bytes that come in any pieces.
 //!
 //! ```rust
 //! let mut deframer: SbfDeframer = SbfDeframer::new();

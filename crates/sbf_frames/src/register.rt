@@ -1,11 +1,11 @@
-//! The CRC register: one more byte, and advance over zero bytes.
+//! The register of the CRC, a byte at a time, and moved past bytes that are 0.
 
 ghost use Rattle.std.specs.Prelude.{◌≡◌, ℕ, ◌+◌, ◌*◌, ◌%◌, ◌^◌, ◌<◌};
 ghost use Rattle.sbf_frames.specs.Register.{crc_from, shift, stepped, with_byte_of};
 
 const GENERATOR: u32 = 0x11021;
 
-// The register after one more byte.
+// The register with one more byte.
 pub fn with_byte(state: u32, byte: u8) -> u32
     requires { state < 2 ^ 16 }
     ensures value { result ≡ with_byte_of state byte }
@@ -14,7 +14,7 @@ pub fn with_byte(state: u32, byte: u8) -> u32
     moved_8((state >> 8) as u8 ^ byte) ^ (state & 0xff) << 8
 }
 
-// The CRC of the bytes.
+// The register from 0 on after all of the bytes.
 pub fn crc_of(bytes: &[u8]) -> u32
     ensures value { result ≡ crc_from 0 bytes.now }
     ensures fits { result < 2 ^ 16 }
@@ -26,7 +26,7 @@ pub fn crc_of(bytes: &[u8]) -> u32
     state
 }
 
-// The register after n zero bits, where `power` is x^n modulo the generator.
+// The register after so many bytes 0, going on from this one, by the power of x that they are.
 pub fn moved_by(state: u32, power: u32) -> u32
     requires state { state < 2 ^ 16 }
     requires power { power < 2 ^ 16 }
@@ -39,7 +39,7 @@ pub fn moved_by(state: u32, power: u32) -> u32
     sum
 }
 
-// The lowest bit of `number` times `power`.
+// The last digit of a number, times a register.
 fn bit_times(number: u32, power: u32) -> u32
     requires { power < 2 ^ 16 }
     ensures value { result ≡ number % 2 * power }
@@ -48,7 +48,7 @@ fn bit_times(number: u32, power: u32) -> u32
     number % 2 * power
 }
 
-// x times the register, modulo the generator.
+// x times a register.
 pub fn moved_1(state: u32) -> u32
     requires { state < 2 ^ 16 }
     ensures value { result ≡ stepped state }
@@ -62,7 +62,7 @@ pub fn moved_1(state: u32) -> u32
     }
 }
 
-// x^8 times the high byte of the register, modulo the generator.
+// x^8 times the byte at the head of the register.
 fn moved_8(byte: u8) -> u32
     ensures { result ≡ shift 8 (byte * 2 ^ 8) }
 {

@@ -1,5 +1,5 @@
-//! CRC registers after each byte: from those before and after a range of bytes, the CRC of the
-//! range takes constant time.
+//! The registers of the CRC beside bytes: with those before and after some bytes, the CRC of these
+//! takes the same time whatever their number.
 
 ghost use Rattle.std.specs.Prelude.{◌≡◌, ℕ, ◌+◌, ◌*◌, ◌%◌, ◌^◌, ◌<◌, ◌≤◌, List, length, take, drop};
 ghost use Rattle.arrayvec.specs.ArrayVec.{array_vec_len};
@@ -11,7 +11,7 @@ use crate::register::{crc_of, moved_by, with_byte};
 use arrayvec::ArrayVec;
 use std::marker::Model;
 
-// Whether the two bytes after the sync bytes are the CRC of all bytes after them.
+// Whether the two bytes behind the sync are the CRC of all behind them.
 #[tactic(auto, unfolding(crate::specs::Form::has_right_crc))]
 pub fn has_right_crc(block: &[u8]) -> bool
     requires { 8 ≤ length block.now }
@@ -20,7 +20,7 @@ pub fn has_right_crc(block: &[u8]) -> bool
     crc_of(&block[4..]) == u32::from(block[3]) * 256 + u32::from(block[2])
 }
 
-// Extends the registers to the one before offset `end`.
+// Computes the registers up to the one before this place.
 pub fn extend(bytes: &[u8], states: &mut ArrayVec<u16, 98_305>, end: usize)
     requires states { AreStates bytes.now states.old.items }
     requires inside { end ≤ length bytes.now }
@@ -36,7 +36,7 @@ pub fn extend(bytes: &[u8], states: &mut ArrayVec<u16, 98_305>, end: usize)
     }
 }
 
-// Whether the block at offset `place` has the right CRC, by the registers.
+// Whether the block at this place has its CRC, by the registers beside the bytes.
 pub fn has_right_crc_by(
     states: &[u16],
     powers: &mut Powers,
@@ -58,7 +58,7 @@ pub fn has_right_crc_by(
     after ^ moved_by(before, powers.power(size / 4 - 1)) == crc
 }
 
-// Removes the registers of the first `count` bytes.
+// Removes the registers of so many bytes in front.
 pub fn cut_states(states: &mut ArrayVec<u16, 98_305>, count: usize)
     ensures { (bytes : List ℕ) → AreStates bytes states.old.items
         → AreStates (drop count bytes) states.new.items }
@@ -70,7 +70,7 @@ pub fn cut_states(states: &mut ArrayVec<u16, 98_305>, count: usize)
     }
 }
 
-// Removes the first `count` registers.
+// Removes so many registers in front.
 fn cut_prefix(states: &mut ArrayVec<u16, 98_305>, count: usize)
     requires { count ≤ array_vec_len states.old }
     ensures { states.new.items ≡ drop count states.old.items }
@@ -78,7 +78,7 @@ fn cut_prefix(states: &mut ArrayVec<u16, 98_305>, count: usize)
     states.drain(..count);
 }
 
-// Starts anew: only the register before the first byte, 0.
+// Leaves one register alone, that of a message that begins.
 pub fn begin_states(states: &mut ArrayVec<u16, 98_305>)
     ensures { (bytes : List ℕ) → AreStates bytes states.new.items }
 {
@@ -86,7 +86,7 @@ pub fn begin_states(states: &mut ArrayVec<u16, 98_305>)
     states.push(0);
 }
 
-// x^(32 k) modulo the generator, for k from 0 as far as asked for: k times four zero bytes.
+// The powers of x that so many times four bytes 0 are, as far as they were asked for.
 #[derive(Drop)]
 pub struct Powers {
     powers: ArrayVec<u16, 16_384>,
@@ -104,14 +104,14 @@ impl Model for Powers {
 }
 
 impl Powers {
-    // Holds x^0 only.
+    // That of no byte.
     pub fn new() -> Self {
         let mut powers = ArrayVec::new();
         powers.push(1);
         Powers { powers }
     }
 
-    // x^(32 x `count`) modulo the generator.
+    // The power of so many times four bytes.
     pub fn power(&mut self, count: usize) -> u32
         requires { count < 16384 }
         ensures value { result ≡ shift (32 * count) 1 }
@@ -122,7 +122,7 @@ impl Powers {
     }
 }
 
-// The register after four zero bytes.
+// The register with four more bytes 0.
 fn with_four_zeros(state: u32) -> u32
     requires { state < 2 ^ 16 }
     ensures value { result ≡ shift 32 state }
@@ -131,7 +131,7 @@ fn with_four_zeros(state: u32) -> u32
     with_byte(with_byte(with_byte(with_byte(state, 0), 0), 0), 0)
 }
 
-// Extends the powers to that of `count`.
+// Computes the powers up to this one.
 fn grow(powers: &mut ArrayVec<u16, 16_384>, count: usize)
     requires powers { ArePowers powers.old.items }
     requires count { count < 16384 }

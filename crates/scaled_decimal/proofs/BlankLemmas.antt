@@ -1,4 +1,4 @@
--- A text is seen as blank exactly where it has blanks alone.
+-- A text is seen as blank exactly where it is blanks alone.
 use Rattle.std.proofs.Common.{◌≡◌, ℕ, Bool, true, false, ◌==◌, if◌then◌else◌, List, [], ◌∷◌, Some, None, Option, refl, ap, ◌∙◌, eqb-true, eq-eqb}
 use Rattle.scaled_decimal.specs.Fractions.{Fraction}
 use Rattle.scaled_decimal.specs.NumberReading.{trim_start, trim_end, before_trimmed, AreBlanks, Decimal, decimal_of, blank, seen_decimal, seen_trimmed, seen}

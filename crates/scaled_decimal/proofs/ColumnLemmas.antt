@@ -1,4 +1,4 @@
--- The columns of a text: their number, that each is printable, and that the last is a digit.
+-- The columns of a text: how many there are, that each is shown, and that the last has a digit.
 use Rattle.std.proofs.Common.{◌≡◌, ℕ, zero, suc, ◌+◌, ◌/◌, ◌%◌, ◌^◌, ◌≤◌, List, [], ◌∷◌, ◌++◌, length, refl, sym, ap, ◌∙◌, arith, ℤ, pos, negsuc, unsigned_abs, length-append, append_assoc}
 use Rattle.scaled_decimal.specs.Fractions.{Fraction}
 use Rattle.scaled_decimal.specs.NumberText.{Parts, digits, body, exponent_sign, exponent_text, sign_column, parts_at, number_text, AreShown, EndsInDigit}

@@ -4,7 +4,7 @@ use Rattle.std.proofs.Math.Nat.{div-div-eq-div-mul}
 use Rattle.std.proofs.lemmas.Nat.{pow-add, div-add-mod'}
 use Rattle.scaled_decimal.specs.NumberText.{digits}
 
--- the last digits do not depend on higher ones
+-- the last digits do not see what stands before them
 digits_behind : (k q r : ℕ) → digits k (q * 10 ^ k + r) ≡ digits k r
 unfolding digits
 digits_behind zero q r = refl
@@ -40,7 +40,7 @@ unfolding digits
 six n a b c d e f ea eb ec ed ee ef =
     ap₂ (λ x t. x ∷ t) ea (ap₂ (λ x t. x ∷ t) eb (ap₂ (λ x t. x ∷ t) ec (ap₂ (λ x t. x ∷ t) ed (ap₂ (λ x y. x ∷ y ∷ []) ee ef))))
 
--- a text assembled from its pieces
+-- the pieces of a text, put together
 pub assembled : (sign plus m n k first x y : ℕ) (s t : List ℕ) → first ≡ 48 + m % 10 → s ≡ digits 6 (n / 10 ^ 6) → t ≡ digits 6 (n % 10 ^ 6)
     → x ≡ 48 + k / 10 % 10 → y ≡ 48 + k % 10
     → sign ∷ first ∷ 46 ∷ get_or s 0 0 ∷ get_or s 1 0 ∷ get_or s 2 0 ∷ get_or s 3 0 ∷ get_or s 4 0 ∷ get_or s 5 0

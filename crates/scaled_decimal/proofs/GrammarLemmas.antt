@@ -17,7 +17,7 @@ NoPoint (c ∷ cs) = (c == 46) ≡ false
 digit_yes : (c : ℕ) → 48 ≤ c → c ≤ 57 → is_decimal c ≡ true
 digit_yes c a b = rw (le-leb 48 c a, le-leb c 57 b) refl
 
--- digits up to the first character that is not a digit
+-- digits to the first character that is none
 span_is : (ds rest : List ℕ) (n k : ℕ) → AreDecimals ds → NoDigit rest → span n k (ds ++ rest) ≡ record { number = number_behind n ds; count = k + length ds; rest = rest }
 span_is [] [] n k are none = let same : k ≡ k + 0 = omega arith in ap (λ (j : ℕ). record { number = n; count = j; rest = [] }) same
 span_is [] (c ∷ cs) n k are none =
@@ -326,7 +326,7 @@ read_is (c ∷ cs) d h = go (c == 45) (c == 43) refl refl h
     go false true p q h = with_sign_of false (43 ∷ []) cs (c ∷ cs) d (ap (λ x. x ∷ cs) (eqb-true c 43 q)) (inr refl) h
     go false false p q h = with_sign_of false [] (c ∷ cs) (c ∷ cs) d refl (inl refl) h
 
--- a text whose first character is not a sign
+-- a text whose first character is no sign
 unsigned_decimal : (text : List ℕ) (r : Reading) → reading text ≡ Some r → ((c : ℕ) (cs : List ℕ) → text ≡ c ∷ cs → ((c == 45) ≡ false) × ((c == 43) ≡ false)) → (text ≡ [] → ⊥)
     → decimal_of text ≡ Some (record { minus = false; value = r })
 unsigned_decimal [] r e none some = absurd (some refl)
@@ -368,7 +368,7 @@ decimal_at minus digits exponent = record { minus = minus; value = record { digi
 same_decimal : (d : Decimal) (digits : ℕ) (exponent : ℤ) → digits ≡ d.value.digits → exponent ≡ d.value.exponent → decimal_at d.minus digits exponent ≡ d
 same_decimal d digits exponent e f = rw (e, f) refl
 
--- each text of the grammar is read
+-- and each text of the grammar is read
 pub is_read : (text : List ℕ) (d : Decimal) → IsDecimalText text d → decimal_of text ≡ Some d
 is_read text d h =
     let starts = exponent_starts h.exponent h.power h.exponent_is in
@@ -380,6 +380,6 @@ is_read text d h =
     ∙ signed_decimal d.minus h.sign body (record { digits = m.number; exponent = h.power -ℤ pos m.places }) h.sign_is (body_begins h.whole h.point h.places h.exponent h.whole_are h.point_is h.from) read
     ∙ ap (λ x. Some x) (same_decimal d (number_behind 0 (h.whole ++ h.places)) (h.power -ℤ pos (length h.places)) (sym h.digits_is) (sym h.value_is))
 
--- no other text is read
+-- no other text is
 pub none_read : (text : List ℕ) → decimal_of text ≡ None → (d : Decimal) → IsDecimalText text d → ⊥
 none_read text h d is = let read = is_read text d is in absurd (cc)

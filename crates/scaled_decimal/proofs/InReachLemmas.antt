@@ -1,4 +1,4 @@
--- The parts of a number in range: `parts_to` gives those of `ArePartsOf`, and they stand for that number alone.
+-- The parts of a number in reach: what the function gives is what the relation says, and stands for that number alone.
 use Rattle.std.proofs.Common.{◌≡◌, ℕ, zero, suc, ◌+◌, ◌-◌, ◌*◌, ◌^◌, ◌<◌, ◌≤◌, Bool, true, false, ◌==◌, if◌then◌else◌, refl, sym, ap, ap₂, ◌∙◌, subst, inl, inr, arith, ℤ, pos, negsuc, ◌-ℤ◌, ◌+ℤ◌, ◌≤ℤ◌, mul-le-mul_right, mul-le-mul_left, mul-pos}
 use Rattle.std.proofs.Math.Nat.{pow-le-pow_right}
 use Rattle.std.proofs.lemmas.Bool.{cases_lt, eqb-false}
@@ -11,7 +11,7 @@ use Rattle.scaled_decimal.proofs.PlaceLemmas.{one_place, exponent_of_place, plac
 use Rattle.scaled_decimal.proofs.NearestLemmas.{one_nearest, same_nearest}
 use Rattle.scaled_decimal.proofs.PartsLemmas.{IsInReach, parts_digits, shifted_at, near_again, worth_is}
 
--- a number at a scale is in range
+-- a number at a scale is in reach
 pub in_reach : (s : Fraction) (n : ℕ) → IsScale s → 0 < n → n ≤ 4294967295 → IsInReach (scaled n s)
 in_reach s n scale some small =
     let more : 1 * s.over ≤ n * s.over = mul-le-mul_right s.over (omega arith) in
@@ -40,7 +40,7 @@ no_tiny m p q o u e low h below =
     let turned : o * (p * 10 ^ m) ≡ o * (q * 10 ^ 0) = ap (λ n. o * n) e in
     omega arith
 
--- an exponent of a number in range is k - 20
+-- an exponent of a number in reach is that of a place
 exponent_place : (v : Fraction) (e : ℤ) → IsInReach v → IsExponent v e → (k : ℕ) × (e ≡ pos k -ℤ pos 20)
 exponent_place v (pos n) reach h = (n + 20, omega (arith, ints))
 exponent_place v (negsuc m) reach h =
@@ -51,7 +51,7 @@ exponent_place v (negsuc m) reach h =
           absurd (no_tiny m _ _ v.over v.under here reach.low large h.below.crossed)
     ]
 
--- a number in range has no other parts
+-- a number in reach has no other parts
 pub one_parts : (v : Fraction) (p : Parts) → IsInReach v → ArePartsOf v p → p ≡ parts_to v
 one_parts v p reach h =
     let found = parts_digits v reach in
@@ -64,7 +64,7 @@ one_parts v p reach h =
     let digits : h.digits ≡ found.2 = one_nearest _ h.digits found.2 some near found.3.nearest in
     h.parts ∙ ap₂ carried digits same ∙ sym found.4
 
--- the parts of a number at a size are those of `ArePartsOf`
+-- the parts of a number at a size are those that the relation names
 pub one_parts_at : (s : Fraction) (n : ℕ) (p : Parts) → IsScale s → n ≤ 4294967295
     → (n ≡ 0 → p ≡ record { digits = 0; exponent = pos 0 }) → (0 < n → ArePartsOf (scaled n s) p) → p ≡ parts_at s n
 one_parts_at s zero p scale small none some = none refl

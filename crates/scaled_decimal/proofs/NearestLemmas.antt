@@ -1,10 +1,10 @@
--- The integer nearest to a fraction: there is one, and equal fractions have the same.
+-- The whole number nearest to a fraction: there is one, and fractions of one value have the same.
 use Rattle.std.proofs.Common.{◌≡◌, ℕ, ◌+◌, ◌*◌, ◌/◌, ◌%◌, ◌<◌, ◌≤◌, Bool, true, false, ◌&&◌, ◌||◌, ◌==◌, nat_lt, if◌then◌else◌, refl, sym, ap, arith, inl, inr, mod-lt, ltb-true, ltb-false, eqb-true, ◌≢◌, div-add-mod', mul-le-mul_right, le_of_mul-le-mul_right}
 use Rattle.std.proofs.Math.Nat.{eq_of_mul-eq-mul_right}
 use Rattle.std.proofs.lemmas.Bool.{cases_lt, eqb-false}
 use Rattle.scaled_decimal.specs.Fractions.{Fraction, IsNearest, nearest_to}
 
--- q with a remainder r below half
+-- q and the rest r below it
 down : (o u q r : ℕ) → o ≡ q * u + r → 2 * r < u → IsNearest (record { over = o; under = u }) q
 down o u q r e h = record {
   above = omega arith;
@@ -69,7 +69,7 @@ not_below a m n some p q h =
     let even_too : m % 2 ≡ 0 = p.even_below (omega arith) in
     omega arith
 
--- a fraction has one nearest integer
+-- a fraction has one nearest number
 pub one_nearest : (a : Fraction) (m n : ℕ) → 0 < a.under → IsNearest a m → IsNearest a n → m ≡ n
 one_nearest a m n some p q =
     elim (cases_lt m n) [
@@ -77,7 +77,7 @@ one_nearest a m n some p q =
       | inr h ↦ elim (cases_lt n m) [ inl k ↦ absurd (not_below a n m some q p k) | inr k ↦ omega arith ]
     ]
 
--- equal fractions have the same nearest integer
+-- fractions of one value have the same nearest number
 pub same_nearest : (a b : Fraction) (n : ℕ) → a.over * b.under ≡ b.over * a.under → 0 < a.under → 0 < b.under
     → IsNearest a n → IsNearest b n
 same_nearest a b n e pa pb near =
@@ -94,7 +94,7 @@ same_nearest a b n e pa pb near =
           near.even_below (eq_of_mul-eq-mul_right b.under pb (2 * a.over) (2 * (n * a.under) + a.under) (omega arith));
     }
 
--- `nearest_to` gives the integer nearest to any equal fraction
+-- what is nearest to a fraction is what the definition gives for any fraction of its value
 pub nearest_to_same : (a b : Fraction) (n : ℕ) → a.over * b.under ≡ b.over * a.under → 0 < a.under → 0 < b.under
     → IsNearest a n → n ≡ nearest_to b
 nearest_to_same a b n e pa pb near = one_nearest b n (nearest_to b) pb (same_nearest a b n e pa pb near) (nearest_is b pb)

@@ -1,4 +1,4 @@
--- The digits of a number: thirteen, which stand for that number and no other.
+-- The digits of a number: thirteen, worth what the number is nearest to, and no other number.
 use Rattle.std.proofs.Common.{◌≡◌, ℕ, suc, ◌+◌, ◌*◌, ◌^◌, ◌<◌, ◌≤◌, Bool, true, false, ◌==◌, if◌then◌else◌, refl, ap, ◌∙◌, subst, inl, inr, arith, ℤ, pos, ◌-ℤ◌, ◌+ℤ◌, mul-le-mul_right, mul-lt-mul_of_pos_right, mul-pos, eqb-true, pow-suc}
 use Rattle.std.proofs.Math.Nat.{eq_of_mul-eq-mul_right}
 use Rattle.std.proofs.lemmas.Bool.{cases_lt}
@@ -9,7 +9,7 @@ use Rattle.scaled_decimal.proofs.PowerLemmas.{crossed, power_pos, ten_over_pos, 
 use Rattle.scaled_decimal.proofs.PlaceLemmas.{IsPlace, place_is}
 use Rattle.scaled_decimal.proofs.NearestLemmas.{nearest_is}
 
--- d is nearest to n y / x, which is at least 10^12, and n is below 2^32: then n is nearest to d x / y
+-- d is nearest to n y / x, which is 10^12 at least, and n is below 2^32: then n is nearest to d x / y
 pub near_again : (n d x y : ℕ) → n ≤ 4294967295 → 0 < x → 10 ^ 12 * x ≤ n * y
     → IsNearest (record { over = n * y; under = x }) d → IsNearest (record { over = d * x; under = y }) n
 near_again n d x y small pos_x enough near =
@@ -23,7 +23,7 @@ near_again n d x y small pos_x enough near =
       even_below = λ e. absurd (omega arith);
     }
 
--- the range of numbers whose first digit is at 10^-20 to 10^16
+-- the range of a number that has a place from 0 to 36
 pub record IsInReach (v : Fraction) : Type 0 where
   pub under : 0 < v.under
   pub low : v.under ≤ v.over * 10 ^ 20
@@ -32,7 +32,7 @@ pub record IsInReach (v : Fraction) : Type 0 where
 pub reach_place : (v : Fraction) → IsInReach v → IsPlace v (place_from 36 v) × (place_from 36 v ≤ 36)
 reach_place v h = place_is 36 v h.low (omega (arith, h.high))
 
--- o / u is v x 10^20 and its first digit is at K, p / q is 10^32 / K: then o p / u q is at least 10^12
+-- o / u is v x 10^20 and K its place, p / q is 10^32 / K: then o p / u q is from 10^12 on
 from_12 : (o u p q k : ℕ) → p * k ≡ q * 10 ^ 32 → k * u ≤ o * 10 ^ 20 → 10 ^ 12 * (u * q) ≤ o * p
 from_12 o u p q k e h =
     let both : (k * u) * p ≤ (o * 10 ^ 20) * p = mul-le-mul_right p h in
@@ -66,7 +66,7 @@ digits_to o u d some high near =
       | inr h ↦ h
     ]
 
--- a number v with the power p / q of ten that moves its first digit to 10^12
+-- a number v with the power p / q of ten that shifts its first digit to the place of 10^12
 pub record IsShifted (v : Fraction) (z : ℤ) (k : ℕ) : Type 0 where
   pub power : (ten_to z).over * 10 ^ k ≡ (ten_to z).under * 10 ^ 32
   pub low : 10 ^ 12 * (v.under * (ten_to z).under) ≤ v.over * (ten_to z).over
@@ -104,7 +104,7 @@ carried_worth d w x p q n is some same =
     let all : d * (x * q) ≡ 10 ^ 13 * (x * q) = ap (λ i. i * (x * q)) is in
     omega arith
 
--- the value of the parts, with and without a rounding carry
+-- what the parts are worth, with a carry and without
 pub worth_is : (d k : ℕ) (e : ℤ) → e ≡ pos k -ℤ pos 20
     → (worth (carried d e)).over * (ten_to (pos 12 -ℤ e)).over ≡ (d * (ten_to (pos 12 -ℤ e)).under) * (worth (carried d e)).under
 worth_is d k e is = go (d == 10 ^ 13) refl
@@ -129,7 +129,7 @@ worth_is d k e is = go (d == 10 ^ 13) refl
         plain_worth d W.over W.under Z.over Z.under (10 ^ k) (power_pos k)
         (turned_over W.over W.under Z.over Z.under (10 ^ k) (10 ^ k) (power_pos k) (crossed (e -ℤ pos 12) k 32 (omega (arith, ints))) power)
 
--- the parts of a number in range before the carry: digits from 10^12 to 10^13
+-- the parts of a number that is in reach, at its place: digits from 10^12 to 10^13, before the carry
 pub record HasDigits (v : Fraction) (k : ℕ) (e : ℤ) (d : ℕ) : Type 0 where
   pub place : IsPlace v k
   pub small : k ≤ 36

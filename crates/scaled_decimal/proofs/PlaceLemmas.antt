@@ -1,4 +1,4 @@
--- The exponent of a number: the power of ten of its first digit, counted from 10^-20.
+-- The exponent of a number: the place of its first digit, counted from 10^-20 on.
 use Rattle.std.proofs.Common.{◌≡◌, ℕ, zero, suc, ◌*◌, ◌^◌, ◌<◌, ◌≤◌, Bool, true, false, nat_le, if◌then◌else◌, refl, ap, inl, inr, arith, ℤ, pos, ◌-ℤ◌, ◌+ℤ◌, mul-le-mul_right, le_of_mul-le-mul_right, lt_of_mul-lt-mul_right, mul-lt-mul_of_pos_right, leb-true, leb-false}
 use Rattle.std.proofs.Math.Nat.{pow-le-pow_right}
 use Rattle.std.proofs.lemmas.Bool.{cases_lt}
@@ -12,7 +12,7 @@ pub record IsPlace (v : Fraction) (k : ℕ) : Type 0 where
   pub at_most : 10 ^ k * v.under ≤ v.over * 10 ^ 20
   pub below : v.over * 10 ^ 20 < 10 ^ suc k * v.under
 
--- the exponent is among those tried
+-- the place lies among those that are tried
 pub place_is : (j : ℕ) (v : Fraction) → v.under ≤ v.over * 10 ^ 20 → v.over * 10 ^ 20 < 10 ^ suc j * v.under
     → IsPlace v (place_from j v) × (place_from j v ≤ j)
 unfolding place_from
@@ -31,7 +31,7 @@ not_before v j k p q h =
     let times_under : 10 ^ suc j * v.under ≤ 10 ^ k * v.under = mul-le-mul_right v.under more in
     omega (arith, p.below, q.at_most)
 
--- a number has one exponent
+-- a number has one place
 pub one_place : (v : Fraction) (j k : ℕ) → IsPlace v j → IsPlace v k → j ≡ k
 one_place v j k p q =
     elim (cases_lt j k) [
@@ -62,7 +62,7 @@ below_to p q o u k e h =
     let left : (p * 10 ^ 20) * u ≡ (q * k) * u = ap (λ n. n * u) e in
     lt_of_mul-lt-mul_right q (omega arith)
 
--- k, counted from 10^-20, is the exponent k - 20
+-- the place k is the exponent k - 20
 pub exponent_of_place : (v : Fraction) (e : ℤ) (k : ℕ) → e ≡ pos k -ℤ pos 20 → IsPlace v k → IsExponent v e
 exponent_of_place v e k is place =
     let here = crossed e k 20 is in

@@ -76,7 +76,7 @@ moved_over o u k p small fits h is =
     let pos : 0 < p = subst (λ n. 0 < n) (sym is) (power_pos (12 - k)) in
     omega (arith, moved_below o u p 1 k pos whole h)
 
--- o / u is v x 10^20: the exponents of both agree
+-- o / u is v x 10^20: its place is that of v
 pub place_of_ratio : (v : Fraction) (o u k : ℕ) → 0 < u → v.over * (u * 10 ^ 20) ≡ o * v.under → u * 10 ^ k ≤ o → o < u * 10 ^ (k + 1) → 0 < v.under
     → IsPlace v k
 place_of_ratio v o u k some same low high under =
@@ -100,7 +100,7 @@ same_moved vo vu o u p q k x y same power shift =
     let f : (vo * u) * (p * (y * 10 ^ 20)) ≡ (vo * u) * (x * q) = ap (λ n. (vo * u) * n) e in
     omega arith
 
--- the digits of the moved fraction, after the carry, are the parts of v
+-- the digits of the moved fraction, carried, are the parts of v
 pub printed : (v : Fraction) (o u k o' u' d : ℕ) → IsInReach v → 0 < u → v.over * (u * 10 ^ 20) ≡ o * v.under → u * 10 ^ k ≤ o → o < u * 10 ^ (k + 1)
     → IsMoved o u k o' u' → IsNearest (record { over = o'; under = u' }) d → carried d (pos k -ℤ pos 20) ≡ parts_to v
 printed v o u k o' u' d reach some same low high moved near =
@@ -121,7 +121,7 @@ printed v o u k o' u' d reach some same low high moved near =
       parts = refl;
     })
 
--- the moved fraction has at most thirteen digits before the carry
+-- the moved fraction has thirteen digits at most, before the carry
 pub moved_to : (o u k o' u' d : ℕ) → IsMoved o u k o' u' → IsNearest (record { over = o'; under = u' }) d → d ≤ 10 ^ 13
 moved_to o u k o' u' d moved near = digits_to o' u' d moved.some_under moved.below near
 

@@ -1,10 +1,10 @@
--- Quotients by guesses that are checked.
+-- Quotients by guesses that are confirmed.
 use Rattle.std.proofs.Common.{◌≡◌, ℕ, ◌+◌, ◌-◌, ◌*◌, ◌/◌, ◌%◌, ◌^◌, ◌<◌, ◌≤◌, ◌⊎◌, refl, sym, ap, ◌∙◌, subst, inl, inr, arith, mul-le-mul, mul-le-mul_left, mul-le-mul_right, div-add-mod'}
 use Rattle.std.proofs.Math.Nat.{one-le-pow, pow-le-pow_right}
 use Rattle.std.proofs.lemmas.Nat.{pow_pos, pow-add, mul-pow, shr_split, mod_below}
 use Rattle.scaled_decimal.specs.Fractions.{IsNearest}
 
--- the leading bits of o divided by one more than those of u are at most the quotient
+-- w at most the first bits of o, by one more than those of u, is at most the quotient
 pub guess_low : (o u d w g : ℕ) → w ≤ o / 2 ^ d → g ≡ w / (u / 2 ^ d + 1) → g * u ≤ o
 guess_low o u d w g prefix is =
     let s : ℕ = u / 2 ^ d in
@@ -20,14 +20,14 @@ guess_low o u d w g prefix is =
     let whole : o / 2 ^ d * 2 ^ d + o % 2 ^ d ≡ o = shr_split o d in
     omega arith
 
--- the same for the last 64 bits of what is left of o
+-- the same, of the last 64 bits of what is left of o
 pub guess_taken : (o u d g : ℕ) → g ≡ o / 2 ^ d % 2 ^ 64 / (u / 2 ^ d + 1) → g * u ≤ o
 guess_taken o u d g is = guess_low o u d (o / 2 ^ d % 2 ^ 64) g (omega arith) is
 
 pub five_pos : (k f : ℕ) → f ≡ 5 ^ k → 0 < f
 five_pos k f is = let one : 1 ≤ 5 ^ k = one-le-pow k 5 (omega arith) in omega arith
 
--- 5^t x 2^(b + t) is 2^b x 10^t
+-- 5^t with bits below it is a power of two by a power of ten
 pub two_by_ten : (b t f : ℕ) → f ≡ 5 ^ t → f * 2 ^ (b + t) ≡ 2 ^ b * 10 ^ t
 two_by_ten b t f is =
     let power : 2 ^ (b + t) ≡ 2 ^ b * 2 ^ t = pow-add 2 b t in
@@ -40,7 +40,7 @@ two_by_ten b t f is =
 pub fits_whole : (n d o : ℕ) → n ≡ d → d ≤ o → o < 2 ^ 128 → n % 2 ^ 128 ≡ d
 fits_whole n d o is low fits = omega arith
 
--- a quotient of the leading bits of o is at most that of o
+-- the quotient of the front of o is that of o
 pub prefix_low : (o j f q : ℕ) → 0 < f → q ≡ o / 2 ^ j / f → q * (f * 2 ^ j) ≤ o
 prefix_low o j f q some is =
     let p : ℕ = o / 2 ^ j in
@@ -63,7 +63,7 @@ prefix_high o j f q some is =
     let rest : o % 2 ^ j < 2 ^ j = mod_below o (2 ^ j) (pow_pos j) in
     omega arith
 
--- a quotient by d, and the remainder
+-- a quotient by d, and what is left
 pub record IsDivided (o d q : ℕ) : Type 0 where
   pub low : q * d ≤ o
   pub high : o < q * d + d
@@ -94,7 +94,7 @@ too_large n k some h =
     let more : 1 * 10 ^ k ≤ n * 10 ^ k = mul-le-mul_right (10 ^ k) some in
     omega arith
 
--- a fraction whose denominator has more than 128 bits is nearest to 0
+-- a fraction of which the number below has more than 128 bits is nearest to 0
 pub nearest_none : (d i j o b : ℕ) → d < 10 ^ 18 → (i ≡ 0) ⊎ (j ≡ 0) → 4294967296 * o ≤ 10 ^ 37 → b ≤ 59 → 2 ^ 128 ≤ o * 10 ^ j
     → IsNearest (record { over = d * 10 ^ i * 2 ^ b; under = o * 10 ^ j }) 0
 nearest_none d i j o b small (inr none) most fits large =
@@ -112,7 +112,7 @@ nearest_none d i j o b small (inl none) most fits large =
       even_below = λ x. refl;
     }
 
--- a number above the limit has more than 128 bits after b doublings
+-- what is above the most that can be doubled b times has more than 128 bits
 pub too_wide : (n b c : ℕ) → c ≡ b → (2 ^ 128 - 1) / 2 ^ c < n → n * 2 ^ b < 2 ^ 128 → ⊥
 too_wide n b c same more less =
     let q : ℕ = (2 ^ 128 - 1) / 2 ^ c in
@@ -125,7 +125,7 @@ too_wide n b c same more less =
     let turned : n * 2 ^ c ≡ n * 2 ^ b = ap (λ i. n * i) power in
     omega arith
 
--- a size times at most 10^11 has at most 128 bits
+-- a size by at most 10^11 has at most 128 bits
 pub few_tens : (o k t : ℕ) → 4294967296 * o ≤ 10 ^ 37 → k ≤ 11 → t ≡ 10 ^ k → o * t < 2 ^ 128
 few_tens o k t most few is =
     let power : 10 ^ k ≤ 10 ^ 11 = pow-le-pow_right (omega arith) few in

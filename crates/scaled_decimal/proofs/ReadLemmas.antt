@@ -1,4 +1,4 @@
--- The number that is read: the integer nearest to the value, and its range.
+-- The number that is read: the nearest to the value, and its range.
 use Rattle.std.proofs.Common.{◌≡◌, ◌≢◌, ℕ, ◌+◌, ◌*◌, ◌^◌, ◌<◌, ◌≤◌, Bool, true, false, ◌&&◌, if◌then◌else◌, length, List, [], ◌∷◌, Some, None, Option, MatchOption, Ok, Err, refl, sym, ap, ◌∙◌, subst, inl, inr, arith, ℤ, pos, ◌+ℤ◌, ◌≤ℤ◌, ◌<ℤ◌, int_le, mul-pos, mul-le-mul_right}
 use Rattle.std.proofs.Math.Nat.{eq_of_mul-eq-mul_right}
 use Rattle.std.proofs.lemmas.Nat.{pow-add}
@@ -32,7 +32,7 @@ same_value d a b p q so su o u tens size =
     let y : (so * (u * 10 ^ 20)) * (d * (a * q)) ≡ (o * su) * (d * (a * q)) = ap (λ n. n * (d * (a * q))) size in
     omega arith
 
--- the fraction that the code computes, of a value at a size
+-- what the code computes, as a fraction, of a value at a size
 abbrev pub computed : ℕ → ℕ → ℕ → ℕ → ℕ → Fraction
 computed d i j o u = record { over = d * 10 ^ i * u; under = o * 10 ^ j }
 
@@ -46,7 +46,7 @@ computed_same s r i j o u n some pos_o size over_is under_is near =
     (same_value r.digits (ten_to r.exponent).over (ten_to r.exponent).under (10 ^ i) (10 ^ j) s.over s.under o u tens size)
     (mul-pos pos_o (power_pos j)) (mul-pos (ten_under_pos r.exponent) some) near
 
--- a fraction above 2^33 is nearest to an integer out of range
+-- a fraction above 2^33 is nearest to a number that does not fit
 pub large : (a : Fraction) → 0 < a.under → 8589934592 * a.under < a.over → 4294967295 < nearest_to a
 large a some h =
     elim (cases_lt 4294967295 (nearest_to a)) [
@@ -57,7 +57,7 @@ large a some h =
           absurd (omega arith)
     ]
 
--- the parts of a size, and the powers of ten of an exponent x that is 20 above that of the value
+-- the parts of a size and the powers of ten that the code has of an exponent x, which is 20 above that of the value
 pub record IsComputed (s : Fraction) (r : Reading) (x : ℤ) (i j o u : ℕ) : Type 0 where
   pub some : 0 < s.over
   pub pos_o : 0 < o
@@ -106,7 +106,7 @@ read_high low high z h = go (int_le low z)
     go true = ap (λ b. if b then Ok z else Err faults.OutOfRange) (le_false z high h)
     go false = refl
 
--- what a trimmed text says
+-- what is seen in a text that was trimmed
 pub seen_nothing : (s : Fraction) (text t : List ℕ) → t ≡ trim_end (trim_start text) → length t ≡ 0 → seen s text ≡ blank
 unfolding seen
 seen_nothing s text t is none = go t is none

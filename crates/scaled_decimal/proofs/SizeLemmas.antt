@@ -1,4 +1,4 @@
--- The value of an accepted scale: its parts, and that each number at it is in range.
+-- The size of a scale that is accepted: its parts, and that each number at it is in reach.
 use Rattle.std.proofs.Common.{◌≡◌, ℕ, zero, suc, ◌+◌, ◌*◌, ◌%◌, ◌^◌, ◌<◌, ◌≤◌, Bool, true, false, refl, sym, ap, ap₂, ◌∙◌, subst, arith, ℤ, pos, negsuc, ◌≤ℤ◌, mul-pos, mul-le-mul}
 use Rattle.std.proofs.Math.Nat.{pow-le-pow_right, one-le-pow}
 use Rattle.std.proofs.lemmas.Int.{ints}
@@ -6,7 +6,7 @@ use Rattle.scaled_decimal.specs.declared.scales.Scale.{Scale}
 use Rattle.scaled_decimal.specs.Fractions.{two_to, ten_to}
 use Rattle.scaled_decimal.specs.ScaleValue.{size_of, pi_part, AreWithin, IsScale}
 
--- numerator and denominator of a power of two from 2^-59 to 2^16
+-- the two parts of a power of two from 2^-59 to 2^16
 pub record AreTwoParts (a b : ℕ) : Type 0 where
   pub over : 0 < a
   pub over_to : a ≤ 2 ^ 16
@@ -25,7 +25,7 @@ two_parts (negsuc k) low high =
     let most : 2 ^ (k + 1) ≤ 2 ^ 59 = pow-le-pow_right (omega arith) fits in
     record { over = omega arith; over_to = omega arith; under = omega arith; under_to = most }
 
--- numerator and denominator of 1, 1/10 or 1/100
+-- the two parts of 1, 1/10 or 1/100
 pub record AreTenParts (t u : ℕ) : Type 0 where
   pub over : t ≡ 1
   pub under : 0 < u
@@ -38,7 +38,7 @@ ten_parts (negsuc zero) low high = record { over = refl; under = omega arith; un
 ten_parts (negsuc (suc zero)) low high = record { over = refl; under = omega arith; under_to = omega arith }
 ten_parts (negsuc (suc (suc k))) low high = absurd (omega (arith, ints))
 
--- numerator and denominator of pi or 1
+-- the two parts of pi or 1
 pub record ArePiParts (p q : ℕ) : Type 0 where
   pub under : 0 < q
   pub from : q ≤ p

@@ -1,4 +1,4 @@
--- Written digits are read back, and so is the body of a text.
+-- Digits that were written are read back, and so is the body of a text.
 use Rattle.std.proofs.Common.{◌≡◌, ℕ, zero, suc, ◌+◌, ◌-◌, ◌*◌, ◌/◌, ◌%◌, ◌^◌, ◌<◌, ◌≤◌, Bool, true, false, ◌&&◌, nat_le, if◌then◌else◌, List, [], ◌∷◌, ◌++◌, Some, None, Option, option_map, sym, ap, ◌∙◌, arith, ℤ, pos, negsuc, ◌-ℤ◌, ◌≤ℤ◌, append_assoc, append-nil, pow-suc, le-leb}
 use Rattle.std.proofs.lemmas.Int.{ints}
 use Rattle.scaled_decimal.specs.NumberText.{Parts, digits, body, exponent_text}
@@ -44,7 +44,7 @@ read_from m =
 abbrev after_span : Span → Mantissa
 after_span s = after_whole s.number s.count s.rest
 
--- thirteen digits with a point after the first are read as their number
+-- thirteen digits with a point after the first are read as the number that they are
 mantissa_read : (n : ℕ) (tail : List ℕ) → n < 10 ^ 13
     → mantissa (digits 1 (n / 10 ^ 12) ++ 46 ∷ (digits 12 (n % 10 ^ 12) ++ 68 ∷ tail)) ≡ record { number = n; count = 13; places = 12; rest = 68 ∷ tail }
 mantissa_read n tail h =
@@ -59,7 +59,7 @@ reading_body p h =
     ap read_from (mantissa_read p.digits (exponent_text p.exponent) h.digits)
     ∙ ap (option_map (λ e. record { digits = p.digits; exponent = e -ℤ pos 12 })) (exponent_read p.exponent h.from h.to)
 
--- a mantissa of 1 to 18 digits and an exponent give a value
+-- a mantissa of 1 to 18 digits and an exponent are a reading
 pub reading_is : (text : List ℕ) (m : Mantissa) (e x : ℤ) → m ≡ mantissa text → 1 ≤ m.count → m.count ≤ 18 → exponent_after m.rest ≡ Some e
     → x ≡ e -ℤ pos m.places → reading text ≡ Some (record { digits = m.number; exponent = x })
 reading_is text m e x is from to after exponent =

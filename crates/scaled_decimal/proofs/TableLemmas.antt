@@ -1,4 +1,4 @@
--- The tables of powers, each entry checked against the one before it.
+-- The tables of powers, each entry against the one before it.
 use Rattle.std.proofs.Common.{◌≡◌, ℕ, zero, suc, ◌+◌, ◌*◌, ◌/◌, ◌%◌, ◌^◌, ◌<◌, Bool, true, false, nat_eq, ◌&&◌, List, [], ◌∷◌, length, get_or, refl, sym, ap, ap₂, ◌∙◌, subst, arith}
 use Rattle.std.proofs.lemmas.Bool.{eqb-true}
 use Rattle.std.proofs.Math.Nat.{pow-zero, pow-suc}
@@ -38,7 +38,7 @@ are_pairs k [] = true
 are_pairs k (a ∷ []) = false
 are_pairs k (a ∷ b ∷ cs) = (nat_eq a (48 + k / 10 % 10) && nat_eq b (48 + k % 10)) && are_pairs (suc k) cs
 
--- the two characters at 2 x k
+-- what stands at 2 x k
 pub record IsPair (cs : List ℕ) (k n : ℕ) : Type 0 where
   pub first : get_or cs (2 * k) 0 ≡ 48 + n / 10 % 10
   pub second : get_or cs (2 * k + 1) 0 ≡ 48 + n % 10

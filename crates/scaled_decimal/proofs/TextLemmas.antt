@@ -10,7 +10,7 @@ use Rattle.scaled_decimal.proofs.PowerLemmas.{ten_under_pos}
 use Rattle.scaled_decimal.proofs.SpanLemmas.{reading_body}
 use Rattle.scaled_decimal.proofs.GrammarLemmas.{read_is, is_read}
 
--- text that ends in a non-blank is kept after any text
+-- what ends in no blank is kept behind anything
 pub kept_behind : (xs : List ℕ) (y : ℕ) (ys : List ℕ) → trim_end (y ∷ ys) ≡ y ∷ ys → trim_end (xs ++ y ∷ ys) ≡ xs ++ y ∷ ys
 kept_behind [] y ys h = h
 kept_behind (x ∷ []) y ys h = ap (before_trimmed x) h
@@ -143,7 +143,7 @@ one_number s text y z some p q =
 pub text_seen : (s : Fraction) (z : ℤ) → IsScale s → unsigned_abs z ≤ 4294967295 → seen s (number_text s z) ≡ number z
 text_seen s z scale small = stands_seen s (number_text s z) z scale.some (text_stands s z scale small)
 
--- a text of `IsTextOf` is that of `number_text`
+-- a text of the relation is that of the function
 pub text_is : (s : Fraction) (z : ℤ) (text : List ℕ) → IsScale s → unsigned_abs z ≤ 4294967295 → IsTextOf s z text → text ≡ number_text s z
 unfolding number_text
 text_is s z text scale small h =

@@ -8,7 +8,7 @@ use Rattle.scaled_decimal.specs.NumberReading.{Span, Mantissa, trim_start, trim_
 use Rattle.scaled_decimal.proofs.SpanLemmas.{reading_is}
 use Rattle.scaled_decimal.proofs.WalkLemmas.{at_place, end_none}
 
--- a digit at an offset of a text
+-- a digit at a place of a text
 pub run_more : (text : List ℕ) (n k i d : ℕ) → i < length text → is_decimal (get_or text i 0) ≡ true → d ≡ get_or text i 0 - 48
     → span n k (drop i text) ≡ span (n * 10 + d) (k + 1) (drop (i + 1) text)
 run_more text n k i d h digit is =
@@ -17,7 +17,7 @@ run_more text n k i d h digit is =
     else record { number = n; count = k; rest = get_or text i 0 ∷ drop (i + 1) text }) digit
     ∙ ap (λ e. span (n * 10 + e) (k + 1) (drop (i + 1) text)) (sym is)
 
--- no digit at an offset of a text
+-- no digit at a place of a text
 run_none : (text : List ℕ) (n k i : ℕ) → i < length text → is_decimal (get_or text i 0) ≡ false
     → span n k (drop i text) ≡ record { number = n; count = k; rest = drop i text }
 run_none text n k i h other =
@@ -102,7 +102,7 @@ usual_exponent_is text minus n e long letter way tens ones is value =
       to = subst (λ z. z ≤ℤ pos 99) (sym value) (signed_to minus n small);
     }
 
--- a text that does not end in a blank
+-- a text that ends in no blank
 kept : (text : List ℕ) (n : ℕ) → 0 < n → length text ≡ n → get_or text (n - 1) 0 ≢ 32 → trim_end text ≡ text
 kept text n some long other =
     let all : take n text ≡ text = take_all n text (omega (arith, long)) in
@@ -129,7 +129,7 @@ usual_is text minus n e x long column m p is =
     usual_trimmed minus text long column m.first p.last
     ∙ ap (with_sign minus) (reading_is (drop 1 text) (record { number = n; count = 13; places = 12; rest = drop 15 text }) e x (sym m.read) (omega arith) (omega arith) p.read is)
 
--- a property of a number that is found
+-- what is said of a number that is found
 pub found : (o : Option ℕ) (P Q : ℕ → Type 0) → MatchOption o (Unit {0}) P → ((n : ℕ) → P n → Q n) → MatchOption o (Unit {0}) Q
 found None P Q h more = tt
 found (Some n) P Q h more = more n h

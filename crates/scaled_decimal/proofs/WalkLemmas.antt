@@ -1,4 +1,4 @@
--- The loops over a text: leading and trailing blanks, and digits.
+-- The walks over a text: blanks at its ends, and digits.
 use Rattle.std.proofs.Common.{◌≡◌, ◌≢◌, ℕ, suc, ◌+◌, ◌-◌, ◌*◌, ◌^◌, ◌<◌, ◌≤◌, true, false, if◌then◌else◌, List, [], ◌∷◌, ◌++◌, length, get_or, take, drop, refl, sym, ap, ◌∙◌, arith, eq-eqb, ne_eqb, drop-cons, add-one, pow-suc, take-suc}
 use Rattle.std.proofs.Math.Nat.{pow-le-pow_right}
 use Rattle.scaled_decimal.specs.NumberReading.{trim_start, trim_end, before_trimmed, span, is_decimal}
@@ -18,7 +18,7 @@ blank_none text i h other so =
     ∙ ap (λ b. if b then trim_start (drop (i + 1) text) else get_or text i 0 ∷ drop (i + 1) text) (ne_eqb (get_or text i 0) 32 other)
     ∙ sym (at_place text i h))
 
--- a trailing blank is dropped
+-- a last blank is dropped
 last_blank : (xs : List ℕ) → trim_end (xs ++ 32 ∷ []) ≡ trim_end xs
 last_blank [] = refl
 last_blank (x ∷ xs) = ap (before_trimmed x) (last_blank xs)
@@ -40,7 +40,7 @@ end_none text i some h other so =
     let kept = kept_behind (take (i - 1) text) c [] (no_blank c other) in
     last_of text i some h ∙ sym kept ∙ ap trim_end (sym (last_of text i some h)) ∙ sym so
 
--- a byte of a loop that is a digit
+-- a byte of a walk that is a digit
 pub digit_more : (text : List ℕ) (m n k i d : ℕ) → i < length text → is_decimal (get_or text i 0) ≡ true → d ≡ get_or text i 0 - 48
     → span m k text ≡ span n (k + i) (drop i text) → span m k text ≡ span (n * 10 + d) (k + (i + 1)) (drop (i + 1) text)
 digit_more text m n k i d h digit is so =

@@ -1,8 +1,7 @@
--- Exact fractions of natural numbers, compared by cross multiplication, and the integer nearest to one. A fraction is never
--- reduced: two fractions of one value can differ.
+-- Exact fractions of whole numbers, compared by cross multiplication, and the whole number nearest to one.
+-- A fraction is never reduced: two fractions of one value can differ.
 use Rattle.std.specs.Prelude.{◌≡◌, ℕ, ◌+◌, ◌*◌, ◌/◌, ◌%◌, ◌^◌, ◌<◌, ◌≤◌, ◌&&◌, ◌||◌, ◌==◌, nat_lt, if◌then◌else◌, ℤ, pos, negsuc}
 
--- the fraction over / under
 pub record Fraction : Type 0 where
   pub over : ℕ
   pub under : ℕ
@@ -37,14 +36,14 @@ abbrev pub ten_to : ℤ → Fraction
 ten_to (pos k) = record { over = 10 ^ k; under = 1 }
 ten_to (negsuc k) = record { over = 1; under = 10 ^ (k + 1) }
 
--- n is the integer nearest to a, ties to even
+-- n is the whole number nearest to a, halves to even
 pub record IsNearest (a : Fraction) (n : ℕ) : Type 0 where
   pub above : 2 * (n * a.under) ≤ 2 * a.over + a.under
   pub below : 2 * a.over ≤ 2 * (n * a.under) + a.under
   pub even_above : 2 * (n * a.under) ≡ 2 * a.over + a.under → n % 2 ≡ 0
   pub even_below : 2 * a.over ≡ 2 * (n * a.under) + a.under → n % 2 ≡ 0
 
--- the integer nearest to a, ties to even
+-- the whole number nearest to a, halves to even
 abbrev pub nearest_to : Fraction → ℕ
 nearest_to a =
     let whole = a.over / a.under in

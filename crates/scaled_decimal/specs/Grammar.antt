@@ -1,6 +1,6 @@
--- The grammar of decimal texts, without leading and trailing blanks (RINEX 4.01, D19.12, read leniently): an optional sign;
--- 1 to 18 digits with at most one point among, before or after them; optionally one of `D d E e`, an optional sign, and one
--- to three digits.
+-- The grammar of the decimal texts that are read, without blanks at their ends (RINEX 4.01, D19.12, read leniently):
+-- a sign or none; digits, with at most one point among, before or after them, 1 to 18 in all; then nothing, or one of
+-- `D d E e`, a sign or none, and one to three digits.
 use Rattle.std.specs.Prelude.{◌≡◌, ◌⊎◌, ◌≤◌, ℕ, ◌+◌, ◌-◌, ◌*◌, Bool, true, false, List, [], ◌∷◌, ◌++◌, length, ℤ, pos, ◌-ℤ◌}
 use Rattle.scaled_decimal.specs.Values.{Decimal, signed, is_letter}
 
@@ -9,17 +9,17 @@ abbrev pub AreDecimals : List ℕ → Type 0
 AreDecimals [] = Unit {0}
 AreDecimals (c ∷ cs) = (48 ≤ c) × (c ≤ 57) × AreDecimals cs
 
--- the number with the digits of n followed by these
+-- the number that digits are, behind the digits of a number n
 abbrev pub number_behind : ℕ → List ℕ → ℕ
 number_behind n [] = n
 number_behind n (c ∷ cs) = number_behind (n * 10 + (c - 48)) cs
 
--- an optional sign, and whether it is a minus
+-- a sign or none, and whether it is a minus
 abbrev pub IsSign : Bool → List ℕ → Type 0
 IsSign true text = text ≡ 45 ∷ []
 IsSign false text = (text ≡ []) ⊎ (text ≡ 43 ∷ [])
 
--- an optional sign, and one to three digits
+-- a sign or none, and one to three digits
 pub record IsSignedNumber (text : List ℕ) (e : ℤ) : Type 0 where
   pub minus : Bool
   pub sign : List ℕ
@@ -31,7 +31,7 @@ pub record IsSignedNumber (text : List ℕ) (e : ℤ) : Type 0 where
   pub to : length digits ≤ 3
   pub number : e ≡ signed minus (number_behind 0 digits)
 
--- one of `D d E e` and a signed number
+-- one of `D d E e` and a number
 pub record IsExponentText (text : List ℕ) (e : ℤ) : Type 0 where
   pub letter : ℕ
   pub rest : List ℕ
@@ -39,7 +39,7 @@ pub record IsExponentText (text : List ℕ) (e : ℤ) : Type 0 where
   pub letter_is : is_letter letter ≡ true
   pub number : IsSignedNumber rest e
 
--- an optional exponent, 0 where there is none
+-- nothing, which is an exponent of 0, or an exponent
 abbrev pub IsExponent : List ℕ → ℤ → Type 0
 IsExponent text e = ((text ≡ []) × (e ≡ pos 0)) ⊎ IsExponentText text e
 
@@ -50,7 +50,7 @@ IsPoint point places = (point ≡ 46 ∷ []) ⊎ ((point ≡ []) × (places ≡ 
 -- the text is in the grammar, and this is its value
 pub record IsDecimalText (text : List ℕ) (d : Decimal) : Type 0 where
   pub sign : List ℕ
-  -- the digits before the point, the point or nothing, and the digits after it
+  -- the digits before the point, the point or nothing, and the digits behind it
   pub whole : List ℕ
   pub point : List ℕ
   pub places : List ℕ

@@ -1,9 +1,9 @@
--- Intermediate results of private functions, cited by no public clause.
+-- What private functions keep on the way, cited by no public clause.
 use Rattle.std.specs.Prelude.{◌≡◌, ◌≢◌, ℕ, ◌*◌, ◌^◌, ◌<◌, ◌≤◌, Bool, true, false, List, drop, get_or, Some, ℤ, pos, negsuc, ◌≤ℤ◌}
 use Rattle.scaled_decimal.specs.NumberReading.{is_decimal, mantissa, exponent_after}
 use Rattle.scaled_decimal.specs.Fractions.{IsNearest}
 
--- a fraction whose first digit is at 10^k, times p / q, the power of ten that moves that digit to 10^12
+-- a fraction with its first digit at the place k, times the power p / q of ten that takes that place to 12
 pub record IsMoved (over under k over' under' : ℕ) : Type 0 where
   pub p : ℕ
   pub q : ℕ
@@ -14,24 +14,24 @@ pub record IsMoved (over under k over' under' : ℕ) : Type 0 where
   pub under_is : under' ≡ under * q
   pub below : over' < 10 ^ 13 * under'
 
--- d has the thirteen significant digits of a fraction whose first digit is at 10^k
+-- the thirteen digits of a fraction with its first digit at the place k
 pub record AreDigits (over under k d : ℕ) : Type 0 where
   pub over' : ℕ
   pub under' : ℕ
   pub moved : IsMoved over under k over' under'
   pub nearest : IsNearest (record { over = over'; under = under' }) d
 
--- reached is start x 10^k, and at most over
+-- a number taken ten times k times, which is at most another one
 pub record IsReached (over start k reached : ℕ) : Type 0 where
   pub reached_is : reached ≡ start * 10 ^ k
   pub at_most : reached ≤ over
 
--- the exponents that three digits can give
+-- an exponent of three digits
 pub record IsExponentRead (e : ℤ) : Type 0 where
   pub from : negsuc 998 ≤ℤ e
   pub to : e ≤ℤ pos 999
 
--- the digits and exponents that reading can give
+-- digits and an exponent that can be read
 pub record IsDecimalRead (digits : ℕ) (e : ℤ) : Type 0 where
   pub below : digits < 10 ^ 18
   pub from : negsuc 1018 ≤ℤ e
@@ -42,13 +42,13 @@ abbrev pub IsMinus : Bool → ℕ → ℕ → Type 0
 IsMinus true c other = c ≡ 45
 IsMinus false c other = c ≡ other
 
--- the mantissa of a text in the usual form: in bytes 1 to 14 a digit, a point and twelve digits
+-- the mantissa of a text in the usual form: from byte 1 to 15 a digit, a point and twelve digits
 pub record IsUsualMantissa (text : List ℕ) (n : ℕ) : Type 0 where
   pub first : 48 ≤ get_or text 1 0
   pub read : mantissa (drop 1 text) ≡ record { number = n; count = 13; places = 12; rest = drop 15 text }
   pub below : n < 10 ^ 13
 
--- its exponent: in bytes 15 to 18 a letter, a sign and two digits
+-- its exponent: from byte 15 a letter, a sign and two digits
 pub record IsUsualExponent (text : List ℕ) (e : ℤ) : Type 0 where
   pub letter : is_decimal (get_or text 15 0) ≡ false
   pub last : get_or text 18 0 ≢ 32

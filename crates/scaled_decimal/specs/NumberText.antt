@@ -7,16 +7,16 @@ pub record Parts : Type 0 where
   pub digits : ℕ
   pub exponent : ℤ
 
--- the value of the parts
+-- what the parts are worth
 abbrev pub worth : Parts → Fraction
 worth p = scaled p.digits (ten_to (p.exponent -ℤ pos 12))
 
--- 10^e is at most v, and 10^(e + 1) is above v
+-- ten to the exponent is at most v, and ten times that is above v
 pub record IsExponent (v : Fraction) (e : ℤ) : Type 0 where
   pub at_most : IsAtMost (ten_to e) v
   pub below : IsBelow v (ten_to (e +ℤ pos 1))
 
--- rounding carry: 10^13 becomes 10^12 with the next exponent
+-- 10^13 digits are those of 10^12 with the next exponent
 abbrev pub carried : ℕ → ℤ → Parts
 carried d e = if d == 10 ^ 13 then record { digits = 10 ^ 12; exponent = e +ℤ pos 1 }
     else record { digits = d; exponent = e }
@@ -29,17 +29,17 @@ pub record ArePartsOf (v : Fraction) (p : Parts) : Type 0 where
   pub nearest : IsNearest (times v (ten_to (pos 12 -ℤ exponent))) digits
   pub parts : p ≡ carried digits exponent
 
--- the last k digits of n, as characters
+-- the last k digits of n
 unfoldable pub digits : ℕ → ℕ → List ℕ
 digits zero n = []
 digits (suc k) n = digits k (n / 10) ++ (48 + n % 10) ∷ []
 
--- the sign of an exponent, `+` or `-`
+-- `+` or `-`
 abbrev pub exponent_sign : ℤ → ℕ
 exponent_sign (pos k) = 43
 exponent_sign (negsuc k) = 45
 
--- an exponent as a sign and two digits
+-- a sign and two digits
 abbrev pub exponent_text : ℤ → List ℕ
 exponent_text z = exponent_sign z ∷ digits 2 (unsigned_abs z)
 
@@ -52,34 +52,34 @@ abbrev pub sign_column : ℤ → ℕ
 sign_column (pos n) = 32
 sign_column (negsuc n) = 45
 
--- text is the text of z at the size s: zero has digits and exponent 0, any other number the parts of its value
+-- the text of z at the size s: of 0 it has digits and exponent 0, of any other number its parts
 pub record IsTextOf (s : Fraction) (z : ℤ) (text : List ℕ) : Type 0 where
   pub parts : Parts
   pub zero_is : unsigned_abs z ≡ 0 → parts ≡ record { digits = 0; exponent = pos 0 }
   pub parts_are : 0 < unsigned_abs z → ArePartsOf (scaled (unsigned_abs z) s) parts
   pub text_is : text ≡ sign_column z ∷ body parts
 
--- the greatest k up to the given one with 10^k at most v x 10^20; 0 where there is none
+-- the greatest k, of those up to the given one, with 10^k at most v x 10^20, or 0
 unfoldable pub place_from : ℕ → Fraction → ℕ
 place_from zero v = 0
 place_from (suc k) v = if nat_le (10 ^ suc k * v.under) (v.over * 10 ^ 20) then suc k else place_from k v
 
--- the parts of v, for v from 10^-20 to below 10^17
+-- the parts of v as a function, for v of 10^-20 to below 10^17
 unfoldable pub parts_to : Fraction → Parts
 parts_to v =
     let e = pos (place_from 36 v) -ℤ pos 20 in
     carried (nearest_to (times v (ten_to (pos 12 -ℤ e)))) e
 
--- the digits and the exponent of the number n at the size s
+-- the digits and the exponent of a number at a size
 abbrev pub parts_at : Fraction → ℕ → Parts
 parts_at s zero = record { digits = 0; exponent = pos 0 }
 parts_at s (suc n) = parts_to (scaled (suc n) s)
 
--- the text of z at the size s
+-- the text of z at the size s as a function
 unfoldable pub number_text : Fraction → ℤ → List ℕ
 number_text s z = sign_column z ∷ body (parts_at s (unsigned_abs z))
 
--- no byte is below a blank (32), so there is no line feed
+-- each byte is a blank or above it, so there is no line feed
 abbrev pub AreShown : List ℕ → Type 0
 AreShown [] = Unit {0}
 AreShown (c ∷ cs) = (32 ≤ c) × AreShown cs

@@ -11,7 +11,6 @@ pub record Decimal : Type 0 where
   pub minus : Bool
   pub value : Reading
 
--- n, or -n with a minus
 abbrev pub signed : Bool → ℕ → ℤ
 signed true n = neg_ℤ (pos n)
 signed false n = pos n

@@ -1,4 +1,4 @@
-//! Fractions in 128 bits: the value of a scale, and the integer nearest to a fraction.
+//! Fractions in 128 bits: the size of a scale, and the whole number nearest to a fraction.
 
 ghost use Rattle.std.specs.Prelude.{◌≡◌, ◌+◌, ◌*◌, ◌/◌, ◌^◌, ◌<◌, ◌≤◌, ◌≤ℤ◌, pos, negsuc};
 ghost use Rattle.scaled_decimal.specs.Fractions.{IsNearest, two_to, ten_to};
@@ -7,14 +7,14 @@ ghost use Rattle.scaled_decimal.specs.ScaleValue.{size_of, pi_part, AreWithin};
 use crate::powers::{fifths, power_of_five, power_of_two};
 use crate::scales::Scale;
 
-/// The value of a scale times 10^20, as `over` / 2^`bits`.
+/// The size of a scale times 10^20, as a fraction by 2^bits.
 #[derive(Clone, Copy)]
 pub(crate) struct Ratio {
     pub(crate) over: u128,
     pub(crate) bits: u32,
 }
 
-// 2^`exponent` as 2^a / 2^b: the pair (a, b).
+// Two to the power of an exponent, as a fraction of powers of two: their exponents.
 fn two_parts(exponent: i32) -> (u32, u32)
     requires from { negsuc 58 ≤ℤ exponent }
     requires to { exponent ≤ℤ pos 16 }
@@ -57,7 +57,7 @@ fn hundredths(ten: i32) -> u64
     }
 }
 
-/// The value of a scale.
+/// The size of a scale.
 pub(crate) fn ratio_of(scale: &Scale) -> Ratio
     requires { AreWithin scale.now.factor scale.now.two scale.now.ten }
     ensures same { (size_of scale.now).over * (2 ^ result.bits * 10 ^ 20)
@@ -73,7 +73,7 @@ pub(crate) fn ratio_of(scale: &Scale) -> Ratio
     Ratio { over, bits }
 }
 
-// The quotient `whole` or the next integer, by the remainder of a division, ties to even.
+// The whole number or the next one, by the rest of a division, halves to even.
 fn rounded(whole: u128, rest: u128, under: u128) -> u128
     requires rest { rest < under }
     requires whole { whole * under + rest < 2 ^ 128 }
@@ -87,7 +87,7 @@ fn rounded(whole: u128, rest: u128, under: u128) -> u128
     }
 }
 
-/// The integer nearest to `over` / 2^`bits`, ties to even.
+/// The whole number nearest to a fraction by a power of two, halves to even.
 pub(crate) fn nearest_by_two(over: u128, bits: u32) -> u128
     requires { bits ≤ 59 }
     ensures { IsNearest (record { over = over; under = 2 ^ bits }) result }
@@ -96,7 +96,7 @@ pub(crate) fn nearest_by_two(over: u128, bits: u32) -> u128
     rounded(whole, over - (whole << bits), power_of_two(bits))
 }
 
-// The quotient by a power of five, corrected from a guess that may be wrong.
+// The quotient of a number by a power of five.
 fn quotient_by_five(part: u128, five: u64, guess: u64) -> u128
     requires { 0 < five }
     ensures { result ≡ part / five }
@@ -116,7 +116,7 @@ fn quotient_by_five(part: u128, five: u64, guess: u64) -> u128
     part / five
 }
 
-/// The integer nearest to `over` / (2^`bits` x 10^`tens`), ties to even.
+/// The whole number nearest to a fraction by 2^bits x 10^tens, halves to even.
 pub(crate) fn nearest_by_ten(over: u128, bits: u32, tens: u32) -> u128
     requires bits { bits ≤ 59 }
     requires tens { tens < 25 }
@@ -130,8 +130,8 @@ pub(crate) fn nearest_by_ten(over: u128, bits: u32, tens: u32) -> u128
     rounded(whole, over - whole * under, under)
 }
 
-// A lower estimate of a quotient, nearly always close: the quotient of the 64 leading bits of both
-// numbers, or a little less.
+// The whole number that a fraction is close above or below, nearly always: the quotient of the 64 bits
+// of each number at the front of the first one, or a little less.
 fn guess(over: u128, under: u128) -> u64
     requires { 0 < under }
     ensures { result * under ≤ over }
@@ -146,7 +146,7 @@ fn guess(over: u128, under: u128) -> u64
     prefix as u64 / (size as u64 + 1)
 }
 
-// The integer nearest to a fraction, by its quotient and remainder.
+// The whole number nearest to a fraction, by the whole number below or above it.
 fn nearest_by_division(over: u128, under: u128) -> u128
     requires { 0 < under }
     ensures { IsNearest (record { over = over; under = under }) result }
@@ -155,7 +155,7 @@ fn nearest_by_division(over: u128, under: u128) -> u128
     rounded(whole, over - whole * under, under)
 }
 
-/// The integer nearest to `over` / `under`, ties to even.
+/// The whole number nearest to a fraction, halves to even.
 pub(crate) fn nearest(over: u128, under: u128) -> u128
     requires { 0 < under }
     ensures { IsNearest (record { over = over; under = under }) result }

@@ -10,12 +10,12 @@ ghost use Rattle.scaled_decimal.specs.NumberReading.{trim_start, trim_end, is_de
 ghost use Rattle.scaled_decimal.specs.NumberReading.{mantissa, exponent_digits, signed_exponent};
 ghost use Rattle.scaled_decimal.specs.NumberReading.{exponent_after, reading, decimal_of};
 
-/// The leading digits of a text.
+/// Digits at the front of a text.
 #[derive(Clone, Copy)]
 pub struct Span<'a> {
-    /// Their value in decimal.
+    /// The number that they are, read from the left.
     pub number: u64,
-    /// How many digits.
+    /// How many they are.
     pub count: usize,
     /// What follows.
     pub rest: &'a [u8],
@@ -31,7 +31,7 @@ struct Mantissa<'a> {
     rest: &'a [u8],
 }
 
-/// The value of a text: digits x 10^exponent, negative where `minus` is set.
+/// The value of a text: digits x 10^exponent, below 0 where `minus` is set.
 #[derive(Clone, Copy)]
 pub(crate) struct Decimal {
     pub(crate) minus: bool,
@@ -39,7 +39,7 @@ pub(crate) struct Decimal {
     pub(crate) exponent: i32,
 }
 
-/// The text without leading blanks.
+/// The text without the blanks before it.
 fn trim_start(text: &[u8]) -> &[u8]
     ensures value { result.now ≡ trim_start text.now }
     ensures shorter { length result.now ≤ length text.now }
@@ -52,7 +52,7 @@ fn trim_start(text: &[u8]) -> &[u8]
     &text[text.len()..]
 }
 
-/// The text without trailing blanks.
+/// The text without the blanks after it.
 fn trim_end(text: &[u8]) -> &[u8]
     ensures value { result.now ≡ trim_end text.now }
     ensures shorter { length result.now ≤ length text.now }
@@ -67,7 +67,7 @@ fn trim_end(text: &[u8]) -> &[u8]
     &text[..0]
 }
 
-/// The text without leading and trailing blanks.
+/// The text without the blanks at its ends.
 pub fn trimmed(text: &[u8]) -> &[u8]
     ensures value { result.now ≡ trim_end (trim_start text.now) }
     ensures shorter { length result.now ≤ length text.now }
@@ -75,14 +75,14 @@ pub fn trimmed(text: &[u8]) -> &[u8]
     trim_end(trim_start(text))
 }
 
-/// Whether the character is a decimal digit.
+/// The character is a decimal digit.
 pub fn is_decimal(c: u8) -> bool
     ensures { result ≡ is_decimal c }
 {
     c.is_ascii_digit()
 }
 
-// The leading digits of a text, appended to a number of `count` digits.
+// Digits at the front of a text, going on from a number of `count` digits.
 fn read_digits(number: u64, count: usize, text: &[u8]) -> Span<'_>
     requires number { number < 10 ^ count }
     requires count { count + length text.now ≤ 19 }
@@ -111,7 +111,7 @@ fn read_digits(number: u64, count: usize, text: &[u8]) -> Span<'_>
     }
 }
 
-/// The leading digits of a text.
+/// The digits at the front of a text.
 pub fn leading_digits(text: &[u8]) -> Span<'_>
     requires { length text.now ≤ 19 }
     ensures read { record { number = result.number; count = result.count; rest = result.rest.now }
@@ -122,7 +122,7 @@ pub fn leading_digits(text: &[u8]) -> Span<'_>
     read_digits(0, 0, text)
 }
 
-// Leading digits of a text with at most one point.
+// Digits with at most one point, at the front of a text.
 fn read_mantissa(text: &[u8]) -> Mantissa<'_>
     requires { length text.now ≤ 19 }
     ensures read { record {
@@ -155,7 +155,7 @@ fn read_mantissa(text: &[u8]) -> Mantissa<'_>
     }
 }
 
-// One to three digits that end the text.
+// One to three digits to the end of a text.
 fn exponent_digits(minus: bool, text: &[u8]) -> Option<i32>
     requires { length text.now ≤ 19 }
     ensures { MatchOption result (exponent_digits minus text.now ≡ None)
@@ -170,7 +170,7 @@ fn exponent_digits(minus: bool, text: &[u8]) -> Option<i32>
     }
 }
 
-// An exponent with or without a sign.
+// An exponent with a sign or none.
 fn signed_exponent(text: &[u8]) -> Option<i32>
     requires { length text.now ≤ 19 }
     ensures { MatchOption result (signed_exponent text.now ≡ None)
@@ -197,7 +197,7 @@ fn exponent_after(text: &[u8]) -> Option<i32>
     }
 }
 
-// The value of a text without its sign.
+// The value of a text without a sign.
 fn reading(minus: bool, text: &[u8]) -> Option<Decimal>
     requires { length text.now ≤ 19 }
     ensures { MatchOption result (reading text.now ≡ None)
@@ -216,7 +216,7 @@ fn reading(minus: bool, text: &[u8]) -> Option<Decimal>
     })
 }
 
-/// The value of a text without leading and trailing blanks; None where it is not in the grammar.
+/// The value of a text without blanks at its ends; None where it is not in the grammar.
 pub(crate) fn decimal_of(text: &[u8]) -> Option<Decimal>
     requires { length text.now ≤ 19 }
     ensures { MatchOption result (decimal_of text.now ≡ None)
@@ -233,14 +233,14 @@ pub(crate) fn decimal_of(text: &[u8]) -> Option<Decimal>
     }
 }
 
-// Whether the character is the letter of an exponent: `D d E e`.
+// The letter of an exponent.
 fn is_letter(c: u8) -> bool
     ensures { result ≡ is_letter c }
 {
     c == b'D' || c == b'd' || c == b'E' || c == b'e'
 }
 
-// The number of two digits; None where one of them is not a digit.
+// The number of two digits; None where one of them is none.
 fn two_digits(tens: u8, ones: u8) -> Option<u64>
     ensures { MatchOption result (Unit {0}) (λ n. (is_decimal tens ≡ true) × (is_decimal ones ≡ true)
         × (n ≡ (tens - 48) * 10 + (ones - 48)) × (n ≤ 99)) }
@@ -251,8 +251,8 @@ fn two_digits(tens: u8, ones: u8) -> Option<u64>
     Some(u64::from(tens - b'0') * 10 + u64::from(ones - b'0'))
 }
 
-// Whether a character is `-`; None where it is neither `-` nor `other`. Without a branch between
-// the two, since signs come in no predictable order.
+// Whether a character is a minus; None where it is neither that nor another one. Signs come in no
+// order, so that there is no branch between the two.
 fn minus_or(c: u8, other: u8) -> Option<bool>
     ensures { MatchOption result (Unit {0}) (λ minus. IsMinus minus c other) }
 {
@@ -270,8 +270,7 @@ fn signed(minus: bool, number: u64) -> i32
     if minus { -number } else { number }
 }
 
-// `first` and the digits from offset `from` to before `to` as one number; None where one of these
-// is not a digit.
+// A digit and those between two places of a text; None where one of these is none.
 fn digits_behind(first: u64, text: &[u8], from: usize, to: usize) -> Option<u64>
     requires first { first < 10 }
     requires from { from ≤ to }
@@ -317,8 +316,8 @@ fn usual_exponent(text: &[u8]) -> Option<i32>
     Some(signed(minus, number))
 }
 
-/// The value of a text in the usual form: a blank or `-`, one digit, a point, twelve digits, a
-/// letter, a sign and two digits. None where a text has another form.
+/// The value of a text in the form that is usual: a blank or `-`, one digit, a point, twelve digits,
+/// a letter, a sign and two digits. None where a text has another form.
 pub(crate) fn usual(text: &[u8]) -> Option<Decimal>
     ensures { MatchOption result (Unit {0}) (λ d. (decimal_of (trim_end (trim_start text.now))
         ≡ Some (record {

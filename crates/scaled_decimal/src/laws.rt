@@ -11,17 +11,17 @@ ghost use Rattle.scaled_decimal.specs.Values.{Decimal};
 ghost use Rattle.scaled_decimal.specs.NumberReading.{AreBlanks, StandsFor, NumberSeen};
 ghost use Rattle.scaled_decimal.specs.NumberReading.{blank, decimal_of, number, seen};
 
-/// [`nearest_to`] gives the one integer nearest to a fraction, ties to even.
+/// The whole number that [`nearest_to`] gives is nearest, halves to even, and no other is.
 pub fn one_number_is_nearest()
     ensures { (a : Fraction) (n : ℕ) → 0 < a.under → IsNearest a n ↔ (n ≡ nearest_to a) }
 {}
 
-/// At a scale that `Scale::new` accepts, each 32-bit number has a decimal exponent from -20 to 16.
+/// A scale that `Scale::new` accepts has a size at which each number is in reach.
 pub fn accepted_scales_are_scales()
     ensures { (s : Scale) → AreWithin s.factor s.two s.ten → IsScale (size_of s) }
 {}
 
-/// A number has exactly one text, which `number_text` gives.
+/// A number has one text, and it is that of the function.
 pub fn one_text()
     ensures { (s : Fraction) (z : ℤ) (text : List ℕ) → IsScale s → unsigned_abs z ≤ 4294967295
         → IsTextOf s z text ↔ (text ≡ number_text s z) }
@@ -37,14 +37,15 @@ pub fn texts_stand()
         ≡ z }
 {}
 
-/// `seen` gives the number that a text stands for, if there is one, and `blank` for blanks alone.
+/// A reader sees the number that a text stands for, if it stands for one, and sees blanks alone as
+/// blank.
 pub fn texts_are_seen()
     ensures as_numbers { (s : Fraction) (text : List ℕ) (z : ℤ) → IsScale s
         → (seen s text ≡ number z) ↔ StandsFor s text z }
     ensures as_blanks { (s : Fraction) (text : List ℕ) → (seen s text ≡ blank) ↔ AreBlanks text }
 {}
 
-/// The text of a number is read as that number; it has 19 columns, each printable, and ends in a
+/// The text of a number is read as that number; it has 19 columns, each is shown, and the last is a
 /// digit.
 pub fn texts_are_read()
     ensures read { (s : Fraction) (z : ℤ) → IsScale s → unsigned_abs z ≤ 4294967295
@@ -54,8 +55,8 @@ pub fn texts_are_read()
     ensures ends { (s : Fraction) (z : ℤ) → EndsInDigit (number_text s z) }
 {}
 
-/// A text without leading and trailing blanks is read exactly where it is in the grammar, with its
-/// value.
+/// Of the texts without blanks at their ends, those of the grammar are read, with their value, and
+/// no others.
 pub fn texts_of_the_grammar_are_read()
     ensures read { (text : List ℕ) (d : Decimal) → (decimal_of text ≡ Some d)
         ↔ IsDecimalText text d }

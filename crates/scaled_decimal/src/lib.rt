@@ -1,11 +1,11 @@
-//! Scaled integers as decimal texts of 19 columns, and back (RINEX 4.01, navigation records,
+//! Numbers at a scale as decimal texts of 19 columns, and back (RINEX 4.01, navigation records,
 //! D19.12).
 //!
-//! A broadcast field is an integer at a scale, as the mean anomaly at pi x 2^-31 rad (IS-GPS-200,
-//! 20.3.3.4.3). Its text has thirteen digits, correctly rounded, ties to even; a text is read as
-//! the integer nearest to its value divided by the scale, ties to even. Both are exact: no floating
-//! point is used. The text of a number is read back as that number, at each scale that
-//! [`Scale::new`] accepts.
+//! A broadcast field is a whole number at a scale, as the mean anomaly at pi x 2^-31 rad
+//! (IS-GPS-200, 20.3.3.4.3). Its text has thirteen digits, correctly rounded, halves to even; a
+//! text is read as the whole number nearest to its value divided by the scale, halves to even. Both
+//! are exact: no floating point is used. The text of a number is read as that number, at each scale
+//! that [`Scale::new`] accepts.
 //!
 //! ```rust
 //! let mean_anomaly = Scale { pi: true, factor: 1, two: -31, ten: 0 };

@@ -1,4 +1,4 @@
-//! Powers of two, ten and five.
+//! Powers of two, ten and five, and the place of the first digit of a number.
 
 ghost use Rattle.std.specs.Prelude.{◌≡◌, ◌*◌, ◌^◌, ◌<◌, ◌≤◌};
 
@@ -26,7 +26,7 @@ pub(crate) fn power_of_five(exponent: u32) -> u64
     FIVES[exponent as usize]
 }
 
-/// An estimate of `part` / 5^`exponent`, close where that has at most 44 bits.
+/// About `part` / 5^exponent, where that has at most 44 bits.
 pub(crate) fn fifths(part: u128, exponent: u32) -> u64
     requires { exponent < 25 }
 {

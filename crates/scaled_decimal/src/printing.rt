@@ -1,4 +1,4 @@
-//! Printing an integer at a scale.
+//! Printing a number at a scale.
 
 ghost use Rattle.std.specs.Prelude.{◌≡◌, ◌+◌, ◌*◌, ◌%◌, ◌^◌, ◌<◌, ◌≤◌, ◌∷◌};
 ghost use Rattle.std.specs.Prelude.{◌≤ℤ◌, pos, negsuc, unsigned_abs};
@@ -12,14 +12,15 @@ use crate::fractions::{nearest_by_ten, nearest_by_two, ratio_of};
 use crate::powers::{power_of_ten, power_of_two};
 use crate::scales::Scale;
 
-// Thirteen digits, with the point after the first, and an exponent.
+// Thirteen digits, with a point after the first, and an exponent.
 #[derive(Clone, Copy)]
 struct Parts {
     digits: u64,
     exponent: i32,
 }
 
-// The greatest k up to `limit` with `start` x 10^k at most `over`.
+// The most steps, up to a limit, by which a number can be taken ten times and stays at most another
+// one.
 fn steps_to(over: u128, start: u128, limit: u32) -> u32
     requires start { start ≤ over }
     requires over { over < start * 10 ^ (limit + 1) }
@@ -40,7 +41,7 @@ fn steps_to(over: u128, start: u128, limit: u32) -> u32
     limit
 }
 
-// The greatest k with `under` x 10^k at most `over`, by search.
+// The place of the first digit of a fraction, by steps.
 fn place_by_steps(over: u128, under: u128) -> u32
     requires least { under ≤ over }
     requires most { over < under * 10 ^ 37 }
@@ -58,7 +59,8 @@ fn place_by_steps(over: u128, under: u128) -> u32
     }
 }
 
-// The greatest k with 2^`bits` x 10^k at most `over`: estimated from the bit length, and checked.
+// The place of the first digit of a fraction by 2^bits: about 3/10 of the bits before its point,
+// which the powers of ten there confirm.
 fn place_of(over: u128, bits: u32) -> u32
     requires bits { bits ≤ 59 }
     requires least { 2 ^ bits ≤ over }
@@ -80,7 +82,7 @@ fn place_of(over: u128, bits: u32) -> u32
     place_by_steps(over, power_of_two(bits))
 }
 
-// The thirteen significant digits of `over` / 2^`bits`, whose first is at 10^`place`.
+// The thirteen digits of a fraction by 2^bits with its first digit at a place.
 fn digits_at(over: u128, bits: u32, place: u32) -> u128
     requires bits { bits ≤ 59 }
     requires at_most { 2 ^ bits * 10 ^ place ≤ over }
@@ -95,7 +97,7 @@ fn digits_at(over: u128, bits: u32, place: u32) -> u128
     }
 }
 
-// Rounding carry: 10^13 becomes 10^12 with the next exponent.
+// Digits with a carry: 10^13 is 10^12 with the next exponent.
 fn carried(digits: u64, exponent: i32) -> Parts
     requires { exponent ≤ℤ pos 16 }
     ensures { record { digits = result.digits; exponent = result.exponent }
@@ -111,7 +113,7 @@ fn carried(digits: u64, exponent: i32) -> Parts
     }
 }
 
-// The thirteen digits and the exponent of a non-zero number at a scale.
+// The thirteen digits and the exponent of a number other than 0, at a scale.
 fn parts_of(number: u64, scale: &Scale) -> Parts
     requires some { 0 < number }
     requires small { number ≤ 4294967295 }
@@ -126,7 +128,7 @@ fn parts_of(number: u64, scale: &Scale) -> Parts
     carried(digits, place as i32 - 20)
 }
 
-// The last digit of a number, as a character.
+// The last digit of a number.
 fn last_digit(number: u32) -> u8
     ensures { result ≡ 48 + number % 10 }
 {
@@ -191,7 +193,7 @@ fn text_of(sign: u8, parts: &Parts) -> [u8; 19]
     ]
 }
 
-// The thirteen digits and the exponent of a number at a scale.
+// The digits and the exponent of a number.
 fn parts_at(number: u64, scale: &Scale) -> Parts
     requires small { number ≤ 4294967295 }
     requires scale { AreWithin scale.now.factor scale.now.two scale.now.ten }
@@ -215,9 +217,9 @@ fn sign_column(n: i64) -> u8
 }
 
 /// The text of a number at a scale, of 19 columns: a blank or `-`, one digit, a point, twelve
-/// digits, `D`, a sign and two digits of the exponent. The number's magnitude has at most 32 bits.
-/// Zero is ` 0.000000000000D+00`; else the digits are correctly rounded, ties to even (RINEX 4.01,
-/// navigation records, D19.12).
+/// digits, `D`, a sign and two digits of the exponent. Without its sign the number has at most 32
+/// bits. Zero is ` 0.000000000000D+00`; else the digits are correctly rounded, halves to even
+/// (RINEX 4.01, navigation records, D19.12).
 pub fn print(n: i64, scale: &Scale) -> [u8; 19]
     requires number { unsigned_abs n ≤ 4294967295 }
     requires scale { AreWithin scale.now.factor scale.now.two scale.now.ten }
@@ -226,7 +228,7 @@ pub fn print(n: i64, scale: &Scale) -> [u8; 19]
     text_of(sign_column(n), &parts_at(n.unsigned_abs(), scale))
 }
 
-// The two digits of each number from 0 to 99.
+// The digits of 0 to 99.
 const PAIRS: [u8; 200] =
     *b"00010203040506070809101112131415161718192021222324252627282930313233343536373839\
     40414243444546474849505152535455565758596061626364656667686970717273747576777879\

@@ -1,4 +1,4 @@
-//! Reading a decimal text as an integer at a scale.
+//! Reading a decimal text as a number at a scale.
 
 ghost use Rattle.std.specs.Prelude.{◌≡◌, ◌+◌, ◌*◌, ◌^◌, ◌<◌, ◌≤◌, ◌⊎◌, ◌+ℤ◌, ◌≤ℤ◌};
 ghost use Rattle.std.specs.Prelude.{pos, negsuc, length, SomeIff, MatchOption};
@@ -13,21 +13,21 @@ use crate::powers::power_of_ten;
 use crate::scales::Scale;
 use thiserror::Error;
 
-/// Why a text gives no number, in the order of the checks.
+/// Why a text gives no number, in the order in which it is judged.
 #[derive(Clone, Copy, PartialEq, Eq, Debug, Error)]
 pub enum DecimalFault {
-    /// Empty, or blanks alone.
+    /// Blanks alone, or nothing.
     #[error("blank")]
     Blank,
     /// Not a decimal number.
     #[error("not a number")]
     NotANumber,
-    /// The nearest integer is out of range.
+    /// The nearest whole number is not within the range.
     #[error("out of range")]
     OutOfRange,
 }
 
-// The greatest magnitude of a number.
+// The greatest number, without its sign.
 const GREATEST: u128 = 4_294_967_295;
 
 // number x 10^tens; None where that has more than 128 bits.
@@ -63,8 +63,8 @@ fn wide_product(digits: u128, up: u32, bits: u32) -> Option<u128>
     doubled(tenfold(digits, up)?, bits)
 }
 
-// The integer nearest to (digits x 10^up / 10^down) / (over / 2^bits); None only where it is above
-// 2^32.
+// The whole number nearest to digits x 10^up / 10^down divided by over / 2^bits; None only where it
+// is above 2^32.
 fn nearest_by_any(digits: u64, up: u32, down: u32, over: u128, bits: u32) -> Option<u128>
     requires digits { digits < 10 ^ 18 }
     requires one { (up ≡ 0) ⊎ (down ≡ 0) }
@@ -84,7 +84,7 @@ fn nearest_by_any(digits: u64, up: u32, down: u32, over: u128, bits: u32) -> Opt
     }
 }
 
-// The same where the products with the powers of ten fit 128 bits.
+// The same for powers of ten at which each product with one has at most 128 bits.
 fn nearest_by_few(digits: u64, up: u32, down: u32, over: u128, bits: u32) -> Option<u128>
     requires digits { digits < 10 ^ 18 }
     requires up { up ≤ 19 }
@@ -117,7 +117,7 @@ fn nearest_at(digits: u64, up: u32, down: u32, over: u128, bits: u32) -> Option<
     }
 }
 
-// The exponents of ten of the numerator and of the denominator.
+// The powers of ten, up and down, of an exponent.
 fn shifts(exponent: i32) -> (u32, u32)
     requires from { negsuc 99999 ≤ℤ exponent }
     requires to { exponent ≤ℤ pos 99999 }
@@ -132,8 +132,8 @@ fn shifts(exponent: i32) -> (u32, u32)
     }
 }
 
-// The magnitude of the integer nearest to a value divided by a scale; None only where it is above
-// 2^32.
+// The whole number nearest to a value divided by a scale, without its sign; None only where it is
+// above 2^32.
 fn value_at(decimal: &Decimal, scale: &Scale) -> Option<u128>
     requires decimal { IsDecimalRead decimal.now.digits decimal.now.exponent }
     requires scale { AreWithin scale.now.factor scale.now.two scale.now.ten }
@@ -146,7 +146,7 @@ fn value_at(decimal: &Decimal, scale: &Scale) -> Option<u128>
     nearest_at(decimal.digits, up, down, size.over, size.bits)
 }
 
-// The same; None exactly where it is above 4,294,967,295.
+// The same; None exactly where it is above the greatest number.
 fn magnitude(decimal: &Decimal, scale: &Scale) -> Option<u64>
     requires decimal { IsDecimalRead decimal.now.digits decimal.now.exponent }
     requires scale { AreWithin scale.now.factor scale.now.two scale.now.ten }
@@ -182,7 +182,7 @@ fn within(nearest: i64, low: i64, high: i64) -> Result<i64, DecimalFault>
     Ok(nearest)
 }
 
-// The integer nearest to a value divided by a scale, if in range.
+// The number of a value at a scale, within a range.
 fn within_range(decimal: &Decimal, scale: &Scale, low: i64, high: i64) -> Result<i64, DecimalFault>
     requires decimal { IsDecimalRead decimal.now.digits decimal.now.exponent }
     requires scale { AreWithin scale.now.factor scale.now.two scale.now.ten }
@@ -198,18 +198,19 @@ fn within_range(decimal: &Decimal, scale: &Scale, low: i64, high: i64) -> Result
     within(signed(decimal.minus, magnitude), low, high)
 }
 
-/// Reads a text at a scale: the integer nearest to the text's value divided by the scale, ties to
-/// even, from `low` to `high` (RINEX 4.01, navigation records, D19.12).
+/// The number that a text says at a scale, within a range from `low` to `high`: the whole number
+/// nearest to the text's value divided by the scale, halves to even (RINEX 4.01, navigation
+/// records, D19.12).
 ///
-/// Leading and trailing blanks are dropped. The rest is an optional sign; 1 to 18 digits with at
-/// most one point among, before or after them; and optionally an exponent: one of `D d E e`, an
-/// optional sign, and one to three digits.
+/// Blanks at both ends are dropped. The text is then a sign or none; digits, with at most one point
+/// among, before or after them, 1 to 18 in all; then nothing, or one of `D d E e`, a sign or none,
+/// and one to three digits.
 ///
 /// # Errors
 ///
-/// In this order: [`DecimalFault::Blank`] for an empty text or blanks alone,
-/// [`DecimalFault::NotANumber`] for a text not of that form, [`DecimalFault::OutOfRange`] for a
-/// number below `low` or above `high`.
+/// In this order: [`DecimalFault::Blank`] for blanks alone or nothing, [`DecimalFault::NotANumber`]
+/// for a text that is not of that form, [`DecimalFault::OutOfRange`] for a number that is not in
+/// the range.
 pub fn read(text: &[u8], scale: &Scale, low: i64, high: i64) -> Result<i64, DecimalFault>
     requires text { length text.now ≤ 19 }
     requires scale { AreWithin scale.now.factor scale.now.two scale.now.ten }

@@ -7,9 +7,9 @@ ghost use Rattle.std.specs.Prelude.{◌≡◌, ◌≤◌, SomeIff};
 /// Pi is 31415926535898 / 10^13 (IS-GPS-200, 20.3.3.4.3; Galileo OS SIS ICD, 5.1.1).
 #[derive(Clone, Copy, PartialEq, Eq)]
 pub struct Scale {
-    /// Whether the field is broadcast in semicircles and printed in radians.
+    /// Whether the field is in semicircles, and its text in radians.
     pub pi: bool,
-    /// An integer factor, 1 to 60.
+    /// A whole factor, 1 to 60.
     pub factor: u32,
     /// The exponent of two, -59 to 16.
     pub two: i32,

@@ -1,4 +1,4 @@
--- The stored slots after a change, and that the index stays consistent.
+-- What is kept after a change, and that the index stays one.
 use Rattle.std.proofs.Common.{◌≡◌, ℕ, ◌<◌, ◌≤◌, Bool, true, false, cond, List, Option, None, Some, IsSome, IsTrue, refl, sym, ap, subst, ◌∙◌}
 use Rattle.std.specs.List.{list_any}
 use Rattle.std.specs.List.Sorted.{IsStrictlySortedBy}
@@ -19,7 +19,7 @@ use Rattle.slot_assembly.specs.Slots.{kept_at, slot_of, at_of, IsOpen, HasEnd, A
 use Rattle.periods.proofs.Surface.{some_is}
 use Rattle.slot_assembly.proofs.RankOrder.{same_at, at_is, not_before, not_sooner}
 
--- the stored slots where one place of the map is changed
+-- what is kept, where the map holds something else at a place
 told : (b : Bool) (n w o : Option PackedSlot) → n ≡ cond b w o → option_map slot_of n ≡ cond b (option_map slot_of w) (option_map slot_of o)
 told true n w o e = ap (option_map slot_of) e
 told false n w o e = ap (option_map slot_of) e
@@ -32,7 +32,7 @@ pub packed_some : (o : Option PackedSlot) → IsSome (option_map slot_of o) → 
 packed_some None h = h
 packed_some (Some p) h = h
 
--- what is stored after a removal was stored before
+-- what stands after something was taken out stood there before
 some_left : {X : Type 0} (b : Bool) (n o : Option X) (x : X) → n ≡ cond b None o → n ≡ Some x → (b ≡ false) × (o ≡ Some x)
 some_left true n o x e h = absurd (let z : None ≡ Some x = sym e ∙ h in cc)
 some_left false n o x e h = (refl, sym e ∙ h)
@@ -53,7 +53,7 @@ true_rest : (b n o : Bool) → n ≡ cond b false o → b ≡ false → IsTrue o
 true_rest true n o e f h = absurd (both_ways true f refl)
 true_rest false n o e f h = subst IsTrue (sym e) h
 
--- what is stored after an insertion is that, or was stored before
+-- what stands after something was put is that, or stood there before
 pub put_own : {X : Type 0} (P : X → Type 0) (b : Bool) (n o : Option X) (h v : X) → n ≡ cond b (Some h) o → (b ≡ true → P h) → (o ≡ Some v → P v) → n ≡ Some v → P v
 put_own P true n o h v e put was k = subst P (some_is h v (sym e ∙ k)) (put refl)
 put_own P false n o h v e put was k = was (sym e ∙ k)
@@ -69,7 +69,7 @@ put_true false s t n o h e f was k = subst IsTrue (sym e) (was (subst IsSome f k
 pub left_open : (old new : List (ByEnd × PackedSlot)) (x q : ByEnd) (s : Slot) → IsChanged old x None new → kept_at new q ≡ Some s → (is_at (end_cmp.it x) q ≡ false) × (kept_at old q ≡ Some s)
 left_open old new x q s c h = some_left (is_at (end_cmp.it x) q) (kept_at new q) (kept_at old q) s (c q) h
 
--- a slot and its index entry are added and removed together
+-- a slot and its entry in the index come and go together
 pub indexed_put : (slots slots' : List (ByEnd × PackedSlot)) (ends ends' : List ByKey) (s : Slot) → AreIndexed slots ends → IsStrictlySortedBy end_cmp.it (keys_of slots') → IsStrictlySortedBy key_cmp.it ends'
     → IsChanged slots (at_of s) (Some s) slots'
     → ((k : ByKey) → list_any (is_at (key_cmp.it k)) ends' ≡ cond (is_at (key_cmp.it (by_key (rank_of s.key) s.end)) k) true (list_any (is_at (key_cmp.it k)) ends)) → AreIndexed slots' ends'

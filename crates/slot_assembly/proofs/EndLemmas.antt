@@ -1,4 +1,4 @@
--- Merging and replacing by the ends of slots is merging and replacing of those slots.
+-- What is joined and put by the ends of slots is joined and put for those slots.
 use Rattle.std.proofs.Common.{◌≡◌, ℕ, ◌+◌, ◌-◌, ◌==◌, Bool, true, false, List, Option, None, Some, Result, Ok, Err, OnOk, arith, refl, sym, ap, subst, ◌∙◌}
 use Rattle.slot_assembly.specs.declared.order.Rank.{Rank}
 use Rattle.slot_assembly.specs.declared.order.ByEnd.{ByEnd}
@@ -14,7 +14,7 @@ pub on_ok : {T E : Type 0} (r : Result T E) (P Q : Type 0) → (P → Q) → OnO
 on_ok (Ok x) P Q f h = f h
 on_ok (Err e) P Q f h = h
 
--- the slot of the key with an end is the slot of that end
+-- the slot of the key with an end is the one that is meant
 without_slot : (old new : List (ByEnd × PackedSlot)) (r : Rank) (o : Option Slot) (f : Option ℕ) (e : ℕ) → f ≡ end_in o → ((s : Slot) → o ≡ Some s → by_end r s.end ≡ at_of s)
     → IsWithoutEnd old r f e new → IsWithout old o e new
 without_slot old new r None f e k at w = subst (λ (x : Option ℕ). IsWithoutEnd old r x e new) k w
@@ -25,7 +25,7 @@ without_slot old new r (Some s) f e k at w = gone (s.end == e) (subst (λ (x : O
     gone false g = subst (λ (x : ByEnd). IsChanged old x None new) (at s refl) g
 
 module _ (slots : List (ByEnd × PackedSlot)) (ends : List ByKey) (r : Rank) (limit : ℕ) where
-  -- where a touched slot is stored
+  -- where a slot that is touched stands
   first_at : (from : ℕ) (o : Option Slot) → AreIndexed slots ends → IsFirstTouched slots r from limit o → (s : Slot) → o ≡ Some s → by_end r s.end ≡ at_of s
   first_at from o h t s e =
       let k = subst (IsFirstTouched slots r from limit) e t in
@@ -35,7 +35,7 @@ module _ (slots : List (ByEnd × PackedSlot)) (ends : List ByKey) (r : Rank) (li
   second_at None second h t s e = absurd (let z : None ≡ Some s = sym t ∙ e in cc)
   second_at (Some f) second h t s e = first_at (f.end + 1) second h t s e
 
-  -- the slot after the first, as it was merged
+  -- the slot behind the first, as it was joined
   second_of : (first : Option Slot) (f g : Option ℕ) (p q : Slot) → f ≡ end_in first → IsJoinedWithSecond slots r limit f p q g
       → (second : Option Slot) × IsSecondTouched slots r limit first second × (q ≡ slot_with p second) × (g ≡ end_in second)
   second_of None f g p q e j =

@@ -1,4 +1,4 @@
--- The steps of a run: from "all that is closed at the previous watermark was given" to "all that is closed at this watermark was
+-- The steps of a run: from "all that is closed at the watermark before was given" to "all that is closed at this watermark was
 -- given".
 use Rattle.std.proofs.Common.{◌≡◌, ℕ, ◌+◌, ◌<◌, ◌≤◌, ◌^◌, Bool, cond, List, [], ◌∷◌, ◌++◌, Option, None, Some, IfSome, IfNone, Contains, All, refl, sym, ap, subst, ◌∙◌, arith, le-ltb}
 use Rattle.std.proofs.lemmas.List.{append_assoc, append-nil}
@@ -15,11 +15,11 @@ use Rattle.periods.specs.PeriodsOf.{closed_of, periods_of}
 use Rattle.periods.proofs.Surface.{all_values, later_parts, closed_of-later, closed_of-rise, closed_of-all}
 use Rattle.slot_assembly.proofs.GivenLemmas.{closed_given, HasGiven-more, HasGiven-rise, given_is, given_prefix, last_from-push}
 
--- the parts, a watermark and the last period of a list
+-- the parts, a watermark and the last one of a list
 abbrev pub standing : List Part → ℕ → Option Place → Standing
 standing parts watermark last = record { parts = parts; watermark = watermark; last = last }
 
--- Of the parts, all periods closed at the first watermark were given, and after them some of those closed at the second.
+-- Of the parts all was given that is closed at the first watermark, and behind it some of what is closed at the second.
 pub record Gives (now : Standing → Type 0) (r w before watermark : ℕ) (parts : List Part) (given : List Closed) : Type 0 where
   pub at_watermark : ℕ
   pub within : at_watermark ≤ watermark
@@ -27,11 +27,11 @@ pub record Gives (now : Standing → Type 0) (r w before watermark : ℕ) (parts
   pub gave : HasGiven r w (Contains parts) watermark (last_from None given) given
   pub no_less : IsPeriodPrefix (closed_of r w before parts) given
 
--- the parts that an assembly stands for are values
+-- what an assembly stands for has values for parts
 abbrev pub HasValues : (Standing → Type 0) → Type 0
 HasValues now = (at : Standing) → now at → All IsPartValue at.parts
 
--- before the first call at a watermark
+-- before the first question at a watermark
 pub gives_start : (now : Standing → Type 0) (r w before watermark : ℕ) (parts : List Part) → HasValues now → before ≤ watermark
     → now (flushed r w parts before) → Gives now r w before watermark parts (closed_of r w before parts)
 gives_start now r w before watermark parts values l stands =
@@ -48,7 +48,7 @@ gives_start now r w before watermark parts values l stands =
 longer_prefix : (xs ys : List Closed) (c : Closed) → IsPeriodPrefix xs ys → IsPeriodPrefix xs (ys ++ c ∷ [])
 longer_prefix xs ys c p = (p.0 ++ c ∷ [], ap (λ (l : List Closed). l ++ c ∷ []) p.1 ∙ append_assoc xs p.0 (c ∷ []))
 
--- after a period was given
+-- after an answer with a period
 pub gives_more : (now new : Standing → Type 0) (r w before watermark : ℕ) (parts : List Part) (given : List Closed) (c : Closed) → HasValues now
     → Tells now (λ at. IsNext r w (Contains at.parts) watermark at.last c) → Carries now new (giving watermark (closed_place c))
     → Gives now r w before watermark parts given → Gives new r w before watermark parts (given ++ c ∷ [])
@@ -64,7 +64,7 @@ gives_more now new r w before watermark parts given c values next carries h =
       no_less = longer_prefix (closed_of r w before parts) given c h.no_less;
     }
 
--- after memory ran out
+-- after want of memory
 pub gives_same : (now new : Standing → Type 0) (r w before watermark : ℕ) (parts : List Part) (given : List Closed)
     → Carries now new unchanged → Gives now r w before watermark parts given → Gives new r w before watermark parts given
 gives_same now new r w before watermark parts given carries h = record {
@@ -75,7 +75,7 @@ gives_same now new r w before watermark parts given carries h = record {
   no_less = h.no_less;
 }
 
--- after the answer `None`
+-- after the answer that there is none
 pub gives_all : (now new : Standing → Type 0) (r w before watermark : ℕ) (parts : List Part) (given : List Closed) → HasValues now
     → Tells now (λ at. NoneDue w (Contains at.parts) watermark at.last) → Carries now new (reaching watermark) → Gives now r w before watermark parts given
     → new (flushed r w parts watermark) × (given ≡ closed_of r w watermark parts)
@@ -84,14 +84,14 @@ gives_all now new r w before watermark parts given values none carries h =
     let e = given_is r w watermark parts (last_from None given) given (all_values parts (values at h.stands)) (none at h.stands) h.gave in
     (subst (λ (cs : List Closed). new (standing parts watermark (last_from None cs))) e (carries at h.stands), e)
 
--- for every state
+-- at each moment
 pub gives_prefix : (now : Standing → Type 0) (r w before watermark : ℕ) (parts : List Part) (given : List Closed) → HasValues now
     → Gives now r w before watermark parts given → IsPeriodPrefix given (closed_of r w watermark parts)
 gives_prefix now r w before watermark parts given values h =
     let at = standing parts h.at_watermark (last_from None given) in
     given_prefix r w watermark parts (last_from None given) given (all_values parts (values at h.stands)) h.gave
 
--- an answer for an equal reference week and window
+-- what an answer says near an equal week, with an equal window
 pub next_at : (now : Standing → Type 0) (r s w v watermark : ℕ) (c : Closed) → r ≡ s → w ≡ v
     → Tells now (λ at. IsNext r w (Contains at.parts) watermark at.last c) → Tells now (λ at. IsNext s v (Contains at.parts) watermark at.last c)
 next_at now r s w v watermark c e f told =
@@ -102,7 +102,7 @@ pub none_at : (now : Standing → Type 0) (w v watermark : ℕ) → w ≡ v
     → Tells now (λ at. NoneDue w (Contains at.parts) watermark at.last) → Tells now (λ at. NoneDue v (Contains at.parts) watermark at.last)
 none_at now w v watermark f told = subst (λ (x : ℕ). Tells now (λ at. NoneDue x (Contains at.parts) watermark at.last)) f told
 
--- it still stands for some state at the watermark: after a period given, after memory ran out, after any answer, and after a part
+-- it still stands for something at the watermark: after a period given, after want of memory, after any answer, and after a part
 -- taken
 pub stood_giving : (now new : Standing → Type 0) (watermark : ℕ) (q : Place) → Stood now (λ at. at.watermark ≤ watermark) → Carries now new (giving watermark q) → Stood new (λ at. at.watermark ≤ watermark)
 stood_giving now new watermark q s carries = (giving watermark q s.0, carries s.0 s.1, omega arith)
@@ -124,7 +124,7 @@ stood_taking now new watermark p s carries = (taking p s.0, carries s.0 s.1, s.2
 pub stood_adding : (now new : Standing → Type 0) (watermark : ℕ) (ps : List Part) → Stood now (λ at. at.watermark ≤ watermark) → Carries now new (adding ps) → Stood new (λ at. at.watermark ≤ watermark)
 stood_adding now new watermark ps s carries = (adding ps s.0, carries s.0 s.1, s.2)
 
--- parts taken one after another: none, and one more after these
+-- parts taken one after another: none, and more behind these
 pub adding_none : (now : Standing → Type 0) → Carries now now (adding [])
 adding_none now at h = subst (λ (ps : List Part). now (record { parts = ps; watermark = at.watermark; last = at.last })) (sym (append-nil at.parts)) h
 
@@ -141,7 +141,7 @@ pub closed_of-none : (r w : ℕ) (parts : List Part) → closed_of r w 0 parts �
 unfolding closed_of
 closed_of-none r w parts = closed_none w (periods_of r w parts)
 
--- further parts: what was given before is still all that is closed
+-- further parts: what was given before is all that is closed of them too
 pub flushed_take : (now new : Standing → Type 0) (r w before : ℕ) (parts ps : List Part) → HasValues new → All (λ p. before ≤ p.stamp) ps
     → Carries now new (adding ps) → now (flushed r w parts before)
     → new (flushed r w (parts ++ ps) before) × (closed_of r w before (parts ++ ps) ≡ closed_of r w before parts)
@@ -150,7 +150,7 @@ flushed_take now new r w before parts ps values l carries h =
     let e = closed_of-later r w before parts ps (all_values (parts ++ ps) (values (adding ps (flushed r w parts before)) k)) (later_parts before parts ps l) in
     (subst (λ (cs : List Closed). new (standing (parts ++ ps) before (last_from None cs))) (sym e) k, e)
 
--- parts that were not taken: what was given is a prefix of what is closed with them
+-- parts that were not taken: what was given is a prefix of what would have been closed of them too
 pub prefix_take : (now : Standing → Type 0) (r w before watermark : ℕ) (parts ps : List Part) → HasValues now → All IsPartValue ps → All (λ p. before ≤ p.stamp) ps
     → before ≤ watermark → now (flushed r w parts before) → IsPeriodPrefix (closed_of r w before parts) (closed_of r w watermark (parts ++ ps))
 prefix_take now r w before watermark parts ps values v l m h =
@@ -158,7 +158,7 @@ prefix_take now r w before watermark parts ps values v l m h =
     let same = closed_of-later r w before parts ps (all_values (parts ++ ps) all) (later_parts before parts ps l) in
     subst (λ (cs : List Closed). IsPeriodPrefix cs (closed_of r w watermark (parts ++ ps))) same (closed_of-rise r w before watermark (parts ++ ps) m)
 
--- at the greatest watermark all is closed
+-- at the last watermark all is closed
 pub closed_of-last : (r w watermark : ℕ) (parts : List Part) → All IsPartValue parts → w < 2 ^ 32 → watermark ≡ 18446744073709551615 → closed_of r w watermark parts ≡ periods_of r w parts
 closed_of-last r w watermark parts all l e = closed_of-all r w watermark parts (λ p i. omega (arith, (all_values parts all p i).stamp))
 

@@ -1,4 +1,4 @@
--- The next period given, and what the assembly stands for then.
+-- What is given next, and what the assembly stands for then.
 use Rattle.std.proofs.Common.{◌≡◌, ℕ, ◌+◌, ◌≤◌, inl, inr, Bool, true, false, cond, List, Option, None, Some, Contains, refl, sym, ap, subst, ◌∙◌, arith}
 use Rattle.std.specs.BTreeMap.{is_at}
 use Rattle.std.specs.List.Sorted.{IsStrictlySortedBy}
@@ -48,7 +48,7 @@ first_is s at watermark slot h f =
 reaches : (w n : ℕ) (parts : Part → Type 0) (last : Option Place) (q : Place) → NoneDue w parts n last → IsPeriod w parts q → IsAfter last q → n ≤ q.end + w
 reaches w n parts last q none h a = elim (cases_lt (q.end + w) n) [ inl l ↦ absurd (none q (record { period = h; low = l; after = a })) | inr l ↦ l ]
 
--- its finding
+-- what it comes to
 found_is : (s : SlotsState) (at : Standing) (watermark : ℕ) (slot : Slot) (health : Option Health) → SlotsStandFor s at → IsFirstDue s.slots s.window watermark (Some slot) → IsChosen s.heard s.window slot.key slot.end health
     → IsFound s.reference s.window (Contains at.parts) (slot_place slot) (digest_finding s.reference slot.key slot.digest health)
 found_is s at watermark slot health h f c =
@@ -80,7 +80,7 @@ next_is s at watermark slot health h f c =
       least = one.least;
     }
 
--- the number of slots left
+-- the slots that are left
 slots_given : (s : SlotsState) (at : Standing) (watermark : ℕ) (slot : Slot) (slots : List (ByEnd × PackedSlot)) → SlotsStandFor s at → IsFirstDue s.slots s.window watermark (Some slot) → IsChanged s.slots (at_of slot) None slots
     → AreSlots s.window (Contains at.parts) (Some (slot_place slot)) slots
 slots_given s at watermark slot slots h f c =

@@ -1,4 +1,4 @@
--- The periods that a loop has given so far: one more period, a higher watermark, and all closed ones where none is due.
+-- What a loop has given so far: one period more, a higher watermark, and where none is due all that is closed.
 use Rattle.std.proofs.Common.{◌≡◌, ℕ, ◌+◌, ◌<◌, ◌≤◌, ◌⊎◌, inl, inr, List, [], ◌∷◌, ◌++◌, Option, None, Some, Contains, refl, sym, subst, ◌∙◌, arith}
 use Rattle.std.specs.List.{AllByRecursion}
 use Rattle.std.proofs.lemmas.Bool.{cases_lt}
@@ -19,17 +19,17 @@ use Rattle.periods.proofs.Surface.{AreLater, IsPeriod-was, IsClosed-one}
 use Rattle.periods.proofs.Surface.{before_irr, before_trans, All-in, all_of, Precedes}
 use Rattle.periods.proofs.Surface.{period_key, closed_of-are, closed_of-only}
 
--- later than the last period
+-- later than the last one
 pub after_trans : (last : Option Place) (a b : Place) → IsAfter last a → IsBefore a b → IsAfter last b
 after_trans None a b h l = tt
 after_trans (Some x) a b h l = before_trans x a b h l
 
--- a place that ends after all closed periods
+-- a place that ends behind what is closed
 pub after_low : (w watermark : ℕ) (last : Option Place) (q : Place) → GivenBelow w watermark last → watermark ≤ q.end + w → IsAfter last q
 after_low w watermark None q g l = tt
 after_low w watermark (Some x) q g l = inl (omega arith)
 
--- the last period of a list
+-- the last one of a list
 pub last_from-push : (o : Option Place) (cs : List Closed) (c : Closed) → last_from o (cs ++ c ∷ []) ≡ Some (closed_place c)
 last_from-push o [] c = refl
 last_from-push o (d ∷ ds) c = last_from-push (Some (closed_place d)) ds c
@@ -38,7 +38,7 @@ last_below : (w watermark : ℕ) (o : Option Place) (cs : List Closed) → Given
 last_below w watermark o [] g h = g
 last_below w watermark o (c ∷ cs) g h = last_below w watermark (Some (closed_place c)) cs (h c (inl refl)) (λ d i. h d (inr i))
 
--- what is after the last period is after each
+-- what is behind the last one is behind each
 behind_last : (x : Closed) (cs : List Closed) (q : Place) → IsAscending (x ∷ cs) → IsAfter (last_from (Some (closed_place x)) cs) q → (c : Closed) → In (x ∷ cs) c → IsBefore (closed_place c) q
 behind_last x [] q h l c (inl e) = subst (λ (z : Closed). IsBefore (closed_place z) q) e l
 behind_last x [] q h l c (inr i) = absurd i
@@ -50,7 +50,7 @@ behind_each : (cs : List Closed) (q : Place) → IsAscending cs → IsAfter (las
 behind_each [] q h l c i = absurd i
 behind_each (x ∷ cs) q h l c i = behind_last x cs q h l c i
 
--- at the start: all that is closed was given
+-- the way in: all that is closed was given
 pub closed_given : (r w watermark : ℕ) (parts : List Part) → ((p : Part) → Contains parts p → IsPartValue p)
     → HasGiven r w (Contains parts) watermark (last_from None (closed_of r w watermark parts)) (closed_of r w watermark parts)
 closed_given r w watermark parts values =
@@ -65,7 +65,7 @@ closed_given r w watermark parts values =
       last_low = last_below w watermark None cs tt (λ c i. h.low c (contains_from_In cs c i));
     }
 
--- appending to a list
+-- one more behind a list
 push_all : {X : Type 0} (P : X → Type 0) (xs : List X) (y : X) → AllByRecursion P xs → P y → AllByRecursion P (xs ++ y ∷ [])
 push_all P [] y h p = (p, tt)
 push_all P (x ∷ xs) y h p = (h.0, push_all P xs y h.1 p)
@@ -74,7 +74,7 @@ ascending_push : (cs : List Closed) (c : Closed) → IsAscending cs → ((d : Cl
 ascending_push [] c h l = (tt, tt)
 ascending_push (d ∷ ds) c h l = (push_all (Precedes d) ds c h.0 (l d (inl refl)), ascending_push ds c h.1 (λ x i. l x (inr i)))
 
--- one more period
+-- a period more
 pub HasGiven-more : (r w : ℕ) (parts : Part → Type 0) (watermark : ℕ) (last : Option Place) (given : List Closed) (c : Closed) → ((p : Part) → parts p → IsPartValue p)
     → IsNext r w parts watermark last c → HasGiven r w parts watermark last given → HasGiven r w parts watermark (Some (closed_place c)) (given ++ c ∷ [])
 HasGiven-more r w parts watermark last given c values next h = record {
@@ -117,7 +117,7 @@ HasGiven-rise r w parts watermark higher last given l h = record {
   last_low = below_rise w watermark higher last l h.last_low;
 }
 
--- at the end: where none is due, all that is closed was given
+-- the way out: where none is due, all that is closed was given
 pub given_is : (r w watermark : ℕ) (parts : List Part) (last : Option Place) (given : List Closed) → ((p : Part) → Contains parts p → IsPartValue p)
     → NoneDue w (Contains parts) watermark last → HasGiven r w (Contains parts) watermark last given → given ≡ closed_of r w watermark parts
 given_is r w watermark parts last given values none h = closed_of-only r w watermark parts given values (record {
@@ -127,7 +127,7 @@ given_is r w watermark parts last given values none h = closed_of-only r w water
   every = λ q hq l. elim (h.every q hq l) [ inl after ↦ absurd (none q (record { period = hq; low = l; after = after })) | inr f ↦ f ];
 })
 
--- at an error: what was given is a prefix of what is closed
+-- at a fault: what was given is a prefix of what is closed
 prefix_heads : (x y : Closed) (xs ys : List Closed) → IsAscending (x ∷ xs) → IsAscending (y ∷ ys) → In (y ∷ ys) x → In (x ∷ xs) y ⊎ AllByRecursion (λ d. Precedes d y) (x ∷ xs) → x ≡ y
 prefix_heads x y xs ys ax ay (inl e) o = sym e
 prefix_heads x y xs ys ax ay (inr i) (inl (inl e)) = e
@@ -175,7 +175,7 @@ given_prefix r w watermark parts last given values h =
       | inr f ↦ inl (subst (In given) (one f.0 c f.2 (h.each f.0 f.1) x) (In-from_contains given f.0 f.1))
     ])
 
--- later parts, and a period given, make no period due
+-- later parts, and a period given, leave nothing due
 pub NoneDue-take : (w n watermark : ℕ) (old new : Part → Type 0) (last : Option Place) → AreLater watermark old new → n ≤ watermark → NoneDue w old n last → NoneDue w new n last
 NoneDue-take w n watermark old new last l m none = λ q due. none q (record { period = IsPeriod-was w watermark old new q l (omega (arith, due.low)) due.period; low = due.low; after = due.after })
 

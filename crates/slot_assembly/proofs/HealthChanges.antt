@@ -1,4 +1,4 @@
--- The index of health stays consistent.
+-- That the index of health stays one.
 use Rattle.std.proofs.Common.{◌≡◌, ℕ, ◌<◌, ◌≤◌, ◌+◌, ◌*◌, ◌⊎◌, Bool, true, cond, List, None, Some, sym, ap, ◌∙◌}
 use Rattle.std.specs.List.{list_any}
 use Rattle.std.specs.List.Sorted.{IsStrictlySortedBy}
@@ -38,7 +38,7 @@ stamped_put heard heard' stamps stamps' sat h k o o' c d =
           (d (by_stamp x) ∙ ap (λ (b : Bool). cond b true (list_any (is_at (stamp_cmp.it (by_stamp x))) stamps)) (sym (same_stamp p (by_stamp x)))) (c x) (k.had x) e;
     }
 
--- what two windows leave, while the oldest are removed
+-- what two windows leave, while the oldest go
 pub record IsThinned (window watermark : ℕ) (old new : HeardList) : Type 0 where
   pub low : (x : BySat) → x.stamp + 2 * window < watermark → (heard_at new x ≡ heard_at old x) ⊎ (heard_at new x ≡ None)
   pub stays : (x : BySat) → watermark ≤ x.stamp + 2 * window → heard_at new x ≡ heard_at old x

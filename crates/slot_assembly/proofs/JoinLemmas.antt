@@ -1,4 +1,4 @@
--- Taking a part, by slots: the slots found are those touched, and afterwards the store has exactly one slot for each period.
+-- A part taken, on the slots: those that are found are those that are touched, and what stands after the call is one slot for each period.
 use Rattle.std.proofs.Common.{◌≡◌, ℕ, ◌+◌, ◌<◌, ◌≤◌, ◌⊎◌, inl, inr, List, Option, None, Some, IsSome, refl, sym, ap, subst, ◌∙◌, arith}
 use Rattle.std.proofs.lemmas.Bool.{cases_lt}
 use Rattle.nav_eph.specs.declared.part.Part.{Part}
@@ -19,7 +19,7 @@ use Rattle.slot_assembly.specs.SlotStanding.{AreSlots}
 use Rattle.slot_assembly.proofs.RankOrder.{one_rank, at_rank}
 use Rattle.slot_assembly.proofs.TakeLemmas.{touched_near, near_touched, slots_apart, starts_by}
 
--- what holds when a part of a key is taken
+-- what is known when a part of a key is taken
 pub record Taking (w : ℕ) (old new : Part → Type 0) (last : Option Place) (p : Part) (key : Key) (slots : List (ByEnd × PackedSlot)) : Type 0 where
   pub of_key : key_of p ≡ Some key
   pub with : IsWithPart old new p
@@ -39,7 +39,7 @@ module _ (w : ℕ) (old new : Part → Type 0) (last : Option Place) (p : Part) 
     pub same_key : key ≡ s.key
     pub touches : IsTouched w old p (slot_place s)
 
-  -- the slot at a place of the key
+  -- what stands at a place of the key
   found : Taking w old new last p key slots → (s : Slot) → kept_at slots (by_end (rank_of key) s.end) ≡ Some s → IsOpen slots s × (key ≡ s.key)
   found t s h =
       let at = t.own (by_end (rank_of key) s.end) s h in
@@ -58,7 +58,7 @@ module _ (w : ℕ) (old new : Part → Type 0) (last : Option Place) (p : Part) 
         touches = near_touched w old last p s (t.known s.key) (t.are.each s f.0) (t.of_key ∙ ap Some f.1) l m;
       }
 
-  -- a place has at most one slot
+  -- one place, one slot
   one_slot : (f s : Slot) → kept_at slots (by_end (rank_of key) f.end) ≡ Some f → kept_at slots (by_end (rank_of key) s.end) ≡ Some s → f.end ≡ s.end → f ≡ s
   one_slot f s h k e = some_is f s (sym h ∙ ap (λ (x : ℕ). kept_at slots (by_end (rank_of key) x)) e ∙ k)
 
@@ -85,7 +85,7 @@ module _ (w : ℕ) (old new : Part → Type 0) (last : Option Place) (p : Part) 
         | inr not ↦ let e = one_slot f s h.here here (omega arith) in omega (arith, ap (λ (x : Slot). x.start) e)
       ])
 
-  -- the two slots that are found
+  -- the two that are found
   pub record Finds (first second : Option Slot) : Type 0 where
     pub one : (s : Slot) → first ≡ Some s → Touched s
     pub other : (s : Slot) → second ≡ Some s → Touched s

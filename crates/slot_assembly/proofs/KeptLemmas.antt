@@ -1,4 +1,4 @@
--- The stored health: after a part is taken, after removal, and that it gives the health near an end.
+-- The health that is kept: after a part taken, after forgetting, and that it gives what counts near an end.
 use Rattle.std.proofs.Common.{◌≡◌, ℕ, ◌+◌, ◌*◌, ◌≤◌, ◌⊎◌, inl, inr, Bool, true, false, cond, ◌&&◌, nat_le, if◌then◌else◌, Option, None, Some, IsSome, refl, sym, ap, subst, ◌∙◌, arith}
 use Rattle.std.specs.BTreeMap.{is_at}
 use Rattle.std.specs.BTreeMap.Range.{IsLeBy, IsLtBy}
@@ -25,7 +25,7 @@ use Rattle.slot_assembly.specs.SlotStanding.{AreKept}
 use Rattle.slot_assembly.proofs.SatOrder.{heard_is, is_heard_own, sat_squeezed, stamps_le, stamps_ge, below_next, next_below, next_above, above_next, lt_le, not_lt_le, le_not_below}
 use Rattle.slot_assembly.proofs.HealthChanges.{Health, HeardList}
 
--- a part of a key has no health
+-- a part of a key says nothing of health
 keyed_none : (stamp : ℕ) (sat : Satellite) (body : Body) (key : Key) (h : Health) → key_in sat body ≡ Some key → health_in stamp body ≡ Some h → ⊥
 keyed_none stamp sat (OfHealth x t) key h e f = none_some key e
 keyed_none stamp sat _ key h e f = none_some h f
@@ -47,7 +47,7 @@ value_was old new p sat v m h = elim (m.only h.part h.here) [
   | inr e ↦ let said = subst (λ (q : Part). Says (HealthOf sat) q v) (sym e) h.says in inr (said.0, health_part sat p v said)
 ]
 
--- a part without health
+-- a part that says nothing of health
 kept_none : (w n : ℕ) (old new : Part → Type 0) (p : Part) (heard heard' : HeardList) → IsWithPart old new p → ((h : Health) → health_in p.stamp p.body ≡ Some h → ⊥) → IsSameHealth heard heard'
     → AreKept w n old heard → AreKept w n new heard'
 kept_none w n old new p heard heard' m none same k = record {
@@ -59,10 +59,10 @@ kept_none w n old new p heard heard' m none same k = record {
 pub kept_keyed : (w n : ℕ) (old new : Part → Type 0) (p : Part) (key : Key) (heard : HeardList) → IsWithPart old new p → key_of p ≡ Some key → AreKept w n old heard → AreKept w n new heard
 kept_keyed w n old new p key heard m e k = kept_none w n old new p heard heard m (λ h f. keyed_none p.stamp p.sat p.body key h e f) (λ x. refl) k
 
--- two healths at one place are equal
+-- two health at one place are one
 one_at : (s t : Satellite) (h v : Health) → IsHealthValue h → IsHealthValue v → place_of_health s h ≡ place_of_health t v → h ≡ v
 one_at s t h v a b e =
-    let d = one_health h.1 v.1 h.2 v.2 a.health b.health a.tag b.tag (ap (λ (x : BySat). x.bit_pattern) e) in
+    let d = one_health h.1 v.1 h.2 v.2 a.health b.health a.tag b.tag (ap (λ (x : BySat). x.digits) e) in
     let f = ap (λ (x : BySat). x.stamp) e in
     λ i. (f i, d.0 i, d.1 i)
 
@@ -108,7 +108,7 @@ pub kept_said : (w n : ℕ) (old new : Part → Type 0) (p : Part) (o : Option H
 kept_said w n old new p None heard heard' e m values l same k = kept_none w n old new p heard heard' m (λ h f. none_some h (sym e ∙ f)) same k
 kept_said w n old new p (Some h) heard heard' e m values l c k = kept_some w n old new p h heard heard' m values e l c k
 
--- removal of old health
+-- forgetting
 pub kept_forgotten : (w n watermark : ℕ) (parts : Part → Type 0) (heard heard' : HeardList) → n ≤ watermark → IsForgotten w watermark heard heard' → AreKept w n parts heard → AreKept w watermark parts heard'
 kept_forgotten w n watermark parts heard heard' l f k =
     let near : (x : BySat) → IsSome (heard_at heard' x) → watermark ≤ x.stamp + 2 * w = λ x i. elim (cases_lt (x.stamp + 2 * w) watermark) [
@@ -121,7 +121,7 @@ kept_forgotten w n watermark parts heard heard' l f k =
       every = λ sat h v g. f.stays (place_of_health sat h) g ∙ k.every sat h v (omega arith);
     }
 
--- what is found below an end is the last health up to it
+-- what is found below an end is the last up to it
 module _ (w n : ℕ) (parts : Part → Type 0) (heard : HeardList) (sat : Satellite) (issue e : ℕ) where
   there_up : AreKept w n parts heard → n ≤ e + w → (v : Health) → IsUpToEnd w parts (Gal sat issue) e v → heard_at heard (place_of_health sat v) ≡ Some v
   there_up k l v u = k.every sat v u.heard (omega (arith, u.near))
@@ -132,7 +132,7 @@ module _ (w n : ℕ) (parts : Part → Type 0) (heard : HeardList) (sat : Satell
   some_there : (v : Health) → heard_at heard (place_of_health sat v) ≡ Some v → IsSome (heard_at heard (place_of_health sat v))
   some_there v i = subst IsSome (sym i) refl
 
-  -- the health at a place of the satellite
+  -- what stands at a place of the satellite
   at_sat : AreKept w n parts heard → (x : BySat) (h : Health) → heard_at heard x ≡ Some h → is_of_sat sat x ≡ true → HasValue (HealthOf sat) parts h × (x ≡ place_of_health sat h)
   at_sat k x h i o =
       let f = k.was_heard x h i in
@@ -201,7 +201,7 @@ module _ (w n : ℕ) (parts : Part → Type 0) (heard : HeardList) (sat : Satell
       subst (IsBestHealth (IsUpToEnd w parts (Gal sat issue) e) (IsBehindEnd w parts (Gal sat issue) e)) (sym h.is)
       (best_health (IsUpToEnd w parts (Gal sat issue) e) (IsBehindEnd w parts (Gal sat issue) e) (near_up sat w e h.below) (near_behind sat w e h.above) (up_is k l h.below h.is_below) (behind_is k l h.above h.is_above))
 
--- the stored health gives the health that a period takes
+-- what is kept gives the health that counts
 none_chosen : (w : ℕ) (parts : Part → Type 0) (key : Key) (e : ℕ) (result : Option Health) → ((h : Health) → HasHealth key parts h → ⊥) → result ≡ None
     → IsBestHealth (IsUpToEnd w parts key e) (IsBehindEnd w parts key e) result
 none_chosen w parts key e result none h = subst (IsBestHealth (IsUpToEnd w parts key e) (IsBehindEnd w parts key e)) (sym h) (no_health w parts key e none)

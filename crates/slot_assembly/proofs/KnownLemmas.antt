@@ -1,4 +1,4 @@
--- The stored items: after parts are taken, in the verdict on the next period, and after a period is given.
+-- The items that are kept: after parts taken, what they say of the next period, and after a period given.
 use Rattle.std.proofs.Common.{◌≡◌, ℕ, ◌+◌, ◌<◌, ◌≤◌, ◌⊎◌, inl, inr, Bool, true, false, cond, List, Option, None, Some, IsSome, refl, sym, ap, subst, ◌∙◌, arith, rules}
 use Rattle.std.specs.BTreeMap.{is_at}
 use Rattle.std.proofs.lemmas.Bool.{both_ways, cases_lt}
@@ -93,7 +93,7 @@ are_known_same r w parts last known known' same h = record {
   only = λ x i. h.only x (subst IsSome (same x) i);
 }
 
--- the first due period: the key's periods that end before it are those that were given
+-- the first due period: those of its key that end before it are those that were given
 pub record IsFirst (w : ℕ) (parts : Part → Type 0) (watermark : ℕ) (last : Option Place) (q : Place) : Type 0 where
   pub period : IsPeriod w parts q
   pub low : q.end + w < watermark

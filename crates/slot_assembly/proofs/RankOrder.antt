@@ -1,4 +1,4 @@
--- The orders of places.
+-- What the orders of places say.
 use Rattle.std.proofs.Common.{◌≡◌, ℕ, ◌<◌, ◌≤◌, inl, inr, true, false, List, [], ◌∷◌, refl, sym, ap, subst, ◌∙◌, arith, rules}
 use Rattle.std.specs.Ordering.{is_gt}
 use Rattle.std.specs.BTreeMap.{is_at}
@@ -23,18 +23,18 @@ use Rattle.slot_assembly.specs.contracts.order.ByKeyOrd.TheImpl.{cmp-value as ke
 use Rattle.slot_assembly.specs.Order.{by_end, by_key, is_of_rank, rank_of}
 use Rattle.slot_assembly.specs.Slots.{HasEnd, at_of, slot_place}
 
--- what is between two places of a key is of the key
+-- what stands between two places of a key is one of the key
 pub squeezed : (r : Rank) (a b : ℕ) (p : ByKey) → IsLeBy key_cmp.it (by_key r a) p → IsLeBy key_cmp.it p (by_key r b) → is_of_rank r p ≡ true
 squeezed r a b p l m = grind (arith, nat_tests)
 
 pub from_on : (r : Rank) (a b : ℕ) → a ≤ b → IsLeBy key_cmp.it (by_key r a) (by_key r b)
 from_on r a b l = grind (arith, nat_tests)
 
--- both orders agree on equality of places
+-- the two orders tell the same places apart
 pub same_at : (r q : Rank) (a b : ℕ) → is_at (end_cmp.it (by_end r a)) (by_end q b) ≡ is_at (key_cmp.it (by_key r a)) (by_key q b)
 same_at r q a b = grind (arith, nat_tests)
 
--- a place that is found equals the one looked up, and each stored place is found
+-- a place that is found is the one that was looked for, and each is found
 pub at_is : (x y : ByEnd) → is_at (end_cmp.it x) y ≡ true → x ≡ y
 at_is x y h = search rules
 
@@ -48,7 +48,7 @@ numbers_rank (Gal s i) = refl
 numbers_rank (GpsIon c) = refl
 numbers_rank (GalIon c) = refl
 
--- a place that is not greater than another is not after it
+-- what is not above another is not behind it
 not_below : (r q : Rank) (a b : ℕ) → is_gt (end_cmp.it (by_end r a) (by_end q b)) ≡ false
     → IsBelow (b ∷ q.class ∷ q.system ∷ q.number ∷ q.issue ∷ []) (a ∷ r.class ∷ r.system ∷ r.number ∷ r.issue ∷ []) → ⊥
 not_below r q a b h (inl l) = grind (arith, nat_tests)
@@ -66,7 +66,7 @@ not_before s t h l = not_below (rank_of s.key) (rank_of t.key) s.end t.end h
 pub not_sooner : (s t : Slot) → is_gt (end_cmp.it (at_of s) (at_of t)) ≡ false → s.end ≤ t.end
 not_sooner s t h = grind (arith, nat_tests)
 
--- where the first place from a start on is not of the key, none of the key is after the start
+-- where the first place behind a start is not of the key, none of the key is behind it
 pub next_apart : (ends : BTreeSet ByKey) (xs rest : List ByKey) (r : Rank) (from : ℕ) (start p : ByKey) → start ≡ by_key r from → IsKeyRangeOf key_cmp.it (Included start) Unbounded ends xs
     → xs ≡ p ∷ rest → is_of_rank r p ≡ false → (f : ℕ) → HasEnd ends.keys r f → f < from
 next_apart ends xs rest r from start p same h e apart f i = elim (cases_lt f from) [
@@ -78,7 +78,7 @@ next_apart ends xs rest r from start p same h e apart f i = elim (cases_lt f fro
       absurd (both_ways (is_of_rank r p) apart (squeezed r from f p here.0.0 least))
 ]
 
--- keys of the same rank are equal
+-- keys of one rank are one
 numbers_same : (a b : Key) → rank_of a ≡ rank_of b → key_numbers a ≡ key_numbers b
 numbers_same a b e = numbers_rank a ∙ ap (λ (r : Rank). r.class ∷ r.system ∷ r.number ∷ r.issue ∷ []) e ∙ sym (numbers_rank b)
 

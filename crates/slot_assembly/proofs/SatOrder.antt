@@ -1,4 +1,4 @@
--- The orders of the places of health.
+-- What the orders of the places of health say.
 use Rattle.std.proofs.Common.{◌≡◌, ℕ, ◌+◌, ◌<◌, ◌≤◌, inl, inr, true, false, ◌∷◌, [], arith, rules}
 use Rattle.std.proofs.lemmas.Bool.Decides.{nat_tests}
 use Rattle.std.specs.Ordering.{is_lt, is_gt}
@@ -14,7 +14,7 @@ use Rattle.slot_assembly.specs.contracts.order.BySatOrd.TheImpl.{cmp-value as sa
 use Rattle.slot_assembly.specs.contracts.order.ByStampOrd.TheImpl.{cmp-value as stamp_cmp}
 use Rattle.slot_assembly.specs.Order.{by_sat, by_stamp, sat_place, place_of_health, is_of_sat}
 
--- both orders agree on equality of places
+-- the two orders tell the same places apart
 pub same_stamp : (p : BySat) (x : ByStamp) → is_at (sat_cmp.it p) (sat_place x) ≡ is_at (stamp_cmp.it (by_stamp p)) x
 same_stamp p x = grind (arith, nat_tests)
 
@@ -24,7 +24,7 @@ heard_is x y h = search rules
 pub is_heard_own : (x : BySat) → is_at (sat_cmp.it x) x ≡ true
 is_heard_own x = search rules
 
--- what is between two places of a satellite is of the satellite
+-- what stands between two places of a satellite is of the satellite
 pub sat_squeezed : (sat : Satellite) (s d t c : ℕ) (x : BySat) → IsLeBy sat_cmp.it (by_sat sat s d) x → IsLeBy sat_cmp.it x (by_sat sat t c) → is_of_sat sat x ≡ true
 sat_squeezed sat s d t c x l m = grind (arith, nat_tests)
 
@@ -46,7 +46,7 @@ lt_le x y l = grind (arith, nat_tests)
 pub not_lt_le : (x y : BySat) → is_lt (sat_cmp.it x y) ≡ false → IsLeBy sat_cmp.it y x
 not_lt_le x y l = grind (arith, nat_tests)
 
--- of two places of a satellite, one is not after the other
+-- of two of a satellite the one is not behind the other
 pub le_not_below : (sat : Satellite) (s d t c : ℕ) → IsLeBy sat_cmp.it (by_sat sat s d) (by_sat sat t c) → IsBelow (t ∷ c ∷ []) (s ∷ d ∷ []) → ⊥
 le_not_below sat s d t c l (inl m) = grind (arith, nat_tests)
 le_not_below sat s d t c l (inr (e, inl m)) = grind (arith, nat_tests)
@@ -56,7 +56,7 @@ le_not_below sat s d t c l (inr (e, inr (f, m))) = m
 pub oldest_first : (x y : ByStamp) → is_gt (stamp_cmp.it x y) ≡ false → x.stamp ≤ y.stamp
 oldest_first x y l = grind (arith, nat_tests)
 
--- a place of a satellite, by stamp and bits
+-- a place of a satellite, of which the stamp and the digits are known
 pub sat_same : (sat other : Satellite) (h : ℕ × GalHealth × SentTag) → is_of_sat sat (place_of_health other h) ≡ true → place_of_health other h ≡ place_of_health sat h
 sat_same sat other h e = grind (arith, nat_tests)
 

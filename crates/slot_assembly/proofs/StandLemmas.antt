@@ -32,7 +32,7 @@ use Rattle.slot_assembly.proofs.KnownLemmas.{are_known_later, are_known_same}
 abbrev SlotList : Type 0
 SlotList = List (ByEnd × PackedSlot)
 
--- where memory runs out
+-- where memory is wanting
 slots_same : (w : ℕ) (parts : Part → Type 0) (last : Option Place) (old new : SlotList) → AreSameSlots old new → AreSlots w parts last old → AreSlots w parts last new
 slots_same w parts last old new same h = record {
   each = λ s i. h.each s (sym (same (at_of s)) ∙ i);
@@ -46,7 +46,7 @@ kept_same w n parts old new same h = record {
   every = λ sat v i l. same _ ∙ h.every sat v i l;
 }
 
--- the same parts, watermark and last period given, with another store that stands for them
+-- the same parts, watermark and period given last, with other content that stands for them
 stands_as : (s : SlotsState) (at : Standing) (slots : SlotList) (ends : List ByKey) (heard : HeardList) (stamps : List ByStamp) (known : List (Rank × NavItem)) → AreSlots s.window (Contains at.parts) at.last slots → AreIndexed slots ends
     → AreKept s.window s.none_at (Contains at.parts) heard → AreStamped heard stamps → AreKnown s.reference s.window (Contains at.parts) at.last known → IsStrictlySortedBy rank_cmp.it (keys_of known) → SlotsStandFor s at
     → SlotsStandFor (record { reference = s.reference; window = s.window; slots = slots; ends = ends; heard = heard; stamps = stamps; watermark = s.watermark; last = s.last; none_at = s.none_at; known = known }) at
@@ -80,7 +80,7 @@ pub stands_known : (s : SlotsState) (at : Standing) (known : List (Rank × NavIt
 stands_known s at known same i h =
     stands_as s at s.slots s.ends s.heard s.stamps known h.slots h.indexed h.kept h.stamped (are_known_same s.reference s.window (Contains at.parts) at.last s.known known same h.known) i h
 
--- taking a part of a key
+-- a part of a key taken
 are_taken : (s : SlotsState) (at : Standing) (p : Part) (one : Slot) (slots : SlotList) → SlotsStandFor s at → at.watermark ≤ p.stamp → IsPartValue p → IsOneSlot p one → IsTaken s.slots one s.window slots
     → AreSlots s.window (Contains (at.parts ++ p ∷ [])) at.last slots
 are_taken s at p one slots h l v k t =
@@ -123,7 +123,7 @@ stands_taken s at p one slots ends h l v k t i =
       values = All-push IsPartValue at.parts p h.values v;
     }
 
--- taking health, which has no key
+-- health taken: it is of no key
 heard_no : (old new : Part → Type 0) (p : Part) (key : Key) → IsWithPart old new p → key_of p ≡ None → Same (IsHeardAt old key) (IsHeardAt new key)
 heard_no old new p key m e = record {
   to = λ x h. record { part = h.part; here = m.keeps h.part h.here; of_key = h.of_key; at_stamp = h.at_stamp };
@@ -186,7 +186,7 @@ stands_heard s at p heard stamps h l v k t i =
       values = all;
     }
 
--- no period is due
+-- none is due
 pub none_is : (s : SlotsState) (at : Standing) (watermark : ℕ) → SlotsStandFor s at → IsFirstDue s.slots s.window watermark None → NoneDue s.window (Contains at.parts) watermark at.last
 none_is s at watermark h none = λ q due.
     let f = h.slots.every q due.period due.after in

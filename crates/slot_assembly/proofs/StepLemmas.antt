@@ -1,4 +1,4 @@
--- After a part is taken, the store has exactly one slot for each period.
+-- What stands after a part was taken is one slot for each period.
 use Rattle.std.proofs.Common.{◌≡◌, ℕ, ◌≤◌, ◌⊎◌, inl, inr, Bool, true, false, cond, ◌==◌, List, Option, None, Some, refl, sym, ap, subst, ◌∙◌, arith, eqb-true, eq-eqb}
 use Rattle.std.specs.BTreeMap.{is_at}
 use Rattle.std.proofs.lemmas.Bool.{both_ways}
@@ -22,7 +22,7 @@ use Rattle.slot_assembly.proofs.Changes.{left_open}
 use Rattle.slot_assembly.proofs.TakeLemmas.{Sums, sums_same, sums_one, sums_with, sums_slot, sums_end}
 use Rattle.slot_assembly.proofs.JoinLemmas.{Taking, Touched, Finds, finds}
 
--- an untouched slot stays
+-- an untouched slot stays one
 pub IsSlot-stays : (w : ℕ) (old new : Part → Type 0) (last : Option Place) (s : Slot) → IsSlot w old last s → Stays w old new (slot_place s) → IsSlot w new last s
 IsSlot-stays w old new last s h t = record {
   period = t.period;
@@ -32,7 +32,7 @@ IsSlot-stays w old new last s h t = record {
   digest = IsDigest-same s.key (IsMember w old (slot_place s)) (IsMember w new (slot_place s)) s.digest (record { to = t.keeps; from = t.adds_none }) h.digest;
 }
 
--- a slot stored after a removal was stored before
+-- what stands after one was dropped stood before
 without_was : (old new : List (ByEnd × PackedSlot)) (o : Option Slot) (e : ℕ) (s : Slot) → IsWithout old o e new → IsOpen new s → IsOpen old s × ((f : Slot) → o ≡ Some f → (f.end ≡ e) ⊎ (is_at (end_cmp.it (at_of f)) (at_of s) ≡ false))
 without_was old new None e s h i = (sym (h (at_of s)) ∙ i, λ f k. absurd (let z : None ≡ Some f = k in cc))
 without_was old new (Some g) e s h i = by (g.end == e) refl
@@ -45,7 +45,7 @@ without_was old new (Some g) e s h i = by (g.end == e) refl
         let l = left_open old new (at_of g) (at_of s) s (subst (λ (b : Bool). IsGoneUnless b old g new) k h) i in
         (l.1, λ f m. inr (subst (λ (x : Slot). is_at (end_cmp.it (at_of x)) (at_of s) ≡ false) (some_is g f m) l.0))
 
--- and a slot stored before is stored after it, where it is another or was to stay
+-- and stands after it, where it is another or was to stay
 without_keeps : (old new : List (ByEnd × PackedSlot)) (o : Option Slot) (e : ℕ) (s : Slot) → IsWithout old o e new → IsOpen old s → ((f : Slot) → o ≡ Some f → (f.end ≡ e → ⊥) → is_at (end_cmp.it (at_of f)) (at_of s) ≡ false) → IsOpen new s
 without_keeps old new None e s h i apart = h (at_of s) ∙ i
 without_keeps old new (Some g) e s h i apart = by (g.end == e) refl
@@ -57,7 +57,7 @@ without_keeps old new (Some g) e s h i apart = by (g.end == e) refl
         let n = apart g refl (λ e'. both_ways (g.end == e) k (eq-eqb g.end e e')) in
         c (at_of s) ∙ ap (λ (b : Bool). cond b None (kept_at old (at_of s))) n ∙ i
 
--- an inserted slot is stored at its place, and all others as before
+-- what is put stands at its place, and all else as before
 put_was : (old new : List (ByEnd × PackedSlot)) (j s : Slot) → IsChanged old (at_of j) (Some j) new → IsOpen new s → (j ≡ s) ⊎ (IsOpen old s × (is_at (end_cmp.it (at_of j)) (at_of s) ≡ false))
 put_was old new j s h i = by (is_at (end_cmp.it (at_of j)) (at_of s)) refl
   where
@@ -80,7 +80,7 @@ ends_apart f s n = by (is_at (end_cmp.it (at_of f)) (at_of s)) refl
     by false k = k
 
 module _ (w : ℕ) (old new : Part → Type 0) (last : Option Place) (p : Part) (key : Key) (slots : List (ByEnd × PackedSlot)) where
-  -- the members of the part's slot merged with the slots found
+  -- the members of what the part makes with those that are found
   abbrev FoundMember : Option Slot → Option Slot → Part → Type 0
   FoundMember first second q = ((q ≡ p) ⊎ ((f : Slot) × (first ≡ Some f) × IsMember w old (slot_place f) q)) ⊎ ((f : Slot) × (second ≡ Some f) × IsMember w old (slot_place f) q)
 
@@ -129,7 +129,7 @@ module _ (w : ℕ) (old new : Part → Type 0) (last : Option Place) (p : Part) 
   abbrev Old : Slot → Type 0
   Old s = IsOpen slots s × (Touched w old new last p key slots s → ⊥)
 
-  -- a slot stored afterwards is the joined slot, or was stored before and is not touched
+  -- what stands afterwards is the joined slot, or was there and is not touched
   is_left : Taking w old new last p key slots → (first second : Option Slot) → Finds w old new last p key slots first second → (j : Slot) → j.key ≡ key → (slots' : List (ByEnd × PackedSlot)) → IsReplaced slots j first second slots'
       → (s : Slot) → IsOpen slots' s → (j ≡ s) ⊎ Old s
   is_left t first second f j k slots' r s i =
@@ -151,13 +151,13 @@ module _ (w : ℕ) (old new : Part → Type 0) (last : Option Place) (p : Part) 
         )
       ]
 
-  -- the joined slot is stored
+  -- the joined slot stands
   joined_stands : (first second : Option Slot) (j : Slot) (slots' : List (ByEnd × PackedSlot)) → IsReplaced slots j first second slots' → IsOpen slots' j
   joined_stands first second j slots' r =
       without_keeps r.one slots' second j.end j r.without_second
       (without_keeps r.put r.one first j.end j r.without_first (put_has slots r.put j r.has) (λ g e n. ends_apart g j n)) (λ g e n. ends_apart g j n)
 
-  -- and so is each untouched slot, where its place is another
+  -- and so does what is not touched, where it is at another place
   rest_stands : Taking w old new last p key slots → (first second : Option Slot) → Finds w old new last p key slots first second → (j : Slot) (slots' : List (ByEnd × PackedSlot)) → IsReplaced slots j first second slots'
       → (s : Slot) → Old s → is_at (end_cmp.it (at_of j)) (at_of s) ≡ false → IsOpen slots' s
   rest_stands t first second f j slots' r s o n =
@@ -171,7 +171,7 @@ module _ (w : ℕ) (old new : Part → Type 0) (last : Option Place) (p : Part) 
           absurd (o.1 (subst (Touched w old new last p key slots) e c))
       not_at g c false k = k
 
-  -- slots that are not touched stay
+  -- what is not touched stays
   old_stays : Taking w old new last p key slots → (s : Slot) → Old s → Stays w old new (slot_place s)
   old_stays t s o =
       rest_stays w old new p (slot_place s) (t.known s.key) (t.knows s.key) t.with (t.are.each s o.0).period

@@ -1,4 +1,4 @@
--- Taking a part: it and the slots that it touches become one slot, and all other slots stay.
+-- A part taken: it and the slots that it touches become one slot, and all other slots stay.
 use Rattle.std.proofs.Common.{◌≡◌, ℕ, ◌+◌, ◌<◌, ◌≤◌, inl, inr, Option, Some, min, max, refl, sym, ap, subst, arith}
 use Rattle.std.proofs.lemmas.Bool.{cases_lt}
 use Rattle.nav_eph.specs.declared.part.Part.{Part}
@@ -15,7 +15,7 @@ use Rattle.slot_assembly.specs.declared.slot.Slot.{Slot}
 use Rattle.slot_assembly.specs.Slots.{slot_place, slot_with, IsOneSlot}
 use Rattle.slot_assembly.specs.SlotStanding.{IsSlot}
 
--- the least and the greatest stamp of a set's members, and their digest
+-- what the members of a set come to: the least and the greatest stamp, and their digest
 pub record Sums (key : Key) (members : Part → Type 0) (s : Slot) : Type 0 where
   pub starts : (p : Part) × members p × (p.stamp ≡ s.start)
   pub start : (p : Part) → members p → s.start ≤ p.stamp
@@ -80,7 +80,7 @@ sums_slot w parts last s h = record {
   digest = h.digest;
 }
 
--- a slot of a period's members has the period's place
+-- what tells what a period's members come to has its place
 pub sums_end : (w : ℕ) (parts : Part → Type 0) (q : Place) (s : Slot) → IsPeriod w parts q → Sums q.key (IsMember w parts q) s → s.end ≡ q.end
 sums_end w parts q s h k =
     let e = end_member w parts q h in
@@ -121,7 +121,7 @@ near_touched w parts last p s kn h k l m =
       ]
     ]
 
--- a later slot of a key starts after the end of an earlier one
+-- a later slot of a key begins behind the end of an earlier one
 pub slots_apart : (w : ℕ) (parts : Part → Type 0) (last : Option Place) (f s : Slot) → IsSlot w parts last f → IsSlot w parts last s → f.key ≡ s.key → f.end < s.end → f.end < s.start
 slots_apart w parts last f s h k e l = elim (cases_lt f.end s.start) [
   | inl far ↦ far

@@ -1,4 +1,4 @@
--- The periods given so far by a loop over `next_closed`.
+-- What was given so far, in a loop that asks until nothing is closed that was not given.
 use Rattle.std.specs.Prelude.{◌≡◌, ℕ, ◌+◌, ◌<◌, ◌⊎◌, List, [], ◌∷◌, Option, None, Some, Contains}
 use Rattle.nav_eph.specs.declared.part.Part.{Part}
 use Rattle.periods.specs.declared.key.Place.{Place}
@@ -9,12 +9,12 @@ use Rattle.periods.specs.PeriodLists.{IsAscending}
 use Rattle.slot_assembly.specs.Standing.{Standing, IsAfter}
 use Rattle.periods.specs.PeriodsOf.{closed_of}
 
--- the last period given, if any, is closed at the watermark
+-- the last period given is closed at the watermark
 abbrev pub GivenBelow : ℕ → ℕ → Option Place → Type 0
 GivenBelow window watermark None = Unit {0}
 GivenBelow window watermark (Some place) = place.end + window < watermark
 
--- the periods given are, in order, those closed at the watermark and not after the last one given
+-- the periods given are, in order, those that are closed at the watermark and not behind the last one given
 pub record HasGiven (r window : ℕ) (parts : Part → Type 0) (watermark : ℕ) (last : Option Place) (given : List Closed) : Type 0 where
   pub ascending : IsAscending given
   pub each : (c : Closed) → Contains given c → IsClosed r window parts c
@@ -23,11 +23,11 @@ pub record HasGiven (r window : ℕ) (parts : Part → Type 0) (watermark : ℕ)
   pub every : (q : Place) → IsPeriod window parts q → q.end + window < watermark → IsAfter last q ⊎ ((c : Closed) × Contains given c × (closed_place c ≡ q))
   pub last_low : GivenBelow window watermark last
 
--- the end and key of the last period of a list, or the option where the list is empty
+-- the place of the last one of a list
 abbrev pub last_from : Option Place → List Closed → Option Place
 last_from last [] = last
 last_from last (c ∷ cs) = last_from (Some (closed_place c)) cs
 
--- the state in which all periods closed at the watermark were given
+-- all that is closed at the watermark was given
 abbrev pub flushed : ℕ → ℕ → List Part → ℕ → Standing
 flushed r window parts watermark = record { parts = parts; watermark = watermark; last = last_from None (closed_of r window watermark parts) }

@@ -1,4 +1,4 @@
--- Merging and replacing slots by their ends, as the code does.
+-- What is joined, and what is put for it, told by the ends of slots.
 use Rattle.std.specs.Prelude.{◌≡◌, ℕ, ◌+◌, Bool, true, false, ◌==◌, List, Option, None, Some}
 use Rattle.std.specs.Option.{option_map, option_copied}
 use denote.Ref.{Bor}
@@ -17,29 +17,28 @@ packed_in r = option_map slot_of (option_copied r)
 abbrev pub end_in : Option Slot → Option ℕ
 end_in o = option_map (λ s. s.end) o
 
--- a slot is merged with the first one that ends at or after a stamp and starts no later than a limit; `end` is that one's end
+-- a slot is joined with the first one that ends from a stamp on and begins by a limit, and that one's end is told
 pub record IsJoinedWithFirst (slots : List (ByEnd × PackedSlot)) (r : Rank) (from limit : ℕ) (old new : Slot) (end : Option ℕ) : Type 0 where
   pub other : Option Slot
   pub touched : IsFirstTouched slots r from limit other
   pub joined : new ≡ slot_with old other
   pub ended : end ≡ end_in other
 
--- a slot is merged with the next one after the first, if there was a first
+-- and with the one behind it
 abbrev pub IsJoinedWithSecond : List (ByEnd × PackedSlot) → Rank → ℕ → Option ℕ → Slot → Slot → Option ℕ → Type 0
 IsJoinedWithSecond slots r limit None old new end = (new ≡ old) × (end ≡ None)
 IsJoinedWithSecond slots r limit (Some e) old new end = IsJoinedWithFirst slots r (e + 1) limit old new end
 
--- the slot at a place is removed, unless the flag is set
+-- the slot of the key with the first end is gone, unless that is the second end
 abbrev pub IsGoneUnlessAt : Bool → List (ByEnd × PackedSlot) → ByEnd → List (ByEnd × PackedSlot) → Type 0
 IsGoneUnlessAt true old x new = AreSameSlots old new
 IsGoneUnlessAt false old x new = IsChanged old x None new
 
--- the slot of the key with the first end is removed, unless both ends are equal
 abbrev pub IsWithoutEnd : List (ByEnd × PackedSlot) → Rank → Option ℕ → ℕ → List (ByEnd × PackedSlot) → Type 0
 IsWithoutEnd old r None e new = AreSameSlots old new
 IsWithoutEnd old r (Some f) e new = IsGoneUnlessAt (f == e) old (by_end r f) new
 
--- the slot is inserted, and those of its key with two other ends are removed
+-- a slot is there, in the place of those of its key with two ends
 pub record IsPutForEnds (old : List (ByEnd × PackedSlot)) (r : Rank) (slot : Slot) (first second : Option ℕ) (new : List (ByEnd × PackedSlot)) : Type 0 where
   pub put : List (ByEnd × PackedSlot)
   pub one : List (ByEnd × PackedSlot)

@@ -1,5 +1,5 @@
--- The trait's laws for the slot assembly: its parts are values, and their order and repetition do not matter. (An impl names the
--- proof of a law, and code can name only what is in specs/.)
+-- The laws of the trait for the assembly in slots: its parts are values, and a set. (An impl names the proof of a law, and code can name
+-- what stands in specs/ alone.)
 use Rattle.std.proofs.Common.{ℕ, Option, None, Some, All, List, Contains, get_or, ◌↔◌}
 use Rattle.std.proofs.lemmas.List.Elements.{All-contains, Contains-get_or}
 use Rattle.nav_eph.specs.declared.items.NavItem.{NavItem}
@@ -16,11 +16,9 @@ use Rattle.slot_assembly.specs.Order.{rank_of}
 use Rattle.slot_assembly.specs.Slots.{slot_place}
 use Rattle.slot_assembly.specs.SlotStanding.{SlotsState, SlotsStandFor, IsSlot, IsKnownGiven, known_at}
 
--- each part that the assembly stands for is a value of its type
 pub parts_are_values : (s : SlotsState) (at : Standing) → SlotsStandFor s at → All IsPartValue at.parts
 parts_are_values s at h = h.values
 
--- the slot of a period is the same for equal sets of parts
 IsSlot-same : (w : ℕ) (a b : Part → Type 0) (last : Option Place) (s : Slot) → Same a b → IsSlot w a last s → IsSlot w b last s
 IsSlot-same w a b last s e h =
     let m = members_same w a b (slot_place s) e in
@@ -32,7 +30,6 @@ IsSlot-same w a b last s e h =
       digest = IsDigest-same s.key _ _ s.digest m h.digest;
     }
 
--- the known item of a key is the same for equal sets of parts
 IsKnownGiven-same : (r w : ℕ) (a b : Part → Type 0) (last : Option Place) (key : Key) (o : Option NavItem) → Same a b → IsKnownGiven r w a last key o → IsKnownGiven r w b last key o
 IsKnownGiven-same r w a b last key None e h = λ eph f item c g. h eph f item (IsComplete-same r w b a key f item (same_sym a b e) c) g
 IsKnownGiven-same r w a b last key (Some item) e h = record {
@@ -43,7 +40,6 @@ IsKnownGiven-same r w a b last key (Some item) e h = record {
   greatest = λ f other c g. h.greatest f other (IsComplete-same r w b a key f other (same_sym a b e) c) g;
 }
 
--- the assembly stands for its parts in any order and with any repetition
 pub parts_are_a_set : (s : SlotsState) (at : Standing) (other : List Part) → SlotsStandFor s at
     → ((p : Part) → Contains at.parts p ↔ Contains other p) → SlotsStandFor s (with_parts other at)
 parts_are_a_set s at other h same =

@@ -1,4 +1,4 @@
--- The state of the slot assembly, and what it stands for.
+-- What the assembly in slots keeps, and what it stands for.
 use Rattle.std.specs.Prelude.{◌≡◌, ℕ, ◌+◌, ◌*◌, ◌≤◌, cond, List, length, Option, None, Some, IsSome, All, Contains}
 use Rattle.std.specs.List.Sorted.{IsStrictlySortedBy}
 use Rattle.std.specs.BTreeMap.{is_at}
@@ -33,16 +33,16 @@ use Rattle.slot_assembly.specs.Order.{rank_of, place_of_health}
 use Rattle.slot_assembly.specs.Slots.{IsOpen, slot_place, AreIndexed}
 use Rattle.slot_assembly.specs.Healths.{heard_at, AreStamped}
 
--- the item to store for later comparison: that of a complete ephemeris
+-- the item of a finding that is compared with later ones: that of a complete ephemeris
 abbrev pub item_to_keep : Key → Finding → Option NavItem
 item_to_keep (Gps sat issue) finding = item_of finding
 item_to_keep (Gal sat issue) finding = item_of finding
 item_to_keep (GpsIon content) finding = None
 item_to_keep (GalIon content) finding = None
 
--- the state of the assembly, as contracts see it
+-- what contracts see of the assembly: all that it keeps
 pub record SlotsState : Type 0 where
-  -- the reference week near which week numbers are resolved
+  -- the reference week by which it listens
   pub reference : ℕ
   -- how long after a part another one of its key may belong to the same period
   pub window : ℕ
@@ -58,12 +58,12 @@ pub record SlotsState : Type 0 where
   pub watermark : ℕ
   -- the last period given
   pub last : Option Place
-  -- the greatest watermark at which no period was due
+  -- the greatest watermark at which there was none to give
   pub none_at : ℕ
   -- the item of the last complete period given, of each ephemeris
   pub known : List (Rank × NavItem)
 
--- the slot is that of an open period: key, end, stamp of the first member, and digest of the members
+-- the slot is that of an open period: its key and its end, the stamp of its first member, and what its members come to
 pub record IsSlot (window : ℕ) (parts : Part → Type 0) (last : Option Place) (slot : Slot) : Type 0 where
   pub period : IsPeriod window parts (slot_place slot)
   pub after : IsAfter last (slot_place slot)
@@ -71,42 +71,41 @@ pub record IsSlot (window : ℕ) (parts : Part → Type 0) (last : Option Place)
   pub start : (p : Part) → IsMember window parts (slot_place slot) p → slot.start ≤ p.stamp
   pub digest : IsDigest slot.key (IsMember window parts (slot_place slot)) slot.digest
 
--- exactly one slot for each period after the last one given
+-- exactly one slot for each period behind the last one given
 pub record AreSlots (window : ℕ) (parts : Part → Type 0) (last : Option Place) (slots : List (ByEnd × PackedSlot)) : Type 0 where
   pub each : (s : Slot) → IsOpen slots s → IsSlot window parts last s
   pub every : (q : Place) → IsPeriod window parts q → IsAfter last q → (s : Slot) × IsOpen slots s × (slot_place s ≡ q)
 
--- exactly the health whose stamp plus two windows is at or above the watermark
+-- exactly the health whose stamp and two windows reach the watermark
 pub record AreKept (window watermark : ℕ) (parts : Part → Type 0) (heard : List (BySat × (ℕ × GalHealth × SentTag))) : Type 0 where
   pub was_heard : (x : BySat) (h : ℕ × GalHealth × SentTag) → heard_at heard x ≡ Some h → (sat : Satellite) × HasValue (HealthOf sat) parts h × (x ≡ place_of_health sat h)
   pub recent : (x : BySat) → IsSome (heard_at heard x) → watermark ≤ x.stamp + 2 * window
   pub every : (sat : Satellite) (h : ℕ × GalHealth × SentTag) → HasValue (HealthOf sat) parts h → watermark ≤ h.0 + 2 * window → heard_at heard (place_of_health sat h) ≡ Some h
 
--- the item stored for a key
+-- the item that is kept for a key
 abbrev pub known_at : List (Rank × NavItem) → Rank → Option NavItem
 known_at known r = lookup (is_at (rank_cmp.it r)) known
 
--- the item that one of the key is compared with; none for an ionosphere
+-- the item with which one of the key is compared
 abbrev pub known_for : Key → List (Rank × NavItem) → Option NavItem
 known_for (Gps sat issue) known = known_at known (rank_of (Gps sat issue))
 known_for (Gal sat issue) known = known_at known (rank_of (Gal sat issue))
 known_for (GpsIon content) known = None
 known_for (GalIon content) known = None
 
--- the same items are stored for every key
 abbrev pub AreSameItems : List (Rank × NavItem) → List (Rank × NavItem) → Type 0
 AreSameItems old new = (x : Rank) → known_at new x ≡ known_at old x
 
--- the item, if there is one, is stored in place of the one before
+-- the item is kept in the place of the one before
 abbrev pub IsRemembered : List (Rank × NavItem) → Rank → Option NavItem → List (Rank × NavItem) → Type 0
 IsRemembered old r None new = AreSameItems old new
 IsRemembered old r (Some item) new = (x : Rank) → known_at new x ≡ cond (is_at (rank_cmp.it r) x) (Some item) (known_at old x)
 
--- the period was given: it is not after the last one given
+-- the period was given
 abbrev pub IsGiven : Option Place → Place → Type 0
 IsGiven last place = IsAfter last place → ⊥
 
--- the item of the key's last complete period given
+-- of the key's complete periods given, the item of the last
 pub record IsLastGiven (r window : ℕ) (parts : Part → Type 0) (last : Option Place) (key : Key) (item : NavItem) : Type 0 where
   pub ephemeris : IsOfEphemeris key
   pub at : ℕ
@@ -114,18 +113,18 @@ pub record IsLastGiven (r window : ℕ) (parts : Part → Type 0) (last : Option
   pub given : IsGiven last (end_place key at)
   pub greatest : (f : ℕ) (other : NavItem) → IsComplete r window parts key f other → IsGiven last (end_place key f) → f ≤ at
 
--- that item or, for an ephemeris key, that no complete period of it was given
+-- that item or, where the key is of an ephemeris, that no complete period of it was given
 abbrev pub IsKnownGiven : ℕ → ℕ → (Part → Type 0) → Option Place → Key → Option NavItem → Type 0
 IsKnownGiven r window parts last key None = IsOfEphemeris key → (f : ℕ) (item : NavItem) → IsComplete r window parts key f item → IsGiven last (end_place key f) → ⊥
 IsKnownGiven r window parts last key (Some item) = IsLastGiven r window parts last key item
 
--- that item for each ephemeris key, and nothing else
+-- that item for each ephemeris, and nothing else
 pub record AreKnown (r window : ℕ) (parts : Part → Type 0) (last : Option Place) (known : List (Rank × NavItem)) : Type 0 where
   pub each : (key : Key) → IsKnownGiven r window parts last key (known_at known (rank_of key))
   pub only : (x : Rank) → IsSome (known_at known x) → (key : Key) × IsOfEphemeris key × (x ≡ rank_of key)
 
--- the assembly stores one slot for each open period, the health of the last two windows, the items for comparison, the watermark
--- and the last period given; at `none_at` no period was due
+-- the assembly keeps one slot for each open period, the health that two windows reach, the items with which later ones are compared,
+-- the watermark and the last period given, and at `none_at` no period was due
 pub record SlotsStandFor (assembly : SlotsState) (at : Standing) : Type 0 where
   pub slots : AreSlots assembly.window (Contains at.parts) at.last assembly.slots
   pub indexed : AreIndexed assembly.slots assembly.ends
@@ -140,6 +139,5 @@ pub record SlotsStandFor (assembly : SlotsState) (at : Standing) : Type 0 where
   pub none_by : assembly.none_at ≤ at.watermark
   pub values : All IsPartValue at.parts
 
--- the bound on periods still to give: the number of slots
 abbrev pub slots_left : SlotsState → ℕ
 slots_left s = length s.slots

@@ -1,4 +1,4 @@
--- The stored slots, and their changes.
+-- The slots that are kept, and what becomes of them.
 use Rattle.std.specs.Prelude.{◌≡◌, ℕ, ◌+◌, ◌<◌, ◌≤◌, Bool, true, false, cond, ◌==◌, List, Option, None, Some, IsSome, IfSome, IsTrue, min, max}
 use Rattle.std.specs.List.{list_any}
 use Rattle.std.specs.Option.{option_map}
@@ -21,24 +21,23 @@ use Rattle.slot_assembly.specs.contracts.order.ByEndOrd.TheImpl.{cmp-value as en
 use Rattle.slot_assembly.specs.contracts.order.ByKeyOrd.TheImpl.{cmp-value as key_cmp}
 use Rattle.slot_assembly.specs.Order.{rank_of, by_end, by_key}
 
--- the unpacked slot: of an ephemeris from its box, of an ionosphere with its earliest transmission
+-- the slot that was packed: of an ephemeris from its box, of an ionosphere with its one sending
 abbrev pub slot_of : PackedSlot → Slot
 slot_of (Ephemeris boxed) = boxed.value
 slot_of (Ionosphere s) = record { key = s.key; start = s.start; end = s.end; digest = IonForm s.transmission }
 
--- the slot stored at a place
+-- the slot that is kept at a place
 abbrev pub kept_at : List (ByEnd × PackedSlot) → ByEnd → Option Slot
 kept_at slots x = option_map slot_of (lookup (is_at (end_cmp.it x)) slots)
 
--- the place of a slot in the order of periods
+-- the place of a slot, and the period that it stands for
 abbrev pub at_of : Slot → ByEnd
 at_of s = by_end (rank_of s.key) s.end
 
--- the end and key of a slot's period
 abbrev pub slot_place : Slot → Place
 slot_place s = record { end = s.end; key = s.key }
 
--- the slot is stored
+-- the slot is kept
 abbrev pub IsOpen : List (ByEnd × PackedSlot) → Slot → Type 0
 IsOpen slots s = kept_at slots (at_of s) ≡ Some s
 
@@ -46,7 +45,7 @@ IsOpen slots s = kept_at slots (at_of s) ≡ Some s
 abbrev pub HasEnd : List ByKey → Rank → ℕ → Type 0
 HasEnd ends r e = IsTrue (list_any (is_at (key_cmp.it (by_key r e))) ends)
 
--- map and index are sorted, each slot is at its place, and the index has exactly the places of the map
+-- both are in order, each slot stands at its place, and the index has exactly the places of the slots
 pub record AreIndexed (slots : List (ByEnd × PackedSlot)) (ends : List ByKey) : Type 0 where
   pub ordered : IsStrictlySortedBy end_cmp.it (keys_of slots)
   pub in_order : IsStrictlySortedBy key_cmp.it ends
@@ -54,63 +53,60 @@ pub record AreIndexed (slots : List (ByEnd × PackedSlot)) (ends : List ByKey) :
   pub has : (r : Rank) (e : ℕ) → HasEnd ends r e → IsSome (kept_at slots (by_end r e))
   pub had : (r : Rank) (e : ℕ) → IsSome (kept_at slots (by_end r e)) → HasEnd ends r e
 
--- the slot of one part
+-- the slot of one part; none where it has no key
 pub record IsOneSlot (p : Part) (s : Slot) : Type 0 where
   pub key : key_of p ≡ Some s.key
   pub digest : digest_of p ≡ Some s.digest
   pub start : s.start ≡ p.stamp
   pub end : s.end ≡ p.stamp
 
--- the slot of one part; none for health, which has no key
 abbrev pub IsOne : Part → Option Slot → Type 0
 IsOne p None = key_of p ≡ None
 IsOne p (Some s) = IsOneSlot p s
 
--- a slot merged with another of its key, if there is one
+-- a slot together with another one of its key
 abbrev pub slot_with : Slot → Option Slot → Slot
 slot_with s None = s
 slot_with s (Some o) = record { key = s.key; start = min s.start o.start; end = max s.end o.end; digest = digest_join s.digest o.digest }
 
--- the key's first slot that ends at or after a stamp
+-- the first slot of the key that ends from a stamp on
 pub record IsFirstSlot (slots : List (ByEnd × PackedSlot)) (r : Rank) (from : ℕ) (s : Slot) : Type 0 where
   pub here : kept_at slots (by_end r s.end) ≡ Some s
   pub after : from ≤ s.end
   pub first : (e : ℕ) → IsSome (kept_at slots (by_end r e)) → from ≤ e → s.end ≤ e
 
--- that slot, or none
 abbrev pub IsFirstFrom : List (ByEnd × PackedSlot) → Rank → ℕ → Option Slot → Type 0
 IsFirstFrom slots r from None = (e : ℕ) → IsSome (kept_at slots (by_end r e)) → e < from
 IsFirstFrom slots r from (Some s) = IsFirstSlot slots r from s
 
--- the key's first slot that ends at or after a stamp, where it starts no later than a limit
+-- it, where it begins by a limit
 abbrev pub IsFirstTouched : List (ByEnd × PackedSlot) → Rank → ℕ → ℕ → Option Slot → Type 0
 IsFirstTouched slots r from limit None = (o : Option Slot) × IsFirstFrom slots r from o × IfSome o (λ s. limit < s.start)
 IsFirstTouched slots r from limit (Some s) = IsFirstSlot slots r from s × (s.start ≤ limit)
 
--- the key's next slot after the first one, where it starts no later than a limit
+-- the one behind it, where it begins by the limit
 abbrev pub IsSecondTouched : List (ByEnd × PackedSlot) → Rank → ℕ → Option Slot → Option Slot → Type 0
 IsSecondTouched slots r limit None second = second ≡ None
 IsSecondTouched slots r limit (Some s) second = IsFirstTouched slots r (s.end + 1) limit second
 
--- the slot at one place is replaced or removed; all else is the same
+-- one place has another slot, or none; all else is the same
 abbrev pub IsChanged : List (ByEnd × PackedSlot) → ByEnd → Option Slot → List (ByEnd × PackedSlot) → Type 0
 IsChanged old x w new = (q : ByEnd) → kept_at new q ≡ cond (is_at (end_cmp.it x) q) w (kept_at old q)
 
--- the same slots are stored at every place
 abbrev pub AreSameSlots : List (ByEnd × PackedSlot) → List (ByEnd × PackedSlot) → Type 0
 AreSameSlots old new = (q : ByEnd) → kept_at new q ≡ kept_at old q
 
--- the slot is removed, unless the flag is set
+-- the slot is gone, unless it is to stay
 abbrev pub IsGoneUnless : Bool → List (ByEnd × PackedSlot) → Slot → List (ByEnd × PackedSlot) → Type 0
 IsGoneUnless true old s new = AreSameSlots old new
 IsGoneUnless false old s new = IsChanged old (at_of s) None new
 
--- the slot, if there is one, is removed, unless it has the end e
+-- the slot is gone, unless it has that end
 abbrev pub IsWithout : List (ByEnd × PackedSlot) → Option Slot → ℕ → List (ByEnd × PackedSlot) → Type 0
 IsWithout old None e new = AreSameSlots old new
 IsWithout old (Some s) e new = IsGoneUnless (s.end == e) old s new
 
--- the slot is inserted, and the first and second are removed
+-- the slot is there, in the place of two others
 pub record IsReplaced (old : List (ByEnd × PackedSlot)) (slot : Slot) (first second : Option Slot) (new : List (ByEnd × PackedSlot)) : Type 0 where
   pub put : List (ByEnd × PackedSlot)
   pub one : List (ByEnd × PackedSlot)
@@ -118,7 +114,7 @@ pub record IsReplaced (old : List (ByEnd × PackedSlot)) (slot : Slot) (first se
   pub without_first : IsWithout put first slot.end one
   pub without_second : IsWithout one second slot.end new
 
--- a slot is merged with the one or two slots of its key that lie within the window, and replaces them
+-- a slot is joined with those of its key that it touches
 pub record IsTaken (old : List (ByEnd × PackedSlot)) (slot : Slot) (window : ℕ) (new : List (ByEnd × PackedSlot)) : Type 0 where
   pub from : ℕ
   pub from_is : (e : ℕ) → (from ≤ e → slot.end ≤ e + window) × (slot.end ≤ e + window → from ≤ e)
@@ -128,12 +124,11 @@ pub record IsTaken (old : List (ByEnd × PackedSlot)) (slot : Slot) (window : �
   pub is_second : IsSecondTouched old (rank_of slot.key) (slot.end + window) first second
   pub replaced : IsReplaced old (slot_with (slot_with slot first) second) first second new
 
--- the first slot in the order of periods
+-- the first slot of all, where its end and the window are below the watermark
 pub record IsFirstOpen (slots : List (ByEnd × PackedSlot)) (s : Slot) : Type 0 where
   pub here : IsOpen slots s
   pub least : (t : Slot) → IsOpen slots t → IsBefore (slot_place t) (slot_place s) → ⊥
 
--- the first slot in order, where its end plus the window is below the watermark
 abbrev pub IsFirstDue : List (ByEnd × PackedSlot) → ℕ → ℕ → Option Slot → Type 0
 IsFirstDue slots window watermark None = (s : Slot) → IsOpen slots s → watermark ≤ s.end + window
 IsFirstDue slots window watermark (Some s) = IsFirstOpen slots s × (s.end + window < watermark)

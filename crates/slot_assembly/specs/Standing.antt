@@ -1,4 +1,4 @@
--- The state that an assembly stands for, and the period that it gives next.
+-- What an assembly stands for, and what it gives next.
 use Rattle.std.specs.Prelude.{ℕ, ◌+◌, ◌<◌, List, [], ◌∷◌, ◌++◌, Option, None, Some}
 use Rattle.nav_eph.specs.declared.part.Part.{Part}
 use Rattle.periods.specs.declared.key.Place.{Place}
@@ -12,63 +12,64 @@ pub record Standing : Type 0 where
   pub watermark : ℕ
   pub last : Option Place
 
--- the assembly stands for some state with this property
+-- there is something that it stands for, and that has this property
 abbrev pub Stood : (Standing → Type 0) → (Standing → Type 0) → Type 0
 Stood now property = (at : Standing) × now at × property at
 
--- every state that the assembly stands for has this property
+-- all that it stands for has this property
 abbrev pub Tells : (Standing → Type 0) → (Standing → Type 0) → Type 0
 Tells now property = (at : Standing) → now at → property at
 
--- the effect of a call: of each state that the assembly stood for before, it stands for the changed one after it
+-- a call that makes this change: if the assembly stood for some parts, watermark and last period before the call, it stands for
+-- the changed ones after it
 abbrev pub Carries : (Standing → Type 0) → (Standing → Type 0) → (Standing → Standing) → Type 0
 Carries old new change = (at : Standing) → old at → new (change at)
 
--- the state before the first part
+-- nothing yet
 abbrev pub nothing_yet : Standing
 nothing_yet = record { parts = []; watermark = 0; last = None }
 
--- the same state
+-- the same
 abbrev pub unchanged : Standing → Standing
 unchanged at = at
 
--- one more part taken
+-- with one part more
 abbrev pub taking : Part → Standing → Standing
 taking part at = record { parts = at.parts ++ part ∷ []; watermark = at.watermark; last = at.last }
 
--- further parts taken, in this order
+-- with these parts more, in this order
 abbrev pub adding : List Part → Standing → Standing
 adding parts at = record { parts = at.parts ++ parts; watermark = at.watermark; last = at.last }
 
--- other parts in their place
+-- with other parts in their place
 abbrev pub with_parts : List Part → Standing → Standing
 with_parts parts at = record { parts = parts; watermark = at.watermark; last = at.last }
 
--- a higher watermark
+-- at a watermark
 abbrev pub reaching : ℕ → Standing → Standing
 reaching watermark at = record { parts = at.parts; watermark = watermark; last = at.last }
 
--- a watermark, and a period given
+-- at a watermark, with a period given
 abbrev pub giving : ℕ → Place → Standing → Standing
 giving watermark place at = record { parts = at.parts; watermark = watermark; last = Some place }
 
--- the period is after the last one given, if any
+-- behind the last period given
 abbrev pub IsAfter : Option Place → Place → Type 0
 IsAfter None place = Unit {0}
 IsAfter (Some last) place = IsBefore last place
 
--- a period that is closed at the watermark and not given yet
+-- a period that is closed at the watermark, and was not given yet
 pub record IsDue (window : ℕ) (parts : Part → Type 0) (watermark : ℕ) (last : Option Place) (place : Place) : Type 0 where
   pub period : IsPeriod window parts place
   pub low : place.end + window < watermark
   pub after : IsAfter last place
 
--- the first period due, with its verdict
+-- the first of these
 pub record IsNext (r window : ℕ) (parts : Part → Type 0) (watermark : ℕ) (last : Option Place) (closed : Closed) : Type 0 where
   pub due : IsDue window parts watermark last (closed_place closed)
   pub verdict : IsClosed r window parts closed
   pub least : (place : Place) → IsDue window parts watermark last place → IsBefore place (closed_place closed) → ⊥
 
--- no period is due
+-- there is none
 abbrev pub NoneDue : ℕ → (Part → Type 0) → ℕ → Option Place → Type 0
 NoneDue window parts watermark last = (place : Place) → IsDue window parts watermark last place → ⊥

@@ -1,4 +1,4 @@
-//! The stored health, without duplicates, by satellite and stamp, with an index by stamp.
+//! The health that is kept, each one once, by satellite and stamp, with an index by stamp.
 
 ghost use Rattle.std.specs.Prelude.{◌≡◌, ◌<◌, OnOk, OnErr, Some, None};
 ghost use Rattle.std.specs.BTreeSet.{btree_set_len};
@@ -16,14 +16,14 @@ use periods::Key;
 use std::alloc::AllocError;
 use std::collections::{BTreeMap, BTreeSet};
 
-/// The stored health, and an index of it by stamp.
+/// The health that is kept, and an index of it by stamp.
 #[derive(Drop)]
 pub struct Healths {
     pub heard: BTreeMap<BySat, (u32, GalHealth, SentTag)>,
     pub stamps: BTreeSet<ByStamp>,
 }
 
-// The last health below a place.
+// The last health at a place below another.
 fn last_below(
     heard: &BTreeMap<BySat, (u32, GalHealth, SentTag)>,
     at: BySat,
@@ -34,7 +34,7 @@ fn last_below(
     Some((*place, *health))
 }
 
-// The first health at or after a place.
+// The first health at a place or above it.
 fn first_above(
     heard: &BTreeMap<BySat, (u32, GalHealth, SentTag)>,
     at: BySat,
@@ -45,7 +45,7 @@ fn first_above(
     Some((*place, *health))
 }
 
-// The health found before an end, where it is of the satellite and within the window.
+// What was found up to an end, where it is of the satellite and within the window.
 fn near_before(
     found: Option<(BySat, (u32, GalHealth, SentTag))>,
     sat: Sat,
@@ -62,7 +62,7 @@ fn near_before(
     }
 }
 
-// The health found after an end, where it is of the satellite and within the window.
+// What was found behind an end, where it is of the satellite and within the window.
 fn near_after(
     found: Option<(BySat, (u32, GalHealth, SentTag))>,
     sat: Sat,
@@ -79,7 +79,7 @@ fn near_after(
     }
 }
 
-// The first option, or the second where it is `None`.
+// The first of two that is there.
 fn either(
     one: Option<(u32, GalHealth, SentTag)>,
     other: Option<(u32, GalHealth, SentTag)>,
@@ -93,7 +93,7 @@ fn either(
 }
 
 impl Healths {
-    // The satellite's health near an end: the last one up to it, or else the first one after it.
+    // The satellite's health near an end: the last up to it, else the first behind it.
     fn look(&self, sat: Sat, window: u32, end: u32) -> Option<(u32, GalHealth, SentTag)>
         ensures { IsLooked self.now.heard.entries sat window end result }
     {
@@ -106,7 +106,7 @@ impl Healths {
         )
     }
 
-    // The health that a period of the key with that end takes; `None` unless it is of Galileo ephemerides.
+    // The health that counts for a period of the key with that end.
     pub(crate) fn choose(
         &self,
         window: u32,
@@ -121,7 +121,7 @@ impl Healths {
         }
     }
 
-    // Stores a satellite's health.
+    // Keeps a health of a satellite.
     fn put(&mut self, sat: Sat, health: (u32, GalHealth, SentTag)) -> Result<(), AllocError>
         requires stamped { AreStamped self.old.heard.entries self.old.stamps.keys }
         ensures stamped { AreStamped self.new.heard.entries self.new.stamps.keys }
@@ -142,7 +142,7 @@ impl Healths {
         }
     }
 
-    // Stores the health of a part; other parts change nothing.
+    // Keeps what a part says of health.
     pub(crate) fn take(&mut self, part: &Part) -> Result<(), AllocError>
         requires stamped { AreStamped self.old.heard.entries self.old.stamps.keys }
         ensures stamped { AreStamped self.new.heard.entries self.new.stamps.keys }
@@ -159,7 +159,7 @@ impl Healths {
         }
     }
 
-    // Removes the health at a place.
+    // Drops what is kept at a place.
     fn drop_at(&mut self, stamp: ByStamp)
         requires stamped { AreStamped self.old.heard.entries self.old.stamps.keys }
         requires there { HasStamp self.old.stamps.keys stamp }
@@ -173,7 +173,7 @@ impl Healths {
         self.stamps.remove(&stamp);
     }
 
-    // The place of the oldest health, where its stamp plus two windows is below the watermark.
+    // The oldest place, where its stamp and two windows are below the watermark.
     fn oldest(&self, window: u32, watermark: u64) -> Option<ByStamp>
         requires stamped { AreStamped self.now.heard.entries self.now.stamps.keys }
         ensures { IsOldest self.now.stamps.keys window watermark result }
@@ -186,7 +186,7 @@ impl Healths {
         }
     }
 
-    // Removes the health whose stamp plus two windows is below the watermark.
+    // Forgets what is two windows older than the watermark.
     pub(crate) fn forget(&mut self, window: u32, watermark: u64)
         requires stamped { AreStamped self.old.heard.entries self.old.stamps.keys }
         ensures stamped { AreStamped self.new.heard.entries self.new.stamps.keys }

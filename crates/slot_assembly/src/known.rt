@@ -1,4 +1,4 @@
-//! The items that later ones of the same ephemeris are compared with.
+//! The items with which later ones of the same ephemeris are compared.
 
 ghost use Rattle.std.specs.Prelude.{◌≡◌, OnOk, OnErr};
 ghost use Rattle.std.specs.List.Sorted.{IsStrictlySortedBy};
@@ -19,7 +19,7 @@ use periods::{Finding, Key};
 use std::alloc::AllocError;
 use std::collections::BTreeMap;
 
-// The types inside an item, named here because the checker loads only modules of named types.
+// The types inside an item: the check finds the modules of those alone that a function names.
 type Inside = (
     GalEph,
     GpsEph,
@@ -45,7 +45,7 @@ type Inside = (
     S<8>,
 );
 
-// The item that one of the key is compared with; `None` for an ionosphere.
+// The item with which one of the key is compared.
 pub(crate) fn item_before(known: &BTreeMap<Rank, NavItem>, key: &Key) -> Option<NavItem>
     ensures { result ≡ known_for key.now known.now.entries }
 {
@@ -57,7 +57,7 @@ pub(crate) fn item_before(known: &BTreeMap<Rank, NavItem>, key: &Key) -> Option<
     }
 }
 
-// The item to store for later comparison: that of a complete ephemeris.
+// The item of a finding that is compared with later ones.
 fn kept_item(key: &Key, finding: &Finding) -> Option<NavItem>
     ensures { result ≡ item_to_keep key.now finding.now }
 {
@@ -72,7 +72,7 @@ fn kept_item(key: &Key, finding: &Finding) -> Option<NavItem>
     }
 }
 
-// Stores the item of a complete ephemeris in place of the one before.
+// Keeps the item of a complete ephemeris, in the place of the one before.
 pub(crate) fn remember(
     known: &mut BTreeMap<Rank, NavItem>,
     key: &Key,

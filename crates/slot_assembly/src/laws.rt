@@ -7,7 +7,7 @@ ghost use Rattle.periods.specs.declared.key.Place.{Place};
 ghost use Rattle.periods.specs.declared.closed.Closed.{Closed};
 ghost use Rattle.slot_assembly.specs.Standing.{IsNext};
 
-/// The next period due at a watermark is unique, and so is its verdict.
+/// One period is the first that is due at a watermark, and one verdict is said of it.
 pub fn one_next()
     ensures { (r window watermark : ℕ) (parts : List Part) (last : Option Place) (a b : Closed)
         → All IsPartValue parts → IsNext r window (Contains parts) watermark last a

@@ -1,17 +1,17 @@
-//! Assembly of periods from received parts.
+//! Issue periods, assembled while parts are heard.
 //!
-//! A satellite repeats an ephemeris in parts (GPS subframes, Galileo I/NAV words) under an issue of
-//! data; `periods` defines which parts form a period and what item they make. An [`Assembly`] takes
-//! parts as they are received, and gives each period once, in order, with its verdict, as soon as no
-//! further part can belong to it. [`add_periods`] runs any assembly over a list of parts. A continuous
-//! run calls `next_closed` at each watermark until it returns `None`.
+//! A satellite sends an ephemeris in parts, again and again, under an issue number. Which parts
+//! belong together, and what they make, stands in `periods`. An [`Assembly`] takes parts as they are
+//! heard, and gives each period once, in order, when no further part can belong to it, with its
+//! verdict. [`add_periods`] gives all periods of some parts by any assembly. A run that keeps nothing
+//! asks `next_closed` until it answers `None`, at each watermark.
 //!
-//! [`SlotAssembly`] stores one slot for each open period, with the digest of its members, in the order
-//! of periods. A new part is merged with the slots of its key within the window; a slot is removed when
-//! its period is given. Beside the slots it stores the health that a period may still take, and the
-//! item of each ephemeris' last complete period given. So memory is bounded by the contents of the
-//! window and the number of issues that were complete, whatever the length of the capture. Each call
-//! costs a few searches in ordered maps.
+//! [`SlotAssembly`] keeps one slot for each period that is still open, with what its members come
+//! to, in the order of periods. A slot is joined with what a new part touches, and gone when its
+//! period is given. Beside the slots it keeps the health that may still count, and of each ephemeris
+//! the item of the last complete period given. So memory is bounded by what the window holds and by
+//! the issues that were complete, however long the capture; each call costs a few searches in
+//! ordered maps.
 //!
 //! ```rust
 //! use gnss_week::RefWeek;

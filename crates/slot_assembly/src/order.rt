@@ -1,4 +1,4 @@
-//! The orders in which slots and health are stored.
+//! Orders in which slots and health are kept.
 
 ghost use Rattle.std.specs.Prelude.{◌≡◌, ◌==◌, ◌&&◌};
 ghost use Rattle.nav_eph.specs.Numbers.{health_number};
@@ -8,7 +8,7 @@ ghost use Rattle.slot_assembly.specs.Order.{is_of_sat, place_of_health, rank_of,
 use nav_eph::{GalHealth, Sat, SentTag};
 use periods::{Key, system_number};
 
-/// The numbers by which keys are ordered: class, system, satellite number, and issue of data or content.
+/// The numbers by which keys are ordered: class, system, satellite, and issue or content.
 #[derive(Clone, Copy, PartialEq, Eq, PartialOrd, Ord)]
 pub struct Rank {
     pub class: u8,
@@ -17,7 +17,7 @@ pub struct Rank {
     pub issue: u64,
 }
 
-/// The place of a slot in the order of periods: by end, then by key.
+/// The place of a slot in the order of periods.
 #[derive(Clone, Copy, PartialEq, Eq, PartialOrd, Ord)]
 pub struct ByEnd {
     pub end: u64,
@@ -27,7 +27,7 @@ pub struct ByEnd {
     pub issue: u64,
 }
 
-/// The place of a slot among those of its key: by key, then by end.
+/// The place of a slot among those of its key.
 #[derive(Clone, Copy, PartialEq, Eq, PartialOrd, Ord)]
 pub struct ByKey {
     pub class: u8,
@@ -37,30 +37,30 @@ pub struct ByKey {
     pub end: u64,
 }
 
-/// The place of a health among those of its satellite: by stamp, then by its bits.
+/// The place of a health among those of its satellite.
 #[derive(Clone, Copy, PartialEq, Eq, PartialOrd, Ord)]
 pub struct BySat {
     pub system: u8,
     pub number: u8,
     pub stamp: u64,
-    pub bit_pattern: u64,
+    pub digits: u64,
 }
 
-/// The place of a health among all: by stamp, the oldest first.
+/// The place of a health among all, the oldest first.
 #[derive(Clone, Copy, PartialEq, Eq, PartialOrd, Ord)]
 pub struct ByStamp {
     pub stamp: u64,
     pub system: u8,
     pub number: u8,
-    pub bit_pattern: u64,
+    pub digits: u64,
 }
 
-// Bytes of a place in the map, and in the index.
+// What a place takes in the map, and in the index.
 const _: () = prove!(size_of::<ByEnd>() <= 24);
 
 const _: () = prove!(size_of::<ByKey>() <= 24);
 
-// The rank of a key.
+// The numbers of a key.
 pub(crate) fn rank_of_key(key: &Key) -> Rank
     ensures { result ≡ rank_of key.now }
 {
@@ -93,7 +93,7 @@ pub(crate) fn rank_of_key(key: &Key) -> Rank
 }
 
 impl Rank {
-    // The place with an end in the order of periods.
+    // The place with an end, in the order of periods.
     pub(crate) fn at_end(self, end: u64) -> ByEnd
         ensures { result ≡ by_end self end }
     {
@@ -106,7 +106,7 @@ impl Rank {
         }
     }
 
-    // The place with an end among those of the key.
+    // The place with an end, among those of the key.
     pub(crate) fn with_end(self, end: u64) -> ByKey
         ensures { result ≡ by_key self end }
     {
@@ -121,7 +121,7 @@ impl Rank {
 }
 
 impl ByKey {
-    // The place is one of the key with that rank.
+    // It is a place of the key with those numbers.
     pub(crate) fn is_of(self, rank: Rank) -> bool
         ensures { result ≡ is_of_rank rank self }
     {
@@ -139,7 +139,7 @@ impl BySat {
         self.system == system_number(sat.system()) && self.number == sat.number()
     }
 
-    // The place by stamp.
+    // The same among all.
     pub(crate) fn among_all(self) -> ByStamp
         ensures { result ≡ by_stamp self }
     {
@@ -147,13 +147,13 @@ impl BySat {
             stamp: self.stamp,
             system: self.system,
             number: self.number,
-            bit_pattern: self.bit_pattern,
+            digits: self.digits,
         }
     }
 }
 
 impl ByStamp {
-    // The place by satellite.
+    // The same among those of the satellite.
     pub(crate) fn of_sat(self) -> BySat
         ensures { result ≡ sat_place self }
     {
@@ -161,24 +161,24 @@ impl ByStamp {
             system: self.system,
             number: self.number,
             stamp: self.stamp,
-            bit_pattern: self.bit_pattern,
+            digits: self.digits,
         }
     }
 }
 
-// A place by satellite, stamp and bits.
-pub(crate) fn place_in_sat(sat: Sat, stamp: u64, bit_pattern: u64) -> BySat
-    ensures { result ≡ by_sat sat stamp bit_pattern }
+// A place of the satellite's health.
+pub(crate) fn place_in_sat(sat: Sat, stamp: u64, digits: u64) -> BySat
+    ensures { result ≡ by_sat sat stamp digits }
 {
     BySat {
         system: system_number(sat.system()),
         number: sat.number(),
         stamp,
-        bit_pattern,
+        digits,
     }
 }
 
-// The place of a satellite's health.
+// The place of a health.
 pub(crate) fn place_of_heard(sat: Sat, health: &(u32, GalHealth, SentTag)) -> BySat
     ensures { result ≡ place_of_health sat health.now }
 {

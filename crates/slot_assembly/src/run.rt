@@ -1,4 +1,4 @@
-//! The periods of a list of parts by any assembly.
+//! The periods of a list of parts, by any assembly.
 
 ghost use Rattle.std.specs.Prelude.{◌≡◌, ◌<◌, ◌≤◌, ◌^◌, List, [], OnOk};
 ghost use Rattle.nav_eph.specs.declared.part.Part.{Part};
@@ -11,7 +11,7 @@ use nav_eph::Part;
 use periods::Closed;
 use std::alloc::AllocError;
 
-// Adds to an empty list all periods closed at the greatest watermark.
+// Adds to an empty list all that is closed at the last watermark.
 fn give_all<A: Assembly>(assembly: &mut A, given: &mut Vec<Closed>) -> Result<(), AllocError>
     requires stood { Stood (A.stands_for assembly.old) (λ at. at.watermark ≤ 0) }
     requires given { given.old.items ≡ [] }
@@ -28,8 +28,8 @@ fn give_all<A: Assembly>(assembly: &mut A, given: &mut Vec<Closed>) -> Result<()
     Ok(())
 }
 
-/// Adds to an empty list the periods of the parts, in order, with their verdicts, by an assembly without
-/// parts. `AllocError` where memory runs out.
+/// The periods of some parts, in order, each with its verdict, by an assembly that has taken none
+/// yet.
 pub fn add_periods<A: Assembly>(
     assembly: &mut A,
     parts: &[Part],

@@ -1,4 +1,4 @@
-//! A slot: the stored form of an open period.
+//! A slot: what is kept of an open period.
 
 ghost use Rattle.std.specs.Prelude.{◌≡◌, IfOk, Some};
 ghost use Rattle.periods.specs.DigestsOf.{digest_join};
@@ -14,35 +14,35 @@ use nav_eph::{
 use periods::{Digest, GalDigest, GpsDigest, Key, Seen, Transmission, key_of_part};
 use std::alloc::{AllocError, Global};
 
-/// An open period: its key, the stamps of its first and last member, and the digest of its
-/// members.
+/// An open period: its key, the stamps of its first and its last member, and what its members come
+/// to.
 #[derive(Clone, Copy)]
 pub struct Slot {
-    /// The key of its parts.
+    /// What its parts are parts of.
     pub key: Key,
     /// The stamp of the first member.
     pub start: u32,
     /// The stamp of the last member.
     pub end: u32,
-    /// The digest of the members.
+    /// What the members come to.
     pub digest: Digest,
 }
 
-/// The slot of an ionosphere, as stored.
+/// A slot of an ionosphere, as it is kept.
 #[derive(Clone, Copy)]
 pub struct IonSlot {
-    /// The key of its parts.
+    /// What its parts are parts of.
     pub key: Key,
     /// The stamp of the first member.
     pub start: u32,
     /// The stamp of the last member.
     pub end: u32,
-    /// The earliest transmission.
+    /// The sending that came first.
     pub transmission: Transmission,
 }
 
-/// A slot as stored. That of an ephemeris, four times as large as that of an ionosphere, is in a box, so
-/// that many ionospheres take little memory.
+/// A slot as it is kept. That of an ephemeris is four times as large as that of an ionosphere and
+/// stands in a box, so that many ionospheres take little.
 #[derive(Drop)]
 pub enum PackedSlot {
     /// Of an ephemeris.
@@ -51,12 +51,12 @@ pub enum PackedSlot {
     Ionosphere(IonSlot),
 }
 
-// Bytes of a slot in the map, and of an ephemeris' slot in its box.
+// What a slot takes in the map, and what an ephemeris takes in its box besides.
 const _: () = prove!(size_of::<PackedSlot>() <= 112);
 
 const _: () = prove!(size_of::<Slot>() <= 456);
 
-// The earlier of a transmission and that of another slot of the ionosphere.
+// The earlier of a sending and that of another slot of an ionosphere.
 fn earlier(transmission: &Transmission, other: &PackedSlot) -> Transmission
     ensures { Ion result ≡ digest_join (Ion transmission.now) (slot_of other.now).digest }
 {
@@ -69,7 +69,7 @@ fn earlier(transmission: &Transmission, other: &PackedSlot) -> Transmission
 }
 
 impl Slot {
-    // Merges another slot of its key into it.
+    // Joins another slot of its key into it.
     fn add(&mut self, other: &Slot)
         ensures { self.new ≡ slot_with self.old (Some other.now) }
     {
@@ -80,7 +80,7 @@ impl Slot {
 }
 
 impl IonSlot {
-    // Merges another slot of its key into it.
+    // Joins another slot of its key into it.
     fn add(&mut self, other: &PackedSlot)
         ensures { slot_of (Ionosphere self.new) ≡ slot_with (slot_of (Ionosphere self.old))
             (Some (slot_of other.now)) }
@@ -107,7 +107,7 @@ impl PackedSlot {
         }
     }
 
-    // Unpacks the slot.
+    // The slot that was packed.
     pub(crate) fn slot(&self) -> Slot
         ensures { result ≡ slot_of self.now }
     {
@@ -142,7 +142,7 @@ impl PackedSlot {
         }
     }
 
-    // The digest of its members.
+    // What its members come to.
     fn digest(&self) -> Digest
         ensures { result ≡ (slot_of self.now).digest }
     {
@@ -152,7 +152,7 @@ impl PackedSlot {
         }
     }
 
-    // Merges another slot of its key into it, in place.
+    // Joins another slot of its key into it, where it stands.
     pub(crate) fn add(&mut self, other: &PackedSlot)
         ensures { slot_of self.new ≡ slot_with (slot_of self.old) (Some (slot_of other.now)) }
     {

@@ -1,4 +1,4 @@
-//! The slots of open periods in the order of periods, with an index by key and end.
+//! The slots of open periods, in the order of periods, with an index by key and end.
 
 ghost use Rattle.std.specs.Prelude.{◌≡◌, ◌<◌, ◌≤◌, ℕ, Some};
 ghost use Rattle.std.specs.Prelude.{None, IfSome, IfNone, IsSome, OnOk, OnErr};
@@ -31,7 +31,7 @@ pub struct OpenSlots {
     pub ends: BTreeSet<ByKey>,
 }
 
-// The types inside a slot, named here because the checker loads only modules of named types.
+// The types inside a slot: the check finds the modules of those alone that a function names.
 type Inside = (
     Seen<GpsClock>,
     GpsDigest,
@@ -56,7 +56,7 @@ type Inside = (
     Slot,
 );
 
-// The key's first end at or after a stamp.
+// The first end of a key from a stamp on.
 fn next_end(ends: &BTreeSet<ByKey>, rank: Rank, from: u64) -> Option<u64>
     ensures some { IfSome result (λ e. HasEnd ends.now.keys rank e) }
     ensures from { IfSome result (λ e. from ≤ e) }
@@ -72,7 +72,7 @@ fn next_end(ends: &BTreeSet<ByKey>, rank: Rank, from: u64) -> Option<u64>
     }
 }
 
-// The slot at a place.
+// The slot that is kept at a place.
 fn slot_at(slots: &BTreeMap<ByEnd, PackedSlot>, at: ByEnd) -> Option<&PackedSlot>
     ensures { packed_in result ≡ kept_at slots.now.entries at }
 {
@@ -80,7 +80,7 @@ fn slot_at(slots: &BTreeMap<ByEnd, PackedSlot>, at: ByEnd) -> Option<&PackedSlot
 }
 
 impl OpenSlots {
-    // The key's first slot that ends at or after a stamp.
+    // The first slot of a key that ends from a stamp on.
     fn first_from(&self, rank: Rank, from: u64) -> Option<&PackedSlot>
         requires indexed { AreIndexed self.now.slots.entries self.now.ends.keys }
         ensures { IsFirstFrom self.now.slots.entries rank from (packed_in result) }
@@ -91,7 +91,7 @@ impl OpenSlots {
         }
     }
 
-    // That slot, where it also starts no later than a limit.
+    // The same, where it begins by a limit.
     fn first_touched(&self, rank: Rank, from: u64, limit: u64) -> Option<&PackedSlot>
         requires indexed { AreIndexed self.now.slots.entries self.now.ends.keys }
         ensures { IsFirstTouched self.now.slots.entries rank from limit (packed_in result) }
@@ -108,7 +108,7 @@ impl OpenSlots {
         }
     }
 
-    // Adds that slot to `packed`, and returns its end.
+    // Joins that one into a slot, and gives its end.
     fn join_first(&self, rank: Rank, from: u64, limit: u64, packed: &mut PackedSlot) -> Option<u32>
         requires indexed { AreIndexed self.now.slots.entries self.now.ends.keys }
         ensures { IsJoinedWithFirst self.now.slots.entries rank from limit (slot_of packed.old)
@@ -123,8 +123,7 @@ impl OpenSlots {
         }
     }
 
-    // Adds the key's next slot after the first one, where it starts no later than a limit, and returns
-    // its end.
+    // Joins the slot behind a first one, where it begins by a limit, and gives its end.
     fn join_second(
         &self,
         rank: Rank,
@@ -142,7 +141,7 @@ impl OpenSlots {
         }
     }
 
-    // Inserts a slot, and its end into the index.
+    // Puts a slot at its place.
     fn put(&mut self, rank: Rank, packed: PackedSlot) -> Result<(), AllocError>
         requires indexed { AreIndexed self.old.slots.entries self.old.ends.keys }
         requires rank { rank ≡ rank_of (slot_of packed).key }
@@ -164,7 +163,7 @@ impl OpenSlots {
         }
     }
 
-    // Removes the slot of a key with an end, and that end from the index.
+    // Drops the slot of a key with an end.
     fn drop_at(&mut self, rank: Rank, end: u64)
         requires indexed { AreIndexed self.old.slots.entries self.old.ends.keys }
         ensures indexed { AreIndexed self.new.slots.entries self.new.ends.keys }
@@ -178,7 +177,7 @@ impl OpenSlots {
         self.slots.remove(&rank.at_end(end));
     }
 
-    // Removes a slot.
+    // Drops a slot.
     pub(crate) fn drop_slot(&mut self, slot: &Slot)
         requires indexed { AreIndexed self.old.slots.entries self.old.ends.keys }
         ensures indexed { AreIndexed self.new.slots.entries self.new.ends.keys }
@@ -190,7 +189,7 @@ impl OpenSlots {
         self.drop_at(rank_of_key(&slot.key), slot.end as u64);
     }
 
-    // Removes the slot of a key with the end `other`, if there is one and `other` is not `end`.
+    // Drops the slot of a key with an end, if there is one and it ends elsewhere.
     fn drop_other(&mut self, rank: Rank, other: Option<u32>, end: u32)
         requires indexed { AreIndexed self.old.slots.entries self.old.ends.keys }
         ensures indexed { AreIndexed self.new.slots.entries self.new.ends.keys }
@@ -206,7 +205,7 @@ impl OpenSlots {
         }
     }
 
-    // Replaces the slots of a key with two ends by one slot.
+    // Puts a slot in the place of those of its key with two ends.
     fn replace(
         &mut self,
         rank: Rank,
@@ -228,7 +227,7 @@ impl OpenSlots {
         Ok(())
     }
 
-    // Adds the slot of a new part, merged with the one or two slots of its key that lie within the window.
+    // Takes the slot of a new part, joined with those of its key that it touches.
     pub(crate) fn take(&mut self, one: Slot, window: u32) -> Result<(), AllocError>
         requires indexed { AreIndexed self.old.slots.entries self.old.ends.keys }
         ensures indexed { AreIndexed self.new.slots.entries self.new.ends.keys }
@@ -245,7 +244,7 @@ impl OpenSlots {
         self.replace(rank, packed, first, second)
     }
 
-    // The first slot in order, where its end plus the window is below the watermark.
+    // The first slot of all, where its end and the window after it are below the watermark.
     pub(crate) fn first_due(&self, window: u32, watermark: u64) -> Option<Slot>
         requires indexed { AreIndexed self.now.slots.entries self.now.ends.keys }
         ensures { IsFirstDue self.now.slots.entries window watermark result }

@@ -1,4 +1,4 @@
-//! The assembly that stores open periods in slots.
+//! The assembly in slots.
 
 ghost use Rattle.std.specs.Prelude.{◌≡◌, ◌≤◌, ◌<◌, ◌+◌};
 
@@ -15,13 +15,13 @@ use std::alloc::{AllocError, Global};
 use std::collections::{BTreeMap, BTreeSet};
 use std::marker::Model;
 
-/// An assembly that stores a slot for each open period.
+/// An assembly that keeps a slot for each open period, joined and given as parts come.
 ///
-/// A contract sees all its state: the reference week `reference`, the `window` in seconds, the `slots`
-/// of the open periods and their index `ends`, the health `heard` that a period may still take and its
-/// index `stamps`, the greatest `watermark` given, the `last` period given, the greatest watermark
-/// `none_at` at which no period was due, and in `known` for each ephemeris the item of the last
-/// complete period given.
+/// A contract sees all that it keeps: the week `reference` near which it listens, the `window` in
+/// seconds, the `slots` of the open periods and the index `ends` of them, the health `heard` that
+/// may still count and the index `stamps` of it, the greatest `watermark` given, the `last` period
+/// given, the greatest watermark `none_at` at which there was none to give, and as `known` for each
+/// ephemeris the item of the last complete period given.
 #[derive(Drop)]
 pub struct SlotAssembly {
     held: OpenSlots,
@@ -57,7 +57,7 @@ impl SlotAssembly {
     ghost use Rattle.slot_assembly.specs.SlotStanding.{SlotsStandFor};
     ghost use Rattle.slot_assembly.specs.Standing.{nothing_yet};
 
-    /// An assembly without parts, for the reference week `r` and a window of 60 to 14,400 seconds.
+    /// An assembly of no parts, near the week `r`, with a window of 60 to 14,400 seconds.
     pub fn new(alloc: Global, r: RefWeek, window: u32) -> SlotAssembly
         requires least { 60 ≤ window }
         requires most { window ≤ 14400 }

@@ -1,4 +1,4 @@
--- Ephemerides that are read from frames are equal where the same message encodes them.
+-- Ephemerides that are read of frames are equal where the same message is sent for them.
 use Rattle.std.proofs.Common.{◌≡◌, ◌↔◌, ℕ, ◌≤◌, ◌||◌, Bool, true, false, List, [], ◌∷◌, length, refl, sym, ap, subst, ◌∙◌, arith}
 use Rattle.std.specs.Prelude.{Result, Ok, Err, IfOk}
 use Rattle.std.specs.declared.cmp.Ordering.{Ordering}
@@ -42,7 +42,7 @@ pub record Laws (r : ℕ) : Type 0 where
       → GivesItem week (content_of payload) answer → answer ≡ Ok (Gal (record e { sent = Unknown }))
   pub decides : (a b : NavItem) → (same_item a b ≡ true) ↔ (a ≡ b)
 
--- an ephemeris that is read for the reference week
+-- an ephemeris that is read near the week
 record ReadGps (r : ℕ) (e : GpsEph) : Type 0 where
   is : IsGps e
   near : IsNearGps r e.toe_week
@@ -55,7 +55,7 @@ record ReadGal (r : ℕ) (e : GalEph) : Type 0 where
   ranges : HasGalRanges e
   unsent : record e { sent = Unknown } ≡ e
 
--- an item that is read for the reference week: an ephemeris
+-- an item that is read near the week: an ephemeris
 abbrev IsRead : ℕ → NavItem → Type 0
 IsRead r (Gps e) = ReadGps r e
 IsRead r (Gal e) = ReadGal r e

@@ -1,4 +1,4 @@
--- The decided frames of bytes, when more bytes are appended.
+-- The decided frames of bytes, with more bytes behind.
 use Rattle.std.proofs.Common.{◌≡◌, ℕ, zero, suc, ◌+◌, ◌-◌, ◌<◌, ◌≤◌, ◌&&◌, nat_lt, nat_le, nat_eq, Bool, true, false, cond, List, [], ◌∷◌, ◌++◌, length, take, drop, refl, sym, ap, ◌∙◌, inl, inr, arith, length-append}
 use Rattle.std.proofs.lemmas.Bool.{and_left, and_right, and_cases, and_parts, ltb-true, ltb-false, leb-true, le-ltb, le-leb, cond_both}
 use Rattle.std.proofs.lemmas.List.{take-append-le}
@@ -18,7 +18,7 @@ not_started x (y ∷ z ∷ zs) h = and_left (nat_eq x 211) _ h
 ends_later : (size m n : ℕ) → nat_lt (m + 3) size ≡ false → m ≤ n → nat_lt (n + 3) size ≡ false
 ends_later size m n e h = let ends : size ≤ m + 3 = ltb-false _ _ e in le-ltb _ _ (omega arith)
 
--- appended bytes don't open what isn't open
+-- more bytes behind don't open what isn't open
 open-append : (x : ℕ) (xs ys : List ℕ) → is_open (x ∷ xs) ≡ false → is_open (x ∷ (xs ++ ys)) ≡ false
 unfolding is_open
 open-append x [] ys h = not_started x ys h
@@ -36,7 +36,7 @@ no_start x [] h = refl
 no_start x (y ∷ []) h = refl
 no_start x (y ∷ z ∷ zs) h = rw h refl
 
--- appended bytes don't change the frame that begins where it isn't open
+-- more bytes behind don't change the frame that begins where it isn't open
 size-append : (x : ℕ) (xs ys : List ℕ) → is_open (x ∷ xs) ≡ false → frame_size (x ∷ (xs ++ ys)) ≡ frame_size (x ∷ xs)
 unfolding is_open frame_size
 size-append x [] ys h = no_start x ys h
@@ -67,9 +67,9 @@ size_le (x ∷ y ∷ []) = omega arith
 size_le (x ∷ y ∷ z ∷ zs) =
     omega (arith, sized_le (announced y z) (length zs) (nat_eq x 211) (is_right (take (announced y z) (x ∷ y ∷ z ∷ zs))))
 
--- ---- bytes appended
+-- ---- more bytes behind
 
--- the decided frames with bytes appended, past the first k bytes
+-- the decided frames with more bytes behind, past the first k bytes
 abbrev Decide : List ℕ → List ℕ → ℕ → Type 0
 Decide bytes more k = frames_past true (bytes ++ more) k ≡ frames_past true bytes k ++ frames_past true (open_past bytes k ++ more) 0
 

@@ -1,4 +1,4 @@
--- Laws of the frames found between two rests of bytes.
+-- Laws of what was given between two rests.
 use Rattle.std.proofs.Common.{◌+◌, ℕ, Bool, true, List, [], ◌++◌, refl, sym, ap, ◌∙◌, arith, subst, append_assoc, length-append}
 use Rattle.std.specs.Prelude.{Option}
 use Rattle.std.specs.Io.KnownBytes.{Appends}
@@ -32,7 +32,7 @@ goes_on line more a b c u v w k m n first second = record {
   counts = omega (arith, first.counts, second.counts, length-append first.given second.given);
 }
 
--- bytes were appended
+-- bytes came behind
 pub goes_fed : (line : List ℕ → List ℕ) (a b c : List ℕ) (v w : Option (List ℕ)) (k n : ℕ) → Goes line true a b v w k n → Goes line true (a ++ c) (b ++ c) v w k n
 goes_fed line a b c v w k n goes = record {
   given = goes.given;

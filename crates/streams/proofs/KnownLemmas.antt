@@ -1,4 +1,4 @@
--- Payloads in the cache: each is read as an item that was given.
+-- Payloads that are kept as they came: each is read as an item that was given.
 use Rattle.std.proofs.Common.{◌≡◌, ℕ, ◌||◌, Bool, true, false, List, refl, sym, subst, ◌∙◌, inl, inr}
 use Rattle.std.specs.Prelude.{Option, None, Some, Ok, IfSome, slice_get}
 use Rattle.std.specs.List.{All}
@@ -69,7 +69,7 @@ pub is_known : (r : ℕ) (g : GivenState) (payload : List ℕ) → StandsIn g pa
 is_known r g payload (inl gps) known = place_known r g g.gps_seen gps.0 payload gps.1 known.0
 is_known r g payload (inr gal) known = place_known r g g.gal_seen gal.0 payload gal.1 known.1
 
--- an item that has the same message as one given was given as well
+-- what is sent alike was given as well
 alike_given : (g : GivenState) (a b : NavItem) → is_given g a ≡ true → sent_alike a b ≡ true → is_given g b ≡ true
 alike_given g (Gps a) (Gps b) given alike = subst (λ (key : List ℕ). has_key g.gps key ≡ true) (equal_keys (bytes_1019 a) (bytes_1019 b) alike) given
 alike_given g (Gal a) (Gal b) given alike = subst (λ (key : List ℕ). has_key g.gal key ≡ true) (equal_keys (bytes_1046 a) (bytes_1046 b) alike) given

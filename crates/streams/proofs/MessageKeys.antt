@@ -1,4 +1,4 @@
--- Which messages the set has once one was added.
+-- What is found among messages once one was added.
 use Rattle.std.proofs.Common.{◌≡◌, ℕ, ◌<◌, ◌||◌, Bool, true, false, cond, List, [], ◌∷◌, ◌++◌}
 use Rattle.std.proofs.Common.{length, refl, sym, ap, subst, ◌∙◌, ⊎_elim, arith}
 use Rattle.std.specs.Prelude.{Option, None, Some, Result, Ok, Err, IfSome, OnOk, slice_get}
@@ -86,7 +86,7 @@ first_stays list message other (Some place) within =
     let there = before_end list message place within in
     ap (λ (x : Option Message). Some (stands_in x other)) there
 
--- a message was appended to the list, as the first with its hash
+-- a message was put behind the list, as the first with its hash
 adds_first : (firsts new : Places) (list : List Message) (others : BTreeSet Message)
     → (message : Message)
     → ((hash : ℕ) → IfSome (place_of_hash firsts.entries hash) (λ place. place < length list))

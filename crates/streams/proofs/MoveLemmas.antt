@@ -84,7 +84,7 @@ moves_on r prefix text more a b d w w1 w2 u u1 u2 g g1 g2 c c1 c2 first second =
       (second.goes (past ++ first.frames_are) start begun (first.goes past start begun far));
 }
 
--- bytes were appended
+-- bytes came behind
 unfoldable pub moves_fed : (r : ℕ) (prefix : List ℕ) (text : NavItem → List ℕ) (a b d : List ℕ) (w w1 u u1 : Option (List ℕ)) (g g1 : GivenState) (c c1 : StreamCounts)
     → StreamMoves r prefix text true a b w w1 u u1 g g1 c c1 → StreamMoves r prefix text true (a ++ d) (b ++ d) w w1 u u1 g g1 c c1
 moves_fed r prefix text a b d w w1 u u1 g g1 c c1 moves = record {
@@ -116,7 +116,7 @@ stops_on r prefix text more a b w w1 w2 u u1 u2 g g1 c c1 first stops = record {
       (stops.breaks (past ++ first.frames_are) start begun (first.goes past start begun far)));
 }
 
--- bytes were appended
+-- bytes came behind
 pub stops_fed : (r : ℕ) (prefix : List ℕ) (text : NavItem → List ℕ) (a d : List ℕ) (w w1 u u1 : Option (List ℕ)) (g : GivenState) (c : StreamCounts)
     → StreamStops r prefix text true a w w1 u u1 g c → StreamStops r prefix text true (a ++ d) w w1 u u1 g c
 stops_fed r prefix text a d w w1 u u1 g c stops = record {

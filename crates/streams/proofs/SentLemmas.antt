@@ -1,4 +1,4 @@
--- A payload from which an ephemeris was read begins with the message that encodes it.
+-- A payload of which an ephemeris was read has the message that is sent for it.
 use Rattle.std.proofs.Common.{◌≡◌, ℕ, ◌<◌, List, length, take, sym, ap, ◌∙◌, arith}
 use Rattle.std.proofs.Math.Seq.{take-length}
 use Rattle.nav_bits.specs.Bits.{bit, number_at, Puts}

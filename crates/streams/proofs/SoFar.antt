@@ -132,7 +132,7 @@ broke b a fault taken silent consumes text says = record {
   says = says;
 }
 
--- the counts for this number of frames
+-- the counts of so many frames
 abbrev counts_of : ℕ → FrameCounts
 counts_of n = record { frames = n }
 
@@ -162,7 +162,7 @@ done_frames b a l1 w1 old last after taken count counted n buffer silent far fit
       reports = silent.failed;
     }
 
--- the lines of more bytes begin with those of the decided frames
+-- the lines of more bytes stand behind those of the decided frames
 more_lines : (left l1 w w1 : Option (List ℕ)) (state : DeframerState) (taken count : ℕ) → (far : RunsSoFar line_of left l1 w w1 state taken count) → (piece : List ℕ)
     → output_of line_of (far.bytes ++ piece) ≡ flushed_of line_of far.bytes ++ output_of line_of (state.rest ++ piece)
 more_lines left l1 w w1 state taken count far piece =
@@ -176,7 +176,7 @@ last_lines left l1 w w1 state taken count far = ap (output_of line_of) (sym (app
 least_all : (bytes : List ℕ) → IsPrefix (least_of line_of bytes) (flushed_of line_of bytes)
 least_all bytes = subst (λ (l : List ℕ). IsPrefix (least_of line_of l) (flushed_of line_of bytes)) (append-nil bytes) (least_before bytes [] (omega arith))
 
--- nothing was written after them
+-- nothing was written behind them
 far_between : (left l1 w w1 : Option (List ℕ)) (state : DeframerState) (taken count : ℕ) → (far : RunsSoFar line_of left l1 w w1 state taken count)
     → AppendsBetween w w1 (least_of line_of far.bytes) (output_of line_of far.bytes)
 far_between left l1 w w1 state taken count far =

@@ -46,7 +46,8 @@ output_longer prefix text (y ∷ ys) xs =
     (prefix_trans (readings_output prefix text xs) (readings_output prefix text (xs ++ y ∷ [])) (readings_output prefix text ((xs ++ y ∷ []) ++ ys))
     (output_one prefix text xs y) (output_longer prefix text ys (xs ++ y ∷ [])))
 
--- what grew by a text between two others grew by one between a prefix of the first and any text that the second begins
+-- what grew by no less than a text and at most another one did so by no less than a prefix of the one, and at most what the other
+-- begins
 between_within : (w w1 : Option (List ℕ)) (least some more whole : List ℕ) → IsPrefix least some → IsPrefix more whole → AppendsBetween w w1 some more → AppendsBetween w w1 least whole
 between_within w w1 least some more whole low high grew = record {
   prefix = grew.prefix;
@@ -70,7 +71,7 @@ least_prefix r prefix text (b ∷ bs) them (rest, is) =
 abbrev pub NoneGiven : GivenState → Type 0
 NoneGiven g = ((other : NavItem) → is_given g other ≡ false) × NothingKept g
 
--- the leading text was written, and no frame was processed
+-- the text in front was written, and no frame was taken
 begins : (r : ℕ) (prefix : List ℕ) (text : NavItem → List ℕ) (w w1 u : Option (List ℕ)) (g : GivenState) (c : StreamCounts)
     → Appends w w1 prefix → NoneGiven g → c ≡ counts_of_readings [] → Appends u u [] → StreamSoFar r prefix text [] w w1 u u g c
 begins r prefix text w w1 u g c grew none nothing same = record {
@@ -102,11 +103,11 @@ accepts : (r : ℕ) (left : Option (List ℕ)) → IfSome left (λ bytes. IsSome
 accepts r None = tt
 accepts r (Some bytes) = refl
 
--- a run that reads and reports has no object that stays untouched
+-- a run that reads and reports leaves nothing alone
 leaves : {S T U : Type 0} (prefix : List ℕ) (text : NavItem → List ℕ) (r : ℕ) (before after : World S T U) → Leaves (stream_meaning_by prefix text r) before after
 leaves prefix text r before after = record { unread = λ never. cc; silent = λ never. cc }
 
--- the leading text is not written to its end
+-- the text in front is not written to its end
 pub broke_begin : {S T U : Type 0} (r : ℕ) (prefix : List ℕ) (text : NavItem → List ℕ) (b a : World S T U)
     → AppendsPrefix b.written a.written prefix → Rose b.writes_failed a.writes_failed → a.left ≡ b.left → a.reported ≡ b.reported
     → Broke (stream_meaning_by prefix text r) b a WriteFault

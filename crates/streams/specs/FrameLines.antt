@@ -6,12 +6,12 @@ use Rattle.one_run.specs.Runs.{Meaning}
 use Rattle.streams.specs.declared.frame_run.FrameCounts.{FrameCounts}
 use Rattle.streams.specs.FrameRuns.{least_of, output_of, flushed_of}
 
--- the message number, the first twelve bits of the payload; a dash for a payload of fewer than two bytes
+-- the number that the payload's first twelve bits give; a dash where there are fewer than two bytes
 unfoldable pub number_text : List ℕ → List ℕ
 number_text (first ∷ second ∷ more) = decimal (first * 16 + second / 16)
 number_text few = codes "-"
 
--- the line of a frame: message number, space, length of the payload in bytes, LF
+-- the number, a space, the length of the payload in bytes, and LF
 unfoldable pub line_of : List ℕ → List ℕ
 line_of frame = number_text (payload_of frame) ++ codes " " ++ decimal (length (payload_of frame)) ++ codes "\n"
 

@@ -23,11 +23,11 @@ use Rattle.one_run.specs.declared.fault.BridgeFault.TheVariants.{ReadFault, Writ
 use Rattle.streams.specs.declared.counts.StreamCounts.{StreamCounts}
 use Rattle.streams.specs.Streams.{readings, items_of_readings, readings_output, readings_report, counts_of_readings}
 
--- the hash with the eight bytes more that begin at this bit offset
+-- a hash with the eight bytes more that stand from a place on
 abbrev pub hash_with : ℕ → List ℕ → ℕ → ℕ
 hash_with hash message at = bit_xor (hash * 11400714819323198485 % 2 ^ 64) (number_at message at 64)
 
--- a 64-bit hash of the first 61 bytes of a message
+-- the hash of a message, a number of its first 61 bytes
 unfoldable pub hash_of : List ℕ → ℕ
 hash_of message =
     let m1 = hash_with (hash_with 0 message 0) message 64 in
@@ -35,42 +35,42 @@ hash_of message =
     let m5 = hash_with (hash_with m3 message 256) message 320 in
     hash_with (hash_with m5 message 384) message 424
 
--- a set of messages: a list of those that are the first with their hash, the index by hash, and a set for hash collisions
+-- messages, each once: by hashes the places in a list of the first ones, and the others
 pub record MessagesState : Type 0 where
   pub firsts : List (ℕ × ℕ)
   pub list : List (List ℕ)
   pub others : BTreeSet (List ℕ)
 
--- the index of the first message with a hash
+-- the place of the first message with a hash
 abbrev pub place_of_hash : List (ℕ × ℕ) → ℕ → Option ℕ
 place_of_hash firsts hash = lookup (is_at (nat_cmp hash)) firsts
 
--- whether the message found is this one
+-- whether this message stands in a place
 abbrev pub stands_in : Option (List ℕ) → List ℕ → Bool
 stands_in None message = false
 stands_in (Some x) message = is_at (slice_cmp nat_cmp x) message
 
--- whether the message at an index of the list is this one, where there is an index
+-- whether this message stands at a place of a list, where there is a place
 abbrev pub first_in : List (List ℕ) → Option ℕ → List ℕ → Option Bool
 first_in list None message = None
 first_in list (Some place) message = Some (stands_in (slice_get list place) message)
 
--- whether this message is the first with its hash; None where no message has that hash
+-- whether this message is the first with its hash, where there is such a one
 abbrev pub first_of : MessagesState → List ℕ → Option Bool
 first_of s message = first_in s.list (place_of_hash s.firsts (hash_of message)) message
 
--- whether the set has a message
+-- whether a message is among them
 abbrev pub has_key : MessagesState → List ℕ → Bool
 has_key s message =
     unwrap_or (first_of s message) false || contains (slice_cmp nat_cmp) s.others message
 
--- this message was added to the set, and no other
+-- this message is among them as well, and no other one more
 abbrev pub AddsKey : MessagesState → MessagesState → List ℕ → Type 0
 AddsKey old new message =
     (other : List ℕ) → has_key new other
     ≡ (is_at (slice_cmp nat_cmp message) other || has_key old other)
 
--- what a stream gave so far: the messages of its GPS and Galileo ephemerides, and a cache of payloads as they were read
+-- what was given of a stream: the messages of its ephemerides, of GPS and of Galileo, and payloads that were read, as they came
 pub record GivenState : Type 0 where
   pub gps : MessagesState
   pub gal : MessagesState
@@ -81,68 +81,65 @@ pub record GivenState : Type 0 where
 abbrev pub NothingKept : GivenState → Type 0
 NothingKept s = (s.gps_seen ≡ replicate 256 None) × (s.gal_seen ≡ replicate 256 None)
 
--- the payload is in the cache
+-- the payload stands in a place
 abbrev pub StandsIn : GivenState → List ℕ → Type 0
 StandsIn s payload =
     ((i : ℕ) × (slice_get s.gps_seen i ≡ Some (Some payload))) ⊎ ((i : ℕ) × (slice_get s.gal_seen i ≡ Some (Some payload)))
 
--- the payload was put in one place of the cache, or nothing was
+-- the payload was put in a place, or nothing was
 abbrev pub MaySet : List (Option (List ℕ)) → List (Option (List ℕ)) → List ℕ → Type 0
 MaySet old new payload = (new ≡ old) ⊎ ((i : ℕ) × (new ≡ slice_set old i (Some payload)))
 
--- each of the two caches changed by at most this payload
 abbrev pub KeptPlaces : GivenState → GivenState → List ℕ → Type 0
 KeptPlaces old new payload = MaySet old.gps_seen new.gps_seen payload × MaySet old.gal_seen new.gal_seen payload
 
--- nothing but the cache changed, and it by at most this payload
+-- nothing else changed
 abbrev pub KeptMore : GivenState → GivenState → List ℕ → Type 0
 KeptMore old new payload = KeptPlaces old new payload × (new.gps ≡ old.gps) × (new.gal ≡ old.gal)
 
--- the item was read from the payload, for some reference week
+-- the item was read of the payload, near some reference week
 abbrev pub IsReadOf : List ℕ → NavItem → Type 0
 IsReadOf payload item = (r : ℕ) × GivesItem r (content_of payload) (Ok item)
 
--- whether an ephemeris was given before, looked up by the message that encodes it
+-- whether an ephemeris was given, by the message that is sent for it
 abbrev pub is_given : GivenState → NavItem → Bool
 is_given s (Gps e) = has_key s.gps (bytes_1019 e)
 is_given s (Gal e) = has_key s.gal (bytes_1046 e)
 is_given s (Ion e) = false
 
--- for the reference week r the payload is read as an item that was given
+-- the payload is read, near the reference week r, as an item that was given
 pub record IsKnown (r : ℕ) (s : GivenState) (payload : List ℕ) : Type 0 where
   pub item : NavItem
   pub is : item_in r payload ≡ Ok item
   pub given : is_given s item ≡ true
 
--- every payload in the cache is read as an item that was given
+-- every payload that is kept is
 abbrev pub AreKnown : ℕ → GivenState → Type 0
 AreKnown r s =
     All (λ place. IfSome place (IsKnown r s)) s.gps_seen × All (λ place. IfSome place (IsKnown r s)) s.gal_seen
 
--- two ephemerides that the same message encodes
+-- two ephemerides for which the same message is sent
 abbrev pub sent_alike : NavItem → NavItem → Bool
 sent_alike (Gps a) (Gps b) = is_at (slice_cmp nat_cmp (bytes_1019 a)) (bytes_1019 b)
 sent_alike (Gal a) (Gal b) = is_at (slice_cmp nat_cmp (bytes_1046 a)) (bytes_1046 b)
 sent_alike _ _ = false
 
--- whether one of the items has the same message as this one
+-- whether one of the items is sent as this one is
 abbrev pub any_alike : List NavItem → NavItem → Bool
 any_alike [] item = false
 any_alike (i ∷ is) item = sent_alike i item || any_alike is item
 
--- the text of an item; empty where the item was given before
+-- the text of an item, where it was not given before
 abbrev pub once_text : (NavItem → List ℕ) → Bool → NavItem → List ℕ
 once_text text before item = if before then [] else text item
 
--- the counts with one more frame that is refused
+-- the counts with a frame more that is refused, or that is not used
 abbrev pub with_refusal : StreamCounts → StreamCounts
 with_refusal c = record { frames = c.frames + 1; refused = c.refused + 1; unused = c.unused; items = c.items }
 
--- the counts with one more frame that is not used
 abbrev pub with_unused : StreamCounts → StreamCounts
 with_unused c = record { frames = c.frames + 1; refused = c.refused; unused = c.unused + 1; items = c.items }
 
--- the counts with one more frame that has this fault
 abbrev pub with_fault : StreamCounts → MessageFault → StreamCounts
 with_fault c NoNumber = with_unused c
 with_fault c (OtherMessage other) = with_unused c
@@ -151,7 +148,7 @@ with_fault c BadSat = with_refusal c
 with_fault c BadTime = with_refusal c
 with_fault c SpareSisa = with_refusal c
 
--- the counts with one more frame that yields an item, which was given before or was not
+-- the counts with a frame more that yields an item, which was given before or was not
 abbrev pub with_item : StreamCounts → Bool → StreamCounts
 with_item c before = record {
   frames = c.frames + 1;
@@ -160,7 +157,7 @@ with_item c before = record {
   items = if before then c.items else c.items + 1;
 }
 
--- The frames `past` begin the stream, and all that they give was written, reported, counted and kept.
+-- Of these frames, the first ones of a stream, what they give was written, reported, counted and kept.
 pub record StreamSoFar (r : ℕ) (prefix : List ℕ) (text : NavItem → List ℕ) (past : List (List ℕ)) (written written_new reported reported_new : Option (List ℕ)) (given : GivenState) (counts : StreamCounts) : Type 0 where
   pub output : Appends written written_new (readings_output prefix text (readings r past))
   pub report : Appends reported reported_new (readings_report 1 (readings r past))
@@ -168,32 +165,32 @@ pub record StreamSoFar (r : ℕ) (prefix : List ℕ) (text : NavItem → List �
   pub holds : (other : NavItem) → is_given given other ≡ any_alike (items_of_readings (readings r past)) other
   pub known : AreKnown r given
 
--- A prefix was written and reported of what these frames give, and no less was written than what the frames `done` give.
+-- Of what these frames give a prefix was written and reported, no less than what the first of them give.
 pub record StreamBroke (r : ℕ) (prefix : List ℕ) (text : NavItem → List ℕ) (done frames_are : List (List ℕ)) (written written_new reported reported_new : Option (List ℕ)) : Type 0 where
   pub output : AppendsBetween written written_new (readings_output prefix text (readings r done)) (readings_output prefix text (readings r frames_are))
   pub report : AppendsPrefix reported reported_new (readings_report 1 (readings r frames_are))
 
--- These frames follow those already processed, and are processed.
+-- These frames come behind others that were taken, and are taken.
 abbrev pub StreamGoes : ℕ → List ℕ → (NavItem → List ℕ) → List (List ℕ) → Option (List ℕ) → Option (List ℕ) → Option (List ℕ) → Option (List ℕ) → GivenState → GivenState → StreamCounts → StreamCounts → Type 0
 StreamGoes r prefix text more written written_new reported reported_new given given_new counts counts_new =
     (past : List (List ℕ)) (start begun : Option (List ℕ)) → StreamSoFar r prefix text past start written begun reported given counts
     → StreamSoFar r prefix text (past ++ more) start written_new begun reported_new given_new counts_new
 
--- These frames follow those already processed, and the last of them is not fully processed.
+-- These frames come behind others that were taken, and the last of them is not taken to its end.
 abbrev pub StreamBreaks : ℕ → List ℕ → (NavItem → List ℕ) → List (List ℕ) → Option (List ℕ) → Option (List ℕ) → Option (List ℕ) → Option (List ℕ) → GivenState → StreamCounts → Type 0
 StreamBreaks r prefix text more written written_new reported reported_new given counts =
     (past : List (List ℕ)) (start begun : Option (List ℕ)) → StreamSoFar r prefix text past start written begun reported given counts
     → StreamBroke r prefix text past (past ++ more) start written_new begun reported_new
 
--- These frames were found and processed, and the bytes not yet used went from `before` to `after`. Whatever bytes follow, the
--- frames of the old bytes are these and then those of the new; so are the decided ones, where more bytes may come.
+-- Between two rests of bytes these frames are given and taken, which stand before those of the new rest, whatever bytes follow: among the
+-- frames of the bytes, and, where more bytes may come, among those that are decided.
 pub record StreamMoves (r : ℕ) (prefix : List ℕ) (text : NavItem → List ℕ) (more : Bool) (before after : List ℕ) (written written_new reported reported_new : Option (List ℕ)) (given given_new : GivenState) (counts counts_new : StreamCounts) : Type 0 where
   pub frames_are : List (List ℕ)
   pub stream : (following : List ℕ) → (more ≡ false → following ≡ []) → frames (before ++ following) ≡ frames_are ++ frames (after ++ following)
   pub decides : (following : List ℕ) → more ≡ true → decided (before ++ following) ≡ frames_are ++ decided (after ++ following)
   pub goes : StreamGoes r prefix text frames_are written written_new reported reported_new given given_new counts counts_new
 
--- Frames of these bytes were found, and the last of them is not fully processed, whatever bytes follow.
+-- Of these bytes frames are given, and the last of them is not taken to its end, whatever bytes follow.
 pub record StreamStops (r : ℕ) (prefix : List ℕ) (text : NavItem → List ℕ) (more : Bool) (before : List ℕ) (written written_new reported reported_new : Option (List ℕ)) (given : GivenState) (counts : StreamCounts) : Type 0 where
   pub done : List (List ℕ)
   pub frames_are : List (List ℕ)
@@ -201,11 +198,11 @@ pub record StreamStops (r : ℕ) (prefix : List ℕ) (text : NavItem → List �
   pub breaks : (past : List (List ℕ)) (start begun : Option (List ℕ)) → StreamSoFar r prefix text past start written begun reported given counts
       → StreamBroke r prefix text (past ++ done) (past ++ frames_are) start written_new begun reported_new
 
--- These frames begin with those that all but the last 16,384 bytes decide.
+-- These frames begin with those that are decided by all of the bytes but the last piece.
 abbrev pub BeginsFlushed : List (List ℕ) → List ℕ → Type 0
 BeginsFlushed them taken = (rest : List (List ℕ)) × (them ≡ decided (take (length taken - 16384) taken) ++ rest)
 
--- The whole input was read, and all its frames processed.
+-- The whole input was taken, and its frames.
 pub record StreamAll (r : ℕ) (prefix : List ℕ) (text : NavItem → List ℕ) (left left_new written written_new reported reported_new : Option (List ℕ)) (given given_new : GivenState) (counts counts_new : StreamCounts) : Type 0 where
   pub taken : List ℕ
   pub consumes : Consumes left left_new taken
@@ -214,7 +211,7 @@ pub record StreamAll (r : ℕ) (prefix : List ℕ) (text : NavItem → List ℕ)
   pub moves : StreamMoves r prefix text false taken [] written written_new reported reported_new given given_new counts counts_new
   pub flushes : BeginsFlushed moves.frames_are taken
 
--- These bytes were read, and a prefix of what their frames give was written and reported; after a failed read exactly what the
+-- These bytes were taken, and of what their frames give a prefix was written and reported; where a read failed, exactly what the
 -- decided frames give.
 pub record StreamPart (r : ℕ) (prefix : List ℕ) (text : NavItem → List ℕ) (left left_new written written_new reported reported_new : Option (List ℕ)) (given given_new : GivenState) (counts counts_new : StreamCounts) (fault : BridgeFault) : Type 0 where
   pub taken : List ℕ
@@ -225,15 +222,15 @@ pub record StreamPart (r : ℕ) (prefix : List ℕ) (text : NavItem → List ℕ
   pub form : fault ≡ NotThisForm → ⊥
   pub exact : fault ≡ ReadFault → StreamGoes r prefix text (decided taken) written written_new reported reported_new given given_new counts counts_new
 
--- no more frames were counted by kind than there are
+-- no more frames were counted than there are
 abbrev pub AreFew : StreamCounts → Type 0
 AreFew c = c.refused + c.unused + c.items ≤ c.frames
 
--- the counts of a stream have room for one more frame
+-- the counts of a stream have room for a frame more
 abbrev pub HasRoom : StreamCounts → Type 0
 HasRoom c = AreFew c × (c.frames + 1 < 2 ^ 64)
 
--- the faults of processing a frame
+-- the faults of taking a frame
 abbrev pub IsStreamFault : BridgeFault → Type 0
 IsStreamFault WriteFault = Unit {0}
 IsStreamFault ReportFault = Unit {0}

@@ -14,7 +14,7 @@ pub struct StreamCounts {
     pub refused: u64,
     /// The frames of other messages, and those without a message number.
     pub unused: u64,
-    /// The distinct items, each at its first occurrence.
+    /// The items, each at its first place only.
     pub items: u64,
 }
 

@@ -16,10 +16,10 @@ use nav_io::{Failed, MOST_TAKEN, Sink, Source, read_piece};
 use one_run::BridgeFault;
 use rtcm_frame::Deframer;
 
-// The number of bytes that one read asks for.
+// How many bytes are asked for at once.
 const PIECE: usize = 16_384;
 
-// Lines that are written together: those of the frames that one feed of bytes decides.
+// Lines that are written together, those of the frames that one feeding decides.
 type Gathered = ArrayVec<u8, 1024>;
 
 /// What a run over the frames of a stream counts.
@@ -29,18 +29,18 @@ pub struct FrameCounts {
     pub frames: u64,
 }
 
-/// Reads a stream to its end, and writes a line for each frame, as [`frame_line`] states.
+/// Reads a stream to its end, and writes a line for each frame: [`frame_line`] says which.
 ///
-/// The frames are those of RTCM 10403.3, section 4, whatever bytes stand between them. The result is
-/// the number of frames, or one of the faults `ReadFault`, `WriteFault` and `TooLong`. After a fault
-/// the output is a prefix of the lines of the bytes read: after a failed read exactly the lines of
-/// the frames that these bytes decide, whatever bytes follow, and after any fault at least those that
-/// all but the last 16,384 bytes decide.
+/// The frames are those of RTCM 10403.3, section 4, whatever bytes stand between them. The answer is
+/// one of the faults `ReadFault`, `WriteFault` and `TooLong`, or the count of the frames. After a
+/// fault the output has a prefix of the lines of the bytes that were taken: after a failed read
+/// exactly those of the frames that are decided by these bytes, whatever bytes follow, and after any
+/// fault no less than those that all of the bytes but the last 16,384 decide.
 pub fn run_frames<S: Source, T: Sink>(
     input: &mut S,
     output: &mut T,
 ) -> Result<FrameCounts, BridgeFault>
-    // There is no report: the clause takes one to which nothing is written.
+    // There is no report: of one, nothing could be known but that nothing is written.
     ensures ended { Ran frames_meaning S.left S.never_fails S.faults T.written T.faults
         (λ _. Some []) (λ _. 0) input.old input.new output.old output.new (tt {0}) (tt {0}) result }
 {
@@ -95,7 +95,7 @@ fn process_piece<T: Sink>(
     Ok(())
 }
 
-// Feeds what there is room for, writes the lines of the frames that it decides, and returns how many bytes were fed.
+// Feeds what there is room for, and writes the lines of the frames that it decides; how many bytes were fed.
 fn process_some<T: Sink>(
     deframer: &mut Deframer,
     piece: &[u8],
@@ -121,7 +121,7 @@ fn process_some<T: Sink>(
     Ok(count)
 }
 
-// Writes the lines that were gathered, if any.
+// Writes the lines that were gathered, where there are any.
 fn write_gathered<T: Sink>(lines: &Gathered, output: &mut T) -> Result<(), Failed>
     ensures text { OnOk result
         (Appends (T.written output.old) (T.written output.new) lines.now.items) }
@@ -135,7 +135,7 @@ fn write_gathered<T: Sink>(lines: &Gathered, output: &mut T) -> Result<(), Faile
     output.write(lines.as_slice())
 }
 
-// Appends a line to the gathered ones; where there is no room for it, those are written first.
+// Gathers a line behind others. Where there is no room for it, those are written first.
 fn gather<T: Sink>(line: &FrameLine, lines: &mut Gathered, output: &mut T) -> Result<(), Failed>
     ensures gathers { OnOk result (Gathers (T.written output.old) (T.written output.new)
         lines.old.items lines.new.items line.now.items) }
@@ -153,7 +153,7 @@ fn gather<T: Sink>(line: &FrameLine, lines: &mut Gathered, output: &mut T) -> Re
     Ok(())
 }
 
-// Writes the lines of the decided frames, several by one write.
+// Writes the lines of the frames that are decided, gathered.
 fn process_frames<T: Sink>(
     deframer: &mut Deframer,
     output: &mut T,

@@ -1,4 +1,4 @@
-//! The frames of a stream, in order.
+//! The frames of a stream, one after another.
 
 ghost use Rattle.std.specs.Prelude.{◌≡◌, ◌⊎◌, ◌+◌, ◌^◌, ◌<◌, ◌≤◌, ◌∷◌, ◌++◌, ◌||◌, [], ℕ, List, Option, true, not, codes, Err, length, take, IsErrOf, IfOk, IfErr, IfSome, OnOk, OnErr, IsTrue};
 ghost use Rattle.std.specs.Io.KnownBytes.{Appends};
@@ -24,7 +24,7 @@ use rtcm_eph::{
 };
 use rtcm_frame::{Deframer, Frame};
 
-// Reports that the frame with this number is refused, and counts it.
+// Reports a frame with this number that is refused, and counts it.
 fn refuse<U: Sink>(
     number: u64,
     reason: &[u8],
@@ -61,7 +61,7 @@ fn pass(counts: &mut StreamCounts)
     counts.frames += 1;
 }
 
-// Counts the frame with this number as refused or not used, and reports it where it is refused.
+// Reports a frame with this number that is refused, or is not used, and counts it.
 fn tell_fault<U: Sink>(
     fault: MessageFault,
     number: u64,
@@ -94,7 +94,7 @@ fn tell_fault<U: Sink>(
     }
 }
 
-// Counts an item that was read from a payload, and writes it unless it was given before.
+// Writes an item that was read of a payload, where it was not given before, and counts it.
 fn give_item<T: Sink>(
     to: &Target,
     item: &NavItem,
@@ -136,7 +136,7 @@ fn give_item<T: Sink>(
     }
 }
 
-// Processes a frame.
+// Takes a frame.
 fn convert_frame<T: Sink, U: Sink>(
     to: &Target,
     r: RefWeek,
@@ -176,7 +176,7 @@ fn convert_frame<T: Sink, U: Sink>(
     }
 }
 
-// Processes the decided frames: an item is written as soon as its frame is complete.
+// Takes the frames that are decided: an item is written as soon as its frame is there.
 pub(crate) fn process_frames<T: Sink, U: Sink>(
     to: &Target,
     r: RefWeek,
@@ -212,7 +212,7 @@ pub(crate) fn process_frames<T: Sink, U: Sink>(
     Ok(())
 }
 
-// Feeds what there is room for, processes the frames that it decides, and returns how many bytes were fed.
+// Feeds what there is room for, and takes the frames that it decides; how many bytes were fed.
 fn process_some<T: Sink, U: Sink>(
     to: &Target,
     r: RefWeek,
@@ -249,7 +249,7 @@ fn process_some<T: Sink, U: Sink>(
     Ok(count)
 }
 
-// Feeds a piece, and processes the frames that it decides.
+// Feeds a piece, and takes the frames that it decides.
 pub(crate) fn process_piece<T: Sink, U: Sink>(
     to: &Target,
     r: RefWeek,

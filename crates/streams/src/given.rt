@@ -1,4 +1,4 @@
-//! The items that a stream gave so far: each is written at its first occurrence only.
+//! What was given of a stream, so that each item is given at its first place only.
 
 ghost use Rattle.std.specs.Prelude.{◌≡◌, ◌||◌, not, false, ℕ, List, None, OnOk, OnErr, IfOk, IsTrue, replicate};
 ghost use Rattle.nav_eph.specs.declared.items.NavItem.{NavItem};
@@ -12,8 +12,8 @@ use nav_eph::NavItem;
 use std::alloc::{AllocError, Global};
 use std::marker::Model;
 
-// The RTCM messages of the ephemerides that were given, each once: two ephemerides of a stream are equal where the same message
-// encodes them. A cache of payloads as they came saves the decoding of most repeats.
+// The messages of the ephemerides that were given, each once. Two ephemerides of a stream are equal where the same message
+// is sent for them. Beside them stand payloads as they came, so that most repeats need not be read.
 #[derive(Drop)]
 pub(crate) struct ItemsGiven {
     gps: Messages<61>,
@@ -49,7 +49,7 @@ impl ItemsGiven {
         }
     }
 
-    // Whether this payload is in the cache; its item was given then.
+    // Whether this payload is kept: then its item was given.
     pub(crate) fn knows(&self, payload: &[u8]) -> bool
         ensures { IsTrue result → StandsIn self.now payload.now }
     {
@@ -59,7 +59,7 @@ impl ItemsGiven {
         payload.len() == 63 && self.gal_seen.holds(payload, place_of(payload, 4))
     }
 
-    // Caches a payload whose item was given, if it is as long as its message: 61 or 63 bytes.
+    // Keeps a payload whose item was given, where it is no longer than its message.
     fn keep(&mut self, payload: &[u8])
         ensures { KeptMore self.old self.new payload.now }
     {
@@ -70,7 +70,8 @@ impl ItemsGiven {
         }
     }
 
-    // Adds the item that was read from a payload, by the message that encodes it; whether the item is new.
+    // Adds the item that was read of a payload, by the message that is sent for it; whether that
+    // was not there.
     fn add_item(&mut self, item: &NavItem, payload: &[u8]) -> Result<bool, AllocError>
         requires read { IsReadOf payload.now item.now }
         ensures added { IfOk result (λ added. added ≡ not (is_given self.old item.now)) }
@@ -86,7 +87,7 @@ impl ItemsGiven {
         }
     }
 
-    // Adds the item that was read from a payload, and caches the payload; whether the item is new.
+    // Adds the item that was read of a payload, and keeps the payload; whether the item was not there.
     pub(crate) fn add(&mut self, item: &NavItem, payload: &[u8]) -> Result<bool, AllocError>
         requires read { IsReadOf payload.now item.now }
         ensures added { IfOk result (λ added. added ≡ not (is_given self.old item.now)) }

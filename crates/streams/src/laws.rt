@@ -1,4 +1,4 @@
-//! A law of what is written of a stream: the contract of an empty function.
+//! Laws of what is written of a stream: the function does nothing, and its contract is the law.
 
 ghost use Rattle.std.specs.Prelude.{◌≡◌, ℕ, List};
 ghost use Rattle.std.specs.List.{flat_map};

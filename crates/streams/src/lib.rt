@@ -1,10 +1,10 @@
 //! The runs over a stream of RTCM frames (10403.3): its frames as lines, and its ephemerides converted.
 //!
 //! - [`run_frames`], a line for each frame;
-//! - [`run_stream`], over the messages 1019 and 1046: each ephemeris at its first occurrence.
+//! - [`run_stream`], over the messages 1019 and 1046: each ephemeris once, at its first place.
 //!
-//! The output and the report of a run are functions of the bytes that it took: `specs/FrameLines.antt`
-//! and `specs/Streams.antt` state them. A fault leaves a prefix of each.
+//! What a run writes and reports is a function of the bytes that it took: `specs/FrameLines.antt` and
+//! `specs/Streams.antt` say it. A fault leaves a prefix of it.
 //!
 //! ```rust
 //! use nav_io::{MemSink, MemSource};

@@ -1,4 +1,4 @@
-//! A set of messages that were given, looked up by a hash.
+//! Messages that were given, each once, found by a number of their bytes.
 
 ghost use Rattle.std.specs.Prelude.{◌≡◌, ℕ, ◌+◌, ◌*◌, ◌^◌, ◌<◌, ◌≤◌, List, Option, None, Some};
 ghost use Rattle.std.specs.Prelude.{IfOk, OnOk, false, not};
@@ -9,10 +9,10 @@ use std::alloc::{AllocError, Global};
 use std::collections::{BTreeMap, BTreeSet};
 use std::marker::Model;
 
-// The odd multiplier of the hash.
+// The odd number by which a hash is multiplied.
 const FACTOR: u64 = 0x9e37_79b9_7f4a_7c15;
 
-// The hash with the eight bytes more that begin at the bit offset `at`.
+// The hash with the eight bytes more that stand from the place `at` on.
 fn hash_with<const N: usize>(hash: u64, message: &Bits<N>, at: usize) -> u64
     requires inside { at + 64 ≤ 8 * N }
     ensures { result ≡ hash_with hash message.now at }
@@ -20,7 +20,7 @@ fn hash_with<const N: usize>(hash: u64, message: &Bits<N>, at: usize) -> u64
     hash.wrapping_mul(FACTOR) ^ message.get(at, 64)
 }
 
-// A 64-bit hash of the first 61 bytes of a message: collisions are rare.
+// The hash of a message: messages that differ have the same one only seldom.
 #[tactic(auto, unfolding(crate::specs::Mirrors::hash_of))]
 fn hash<const N: usize>(message: &Bits<N>) -> u64
     requires long { 61 ≤ N }
@@ -36,14 +36,14 @@ fn hash<const N: usize>(message: &Bits<N>) -> u64
     hash_with(hash, message, 424)
 }
 
-// A set of messages of `N` bytes. They stand in a list, and an ordered map from the hash of a message to its index
-// in the list finds it quickly. On a hash collision the later message goes to an ordered set.
+// Messages of `N` bytes, each once. They stand in a list, and an ordered map from the hash of a message to its
+// place in the list finds it quickly. On a hash collision the later message goes to an ordered set.
 #[derive(Drop)]
 pub(crate) struct Messages<const N: usize> {
-    // the index in the list of the first message with a hash
+    // the place in the list of the first message with a hash
     firsts: BTreeMap<u64, usize, Global>,
     list: Vec<[u8; N], Global>,
-    // the messages whose hash an earlier one has
+    // the messages whose hash another one has that came before
     others: BTreeSet<[u8; N], Global>,
 }
 
@@ -76,7 +76,7 @@ impl<const N: usize> Messages<N> {
         }
     }
 
-    // Whether this message is the first with its hash; `None` where no message has that hash.
+    // Whether this message is the first with its hash, where there is such a one.
     fn is_first(&self, hash: u64, message: &[u8; N]) -> Option<bool>
         requires hash { hash ≡ hash_of message.now }
         ensures { result ≡ first_of self.now message.now }
@@ -87,7 +87,7 @@ impl<const N: usize> Messages<N> {
         }
     }
 
-    // Adds a message whose hash an earlier one has; whether it is new.
+    // Adds a message whose hash another has; whether it was not there.
     #[tactic(auto, using(crate::proofs::MessageKeys::adds_other))]
     fn add_other(&mut self, message: &[u8; N]) -> Result<bool, AllocError>
         requires apart { first_of self.old message.now ≡ Some false }
@@ -100,7 +100,7 @@ impl<const N: usize> Messages<N> {
         }
     }
 
-    // Adds a message as the first with its hash; whether it is new.
+    // Adds a message whose hash no other has that is a first; whether it was not there.
     #[tactic(auto, using(crate::proofs::MessageKeys::adds_none))]
     fn add_first(&mut self, hash: u64, message: &[u8; N]) -> Result<bool, AllocError>
         requires hash { hash ≡ hash_of message.now }
@@ -122,7 +122,7 @@ impl<const N: usize> Messages<N> {
         }
     }
 
-    // Adds a message; whether it is new.
+    // Adds a message; whether it was not there.
     #[tactic(auto, using(crate::proofs::MessageKeys::adds_none))]
     pub(crate) fn add(&mut self, message: &Bits<N>) -> Result<bool, AllocError>
         requires long { 61 ≤ N }

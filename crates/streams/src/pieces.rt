@@ -1,4 +1,4 @@
-//! The bytes of a stream, read piece by piece.
+//! The bytes of a stream, a piece after another.
 
 ghost use Rattle.std.specs.Prelude.{◌≡◌, ◌+◌, ◌^◌, ◌<◌, ◌≤◌, [], false, length, IsTrue, IsErrOf, IfErr, OnOk};
 ghost use Rattle.outlets.specs.Targets.{prefix_text, item_text};
@@ -15,10 +15,10 @@ use one_run::BridgeFault;
 use outlets::Target;
 use rtcm_frame::Deframer;
 
-// The number of bytes that one read asks for.
+// How many bytes are asked for at once.
 const PIECE: usize = 16_384;
 
-// Processes the frames of a stream up to its end.
+// Takes the frames of a stream up to its end.
 pub(crate) fn process_pieces<S: Source, T: Sink, U: Sink>(
     to: &Target,
     r: RefWeek,

@@ -1,18 +1,18 @@
-//! A cache of payloads that were read: a repeat is found without decoding it again.
+//! Payloads that were read, as they came, so that a repeat is known without being read again.
 
 ghost use Rattle.std.specs.Prelude.{◌≡◌, ◌<◌, ◌≤◌, ℕ, List, Option, None, Some, IsTrue, length, replicate, slice_get};
 ghost use Rattle.streams.specs.Mirrors.{MaySet};
 
-// The number of places in the cache.
+// How many payloads of a length are kept, each in its place.
 const PLACES: usize = 256;
 
-// A cache of payloads of `N` bytes: each place holds the last payload that was put there.
+// Payloads of `N` bytes: in each place the last one that was kept there.
 #[derive(PartialEq, Eq, Drop)]
 pub(crate) struct RecentMessages<const N: usize> {
     pub(crate) places: [Option<[u8; N]>; PLACES],
 }
 
-// The place of a payload, from its satellite number and the low three bits of byte `issue`, which holds the issue of data.
+// The place of a payload, by the number of its satellite and the last bits of the issue in that byte.
 pub(crate) fn place_of(payload: &[u8], issue: usize) -> u8
     requires long { 3 ≤ length payload.now }
     requires inside { issue < length payload.now }
@@ -21,7 +21,7 @@ pub(crate) fn place_of(payload: &[u8], issue: usize) -> u8
 }
 
 impl<const N: usize> RecentMessages<N> {
-    // The empty cache.
+    // No payload is kept.
     pub(crate) fn new() -> RecentMessages<N>
         ensures { result.places ≡ replicate 256 None }
     {
@@ -30,7 +30,7 @@ impl<const N: usize> RecentMessages<N> {
         }
     }
 
-    // Whether the cache holds this payload in the place.
+    // Whether this payload is kept in the place.
     pub(crate) fn holds(&self, payload: &[u8], place: u8) -> bool
         ensures { IsTrue result → slice_get self.now.places place ≡ Some (Some payload.now) }
     {
@@ -40,7 +40,7 @@ impl<const N: usize> RecentMessages<N> {
         }
     }
 
-    // Puts a payload of `N` bytes in the place; others are ignored.
+    // Keeps a payload in the place, where it has the length.
     pub(crate) fn keep(&mut self, payload: &[u8], place: u8)
         ensures { MaySet self.old.places self.new.places payload.now }
     {

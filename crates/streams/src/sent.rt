@@ -1,5 +1,5 @@
-//! The messages that encode ephemerides read from payloads: mostly the payload is already that
-//! message.
+//! The messages that are sent for ephemerides that were read of payloads: most payloads have them
+//! already.
 
 ghost use Rattle.std.specs.Prelude.{◌≡◌, ◌+◌, ◌*◌, length};
 ghost use Rattle.nav_eph.specs.Ranges.{HasGalRanges, HasGpsRanges};
@@ -11,12 +11,12 @@ use nav_bits::Bits;
 use nav_eph::{GalEph, GpsEph};
 use rtcm_eph::{message_bytes, read_1019_is_sent, read_1046_is_sent, write_1019, write_1046};
 
-// Each field of a GPS ephemeris fits its width in bits.
+// Each field of an ephemeris of GPS is within its digits.
 fn gps_ranges(e: GpsEph)
     ensures { HasGpsRanges e }
 {}
 
-// Each field of a Galileo ephemeris fits its width in bits.
+// Each field of an ephemeris of Galileo is within its digits.
 fn gal_ranges(e: GalEph)
     ensures { HasGalRanges e }
 {}
@@ -31,7 +31,7 @@ fn bits_of<const N: usize>(bytes: &[u8]) -> Bits<N>
     Bits::from_bytes(copied)
 }
 
-// Message 1019 of an ephemeris read from a payload: the payload itself, if it has no further bytes.
+// Message 1019 of an ephemeris that was read of a payload: the payload, where it has no more bytes.
 pub(crate) fn sent_1019(eph: &GpsEph, payload: &[u8]) -> Bits<61>
     requires read { IsReadOf payload.now (Gps eph.now) }
     ensures { result ≡ bytes_1019 eph.now }
@@ -45,8 +45,8 @@ pub(crate) fn sent_1019(eph: &GpsEph, payload: &[u8]) -> Bits<61>
     bits_of(payload)
 }
 
-// Message 1046 of an ephemeris read from a payload: the payload itself with its reserved bits
-// cleared, if it has no further bytes.
+// Message 1046 of an ephemeris that was read of a payload: the payload with its reserved bits
+// cleared, where it has no more bytes.
 pub(crate) fn sent_1046(eph: &GalEph, payload: &[u8]) -> Bits<63>
     requires read { IsReadOf payload.now (Gal eph.now) }
     ensures { result ≡ bytes_1046 eph.now }

@@ -13,7 +13,7 @@ use one_run::BridgeFault;
 use outlets::Target;
 use std::alloc::Global;
 
-// Reads a stream to its end, and writes the conversion of its items while it reads.
+// Reads a stream to its end, and writes what its items become while it reads.
 pub(crate) fn convert_stream<S: Source, T: Sink, U: Sink>(
     alloc: Global,
     r: RefWeek,

@@ -11,14 +11,14 @@ use rinex_write::HeaderWords;
 pub enum StreamTo {
     /// A navigation file of RINEX 4.01, whose header says these words.
     Rinex(HeaderWords),
-    /// A navigation file of RINEX 3.05, without ionosphere records.
+    /// A navigation file of RINEX 3.05, without ionospheres.
     Rinex3(HeaderWords),
     /// A frame for each ephemeris, of message 1019 or 1046 (RTCM 10403.3).
     Rtcm,
 }
 
 impl StreamTo {
-    // The target of the items.
+    // What its items become.
     pub(crate) fn target(&self) -> Target
         ensures { result ≡ target_of_stream self.now }
     {

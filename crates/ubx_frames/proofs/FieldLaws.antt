@@ -1,4 +1,4 @@
--- The messages of `framing` are those of the field's definition.
+-- The messages by their heading are those in the field's own words.
 use Rattle.std.proofs.Common.{◌≡◌, ℕ, ◌+◌, ◌-◌, ◌%◌, ◌<◌, ◌≤◌, ◌&&◌, nat_le, nat_eq, Bool}
 use Rattle.std.proofs.Common.{true, false, cond, List, length, get_or, take, drop, refl, sym, ap}
 use Rattle.std.proofs.Common.{◌∙◌, arith}
@@ -11,7 +11,7 @@ use Rattle.ubx_frames.specs.Form.{announced, total, running, body_of, has_right_
 use Rattle.ubx_frames.specs.FormLaws.{ubx_is_sync}
 use Rattle.ubx_frames.specs.Field.{AreBytes, BeginsMessage}
 
--- the bytes that the checksum covers, of the first n bytes
+-- the body of the first n bytes
 body_is : (bytes : List ℕ) (n : ℕ) → 8 ≤ n → n ≤ length bytes
     → body_of (take n bytes) ≡ take (n - 4) (drop 2 bytes)
 body_is bytes n long inside =
@@ -28,7 +28,7 @@ last_is bytes n k some less inside =
     ap (λ m. get_or (take n bytes) (m - k) 0) (length-take-le n bytes inside)
     ∙ get_or-take n bytes (n - k) 0 (omega arith)
 
--- the checksum of the first n bytes
+-- the sums of the first n bytes
 sums_are : (bytes : List ℕ) (n : ℕ) → 8 ≤ n → n ≤ length bytes
     → has_right_sums (take n bytes)
     ≡ (nat_eq (total (take (n - 4) (drop 2 bytes)) % 256) (get_or bytes (n - 2) 0)
@@ -80,12 +80,12 @@ forth_at bytes n are some true e size =
       ck_b = eqb-true _ _ both.1;
     }
 
--- bytes with a size begin a message
+-- what has a size begins a message
 pub sized_begins : (bytes : List ℕ) (n : ℕ) → AreBytes bytes → 0 < n → size_by ubx bytes ≡ n
     → BeginsMessage bytes n
 sized_begins bytes n are some size = forth_at bytes n are some _ refl size
 
--- bytes that begin a message have its size
+-- and the other way round
 pub begun_sized : (bytes : List ℕ) (n : ℕ) → AreBytes bytes → BeginsMessage bytes n
     → (0 < n) × (size_by ubx bytes ≡ n)
 begun_sized bytes n are m =

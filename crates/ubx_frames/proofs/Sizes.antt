@@ -1,4 +1,4 @@
--- The size of a complete message.
+-- The size of a whole message.
 use Rattle.std.proofs.Common.{◌≡◌, ℕ, ◌+◌, ◌-◌, ◌≤◌, List, length, take, drop, arith, length-drop}
 use Rattle.std.proofs.lemmas.List.{length-take-le}
 use Rattle.framing.specs.Syncs.{wanted_by}
@@ -6,7 +6,7 @@ use Rattle.framing.specs.SyncLaws.{whole_has_header, wanted_many}
 use Rattle.ubx_frames.specs.Form.{ubx_sync}
 use Rattle.ubx_frames.specs.FormLaws.{ubx_is_sync}
 
--- a complete message has 8 to 65,543 bytes
+-- a whole message has 8 to 65,543 bytes
 pub whole_size : (bytes : List ℕ) (place size : ℕ) → place + size ≤ length bytes
     → size ≡ wanted_by ubx_sync (drop place bytes) → (8 ≤ size) × (size ≤ 65543)
 whole_size bytes place size inside is =

@@ -1,4 +1,4 @@
--- Sums byte by byte, and sums of a range of bytes from the running sums at its ends.
+-- Sums byte by byte, and what the sums beside bytes say of the bytes between two of them.
 use Rattle.std.proofs.Common.{◌≡◌, ℕ, zero, suc, ◌+◌, ◌-◌, ◌*◌, ◌%◌, ◌<◌, ◌≤◌, ◌&&◌, ◌⊎◌, inl}
 use Rattle.std.proofs.Common.{inr, nat_eq, true, List, [], ◌∷◌, ◌++◌, length, get_or, take, drop}
 use Rattle.std.proofs.Common.{sym, ap, ◌∙◌, arith, add-zero, length-drop}
@@ -19,7 +19,7 @@ pub running_more : (a : ℕ) (xs : List ℕ) (y : ℕ)
 running_more a [] y = omega arith
 running_more a (x ∷ xs) y = omega (arith, running_more (a + x) xs y)
 
--- one more byte
+-- one more byte of some bytes
 pub sum_next : (xs : List ℕ) (i : ℕ) → i < length xs
     → total (take (i + 1) xs) ≡ total (take i xs) + get_or xs i 0
 sum_next xs i h = ap total (take_more xs i 0 h) ∙ sum_more (take i xs) (get_or xs i 0)
@@ -42,7 +42,7 @@ next_run a b s r c d x y z e f g h = omega arith
 once_more : (n s : ℕ) → suc n * s ≡ n * s + s
 once_more n s = grind arith
 
--- a running sum is an earlier one plus the bytes between
+-- the sum some bytes on is the one before them with these bytes
 pub sum_after : (bytes sums runs : List ℕ) → AreSums bytes sums runs → (p n : ℕ)
     → p + n < length sums
     → get_or sums (p + n) 0 % 256 ≡ (get_or sums p 0 + total (take n (drop p bytes))) % 256
@@ -64,7 +64,7 @@ sum_after bytes sums runs are p (suc n) h =
     ∙ ap (λ t. (get_or sums p 0 + t) % 256) (sym (sum_next (drop p bytes) n inside)
     ∙ ap (λ m. total (take m (drop p bytes))) count)
 
--- the same for the sum of running sums
+-- the running sum some bytes on
 pub run_after : (bytes sums runs : List ℕ) → AreSums bytes sums runs → (p n : ℕ)
     → p + n < length sums
     → get_or runs (p + n) 0 % 256 ≡ (get_or runs p
@@ -89,7 +89,7 @@ run_after bytes sums runs are p (suc n) h =
     ∙ ap (λ t. (get_or runs p 0 + (suc n * get_or sums p 0 + t)) % 256)
     (sym (running_next (drop p bytes) n inside) ∙ ap (λ m. running 0 (take m (drop p bytes))) count)
 
--- a byte is a checksum exactly where adding it to the earlier sum gives the later one
+-- a byte is the sum of some bytes where with it the sum before them gives the one behind
 pub same_byte : (x t a e : ℕ) → a < 256 → e < 256 → e % 256 ≡ (x + t) % 256
     → nat_eq ((x + a) % 256) e ≡ nat_eq (t % 256) a
 same_byte x t a e small less is =
@@ -105,7 +105,7 @@ same_byte x t a e small less is =
     forth : t % 256 ≡ a → nat_eq ((x + a) % 256) e ≡ true
     forth h = eq-eqb _ _ (omega arith)
 
--- one more running sum
+-- one sum more
 pub sums_more : (bytes sums runs : List ℕ) (place a b : ℕ) → AreSums bytes sums runs
     → length sums ≡ place + 1 → place < length bytes
     → a ≡ (get_or sums place 0 + get_or bytes place 0) % 256 → b ≡ (get_or runs place 0 + a) % 256
@@ -151,7 +151,7 @@ sums_more bytes sums runs place a b are count inside a_is b_is = record {
         ∙ ap (λ r. (r + a) % 256) (sym (run_before i (omega arith)))
         ∙ ap (λ s. (get_or (runs ++ b ∷ []) i 0 + s) % 256) (sym (get_or_push sums a 0 (i + 1) at))
 
--- the running sums tell whether a message has the right checksum
+-- the sums beside the bytes tell whether a message has its own
 pub right_by : (bytes sums runs : List ℕ) → AreSums bytes sums runs → (place size : ℕ) → 8 ≤ size
     → place + size ≤ length bytes
     → place + size - 2 < length sums

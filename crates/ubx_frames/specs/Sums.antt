@@ -1,8 +1,9 @@
--- Running sums of bytes; only contracts of the judge's parts cite them.
+-- Sums beside some bytes; only the contracts of the judge's parts cite them.
 use Rattle.std.specs.Prelude.{◌≡◌, ℕ, ◌+◌, ◌%◌, ◌<◌, ◌≤◌, List, length, slice_index}
 
--- Each sum adds one byte to the one before it, and each running sum adds that sum, modulo 256. They may start from any sums
--- and end before any byte.
+-- Each sum is the one before it with one byte more, and each running sum the one before it with one
+-- sum more, modulo
+-- 256. They may begin with any sums, and stop before any byte.
 pub record AreSums (bytes sums runs : List ℕ) : Type 0 where
   pub some : 1 ≤ length sums
   pub most : length sums ≤ length bytes + 1

@@ -1,4 +1,4 @@
-//! UBX as a format of `framing`.
+//! Which bytes are a message of UBX.
 
 ghost use Rattle.std.specs.Prelude.{◌≡◌, ◌+◌, ◌≤◌, List, ℕ, length, take, drop, slice_index};
 ghost use Rattle.ubx_frames.specs.Form.{announced, ubx};
@@ -10,18 +10,18 @@ use crate::sums::{begin_sums, cut_sums, extend, has_right_sums, has_right_sums_b
 use arrayvec::ArrayVec;
 use framing::{Deframer, Judge};
 
-/// Finds UBX messages in bytes that come in pieces.
+/// The messages of UBX in bytes that come in pieces.
 pub type UbxDeframer = Deframer<UbxJudge>;
 
-/// Checks UBX messages.
+/// Judges messages of UBX.
 ///
-/// Once a message has failed its checksum, keeps the running sums of the bytes up to its end, so that
-/// no byte is summed twice; valid messages need none.
+/// Beside the bytes stand their sums, as far as the sums of a message by itself were wrong, so that
+/// good messages never pay for them, and no byte is summed twice.
 #[derive(Drop)]
 pub struct UbxJudge {
-    // CK_A before each byte read so far, from an arbitrary start
+    // the sum before each byte, up to some byte
     sums: ArrayVec<u8, 98_305>,
-    // CK_B at the same offsets
+    // the sum of those sums
     runs: ArrayVec<u8, 98_305>,
 }
 
@@ -84,7 +84,7 @@ impl Judge for UbxJudge {
     ghost stays = { λ judge xs ys. sums_stay xs ys judge.sums.items judge.runs.items };
 }
 
-// The size of the message with this header.
+// The size of the message whose header begins these bytes.
 fn announced_size(bytes: &[u8]) -> usize
     requires { 6 ≤ length bytes.now }
     ensures { result ≡ announced bytes.now }

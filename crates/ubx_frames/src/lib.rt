@@ -1,9 +1,9 @@
 //! Messages of UBX, the protocol of u-blox receivers, in a stream of bytes.
 //!
-//! A message is the sync bytes B5 62, class, ID, a payload length of two bytes (low byte first),
-//! the payload, and the checksum of all bytes from class to payload: CK_A, the sum of the bytes,
-//! and CK_B, the sum of its running values, both modulo 256. [`UbxJudge`] defines this for the
-//! `Deframer` of `framing`, which finds the messages in bytes that come in any pieces.
+//! A message is B5 62, class, number, a length of two bytes with the low one first, a payload of so
+//! many bytes, and two sums of all bytes from the class to the payload's end: the sum of the bytes,
+//! and the sum of its running values, both modulo 256. [`UbxJudge`] says so to the `Deframer` of
+//! `framing`, which finds the messages in bytes that come in any pieces.
 //!
 //! ```rust
 //! let mut deframer: UbxDeframer = UbxDeframer::new();

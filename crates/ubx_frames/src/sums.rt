@@ -1,4 +1,4 @@
-//! Checksums of messages: of one message, and from running sums of all bytes.
+//! The two sums of messages: of one by itself, and by the sums beside bytes.
 
 ghost use Rattle.std.specs.Prelude.{◌≡◌, ℕ, ◌+◌, ◌-◌, ◌%◌, ◌^◌, ◌<◌, ◌≤◌, ◌==◌, ◌&&◌, List};
 ghost use Rattle.std.specs.Prelude.{length, take, drop};
@@ -8,7 +8,7 @@ ghost use Rattle.ubx_frames.specs.Sums.{AreSums};
 
 use arrayvec::ArrayVec;
 
-// CK_A and CK_B of the bytes, before reduction modulo 256.
+// The sum of the bytes, and the sum of its running values.
 pub fn sums_of(bytes: &[u8]) -> (u64, u64)
     requires { length bytes.now ≤ 98304 }
     ensures sum { result.0 ≡ total bytes.now }
@@ -23,7 +23,7 @@ pub fn sums_of(bytes: &[u8]) -> (u64, u64)
     (total, run)
 }
 
-// Whether the last two bytes are the checksum of those after the sync bytes.
+// Whether the last two bytes are the sums of those behind the first two.
 #[tactic(auto, unfolding(crate::specs::Form::has_right_sums))]
 pub fn has_right_sums(message: &[u8]) -> bool
     requires shortest { 8 ≤ length message.now }
@@ -35,7 +35,7 @@ pub fn has_right_sums(message: &[u8]) -> bool
     total % 256 == u64::from(message[end]) && run % 256 == u64::from(message[end + 1])
 }
 
-// Extends the running sums to those before offset `end`.
+// Computes the sums up to the ones before this place.
 pub fn extend(
     bytes: &[u8],
     sums: &mut ArrayVec<u8, 98_305>,
@@ -59,8 +59,7 @@ pub fn extend(
     }
 }
 
-// Whether the last two bytes of the message at offset `place` are its checksum, by the running
-// sums.
+// Whether the last two bytes of the message at this place are its sums, by those beside the bytes.
 pub fn has_right_sums_by(sums: &[u8], runs: &[u8], bytes: &[u8], place: usize, size: usize) -> bool
     requires sums { AreSums bytes.now sums.now runs.now }
     requires shortest { 8 ≤ size }
@@ -83,14 +82,14 @@ pub fn has_right_sums_by(sums: &[u8], runs: &[u8], bytes: &[u8], place: usize, s
     )
 }
 
-// Whether both sums agree modulo 256.
+// Whether both sums are those behind.
 fn both_fit(total: u64, rest: u64, run: u64, run_rest: u64) -> bool
     ensures { result ≡ (total % 256 == rest && run % 256 == run_rest) }
 {
     total % 256 == rest && run % 256 == run_rest
 }
 
-// Removes the running sums of the first `count` bytes.
+// Removes the sums of so many bytes in front.
 pub fn cut_sums(sums: &mut ArrayVec<u8, 98_305>, runs: &mut ArrayVec<u8, 98_305>, count: usize)
     ensures { (bytes : List ℕ) → AreSums bytes sums.old.items runs.old.items
         → AreSums (drop count bytes) sums.new.items runs.new.items }
@@ -103,7 +102,7 @@ pub fn cut_sums(sums: &mut ArrayVec<u8, 98_305>, runs: &mut ArrayVec<u8, 98_305>
     }
 }
 
-// Removes the first `count` sums.
+// Removes so many sums in front.
 fn cut_prefix(sums: &mut ArrayVec<u8, 98_305>, count: usize)
     requires { count ≤ array_vec_len sums.old }
     ensures { sums.new.items ≡ drop count sums.old.items }
@@ -111,7 +110,7 @@ fn cut_prefix(sums: &mut ArrayVec<u8, 98_305>, count: usize)
     sums.drain(..count);
 }
 
-// Starts the running sums anew: only those before the first byte, 0.
+// Leaves one sum alone, that of no bytes.
 pub fn begin_sums(sums: &mut ArrayVec<u8, 98_305>, runs: &mut ArrayVec<u8, 98_305>)
     ensures { (bytes : List ℕ) → AreSums bytes sums.new.items runs.new.items }
 {

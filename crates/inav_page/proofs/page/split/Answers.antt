@@ -2,7 +2,7 @@ use Rattle.std.proofs.Common.{List, slice_index, ◌≡◌, ℕ, ◌+◌, ◌*�
 use Rattle.std.proofs.lemmas.Bool.{cond-true, lt-ltb}
 use Rattle.nav_bits.specs.Bits.{number_at}
 use Rattle.nav_bits.specs.Laws.{number_at-lt}
-use Rattle.inav_page.specs.Pages.{IsHalf, IsSplit, HasRightCrc, bits_at, page_crc}
+use Rattle.inav_page.specs.Pages.{IsHalf, IsSplit, HasRightCrc, digits_at, page_crc}
 use Rattle.inav_page.proofs.PageNumbers.{only_parts, split_even, split_odd, even_of_word, odd_of_word, crc_in_place, crc_is_right, word_again}
 use Rattle.inav_page.proofs.page.split.Goals as goal
 
@@ -42,8 +42,8 @@ returns-clause-parts c =
     let first = split_odd word c.from-3.result (c.from-3.ensures ∙ c.get-3.ensures) in
     let odd_is : c.of_number-2.result ≡ 2 ^ 119 + d * 2 ^ 102 + crc * 2 ^ 14 =
     c.of_number-2.ensures ∙ ap (λ n. n + crc * 2 ^ 14) first in
-    let in_place : bits_at c.of_number-2.result 82 24 ≡ crc =
-    ap (λ n. bits_at n 82 24) odd_is ∙ crc_in_place d crc (number_at-lt word 112 16) fits in
+    let in_place : digits_at c.of_number-2.result 82 24 ≡ crc =
+    ap (λ n. digits_at n 82 24) odd_is ∙ crc_in_place d crc (number_at-lt word 112 16) fits in
     let crc_is : crc ≡ page_crc c.of_number.result (2 ^ 119 + d * 2 ^ 102) =
     c.from-4.ensures ∙ c.crc_of-crc.ensures.same ∙ ap (page_crc _) first ∙ ap (λ e. page_crc e (2 ^ 119 + d * 2 ^ 102)) (sym c.of_number.ensures) in
     let P : ℕ → Type 0 = HasRightCrc c.of_number.result in
@@ -64,8 +64,8 @@ returns-clause-halves c =
     let first = split_odd word c.from-3.result (c.from-3.ensures ∙ c.get-3.ensures) in
     let odd_is : c.of_number-2.result ≡ 2 ^ 119 + d * 2 ^ 102 + crc * 2 ^ 14 =
     c.of_number-2.ensures ∙ ap (λ n. n + crc * 2 ^ 14) first in
-    let in_place : bits_at c.of_number-2.result 82 24 ≡ crc =
-    ap (λ n. bits_at n 82 24) odd_is ∙ crc_in_place d crc (number_at-lt word 112 16) fits in
+    let in_place : digits_at c.of_number-2.result 82 24 ≡ crc =
+    ap (λ n. digits_at n 82 24) odd_is ∙ crc_in_place d crc (number_at-lt word 112 16) fits in
     let crc_is : crc ≡ page_crc c.of_number.result (2 ^ 119 + d * 2 ^ 102) =
     c.from-4.ensures ∙ c.crc_of-crc.ensures.same ∙ ap (page_crc _) first ∙ ap (λ e. page_crc e (2 ^ 119 + d * 2 ^ 102)) (sym c.of_number.ensures) in
     let P : ℕ → Type 0 = HasRightCrc c.of_number.result in

@@ -1,4 +1,4 @@
-use Rattle.lnav_subframe.proofs.WordBits.{inverted_bit}
+use Rattle.lnav_subframe.proofs.Digits.{inverted_bit}
 use Rattle.lnav_subframe.proofs.parity.inverted.Goals as goal
 
 pub returns-then-last-eq1-clause-each : goal.returns-then-last-eq1-clause-each

@@ -1,6 +1,6 @@
 use Rattle.std.proofs.Common.{◌≡◌, ◌+◌, ◌*◌, ◌/◌, ◌%◌, refl, ◌∙◌, arith}
 use Rattle.nav_bits.specs.Bits.{number_at}
-use Rattle.nav_bits.proofs.BitPatterns.{number_at-read_more}
+use Rattle.nav_bits.proofs.Digits.{number_at-read_more}
 use Rattle.nav_bits.proofs.bit_offsets.number_by_bytes.Goals as goal
 
 pub loop-done-init : goal.loop-done-init

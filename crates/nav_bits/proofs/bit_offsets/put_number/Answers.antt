@@ -3,7 +3,7 @@ use Rattle.std.proofs.Math.Nat.{div-eq_of_lt}
 use Rattle.std.proofs.lemmas.Nat.{mod_below, pow_pos}
 use Rattle.nav_bits.specs.Bits.{number_at}
 use Rattle.nav_bits.proofs.BytePart.{byte_low}
-use Rattle.nav_bits.proofs.BitPatterns.{Puts-more, SameOutside-none}
+use Rattle.nav_bits.proofs.Digits.{Puts-more, SameOutside-none}
 use Rattle.nav_bits.proofs.bit_offsets.put_number.Goals as goal
 
 pub loop-done-init : goal.loop-done-init

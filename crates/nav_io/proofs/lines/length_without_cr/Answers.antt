@@ -3,7 +3,7 @@ use Rattle.std.proofs.lemmas.Bool.{eq-eqb, ne_eqb}
 use Rattle.nav_io.proofs.LineEnds.{without_cr-cr, without_cr-none}
 use Rattle.nav_io.proofs.lines.length_without_cr.Goals as goal
 
--- the line has a last byte
+-- some byte stands at the end
 some : (line : List ℕ) → false ≡ (length line == 0) → length line ≡ suc (length line - 1)
 some [] e = absurd cc
 some (x ∷ line) e = omega arith

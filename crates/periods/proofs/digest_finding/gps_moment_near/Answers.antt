@@ -5,7 +5,7 @@ use Rattle.gnss_week.proofs.Surface.{gps_week-only}
 use Rattle.nav_eph.specs.Conditions.{wn_of}
 use Rattle.periods.proofs.digest_finding.gps_moment_near.Goals as goal
 
--- a week number and its ten low bits are resolved to the same week
+-- a number and what is left of it behind its ten low digits mean one week
 week_of_low : (r n low w : ℕ) → low ≡ n % 1024 → IsGpsWeek r low w → w ≡ gps_week_to r n
 week_of_low r n low w e h = gps_week-only r n w (record { same = omega (arith, h.same); from = h.from; to = h.to })
 

@@ -4,7 +4,7 @@ use Rattle.periods.specs.Readings.{reading}
 use Rattle.periods.specs.Mirrors.{up_to_end, best_among, later}
 use Rattle.periods.proofs.health.last_up_to.Given as goal
 
--- the search so far, continued over the remaining parts, gives the result
+-- what is left of the parts finds the rest
 abbrev pub invariant-loop-part : goal.invariant-loop-part
 invariant-loop-part l =
     best_among (reading (HealthOf l.sat)) (up_to_end l.window l.end) (later health_numbers) (drop l.part-index l.parts) l.best

@@ -5,7 +5,7 @@ use Rattle.nav_io.proofs.LineEnds.{text_is, kind-long, kind-text}
 use Rattle.nav_io.proofs.lines.Lines.give.Goals as goal
 use Rattle.nav_io.proofs.lines.Lines.give.Goals.{then-length-gt-LONGEST, else-length-gt-LONGEST}
 
--- the bytes of the line
+-- the bytes that were looked at
 line_seen : (held shown : List ℕ) (start len : ℕ) → shown ≡ held → take len (take (length shown - start) (drop start shown)) ≡ take len (drop start held)
 line_seen held shown start len e = ap (take len) (take_rest shown start ∙ ap (drop start) e)
 

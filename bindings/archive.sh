@@ -1,0 +1,72 @@
+#!/usr/bin/env bash
+# Makes crates/navbridge_c/out/libnavbridge_c.a, of which bindings/c/Makefile makes the library for C.
+#
+#   bindings/archive.sh [--built]
+#
+#   --built   over the libraries in crates/*/out, as an `rt ci` at the top has just left them
+#
+# It proves navbridge_c and compiles it, over the libraries below as `rt ci` makes them: without --built, in a copy that has
+# these crates alone. `rt ci` takes what it has proved on this machine before and proves the rest. (`rt lib` proves all anew.)
+#
+# Status: 0 the archive is there; 1 something is not proved; 2 the words are wrong, or there is no toolchain.
+set -u
+built=''
+case ${1-} in
+  '') ;;
+  --built) built=1 ;;
+  -h | --help)
+    sed -n '2,/^set /{/^set /d;s/^# \{0,1\}//;p}' "$0"
+    exit 0
+    ;;
+  *)
+    echo "archive: $1 is no option; --help" >&2
+    exit 2
+    ;;
+esac
+top=$(dirname "$(readlink -f "$0")")/..
+cd "$top" || exit 2
+top=$PWD
+kit=$(rt doc) || exit 2
+kit=$(dirname "$kit")
+
+# what a crate stands on by crates.txt, and whether that is ours or the toolchain's
+named() { sed -n "s/#.*//;s/^$1\( staticlib\)\{0,1\}://p" "$top/crates.txt"; }
+is_ours() { [ -d "$top/crates/$1" ]; }
+
+# our crates below one, into `found`
+found=''
+below() {
+  local it
+  for it in $(named "$1"); do
+    case " $found " in *" $it "*) continue ;; esac
+    is_ours "$it" || continue
+    found="$found $it"
+    below "$it"
+  done
+}
+below navbridge_c
+
+libraries=$top/crates
+if [ -z "$built" ]; then
+  copy=$(mktemp -d) || exit 2
+  trap 'rm -rf "$copy"' EXIT
+  mkdir "$copy/.git" "$copy/crates"
+  cp HANDLES "$copy"
+  for it in $found; do
+    echo "$it:$(named "$it")" >> "$copy/crates.txt"
+    mkdir "$copy/crates/$it"
+    for part in src specs proofs; do [ ! -d "crates/$it/$part" ] || cp -r "crates/$it/$part" "$copy/crates/$it"; done
+  done
+  (cd "$copy" && rt ci) || exit 1
+  libraries=$copy/crates
+fi
+
+words=(--crate-name navbridge_c src/lib.rt --crate-type staticlib --extern "std=$kit/rlibs/std.rlib" -L "dependency=$kit/rlibs")
+for it in $(named navbridge_c); do
+  if is_ours "$it"; then words+=(--extern "$it=$libraries/$it/out/rlib/$it.rlib"); else words+=(--extern "$it=$kit/rlibs/$it.rlib"); fi
+done
+for it in $found; do words+=(-L "dependency=$libraries/$it/out/rlib"); done
+words+=(--antt-project "$kit/rattle/logic/antt-project.json" --logic-built "$kit/logic_built" --links navbridge_c=)
+cd crates/navbridge_c && mkdir -p out || exit 2
+"$kit/bin/rattle" build "${words[@]}" --toolchain "$kit/toolchain" --backend llvm -o out/libnavbridge_c.a || exit 1
+echo 'archive: crates/navbridge_c/out/libnavbridge_c.a'

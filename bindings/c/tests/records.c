@@ -1,0 +1,195 @@
+/* Compares the stateless calls with items, frames and records that an independent program made in exact arithmetic.
+ *
+ *   records ITEMS RECORDS      vectors/items.txt and vectors/records.txt
+ *
+ * Each item is written as its frame and as its record of version 4, and that without its first line in version 3; its frame is
+ * read back, made again of its payload, and is a frame no more where one of its bits is turned. Status 0: all as it should be. */
+#include <stdio.h>
+#include <stdlib.h>
+#include <string.h>
+
+#include "navbridge.h"
+
+typedef struct field {
+    const char *name;
+    size_t at;
+} field;
+
+#define G(name, place) {name, offsetof(nb_gps, place)}
+static const field gps_fields[] = {
+    G("iodc", clock.iodc), G("toc", clock.toc), G("af2", clock.af2), G("af1", clock.af1), G("af0", clock.af0),
+    G("tgd", clock.tgd), G("l2_code", side.l2_code), G("ura", side.ura), G("health", side.health), G("l2p", side.l2p),
+    G("iode", a.iode), G("iode", b.iode), G("crs", a.crs), G("delta_n", a.delta_n), G("m0", a.m0), G("cuc", a.cuc), G("e", a.e),
+    G("cus", a.cus), G("root_a", a.root_a), G("toe", a.toe), G("cic", b.cic), G("omega0", b.omega0), G("cis", b.cis),
+    G("i0", b.i0), G("crc", b.crc), G("omega", b.omega), G("omega_dot", b.omega_dot), G("idot", b.idot), G("fit", fit),
+    G("toe_week", toe_week)};
+#undef G
+#define E(name, place) {name, offsetof(nb_gal, place)}
+static const field gal_fields[] = {
+    E("iodnav", w1.iodnav), E("iodnav", w2.iodnav), E("iodnav", w3.iodnav), E("iodnav", w4.iodnav), E("toe", w1.toe),
+    E("m0", w1.m0), E("e", w1.e), E("root_a", w1.root_a), E("omega0", w2.omega0), E("i0", w2.i0), E("omega", w2.omega),
+    E("idot", w2.idot), E("omega_dot", w3.omega_dot), E("delta_n", w3.delta_n), E("cuc", w3.cuc), E("cus", w3.cus),
+    E("crc", w3.crc), E("crs", w3.crs), E("sisa", w3.sisa), E("cic", w4.cic), E("cis", w4.cis), E("toc", w4.toc),
+    E("af0", w4.af0), E("af1", w4.af1), E("af2", w4.af2), E("bgd_a", health.bgd_a), E("bgd_b", health.bgd_b),
+    E("hs_e5b", health.hs_e5b), E("hs_e1b", health.hs_e1b), E("dvs_e5b", health.dvs_e5b), E("dvs_e1b", health.dvs_e1b),
+    E("toe_week", toe_week)};
+#undef E
+
+static int wrong;
+
+static void want(int holds, int item, const char *what) {
+    if (!holds) {
+        wrong++;
+        printf("item %d: %s\n", item, what);
+    }
+}
+
+/* Puts the number where it stands; each is of 32 bits, with a sign or without. */
+static void put(void *into, const field *fields, size_t count, const char *name, long long value) {
+    size_t i;
+    uint32_t bits = (uint32_t)(unsigned long long)value;
+    for (i = 0; i < count; i++)
+        if (strcmp(fields[i].name, name) == 0) memcpy((char *)into + fields[i].at, &bits, sizeof bits);
+}
+
+/* The item of a line; 0 where it is an ionosphere. */
+static int parse(char *line, nb_item *item, int *number) {
+    char *word;
+    nb_sent *sent;
+    memset(item, 0, sizeof *item);
+    *number = atoi(line + 5);
+    for (word = strtok(line, " \n"); word != NULL; word = strtok(NULL, " \n")) {
+        char *value = strchr(word, '=');
+        if (value == NULL) return 0;
+        *value++ = 0;
+        sent = item->kind == NB_GPS ? &item->gps.sent : &item->gal.sent;
+        if (strcmp(word, "sat") == 0) {
+            item->kind = value[0] == 'G' ? NB_GPS : NB_GALILEO;
+            item->gps.satellite = item->kind == NB_GPS ? (uint32_t)atoi(value + 1) : 0;
+            item->gal.satellite = item->kind == NB_GPS ? 0 : (uint32_t)atoi(value + 1);
+        } else if (strcmp(word, "moment") == 0) {
+            return 0;
+        } else if (strcmp(word, "sent") == 0) {
+            sent->is_known = strcmp(value, "unknown") != 0;
+            sent->second = sent->is_known ? atoi(value) : 0;
+        } else if (item->kind == NB_GPS) {
+            put(&item->gps, gps_fields, sizeof gps_fields / sizeof *gps_fields, word, atoll(value));
+        } else {
+            put(&item->gal, gal_fields, sizeof gal_fields / sizeof *gal_fields, word, atoll(value));
+        }
+    }
+    return 1;
+}
+
+static size_t bytes_of(const char *hex, uint8_t *into) {
+    size_t n = 0;
+    unsigned byte;
+    while (sscanf(hex + 2 * n, "%2x", &byte) == 1) into[n++] = (uint8_t)byte;
+    return n;
+}
+
+static void messages(int number, const nb_item *item, const uint8_t *payload, size_t n, const uint8_t *frame, size_t size) {
+    uint8_t made[NB_FRAME_MOST];
+    uint32_t week = item->kind == NB_GPS ? item->gps.toe_week : item->gal.toe_week;
+    nb_item read, unsent = *item;
+    size_t i;
+    memset(&unsent.gps.sent, 0, sizeof unsent.gps.sent);
+    memset(&unsent.gal.sent, 0, sizeof unsent.gal.sent);
+    want(nb_message_write(item, made, sizeof made) == size && memcmp(made, frame, size) == 0, number, "frame");
+    want(nb_frame_make(payload, n, made, sizeof made) == size && memcmp(made, frame, size) == 0, number, "frame of payload");
+    want(nb_is_frame(frame, size), number, "is a frame");
+    for (i = 0; i < 8 * size; i++) {
+        memcpy(made, frame, size);
+        made[i / 8] ^= (uint8_t)(1 << i % 8);
+        if (i / 8 != 1 || i % 8 < 2) want(!nb_is_frame(made, size), number, "a bit turned");
+    }
+    memset(&read, 0, sizeof read);
+    want(nb_message_read(payload, n, week, &read) == NB_OK && memcmp(&read, &unsent, sizeof read) == 0, number, "read");
+    want(nb_message_read(payload, n - 1, week, &read) == NB_SHORT, number, "short");
+    want(nb_message_read(payload, n, 1023, &read) == NB_NO_WEEK, number, "week");
+    memset(made, 0xAA, sizeof made);
+    want(nb_message_write(item, made, 10) == size && memcmp(made, frame, 10) == 0 && made[10] == 0xAA, number, "room");
+}
+
+/* The record of the item in the file of records, up to the line that names the next. */
+static size_t record_of(FILE *from, int number, uint8_t *into, size_t room, size_t *title) {
+    char line[200], head[32];
+    size_t used = 0;
+    int is_there = 0;
+    sprintf(head, "item %d\n", number);
+    rewind(from);
+    *title = 0;
+    while (fgets(line, sizeof line, from) != NULL) {
+        if (is_there && strncmp(line, "item ", 5) == 0) break;
+        if (is_there && used + strlen(line) <= room) {
+            memcpy(into + used, line, strlen(line));
+            used += strlen(line);
+            if (*title == 0) *title = used;
+        }
+        if (strcmp(line, head) == 0) is_there = 1;
+    }
+    return used;
+}
+
+static void records(int number, const nb_item *item, FILE *from) {
+    uint8_t expected[2048], text[2048];
+    nb_item read;
+    size_t title, used = 1, size = record_of(from, number, expected, sizeof expected, &title);
+    want(nb_record_write(item, 4, text, sizeof text, &used) == NB_OK && used == size && memcmp(text, expected, size) == 0, number,
+         "record of version 4");
+    want(nb_record_write(item, 3, text, sizeof text, &used) == NB_OK && used == size - title
+             && memcmp(text, expected + title, size - title) == 0,
+         number, "record of version 3");
+    want(nb_record_write(item, 2, text, sizeof text, &used) == NB_NO_VERSION && used == 0, number, "version 2");
+    memset(&read, 0, sizeof read);
+    want(nb_record_read(expected, size, 4, &read) == NB_OK && memcmp(&read, item, sizeof read) == 0, number, "read of version 4");
+    memset(&read, 0, sizeof read);
+    want(nb_record_read(expected + title, size - title, 3, &read) == NB_OK && memcmp(&read, item, sizeof read) == 0, number,
+         "read of version 3");
+    want(nb_record_read(expected, size - 81, 4, &read) == NB_RECORD_SHORT, number, "a record without its last line");
+    want(nb_record_read(expected, size, 2, &read) == NB_NO_VERSION, number, "read of version 2");
+}
+
+static void none(int number, const nb_item *item) {
+    nb_item other = *item;
+    uint8_t room[NB_FRAME_MOST];
+    size_t used = 1;
+    other.kind = 3;
+    want(nb_message_write(&other, room, sizeof room) == 0, number, "kind 3");
+    other = *item;
+    if (other.kind == NB_GPS) other.gps.clock.af0 = 2097152;
+    if (other.kind == NB_GALILEO) other.gal.w3.sisa = 126;
+    want(nb_message_write(&other, room, sizeof room) == 0, number, "a field past its digits");
+    want(nb_record_write(&other, 4, room, sizeof room, &used) == NB_NO_ITEM && used == 0, number, "no record");
+}
+
+int main(int argc, char **argv) {
+    static char line[4096];
+    FILE *items = argc == 3 ? fopen(argv[1], "r") : NULL, *texts = argc == 3 ? fopen(argv[2], "r") : NULL;
+    nb_item item;
+    uint8_t payload[NB_FRAME_MOST], frame[NB_FRAME_MOST];
+    size_t n = 0, size;
+    int number = 0, is_one = 0, count = 0;
+    if (items == NULL || texts == NULL) {
+        fprintf(stderr, "usage: records ITEMS RECORDS\n");
+        return 2;
+    }
+    want(nb_version() == NB_VERSION, -1, "version");
+    want(nb_message_read(payload, 0, 2295, &item) == NB_NO_NUMBER, -1, "no bytes");
+    want(nb_message_read(NULL, 0, 2295, &item) == NB_NO_NUMBER && !nb_is_frame(NULL, 0), -1, "no pointer");
+    while (fgets(line, sizeof line, items) != NULL) {
+        if (strncmp(line, "item=", 5) == 0) is_one = parse(line, &item, &number);
+        if (strncmp(line, "  payload ", 10) == 0) n = bytes_of(line + 10, payload);
+        if (is_one && strncmp(line, "  frame ", 8) == 0) {
+            size = bytes_of(line + 8, frame);
+            messages(number, &item, payload, n, frame, size);
+            records(number, &item, texts);
+            none(number, &item);
+            count++;
+        }
+    }
+    fclose(items);
+    fclose(texts);
+    printf("records: %d ephemerides, %d wrong\n", count, wrong);
+    return wrong != 0 || count == 0;
+}

@@ -1,0 +1,99 @@
+#!/usr/bin/env bash
+# Builds the library for C of the archive that bindings/archive.sh makes, and tests it from outside: the examples compiled as C99 and
+# as C++, each run of examples/runs.txt by nb_convert, the stateless calls against an independent program's values, four threads,
+# memory refused at each request, and the Python module.
+#
+#   bindings/check.sh [--archive FILE] [--sanitize] [--valgrind] [--rtklib FOLDER]
+#
+#   --archive FILE   libnavbridge_c.a (crates/navbridge_c/out/libnavbridge_c.a)
+#   --sanitize       the C side with AddressSanitizer and UBSan
+#   --valgrind       the stateless calls and one conversion under valgrind
+#   --rtklib FOLDER  the folder of RTKLIB's rtklib.h and sources: its ephemerides there and back
+#
+# Status: 0 all as it should be; 1 something differs; 2 the words are wrong, or a compiler or the archive is not there.
+set -u
+archive='' sanitize='' valgrind='' rtklib=''
+while [ $# -gt 0 ]; do
+  case $1 in
+    -h | --help)
+      sed -n '2,/^set /{/^set /d;s/^# \{0,1\}//;p}' "$0"
+      exit 0
+      ;;
+    --sanitize) sanitize='-fsanitize=address,undefined -fno-sanitize-recover=all -g' ;;
+    --valgrind) valgrind='valgrind -q --error-exitcode=9 --leak-check=full' ;;
+    --archive | --rtklib)
+      [ $# -ge 2 ] || { echo "check: $1 wants a value" >&2; exit 2; }
+      printf -v "${1#--}" %s "$(readlink -f -- "$2")"
+      shift
+      ;;
+    *)
+      echo "check: $1 is no option; --help" >&2
+      exit 2
+      ;;
+  esac
+  shift
+done
+cd "$(dirname "$(readlink -f "$0")")/.." || exit 2
+archive=${archive:-$PWD/crates/navbridge_c/out/libnavbridge_c.a}
+[ -f "$archive" ] || { echo "check: no archive $archive: bindings/archive.sh makes it" >&2; exit 2; }
+for tool in cc c++ ar make; do
+  command -v "$tool" > /dev/null || { echo "check: no $tool" >&2; exit 2; }
+done
+out=$(mktemp -d)
+trap 'rm -rf "$out"' EXIT
+made=$out/made
+wrong=0
+differs() {
+  wrong=$((wrong + 1))
+  echo "differs: $*"
+}
+if ! make -s -C bindings/c LIB="$archive" OUT="$made" CFLAGS="-O2 $sanitize" > "$out/make.log" 2>&1; then
+  cat "$out/make.log"
+  echo "check: not built" >&2
+  exit 1
+fi
+runs=0
+for program in convert convert++; do
+  while IFS='|' read -r status input output report words; do
+    case $status in '' | '#'*) continue ;; esac
+    eval "set -- $words"
+    case $output in -) output=/dev/null ;; *) output=examples/$output ;; esac
+    case $report in -) report=/dev/null ;; *) report=examples/$report ;; esac
+    (cd examples && "$made/$program" "$@" < "$input" > "$out/output" 2> "$out/report")
+    got=$?
+    runs=$((runs + 1))
+    [ "$got" = "$status" ] || differs "status $got: $program $words < $input"
+    cmp -s "$out/output" "$output" || differs "output: $program $words < $input"
+    cmp -s "$out/report" "$report" || differs "report: $program $words < $input"
+  done < examples/runs.txt
+done
+echo "convert: $runs runs"
+vectors=bindings/c/tests/vectors
+for suffix in '' ++; do
+  $valgrind "$made/records$suffix" $vectors/items.txt $vectors/records.txt || differs "records$suffix"
+  "$made/threads$suffix" examples/station.navcap examples/station.rnx --from=capture --to=rinex '--date=20240101 000000 UTC' \
+    --leap=18 || differs "threads$suffix"
+  "$made/memory_refused$suffix" examples/three.navcap examples/expected/three.rnx --from=capture --to=rinex --week=2295 \
+    '--date=20240101 000000 UTC' --leap=18 || differs "memory_refused$suffix"
+  "$made/filter$suffix" 2295 < examples/ephemerides.rtcm3 > "$out/passed" 2> /dev/null
+  cmp -s examples/ephemerides.rtcm3 "$out/passed" || differs "filter$suffix"
+  "$made/listen$suffix" 2295 < examples/ephemerides.rtcm3 2> /dev/null > "$out/records"
+  tail -n +5 examples/expected/ephemerides.rnx | cmp -s - "$out/records" || differs "listen$suffix"
+done
+if [ -n "$valgrind" ]; then
+  $valgrind "$made/convert" --from=stream --to=frames < examples/station.rtcm3 | cmp -s - examples/expected/station.frames \
+    || differs 'convert under valgrind'
+fi
+if command -v python3 > /dev/null && [ -z "$sanitize" ]; then
+  NAVBRIDGE_LIBRARY=$made/libnavbridge.so PYTHONDONTWRITEBYTECODE=1 python3 -m doctest bindings/python/navbridge.py || differs 'navbridge.py'
+  echo 'navbridge.py: its example was run'
+fi
+if [ -n "$rtklib" ]; then
+  cc -O2 -DENAGAL -Ibindings/c -I"$rtklib" -o "$out/rtklib" examples/c/rtklib.c "$rtklib"/{rtkcmn,ephemeris,preceph,sbas,rinex,geoid,qzslex}.c \
+    "$made/libnavbridge.a" -lm -lpthread 2> "$out/rtklib.log" || cc -O2 -DENAGAL -Ibindings/c -I"$rtklib" -o "$out/rtklib" examples/c/rtklib.c \
+    "$made/libnavbridge.a" -lRTKLib -lm 2> "$out/rtklib.log" || { cat "$out/rtklib.log"; differs 'rtklib not built'; }
+  "$out/rtklib" 2295 < examples/ephemerides.rtcm3 > "$out/positions" || differs 'rtklib'
+  echo "rtklib: $(wc -l < "$out/positions") positions"
+fi
+echo "bindings: $wrong differ"
+[ "$wrong" = 0 ]

@@ -1,0 +1,31 @@
+-- Ephemeris messages, read into the numbers that C has and written of them.
+use Rattle.std.specs.Prelude.{◌≡◌, ℕ, List, Result, Ok, Err}
+use Rattle.nav_eph.specs.declared.items.NavItem.{NavItem}
+use Rattle.nav_eph.specs.declared.items.NavItem.TheVariants.{Gps, Gal, Ion}
+use Rattle.rtcm_frame.specs.Writing.{frame_bytes}
+use Rattle.rtcm_eph.specs.declared.fault.MessageFault.{MessageFault}
+use Rattle.rtcm_eph.specs.declared.fault.MessageFault.TheVariants.{NoNumber, OtherMessage, Short, BadSat, BadTime, SpareSisa}
+use Rattle.rtcm_eph.specs.Writing.{bytes_1019, bytes_1046}
+use Rattle.c_records.specs.declared.item_raw.ItemRaw.{ItemRaw}
+use Rattle.c_records.specs.Items.{raw_item}
+use Rattle.c_records.specs.Rooms.{IsLeft, StandsIn}
+
+-- the number of a fault
+abbrev pub message_status : MessageFault → ℕ
+message_status NoNumber = 16
+message_status (OtherMessage number) = 17
+message_status Short = 18
+message_status BadSat = 19
+message_status BadTime = 20
+message_status SpareSisa = 21
+
+-- the item of a message is put, or its fault is answered and nothing is put
+abbrev pub PutsMessage : Result NavItem MessageFault → ItemRaw → ItemRaw → ℕ → Type 0
+PutsMessage (Ok item) old new status = (status ≡ 0) × (new ≡ raw_item item old)
+PutsMessage (Err fault) old new status = (status ≡ message_status fault) × (new ≡ old)
+
+-- the frame of the message of an item stands in the room; an ionosphere has none
+abbrev pub FrameStandsIn : NavItem → List ℕ → List ℕ → ℕ → Type 0
+FrameStandsIn (Gps e) old new used = StandsIn old new used (frame_bytes (bytes_1019 e))
+FrameStandsIn (Gal e) old new used = StandsIn old new used (frame_bytes (bytes_1046 e))
+FrameStandsIn (Ion e) old new used = IsLeft old new used

@@ -1,0 +1,366 @@
+-- How a conversion over memory ends, by how a run ended.
+use Rattle.std.proofs.Common.{◌≡◌, ◌≢◌, ◌≤◌, ◌<◌, ◌^◌, ◌⊎◌, ◌↔◌, inl, inr, refl, sym, ap, ◌∙◌, subst, arith, ℕ, Bool, true, false, List, [], ◌++◌, length, append-nil, length-append}
+use Rattle.std.proofs.lemmas.Bool.{eq-eqb, eqb-true, ltb-true, ltb-false}
+use Rattle.std.specs.Prelude.{All, IsUtf8, Option, None, Some, Result, Ok, Err, IfSome, IsSome, IsTrue, nat_lt, ◌==◌, if◌then◌else◌}
+use Rattle.std.specs.Io.KnownBytes.{Appends, Consumes, IsAtEnd}
+use Rattle.nav_io.specs.Prefix.{AppendsPrefix, IsPrefix}
+use Rattle.one_run.specs.declared.fault.BridgeFault.{BridgeFault}
+use Rattle.one_run.specs.declared.fault.BridgeFault.TheVariants.{ReadFault, WriteFault, ReportFault, NotThisForm, TooLong, NoMemory}
+use Rattle.one_run.specs.Runs.{AppendsBetween, Broke, Done, Ended, World, bytes_for, world}
+use Rattle.one_run.specs.Ends.{EndedBy, RanBy, status_of}
+use Rattle.bridge_engine.specs.Job.{GivesJob, IsJob}
+use Rattle.bridge_engine.specs.Meanings.{meaning_of}
+use Rattle.bridge_engine.specs.declared.job.Job.{Job}
+use Rattle.navbridge_c.specs.Conversions.{Converts, ForJob, HasEnded, IsBegun, IsWhole, Made, made_of, nothing, read_by}
+use Rattle.c_records.specs.Rooms.{StandsIn}
+use Rattle.navbridge_c.specs.Mirrors.{HasEndedInMemory, in_memory, in_room}
+
+-- ---- each end by itself
+
+-- two numerals that differ
+no : (a b : ℕ) → (a == b) ≡ false → a ≡ b → ⊥
+no a b differ same = let both : false ≡ true = sym differ ∙ eq-eqb a b same in cc
+
+whole_end : (words : List (List ℕ)) (input : List ℕ) (made : Made) (job : Job) → All IsUtf8 words → IsJob words job → IsWhole job input made → HasEndedInMemory words input made 0
+whole_end words input made job texts is whole = record {
+  done = λ e. (job, is, (whole, omega arith, omega arith));
+  no_job = λ e. absurd (no 0 2 refl e);
+  reads = no 0 3 refl;
+  output_short = λ e. absurd (no 0 4 refl e);
+  not_this_form = λ e. absurd (no 0 5 refl e);
+  no_memory = λ e. absurd (no 0 6 refl e);
+  report_short = λ e. absurd (no 0 7 refl e);
+  too_long = λ e. absurd (no 0 8 refl e);
+  no_text = (λ e. absurd (no 0 9 refl e), λ not. absurd (not texts));
+  nothing_of_it = λ e. absurd (no 0 9 refl e);
+  known = omega arith;
+  not_one = no 0 1 refl;
+}
+
+no_job_end : (words : List (List ℕ)) (input : List ℕ) → All IsUtf8 words → (GivesJob words → ⊥) → HasEndedInMemory words input nothing 2
+no_job_end words input texts none = record {
+  done = λ e. absurd (no 2 0 refl e);
+  no_job = λ e. (none, refl);
+  reads = no 2 3 refl;
+  output_short = λ e. absurd (no 2 4 refl e);
+  not_this_form = λ e. absurd (no 2 5 refl e);
+  no_memory = λ e. absurd (no 2 6 refl e);
+  report_short = λ e. absurd (no 2 7 refl e);
+  too_long = λ e. absurd (no 2 8 refl e);
+  no_text = (λ e. absurd (no 2 9 refl e), λ not. absurd (not texts));
+  nothing_of_it = λ e. absurd (no 2 9 refl e);
+  known = omega arith;
+  not_one = no 2 1 refl;
+}
+
+form_end : (words : List (List ℕ)) (input : List ℕ) (job : Job) → All IsUtf8 words → IsJob words job
+    → (meaning_of job).counts (read_by job input) ≡ None → HasEndedInMemory words input nothing 5
+form_end words input job texts is none = record {
+  done = λ e. absurd (no 5 0 refl e);
+  no_job = λ e. absurd (no 5 2 refl e);
+  reads = no 5 3 refl;
+  output_short = λ e. absurd (no 5 4 refl e);
+  not_this_form = λ e. (job, is, (none, refl));
+  no_memory = λ e. absurd (no 5 6 refl e);
+  report_short = λ e. absurd (no 5 7 refl e);
+  too_long = λ e. absurd (no 5 8 refl e);
+  no_text = (λ e. absurd (no 5 9 refl e), λ not. absurd (not texts));
+  nothing_of_it = λ e. absurd (no 5 9 refl e);
+  known = omega arith;
+  not_one = no 5 1 refl;
+}
+
+pub memory_end : (words : List (List ℕ)) (input : List ℕ) (made : Made) → All IsUtf8 words
+    → (made ≡ nothing) ⊎ ForJob words (λ job. IsBegun job input made) → HasEndedInMemory words input made 6
+memory_end words input made texts some = record {
+  done = λ e. absurd (no 6 0 refl e);
+  no_job = λ e. absurd (no 6 2 refl e);
+  reads = no 6 3 refl;
+  output_short = λ e. absurd (no 6 4 refl e);
+  not_this_form = λ e. absurd (no 6 5 refl e);
+  no_memory = λ e. some;
+  report_short = λ e. absurd (no 6 7 refl e);
+  too_long = λ e. absurd (no 6 8 refl e);
+  no_text = (λ e. absurd (no 6 9 refl e), λ not. absurd (not texts));
+  nothing_of_it = λ e. absurd (no 6 9 refl e);
+  known = omega arith;
+  not_one = no 6 1 refl;
+}
+
+long_end : (words : List (List ℕ)) (input : List ℕ) (made : Made) (job : Job) → All IsUtf8 words → IsJob words job → IsBegun job input made
+    → 2 ^ 32 ≤ length input → HasEndedInMemory words input made 8
+long_end words input made job texts is begun long = record {
+  done = λ e. absurd (no 8 0 refl e);
+  no_job = λ e. absurd (no 8 2 refl e);
+  reads = no 8 3 refl;
+  output_short = λ e. absurd (no 8 4 refl e);
+  not_this_form = λ e. absurd (no 8 5 refl e);
+  no_memory = λ e. absurd (no 8 6 refl e);
+  report_short = λ e. absurd (no 8 7 refl e);
+  too_long = λ e. (job, is, (begun, long));
+  no_text = (λ e. absurd (no 8 9 refl e), λ not. absurd (not texts));
+  nothing_of_it = λ e. absurd (no 8 9 refl e);
+  known = omega arith;
+  not_one = no 8 1 refl;
+}
+
+pub text_end : (words : List (List ℕ)) (input : List ℕ) → (All IsUtf8 words → ⊥) → HasEndedInMemory words input nothing 9
+text_end words input none = record {
+  done = λ e. absurd (no 9 0 refl e);
+  no_job = λ e. absurd (no 9 2 refl e);
+  reads = no 9 3 refl;
+  output_short = λ e. absurd (no 9 4 refl e);
+  not_this_form = λ e. absurd (no 9 5 refl e);
+  no_memory = λ e. absurd (no 9 6 refl e);
+  report_short = λ e. absurd (no 9 7 refl e);
+  too_long = λ e. absurd (no 9 8 refl e);
+  no_text = (λ e. none, λ not. refl);
+  nothing_of_it = λ e. refl;
+  known = omega arith;
+  not_one = no 9 1 refl;
+}
+
+-- ---- what was taken
+
+abbrev bytes_by : Bool → List ℕ → Option (List ℕ)
+bytes_by reads bytes = if reads then Some bytes else Some []
+
+all_taken : (reads : Bool) (input rest taken : List ℕ) → Consumes (bytes_by reads input) (bytes_by reads rest) taken → IsAtEnd (bytes_by reads rest)
+    → taken ≡ (if reads then input else [])
+all_taken true input rest taken takes end = sym (takes ∙ ap (λ (l : List ℕ). taken ++ l) end ∙ append-nil taken)
+all_taken false input rest taken takes end = sym (takes ∙ append-nil taken)
+
+prefix_taken : (reads : Bool) (input rest taken : List ℕ) → Consumes (bytes_by reads input) (bytes_by reads rest) taken → IsPrefix taken (if reads then input else [])
+prefix_taken true input rest taken takes = (rest, takes)
+prefix_taken false input rest taken takes = ([], takes)
+
+long_taken : (reads : Bool) (input rest taken : List ℕ) → Consumes (bytes_by reads input) (bytes_by reads rest) taken → length taken ≡ 2 ^ 32 → 2 ^ 32 ≤ length input
+long_taken true input rest taken takes long = omega (arith, ap length takes, length-append taken rest)
+long_taken false input rest taken takes long =
+    let nil : List ℕ = [] in
+    absurd (omega (arith, ap length takes, length-append taken nil))
+
+refused_by : {C : Type 0} (counts : List ℕ → Option C) (reads : Bool) (input : List ℕ) → IfSome (bytes_by reads input) (λ bytes. counts bytes ≡ None)
+    → counts (if reads then input else []) ≡ None
+refused_by counts true input none = none
+refused_by counts false input none = none
+
+-- what grew from nothing
+grown : (old new text : List ℕ) → old ≡ [] → new ≡ old ++ text → new ≡ text
+grown old new text none grew = grew ∙ ap (λ (l : List ℕ). l ++ text) none
+
+-- ---- a run over memory
+
+module _ {S T U : Type 0} (left : S → List ℕ) (written : T → List ℕ) (writes : T → ℕ) (reported : U → List ℕ) (reports : U → ℕ) where
+  abbrev world_at : S → T → U → World S T U
+  world_at i o r = world i (Some (left i)) true 0 o (Some (written o)) (writes o) r (Some (reported r)) (reports r)
+
+  whole_of : (job : Job) (i i' : S) (o o' : T) (r r' : U) (counts : Unit {0}) → written o ≡ [] → reported r ≡ []
+      → Done (meaning_of job) (world_at i o r) (world_at i' o' r') counts → IsWhole job (left i) (made_of (written o') (reported r'))
+  whole_of job i i' o o' r r' counts none silent done =
+      let m = meaning_of job in
+      let all : done.taken ≡ read_by job (left i) = all_taken m.reads (left i) (left i') done.taken done.consumes done.end in
+      record {
+        accepted = subst (λ (l : List ℕ). IsSome (m.counts l)) all (subst (λ (x : Option (Unit {0})). IsSome x) (sym done.counted) refl);
+        fits = subst (λ (l : List ℕ). length l < 2 ^ 32) all done.fits;
+        output = grown _ _ _ none done.text ∙ ap m.whole.output all;
+        report = grown _ _ _ silent done.told ∙ ap m.whole.report all;
+      }
+
+  begun_of : (job : Job) (i i' : S) (o o' : T) (r r' : U) (fault : BridgeFault) → written o ≡ [] → reported r ≡ []
+      → Broke (meaning_of job) (world_at i o r) (world_at i' o' r') fault → IsBegun job (left i) (made_of (written o') (reported r'))
+  begun_of job i i' o o' r r' fault none silent broke =
+      let m = meaning_of job in
+      let is : broke.text.prefix ≡ written o' = sym (grown _ _ _ none broke.text.grew) in
+      let told : broke.told.0 ≡ reported r' = sym (grown _ _ _ silent broke.told.2) in
+      record {
+        taken = broke.taken;
+        prefix = prefix_taken m.reads (left i) (left i') broke.taken broke.consumes;
+        output = subst (λ (l : List ℕ). IsPrefix l (m.whole.output broke.taken)) is broke.text.within;
+        least = subst (λ (l : List ℕ). IsPrefix (m.least broke.taken) l) is broke.text.no_less;
+        report = subst (λ (l : List ℕ). IsPrefix l (m.whole.report broke.taken)) told broke.told.1;
+      }
+
+  nothing_of : (o o' : T) (r r' : U) → written o ≡ [] → reported r ≡ [] → o' ≡ o → r' ≡ r → nothing ≡ made_of (written o') (reported r')
+  nothing_of o o' r r' none silent same told =
+      sym (ap (λ (x : T). made_of (written x) (reported r')) same ∙ ap (λ (x : U). made_of (written o) (reported x)) told
+      ∙ ap (λ (l : List ℕ). made_of l (reported r)) none ∙ ap (λ (l : List ℕ). made_of [] l) silent)
+
+  by_end : (words : List (List ℕ)) (job : Job) (i i' : S) (o o' : T) (r r' : U) (run : Result (Unit {0}) BridgeFault) → All IsUtf8 words → IsJob words job
+      → written o ≡ [] → reported r ≡ [] → Ended (meaning_of job) (world_at i o r) (world_at i' o' r') run
+      → HasEndedInMemory words (left i) (made_of (written o') (reported r')) (in_memory (status_of run))
+  by_end words job i i' o o' r r' (Ok counts) texts is none silent done =
+      whole_end words _ _ job texts is (whole_of job i i' o o' r r' counts none silent done)
+  by_end words job i i' o o' r r' (Err ReadFault) texts is none silent broke = absurd (broke.says.2 refl)
+  by_end words job i i' o o' r r' (Err WriteFault) texts is none silent broke =
+      memory_end words _ _ texts (inr (job, is, begun_of job i i' o o' r r' WriteFault none silent broke))
+  by_end words job i i' o o' r r' (Err NotThisForm) texts is none silent broke =
+      subst (λ (made : Made). HasEndedInMemory words (left i) made 5) (nothing_of o o' r r' none silent broke.says.2 broke.says.3)
+      (form_end words (left i) job texts is (refused_by (meaning_of job).counts (meaning_of job).reads (left i) broke.says.1))
+  by_end words job i i' o o' r r' (Err NoMemory) texts is none silent broke =
+      memory_end words _ _ texts (inr (job, is, begun_of job i i' o o' r r' NoMemory none silent broke))
+  by_end words job i i' o o' r r' (Err ReportFault) texts is none silent broke =
+      memory_end words _ _ texts (inr (job, is, begun_of job i i' o o' r r' ReportFault none silent broke))
+  by_end words job i i' o o' r r' (Err TooLong) texts is none silent broke =
+      long_end words _ _ job texts is (begun_of job i i' o o' r r' TooLong none silent broke)
+      (long_taken (meaning_of job).reads (left i) (left i') broke.taken broke.consumes broke.says)
+
+  -- by what the top call ensures
+  pub ended_in_memory : (words : List (List ℕ)) (i i' : S) (o o' : T) (r r' : U) (status : ℕ) → All IsUtf8 words → written o ≡ [] → reported r ≡ []
+      → ((job : Job) × IsJob words job × RanBy (meaning_of job) (λ s. Some (left s)) (λ s. true) (λ s. 0) (λ s. Some (written s)) writes
+      (λ s. Some (reported s)) reports i i' o o' r r' status)
+      ⊎ ((((status ≡ 2) × ¬ GivesJob words) ⊎ (status ≡ 6)) × (i' ≡ i) × (o' ≡ o) × (r' ≡ r))
+      → HasEndedInMemory words (left i) (made_of (written o') (reported r')) (in_memory status)
+  ended_in_memory words i i' o o' r r' status texts none silent (inl (job, is, by)) =
+      subst (λ (s : ℕ). HasEndedInMemory words (left i) (made_of (written o') (reported r')) (in_memory s)) (sym by.is)
+      (by_end words job i i' o o' r r' by.result texts is none silent by.ended)
+  ended_in_memory words i i' o o' r r' status texts none silent (inr (inl (two, not), same, kept, told)) =
+      subst (λ (s : ℕ). HasEndedInMemory words (left i) (made_of (written o') (reported r')) (in_memory s)) (sym two)
+      (subst (λ (made : Made). HasEndedInMemory words (left i) made 2) (nothing_of o o' r r' none silent kept told) (no_job_end words (left i) texts not))
+  ended_in_memory words i i' o o' r r' status texts none silent (inr (inr six, same, kept, told)) =
+      subst (λ (s : ℕ). HasEndedInMemory words (left i) (made_of (written o') (reported r')) (in_memory s)) (sym six)
+      (memory_end words _ _ texts (inl (sym (nothing_of o o' r r' none silent kept told))))
+
+-- a word is no text, and nothing was made
+pub text_made : (words : List (List ℕ)) (input o r : List ℕ) (status : ℕ) → o ≡ [] → r ≡ [] → status ≡ 9 → (All IsUtf8 words → ⊥)
+    → HasEndedInMemory words input (made_of o r) status
+text_made words input o r status none silent is not =
+    subst (λ (s : ℕ). HasEndedInMemory words input (made_of o r) s) (sym is)
+    (subst (λ (l : List ℕ). HasEndedInMemory words input (made_of o l) 9) (sym silent)
+    (subst (λ (l : List ℕ). HasEndedInMemory words input (made_of l []) 9) (sym none) (text_end words input not)))
+
+-- there was no memory for the words, and nothing was made
+pub memory_made : (words : List (List ℕ)) (input o r : List ℕ) (status : ℕ) → o ≡ [] → r ≡ [] → status ≡ 6 → All IsUtf8 words
+    → HasEndedInMemory words input (made_of o r) status
+memory_made words input o r status none silent is texts =
+    subst (λ (s : ℕ). HasEndedInMemory words input (made_of o r) s) (sym is)
+    (subst (λ (l : List ℕ). HasEndedInMemory words input (made_of o l) 6) (sym silent)
+    (subst (λ (l : List ℕ). HasEndedInMemory words input (made_of l []) 6) (sym none) (memory_end words input nothing texts (inl refl))))
+
+-- the same words in another form
+pub same_words : (words others : List (List ℕ)) (input : List ℕ) (made : Made) (status : ℕ) → words ≡ others → HasEndedInMemory words input made status
+    → HasEndedInMemory others input made status
+same_words words others input made status same h = subst (λ (ws : List (List ℕ)). HasEndedInMemory ws input made status) same h
+
+-- ---- in the rooms that there are
+
+-- all was made, and there is room for it
+fits_end : (words : List (List ℕ)) (input : List ℕ) (made : Made) (room report_room : ℕ) → ((¬ All IsUtf8 words) → ⊥)
+    → ForJob words (λ job. IsWhole job input made × (length made.output ≤ room) × (length made.report ≤ report_room))
+    → HasEnded words input room report_room made 0
+fits_end words input made room report_room texts whole = record {
+  done = λ e. whole;
+  no_job = λ e. absurd (no 0 2 refl e);
+  reads = no 0 3 refl;
+  output_short = λ e. absurd (no 0 4 refl e);
+  not_this_form = λ e. absurd (no 0 5 refl e);
+  no_memory = λ e. absurd (no 0 6 refl e);
+  report_short = λ e. absurd (no 0 7 refl e);
+  too_long = λ e. absurd (no 0 8 refl e);
+  no_text = (λ e. absurd (no 0 9 refl e), λ not. absurd (texts not));
+  nothing_of_it = λ e. absurd (no 0 9 refl e);
+  known = omega arith;
+  not_one = no 0 1 refl;
+}
+
+-- or there is none for the output
+output_end : (words : List (List ℕ)) (input : List ℕ) (made : Made) (room report_room : ℕ) → ((¬ All IsUtf8 words) → ⊥)
+    → ForJob words (λ job. IsWhole job input made × (room < length made.output)) → HasEnded words input room report_room made 4
+output_end words input made room report_room texts whole = record {
+  done = λ e. absurd (no 4 0 refl e);
+  no_job = λ e. absurd (no 4 2 refl e);
+  reads = no 4 3 refl;
+  output_short = λ e. whole;
+  not_this_form = λ e. absurd (no 4 5 refl e);
+  no_memory = λ e. absurd (no 4 6 refl e);
+  report_short = λ e. absurd (no 4 7 refl e);
+  too_long = λ e. absurd (no 4 8 refl e);
+  no_text = (λ e. absurd (no 4 9 refl e), λ not. absurd (texts not));
+  nothing_of_it = λ e. absurd (no 4 9 refl e);
+  known = omega arith;
+  not_one = no 4 1 refl;
+}
+
+-- or for the report
+report_end : (words : List (List ℕ)) (input : List ℕ) (made : Made) (room report_room : ℕ) → ((¬ All IsUtf8 words) → ⊥)
+    → ForJob words (λ job. IsWhole job input made × (length made.output ≤ room) × (report_room < length made.report))
+    → HasEnded words input room report_room made 7
+report_end words input made room report_room texts whole = record {
+  done = λ e. absurd (no 7 0 refl e);
+  no_job = λ e. absurd (no 7 2 refl e);
+  reads = no 7 3 refl;
+  output_short = λ e. absurd (no 7 4 refl e);
+  not_this_form = λ e. absurd (no 7 5 refl e);
+  no_memory = λ e. absurd (no 7 6 refl e);
+  report_short = λ e. whole;
+  too_long = λ e. absurd (no 7 8 refl e);
+  no_text = (λ e. absurd (no 7 9 refl e), λ not. absurd (texts not));
+  nothing_of_it = λ e. absurd (no 7 9 refl e);
+  known = omega arith;
+  not_one = no 7 1 refl;
+}
+
+-- any other end is the same in every room
+other_end : (words : List (List ℕ)) (input : List ℕ) (made : Made) (room report_room status : ℕ) → (status ≡ 0 → ⊥)
+    → HasEndedInMemory words input made status → HasEnded words input room report_room made status
+other_end words input made room report_room status ne h = record {
+  done = λ e. absurd (ne e);
+  no_job = h.no_job;
+  reads = h.reads;
+  output_short = λ e. let more : length made.output < length made.output = (h.output_short e).2.1 in absurd (omega arith);
+  not_this_form = h.not_this_form;
+  no_memory = h.no_memory;
+  report_short = λ e. let more : length made.report < length made.report = (h.report_short e).2.2 in absurd (omega arith);
+  too_long = h.too_long;
+  no_text = h.no_text;
+  nothing_of_it = h.nothing_of_it;
+  known = h.known;
+  not_one = h.not_one;
+}
+
+in_rooms : (words : List (List ℕ)) (input : List ℕ) (made : Made) (room report_room : ℕ) → ((¬ All IsUtf8 words) → ⊥)
+    → (job : Job) → IsJob words job → IsWhole job input made → (more : Bool) → nat_lt room (length made.output) ≡ more
+    → (longer : Bool) → nat_lt report_room (length made.report) ≡ longer
+    → HasEnded words input room report_room made (if more then 4 else (if longer then 7 else 0))
+in_rooms words input made room report_room texts job is whole true long longer told =
+    output_end words input made room report_room texts (job, is, (whole, ltb-true room (length made.output) long))
+in_rooms words input made room report_room texts job is whole false short true long =
+    report_end words input made room report_room texts
+    (job, is, (whole, ltb-false room (length made.output) short, ltb-true report_room (length made.report) long))
+in_rooms words input made room report_room texts job is whole false short false told =
+    fits_end words input made room report_room texts
+    (job, is, (whole, ltb-false room (length made.output) short, ltb-false report_room (length made.report) told))
+
+by_zero : (words : List (List ℕ)) (input : List ℕ) (made : Made) (room report_room status : ℕ) → HasEndedInMemory words input made status
+    → (zero : Bool) → (status == 0) ≡ zero
+    → HasEnded words input room report_room made (if zero then (if nat_lt room (length made.output) then 4
+    else (if nat_lt report_room (length made.report) then 7 else 0)) else status)
+by_zero words input made room report_room status h true is =
+    let zero : status ≡ 0 = eqb-true status 0 is in
+    let whole = h.done zero in
+    in_rooms words input made room report_room (λ not. no 0 9 refl (sym zero ∙ h.no_text.1 not)) whole.0 whole.1 whole.2.0
+    (nat_lt room (length made.output)) refl (nat_lt report_room (length made.report)) refl
+by_zero words input made room report_room status h false is =
+    other_end words input made room report_room status (λ e. let both : false ≡ true = sym is ∙ eq-eqb status 0 e in cc) h
+
+pub ended_in_room : (words : List (List ℕ)) (input : List ℕ) (made : Made) (room report_room status : ℕ) → HasEndedInMemory words input made status
+    → HasEnded words input room report_room made (in_room status (length made.output) (length made.report) room report_room)
+ended_in_room words input made room report_room status h = by_zero words input made room report_room status h (status == 0) refl
+
+-- what was made, as it stands in the rooms
+pub converted : (words : List (List ℕ)) (input old new : List ℕ) (used : ℕ) (report_old report_new : List ℕ) (report_used : ℕ) (o r text told : List ℕ)
+    → (s status room report_room : ℕ) → HasEndedInMemory words input (made_of o r) s
+    → StandsIn old new used text → text ≡ o → StandsIn report_old report_new report_used told → told ≡ r
+    → room ≡ length new → report_room ≡ length report_new → status ≡ in_room s (length o) (length r) room report_room
+    → Converts words input old new used report_old report_new report_used status
+converted words input old new used report_old report_new report_used o r text told s status room report_room h stands is tells same size report_size by =
+    let whole : in_room s (length o) (length r) (length new) (length report_new) ≡ status =
+    sym (by ∙ ap (λ (n : ℕ). in_room s (length o) (length r) n report_room) size
+    ∙ ap (λ (n : ℕ). in_room s (length o) (length r) (length new) n) report_size) in
+    record {
+      made = made_of o r;
+      ended = subst (λ (n : ℕ). HasEnded words input (length new) (length report_new) (made_of o r) n) whole
+          (ended_in_room words input (made_of o r) (length new) (length report_new) s h);
+      output = subst (StandsIn old new used) is stands;
+      report = subst (StandsIn report_old report_new report_used) same tells;
+    }

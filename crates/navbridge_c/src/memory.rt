@@ -1,0 +1,40 @@
+//! A source over bytes that are lent.
+
+ghost use Rattle.std.specs.Prelude.{◌≡◌, ◌<◌, ◌≤◌, [], length, take};
+
+use nav_io::{Failed, Source};
+
+// Bytes that are lent. It never fails.
+#[derive(Drop)]
+pub(crate) struct Lent<'a> {
+    pub(crate) left: &'a [u8],
+}
+
+impl<'a> Source for Lent<'a> {
+    ghost use Rattle.std.specs.Prelude.{Some, true};
+
+    ghost left = { λ s. Some s.left.now };
+
+    ghost faults = { λ _. 0 };
+
+    ghost never_fails = { λ _. true };
+
+    /// Gives what is left, as much as there is room for.
+    fn read(&mut self, into: &mut [u8]) -> Result<usize, Failed> {
+        let count = give(self.left, into);
+        self.left = &self.left[count..];
+        Ok(count)
+    }
+}
+
+// Copies the prefix that there is room for.
+fn give(left: &[u8], into: &mut [u8]) -> usize
+    ensures left { result ≤ length left.now }
+    ensures fits { result ≤ length into.new }
+    ensures bytes { take result into.new ≡ take result left.now }
+    ensures end { result ≡ 0 → 0 < length into.new → left.now ≡ [] }
+{
+    let count = left.len().min(into.len());
+    into[..count].copy_from_slice(&left[..count]);
+    count
+}
