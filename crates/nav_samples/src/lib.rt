@@ -20,6 +20,7 @@ mod ephemerides;
 mod galileo;
 mod gps;
 mod samples;
+mod zeroes;
 
 pub use crate::ephemerides::{GalNumbers, GpsNumbers};
 pub use crate::galileo::{
@@ -29,4 +30,8 @@ pub use crate::gps::{ClockNumbers, GpsIonNumbers, OrbitANumbers, OrbitBNumbers, 
 pub use crate::samples::{
     CLOCK_OF_ZEROES, E01_OF_ISSUE_0, E01_OF_ISSUE_378, E11_OF_ZEROES, G01_OF_WEEK_1783,
     G05_OF_ZEROES, G32_OF_WEEK_2294, MESSAGE_1019_OF_G05, SIDE_OF_ZEROES,
+};
+pub use crate::zeroes::{
+    galileo_health, galileo_word1, galileo_word2, galileo_word3, galileo_word4, gps_clock,
+    gps_ionosphere, gps_orbit_a, gps_orbit_b, gps_side,
 };

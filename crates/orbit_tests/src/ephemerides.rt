@@ -1,11 +1,14 @@
 use crate::samples;
-use crate::samples::{clock, gps, orbit_a, orbit_b, word1, word2, word3, word4};
+use crate::samples::gps;
 use gnss_week::{Moment, Second, Week};
 use nav_bits::{S, U};
 use nav_eph::{
     Body, GalEph, GalHealth, GalIon, GalWord2, GpsEph, GpsIon, GpsSide, IonContent, IonEph,
     NavItem, Part, Sat, SentSecond, SentTag, Sisa, Step16, Step60, System, gal_transmission_number,
     gps_transmission_number,
+};
+use nav_samples::{
+    galileo_word1, galileo_word2, galileo_word3, galileo_word4, gps_clock, gps_orbit_a, gps_orbit_b,
 };
 
 fn side() -> GpsSide {
@@ -81,7 +84,7 @@ fn numbers() -> Option<bool> {
 // A clock of issue 7 and a health of Galileo, sent in the second 0 of a week number.
 fn clock_body(wn: U<12>) -> Option<Body> {
     let second = Second::new(0)?;
-    let clock = clock(U::from_bits(7), Step16::new(0)?);
+    let clock = gps_clock(U::from_bits(7), Step16::new(0)?);
     Some(Body::GpsClock(clock, side(), SentTag::Sent { wn, second }))
 }
 
@@ -103,9 +106,9 @@ fn parts() -> Option<bool> {
 // The ephemeris of issue 7 of G05.
 fn ephemeris(sent: SentSecond) -> Option<GpsEph> {
     let zero = Step16::new(0)?;
-    let clock = clock(U::from_bits(7), zero);
-    let a = orbit_a(U::from_bits(7), S::from_bits(0), zero);
-    let b = orbit_b(U::from_bits(7));
+    let clock = gps_clock(U::from_bits(7), zero);
+    let a = gps_orbit_a(U::from_bits(7), S::from_bits(0), zero);
+    let b = gps_orbit_b(U::from_bits(7));
     let week = Week::new(2_295)?;
     let fit = U::from_bits(0);
     GpsEph::new(gps(5)?, clock, side(), a, fit, b, week, sent)
@@ -124,7 +127,7 @@ fn items() -> Option<bool> {
     let late = NavItem::Gps(ephemeris(SentSecond::At(907_199))?);
     let early = NavItem::Gps(ephemeris(SentSecond::At(-302_400))?);
     let eph = ephemeris(SentSecond::Unknown)?;
-    let b = orbit_b(U::from_bits(8));
+    let b = gps_orbit_b(U::from_bits(8));
     late.ranges();
     let whole = late.is_whole() && !NavItem::Gps(GpsEph { b, ..eph }).is_whole();
     let alike = late.is_alike(&early) && !late.is_same(&early);
@@ -138,15 +141,19 @@ fn galileo_ephemeris(w2: GalWord2) -> Option<GalEph> {
     let issue = U::from_bits(63);
     let zero = Step60::new(0)?;
     let sisa = Sisa::new(107)?;
-    let (w1, w3, w4) = (word1(issue, zero), word3(issue, sisa), word4(issue, zero));
+    let (w1, w3, w4) = (
+        galileo_word1(issue, zero),
+        galileo_word3(issue, sisa),
+        galileo_word4(issue, zero),
+    );
     let week = Week::new(2_295)?;
     let sent = SentSecond::Unknown;
     GalEph::new(samples::galileo(5)?, w1, w2, w3, w4, health(), week, sent)
 }
 
 fn galileo() -> Option<bool> {
-    let eph = galileo_ephemeris(word2(U::from_bits(63)))?;
-    let other = galileo_ephemeris(word2(U::from_bits(64)));
+    let eph = galileo_ephemeris(galileo_word2(U::from_bits(63)))?;
+    let other = galileo_ephemeris(galileo_word2(U::from_bits(64)));
     Some(eph.w3.sisa.value() == 107 && other.is_none())
 }
 

@@ -1,11 +1,13 @@
 //! Parts as they are heard.
 
-use crate::samples::{
-    clock, galileo, gps, gps_ionosphere, orbit_a, orbit_b, side, word1, word2, word3, word4,
-};
+use crate::samples::{galileo, gps};
 use gnss_week::Second;
 use nav_bits::{S, U};
-use nav_eph::{Body, GalHealth, GalIon, Part, Sat, SentTag, Sisa, Step16, Step60};
+use nav_eph::{Body, GalIon, Part, Sat, SentTag, Sisa, Step16, Step60};
+use nav_samples::{
+    galileo_health, galileo_word1, galileo_word2, galileo_word3, galileo_word4, gps_clock,
+    gps_ionosphere, gps_orbit_a, gps_orbit_b, gps_side,
+};
 use std::alloc::{AllocError, Global};
 
 // What is heard. Where nothing else is said it is of issue 0 of G05, or of issue 5 of E11.
@@ -56,13 +58,13 @@ fn sent(wn: u64, second: u32) -> Option<SentTag> {
 
 fn clock_body(ura: u64, health: u64, tag: SentTag) -> Option<Body> {
     let toc = Step16::new(0)?;
-    let side = side(U::from_bits(ura % 16), U::from_bits(health % 64));
-    Some(Body::GpsClock(clock(U::from_bits(0), toc), side, tag))
+    let side = gps_side(U::from_bits(ura % 16), U::from_bits(health % 64));
+    Some(Body::GpsClock(gps_clock(U::from_bits(0), toc), side, tag))
 }
 
 fn orbit_body(m0: u64) -> Option<Body> {
     let toe = Step16::new(0)?;
-    let a = orbit_a(U::from_bits(0), S::from_bits(m0 % 2), toe);
+    let a = gps_orbit_a(U::from_bits(0), S::from_bits(m0 % 2), toe);
     Some(Body::GpsA(a, U::from_bits(0)))
 }
 
@@ -71,22 +73,15 @@ fn word_body(number: u8) -> Option<Body> {
     let zero = Step60::new(0)?;
     let sisa = Sisa::new(107)?;
     Some(match number {
-        1 => Body::GalW1(word1(issue, zero)),
-        2 => Body::GalW2(word2(issue)),
-        3 => Body::GalW3(word3(issue, sisa)),
-        _ => Body::GalW4(word4(issue, zero)),
+        1 => Body::GalW1(galileo_word1(issue, zero)),
+        2 => Body::GalW2(galileo_word2(issue)),
+        3 => Body::GalW3(galileo_word3(issue, sisa)),
+        _ => Body::GalW4(galileo_word4(issue, zero)),
     })
 }
 
 fn health_body(hs_e1b: u64) -> Option<Body> {
-    let health = GalHealth {
-        bgd_a: S::from_bits(0),
-        bgd_b: S::from_bits(0),
-        hs_e5b: U::from_bits(0),
-        hs_e1b: U::from_bits(hs_e1b % 4),
-        dvs_e5b: U::from_bits(0),
-        dvs_e1b: U::from_bits(0),
-    };
+    let health = galileo_health(U::from_bits(hs_e1b % 4));
     Some(Body::GalHealth(health, sent(1_271, 8)?))
 }
 
@@ -112,10 +107,13 @@ fn body(kind: Kind) -> Option<Body> {
         Kind::ClockSent { ura, wn, second } => clock_body(ura, 0, sent(wn, second)?),
         Kind::ClockOfToe { ura } => clock_body(ura, 0, toe),
         Kind::OrbitA { m0 } => orbit_body(m0),
-        Kind::OrbitB { iode } => Some(Body::GpsB(orbit_b(U::from_bits(iode % 256)))),
+        Kind::OrbitB { iode } => Some(Body::GpsB(gps_orbit_b(U::from_bits(iode % 256)))),
         Kind::Word { number } => word_body(number),
         Kind::Health { hs_e1b } => health_body(hs_e1b),
-        Kind::Ion { .. } => Some(Body::GpsIon(gps_ionosphere(), Second::new(18)?)),
+        Kind::Ion { .. } => {
+            let content = gps_ionosphere(S::from_bits(11), S::from_bits(44));
+            Some(Body::GpsIon(content, Second::new(18)?))
+        }
         Kind::GalIon => ionosphere_body(),
     }
 }

@@ -6,28 +6,18 @@ use capture_log::{
 };
 use inav_word::WordFault;
 use lnav_subframe::LnavFault;
-use nav_bits::{S, U};
-use nav_eph::{Body, GpsOrbitB, Part, Sat, System};
+use nav_bits::U;
+use nav_eph::{Body, Part, Sat, System};
+use nav_samples::gps_orbit_b;
 use rtcm_eph::MessageFault;
 use std::test::Fail;
 
 #[test]
 fn a_part_is_heard(rt: HostRuntime) -> Result<(), Fail> {
-    let orbit = GpsOrbitB {
-        iode: U::from_bits(85),
-        cic: S::from_bits(0),
-        omega0: S::from_bits(0),
-        cis: S::from_bits(0),
-        i0: S::from_bits(0),
-        crc: S::from_bits(0),
-        omega: S::from_bits(0),
-        omega_dot: S::from_bits(0),
-        idot: S::from_bits(0),
-    };
     let part = Part {
         stamp: 6,
         sat: Sat::new(System::Gps, 5).ok_or("a satellite")?,
-        body: Body::GpsB(orbit),
+        body: Body::GpsB(gps_orbit_b(U::from_bits(85))),
     };
     assert!(rt; subframe_event(Ok(part)) == Event::Heard(part));
     Ok(())

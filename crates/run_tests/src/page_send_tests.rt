@@ -6,10 +6,13 @@ ghost use Rattle.page_send.specs.Sendable.{IsEphemeris};
 use gnss_week::{RefWeek, Week};
 use nav_bits::{S, U};
 use nav_eph::{
-    GalEph, GalHealth, GalWord1, GalWord2, GalWord3, GalWord4, GpsClock, GpsEph, GpsOrbitA,
-    GpsOrbitB, GpsSide, IonContent, IonEph, NavItem, Sat, SentSecond, Sisa, Step16, Step60, System,
+    GalEph, GpsEph, IonContent, IonEph, NavItem, Sat, SentSecond, Sisa, Step16, Step60, System,
 };
 use nav_io::MemSink;
+use nav_samples::{
+    galileo_health, galileo_word1, galileo_word2, galileo_word3, galileo_word4, gps_clock,
+    gps_orbit_a, gps_orbit_b, gps_side,
+};
 use page_send::{SendFault, can_send, send_item};
 use std::alloc::{AllocError, Global};
 use std::test::Fail;
@@ -44,102 +47,28 @@ fn is_ephemeris(item: &NavItem) -> bool
 
 // An ephemeris of G05 whose numbers are all 0 but for its iodc and its week.
 fn gps(iodc: u64, week: u32) -> Option<NavItem> {
-    let clock = GpsClock {
-        iodc: U::new(iodc)?,
-        toc: Step16::new(0)?,
-        af2: S::from_bits(0),
-        af1: S::from_bits(0),
-        af0: S::from_bits(0),
-        tgd: S::from_bits(0),
-    };
-    let side = GpsSide {
-        l2_code: U::from_bits(0),
-        ura: U::from_bits(0),
-        health: U::from_bits(0),
-        l2p: U::from_bits(0),
-    };
-    let a = GpsOrbitA {
-        iode: U::from_bits(0),
-        crs: S::from_bits(0),
-        delta_n: S::from_bits(0),
-        m0: S::from_bits(0),
-        cuc: S::from_bits(0),
-        e: U::from_bits(0),
-        cus: S::from_bits(0),
-        root_a: U::from_bits(0),
-        toe: Step16::new(0)?,
-    };
-    let b = GpsOrbitB {
-        iode: U::from_bits(0),
-        cic: S::from_bits(0),
-        omega0: S::from_bits(0),
-        cis: S::from_bits(0),
-        i0: S::from_bits(0),
-        crc: S::from_bits(0),
-        omega: S::from_bits(0),
-        omega_dot: S::from_bits(0),
-        idot: S::from_bits(0),
-    };
+    let zero = Step16::new(0)?;
     let sat = Sat::new(System::Gps, 5)?;
+    let clock = gps_clock(U::new(iodc)?, zero);
+    let side = gps_side(U::from_bits(0), U::from_bits(0));
+    let a = gps_orbit_a(U::from_bits(0), S::from_bits(0), zero);
+    let fit = U::from_bits(0);
+    let b = gps_orbit_b(U::from_bits(0));
     let sent = SentSecond::At(0);
-    let eph = GpsEph::new(
-        sat,
-        clock,
-        side,
-        a,
-        U::from_bits(0),
-        b,
-        Week::new(week)?,
-        sent,
-    )?;
+    let eph = GpsEph::new(sat, clock, side, a, fit, b, Week::new(week)?, sent)?;
     Some(NavItem::Gps(eph))
 }
 
 // An ephemeris of E11 of issue 5, whose other numbers are 0 but for the accuracy.
 fn galileo(week: u32) -> Option<NavItem> {
-    let iodnav = U::from_bits(5);
-    let w1 = GalWord1 {
-        iodnav,
-        toe: Step60::new(0)?,
-        m0: S::from_bits(0),
-        e: U::from_bits(0),
-        root_a: U::from_bits(0),
-    };
-    let w2 = GalWord2 {
-        iodnav,
-        omega0: S::from_bits(0),
-        i0: S::from_bits(0),
-        omega: S::from_bits(0),
-        idot: S::from_bits(0),
-    };
-    let w3 = GalWord3 {
-        iodnav,
-        omega_dot: S::from_bits(0),
-        delta_n: S::from_bits(0),
-        cuc: S::from_bits(0),
-        cus: S::from_bits(0),
-        crc: S::from_bits(0),
-        crs: S::from_bits(0),
-        sisa: Sisa::new(107)?,
-    };
-    let w4 = GalWord4 {
-        iodnav,
-        cic: S::from_bits(0),
-        cis: S::from_bits(0),
-        toc: Step60::new(0)?,
-        af0: S::from_bits(0),
-        af1: S::from_bits(0),
-        af2: S::from_bits(0),
-    };
-    let health = GalHealth {
-        bgd_a: S::from_bits(0),
-        bgd_b: S::from_bits(0),
-        hs_e5b: U::from_bits(0),
-        hs_e1b: U::from_bits(0),
-        dvs_e5b: U::from_bits(0),
-        dvs_e1b: U::from_bits(0),
-    };
+    let issue = U::from_bits(5);
+    let zero = Step60::new(0)?;
     let sat = Sat::new(System::Gal, 11)?;
+    let w1 = galileo_word1(issue, zero);
+    let w2 = galileo_word2(issue);
+    let w3 = galileo_word3(issue, Sisa::new(107)?);
+    let w4 = galileo_word4(issue, zero);
+    let health = galileo_health(U::from_bits(0));
     let sent = SentSecond::At(8);
     let eph = GalEph::new(sat, w1, w2, w3, w4, health, Week::new(week)?, sent)?;
     Some(NavItem::Gal(eph))
