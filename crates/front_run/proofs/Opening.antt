@@ -11,7 +11,7 @@ use Rattle.file_step.specs.declared.step.StepFault.{StepFault}
 use Rattle.front_run.specs.Asked.{AcceptsAs, CanAsk, CanConvert, ConvertsAs, Makes, MakesAs, PutsAs}
 use Rattle.front_run.specs.Forms.{form_of}
 use Rattle.front_run.specs.Logs.{read_as}
-use Rattle.front_run.specs.Steps.{Ended, EndsSo, IsLack, IsSix, LacksMore, Opened, Stepped, counted}
+use Rattle.front_run.specs.Steps.{Ended, EndsSo, FaultCounts, Gave, IsLack, IsSix, LacksMore, Named, Opened, Stepped, counted}
 use Rattle.front_run.specs.Tasks.{IsReady, IsTask, can_be, makes_by}
 use Rattle.front_run.specs.declared.convert.Ready.{Ready}
 use Rattle.front_run.specs.declared.plans.Plan.{Plan}
@@ -135,6 +135,48 @@ stopped plan source old new part name reports reports_new files files_new done s
       puts = tt;
       stays = stays_same old part;
       complete = mapped source _ _ (λ bytes each can no_report no_file. each can no_file) why;
+    })
+
+-- ---- a source, which is given back
+
+pub named : (makes : List ℕ → List ℕ) (can : List ℕ → Type 0) (left : Option (List ℕ)) (old new : Folders) (part name : List ℕ)
+    (before after : FaultCounts) (count : ℕ) (done : Result (Unit {0}) (StepFault ℕ)) (result : Result (Unit {0}) Stop)
+    → Stepped makes can IsSix left old new part name before after count done → EndsSo IsSix count done result
+    → Named makes can left old new part name before after result
+named makes can left old new part name before after count done result step ends = record {
+  put = on_ended done result IsSix count _ ends step.put;
+  stays = on_failed done result IsSix count _ ends step.stays;
+  complete = mapped left _ _ (λ bytes each can_it no_read no_report no_file.
+      lack_of done result count ends (each can_it no_read no_report no_file)) step.complete;
+}
+
+pub gave : (one : OneJob) (plan : Plan) (ready : Ready) (source whole left : Option (List ℕ)) (old new : Folders) (part name : List ℕ)
+    (reads reads_mid reads_new reports reports_new files files_new : ℕ) (done : Result (Unit {0}) Stop)
+    → whole ≡ source → Keeps whole left → IsReady plan source ready → reads_mid ≡ reads
+    → Named (λ bytes. makes_by ready.task (read_as ready.kind bytes)) (can_be ready.task ready.kind) left old new part name
+    (counted reads_mid reports files) (counted reads_new reports_new files_new) done
+    → Gave plan source old new part name (counted reads reports files) (counted reads_new reports_new files_new) done
+gave one plan ready source whole left old new part name reads reads_mid reads_new reports reports_new files files_new done same keeps is stayed end =
+    let keeps : Keeps source left = kept_of source whole left same keeps in
+    record {
+      puts = on_ok done _ _ end.put (made_of plan ready source left (λ made. Publishes old new part name (Some made)) keeps is);
+      stays = end.stays;
+      complete = can_of one plan ready source left
+          ((Rose reads reads_new → ⊥) → (Rose reports reports_new → ⊥) → (Rose files files_new → ⊥) → IfErr done IsLack) keeps is
+          (subst (λ (x : ℕ). IfSome left (λ bytes. can_be ready.task ready.kind bytes → (Rose x reads_new → ⊥) → (Rose reports reports_new → ⊥)
+          → (Rose files files_new → ⊥) → IfErr done IsLack)) stayed end.complete);
+    }
+
+-- a source that was not converted since something was wanting, or since a read failed
+pub unprepared : (plan : Plan) (source : Option (List ℕ)) (files : Folders) (part name : List ℕ) (before after : FaultCounts)
+    (done : Result (Unit {0}) Stop) (stop : Stop) → done ≡ Err stop
+    → IfSome source (λ bytes. CanConvert plan bytes → (Rose before.reads after.reads → ⊥) → IsLack stop)
+    → Gave plan source files files part name before after done
+unprepared plan source files part name before after done stop is why =
+    rw is (record {
+      puts = tt;
+      stays = stays_same files part;
+      complete = mapped source _ _ (λ bytes each can no_read no_report no_file. each can no_read) why;
     })
 
 -- ---- a file that is opened

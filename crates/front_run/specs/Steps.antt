@@ -66,7 +66,23 @@ pub record Ended (makes : List ℕ → List ℕ) (can : List ℕ → Type 0) (le
   pub stays : OnErr done (Stays old new part)
   pub complete : IfSome left (λ bytes. can bytes → ¬ Rose reports reports_new → ¬ Rose files files_new → IfErr done IsLack)
 
--- the same as the plan asks
+-- the same as of a step of a source, which is given back
+pub record Named (makes : List ℕ → List ℕ) (can : List ℕ → Type 0) (left : Option (List ℕ)) (old new : Option (List ℕ → Option (List ℕ)))
+    (part name : List ℕ) (before after : FaultCounts) (done : Result (Unit {0}) Stop) : Type 0 where
+  pub put : OnOk done (IfSome left (λ bytes. Publishes old new part name (Some (makes bytes))))
+  pub stays : OnErr done (Stays old new part)
+  pub complete : IfSome left (λ bytes. can bytes → ¬ Rose before.reads after.reads → ¬ Rose before.reports after.reports
+      → ¬ Rose before.files after.files → IfErr done IsLack)
+
+-- the same of a source, as the plan asks
+pub record Gave (plan : Plan) (left : Option (List ℕ)) (old new : Option (List ℕ → Option (List ℕ)))
+    (part name : List ℕ) (before after : FaultCounts) (done : Result (Unit {0}) Stop) : Type 0 where
+  pub puts : OnOk done (IfSome left (λ bytes. PutsAs plan bytes old new part name))
+  pub stays : OnErr done (Stays old new part)
+  pub complete : IfSome left (λ bytes. CanConvert plan bytes → ¬ Rose before.reads after.reads → ¬ Rose before.reports after.reports
+      → ¬ Rose before.files after.files → IfErr done IsLack)
+
+-- the same of a file, as the plan asks
 pub record Opened (plan : Plan) (left : Option (List ℕ)) (old new : Option (List ℕ → Option (List ℕ)))
     (part name : List ℕ) (reports reports_new files files_new : ℕ) (done : Result (Unit {0}) Stop) : Type 0 where
   pub puts : OnOk done (IfSome left (λ bytes. PutsAs plan bytes old new part name))

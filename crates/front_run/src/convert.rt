@@ -8,22 +8,23 @@ ghost use Rattle.file_step.specs.Files.{Publishes, Stays};
 ghost use Rattle.file_step.specs.Steps.{bytes_of};
 ghost use Rattle.front_run.specs.Asked.{CanConvert, ConvertsAs, PutsAs};
 ghost use Rattle.front_run.specs.Logs.{read_as};
-ghost use Rattle.front_run.specs.Steps.{Ended, IsLack, IsSix, Opened, Stepped, counted};
+ghost use Rattle.front_run.specs.Steps.{Ended, Gave, IsLack, IsSix, Named, Opened, Stepped};
+ghost use Rattle.front_run.specs.Steps.{counted};
 ghost use Rattle.front_run.specs.Tasks.{IsReady, can_be, makes_by};
 
-use crate::ends::{Outcome, Told, ended};
+use crate::ends::{Outcome, Sourced, Told, ended};
 use crate::logs::put_as;
 use crate::looking::look;
 use crate::plans::Plan;
 use crate::puts::{Put, Stop};
 use crate::tasks::{Task, TaskRun, ask};
 use bridge_engine::words_give_one_job;
-use file_form::{Kind, LOOKED_AT};
+use file_form::Kind;
 use file_step::{FileFault, Folder};
 use log_source::Refusals;
 use nav_io::{Sink, Source};
 use peek_io::{PeekFault, Peeked, Progress};
-use std::alloc::{AllocError, Global};
+use std::alloc::Global;
 
 /// The form of an input, and what is done with it.
 #[derive(Drop)]
@@ -83,10 +84,8 @@ fn convert_opened<F: Folder, U: Sink + Drop, N: Refusals, P: Progress>(
         part.now name.now (U.faults told.report) (U.faults result.report)
         (F.faults folder.old) (F.faults folder.new) result.done }
 {
-    match Peeked::new(alloc, input, LOOKED_AT) {
-        Ok(input) => convert_peeked(alloc, plan, folder, input, told, part, name),
-        Err(AllocError) => Outcome::stopped(Stop::NoMemory, told.report),
-    }
+    let input = Peeked::new(alloc, input);
+    convert_peeked(alloc, plan, folder, input, told, part, name)
 }
 
 // The same before it was looked at.
@@ -141,16 +140,24 @@ pub fn convert_source<F: Folder, S: Source + Drop, U: Sink + Drop, N: Refusals, 
     told: Told<U, N, P>,
     part: &str,
     name: &str,
-) -> Outcome<U>
+) -> Sourced<U, S>
     requires { part.now ≢ name.now }
-    ensures puts { OnOk result.done (IfSome (S.left source) (λ bytes.
+    ensures puts { OnOk result.outcome.done (IfSome (S.left source) (λ bytes.
         PutsAs plan.now bytes (F.files folder.old) (F.files folder.new) part.now name.now)) }
-    ensures stays { OnErr result.done (Stays (F.files folder.old) (F.files folder.new) part.now) }
+    ensures stays { OnErr result.outcome.done
+        (Stays (F.files folder.old) (F.files folder.new) part.now) }
+
+    // It is done where the bytes of the source are accepted and nothing fails, but for want of memory
+    // or of a log's 2^64 - 16,384 bytes.
+    ensures complete { IfSome (S.left source) (λ bytes.
+        CanConvert plan.now bytes
+        → ¬ Rose (S.faults source) (S.faults result.source)
+        → ¬ Rose (U.faults told.report) (U.faults result.outcome.report)
+        → ¬ Rose (F.faults folder.old) (F.faults folder.new)
+        → IfErr result.outcome.done IsLack) }
 {
-    match Peeked::new(alloc, source, LOOKED_AT) {
-        Ok(input) => source_peeked(alloc, plan, folder, input, told, part, name),
-        Err(AllocError) => Outcome::stopped(Stop::NoMemory, told.report),
-    }
+    let input = Peeked::new(alloc, source);
+    source_peeked(alloc, plan, folder, input, told, part, name)
 }
 
 // The same before it was looked at.
@@ -162,18 +169,24 @@ fn source_peeked<F: Folder, S: Source + Drop, U: Sink + Drop, N: Refusals, P: Pr
     told: Told<U, N, P>,
     part: &str,
     name: &str,
-) -> Outcome<U>
+) -> Sourced<U, S>
     requires apart { part.now ≢ name.now }
     requires unseen { input.prefix.items ≡ [] }
     requires whole { ⟦<Peeked<S> as Source>⟧.left input ≡ S.left input.source }
-    ensures puts { OnOk result.done (IfSome (S.left input.source) (λ bytes.
-        PutsAs plan.now bytes (F.files folder.old) (F.files folder.new) part.now name.now)) }
-    ensures stays { OnErr result.done (Stays (F.files folder.old) (F.files folder.new) part.now) }
+    ensures { Gave plan.now (S.left input.source) (F.files folder.old) (F.files folder.new)
+        part.now name.now
+        (counted (S.faults input.source) (U.faults told.report) (F.faults folder.old))
+        (counted (S.faults result.source) (U.faults result.outcome.report)
+        (F.faults folder.new)) result.outcome.done }
 {
+    words_give_one_job();
     let mut input = input;
     match prepare(alloc, plan, &mut input) {
         Ok(ready) => run_named(alloc, folder, ready, input, told, part, name),
-        Err(stop) => Outcome::stopped(stop, told.report),
+        Err(stop) => Sourced {
+            outcome: Outcome::stopped(stop, told.report),
+            source: input.into_source(),
+        },
     }
 }
 
@@ -300,12 +313,15 @@ fn run_named<F: Folder, S: Source + Drop, U: Sink + Drop, N: Refusals, P: Progre
     told: Told<U, N, P>,
     part: &str,
     name: &str,
-) -> Outcome<U>
+) -> Sourced<U, S>
     requires { part.now ≢ name.now }
-    ensures put { OnOk result.done (IfSome (⟦<Peeked<S> as Source>⟧.left input)
-        (λ bytes. Publishes (F.files folder.old) (F.files folder.new) part.now name.now
-        (Some (makes_by ready.task (read_as ready.kind bytes))))) }
-    ensures stays { OnErr result.done (Stays (F.files folder.old) (F.files folder.new) part.now) }
+    ensures { Named (λ bytes. makes_by ready.task (read_as ready.kind bytes))
+        (can_be ready.task ready.kind)
+        (⟦<Peeked<S> as Source>⟧.left input) (F.files folder.old) (F.files folder.new)
+        part.now name.now
+        (counted (S.faults input.source) (U.faults told.report) (F.faults folder.old))
+        (counted (S.faults result.source) (U.faults result.outcome.report)
+        (F.faults folder.new)) result.outcome.done }
 {
     let kind = ready.kind;
     let left = run_ready(alloc, folder, ready, input, told, part, name);
@@ -314,13 +330,16 @@ fn run_named<F: Folder, S: Source + Drop, U: Sink + Drop, N: Refusals, P: Progre
         done,
         count,
         counts,
-        source: _,
+        source,
     } = put;
-    Outcome {
-        done: ended(kind, done, count, Ok(())),
-        report,
-        kind: Some(kind),
-        count,
-        counts,
+    Sourced {
+        outcome: Outcome {
+            done: ended(kind, done, count, Ok(())),
+            report,
+            kind: Some(kind),
+            count,
+            counts,
+        },
+        source,
     }
 }

@@ -7,7 +7,7 @@ use crate::puts::Stop;
 use file_form::Kind;
 use file_step::{FileFault, StepFault};
 use log_source::Refusals;
-use nav_io::Sink;
+use nav_io::{Sink, Source};
 use peek_io::Progress;
 use receiver_log::Counts;
 
@@ -35,6 +35,15 @@ pub struct Outcome<U: Sink> {
     pub count: u64,
     /// What was counted of a log.
     pub counts: Option<Counts>,
+}
+
+/// How the conversion of a source ended, with the source.
+#[derive(Drop)]
+pub struct Sourced<U: Sink, S: Source> {
+    /// How it ended.
+    pub outcome: Outcome<U>,
+    /// The source, which may tell why a read failed.
+    pub source: S,
 }
 
 impl<U: Sink> Outcome<U> {

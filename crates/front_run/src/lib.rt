@@ -4,7 +4,8 @@
 //! - [`Plan`], what is asked of each file, and [`words_under`], its words under a form;
 //! - [`convert_one`], from the file of one name to that of another: the whole of what is made of its
 //!   bytes, or every name as it was; and it is done where nothing fails;
-//! - [`convert_source`] and [`write_source`], the same from a source, and to a sink.
+//! - [`convert_source`] and [`write_source`], the same from a source, which is given back, and to a
+//!   sink.
 //!
 //! A log of a receiver is converted as its capture, and to a capture it is that capture itself.
 //!
@@ -30,7 +31,7 @@ mod writes;
 pub use crate::asked::AskedJob;
 pub use crate::convert::{convert_one, convert_source};
 pub use crate::copies::copy;
-pub use crate::ends::{Outcome, Told};
+pub use crate::ends::{Outcome, Sourced, Told};
 pub use crate::logs::{Log, log_of, put_as};
 pub use crate::looking::look;
 pub use crate::plans::{Plan, form_of, is_copied, words_under};

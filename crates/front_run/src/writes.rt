@@ -11,16 +11,15 @@ use crate::convert::{Ready, prepare};
 use crate::ends::{Outcome, Told, written};
 use crate::logs::{Log, log_of};
 use crate::plans::Plan;
-use crate::puts::Stop;
 use crate::tasks::TaskRun;
-use file_form::{Kind, LOOKED_AT};
+use file_form::Kind;
 use file_step::Conversion;
 use log_source::{LogParts, LogSource, Refusals};
 use nav_io::{Sink, Source};
 use peek_io::{Counted, Peeked, Progress};
 use receiver_log::{Counts, Receiver};
 use sbf_frames::SbfJudge;
-use std::alloc::{AllocError, Global};
+use std::alloc::Global;
 use ubx_frames::UbxJudge;
 
 /// What a run over an input leaves.
@@ -49,10 +48,8 @@ pub fn write_source<S: Source + Drop, T: Sink, U: Sink + Drop, N: Refusals, P: P
     ensures writes { OnOk result.done (IfSome (S.left source) (λ bytes.
         WritesAs plan.now bytes (T.written output.old) (T.written output.new))) }
 {
-    match Peeked::new(alloc, source, LOOKED_AT) {
-        Ok(input) => write_peeked(alloc, plan, input, output, told),
-        Err(AllocError) => Outcome::stopped(Stop::NoMemory, told.report),
-    }
+    let input = Peeked::new(alloc, source);
+    write_peeked(alloc, plan, input, output, told)
 }
 
 // The same before it was looked at.

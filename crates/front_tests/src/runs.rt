@@ -35,7 +35,7 @@ fn convert(
 ) -> Result<Result<(), Stop>, AllocError> {
     let part = part_of(alloc, name)?;
     let told = Told {
-        report: MemSink::new(alloc, 64, Vec::new(alloc))?,
+        report: MemSink::new(alloc, 1000, Vec::new(alloc))?,
         refusals: Unheard,
         progress: Untold,
     };

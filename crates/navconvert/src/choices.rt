@@ -1,8 +1,9 @@
 //! What is done, by what was asked.
 
 use crate::clock::ClockWords;
-use crate::files::{Task, convert_file, is_date};
+use crate::files::{Task, convert_file};
 use crate::outputs::{Output, output_of};
+use crate::refusals::is_date;
 use crate::several::{convert_joined, joins};
 use crate::telling::tell_program;
 use file_step::{FileFault, fault_of};

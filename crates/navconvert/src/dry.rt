@@ -1,15 +1,15 @@
 //! The commands of `navbridge` that do the same.
 
-use crate::files::{Task, refusal_of};
+use crate::files::Task;
 use crate::outputs::{Output, name_of};
+use crate::refusals::refusal_of;
 use crate::telling::tell_file;
-use file_form::{Kind, LOOKED_AT};
+use file_form::Kind;
 use file_step::{FileInput, Folder, HostFolder};
 use file_texts::Refusal;
 use front_run::{Stop, is_copied, look, words_under};
 use nav_io::Source;
 use peek_io::{PeekFault, Peeked};
-use std::alloc::AllocError;
 
 /// Prints the command that does what is asked of a file; the status.
 pub fn show_file(task: &Task, file: &str) -> u8 {
@@ -26,10 +26,7 @@ pub fn show_file(task: &Task, file: &str) -> u8 {
 // The same, once its first bytes are there.
 fn show_source<S: Source + Drop>(task: &Task, file: &str, source: S) -> u8 {
     let alloc = task.rt.alloc();
-    let mut input = match Peeked::new(alloc, source, LOOKED_AT) {
-        Ok(input) => input,
-        Err(AllocError) => return told(task, file, Stop::NoMemory),
-    };
+    let mut input = Peeked::new(alloc, source);
     let kind = match look(task.plan.form, &mut input) {
         Ok(kind) => kind,
         Err(PeekFault::NoMemory) => return told(task, file, Stop::NoMemory),

@@ -3,17 +3,20 @@
 ghost use Rattle.std.specs.Prelude.{◌≢◌};
 
 use crate::dry::show_joined;
-use crate::files::{Task, end, file_kind, refusal_of, told_of, write_from};
+use crate::files::Task;
+use crate::forms::file_kind;
 use crate::joined::Joined;
 use crate::meter::Meter;
 use crate::outputs::{Output, name_of, placed, taken};
+use crate::standard::write_from;
+use crate::steps::{finish, told_of};
 use crate::tally::Tally;
 use crate::telling::tell_file;
 use crate::times::long_name_from;
 use file_step::{HostFolder, part_of};
 use file_texts::Refusal;
 use front_plan::{Target, row_of};
-use front_run::{Outcome, convert_source};
+use front_run::{Outcome, Sourced, convert_source};
 
 /// Whether one output is made of several files.
 pub fn joins(target: Target) -> bool {
@@ -58,43 +61,48 @@ fn refused_form<'a>(task: &Task<'a>, file: &'a str) -> Option<u8> {
 
 // Makes the output under its own name.
 fn to_name<'a>(task: &Task<'a>, output: Output, first: &'a str, files: &'a [&'a str]) -> u8 {
+    match named(task, output, first, files) {
+        Ok(name) => put_free(task, first, files, name.as_str()),
+        Err(refusal) => tell_file(task.rt, first, &refusal),
+    }
+}
+
+// The name of the output.
+fn named<'a>(
+    task: &Task<'a>,
+    output: Output,
+    first: &'a str,
+    files: &'a [&'a str],
+) -> Result<String, Refusal<'a>> {
     let alloc = task.rt.alloc();
-    let named = match task.site {
-        None => name_of(alloc, output, first, task.plan.target.ending()),
-        Some(site) => {
-            let source = Joined::new(alloc, task.rt, files);
-            match long_name_from(task, source, first, site) {
-                Ok(name) => placed(alloc, output, first, name.as_str()),
-                Err(refusal) => Err(refusal),
-            }
-        }
+    let Some(site) = task.site else {
+        return name_of(alloc, output, first, task.plan.target.ending());
     };
-    let name = match named {
-        Ok(name) => name,
-        Err(refusal) => return tell_file(task.rt, first, &refusal),
-    };
+    let source = Joined::new(alloc, task.rt, files);
+    match long_name_from(task, source, first, site) {
+        Ok(name) => placed(alloc, output, first, name.as_str()),
+        Err(refusal) => Err(refusal),
+    }
+}
+
+// Makes the output under this name, where it may have it.
+fn put_free<'a>(task: &Task<'a>, first: &'a str, files: &'a [&'a str], name: &str) -> u8 {
     for file in files {
-        if let Some(refusal) = taken(task.rt, file, name.as_str(), task.overwrites) {
+        if let Some(refusal) = taken(task.rt, file, name, task.overwrites) {
             return tell_file(task.rt, file, &refusal);
         }
     }
-    put(task, first, files, name.as_str())
+    match part_of(task.rt.alloc(), name) {
+        Ok(part) => put_part(task, first, files, part.as_str(), name),
+        Err(_) => tell_file(task.rt, first, &Refusal::NoMemory),
+    }
 }
 
-// Makes the output under this name.
-fn put<'a>(task: &Task<'a>, first: &'a str, files: &'a [&'a str], name: &str) -> u8 {
-    let part = match part_of(task.rt.alloc(), name) {
-        Ok(part) => part,
-        Err(_) => return tell_file(task.rt, first, &Refusal::NoMemory),
-    };
-    let outcome = put_joined(task, files, part.as_str(), name);
-    match outcome.done {
-        Ok(()) => end(task, first, name, &outcome),
-        Err(stop) => {
-            let refusal = refusal_of(&task.plan, stop, name, part.as_str());
-            tell_file(task.rt, first, &refusal)
-        }
-    }
+// The same, by a part of this name.
+fn put_part<'a>(task: &Task<'a>, first: &'a str, files: &'a [&'a str], part: &str, name: &str) -> u8
+    requires { part.now ≢ name.now }
+{
+    finish(task, first, part, name, put_joined(task, files, part, name))
 }
 
 // The step of the files.
@@ -108,13 +116,16 @@ fn put_joined<'a>(
 {
     let alloc = task.rt.alloc();
     let mut folder = HostFolder::new(alloc, task.rt);
-    convert_source(
+    let source = Joined::new(alloc, task.rt, files);
+    let told = told_of(task, Meter::Off);
+    let Sourced { outcome, source: _ } = convert_source(
         alloc,
         &task.plan,
         &mut folder,
-        Joined::new(alloc, task.rt, files),
-        told_of(task, Meter::Off),
+        source,
+        told,
         part,
         name,
-    )
+    );
+    outcome
 }

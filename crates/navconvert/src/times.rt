@@ -1,8 +1,9 @@
 //! The times in a navigation file that is made.
 
-use crate::files::{Task, refusal_of};
+use crate::files::Task;
 use crate::meter::Meter;
 use crate::notes::Notes;
+use crate::refusals::refusal_of;
 use crate::tally::Tally;
 use arrayvec::ArrayVec;
 use file_texts::{Refusal, long_name};

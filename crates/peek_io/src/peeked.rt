@@ -38,21 +38,17 @@ pub struct Peeked<S: Source> {
 }
 
 impl<S: Source> Peeked<S> {
-    /// A source that was not looked at yet, with room for a look at so many bytes.
-    pub fn new(alloc: Global, source: S, most: usize) -> Result<Peeked<S>, AllocError>
-    where
-        S: Drop,
-        ensures source { IfOk result (λ peeked. peeked.source ≡ source) }
-        ensures unseen { IfOk result (λ peeked. peeked.prefix.items ≡ []) }
-        ensures left { IfOk result (λ peeked.
-            ⟦<Peeked<S> as Source>⟧.left peeked ≡ S.left source) }
+    /// A source that was not looked at yet.
+    pub fn new(alloc: Global, source: S) -> Peeked<S>
+        ensures source { result.source ≡ source }
+        ensures unseen { result.prefix.items ≡ [] }
+        ensures left { ⟦<Peeked<S> as Source>⟧.left result ≡ S.left source }
     {
-        let prefix = Vec::with_capacity(alloc, most)?;
-        Ok(Peeked {
-            prefix,
+        Peeked {
+            prefix: Vec::new(alloc),
             place: 0,
             source,
-        })
+        }
     }
 
     /// Looks at the first bytes, so many at most: fewer only where there are no more.
@@ -144,7 +140,7 @@ pub fn peek<S: Source + Drop>(alloc: Global, source: S, most: usize) -> Result<P
         (λ peeked. IsTrue (⟦<Peeked<S> as Source>⟧.never_fails peeked))
         (λ fault. fault ≡ PeekFault.NoMemory) }
 {
-    let mut peeked = Peeked::new(alloc, source, most)?;
+    let mut peeked = Peeked::new(alloc, source);
     peeked.look(most)?;
     Ok(peeked)
 }

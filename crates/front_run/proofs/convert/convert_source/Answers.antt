@@ -1,8 +1,10 @@
-use Rattle.front_run.proofs.Opening.{all_err, stays_same}
 use Rattle.front_run.proofs.convert.convert_source.Goals as goal
 
-pub returns-in-Ok-clause-puts : goal.returns-in-Ok-clause-puts
-returns-in-Ok-clause-puts g c = rw (← c.in-Ok.ensures.source) c.source_peeked.ensures.puts
+pub returns-clause-puts : goal.returns-clause-puts
+returns-clause-puts g c = rw (← c.new-input.ensures.source) c.source_peeked.ensures.puts
 
-pub returns-in-Err-clause-stays : goal.returns-in-Err-clause-stays
-returns-in-Err-clause-stays g c = all_err _ _ (stays_same _ _)
+pub returns-clause-stays : goal.returns-clause-stays
+returns-clause-stays g c = c.source_peeked.ensures.stays
+
+pub returns-clause-complete : goal.returns-clause-complete
+returns-clause-complete g c = rw (← c.new-input.ensures.source) c.source_peeked.ensures.complete

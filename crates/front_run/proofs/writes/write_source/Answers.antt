@@ -1,4 +1,4 @@
 use Rattle.front_run.proofs.writes.write_source.Goals as goal
 
-pub returns-in-Ok : goal.returns-in-Ok
-returns-in-Ok g c = record { writes = rw (← c.in-Ok.ensures.source) c.write_peeked.ensures }
+pub returns : goal.returns
+returns g c = record { writes = rw (← c.new-input.ensures.source) c.write_peeked.ensures }
