@@ -190,6 +190,36 @@ mkdir many
 for ((i = 0; i < 1000; i++)); do cp station.navcap "many/$i.navcap"; done
 run "a thousand files" 0 "999.list: 4" -t list many/*.navcap
 [ "$(find many -name '*.list' | wc -l)" = 1000 ] || differs "a thousand files" "not all are there"
+cp long.navcap grows.navcap
+(for ((i = 0; i < 20; i++)); do cat much; done >> grows.navcap) &
+run "a file that grows" 0 "g.list: 4" -t list -o g.list grows.navcap
+wait
+is_same "a file that grows" g.list "$examples/station.list"
+
+# ---- the time that it takes, beside navbridge
+# The least of five times of a command that reads big.rnx, user and system together, in milliseconds
+least() {
+  local TIMEFORMAT='%3U %3S' best=999999 user system
+  for _ in 1 2 3 4 5; do
+    read -r user system < <({ time "$@" > out 2> said < big.rnx; } 2>&1)
+    user=$((10#${user/./} + 10#${system/./}))
+    [ "$user" -ge "$best" ] || best=$user
+  done
+  echo "$best"
+}
+sed '1,/END OF HEADER/d' "$examples/station.rnx" > body
+for ((i = 0; i < 13; i++)); do cat body body > twice && mv twice body; done
+{ sed '/END OF HEADER/q' "$examples/station.rnx"; cat body; } > big.rnx
+tried=$((tried + 1))
+begun=$(least "$navconvert" --version)
+[ "$begun" -le 5 ] || differs "the start" "it takes $begun ms"
+tried=$((tried + 1))
+bridged=$(least "$program" --from rinex --to rtcm)
+cp out bridged.rtcm3
+converted=$(least "$navconvert" -q --overwrite -t rtcm -o big.rtcm3 big.rnx)
+is_same "a large file" big.rtcm3 bridged.rtcm3
+[ $((converted * 20)) -le $((bridged * 21 + 100)) ] || differs "a large file" "$converted ms, and navbridge $bridged"
+echo "$(wc -c < big.rnx) bytes of RINEX to RTCM: navconvert $converted ms, navbridge $bridged ms; the start $begun ms"
 
 echo "$tried runs, $wrong differ"
 [ "$wrong" = 0 ]

@@ -13,6 +13,7 @@ use Rattle.front_run.specs.declared.plans.Plan.{Plan}
 use Rattle.front_run.specs.declared.tasks.Task.{Task}
 use Rattle.front_run.specs.declared.tasks.Task.TheVariants.{Asked, Copied}
 use Rattle.front_run.proofs.Ended.{OneJob}
+use Rattle.front_run.proofs.Reading.{job_reads}
 
 -- ---- the job of words
 
@@ -48,13 +49,13 @@ same_asked one plan kind job other (words, are, is) (words_2, are_2, is_2) =
 
 pub asked_row : (b : Bool) (plan : Plan) (kind : Kind) → b ≡ false → AskBy b plan kind → HasRow plan kind
 asked_row true plan kind e asked = absurd (let no : true ≡ false = e in cc)
-asked_row false plan kind e (job, (words, (row, there, is), gives), reads) = (row, there)
+asked_row false plan kind e (job, (words, (row, there, is), gives)) = (row, there)
 
 -- words for a file for which there is a job give one that reads an input
 pub asked_reads : (b : Bool) (plan : Plan) (kind : Kind) (words : List (List ℕ)) → b ≡ false → AreWords plan kind words → AskBy b plan kind → GivesReadJob words
 asked_reads true plan kind words e are asked = absurd (let no : true ≡ false = e in cc)
-asked_reads false plan kind words e are (job, (others, are_2, gives), reads) =
-    (job, subst (λ (w : List (List ℕ)). IsJob w job) (same_words plan kind others words are_2 are) gives, reads)
+asked_reads false plan kind words e are (job, (others, are_2, gives)) =
+    (job, subst (λ (w : List (List ℕ)). IsJob w job) (same_words plan kind others words are_2 are) gives, job_reads plan kind others job are_2 gives)
 
 -- ---- what is done with a file
 
@@ -77,7 +78,7 @@ accepts_by : (one : OneJob) (b : Bool) (plan : Plan) (kind : Kind) (task : Task)
     → accepts task bytes
 accepts_by one true plan kind (Asked asked) bytes is can = absurd is
 accepts_by one true plan kind Copied bytes is can = tt
-accepts_by one false plan kind (Asked asked) bytes is (job, other, reads, some) =
+accepts_by one false plan kind (Asked asked) bytes is (job, other, some) =
     subst (λ (j : Job). accepts_job j bytes) (same_asked one plan kind job asked.job other is) some
 accepts_by one false plan kind Copied bytes is can = absurd is
 
@@ -87,7 +88,7 @@ accepts_of one plan kind task bytes is can = accepts_by one (is_copied kind plan
 
 ask_by : (b : Bool) (plan : Plan) (kind : Kind) (bytes : List ℕ) → AcceptsBy b plan kind bytes → AskBy b plan kind
 ask_by true plan kind bytes can = tt
-ask_by false plan kind bytes (job, asked, reads, some) = (job, asked, reads)
+ask_by false plan kind bytes (job, asked, some) = (job, asked)
 
 pub can_ask : (plan : Plan) (kind : Kind) (bytes : List ℕ) → AcceptsAs plan kind bytes → CanAsk plan kind
 can_ask plan kind bytes can = ask_by (is_copied kind plan.target) plan kind bytes can

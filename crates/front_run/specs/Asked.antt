@@ -19,10 +19,10 @@ IsAsked plan kind job = (words : List (List ℕ)) × AreWords plan kind words ×
 abbrev pub GivesReadJob : List (List ℕ) → Type 0
 GivesReadJob words = (job : Job) × IsJob words job × ((meaning_of job).reads ≡ true)
 
--- what is read is what is made, or there is such a job for a file that is read under this form
+-- what is read is what is made, or there is a job for a file that is read under this form
 abbrev pub AskBy : Bool → Plan → Kind → Type 0
 AskBy true plan kind = Unit {0}
-AskBy false plan kind = (job : Job) × IsAsked plan kind job × ((meaning_of job).reads ≡ true)
+AskBy false plan kind = (job : Job) × IsAsked plan kind job
 
 abbrev pub CanAsk : Plan → Kind → Type 0
 CanAsk plan kind = AskBy (is_copied kind plan.target) plan kind
@@ -43,7 +43,7 @@ Makes plan bytes made = MakesAs plan (form_of plan.form (kind_of bytes)) (read_a
 abbrev pub AcceptsBy : Bool → Plan → Kind → List ℕ → Type 0
 AcceptsBy true plan kind bytes = Unit {0}
 AcceptsBy false plan kind bytes =
-    (job : Job) × IsAsked plan kind job × ((meaning_of job).reads ≡ true) × IsSome ((meaning_of job).counts bytes)
+    (job : Job) × IsAsked plan kind job × IsSome ((meaning_of job).counts bytes)
 
 abbrev pub AcceptsAs : Plan → Kind → List ℕ → Type 0
 AcceptsAs plan kind bytes = AcceptsBy (is_copied kind plan.target) plan kind bytes

@@ -4,9 +4,9 @@ use file_form::Kind;
 use file_memory::MemFolder;
 use file_step::part_of;
 use front_plan::{Target, Values};
-use front_run::{Plan, Stop, Told, convert_one};
+use front_run::{Plan, Sourced, Stop, Told, convert_one, convert_source};
 use log_source::Unheard;
-use nav_io::MemSink;
+use nav_io::{MemSink, MemSource};
 use peek_io::Untold;
 use std::alloc::{AllocError, Global};
 use std::test::Fail;
@@ -34,12 +34,40 @@ fn convert(
     name: &str,
 ) -> Result<Result<(), Stop>, AllocError> {
     let part = part_of(alloc, name)?;
-    let told = Told {
+    let told = listeners(alloc)?;
+    Ok(convert_one(alloc, plan, folder, told, from, part.as_str(), name).done)
+}
+
+// Nobody but a report is told.
+fn listeners(alloc: Global) -> Result<Told<MemSink, Unheard, Untold>, AllocError> {
+    Ok(Told {
         report: MemSink::new(alloc, 1000, Vec::new(alloc))?,
         refusals: Unheard,
         progress: Untold,
-    };
-    Ok(convert_one(alloc, plan, folder, told, from, part.as_str(), name).done)
+    })
+}
+
+// How the conversion of a source of these bytes to a list ended, of which these calls fail.
+fn convert_bytes(
+    alloc: Global,
+    folder: &mut MemFolder,
+    bytes: &[u8],
+    fails: &[u32],
+) -> Result<Result<(), Stop>, AllocError> {
+    let part = part_of(alloc, "s.list")?;
+    let source = MemSource::new(bytes.to_vec(alloc)?, Vec::new(alloc), fails.to_vec(alloc)?);
+    let plan = plan_of(Target::List, None);
+    let told = listeners(alloc)?;
+    let Sourced { outcome, source: _ } = convert_source(
+        alloc,
+        &plan,
+        folder,
+        source,
+        told,
+        part.as_str(),
+        "s.list",
+    );
+    Ok(outcome.done)
 }
 
 // Whether the file of this name has these bytes, or none is there.
@@ -64,6 +92,16 @@ fn second_of_two_captures_is_refused(rt: HostRuntime) -> Result<(), Fail> {
     let done = convert(rt.alloc(), &mut folder, &plan, "b.navcap", "b.list")?;
     assert!(rt; matches!(&done, Err(Stop::Run(Kind::Capture2, 5, _, _, _))));
     assert!(rt; has(&folder, "b.list", Some(b"old")) && has(&folder, "b.list.part", None));
+    Ok(())
+}
+
+#[test]
+fn source_is_converted_unless_a_read_fails(rt: HostRuntime) -> Result<(), Fail> {
+    let mut folder = MemFolder::new(rt.alloc());
+    let done = convert_bytes(rt.alloc(), &mut folder, b"NAVCAP 2 2295 300\n", &[0])?;
+    assert!(rt; matches!(&done, Err(Stop::Look(None))) && has(&folder, "s.list", None));
+    let done = convert_bytes(rt.alloc(), &mut folder, b"NAVCAP 2 2295 300\n", &[])?;
+    assert!(rt; done.is_ok() && has(&folder, "s.list", Some(b"")));
     Ok(())
 }
 

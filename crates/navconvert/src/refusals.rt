@@ -1,12 +1,18 @@
 //! Why a file is not converted, as it is said.
 
+ghost use Rattle.std.specs.Prelude.{◌≡◌, ◌≢◌};
+ghost use Rattle.file_texts.specs.Says.{status_of};
+ghost use Rattle.navconvert.specs.Statuses.{run_status, status_for};
+
 use file_form::Kind;
 use file_step::FileFault;
 use file_texts::Refusal;
 use front_run::{Plan, Stop};
 
 /// Why a file is not converted, as it is said.
-pub fn refusal_of<'a>(plan: &Plan<'a>, stop: Stop, name: &'a str, part: &'a str) -> Refusal<'a> {
+pub fn refusal_of<'a>(plan: &Plan<'a>, stop: Stop, name: &'a str, part: &'a str) -> Refusal<'a>
+    ensures { status_of result ≡ status_for stop }
+{
     match stop {
         Stop::Open(fault) => Refusal::NotOpened(fault),
         Stop::Look(fault) => Refusal::ReadFault(0, fault.unwrap_or(FileFault::Other)),
@@ -14,16 +20,27 @@ pub fn refusal_of<'a>(plan: &Plan<'a>, stop: Stop, name: &'a str, part: &'a str)
         Stop::NoJob(_) => value_refused(plan),
         Stop::Begin(FileFault::AlreadyThere) => Refusal::PartThere(part),
         Stop::Begin(fault) | Stop::Publish(fault) => Refusal::WriteFault(name, fault),
-        // A week is always given with it, so that it is no capture.
-        Stop::Run(Kind::Capture1, 5, _, _, _) => Refusal::NotAccepted(Kind::Unknown),
-        Stop::Run(kind, 5, _, _, _) => Refusal::NotAccepted(kind),
+        Stop::Run(kind, 5, _, _, _) => not_accepted(kind),
         Stop::Run(_, status, count, read, put) => run_refused(status, count, read, put, name),
         Stop::NoMemory => Refusal::NoMemory,
     }
 }
 
+// Why a file of this form is not accepted. A week is always given with a capture that names none,
+// so that it is none.
+fn not_accepted(kind: Kind) -> Refusal<'static>
+    ensures { status_of result ≡ 5 }
+{
+    match kind {
+        Kind::Capture1 => Refusal::NotAccepted(Kind::Unknown),
+        _ => Refusal::NotAccepted(kind),
+    }
+}
+
 // Which value gives no job: the date where it is none, or else the week.
-fn value_refused<'a>(plan: &Plan<'a>) -> Refusal<'a> {
+fn value_refused<'a>(plan: &Plan<'a>) -> Refusal<'a>
+    ensures { status_of result ≡ 2 }
+{
     if is_date(plan.values.date.as_bytes()) {
         Refusal::Week(plan.values.week.unwrap_or(plan.values.clock_week))
     } else {
@@ -51,7 +68,10 @@ fn run_refused<'a>(
     read: Option<FileFault>,
     put: Option<FileFault>,
     name: &'a str,
-) -> Refusal<'a> {
+) -> Refusal<'a>
+    requires { status ≢ 5 }
+    ensures { status_of result ≡ run_status status }
+{
     match status {
         3 => Refusal::ReadFault(count, read.unwrap_or(FileFault::Other)),
         4 => Refusal::WriteFault(name, put.unwrap_or(FileFault::Other)),

@@ -1,6 +1,7 @@
 //! The step of one file: from its bytes to the file of a name.
 
-ghost use Rattle.std.specs.Prelude.{◌≢◌};
+ghost use Rattle.std.specs.Prelude.{◌≡◌, ◌≢◌, IfErr};
+ghost use Rattle.navconvert.specs.Statuses.{status_for};
 
 use crate::files::Task;
 use crate::meter::Meter;
@@ -33,7 +34,9 @@ fn put_part<'a>(task: &Task<'a>, file: &'a str, part: &str, name: &str) -> u8
 }
 
 /// Says what became of a file whose step has ended so; the status.
-pub fn finish(task: &Task, file: &str, part: &str, name: &str, outcome: Outcome<Tally>) -> u8 {
+pub fn finish(task: &Task, file: &str, part: &str, name: &str, outcome: Outcome<Tally>) -> u8
+    ensures { IfErr outcome.done (λ stop. result ≡ status_for stop) }
+{
     match outcome.done {
         Ok(()) => end(task, file, name, &outcome),
         Err(stop) => tell_file(task.rt, file, &refusal_of(&task.plan, stop, name, part)),

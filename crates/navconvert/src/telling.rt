@@ -1,5 +1,8 @@
 //! What is said on standard error.
 
+ghost use Rattle.std.specs.Prelude.{◌≡◌};
+ghost use Rattle.file_texts.specs.Says.{status_of};
+
 use crate::files::Task;
 use crate::tally::Tally;
 use file_form::Kind;
@@ -13,13 +16,17 @@ const BLANKS: &str =
     "                                                                               ";
 
 /// Says why nothing is done; the status.
-pub fn tell_program(rt: &HostRuntime, refusal: &Refusal) -> u8 {
+pub fn tell_program(rt: &HostRuntime, refusal: &Refusal) -> u8
+    ensures { result ≡ status_of refusal.now }
+{
     let _ = eprintln!(rt; "navconvert: {refusal}");
     refusal.status()
 }
 
 /// Says why a file is not converted; the status.
-pub fn tell_file(rt: &HostRuntime, file: &str, refusal: &Refusal) -> u8 {
+pub fn tell_file(rt: &HostRuntime, file: &str, refusal: &Refusal) -> u8
+    ensures { result ≡ status_of refusal.now }
+{
     clear(rt);
     let _ = eprintln!(rt; "navconvert: {file}: {refusal}");
     refusal.status()
