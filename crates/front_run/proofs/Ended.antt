@@ -97,12 +97,3 @@ complete_by one words job b a status is reads some (inr (inr six, input, output,
 pub ended_well : (left : Option (List ℕ)) (Can : List ℕ → Type 0) (A B C Shown : Type 0) → Shown
     → IfSome left (λ bytes. Can bytes → A → B → C → Shown)
 ended_well left Can A B C Shown shown = always left (λ bytes. Can bytes → A → B → C → Shown) (λ bytes can a b c. shown)
-
--- what is so of a run that is done
-pub on_written : {E F : Type 0} (done : Result (Unit {0}) E) (result : Result (Unit {0}) F) (A : Type 0)
-    → MatchResult done (λ x. result ≡ Ok tt) (λ e. IsErr result) → OnOk done A → OnOk result A
-on_written {F = F} (Ok x) result A is a = subst (λ (r : Result (Unit {0}) F). OnOk r A) (sym is) a
-on_written {F = F} (Err e) result A is a = failed result is where
-  failed : (r : Result (Unit {0}) F) → IsErr r → OnOk r A
-  failed (Ok x) bad = absurd (let no : false ≡ true = bad in cc)
-  failed (Err e) bad = tt

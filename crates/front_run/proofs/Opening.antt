@@ -1,7 +1,7 @@
 -- From a step to the conversion of a file that is opened, looked at and closed.
 use Rattle.std.proofs.Common.{◌≡◌, ◌+◌, ◌<◌, ◌≤◌, ◌^◌, ℕ, length, List, Option, None, Some, Result, Ok, Err, refl, sym, ap, subst, ◌∙◌, arith}
 use Rattle.std.specs.Prelude.{IfErr, IfOk, IfSome, MatchResult, OnErr, OnOk}
-use Rattle.std.specs.Io.KnownBytes.{Keeps}
+use Rattle.std.specs.Io.KnownBytes.{Appends, Keeps}
 use Rattle.nav_io.specs.Causes.{Rose}
 use Rattle.file_form.specs.Kinds.{kind_of}
 use Rattle.file_form.specs.declared.Kind.{Kind}
@@ -11,7 +11,7 @@ use Rattle.file_step.specs.declared.step.StepFault.{StepFault}
 use Rattle.front_run.specs.Asked.{AcceptsAs, CanAsk, CanConvert, ConvertsAs, Makes, MakesAs, PutsAs}
 use Rattle.front_run.specs.Forms.{form_of}
 use Rattle.front_run.specs.Logs.{read_as}
-use Rattle.front_run.specs.Steps.{Ended, EndsSo, FaultCounts, Gave, IsLack, IsSix, LacksMore, Named, Opened, Stepped, counted}
+use Rattle.front_run.specs.Steps.{Ended, EndsSo, FaultCounts, Gave, IsLack, IsSix, LacksMore, Named, Opened, Poured, Stepped, Wrote, counted}
 use Rattle.front_run.specs.Tasks.{IsReady, IsTask, can_be, makes_by}
 use Rattle.front_run.specs.declared.convert.Ready.{Ready}
 use Rattle.front_run.specs.declared.plans.Plan.{Plan}
@@ -177,6 +177,34 @@ unprepared plan source files part name before after done stop is why =
       puts = tt;
       stays = stays_same files part;
       complete = mapped source _ _ (λ bytes each can no_read no_report no_file. each can no_read) why;
+    })
+
+-- ---- a source that is written to a sink
+
+pub poured : (one : OneJob) (plan : Plan) (ready : Ready) (source whole left old new : Option (List ℕ))
+    (reads reads_mid reads_new reports reports_new writes writes_new : ℕ) (done : Result (Unit {0}) Stop)
+    → whole ≡ source → Keeps whole left → IsReady plan source ready → reads_mid ≡ reads
+    → Wrote (λ bytes. makes_by ready.task (read_as ready.kind bytes)) (can_be ready.task ready.kind) left old new
+    (counted reads_mid reports writes) (counted reads_new reports_new writes_new) done
+    → Poured plan source old new (counted reads reports writes) (counted reads_new reports_new writes_new) done
+poured one plan ready source whole left old new reads reads_mid reads_new reports reports_new writes writes_new done same keeps is stayed end =
+    let keeps : Keeps source left = kept_of source whole left same keeps in
+    record {
+      writes = on_ok done _ _ end.text (made_of plan ready source left (λ made. Appends old new made) keeps is);
+      complete = can_of one plan ready source left
+          ((Rose reads reads_new → ⊥) → (Rose reports reports_new → ⊥) → (Rose writes writes_new → ⊥) → IfErr done IsLack) keeps is
+          (subst (λ (x : ℕ). IfSome left (λ bytes. can_be ready.task ready.kind bytes → (Rose x reads_new → ⊥) → (Rose reports reports_new → ⊥)
+          → (Rose writes writes_new → ⊥) → IfErr done IsLack)) stayed end.complete);
+    }
+
+-- one of which nothing was written, since something was wanting, or since a read failed
+pub unpoured : (plan : Plan) (source old new : Option (List ℕ)) (before after : FaultCounts) (done : Result (Unit {0}) Stop) (stop : Stop)
+    → done ≡ Err stop → IfSome source (λ bytes. CanConvert plan bytes → (Rose before.reads after.reads → ⊥) → IsLack stop)
+    → Poured plan source old new before after done
+unpoured plan source old new before after done stop is why =
+    rw is (record {
+      writes = tt;
+      complete = mapped source _ _ (λ bytes each can no_read no_report no_write. each can no_read) why;
     })
 
 -- ---- a file that is opened

@@ -1,5 +1,5 @@
 -- The job of words that convert a file reads an input.
-use Rattle.std.proofs.Common.{◌≡◌, ◌<◌, ℕ, suc, zero, true, List, [], ◌∷◌, ◌++◌, length, codes, Option, Some, refl, sym, ap, subst, ◌∙◌, arith}
+use Rattle.std.proofs.Common.{◌≡◌, ◌<◌, ℕ, suc, zero, Bool, true, false, List, [], ◌∷◌, ◌++◌, length, bytes_eq, codes, Option, Some, refl, sym, ap, subst, ◌∙◌, arith}
 use Rattle.std.specs.Prelude.{Contains}
 use Rattle.file_form.specs.declared.Kind.{Kind}
 use Rattle.file_form.specs.declared.Kind.TheVariants as kinds
@@ -43,25 +43,31 @@ from_value w v more (option ∷ options) (rest, begins, others) (alone, once) ha
 
 -- ---- no form is a seed
 
+differ : (word : List ℕ) → bytes_eq word (codes "seed") ≡ false → word ≡ codes "seed" → ⊥
+differ word no e =
+    let yes : bytes_eq word (codes "seed") ≡ true = subst (λ (l : List ℕ). bytes_eq l (codes "seed") ≡ true) (sym e) refl in
+    let never : true ≡ false = sym yes ∙ no in
+    cc
+
 never_seed : (kind : Kind) → from_word kind ≡ codes "seed" → ⊥
-never_seed kinds.Empty e = cc
-never_seed kinds.Capture1 e = cc
-never_seed kinds.Capture2 e = cc
-never_seed kinds.Rinex4 e = cc
-never_seed kinds.Rinex3 e = cc
-never_seed kinds.Rinex2 e = cc
-never_seed kinds.Observations e = cc
-never_seed kinds.Hatanaka e = cc
-never_seed kinds.OtherRinex e = cc
-never_seed kinds.Stream e = cc
-never_seed kinds.Ubx e = cc
-never_seed kinds.Sbf e = cc
-never_seed kinds.Nmea e = cc
-never_seed kinds.Gzip e = cc
-never_seed kinds.Compress e = cc
-never_seed kinds.Zip e = cc
-never_seed kinds.Marked e = cc
-never_seed kinds.Unknown e = cc
+never_seed kinds.Empty e = differ _ refl e
+never_seed kinds.Capture1 e = differ _ refl e
+never_seed kinds.Capture2 e = differ _ refl e
+never_seed kinds.Rinex4 e = differ _ refl e
+never_seed kinds.Rinex3 e = differ _ refl e
+never_seed kinds.Rinex2 e = differ _ refl e
+never_seed kinds.Observations e = differ _ refl e
+never_seed kinds.Hatanaka e = differ _ refl e
+never_seed kinds.OtherRinex e = differ _ refl e
+never_seed kinds.Stream e = differ _ refl e
+never_seed kinds.Ubx e = differ _ refl e
+never_seed kinds.Sbf e = differ _ refl e
+never_seed kinds.Nmea e = differ _ refl e
+never_seed kinds.Gzip e = differ _ refl e
+never_seed kinds.Compress e = differ _ refl e
+never_seed kinds.Zip e = differ _ refl e
+never_seed kinds.Marked e = differ _ refl e
+never_seed kinds.Unknown e = differ _ refl e
 
 not_seed : (plan : Plan) (kind : Kind) (words : List (List ℕ)) (job : SeedJob) → AreWords plan kind words → IsJob words (jobs.Seed job) → ⊥
 not_seed plan kind words job (row, there, is) gives =

@@ -2,6 +2,7 @@
 use Rattle.std.proofs.Common.{◌≡◌, ◌⊎◌, inl, inr, ◌+◌, ◌<◌, ◌≤◌, ℕ, List, Option, None, Some, Result, Ok, Err, refl, sym, ap, subst, ◌∙◌, arith}
 use Rattle.std.proofs.lemmas.Bool.{cases_lt}
 use Rattle.std.specs.Prelude.{IfErr, IfSome, OnErr, OnOk}
+use Rattle.std.specs.Io.KnownBytes.{Appends}
 use Rattle.nav_io.specs.Causes.{Rose}
 use Rattle.file_step.specs.Files.{Publishes, Stays}
 use Rattle.file_step.specs.Steps.{BrokeOff, Lacks}
@@ -12,7 +13,8 @@ use Rattle.receiver_messages.specs.declared.said.Said.{Said}
 use Rattle.receiver_log.specs.Capture.{capture_of}
 use Rattle.receiver_log.specs.LogRuns.{too_many}
 use Rattle.log_source.specs.LogLeft.{capture_left}
-use Rattle.front_run.specs.Steps.{FaultCounts, LacksMore, Stepped, counted}
+use Rattle.front_run.specs.Steps.{FaultCounts, Flowed, IsLack, IsSix, LacksMore, Stepped, WritesSo, Wrote, counted}
+use Rattle.front_run.specs.declared.puts.Stop.{Stop}
 
 pub on_ok : {T E : Type 0} (r : Result T E) (A B : Type 0) → OnOk r A → (A → B) → OnOk r B
 on_ok (Ok x) A B a f = f a
@@ -89,3 +91,64 @@ stepped_by makes can lacks log left capture old new part name reads reads_new re
           more_by lacks count done (each can_it
           (λ rose. no_read (subst (λ (x : ℕ). Rose x reads_new) same_reads (subst (λ (x : ℕ). Rose reads_log x) (same_new few) rose))) no_report no_file)
       by_count bytes each can_it no_read no_report no_file (inr many) = broke_by lacks count files files_new done many failed no_file
+
+-- ---- a run to a sink
+
+few_lack : {E : Type 0} (done : Result (Unit {0}) E) (lacks : E → Type 0) (A : Type 0) → IfErr done lacks → IfErr done (λ fault. lacks fault ⊎ A)
+few_lack (Ok x) lacks A lack = tt
+few_lack (Err fault) lacks A lack = inl lack
+
+many_lack : {E : Type 0} (done : Result (Unit {0}) E) (lacks : E → Type 0) (A : Type 0) → A → IfErr done (λ fault. lacks fault ⊎ A)
+many_lack (Ok x) lacks A many = tt
+many_lack (Err fault) lacks A many = inr many
+
+-- What a conversion says of a run over a source that tells what is left as another does, and fails as it does: of a log only
+-- while its bytes are not too many.
+pub flowed_by : {E : Type 0} (makes : List ℕ → List ℕ) (can : List ℕ → Type 0) (lacks : E → Type 0) (log left : Option (List ℕ))
+    (capture : List ℕ → List ℕ) (old new : Option (List ℕ))
+    (reads reads_new reads_log reads_log_new reports reports_new writes writes_new count : ℕ) (done : Result (Unit {0}) E)
+    → ((P : List ℕ → Type 0) → IfSome log P → IfSome left (λ bytes. P (capture bytes)))
+    → reads_log ≡ reads → (count < too_many → reads_log_new ≡ reads_new)
+    → OnOk done (IfSome log (λ bytes. Appends old new (makes bytes)))
+    → IfSome log (λ bytes. can bytes → (Rose reads_log reads_log_new → ⊥) → (Rose writes writes_new → ⊥) → (Rose reports reports_new → ⊥)
+    → IfErr done lacks)
+    → Flowed (λ bytes. makes (capture bytes)) (λ bytes. can (capture bytes)) lacks left old new
+    (counted reads reports writes) (counted reads_new reports_new writes_new) count done
+flowed_by makes can lacks log left capture old new reads reads_new reads_log reads_log_new reports reports_new writes writes_new count done
+    told same_reads same_new text complete = record {
+      text = on_ok done _ _ text (told (λ bytes. Appends old new (makes bytes)));
+      complete = told (λ bytes. can bytes → (Rose reads reads_new → ⊥) → (Rose reports reports_new → ⊥) → (Rose writes writes_new → ⊥)
+          → IfErr done (λ fault. lacks fault ⊎ (too_many ≤ count)))
+          (mapped log _ _ (λ bytes each can_it no_read no_report no_write. by_count bytes each can_it no_read no_report no_write (cases_lt count too_many)) complete);
+    } where
+      by_count : (bytes : List ℕ)
+          → (can bytes → (Rose reads_log reads_log_new → ⊥) → (Rose writes writes_new → ⊥) → (Rose reports reports_new → ⊥) → IfErr done lacks)
+          → can bytes → (Rose reads reads_new → ⊥) → (Rose reports reports_new → ⊥) → (Rose writes writes_new → ⊥)
+          → (count < too_many) ⊎ (too_many ≤ count) → IfErr done (λ fault. lacks fault ⊎ (too_many ≤ count))
+      by_count bytes each can_it no_read no_report no_write (inl few) =
+          few_lack done lacks (too_many ≤ count) (each can_it
+          (λ rose. no_read (subst (λ (x : ℕ). Rose x reads_new) same_reads (subst (λ (x : ℕ). Rose reads_log x) (same_new few) rose))) no_write no_report)
+      by_count bytes each can_it no_read no_report no_write (inr many) = many_lack done lacks (too_many ≤ count) many
+
+-- how a run has ended, said of the outcome
+on_so : (done : Result (Unit {0}) ℕ) (result : Result (Unit {0}) Stop) (count : ℕ) (A : Type 0) → WritesSo count done result → OnOk done A → OnOk result A
+on_so (Ok x) (Ok y) count A so a = a
+on_so (Ok x) (Err stop) count A so a = tt
+on_so (Err status) (Ok y) count A so a = absurd so
+on_so (Err status) (Err stop) count A so a = tt
+
+lack_so : (done : Result (Unit {0}) ℕ) (result : Result (Unit {0}) Stop) (count : ℕ) → WritesSo count done result
+    → IfErr done (λ status. IsSix status ⊎ (too_many ≤ count)) → IfErr result IsLack
+lack_so (Ok x) (Ok y) count so lack = tt
+lack_so (Ok x) (Err stop) count so lack = absurd so
+lack_so (Err status) (Ok y) count so lack = tt
+lack_so (Err status) (Err stop) count so lack = so lack
+
+pub wrote : (makes : List ℕ → List ℕ) (can : List ℕ → Type 0) (left old new : Option (List ℕ)) (before after : FaultCounts) (count : ℕ)
+    (done : Result (Unit {0}) ℕ) (result : Result (Unit {0}) Stop)
+    → Flowed makes can IsSix left old new before after count done → WritesSo count done result → Wrote makes can left old new before after result
+wrote makes can left old new before after count done result flow so = record {
+  text = on_so done result count _ so flow.text;
+  complete = mapped left _ _ (λ bytes each can_it no_read no_report no_write.
+      lack_so done result count so (each can_it no_read no_report no_write)) flow.complete;
+}

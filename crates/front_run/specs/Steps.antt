@@ -1,11 +1,12 @@
 -- How a step ends.
 use Rattle.std.specs.Prelude.{◌≡◌, ◌⊎◌, ◌≤◌, ℕ, List, Option, Some, Result, Ok, Err, IfErr, IfSome, OnErr, OnOk}
+use Rattle.std.specs.Io.KnownBytes.{Appends}
 use Rattle.nav_io.specs.Causes.{Rose}
 use Rattle.file_step.specs.Files.{Publishes, Stays}
 use Rattle.file_step.specs.declared.step.StepFault.{StepFault}
 use Rattle.file_step.specs.declared.step.StepFault.TheVariants as steps
 use Rattle.receiver_log.specs.LogRuns.{too_many}
-use Rattle.front_run.specs.Asked.{CanConvert, PutsAs}
+use Rattle.front_run.specs.Asked.{CanConvert, PutsAs, WritesAs}
 use Rattle.front_run.specs.declared.plans.Plan.{Plan}
 use Rattle.front_run.specs.declared.puts.Stop.{Stop}
 use Rattle.front_run.specs.declared.puts.Stop.TheVariants as stops
@@ -51,6 +52,34 @@ pub record Stepped {E : Type 0} (makes : List ℕ → List ℕ) (can : List ℕ 
   pub later : before.files ≤ after.files
   pub complete : IfSome left (λ bytes. can bytes → ¬ Rose before.reads after.reads → ¬ Rose before.reports after.reports
       → ¬ Rose before.files after.files → IfErr done (LacksMore lacks count))
+
+-- The run of an input with these bytes to a sink: what is made of them was written, and it is done where they are accepted and
+-- nothing fails. What is counted as of files is of the sink.
+pub record Flowed {E : Type 0} (makes : List ℕ → List ℕ) (can : List ℕ → Type 0) (lacks : E → Type 0) (left old new : Option (List ℕ))
+    (before after : FaultCounts) (count : ℕ) (done : Result (Unit {0}) E) : Type 0 where
+  pub text : OnOk done (IfSome left (λ bytes. Appends old new (makes bytes)))
+  pub complete : IfSome left (λ bytes. can bytes → ¬ Rose before.reads after.reads → ¬ Rose before.reports after.reports
+      → ¬ Rose before.files after.files → IfErr done (λ fault. lacks fault ⊎ (too_many ≤ count)))
+
+-- it is done where the run is, and lacks what the run lacks
+abbrev pub WritesSo : ℕ → Result (Unit {0}) ℕ → Result (Unit {0}) Stop → Type 0
+WritesSo count (Ok x) (Ok y) = Unit {0}
+WritesSo count (Ok x) (Err stop) = ⊥
+WritesSo count (Err status) (Ok y) = ⊥
+WritesSo count (Err status) (Err stop) = IsSix status ⊎ (too_many ≤ count) → IsLack stop
+
+-- the same as of a run
+pub record Wrote (makes : List ℕ → List ℕ) (can : List ℕ → Type 0) (left old new : Option (List ℕ)) (before after : FaultCounts)
+    (done : Result (Unit {0}) Stop) : Type 0 where
+  pub text : OnOk done (IfSome left (λ bytes. Appends old new (makes bytes)))
+  pub complete : IfSome left (λ bytes. can bytes → ¬ Rose before.reads after.reads → ¬ Rose before.reports after.reports
+      → ¬ Rose before.files after.files → IfErr done IsLack)
+
+-- the same as the plan asks
+pub record Poured (plan : Plan) (left old new : Option (List ℕ)) (before after : FaultCounts) (done : Result (Unit {0}) Stop) : Type 0 where
+  pub writes : OnOk done (IfSome left (λ bytes. WritesAs plan bytes old new))
+  pub complete : IfSome left (λ bytes. CanConvert plan bytes → ¬ Rose before.reads after.reads → ¬ Rose before.reports after.reports
+      → ¬ Rose before.files after.files → IfErr done IsLack)
 
 -- it is done where the step is, and lacks what the step lacks
 abbrev pub EndsSo : {E : Type 0} → (E → Type 0) → ℕ → Result (Unit {0}) (StepFault E) → Result (Unit {0}) Stop → Type 0

@@ -1,7 +1,7 @@
 //! How conversions end.
 
-ghost use Rattle.std.specs.Prelude.{◌≡◌, Err, IsErr, MatchResult, Ok};
-ghost use Rattle.front_run.specs.Steps.{EndsSo, IsSix};
+ghost use Rattle.std.specs.Prelude.{◌≡◌, Err};
+ghost use Rattle.front_run.specs.Steps.{EndsSo, IsSix, WritesSo};
 
 use crate::puts::Stop;
 use file_form::Kind;
@@ -84,7 +84,7 @@ pub(crate) fn ended(
 
 /// How a conversion to a sink ended.
 pub(crate) fn written(kind: Kind, done: Result<(), u8>, count: u64) -> Result<(), Stop>
-    ensures { MatchResult done (λ _. result ≡ Ok tt) (λ _. IsErr result) }
+    ensures { WritesSo count done result }
 {
     match done {
         Ok(()) => Ok(()),

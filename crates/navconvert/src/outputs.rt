@@ -105,13 +105,26 @@ pub fn placed(
     file: &str,
     name: &str,
 ) -> Result<String, Refusal<'static>> {
+    match path_of(alloc, output, file, name) {
+        Ok(Some(path)) => Ok(path),
+        Ok(None) => Err(Refusal::NoLongName),
+        Err(AllocError) => Err(Refusal::NoMemory),
+    }
+}
+
+// The same, or none where the output has its own name.
+fn path_of(
+    alloc: Global,
+    output: Output,
+    file: &str,
+    name: &str,
+) -> Result<Option<String>, AllocError> {
     let path = match output {
-        Output::Beside => Path::new(file).with_file_name(alloc, name),
-        Output::Folder(folder) => Path::new(folder).join(alloc, name),
-        Output::File(_) | Output::Standard => return Err(Refusal::NoLongName),
+        Output::Beside => Path::new(file).with_file_name(alloc, name)?,
+        Output::Folder(folder) => Path::new(folder).join(alloc, name)?,
+        Output::File(_) | Output::Standard => return Ok(None),
     };
-    let path = path.map_err(|_| Refusal::NoMemory)?;
-    String::from_str(alloc, path.path_text()).map_err(|_| Refusal::NoMemory)
+    Ok(Some(String::from_str(alloc, path.path_text())?))
 }
 
 /// Why an output may not have this name, if it may not.

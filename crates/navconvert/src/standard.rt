@@ -8,7 +8,7 @@ use crate::steps::{end, told_of};
 use crate::telling::tell_file;
 use file_step::{FileFault, FileInput, Folder, HostFolder};
 use file_texts::Refusal;
-use front_run::{Stop, write_source};
+use front_run::{Sourced, Stop, write_source};
 use nav_io::Source;
 
 /// Converts a file to standard output, and says what became of it; the status.
@@ -27,7 +27,13 @@ pub fn to_standard(task: &Task, file: &str) -> u8 {
 pub fn write_from<S: Source + Drop>(task: &Task, file: &str, source: S) -> u8 {
     let mut output = Outlet::new(task.rt.stdout());
     let told = told_of(task, Meter::Off);
-    let outcome = write_source(task.rt.alloc(), &task.plan, source, &mut output, told);
+    let Sourced { outcome, source: _ } = write_source(
+        task.rt.alloc(),
+        &task.plan,
+        source,
+        &mut output,
+        told,
+    );
     match outcome.done {
         Ok(()) => end(task, file, file, &outcome),
         Err(stop) => tell_stop(task, file, stop, output.fault()),

@@ -8,9 +8,10 @@ use crate::tally::Tally;
 use arrayvec::ArrayVec;
 use file_texts::{Refusal, long_name};
 use front_plan::Target;
-use front_run::{Told, write_source};
+use front_run::{Sourced, Told, write_source};
 use gnss_week::{Civil, Moment, moment_of};
 use nav_io::{Failed, Sink, Source};
+use std::alloc::{AllocError, Global};
 
 // So many bytes of a line are looked at: those of a satellite and a time.
 const ROOM: usize = 23;
@@ -127,15 +128,43 @@ pub fn long_name_from<'a, S: Source + Drop>(
     if !is_navigation(task.plan.target) {
         return Err(Refusal::NoLongName);
     }
-    let mut times = Times::new();
-    let outcome = write_source(task.rt.alloc(), &task.plan, source, &mut times, untold());
-    if let Err(stop) = outcome.done {
-        return Err(refusal_of(&task.plan, stop, file, file));
+    match range_of(task, source, file) {
+        Ok(Some((first, last))) => named(task.rt.alloc(), site, first, last),
+        Ok(None) => Err(Refusal::NoTimes),
+        Err(refusal) => Err(refusal),
     }
-    let (first, last) = times.range.ok_or(Refusal::NoTimes)?;
-    match long_name(task.rt.alloc(), site, first, last) {
+}
+
+// The first and the last of the times in what is made of a source.
+fn range_of<'a, S: Source + Drop>(
+    task: &Task<'a>,
+    source: S,
+    file: &'a str,
+) -> Result<Option<(Moment, Moment)>, Refusal<'a>> {
+    let mut times = Times::new();
+    let Sourced { outcome, source: _ } = write_source(
+        task.rt.alloc(),
+        &task.plan,
+        source,
+        &mut times,
+        untold(),
+    );
+    match outcome.done {
+        Ok(()) => Ok(times.range),
+        Err(stop) => Err(refusal_of(&task.plan, stop, file, file)),
+    }
+}
+
+// The name by a site and two times.
+fn named(
+    alloc: Global,
+    site: &str,
+    first: Moment,
+    last: Moment,
+) -> Result<String, Refusal<'static>> {
+    match long_name(alloc, site, first, last) {
         Ok(name) => Ok(name),
-        Err(_) => Err(Refusal::NoMemory),
+        Err(AllocError) => Err(Refusal::NoMemory),
     }
 }
 

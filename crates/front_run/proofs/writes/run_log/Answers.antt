@@ -1,12 +1,17 @@
-use Rattle.std.proofs.Common.{ap, ◌∙◌}
-use Rattle.std.specs.Io.KnownBytes.{Appends}
+use Rattle.std.proofs.Common.{ap, sym, ◌∙◌}
+use Rattle.receiver_log.specs.Capture.{capture_of}
 use Rattle.log_source.specs.LogLeft.{capture_left}
-use Rattle.front_run.proofs.Stepping.{captured, on_ok}
+use Rattle.front_run.proofs.Stepping.{captured, flowed_by}
 use Rattle.front_run.proofs.writes.run_log.Goals as goal
 
 pub returns : goal.returns
 returns g c =
-    on_ok _ _ _ c.run-done.ensures.text
-    (λ text. captured g.J.Judge.heading g.J.Receiver.said _ _
-    (λ bytes. Appends (g.T.Sink.written c.args.output.now) (g.T.Sink.written c.run-done.new.output) (g.C.Conversion.makes c.args.conversion.now bytes))
-    (c.new-log.ensures.left ∙ ap (capture_left g.J.Judge.heading g.J.Receiver.said) c.new-input.ensures.left) text)
+    let h = g.J.Judge.heading in
+    let said = g.J.Receiver.said in
+    flowed_by (g.C.Conversion.makes c.args.conversion.now) (g.C.Conversion.can c.args.conversion.now) g.C.Conversion.lacks _ _ (capture_of h said)
+    (g.T.Sink.written c.args.output.now) (g.T.Sink.written c.run-done.new.output)
+    _ _ _ _ _ _ _ _ _ _
+    (λ P. captured h said _ _ P (c.new-log.ensures.left ∙ ap (capture_left h said) c.new-input.ensures.left))
+    (c.new-log.ensures.faults ∙ c.new-input.ensures.faults)
+    (λ few. c.into_parts-source.ensures.faults few ∙ sym (ap g.S.Source.faults (c.into_source.ensures ∙ ap (λ p. p.0.source) c.into_parts-input.ensures)))
+    c.run-done.ensures.text c.run-done.ensures.complete

@@ -1,11 +1,10 @@
-use Rattle.std.specs.Io.KnownBytes.{Appends}
-use Rattle.front_run.proofs.Opening.{kept_of, made_of}
-use Rattle.front_run.proofs.Stepping.{on_ok}
+use Rattle.front_run.proofs.Opening.{poured, unpoured}
 use Rattle.front_run.proofs.writes.write_peeked.Goals as goal
 
 pub returns-in-Ok : goal.returns-in-Ok
 returns-in-Ok g c =
-    on_ok _ _ _ c.write_ready.ensures
-    (made_of c.args.plan.now _ _ _
-    (λ made. Appends (g.T.Sink.written c.args.output.now) (g.T.Sink.written c.write_ready.new.output) made)
-    (kept_of _ _ _ c.requires.whole c.in-Ok.ensures.left) c.in-Ok.ensures.ready)
+    poured c.words_give_one_job.ensures _ _ _ _ _ _ _ _ _ _ _ _ _ _ _ c.requires.whole c.in-Ok.ensures.left c.in-Ok.ensures.ready
+    c.in-Ok.ensures.faults c.write_ready.ensures
+
+pub returns-in-Err : goal.returns-in-Err
+returns-in-Err g c = rw c.into_source.ensures (unpoured _ _ _ _ _ _ _ _ c.stopped.ensures.done c.in-Err.ensures.complete)

@@ -1,5 +1,7 @@
-use Rattle.front_run.proofs.Ended.{on_written}
+use Rattle.front_run.proofs.Stepping.{wrote}
 use Rattle.front_run.proofs.writes.write_ready.Goals as goal
 
 pub returns : goal.returns
-returns g c = on_written _ _ _ c.written.ensures (rw c.new-run.ensures.task at c.run_as-ran.ensures)
+returns g c =
+    rw c.into_report.ensures
+    (wrote _ _ _ _ _ _ _ _ _ _ (rw (c.new-run.ensures.task, c.new-run.ensures.report) at c.run_as-ran.ensures) c.written.ensures)
