@@ -44,9 +44,9 @@ from_value w v more (option ∷ options) (rest, begins, others) (alone, once) ha
 -- ---- no form is a seed
 
 differ : (word : List ℕ) → bytes_eq word (codes "seed") ≡ false → word ≡ codes "seed" → ⊥
-differ word no e =
-    let yes : bytes_eq word (codes "seed") ≡ true = subst (λ (l : List ℕ). bytes_eq l (codes "seed") ≡ true) (sym e) refl in
-    let never : true ≡ false = sym yes ∙ no in
+differ word other e =
+    let same : bytes_eq word (codes "seed") ≡ true = subst (λ (l : List ℕ). bytes_eq l (codes "seed") ≡ true) (sym e) refl in
+    let never : true ≡ false = sym same ∙ other in
     cc
 
 never_seed : (kind : Kind) → from_word kind ≡ codes "seed" → ⊥
