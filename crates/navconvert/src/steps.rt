@@ -35,7 +35,7 @@ fn put_part<'a>(task: &Task<'a>, file: &'a str, part: &str, name: &str) -> u8
 
 /// Says what became of a file whose step has ended so; the status.
 pub fn finish(task: &Task, file: &str, part: &str, name: &str, outcome: Outcome<Tally>) -> u8
-    ensures { IfErr outcome.done (λ stop. result ≡ status_for stop) }
+    ensures { IfErr outcome.entry.done (λ stop. result ≡ status_for stop) }
 {
     match outcome.done {
         Ok(()) => end(task, file, name, &outcome),
