@@ -67,7 +67,12 @@ fn report_of<'a>(rt: &HostRuntime, asked: &Asked<'a>) -> Result<Option<File>, Re
 }
 
 // Converts each file, with reports to this one.
-fn with_report(rt: &HostRuntime, asked: &Asked, clock: &ClockWords, report: Option<&File>) -> u8 {
+fn with_report<'x>(
+    rt: &'x HostRuntime,
+    asked: &'x Asked<'x>,
+    clock: &'x ClockWords,
+    report: Option<&'x File>,
+) -> u8 {
     let task = Task {
         rt,
         plan: plan_of(asked, clock),

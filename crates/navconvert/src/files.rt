@@ -68,23 +68,26 @@ fn named<'a>(task: &Task<'a>, output: Output, file: &'a str) -> Result<String, R
     }
 }
 
-// Converts a file to that of a name, where it may have it.
-fn put_free<'a>(task: &Task<'a>, file: &'a str, name: &'a str) -> u8 {
+// Converts a file to that of a name, where it may have it. Where it may not, and has no conversion
+// either, that is what is said.
+fn put_free<'a>(task: &Task<'a>, file: &'a str, name: &str) -> u8 {
     match taken(task.rt, file, name, task.overwrites) {
         None => put(task, file, name),
-        Some(refusal) => tell_file(task.rt, file, &first_refusal(task, file, refusal)),
+        Some(refusal) => match unconverted(task, file) {
+            None => tell_file(task.rt, file, &refusal),
+            Some(kind) => tell_file(task.rt, file, &Refusal::NoSuchConversion(kind)),
+        },
     }
 }
 
-// What is said of a file whose output may not have its name: that it has no conversion, where that
-// is so too.
-fn first_refusal<'a>(task: &Task<'a>, file: &'a str, refusal: Refusal<'a>) -> Refusal<'a> {
+// The form of a file that can be read again, where it has no conversion.
+fn unconverted(task: &Task, file: &str) -> Option<Kind> {
     if !is_file(task.rt, file) {
-        return refusal;
+        return None;
     }
     match file_kind(task, file) {
-        Ok(kind) if !converts(task.plan.target, kind) => Refusal::NoSuchConversion(kind),
-        _ => refusal,
+        Ok(kind) if !converts(task.plan.target, kind) => Some(kind),
+        _ => None,
     }
 }
 
