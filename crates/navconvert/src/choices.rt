@@ -21,27 +21,27 @@ rinex3    a navigation file of RINEX 3
 ubx       a log of a u-blox receiver
 sbf       a log of a Septentrio receiver";
 
-/// Does what was asked; the status.
-pub fn follow(rt: &HostRuntime, asked: &Asked, clock: &ClockWords) -> u8 {
+/// The file for reports, where one is named, or the status where no file is to be converted.
+pub fn begin(rt: &HostRuntime, asked: &Asked) -> Result<Option<File>, u8> {
     if asked.lists_forms() {
         return match println!(rt; "{FORMS}") {
-            Ok(()) => 0,
-            Err(_) => 4,
+            Ok(()) => Err(0),
+            Err(_) => Err(4),
         };
     }
     if let Some(site) = asked.long_name() {
         if !is_site(site) {
-            return tell_program(rt, &Refusal::Site(site));
+            return Err(tell_program(rt, &Refusal::Site(site)));
         }
     }
     if let Some(date) = asked.date() {
         if !is_date(date.as_bytes()) {
-            return tell_program(rt, &Refusal::Date(date));
+            return Err(tell_program(rt, &Refusal::Date(date)));
         }
     }
     match report_of(rt, asked) {
-        Ok(report) => with_report(rt, asked, clock, report.as_ref()),
-        Err(refusal) => tell_program(rt, &refusal),
+        Ok(report) => Ok(report),
+        Err(refusal) => Err(tell_program(rt, &refusal)),
     }
 }
 
@@ -66,8 +66,8 @@ fn report_of<'a>(rt: &HostRuntime, asked: &Asked<'a>) -> Result<Option<File>, Re
     }
 }
 
-// Converts each file, with reports to this one.
-fn with_report<'x>(
+/// Converts each file, with reports to this one; the status.
+pub fn follow<'x>(
     rt: &'x HostRuntime,
     asked: &'x Asked<'x>,
     clock: &'x ClockWords,

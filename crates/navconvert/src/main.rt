@@ -25,21 +25,32 @@ mod tally;
 mod telling;
 mod times;
 
-use crate::choices::follow;
+use crate::choices::{begin, follow};
 use crate::clock::clock_of;
 use crate::telling::tell_program;
 use file_texts::Refusal;
-use front_plan::{Asked, read_words};
+use front_plan::read_words;
 use std::env;
 use std::io::ErrorKind;
 use std::process::ExitCode;
 
 fn main(rt: HostRuntime) -> ExitCode {
-    let status = match words_of(&rt) {
-        Ok(words) => read(&rt, &words),
-        Err(refusal) => tell_program(&rt, &refusal),
+    let words = match words_of(&rt) {
+        Ok(words) => words,
+        Err(refusal) => return ExitCode::from(tell_program(&rt, &refusal)),
     };
-    ExitCode::from(status)
+    let asked = match read_words(rt.alloc(), &words) {
+        Ok(asked) => asked,
+        Err(error) => return ExitCode::from(tell_words(&rt, &error)),
+    };
+    let clock = match clock_of(&rt) {
+        Ok(clock) => clock,
+        Err(_) => return ExitCode::from(tell_program(&rt, &Refusal::NoMemory)),
+    };
+    match begin(&rt, &asked) {
+        Ok(report) => ExitCode::from(follow(&rt, &asked, &clock, report.as_ref())),
+        Err(status) => ExitCode::from(status),
+    }
 }
 
 // The words of the command line, without the program's name.
@@ -58,17 +69,11 @@ fn words_of(rt: &HostRuntime) -> Result<Vec<String>, Refusal<'static>> {
     Ok(words)
 }
 
-// Reads the words, and does what they ask.
-fn read(rt: &HostRuntime, words: &[String]) -> u8 {
-    match read_words(rt.alloc(), words) {
-        Ok(asked) => start(rt, &asked),
-        Err(error) => {
-            let status = status_of(&error);
-            match error.print(rt) {
-                Ok(()) => status,
-                Err(_) => 4,
-            }
-        }
+// Prints what is said of words that are no command line, or that ask for help or the version.
+fn tell_words(rt: &HostRuntime, error: &clap::Error) -> u8 {
+    match error.print(rt) {
+        Ok(()) => status_of(error),
+        Err(_) => 4,
     }
 }
 
@@ -80,13 +85,5 @@ fn status_of(error: &clap::Error) -> u8 {
         2
     } else {
         0
-    }
-}
-
-// Does what was asked, by the clock's week and date where none is named.
-fn start(rt: &HostRuntime, asked: &Asked) -> u8 {
-    match clock_of(rt) {
-        Ok(clock) => follow(rt, asked, &clock),
-        Err(_) => tell_program(rt, &Refusal::NoMemory),
     }
 }
