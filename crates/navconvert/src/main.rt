@@ -47,10 +47,12 @@ fn main(rt: HostRuntime) -> ExitCode {
         Ok(clock) => clock,
         Err(_) => return ExitCode::from(tell_program(&rt, &Refusal::NoMemory)),
     };
-    match begin(&rt, &asked) {
-        Ok(report) => ExitCode::from(follow(&rt, &asked, &clock, report.as_ref())),
-        Err(status) => ExitCode::from(status),
-    }
+    let report = match begin(&rt, &asked) {
+        Ok(report) => report,
+        Err(status) => return ExitCode::from(status),
+    };
+    let status = follow(&rt, &asked, &clock, report.as_ref());
+    ExitCode::from(status)
 }
 
 // The words of the command line, without the program's name.
