@@ -67,9 +67,9 @@ fn report_of<'a>(rt: &HostRuntime, asked: &Asked<'a>) -> Result<Option<File>, Re
 }
 
 /// Converts each file, with reports to this one; the status.
-pub fn follow<'x>(
+pub fn follow<'x, 'a>(
     rt: &'x HostRuntime,
-    asked: &'x Asked<'x>,
+    asked: &'x Asked<'a>,
     clock: &'x ClockWords,
     report: Option<&'x File>,
 ) -> u8 {
@@ -91,7 +91,7 @@ pub fn follow<'x>(
 }
 
 // What is asked of each file.
-fn plan_of<'a>(asked: &Asked<'a>, clock: &'a ClockWords) -> Plan<'a> {
+fn plan_of<'x, 'a>(asked: &'x Asked<'a>, clock: &'x ClockWords) -> Plan<'x> {
     let values = Values {
         week: asked.week(),
         clock_week: clock.week.as_str(),
