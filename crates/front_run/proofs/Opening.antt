@@ -1,11 +1,11 @@
 -- From a step to the conversion of a file that is opened, looked at and closed.
-use Rattle.std.proofs.Common.{◌≡◌, ◌+◌, ◌<◌, ◌≤◌, ◌^◌, ℕ, length, List, Option, None, Some, Result, Ok, Err, refl, sym, ap, subst, ◌∙◌, arith}
+use Rattle.std.proofs.Common.{◌≡◌, ◌<◌, ◌≤◌, ◌^◌, ℕ, length, List, Option, None, Some, Result, Ok, Err, refl, sym, ap, subst, ◌∙◌, arith}
 use Rattle.std.specs.Prelude.{IfErr, IfOk, IfSome, MatchResult, OnErr, OnOk}
 use Rattle.std.specs.Io.KnownBytes.{Appends, Keeps}
 use Rattle.nav_io.specs.Causes.{Rose}
 use Rattle.file_form.specs.Kinds.{kind_of}
 use Rattle.file_form.specs.declared.Kind.{Kind}
-use Rattle.file_step.specs.Files.{Opens, Publishes, Puts, Stays}
+use Rattle.file_step.specs.Files.{Opens, Publishes, Stays}
 use Rattle.file_step.specs.Steps.{bytes_of}
 use Rattle.file_step.specs.declared.step.StepFault.{StepFault}
 use Rattle.front_run.specs.Asked.{AcceptsAs, CanAsk, CanConvert, ConvertsAs, Makes, MakesAs, PutsAs}

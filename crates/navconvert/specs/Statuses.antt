@@ -1,5 +1,5 @@
 -- The exit status for a file that is not converted.
-use Rattle.std.specs.Prelude.{◌==◌, ◌||◌, ℕ, if◌then◌else◌}
+use Rattle.std.specs.Prelude.{◌==◌, ℕ, if◌then◌else◌}
 use Rattle.front_run.specs.declared.puts.Stop.{Stop}
 use Rattle.front_run.specs.declared.puts.Stop.TheVariants as stops
 
