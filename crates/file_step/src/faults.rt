@@ -31,8 +31,8 @@ pub enum FileFault {
     Other,
 }
 
-/// The fault for an error of this kind.
-pub(crate) fn fault_of(kind: ErrorKind) -> FileFault {
+/// What an error of this kind says.
+pub fn fault_of(kind: ErrorKind) -> FileFault {
     match kind {
         ErrorKind::NotFound => FileFault::NotFound,
         ErrorKind::AlreadyExists => FileFault::AlreadyThere,

@@ -21,7 +21,7 @@ mod input;
 mod names;
 mod step;
 
-pub use crate::faults::FileFault;
+pub use crate::faults::{FileFault, fault_of};
 pub use crate::folder::Folder;
 pub use crate::gathered::Gathered;
 pub use crate::host::HostFolder;

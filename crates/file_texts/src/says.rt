@@ -20,6 +20,14 @@ pub enum Refusal<'a> {
     Week(&'a str),
     /// The input has no file name, so that its output has none.
     NoName,
+    /// Several files would go to one.
+    SeveralFiles(&'a str),
+    /// The value of `--long-name` names no site.
+    Site(&'a str),
+    /// What is made is no navigation file of a file, which a long name could have.
+    NoLongName,
+    /// No time stands in the data, by which a long name would be made.
+    NoTimes,
     /// The input was not opened.
     NotOpened(FileFault),
     /// A read failed after this number of bytes.
@@ -54,13 +62,16 @@ impl Refusal<'_> {
             | Refusal::NoConversion(_)
             | Refusal::Date(_)
             | Refusal::Week(_)
-            | Refusal::NoName => 2,
+            | Refusal::NoName
+            | Refusal::SeveralFiles(_)
+            | Refusal::Site(_)
+            | Refusal::NoLongName => 2,
             Refusal::NotOpened(_) | Refusal::ReadFault(_, _) => 3,
             Refusal::OutputThere(_)
             | Refusal::PartThere(_)
             | Refusal::SameFile(_)
             | Refusal::WriteFault(_, _) => 4,
-            Refusal::NotAccepted(_) => 5,
+            Refusal::NotAccepted(_) | Refusal::NoTimes => 5,
             Refusal::NoMemory => 6,
             Refusal::ReportFault => 7,
             Refusal::TooLong => 8,
@@ -102,8 +113,7 @@ pub fn targets_of(kind: Kind) -> &'static str {
         Kind::Stream => "that converts to rinex, rinex3, rtcm, frames",
         Kind::Rinex2 => "only versions 3 and 4 are read",
         Kind::Observations | Kind::Hatanaka | Kind::OtherRinex => "it has no orbits to convert",
-        Kind::Ubx => "navlog --from ubx makes a capture of it; --from stream reads its frames",
-        Kind::Sbf => "navlog --from sbf makes a capture of it; --from stream reads its frames",
+        Kind::Ubx | Kind::Sbf => "that converts to rinex, rinex3, rtcm, list, count, capture",
         Kind::Nmea => "it has no orbits to convert",
         Kind::Gzip | Kind::Compress => "unpack it: gzip -dc FILE | navconvert -o OUT -",
         Kind::Zip => "unpack it: unzip -p FILE | navconvert -o OUT -",
@@ -142,6 +152,21 @@ impl fmt::Display for Refusal<'_> {
             }
             Refusal::Week(week) => write!(f, "--week {week}: 1024 to 8191"),
             Refusal::NoName => write!(f, "it has no name of a file; name the output by -o"),
+            Refusal::SeveralFiles(name) => {
+                write!(
+                    f,
+                    "{name} is one file; for several name a folder that is there"
+                )
+            }
+            Refusal::Site(site) => write!(
+                f,
+                "--long-name {site}: four capital letters or digits, two digits and a country, as BRDC00XXX"
+            ),
+            Refusal::NoLongName => write!(
+                f,
+                "--long-name names navigation files that are made of files, beside them or in a folder"
+            ),
+            Refusal::NoTimes => write!(f, "it has no ephemeris, by whose time it would be named"),
             Refusal::NotOpened(fault) => write!(f, "{}", fault_text(fault)),
             Refusal::ReadFault(count, fault) => {
                 write!(
@@ -160,6 +185,9 @@ impl fmt::Display for Refusal<'_> {
             Refusal::SameFile(name) => {
                 write!(f, "{name} is the input itself; name the output by -o")
             }
+            Refusal::WriteFault(name, FileFault::NotFound) => {
+                write!(f, "writing {name} failed: its folder is not there")
+            }
             Refusal::WriteFault(name, fault) => {
                 write!(
                     f,
@@ -172,6 +200,12 @@ impl fmt::Display for Refusal<'_> {
             }
             Refusal::NotAccepted(Kind::Capture2) => {
                 write!(f, "its first line names another week than --week")
+            }
+            Refusal::NotAccepted(Kind::Ubx | Kind::Sbf) => {
+                write!(
+                    f,
+                    "it has no subframe and no page that a time stands before"
+                )
             }
             Refusal::NotAccepted(_) => write!(f, "its header is not accepted"),
             Refusal::NoMemory => write!(f, "there was no memory"),

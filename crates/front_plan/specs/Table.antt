@@ -39,6 +39,8 @@ from_word kinds.Capture2 = codes "capture"
 from_word kinds.Stream = codes "stream"
 from_word kinds.Rinex4 = codes "rinex"
 from_word kinds.Rinex3 = codes "rinex3"
+from_word kinds.Ubx = codes "capture"
+from_word kinds.Sbf = codes "capture"
 from_word _ = []
 
 -- the form that a `--from` word names; `capture` is taken as one that names no week
@@ -48,6 +50,8 @@ kind_named word =
     else if bytes_eq word (codes "stream") then Some kinds.Stream
     else if bytes_eq word (codes "rinex") then Some kinds.Rinex4
     else if bytes_eq word (codes "rinex3") then Some kinds.Rinex3
+    else if bytes_eq word (codes "ubx") then Some kinds.Ubx
+    else if bytes_eq word (codes "sbf") then Some kinds.Sbf
     else None
 
 -- a row of the table: which week is given, and whether a header is written
@@ -94,4 +98,6 @@ row_of kinds.Capture2 target = capture_row IfNamed target
 row_of kinds.Stream target = stream_row target
 row_of kinds.Rinex4 target = file4_row target
 row_of kinds.Rinex3 target = file_row target
+row_of kinds.Ubx target = capture_row IfNamed target
+row_of kinds.Sbf target = capture_row IfNamed target
 row_of _ target = None

@@ -5,8 +5,8 @@ use clap::{Arg, ArgAction, ArgMatches, Command, Error, value_parser};
 use file_form::Kind;
 use std::alloc::{AllocError, Global};
 
-// The values of `--from`.
-static FROM: [&str; 5] = ["auto", "capture", "stream", "rinex", "rinex3"];
+// The words of `--from`.
+static FROM: [&str; 7] = ["auto", "capture", "stream", "rinex", "rinex3", "ubx", "sbf"];
 
 // The values of `--to`.
 static TO: [&str; 9] = [
@@ -63,7 +63,12 @@ impl<'a> Asked<'a> {
         self.matches.get_str("long-name")
     }
 
-    /// Whether an existing file with the name of an output is replaced.
+    /// The file for the reports.
+    pub fn report(&self) -> Option<&'a str> {
+        self.matches.get_str("report")
+    }
+
+    /// Whether a file that has the name of an output is replaced.
     pub fn overwrites(&self) -> bool {
         self.matches.get_flag("overwrite")
     }
@@ -160,7 +165,13 @@ fn with_options<'a>(alloc: Global, command: Command<'a>) -> Result<Command<'a>, 
             alloc,
             "long-name",
             "SITE",
-            "Name the output by the convention of RINEX 3, as BRDC00XXX",
+            "Name outputs by the convention of RINEX 3, with the times in the data, as BRDC00XXX",
+        ))?
+        .arg(option(
+            alloc,
+            "report",
+            "FILE",
+            "A file for the reports of navbridge: what was refused, and counts",
         ))
 }
 

@@ -95,6 +95,7 @@ pub fn row_of(kind: Kind, target: Target) -> Option<Row>
         Kind::Stream => stream_row(target),
         Kind::Rinex4 => file4_row(target),
         Kind::Rinex3 => file_row(target),
+        Kind::Ubx | Kind::Sbf => capture_row(WeekRule::IfNamed, target),
         _ => None,
     }
 }
@@ -157,7 +158,7 @@ pub fn from_word(kind: Kind) -> &'static str
     ensures { result.now ≡ from_word kind }
 {
     match kind {
-        Kind::Capture1 | Kind::Capture2 => "capture",
+        Kind::Capture1 | Kind::Capture2 | Kind::Ubx | Kind::Sbf => "capture",
         Kind::Stream => "stream",
         Kind::Rinex4 => "rinex",
         Kind::Rinex3 => "rinex3",
@@ -193,6 +194,8 @@ pub fn kind_named(word: &str) -> Option<Kind>
         "stream" => Some(Kind::Stream),
         "rinex" => Some(Kind::Rinex4),
         "rinex3" => Some(Kind::Rinex3),
+        "ubx" => Some(Kind::Ubx),
+        "sbf" => Some(Kind::Sbf),
         _ => None,
     }
 }

@@ -13,6 +13,8 @@ mod looks;
 #[cfg(test)]
 mod played;
 #[cfg(test)]
+mod runs;
+#[cfg(test)]
 mod steps;
 #[cfg(test)]
 mod texts;

@@ -5,11 +5,11 @@
 //!   writes of them, however reads cut them.
 //!
 //! ```rust
-//! let mut input = LogSource::<UbxJudge, _>::new(ReadSource::new(rt.stdin()));
+//! let mut input = LogSource::<UbxJudge, _, _>::new(ReadSource::new(rt.stdin()), Unheard);
 //! let counts = run_capture(rt.alloc(), None, &to, &mut input, &mut output, &mut report);
 //! ```
 #![tactic(auto)]
 
 mod source;
 
-pub use crate::source::LogSource;
+pub use crate::source::{LogParts, LogSource, Refusals, Unheard};

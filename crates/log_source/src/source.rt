@@ -11,6 +11,7 @@ ghost use Rattle.std.specs.Io.KnownBytes.{Consumes, IsAtEnd, Keeps, ReadConsumes
 ghost use Rattle.nav_io.specs.Causes.{HasCause};
 ghost use Rattle.receiver_log.specs.Log.{Gives, given};
 ghost use Rattle.receiver_log.specs.Capture.{lines_from};
+ghost use Rattle.receiver_log.specs.LogRuns.{too_many};
 ghost use Rattle.receiver_log.specs.declared.state.LogState.{LogState as LogStateNow};
 ghost use Rattle.log_source.specs.LogLeft.{HasLogCause, KeepsLength};
 ghost use Rattle.log_source.specs.LogLeft.{capture_left, is_short, left_of, steps_left};
@@ -18,7 +19,8 @@ ghost use Rattle.log_source.specs.LogLeft.{capture_left, is_short, left_of, step
 use arrayvec::ArrayVec;
 use framing::Deframer;
 use nav_io::{Failed, Source};
-use receiver_log::{Lines, LogState, Receiver, hear};
+use receiver_log::{Counts, Lines, LogState, Receiver, hear};
+use receiver_messages::Reason;
 
 // The most bytes of one read.
 const PIECE: usize = 16_384;
@@ -29,15 +31,43 @@ const ROOM: usize = 8_192;
 // The count of bytes from which a log is too long: 2^64 - 16,384.
 const TOO_MANY: u64 = 18_446_744_073_709_535_232;
 
-/// The capture of a log, read while the log's bytes come: a line is given once its message is
-/// complete and no incomplete message before it is left.
+/// Who is told which messages are refused. Nothing that it does changes what is read.
+pub trait Refusals: Drop {
+    /// The message of this number, from 1, is refused.
+    fn refused(&mut self, number: u64, reason: Reason);
+}
+
+/// Nobody is told.
+#[derive(Clone, Copy, Drop)]
+pub struct Unheard;
+
+impl Refusals for Unheard {
+    fn refused(&mut self, _number: u64, _reason: Reason) {}
+}
+
+/// What is left of a reader of a log.
+#[derive(Drop)]
+pub struct LogParts<S: Source, N: Refusals> {
+    /// The source of the log's bytes.
+    pub source: S,
+    /// Who was told.
+    pub refusals: N,
+    /// What was counted.
+    pub counts: Counts,
+    /// How many bytes were read.
+    pub taken: u64,
+}
+
+/// The capture of a log, read as the log's bytes come: a line is given when its message is whole
+/// and nothing before it is open.
 ///
 /// Where the log's bytes are known to a contract, so are those of the capture. A read fails where a
 /// read of the log fails, or where 18,446,744,073,709,535,232 bytes or more were read of it; the
 /// next one goes on where this one began.
 #[derive(Drop)]
-pub struct LogSource<J: Receiver, S: Source> {
+pub struct LogSource<J: Receiver, S: Source, N: Refusals> {
     source: S,
+    refusals: N,
     deframer: Deframer<J>,
     state: LogState,
     // lines, of which the first `given` bytes were given
@@ -50,20 +80,22 @@ pub struct LogSource<J: Receiver, S: Source> {
     taken: u64,
     // the count of reads refused because the log is too long
     faults: u64,
+    ghost sound: { taken < too_many → faults ≡ 0 },
 }
 
-impl<J: Receiver, S: Source> LogSource<J, S> {
+impl<J: Receiver, S: Source, N: Refusals> LogSource<J, S, N> {
     /// The capture of the log that this source gives, from its beginning.
-    pub fn new(source: S) -> Self
-        ensures left { ⟦<LogSource<J, S> as Source>⟧.left result
+    pub fn new(source: S, refusals: N) -> Self
+        ensures left { ⟦<LogSource<J, S, N> as Source>⟧.left result
             ≡ capture_left J.heading J.said (S.left source) }
-        ensures faults { ⟦<LogSource<J, S> as Source>⟧.faults result ≡ S.faults source }
-        ensures never { ⟦<LogSource<J, S> as Source>⟧.never_fails result
+        ensures faults { ⟦<LogSource<J, S, N> as Source>⟧.faults result ≡ S.faults source }
+        ensures never { ⟦<LogSource<J, S, N> as Source>⟧.never_fails result
             ≡ (S.never_fails source && is_short 0 (S.left source)) }
         ensures log { (result.source ≡ source) × (result.taken ≡ 0) }
     {
         LogSource {
             source,
+            refusals,
             deframer: Deframer::new(),
             state: LogState::new(),
             lines: ArrayVec::new(),
@@ -75,8 +107,36 @@ impl<J: Receiver, S: Source> LogSource<J, S> {
         }
     }
 
-    // One step, where no line waits: processes the decided messages, or else feeds bytes or reads
-    // some; false once nothing can follow.
+    /// The source of the log's bytes, who was told, what was counted, and how many bytes were read.
+    pub fn into_parts(self) -> LogParts<S, N>
+        ensures source { result.source ≡ self.source }
+        ensures taken { result.taken ≡ self.taken }
+        // Where there were not too many bytes, it has failed as often as the source inside.
+        ensures faults { result.taken < too_many
+            → ⟦<LogSource<J, S, N> as Source>⟧.faults self ≡ S.faults result.source }
+    {
+        let LogSource {
+            source,
+            refusals,
+            deframer: _,
+            state,
+            lines: _,
+            given: _,
+            piece: _,
+            fed: _,
+            taken,
+            faults: _,
+        } = self;
+        LogParts {
+            source,
+            refusals,
+            counts: state.counts,
+            taken,
+        }
+    }
+
+    // One step, where no line waits: hears the messages that are decided, or else feeds bytes or
+    // reads some; whether anything may follow.
     fn step(&mut self) -> Result<bool, Failed>
         requires given { length self.old.lines.items ≤ self.old.given }
         ensures left { Keeps
@@ -105,7 +165,12 @@ impl<J: Receiver, S: Source> LogSource<J, S> {
     {
         self.lines.clear();
         self.given = 0;
-        hear_messages(&mut self.deframer, &mut self.state, &mut self.lines);
+        hear_messages(
+            &mut self.deframer,
+            &mut self.state,
+            &mut self.lines,
+            &mut self.refusals,
+        );
         if !self.lines.is_empty() {
             return Ok(true);
         }
@@ -124,7 +189,7 @@ impl<J: Receiver, S: Source> LogSource<J, S> {
     }
 }
 
-impl<J: Receiver, S: Source> Source for LogSource<J, S> {
+impl<J: Receiver, S: Source, N: Refusals> Source for LogSource<J, S, N> {
     ghost left = { λ s. left_of J.heading J.said s.state (drop s.given s.lines.items) s.deframer
         (drop s.fed s.piece.items) (S.left s.source) };
 
@@ -184,8 +249,13 @@ fn give(lines: &Lines, from: usize, into: &mut [u8]) -> usize
     count
 }
 
-// Processes messages until many lines wait or no message is decided.
-fn hear_messages<J: Receiver>(deframer: &mut Deframer<J>, state: &mut LogState, lines: &mut Lines)
+// Hears messages, until there are many lines or no message is decided.
+fn hear_messages<J: Receiver, N: Refusals>(
+    deframer: &mut Deframer<J>,
+    state: &mut LogState,
+    lines: &mut Lines,
+    refusals: &mut N,
+)
     ensures stream { (following : List ℕ) → (deframer.old.finished ≡ true → following ≡ [])
         → lines.old.items ++ lines_from J.said state.old
         (messages (format_of J.heading) (deframer.old.rest ++ following))
@@ -200,12 +270,17 @@ fn hear_messages<J: Receiver>(deframer: &mut Deframer<J>, state: &mut LogState, 
         if !deframer.next_message() {
             return;
         }
-        hear_message(deframer, state, lines);
+        hear_message(deframer, state, lines, refusals);
     }
 }
 
-// Processes the message found last.
-fn hear_message<J: Receiver>(deframer: &Deframer<J>, state: &mut LogState, lines: &mut Lines)
+// Hears the message that was taken last.
+fn hear_message<J: Receiver, N: Refusals>(
+    deframer: &Deframer<J>,
+    state: &mut LogState,
+    lines: &mut Lines,
+    refusals: &mut N,
+)
     requires { length lines.old.items ≤ 8192 }
     ensures state { state.new
         ≡ (given state.old (length deframer.now.message) (J.said deframer.now.message)).state }
@@ -214,7 +289,15 @@ fn hear_message<J: Receiver>(deframer: &Deframer<J>, state: &mut LogState, lines
 {
     let message = deframer.message();
     let said = J::tell(message);
-    hear(state, message.len(), &said, lines);
+    let refused = hear(state, message.len(), &said, lines);
+    tell(refusals, state.counts.messages, refused);
+}
+
+// Tells that the message of this number is refused, where it is.
+fn tell<N: Refusals>(refusals: &mut N, number: u64, refused: Option<Reason>) {
+    if let Some(reason) = refused {
+        refusals.refused(number, reason);
+    }
 }
 
 // Feeds bytes that were read, or reads more, or signals the end.
@@ -239,6 +322,8 @@ fn refill<S: Source, J: Receiver>(
         (S.faults source.new + faults.new) result }
     ensures fault { HasLogCause (S.faults source.old) (S.faults source.new) taken.new result }
     ensures log_length { KeepsLength taken.old (S.left source.old) taken.new (S.left source.new) }
+    ensures sound { (taken.old < too_many → faults.old ≡ 0)
+        → taken.new < too_many → faults.new ≡ 0 }
     ensures never { IsTrue (S.never_fails source.old)
         → IsTrue (is_short taken.old (S.left source.old))
         → IsOk result × IsTrue (S.never_fails source.new)

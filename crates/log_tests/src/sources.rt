@@ -2,7 +2,7 @@
 
 use crate::runs::source_of;
 use crate::small::{ALL, LOG, PAGE};
-use log_source::LogSource;
+use log_source::{LogSource, Unheard};
 use nav_io::Source;
 use std::alloc::{AllocError, Global};
 use std::test::Fail;
@@ -82,7 +82,7 @@ fn read_all<S: Source>(
 // Whether a source over the log gives this and then ends, or fails where a read of the log does.
 fn gives(alloc: Global, reading: &Reading) -> Result<bool, AllocError> {
     let log = source_of(alloc, &LOG, reading.cuts, reading.fails)?;
-    let mut source = LogSource::<UbxJudge, _>::new(log);
+    let mut source = LogSource::<UbxJudge, _, _>::new(log, Unheard);
     let mut capture = Vec::new(alloc);
     let ended = read_all(&mut source, reading.size, &mut capture)?;
     let is_given = capture.as_slice() == reading.capture.as_bytes();

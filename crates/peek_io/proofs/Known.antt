@@ -1,5 +1,5 @@
--- Known bytes, with the peeked ones before them.
-use Rattle.std.proofs.Common.{◌≡◌, ◌+◌, ◌≤◌, ℕ, List, [], ◌++◌, length, take, drop, Option, None, Some, Result, IfSome, refl, sym, ap, ◌∙◌, append-nil, append_assoc}
+-- Known bytes, with those that were looked at in front.
+use Rattle.std.proofs.Common.{◌≡◌, ◌+◌, ◌≤◌, ℕ, List, [], ◌++◌, length, take, drop, Option, None, Some, Result, Ok, Err, IfSome, OnOk, refl, sym, ap, ◌∙◌, append-nil, append_assoc, arith}
 use Rattle.std.proofs.lemmas.List.{drop-drop, take-append-drop, take_all, take_at}
 use Rattle.std.specs.Io.KnownBytes.{Consumes, IsAtEnd, Keeps, ReadConsumes, prepend_known}
 
@@ -53,3 +53,17 @@ all_there (Some xs) None prefix most h e few = absurd h
 all_there (Some xs) (Some ys) prefix most h e few =
     let same : xs ≡ prefix = h ∙ ap (λ (s : List ℕ). prefix ++ s) e ∙ append-nil prefix in
     sym (ap (take most) same ∙ take_all most prefix few)
+
+from_start : (known left : Option (List ℕ)) (prefix : List ℕ) → Consumes known left prefix
+    → Keeps (prepend_known (drop 0 []) known) (prepend_known (drop 0 prefix) left)
+from_start None left prefix h = tt
+from_start (Some xs) left prefix h = put_back (Some xs) left prefix h
+
+-- a look at a source that was not looked at loses no byte
+pub looked : {E : Type 0} (r : Result (Unit {0}) E) (place : ℕ) (unseen prefix : List ℕ) (known left : Option (List ℕ)) → place ≤ length unseen
+    → unseen ≡ [] → OnOk r (Consumes known left prefix)
+    → OnOk r (Keeps (prepend_known (drop place unseen) known) (prepend_known (drop place prefix) left))
+looked (Ok x) place unseen prefix known left few none takes =
+    let zero : place ≡ 0 = omega (arith, ap length none) in
+    rw (zero, none) (from_start known left prefix takes)
+looked (Err e) place unseen prefix known left few none takes = tt

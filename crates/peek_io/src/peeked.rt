@@ -1,9 +1,9 @@
 //! A source whose first bytes were peeked at.
 
-ghost use Rattle.std.specs.Prelude.{◌≡◌, ◌<◌, ◌≤◌, [], length, take, drop};
-ghost use Rattle.std.specs.Prelude.{IsTrue, IsOk, IfOk, OnOk, IfSome, MatchResult};
+ghost use Rattle.std.specs.Prelude.{◌≡◌, ◌<◌, ◌≤◌, ◌⊎◌, [], length, take, drop};
+ghost use Rattle.std.specs.Prelude.{IsTrue, IsOk, IfOk, IfErr, OnOk, IfSome, MatchResult};
 ghost use Rattle.std.specs.Io.KnownBytes.{Consumes, IsAtEnd, Keeps};
-ghost use Rattle.nav_io.specs.Causes.{HasCause};
+ghost use Rattle.nav_io.specs.Causes.{HasCause, Rose};
 
 use nav_io::{Failed, Source};
 use std::alloc::{AllocError, Global};
@@ -38,7 +38,46 @@ pub struct Peeked<S: Source> {
 }
 
 impl<S: Source> Peeked<S> {
-    /// The bytes that were peeked at.
+    /// A source that was not looked at yet.
+    pub fn new(alloc: Global, source: S) -> Peeked<S>
+        ensures source { result.source ≡ source }
+        ensures unseen { result.prefix.items ≡ [] }
+        ensures left { ⟦<Peeked<S> as Source>⟧.left result ≡ S.left source }
+    {
+        Peeked {
+            prefix: Vec::new(alloc),
+            place: 0,
+            source,
+        }
+    }
+
+    /// Looks at the first bytes, so many at most: fewer only where there are no more.
+    ///
+    /// # Errors
+    ///
+    /// The source inside has failed, or there was no memory: bytes may be lost then.
+    pub fn look(&mut self, most: usize) -> Result<(), PeekFault>
+        requires { self.old.prefix.items ≡ [] }
+
+        // No byte is lost.
+        ensures left { OnOk result (Keeps (⟦<Peeked<S> as Source>⟧.left self.old)
+            (⟦<Peeked<S> as Source>⟧.left self.new)) }
+        ensures prefix { OnOk result (IfSome (S.left self.old.source)
+            (λ bytes. self.new.prefix.items ≡ take most bytes)) }
+
+        // It has failed as often, and a look fails only where a read of the source does.
+        ensures faults { OnOk result
+            (S.faults self.new.source ≡ S.faults self.old.source) }
+        ensures cause { IfErr result (λ fault. (fault ≡ PeekFault.NoMemory)
+            ⊎ Rose (S.faults self.old.source) (S.faults self.new.source)) }
+        ensures never { IsTrue (S.never_fails self.old.source) → MatchResult result
+            (λ _. IsTrue (S.never_fails self.new.source))
+            (λ fault. fault ≡ PeekFault.NoMemory) }
+    {
+        fill(&mut self.source, &mut self.prefix, most)
+    }
+
+    /// The bytes that were looked at.
     pub fn prefix(&self) -> &[u8]
         ensures { result.now ≡ self.now.prefix.items }
     {
@@ -101,14 +140,9 @@ pub fn peek<S: Source + Drop>(alloc: Global, source: S, most: usize) -> Result<P
         (λ peeked. IsTrue (⟦<Peeked<S> as Source>⟧.never_fails peeked))
         (λ fault. fault ≡ PeekFault.NoMemory) }
 {
-    let mut source = source;
-    let mut prefix = Vec::with_capacity(alloc, most)?;
-    fill(&mut source, &mut prefix, most)?;
-    Ok(Peeked {
-        prefix,
-        place: 0,
-        source,
-    })
+    let mut peeked = Peeked::new(alloc, source);
+    peeked.look(most)?;
+    Ok(peeked)
 }
 
 // Reads until `most` bytes are there, or the source is at its end.
@@ -119,6 +153,8 @@ fn fill<S: Source>(source: &mut S, prefix: &mut Vec<u8>, most: usize) -> Result<
     ensures prefix { OnOk result (IfSome (S.left source.old) (λ bytes.
         prefix.new.items ≡ take most bytes)) }
     ensures faults { OnOk result (S.faults source.new ≡ S.faults source.old) }
+    ensures cause { IfErr result (λ fault. (fault ≡ PeekFault.NoMemory)
+        ⊎ Rose (S.faults source.old) (S.faults source.new)) }
     ensures never { IsTrue (S.never_fails source.old) → MatchResult result
         (λ _. IsTrue (S.never_fails source.new)) (λ fault. fault ≡ PeekFault.NoMemory) }
 {

@@ -1,0 +1,7 @@
+pub mod Seen
+pub mod Ended
+pub mod Asking
+mod Reading
+pub mod Stepping
+pub mod Opening
+pub mod Copying

@@ -1,0 +1,5 @@
+pub mod Forms
+pub mod Logs
+pub mod Asked
+pub mod Tasks
+pub mod Steps

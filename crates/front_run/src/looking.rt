@@ -1,0 +1,29 @@
+//! A look at a file.
+
+ghost use Rattle.std.specs.Prelude.{◌≡◌, ◌⊎◌, [], IfErr, IfOk, IfSome, OnOk};
+ghost use Rattle.std.specs.Io.KnownBytes.{Keeps};
+ghost use Rattle.nav_io.specs.Causes.{Rose};
+ghost use Rattle.file_form.specs.Kinds.{kind_of};
+ghost use Rattle.front_run.specs.Forms.{form_of};
+
+use crate::plans::form_of;
+use file_form::{Kind, LOOKED_AT, first_bytes_decide, kind_of};
+use nav_io::Source;
+use peek_io::{PeekFault, Peeked};
+
+/// Looks at an input that was not looked at, and tells the form under which it is read.
+pub fn look<S: Source>(named: Option<Kind>, input: &mut Peeked<S>) -> Result<Kind, PeekFault>
+    requires { input.old.prefix.items ≡ [] }
+    ensures left { OnOk result (Keeps (⟦<Peeked<S> as Source>⟧.left input.old)
+        (⟦<Peeked<S> as Source>⟧.left input.new)) }
+    ensures kind { IfOk result (λ kind. IfSome (S.left input.old.source) (λ bytes.
+        kind ≡ form_of named (kind_of bytes))) }
+    ensures faults { OnOk result
+        (S.faults input.new.source ≡ S.faults input.old.source) }
+    ensures cause { IfErr result (λ fault. (fault ≡ PeekFault.NoMemory)
+        ⊎ Rose (S.faults input.old.source) (S.faults input.new.source)) }
+{
+    first_bytes_decide();
+    input.look(LOOKED_AT)?;
+    Ok(form_of(named, kind_of(input.prefix())))
+}

@@ -1,0 +1,124 @@
+//! What is done, by what was asked.
+
+use crate::clock::ClockWords;
+use crate::files::{Task, convert_file};
+use crate::outputs::{Output, output_of};
+use crate::refusals::is_date;
+use crate::several::{convert_joined, joins};
+use crate::telling::tell_program;
+use file_step::{FileFault, fault_of};
+use file_texts::{Refusal, is_site};
+use front_plan::{Asked, Values};
+use front_run::Plan;
+use std::fs::{File, OpenOptions};
+use std::io::IsTerminal;
+
+// The forms, as they are listed.
+const FORMS: &str = "capture   what navlog makes: a line for each subframe, page part or frame
+stream    frames of RTCM 3
+rinex     a navigation file of RINEX 4
+rinex3    a navigation file of RINEX 3
+ubx       a log of a u-blox receiver
+sbf       a log of a Septentrio receiver";
+
+/// The file for reports, where one is named, or the status where no file is to be converted.
+pub fn begin(rt: &HostRuntime, asked: &Asked) -> Result<Option<File>, u8> {
+    if asked.lists_forms() {
+        return match println!(rt; "{FORMS}") {
+            Ok(()) => Err(0),
+            Err(_) => Err(4),
+        };
+    }
+    if let Some(site) = asked.long_name() {
+        if !is_site(site) {
+            return Err(tell_program(rt, &Refusal::Site(site)));
+        }
+    }
+    if let Some(date) = asked.date() {
+        if !is_date(date.as_bytes()) {
+            return Err(tell_program(rt, &Refusal::Date(date)));
+        }
+    }
+    match report_of(rt, asked) {
+        Ok(report) => Ok(report),
+        Err(refusal) => Err(tell_program(rt, &refusal)),
+    }
+}
+
+// The file for reports, where one is named; it is not replaced without leave.
+fn report_of<'a>(rt: &HostRuntime, asked: &Asked<'a>) -> Result<Option<File>, Refusal<'a>> {
+    let Some(name) = asked.report() else {
+        return Ok(None);
+    };
+    let mut options = OpenOptions::new();
+    options.write(true).truncate(true);
+    if asked.overwrites() {
+        options.create(true);
+    } else {
+        options.create_new(true);
+    }
+    match options.open(rt, name) {
+        Ok(file) => Ok(Some(file)),
+        Err(error) => match fault_of(error.kind()) {
+            FileFault::AlreadyThere => Err(Refusal::OutputThere(name)),
+            fault => Err(Refusal::WriteFault(name, fault)),
+        },
+    }
+}
+
+/// Converts each file, with reports to this one; the status.
+pub fn follow<'x, 'a>(
+    rt: &'x HostRuntime,
+    asked: &'x Asked<'a>,
+    clock: &'x ClockWords,
+    report: Option<&'x File>,
+) -> u8 {
+    let task = Task {
+        rt,
+        plan: plan_of(asked, clock),
+        output: output_of(rt, asked),
+        report,
+        site: asked.long_name(),
+        overwrites: asked.overwrites(),
+        quiet: asked.is_quiet(),
+        dry: asked.is_dry(),
+        metered: rt.stderr().is_terminal(),
+    };
+    match asked.files() {
+        None => 0,
+        Some(files) => convert_files(&task, files),
+    }
+}
+
+// What is asked of each file.
+fn plan_of<'x, 'a>(asked: &'x Asked<'a>, clock: &'x ClockWords) -> Plan<'x> {
+    let values = Values {
+        week: asked.week(),
+        clock_week: clock.week.as_str(),
+        leap: asked.leap(),
+        date: asked.date().unwrap_or(clock.date.as_str()),
+    };
+    Plan {
+        form: asked.from(),
+        target: asked.to(),
+        values,
+    }
+}
+
+// Converts each file; the status of the first that failed.
+fn convert_files<'a>(task: &Task<'a>, files: &'a [&'a str]) -> u8 {
+    if files.len() > 1 && joins(task.plan.target) {
+        return convert_joined(task, files);
+    }
+    if let (Output::File(name), true) = (task.output, files.len() > 1) {
+        return tell_program(task.rt, &Refusal::SeveralFiles(name));
+    }
+    let mut status = 0;
+    for file in files {
+        let ended = convert_file(task, file);
+        if status == 0 {
+            status = ended;
+        }
+    }
+    status
+}

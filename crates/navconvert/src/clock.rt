@@ -1,0 +1,56 @@
+//! The week and the date of the clock.
+
+use gnss_week::{Civil, Moment, civil};
+use std::alloc::{AllocError, Global};
+use std::rt::Clock;
+
+// The seconds from 1970-01-01 to 1980-01-06, with which the weeks of GPS begin.
+const FIRST_SECOND: u64 = 315_964_800;
+
+/// The week and the date of the clock, as words of `navbridge`.
+#[derive(Drop)]
+pub struct ClockWords {
+    /// The GPS week.
+    pub week: String,
+    /// The date, as `20240101 000000 UTC`.
+    pub date: String,
+}
+
+/// The week and the date of the clock.
+///
+/// # Errors
+///
+/// There was no memory for the words.
+pub fn clock_of(rt: &HostRuntime) -> Result<ClockWords, AllocError> {
+    let moment = now(rt);
+    let week = moment.week().clamp(1024, 8191);
+    Ok(ClockWords {
+        week: format!(in rt.alloc(); "{week}")?,
+        date: date_text(rt.alloc(), &civil(moment))?,
+    })
+}
+
+// The moment of the clock; the first one where it is before that, or cannot be read.
+fn now(rt: &HostRuntime) -> Moment {
+    let seconds = match rt.since_1970() {
+        Ok(since) => since.as_secs().saturating_sub(FIRST_SECOND),
+        Err(_) => 0,
+    };
+    match Moment::new(seconds) {
+        Some(moment) => moment,
+        None => Moment::from_seconds(0),
+    }
+}
+
+// A date as the header of a navigation file has it.
+fn date_text(alloc: Global, date: &Civil) -> Result<String, AllocError> {
+    let day = day_text(alloc, date)?;
+    let (hour, minute, second) = (date.hour, date.minute, date.second);
+    format!(in alloc; "{day} {hour:02}{minute:02}{second:02} UTC")
+}
+
+// A day as eight digits.
+fn day_text(alloc: Global, date: &Civil) -> Result<String, AllocError> {
+    let (year, month, day) = (date.year, date.month, date.day);
+    format!(in alloc; "{year:04}{month:02}{day:02}")
+}

@@ -1,0 +1,91 @@
+//! `navconvert` converts files of GNSS broadcast orbits: `navconvert log.ubx` makes a navigation
+//! file of what a receiver logged, and `navconvert -t rtcm station.navcap` frames of RTCM 3.
+//!
+//! The form of each file is told by its first bytes, and the words of `navbridge` for it give its
+//! job. An output is written as a part beside its name, and gets the name once it is whole:
+//! [`front_run::convert_one`] has the contract. What a file came to is one line on standard error.
+//! The status is that of the first file that failed, as `navbridge` has it.
+#![tactic(auto)]
+
+mod choices;
+mod clock;
+mod dry;
+mod files;
+mod forms;
+mod joined;
+mod meter;
+mod notes;
+mod outlet;
+mod outputs;
+mod refusals;
+mod several;
+mod standard;
+mod steps;
+mod tally;
+mod telling;
+mod times;
+
+use crate::choices::{begin, follow};
+use crate::clock::clock_of;
+use crate::telling::tell_program;
+use file_texts::Refusal;
+use front_plan::read_words;
+use std::env;
+use std::io::ErrorKind;
+use std::process::ExitCode;
+
+fn main(rt: HostRuntime) -> ExitCode {
+    let words = match words_of(&rt) {
+        Ok(words) => words,
+        Err(refusal) => return ExitCode::from(tell_program(&rt, &refusal)),
+    };
+    let asked = match read_words(rt.alloc(), &words) {
+        Ok(asked) => asked,
+        Err(error) => return ExitCode::from(tell_words(&rt, &error)),
+    };
+    let clock = match clock_of(&rt) {
+        Ok(clock) => clock,
+        Err(_) => return ExitCode::from(tell_program(&rt, &Refusal::NoMemory)),
+    };
+    let report = match begin(&rt, &asked) {
+        Ok(report) => report,
+        Err(status) => return ExitCode::from(status),
+    };
+    let status = follow(&rt, &asked, &clock, report.as_ref());
+    ExitCode::from(status)
+}
+
+// The words of the command line, without the program's name.
+fn words_of(rt: &HostRuntime) -> Result<Vec<String>, Refusal<'static>> {
+    let args = match env::args(rt) {
+        Ok(args) => args,
+        Err(error) if error.kind() == ErrorKind::OutOfMemory => return Err(Refusal::NoMemory),
+        Err(_) => return Err(Refusal::Word),
+    };
+    let mut words = Vec::new(rt.alloc());
+    for word in args.skip(1) {
+        if words.push(word).is_err() {
+            return Err(Refusal::NoMemory);
+        }
+    }
+    Ok(words)
+}
+
+// Prints what is said of words that are no command line, or that ask for help or the version.
+fn tell_words(rt: &HostRuntime, error: &clap::Error) -> u8 {
+    match error.print(rt) {
+        Ok(()) => status_of(error),
+        Err(_) => 4,
+    }
+}
+
+// The status of words that are no command line, or that ask for help or the version.
+fn status_of(error: &clap::Error) -> u8 {
+    if error.kind() == clap::error::ErrorKind::OutOfMemory {
+        6
+    } else if error.use_stderr() {
+        2
+    } else {
+        0
+    }
+}

@@ -1,0 +1,65 @@
+//! What the report says of a log: the messages that are refused, and counts, as `navlog` has them.
+
+use log_source::Refusals;
+use receiver_log::Counts;
+use receiver_messages::Reason;
+use std::fs::File;
+use std::io::Write;
+
+/// Who writes the messages of a log that are refused to the report.
+#[derive(Drop)]
+pub struct Notes<'a> {
+    file: Option<&'a File>,
+}
+
+impl<'a> Notes<'a> {
+    /// To this file, or nowhere.
+    pub fn new(file: Option<&'a File>) -> Notes<'a> {
+        Notes { file }
+    }
+}
+
+impl Refusals for Notes<'_> {
+    // Where a line cannot be written, the report of the job or the counts will fail.
+    fn refused(&mut self, number: u64, reason: Reason) {
+        if let Some(file) = self.file {
+            let mut file = file;
+            let word = word_of(reason);
+            let _ = writeln!(file, "message {number} {word}");
+        }
+    }
+}
+
+// The word of a reason.
+fn word_of(reason: Reason) -> &'static str {
+    match reason {
+        Reason::Length => "length",
+        Reason::Satellite => "satellite",
+        Reason::Untimed => "untimed",
+        Reason::Late => "late",
+        Reason::Far => "far",
+    }
+}
+
+/// Writes the counts of a log of so many bytes to the report; whether that was done.
+pub fn put_counts(file: Option<&File>, counts: &Counts, taken: u64) -> bool {
+    let Some(file) = file else {
+        return true;
+    };
+    let skipped = taken.saturating_sub(counts.within);
+    put_count(file, "messages", counts.messages)
+        && put_count(file, "skipped", skipped)
+        && put_count(file, "times", counts.times)
+        && put_count(file, "subframes", counts.subframes)
+        && put_count(file, "pages", counts.pages)
+        && put_count(file, "refused", counts.refused)
+        && put_count(file, "other", counts.other)
+        && put_count(file, "turned", counts.turned)
+        && put_count(file, "parity", counts.parity)
+}
+
+// Writes a count; whether that was done.
+fn put_count(file: &File, name: &str, count: u64) -> bool {
+    let mut file = file;
+    writeln!(file, "{name} {count}").is_ok()
+}

@@ -1,0 +1,159 @@
+//! Where outputs go, and what their names are.
+
+use file_step::FileFault;
+use file_texts::{Refusal, output_name};
+use front_plan::Asked;
+use std::alloc::{AllocError, Global};
+use std::fs;
+use std::fs::Metadata;
+use std::os::unix::fs::MetadataExt;
+use std::path::{AsPath, Path};
+
+/// Where outputs go.
+#[derive(Clone, Copy)]
+pub enum Output<'a> {
+    /// Beside their inputs.
+    Beside,
+    /// Into a folder.
+    Folder(&'a str),
+    /// To one file.
+    File(&'a str),
+    /// To standard output.
+    Standard,
+}
+
+/// Where the words want outputs.
+pub fn output_of<'a>(rt: &HostRuntime, asked: &Asked<'a>) -> Output<'a> {
+    match asked.output() {
+        None => Output::Beside,
+        Some(name) => {
+            if name == "-" {
+                Output::Standard
+            } else if is_folder(rt, name) {
+                Output::Folder(name)
+            } else {
+                Output::File(name)
+            }
+        }
+    }
+}
+
+/// Whether the name is that of a folder.
+pub fn is_folder(rt: &HostRuntime, name: &str) -> bool {
+    match fs::metadata(rt, name) {
+        Ok(there) => there.is_dir(),
+        Err(_) => false,
+    }
+}
+
+/// Whether the name is that of a file with bytes of its own, which can be read again.
+pub fn is_file(rt: &HostRuntime, name: &str) -> bool {
+    match fs::metadata(rt, name) {
+        Ok(there) => there.is_file(),
+        Err(_) => false,
+    }
+}
+
+/// The size of a file of this name, 0 where it has none.
+pub fn size_of(rt: &HostRuntime, name: &str) -> u64 {
+    match fs::metadata(rt, name) {
+        Ok(there) => there.len(),
+        Err(_) => 0,
+    }
+}
+
+/// The name of the output of a file.
+pub fn name_of(
+    alloc: Global,
+    output: Output,
+    file: &str,
+    ending: &str,
+) -> Result<String, Refusal<'static>> {
+    match made_name(alloc, output, file, ending) {
+        Ok(Some(name)) => Ok(name),
+        Ok(None) => Err(Refusal::NoName),
+        Err(AllocError) => Err(Refusal::NoMemory),
+    }
+}
+
+// The same, or none where the file has no name of its own.
+fn made_name(
+    alloc: Global,
+    output: Output,
+    file: &str,
+    ending: &str,
+) -> Result<Option<String>, AllocError> {
+    let folder = match output {
+        Output::File(name) => return Ok(Some(String::from_str(alloc, name)?)),
+        Output::Standard => return Ok(None),
+        Output::Folder(folder) => Some(folder),
+        Output::Beside => None,
+    };
+    if file == "-" {
+        return Ok(None);
+    }
+    match output_name(alloc, file, folder, ending)? {
+        None => Ok(None),
+        Some(path) => Ok(Some(String::from_str(alloc, path.path_text())?)),
+    }
+}
+
+/// A name beside a file, or in the folder of outputs.
+pub fn placed(
+    alloc: Global,
+    output: Output,
+    file: &str,
+    name: &str,
+) -> Result<String, Refusal<'static>> {
+    match path_of(alloc, output, file, name) {
+        Ok(Some(path)) => Ok(path),
+        Ok(None) => Err(Refusal::NoLongName),
+        Err(AllocError) => Err(Refusal::NoMemory),
+    }
+}
+
+// The same, or none where the output has its own name.
+fn path_of(
+    alloc: Global,
+    output: Output,
+    file: &str,
+    name: &str,
+) -> Result<Option<String>, AllocError> {
+    let path = match output {
+        Output::Beside => Path::new(file).with_file_name(alloc, name)?,
+        Output::Folder(folder) => Path::new(folder).join(alloc, name)?,
+        Output::File(_) | Output::Standard => return Ok(None),
+    };
+    Ok(Some(String::from_str(alloc, path.path_text())?))
+}
+
+/// Why an output may not have this name, if it may not.
+pub fn taken<'a>(
+    rt: &HostRuntime,
+    file: &str,
+    name: &'a str,
+    overwrites: bool,
+) -> Option<Refusal<'a>> {
+    match fs::metadata(rt, name) {
+        Err(_) => None,
+        Ok(there) => {
+            if is_same(rt, file, &there) {
+                Some(Refusal::SameFile(name))
+            } else if there.is_dir() {
+                Some(Refusal::WriteFault(name, FileFault::IsFolder))
+            } else if !overwrites || !there.is_file() {
+                Some(Refusal::OutputThere(name))
+            } else {
+                None
+            }
+        }
+    }
+}
+
+// Whether the name is that of a file with this metadata.
+fn is_same(rt: &HostRuntime, name: &str, other: &Metadata) -> bool {
+    match fs::metadata(rt, name) {
+        Ok(there) => there.dev() == other.dev() && there.ino() == other.ino(),
+        Err(_) => false,
+    }
+}

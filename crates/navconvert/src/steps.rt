@@ -1,0 +1,131 @@
+//! The step of one file: from its bytes to the file of a name.
+
+ghost use Rattle.std.specs.Prelude.{◌≡◌, ◌≢◌, IfErr};
+ghost use Rattle.navconvert.specs.Statuses.{status_for};
+
+use crate::files::Task;
+use crate::meter::Meter;
+use crate::notes::{Notes, put_counts};
+use crate::outputs::size_of;
+use crate::refusals::refusal_of;
+use crate::tally::Tally;
+use crate::telling::{tell_done, tell_file};
+use file_step::{FileFault, FileInput, HostFolder, part_of};
+use file_texts::Refusal;
+use front_run::{Outcome, Sourced, Stop, Told, convert_one, convert_source};
+
+/// Converts a file to that of a name, and says what became of it; the status.
+pub fn put<'a>(task: &Task<'a>, file: &'a str, name: &str) -> u8 {
+    match part_of(task.rt.alloc(), name) {
+        Ok(part) => put_part(task, file, part.as_str(), name),
+        Err(_) => tell_file(task.rt, file, &Refusal::NoMemory),
+    }
+}
+
+// The same, by a part of this name.
+fn put_part<'a>(task: &Task<'a>, file: &'a str, part: &str, name: &str) -> u8
+    requires { part.now ≢ name.now }
+{
+    if file == "-" {
+        finish(task, file, part, name, put_standard(task, part, name))
+    } else {
+        finish(task, file, part, name, put_file(task, file, part, name))
+    }
+}
+
+/// Says what became of a file whose step has ended so; the status.
+pub fn finish(task: &Task, file: &str, part: &str, name: &str, outcome: Outcome<Tally>) -> u8
+    ensures { IfErr outcome.entry.done (λ stop. result ≡ status_for stop) }
+{
+    match outcome.done {
+        Ok(()) => end(task, file, name, &outcome),
+        Err(stop) => tell_file(task.rt, file, &refusal_of(&task.plan, stop, name, part)),
+    }
+}
+
+/// Ends the report of a file that was converted, and says what became of it; the status.
+pub fn end(task: &Task, file: &str, name: &str, outcome: &Outcome<Tally>) -> u8 {
+    if !is_counted(task, outcome) {
+        return tell_file(task.rt, file, &Refusal::ReportFault);
+    }
+    if !task.quiet {
+        tell_done(task, name, outcome);
+    }
+    0
+}
+
+// Writes the counts of a log to the report; whether that was done.
+fn is_counted(task: &Task, outcome: &Outcome<Tally>) -> bool {
+    match &outcome.counts {
+        None => true,
+        Some(counts) => put_counts(task.report, counts, outcome.count),
+    }
+}
+
+/// Who is told of the conversion of a file.
+pub fn told_of<'a>(task: &Task<'a>, meter: Meter<'a>) -> Told<Tally<'a>, Notes<'a>, Meter<'a>> {
+    Told {
+        report: Tally::new(task.report),
+        refusals: Notes::new(task.report),
+        progress: meter,
+    }
+}
+
+// The step of a file.
+fn put_file<'a>(task: &Task<'a>, file: &'a str, part: &str, name: &str) -> Outcome<Tally<'a>>
+    requires { part.now ≢ name.now }
+{
+    let mut folder = HostFolder::new(task.rt.alloc(), task.rt);
+    let told = told_of(task, meter_of(task, file));
+    convert_one(
+        task.rt.alloc(),
+        &task.plan,
+        &mut folder,
+        told,
+        file,
+        part,
+        name,
+    )
+}
+
+// The step of standard input.
+fn put_standard<'a>(task: &Task<'a>, part: &str, name: &str) -> Outcome<Tally<'a>>
+    requires { part.now ≢ name.now }
+{
+    let mut folder = HostFolder::new(task.rt.alloc(), task.rt);
+    let told = told_of(task, meter_of(task, "-"));
+    let input = FileInput::new(task.rt.stdin());
+    let sourced = convert_source(
+        task.rt.alloc(),
+        &task.plan,
+        &mut folder,
+        input,
+        told,
+        part,
+        name,
+    );
+    let Sourced { outcome, source } = sourced;
+    let mut outcome = outcome;
+    outcome.done = with_fault(outcome.done, source.fault());
+    outcome
+}
+
+// How it ended, with what the source says of a read that failed.
+fn with_fault(done: Result<(), Stop>, fault: Option<FileFault>) -> Result<(), Stop> {
+    match done {
+        Err(Stop::Look(None)) => Err(Stop::Look(fault)),
+        Err(Stop::Run(kind, status, count, None, put)) => {
+            Err(Stop::Run(kind, status, count, fault, put))
+        }
+        _ => done,
+    }
+}
+
+// How far a file has come, where that is shown.
+fn meter_of<'a>(task: &Task<'a>, file: &'a str) -> Meter<'a> {
+    if task.metered && !task.quiet {
+        Meter::of(task.rt, file, size_of(task.rt, file))
+    } else {
+        Meter::Off
+    }
+}

@@ -1,0 +1,83 @@
+//! What is said on standard error.
+
+ghost use Rattle.std.specs.Prelude.{◌≡◌};
+ghost use Rattle.file_texts.specs.Says.{status_of};
+
+use crate::files::Task;
+use crate::tally::Tally;
+use file_form::Kind;
+use file_texts::Refusal;
+use front_plan::{WeekRule, row_of};
+use front_run::Outcome;
+use std::io::IsTerminal;
+
+// What takes the line of a meter away.
+const BLANKS: &str =
+    "                                                                               ";
+
+/// Says why nothing is done; the status.
+pub fn tell_program(rt: &HostRuntime, refusal: &Refusal) -> u8
+    ensures { result ≡ status_of refusal.now }
+{
+    let _ = eprintln!(rt; "navconvert: {refusal}");
+    refusal.status()
+}
+
+/// Says why a file is not converted; the status.
+pub fn tell_file(rt: &HostRuntime, file: &str, refusal: &Refusal) -> u8
+    ensures { result ≡ status_of refusal.now }
+{
+    clear(rt);
+    let _ = eprintln!(rt; "navconvert: {file}: {refusal}");
+    refusal.status()
+}
+
+/// Says what became of a file: what it has, what was refused, and the week of the clock where it was
+/// read by that.
+pub fn tell_done(task: &Task, name: &str, outcome: &Outcome<Tally>) {
+    let rt = task.rt;
+    clear(rt);
+    let _ = eprint!(rt; "{name}: ");
+    tell_made(rt, outcome);
+    if let Some(counts) = &outcome.counts {
+        let _ = eprint!(rt; ", {} messages refused", counts.refused);
+    }
+    if outcome.kind.is_some_and(|kind| takes_clock(task, kind)) {
+        let _ = eprint!(rt;
+            ", read near week {} of the clock",
+            task.plan.values.clock_week
+        );
+    }
+    let _ = eprintln!(rt; "");
+}
+
+// Says what was made.
+fn tell_made(rt: &HostRuntime, outcome: &Outcome<Tally>) {
+    let said = outcome.report.said();
+    let _ = match (said.written, said.refused, &outcome.counts) {
+        (Some(written), Some(refused), _) => {
+            eprint!(rt; "{written} ephemerides, {refused} lines refused")
+        }
+        (Some(written), None, _) => eprint!(rt; "{written} ephemerides"),
+        (None, Some(refused), _) => eprint!(rt; "written, {refused} lines refused"),
+        (None, None, Some(counts)) => {
+            eprint!(rt; "{} subframes, {} pages", counts.subframes, counts.pages)
+        }
+        (None, None, None) => eprint!(rt; "written"),
+    };
+}
+
+// Whether a file of this form is read by the week of the clock.
+fn takes_clock(task: &Task, kind: Kind) -> bool {
+    match (task.plan.values.week, row_of(kind, task.plan.target)) {
+        (None, Some(row)) => row.week == WeekRule::Always,
+        _ => false,
+    }
+}
+
+// Takes the line of a meter away, where there is a terminal.
+fn clear(rt: &HostRuntime) {
+    if rt.stderr().is_terminal() {
+        let _ = eprint!(rt; "\r{BLANKS}\r");
+    }
+}

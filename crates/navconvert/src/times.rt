@@ -1,0 +1,186 @@
+//! The times in a navigation file that is made.
+
+use crate::files::Task;
+use crate::meter::Meter;
+use crate::notes::Notes;
+use crate::refusals::refusal_of;
+use crate::tally::Tally;
+use arrayvec::ArrayVec;
+use file_texts::{Refusal, long_name};
+use front_plan::Target;
+use front_run::{Sourced, Told, write_source};
+use gnss_week::{Civil, Moment, moment_of};
+use nav_io::{Failed, Sink, Source};
+use std::alloc::{AllocError, Global};
+
+// So many bytes of a line are looked at: those of a satellite and a time.
+const ROOM: usize = 23;
+
+/// A sink that writes nothing, and keeps the first and the last of the times of ephemerides.
+#[derive(Drop)]
+pub struct Times {
+    line: ArrayVec<u8, ROOM>,
+    /// The first and the last of the times.
+    pub range: Option<(Moment, Moment)>,
+}
+
+impl Times {
+    /// No time yet.
+    pub fn new() -> Times {
+        Times {
+            line: ArrayVec::new(),
+            range: None,
+        }
+    }
+
+    // Looks at a line that has ended.
+    fn end_line(&mut self) {
+        if let Some(time) = time_in(self.line.as_slice()) {
+            self.range = Some(with(self.range, time));
+        }
+        self.line.clear();
+    }
+}
+
+impl Sink for Times {
+    ghost use Rattle.std.specs.Prelude.{None};
+
+    ghost written = { λ _. None };
+
+    ghost faults = { λ _. 0 };
+
+    /// Hears the piece.
+    fn write(&mut self, piece: &[u8]) -> Result<(), Failed> {
+        for byte in piece {
+            if *byte == b'\n' {
+                self.end_line();
+            } else {
+                let _ = self.line.try_push(*byte);
+            }
+        }
+        Ok(())
+    }
+}
+
+// The times with one more.
+fn with(range: Option<(Moment, Moment)>, time: Moment) -> (Moment, Moment) {
+    match range {
+        None => (time, time),
+        Some((first, last)) => {
+            if time < first {
+                (time, last)
+            } else if time > last {
+                (first, time)
+            } else {
+                (first, last)
+            }
+        }
+    }
+}
+
+// The time of an ephemeris, where the line begins with a satellite and a time, as
+// `G01 2023 12 31 02 00 00`.
+fn time_in(line: &[u8]) -> Option<Moment> {
+    if line.len() != ROOM || !line[0].is_ascii_uppercase() {
+        return None;
+    }
+    let blanks = [line[3], line[8], line[11], line[14], line[17], line[20]];
+    if !blanks.iter().all(|byte| *byte == b' ') {
+        return None;
+    }
+    let date = Civil {
+        year: number(&line[4..8])?,
+        month: pair(&line[9..11])?,
+        day: pair(&line[12..14])?,
+        hour: pair(&line[15..17])?,
+        minute: pair(&line[18..20])?,
+        second: pair(&line[21..23])?,
+    };
+    moment_of(&date).ok()
+}
+
+// The number of two digits.
+fn pair(digits: &[u8]) -> Option<u8> {
+    u8::try_from(number(digits)?).ok()
+}
+
+// The number that digits write.
+fn number(digits: &[u8]) -> Option<u16> {
+    let mut number = 0u16;
+    for digit in digits {
+        if !digit.is_ascii_digit() {
+            return None;
+        }
+        number = number
+            .saturating_mul(10)
+            .saturating_add(u16::from(*digit - b'0'));
+    }
+    Some(number)
+}
+
+/// The name by the convention of RINEX of what is made of a source, which is converted for its times.
+pub fn long_name_from<'a, S: Source + Drop>(
+    task: &Task<'a>,
+    source: S,
+    file: &'a str,
+    site: &'a str,
+) -> Result<String, Refusal<'a>> {
+    if !is_navigation(task.plan.target) {
+        return Err(Refusal::NoLongName);
+    }
+    match range_of(task, source, file) {
+        Ok(Some((first, last))) => named(task.rt.alloc(), site, first, last),
+        Ok(None) => Err(Refusal::NoTimes),
+        Err(refusal) => Err(refusal),
+    }
+}
+
+// The first and the last of the times in what is made of a source.
+fn range_of<'a, S: Source + Drop>(
+    task: &Task<'a>,
+    source: S,
+    file: &'a str,
+) -> Result<Option<(Moment, Moment)>, Refusal<'a>> {
+    let mut times = Times::new();
+    let Sourced { outcome, source: _ } = write_source(
+        task.rt.alloc(),
+        &task.plan,
+        source,
+        &mut times,
+        untold(),
+    );
+    match outcome.done {
+        Ok(()) => Ok(times.range),
+        Err(stop) => Err(refusal_of(&task.plan, stop, file, file)),
+    }
+}
+
+// The name by a site and two times.
+fn named(
+    alloc: Global,
+    site: &str,
+    first: Moment,
+    last: Moment,
+) -> Result<String, Refusal<'static>> {
+    match long_name(alloc, site, first, last) {
+        Ok(name) => Ok(name),
+        Err(AllocError) => Err(Refusal::NoMemory),
+    }
+}
+
+// Whether a navigation file is made.
+fn is_navigation(target: Target) -> bool {
+    match target {
+        Target::Rinex | Target::Rinex3 | Target::Merged => true,
+        _ => false,
+    }
+}
+
+// Nobody is told.
+fn untold<'a>() -> Told<Tally<'a>, Notes<'a>, Meter<'a>> {
+    Told {
+        report: Tally::new(None),
+        refusals: Notes::new(None),
+        progress: Meter::Off,
+    }
+}

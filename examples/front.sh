@@ -1,0 +1,225 @@
+#!/usr/bin/env bash
+# Tries navconvert from outside: what it does of the examples, and what it says and leaves where something is wrong.
+#
+#   examples/front.sh [--navconvert FILE] [--program FILE]
+#
+#   --navconvert FILE  navconvert (NAVCONVERT, or crates/navconvert/out/navconvert)
+#   --program FILE     navbridge (PROGRAM, or crates/navbridge/out/navbridge), whose outputs are compared
+#
+# Status: 0 all as it should be; 1 something differs; 2 the words are wrong, or a program is not there.
+set -u
+navconvert=${NAVCONVERT:-} program=${PROGRAM:-}
+while [ $# -gt 0 ]; do
+  case $1 in
+    -h | --help)
+      sed -n '2,/^set /{/^set /d;s/^# \{0,1\}//;p}' "$0"
+      exit 0
+      ;;
+    --navconvert | --program)
+      [ $# -ge 2 ] || { echo "front: $1 wants a value" >&2; exit 2; }
+      printf -v "${1#--}" %s "$2"
+      shift 2
+      ;;
+    *)
+      echo "front: $1 is no option; --help" >&2
+      exit 2
+      ;;
+  esac
+done
+[ -z "$navconvert" ] || navconvert=$(readlink -f -- "$navconvert")
+[ -z "$program" ] || program=$(readlink -f -- "$program")
+cd "$(dirname "$(readlink -f "$0")")" || exit 1
+navconvert=${navconvert:-$(readlink -m ../crates/navconvert/out/navconvert)}
+program=${program:-$(readlink -m ../crates/navbridge/out/navbridge)}
+for it in "$navconvert" "$program"; do
+  [ -x "$it" ] || { echo "front: no program $it; build first, or name it" >&2; exit 2; }
+done
+examples=$PWD
+work=$(mktemp -d)
+trap 'chmod -R u+w "$work"; rm -rf "$work"' EXIT
+cd "$work" || exit 1
+tried=0 wrong=0
+# What it was, and why it differs
+differs() {
+  wrong=$((wrong + 1))
+  printf 'differs: %s: %s\n' "$1" "$2"
+  sed 's/^/  /' said
+}
+# A run: what it is, the status, a text that stands in what it says (- for nothing said), the words
+run() {
+  local what=$1 status=$2 text=$3 got=0
+  shift 3
+  tried=$((tried + 1))
+  "$navconvert" "$@" > out 2> said < "${input:-/dev/null}" || got=$?
+  [ "$got" = "$status" ] || differs "$what" "status $got, not $status"
+  if [ "$text" = - ]; then
+    [ ! -s said ] || differs "$what" "it says something"
+  else
+    grep -qF -- "$text" said || differs "$what" "it does not say '$text'"
+  fi
+}
+# What is there, and what it should be
+is_same() { cmp -s "$2" "$3" || differs "$1" "$2 is not $3"; }
+# What is not there
+is_gone() { [ ! -e "$2" ] || differs "$1" "$2 is there"; }
+
+date=(--date "20240101 000000 UTC")
+cp "$examples"/{station.navcap,station.rtcm3,ephemerides.rtcm3,station.rnx,version3.nav,log.ubx} .
+mkdir in out.d
+
+# ---- what is made
+run "a capture to RINEX" 0 "a.rnx: 4 ephemerides, 2 lines refused" "${date[@]}" -o a.rnx station.navcap
+is_same "a capture to RINEX" a.rnx "$examples/station.rnx"
+is_gone "a capture to RINEX" a.rnx.part
+run "a log to RINEX" 0 "log.rnx: " "${date[@]}" log.ubx
+run "a log to a list" 0 "log.list" -t list log.ubx
+is_same "a log to a list" log.list "$examples/log.list"
+run "a log to its capture" 0 "k.navcap: " -t capture -o k.navcap --report k.report log.ubx
+run "that capture to a list" 0 "k.list" -t list -o k.list k.navcap
+is_same "a log to its capture" k.list "$examples/log.list"
+is_same "the report of a log" k.report "$examples/log.report"
+run "to standard output" 0 "4 ephemerides" -t list -o - station.navcap
+is_same "to standard output" out "$examples/station.list"
+run "a stream" 0 "s.nav" -f stream --week 2295 "${date[@]}" -t rinex3 -o s.nav ephemerides.rtcm3
+is_same "a stream" s.nav "$examples/expected/ephemerides.nav"
+run "frames" 0 "written" -f stream -t frames -o f.frames station.rtcm3
+is_same "frames" f.frames "$examples/expected/station.frames"
+run "version 3" 0 "v.rnx" "${date[@]}" -o v.rnx version3.nav
+is_same "version 3" v.rnx "$examples/version3.rnx"
+input=station.navcap run "standard input" 0 "4 ephemerides" "${date[@]}" -
+is_same "standard input" out "$examples/station.rnx"
+run "into a folder, in quiet" 0 - -q -t rtcm -o out.d station.navcap
+is_same "into a folder" out.d/station.rtcm3 "$examples/ephemerides.rtcm3"
+run "a long name" 0 "STAT00CCC_R_20233650200_01H_MN.rnx: 4 ephemerides" "${date[@]}" --long-name STAT00CCC -o out.d station.navcap
+is_same "a long name" out.d/STAT00CCC_R_20233650200_01H_MN.rnx "$examples/station.rnx"
+half=$(grep -n "RINEX VERSION / TYPE" "$examples/expected/twice.rnx" | sed -n '2s/:.*//p')
+head -n $((half - 1)) "$examples/expected/twice.rnx" > one.rnx
+tail -n "+$half" "$examples/expected/twice.rnx" > two.rnx
+run "several files to one" 0 "m.rnx" "${date[@]}" -t merged -o m.rnx one.rnx two.rnx
+is_same "several files to one" m.rnx "$examples/merged.rnx"
+run "the cover of several files" 0 "m.cover" -t cover -o m.cover one.rnx two.rnx
+is_same "the cover of several files" m.cover "$examples/merged.cover"
+run "several files to one, of which one is none" 2 "log.ubx: it is" -t merged -o n.rnx one.rnx log.ubx
+is_gone "several files to one, of which one is none" n.rnx
+run "what would be done" 0 - -n "${date[@]}" -o d.rnx log.ubx
+grep -qF "navlog --from ubx < 'log.ubx' | navbridge '--from=capture' '--to=rinex'" out || differs "what would be done" "$(cat out)"
+is_gone "what would be done" d.rnx
+run "the week of the clock" 0 "of the clock" -t rtcm -o w.rtcm3 ephemerides.rtcm3
+cp station.navcap "a name with blanks.navcap"
+run "a name with blanks" 0 "a name with blanks.list" -t list "a name with blanks.navcap"
+run "a report" 0 "r.list" -t list --report r.report -o r.list station.navcap
+is_same "a report" r.report "$examples/station.report"
+run "help" 0 - --help
+grep -q -- --overwrite out || differs "help" "no option"
+run "version" 0 - --version
+run "forms" 0 - --list-forms
+
+# ---- what is refused
+run "no such file" 3 "none.navcap: there is no such file" none.navcap
+run "a folder" 3 "in: it is a folder" in
+if [ "$(id -u)" != 0 ]; then
+  cp station.navcap hidden.navcap
+  chmod 0 hidden.navcap
+  run "a file without leave" 3 "the system does not allow it" hidden.navcap
+  mkdir closed
+  chmod 500 closed
+  run "a folder without leave" 4 "the system does not allow it" -o closed station.navcap
+fi
+echo old > there.rnx
+run "an output that is there" 4 "there.rnx is there already" -o there.rnx station.navcap
+[ "$(cat there.rnx)" = old ] || differs "an output that is there" "it was changed"
+run "an output that is replaced" 0 "there.rnx" "${date[@]}" --overwrite -o there.rnx station.navcap
+is_same "an output that is replaced" there.rnx "$examples/station.rnx"
+echo half > part.rnx.part
+run "a part that is there" 4 "part.rnx.part is there" -o part.rnx station.navcap
+[ "$(cat part.rnx.part)" = half ] || differs "a part that is there" "it was changed"
+run "the input as output" 4 "station.navcap is the input itself" --overwrite -o station.navcap station.navcap
+is_same "the input as output" station.navcap "$examples/station.navcap"
+ln station.navcap twin.navcap
+run "the input as output, by a link" 4 "is the input itself" --overwrite -o twin.navcap station.navcap
+run "no conversion" 2 "that converts to" -t frames station.navcap
+: > empty
+run "an empty file" 2 "an empty file" empty
+echo text > text
+run "no form" 2 "name its form by --from" text
+gzip -c station.navcap > station.navcap.gz
+run "packed" 2 "gzip -dc" station.navcap.gz
+run "a wrong date" 2 "write it as" --date 2024-01-01 -o d.rnx station.navcap
+run "a wrong week" 2 "1024" --week 5 -o d.rnx station.navcap
+run "another week" 5 "another week" --week 2294 -o d.rnx station.navcap
+run "a misspelt option" 2 "--overwrite" --overwrit station.navcap
+run "a misspelt form" 2 "rinex" -t rinx station.navcap
+run "no file" 2 "FILE" -q
+run "several files to one" 2 "name a folder" -o one.rnx station.navcap log.ubx
+is_gone "what was refused" d.rnx
+run "several, of which one is missing" 3 "none: there is no such file" -t list -o out.d station.navcap none log.ubx
+is_same "several, of which one is missing" out.d/log.list "$examples/log.list"
+
+# ---- what goes wrong on the way
+seq 100000 | sed 's/.*/# &/' > much
+cat station.navcap much > long.navcap
+tried=$((tried + 1))
+(ulimit -f 1; trap '' XFSZ; "$navconvert" "${date[@]}" -o full.rnx station.navcap) > out 2> said
+got=$?
+{ [ "$got" = 4 ] && grep -q "too large" said; } || differs "a disk that is full" "status $got"
+is_gone "a disk that is full" full.rnx
+is_gone "a disk that is full" full.rnx.part
+tried=$((tried + 1))
+"$navconvert" -t list -o - station.navcap 2> said | true
+[ ! -s said ] || grep -q ephemerides said || differs "a reader that has gone" "it says something"
+mkfifo pipe
+cat station.navcap > pipe &
+run "a FIFO" 0 "p.list: 4" -t list -o p.list pipe
+wait
+is_same "a FIFO" p.list "$examples/station.list"
+tried=$((tried + 1))
+mkfifo slow
+"$navconvert" -t list -o c.list slow 2> said &
+job=$!
+exec 9> slow
+head -c 1000 station.navcap >&9
+sleep 1
+kill -INT "$job" 2> /dev/null || kill "$job"
+kill "$job" 2> /dev/null
+exec 9>&-
+wait "$job"
+is_gone "a run that was cut off" c.list
+[ -e c.list.part ] || differs "a run that was cut off" "no part is there"
+run "the run behind it" 4 "c.list.part is there" -t list -o c.list station.navcap
+mkdir many
+for ((i = 0; i < 1000; i++)); do cp station.navcap "many/$i.navcap"; done
+run "a thousand files" 0 "999.list: 4" -t list many/*.navcap
+[ "$(find many -name '*.list' | wc -l)" = 1000 ] || differs "a thousand files" "not all are there"
+cp long.navcap grows.navcap
+(for ((i = 0; i < 20; i++)); do cat much; done >> grows.navcap) &
+run "a file that grows" 0 "g.list: 4" -t list -o g.list grows.navcap
+wait
+is_same "a file that grows" g.list "$examples/station.list"
+
+# ---- the time that it takes, beside navbridge
+# The least of five times of a command that reads big.rnx, user and system together, in milliseconds
+least() {
+  local TIMEFORMAT='%3U %3S' best=999999 user system
+  for _ in 1 2 3 4 5; do
+    read -r user system < <({ time "$@" > out 2> said < big.rnx; } 2>&1)
+    user=$((10#${user/./} + 10#${system/./}))
+    [ "$user" -ge "$best" ] || best=$user
+  done
+  echo "$best"
+}
+sed '1,/END OF HEADER/d' "$examples/station.rnx" > body
+for ((i = 0; i < 13; i++)); do cat body body > twice && mv twice body; done
+{ sed '/END OF HEADER/q' "$examples/station.rnx"; cat body; } > big.rnx
+tried=$((tried + 1))
+begun=$(least "$navconvert" --version)
+[ "$begun" -le 5 ] || differs "the start" "it takes $begun ms"
+tried=$((tried + 1))
+bridged=$(least "$program" --from rinex --to rtcm)
+cp out bridged.rtcm3
+converted=$(least "$navconvert" -q --overwrite -t rtcm -o big.rtcm3 big.rnx)
+is_same "a large file" big.rtcm3 bridged.rtcm3
+[ $((converted * 20)) -le $((bridged * 21 + 100)) ] || differs "a large file" "$converted ms, and navbridge $bridged"
+echo "$(wc -c < big.rnx) bytes of RINEX to RTCM: navconvert $converted ms, navbridge $bridged ms; the start $begun ms"
+
+echo "$tried runs, $wrong differ"
+[ "$wrong" = 0 ]

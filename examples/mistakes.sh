@@ -1,0 +1,143 @@
+#!/usr/bin/env bash
+# Makes fifty mistakes with navconvert, and prints a table of what each says: that of docs/MISTAKES.md.
+#
+#   examples/mistakes.sh [--navconvert FILE] [--check]
+#
+#   --navconvert FILE  navconvert (NAVCONVERT, or crates/navconvert/out/navconvert)
+#   --check            compare with docs/MISTAKES.md, and print what differs
+#
+# Status: 0 done, or nothing differs; 1 something differs; 2 the words are wrong, or the program is not there.
+set -u
+navconvert=${NAVCONVERT:-} check=
+while [ $# -gt 0 ]; do
+  case $1 in
+    -h | --help)
+      sed -n '2,/^set /{/^set /d;s/^# \{0,1\}//;p}' "$0"
+      exit 0
+      ;;
+    --check)
+      check=yes
+      shift
+      ;;
+    --navconvert)
+      [ $# -ge 2 ] || { echo "mistakes: $1 wants a value" >&2; exit 2; }
+      navconvert=$2
+      shift 2
+      ;;
+    *)
+      echo "mistakes: $1 is no option; --help" >&2
+      exit 2
+      ;;
+  esac
+done
+[ -z "$navconvert" ] || navconvert=$(readlink -f -- "$navconvert")
+cd "$(dirname "$(readlink -f "$0")")" || exit 1
+navconvert=${navconvert:-$(readlink -m ../crates/navconvert/out/navconvert)}
+[ -x "$navconvert" ] || { echo "mistakes: no program $navconvert; build first, or name it" >&2; exit 2; }
+examples=$PWD page=$(readlink -m ../docs/MISTAKES.md)
+work=$(mktemp -d)
+trap 'rm -rf "$work"' EXIT
+cd "$work" || exit 1
+
+# What was said, without the usage, as a cell
+cell() { sed '/^Usage/,$d' said | sed 's/|/\\|/g' | paste -sd' ' | sed "s/  */ /g;s/ For more information, try '--help'.//;s/ *\$//"; }
+# A mistake: what it is, then the words
+try() {
+  local what=$1 got=0 word words=
+  shift
+  for word; do
+    case $word in
+      *' '*) words+=" \"$word\"" ;;
+      *) words+=" $word" ;;
+    esac
+  done
+  rm -f station.rnx log.rnx version3.rnx ephemerides.rnx
+  "$navconvert" "$@" > out 2> said < /dev/null || got=$?
+  # shellcheck disable=SC2016
+  printf '| %s | `navconvert%s` | %s | %s |\n' "$what" "$words" "$got" "$(cell)"
+}
+
+all() {
+  cp "$examples"/{station.navcap,ephemerides.rtcm3,version3.nav,log.ubx} .
+  cp "$examples/station.rnx" orbits.rnx
+  mkdir folder outputs
+  : > empty.nav
+  echo "some text" > notes.txt
+  printf '\357\273\277' | cat - orbits.rnx > marked.rnx
+  gzip -c station.navcap > station.navcap.gz
+  sed '1s/4.01/2.11/' orbits.rnx > two.rnx
+  printf '     3.05           OBSERVATION DATA    M: MIXED            RINEX VERSION / TYPE\n' > observed.rnx
+  printf '1.0                 COMPACT RINEX FORMAT                    CRINEX VERS   / TYPE\n' > packed.crx
+  # shellcheck disable=SC2016
+  printf '$GPGGA,120000.00\n' > position.nmea
+  printf 'PK\003\004' > archive.zip
+  printf '\037\235\220' > old.Z
+  sed 1d station.navcap > cut.navcap
+  sed '1s/NAVCAP 2 2295/NAVCAP 1/' station.navcap > first.navcap
+  tail -c +3 ephemerides.rtcm3 > inside.rtcm3
+  echo old > there.rnx
+  echo half > part.rnx.part
+  printf '| Mistake | Words | Status | What it says |\n|---|---|---|---|\n'
+  try "no words"
+  try "no file" -t list
+  try "a misspelt option" --overwrit station.navcap
+  try "a misspelt option" --to-rinex station.navcap
+  try "a misspelt target" -t rinx station.navcap
+  try "a target of another program" -t nav station.navcap
+  try "a target in capitals" -t RINEX station.navcap
+  try "a misspelt form" -f ubxx log.ubx
+  try "a form that is a target" -f rtcm ephemerides.rtcm3
+  try "an option without its value" -o
+  try "an option twice" -t list -t count station.navcap
+  try "a short option that is none" -x station.navcap
+  try "a file that is not there" none.navcap
+  try "a folder that is not there" nowhere/station.navcap
+  try "a file as a folder" station.navcap/it
+  try "a folder" folder
+  try "an empty file" empty.nav
+  try "a text" notes.txt
+  try "a text with a mark in front" marked.rnx
+  try "packed by gzip" station.navcap.gz
+  try "packed by compress" old.Z
+  try "an archive" archive.zip
+  try "RINEX 2" two.rnx
+  try "observations" observed.rnx
+  try "observations, compact" packed.crx
+  try "NMEA" position.nmea
+  try "a stream that begins inside a frame" inside.rtcm3
+  try "a capture without its first line" cut.navcap
+  try "a stream as a capture" -f capture ephemerides.rtcm3
+  try "a capture as RINEX" -f rinex station.navcap
+  try "RINEX to RINEX, without a name" orbits.rnx
+  try "RINEX 3 as RINEX 4" -f rinex version3.nav
+  try "RINEX 4 as RINEX 3" -f rinex3 -o r.rnx orbits.rnx
+  try "a log of the other receiver" -f sbf log.ubx
+  try "frames of a capture" -t frames station.navcap
+  try "a list of a stream" -t list ephemerides.rtcm3
+  try "counts of RINEX" -t count orbits.rnx
+  try "merging RINEX 3" -t merged version3.nav
+  try "the cover of a capture" -t cover station.navcap
+  try "a capture of a capture" -t capture station.navcap
+  try "a date as it is written elsewhere" --date 2024-01-01 station.navcap
+  try "a date without its zone" --date "20240101 000000" station.navcap
+  try "a week of the day" --week 123 station.navcap
+  try "a week that is no number" --week x station.navcap
+  try "another week than that of the data" --week 2294 station.navcap
+  try "leap seconds of three digits" --leap 118 station.navcap
+  try "an output that is there" -o there.rnx station.navcap
+  try "a part that is there" -o part.rnx station.navcap
+  try "the input as output" --overwrite -o station.navcap station.navcap
+  try "a folder as output, which is not there" -o nowhere/ station.navcap
+  try "several files to one" -o one.rnx station.navcap log.ubx
+  try "standard input into a folder" -o outputs -
+  try "a report that is there" --report there.rnx -o r.rnx station.navcap
+  try "a site of four letters" --long-name BRDC station.navcap
+  try "a long name of a list" -t list --long-name BRDC00XXX station.navcap
+}
+
+if [ -n "$check" ]; then
+  all > made
+  sed -n '/^| Mistake/,$p' "$page" | diff - made
+else
+  all
+fi
