@@ -67,7 +67,7 @@ fn report_of<'a>(rt: &HostRuntime, asked: &Asked<'a>) -> Result<Option<File>, Re
 }
 
 /// Converts each file, with reports to this one; the status.
-pub fn follow<'x, 'a>(
+pub fn convert_asked<'x, 'a>(
     rt: &'x HostRuntime,
     asked: &'x Asked<'a>,
     clock: &'x ClockWords,

@@ -1,4 +1,4 @@
-//! Several files as one input, one behind the other.
+//! Several files as one input, concatenated.
 
 ghost use Rattle.std.specs.Prelude.{◌≤◌, length};
 ghost use Rattle.std.specs.Io.{ReadsAtMost};
@@ -60,7 +60,7 @@ impl<'a> Rest<'a> {
     }
 }
 
-/// A source that gives the bytes of files, one behind the other.
+/// A source that gives the bytes of files, concatenated.
 #[derive(Drop)]
 pub struct Joined<'a> {
     rest: Rest<'a>,

@@ -25,7 +25,7 @@ mod tally;
 mod telling;
 mod times;
 
-use crate::choices::{begin, follow};
+use crate::choices::{begin, convert_asked};
 use crate::clock::clock_of;
 use crate::telling::tell_program;
 use file_texts::Refusal;
@@ -51,7 +51,7 @@ fn main(rt: HostRuntime) -> ExitCode {
         Ok(report) => report,
         Err(status) => return ExitCode::from(status),
     };
-    let status = follow(&rt, &asked, &clock, report.as_ref());
+    let status = convert_asked(&rt, &asked, &clock, report.as_ref());
     ExitCode::from(status)
 }
 
