@@ -1,13 +1,13 @@
 #!/usr/bin/env bash
 # Builds the library for C of the archive that bindings/archive.sh makes, and tests it from outside: the examples compiled as C99
-# and as C++, each run of examples/runs.txt by nb_convert, rooms of many sizes, four threads, memory refused at each request,
-# and the Python module.
+# and as C++, each run of examples/runs.txt by nb_convert, the stateless calls against an independent program's values, rooms of
+# many sizes, four threads, memory refused at each request, and the Python module.
 #
 #   bindings/check.sh [--archive FILE] [--sanitize] [--valgrind]
 #
 #   --archive FILE   libnavbridge_c.a (crates/navbridge_c/out/libnavbridge_c.a)
 #   --sanitize       the C side with AddressSanitizer and UBSan
-#   --valgrind       one conversion under valgrind
+#   --valgrind       the stateless calls and one conversion under valgrind
 #
 # Status: 0 all as it should be; 1 something differs; 2 the words are wrong, or a compiler or the archive is not there.
 set -u
@@ -67,13 +67,17 @@ for program in convert convert++; do
   done < examples/runs.txt
 done
 echo "convert: $runs runs"
+vectors=bindings/c/tests/vectors
 for suffix in '' ++; do
+  $valgrind "$made/messages$suffix" $vectors/items.txt || differs "messages$suffix"
   "$made/rooms$suffix" examples/three.navcap examples/expected/three.rnx examples/expected/three.report --from=capture --to=rinex \
     --week=2295 '--date=20240101 000000 UTC' --leap=18 || differs "rooms$suffix"
   "$made/threads$suffix" examples/station.navcap examples/station.rnx --from=capture --to=rinex '--date=20240101 000000 UTC' \
     --leap=18 || differs "threads$suffix"
   "$made/memory_refused$suffix" examples/station.navcap examples/station.rnx --from=capture --to=rinex \
     '--date=20240101 000000 UTC' --leap=18 || differs "memory_refused$suffix"
+  "$made/filter$suffix" 2295 < examples/ephemerides.rtcm3 > "$out/passed" 2> /dev/null
+  cmp -s examples/ephemerides.rtcm3 "$out/passed" || differs "filter$suffix"
 done
 if [ -n "$valgrind" ]; then
   $valgrind "$made/convert" --from=stream --to=frames < examples/station.rtcm3 | cmp -s - examples/expected/station.frames \

@@ -1,8 +1,12 @@
 /**
  * @file navbridge.h
- * @brief Broadcast orbits of GPS and Galileo: the conversions of navbridge over memory, proved.
+ * @brief Broadcast orbits of GPS and Galileo: messages, frames and whole conversions, proved.
  *
- * C99 and C++. Link with libnavbridge.a (docs/LIBRARY.md says how it is made); nothing else is needed but the C library.
+ * C99 and C++. Link with libnavbridge.a (docs/LIBRARY.md says how it is made); nothing else is needed but the C library, and
+ * -lm for the functions of this header that give doubles.
+ *
+ * Structs hold the integers that were broadcast, unscaled; the comment of each field has its scale and width, and the
+ * functions at the end of this header give doubles in SI units and radians.
  *
  * No call keeps a pointer, writes behind the sizes that it is given, or has a state of its own: calls on separate data may run
  * at once.
@@ -14,11 +18,13 @@
 #ifndef NAVBRIDGE_H
 #define NAVBRIDGE_H
 
+#include <math.h>
+#include <stdbool.h>
 #include <stddef.h>
 #include <stdint.h>
 
 /** The version of this header: the library answers the same number (nb_version()). */
-#define NB_VERSION 1
+#define NB_VERSION 2
 
 #ifdef __cplusplus
 extern "C" {
@@ -33,7 +39,17 @@ typedef enum nb_status {
     NB_NO_MEMORY = 6,     /**< malloc or realloc gave none */
     NB_REPORT_ROOM = 7,   /**< nb_convert(): the report is longer than its room; its length says how long */
     NB_TOO_LONG = 8,      /**< nb_convert(): the input has more than 4,294,967,295 bytes */
-    NB_NO_TEXT = 9        /**< nb_convert(): a word is not UTF-8 */
+    NB_NO_TEXT = 9,       /**< nb_convert(): a word is not UTF-8 */
+
+    NB_NO_NUMBER = 16,     /**< a payload of fewer than two bytes, which has no message number */
+    NB_OTHER_MESSAGE = 17, /**< a message other than 1019 and 1046 */
+    NB_SHORT = 18,         /**< a payload shorter than its message: 61 bytes for 1019, 63 for 1046 */
+    NB_BAD_SATELLITE = 19, /**< a satellite number that is not 1 to 32 (GPS) or 1 to 36 (Galileo) */
+    NB_BAD_TIME = 20,      /**< toe or toc past the end of the week */
+    NB_SPARE_SISA = 21,    /**< a spare SISA index, 126 to 254 */
+    NB_NO_WEEK = 22,       /**< the reference week is not 1024 to 8191 */
+    NB_NO_ITEM = 23,       /**< the numbers stand for nothing: a kind that is none, a field out of its range, two issues */
+    NB_NO_MESSAGE = 25     /**< ionospheric parameters, which no message carries */
 } nb_status;
 
 /** Some bytes, which nobody changes. */
@@ -41,6 +57,180 @@ typedef struct nb_bytes {
     const uint8_t *at; /**< the first of them */
     size_t size;       /**< how many */
 } nb_bytes;
+
+/** @name Ephemerides and ionospheric parameters */
+/**@{*/
+
+/** When an ephemeris was sent. */
+typedef struct nb_sent {
+    uint32_t is_known; /**< 0 where it is not known */
+    int32_t second;    /**< s after the start of the week of its toe, -302,400 to 907,199; 0 where it is not known */
+} nb_sent;
+
+/** The clock of a GPS satellite, of subframe 1 (IS-GPS-200, table 20-I). */
+typedef struct nb_gps_clock {
+    uint32_t iodc; /**< issue of data, clock: 10 bits */
+    uint32_t toc;  /**< time of the clock's data, in steps of 16 s: 0 to 37,799 */
+    int32_t af2;   /**< clock drift rate, 2^-55 s/s^2: 8 bits */
+    int32_t af1;   /**< clock drift, 2^-43 s/s: 16 bits */
+    int32_t af0;   /**< clock bias, 2^-31 s: 22 bits */
+    int32_t tgd;   /**< group delay, 2^-31 s: 8 bits */
+} nb_gps_clock;
+
+/** What subframe 1 says beside the clock (IS-GPS-200, 20.3.3.3.1). */
+typedef struct nb_gps_side {
+    uint32_t l2_code; /**< the codes on L2: 2 bits */
+    uint32_t ura;     /**< user range accuracy, an index: 4 bits */
+    uint32_t health;  /**< health of the satellite: 6 bits */
+    uint32_t l2p;     /**< whether the P code on L2 bears no data: 1 bit */
+} nb_gps_side;
+
+/** The first half of the orbit of a GPS satellite, of subframe 2 (IS-GPS-200, table 20-III). */
+typedef struct nb_gps_orbit_a {
+    uint32_t iode;   /**< issue of data, ephemeris: 8 bits */
+    int32_t crs;     /**< sine correction to the orbit's radius, 2^-5 m: 16 bits */
+    int32_t delta_n; /**< correction to the mean motion, 2^-43 semicircles/s: 16 bits */
+    int32_t m0;      /**< mean anomaly at toe, 2^-31 semicircles: 32 bits */
+    int32_t cuc;     /**< cosine correction to the argument of latitude, 2^-29 rad: 16 bits */
+    uint32_t e;      /**< eccentricity, 2^-33: 32 bits */
+    int32_t cus;     /**< sine correction to the argument of latitude, 2^-29 rad: 16 bits */
+    uint32_t root_a; /**< square root of the semi-major axis, 2^-19 m^(1/2): 32 bits */
+    uint32_t toe;    /**< time of the ephemeris, in steps of 16 s: 0 to 37,799 */
+} nb_gps_orbit_a;
+
+/** The second half of the orbit of a GPS satellite, of subframe 3 (IS-GPS-200, table 20-III). */
+typedef struct nb_gps_orbit_b {
+    uint32_t iode;     /**< issue of data, ephemeris: 8 bits; that of the first half */
+    int32_t cic;       /**< cosine correction to the inclination, 2^-29 rad: 16 bits */
+    int32_t omega0;    /**< longitude of the ascending node at the start of the week, 2^-31 semicircles: 32 bits */
+    int32_t cis;       /**< sine correction to the inclination, 2^-29 rad: 16 bits */
+    int32_t i0;        /**< inclination at toe, 2^-31 semicircles: 32 bits */
+    int32_t crc;       /**< cosine correction to the orbit's radius, 2^-5 m: 16 bits */
+    int32_t omega;     /**< argument of perigee, 2^-31 semicircles: 32 bits */
+    int32_t omega_dot; /**< rate of the right ascension, 2^-43 semicircles/s: 24 bits */
+    int32_t idot;      /**< rate of the inclination, 2^-43 semicircles/s: 14 bits */
+} nb_gps_orbit_b;
+
+/** An ephemeris of GPS. */
+typedef struct nb_gps {
+    uint32_t satellite;  /**< 1 to 32 */
+    uint32_t toe_week;   /**< week of toe, counted from 1980-01-06: 1 to 16,382 */
+    nb_sent sent;        /**< when it was sent */
+    nb_gps_clock clock;  /**< its clock */
+    nb_gps_side side;    /**< what stands beside the clock */
+    nb_gps_orbit_a a;    /**< the first half of its orbit */
+    nb_gps_orbit_b b;    /**< the second half, of the same issue */
+    uint32_t fit;        /**< fit interval flag: 1 bit (IS-GPS-200, 20.3.3.4.3.1) */
+} nb_gps;
+
+/** The first part of the orbit of a Galileo satellite, of I/NAV word 1 (Galileo OS SIS ICD, 5.1.1). */
+typedef struct nb_gal_word1 {
+    uint32_t iodnav; /**< issue of data: 10 bits */
+    uint32_t toe;    /**< time of the ephemeris, in steps of 60 s: 0 to 10,079 */
+    int32_t m0;      /**< mean anomaly at toe, 2^-31 semicircles: 32 bits */
+    uint32_t e;      /**< eccentricity, 2^-33: 32 bits */
+    uint32_t root_a; /**< square root of the semi-major axis, 2^-19 m^(1/2): 32 bits */
+} nb_gal_word1;
+
+/** The second part, of I/NAV word 2 (Galileo OS SIS ICD, 5.1.1). */
+typedef struct nb_gal_word2 {
+    uint32_t iodnav; /**< issue of data: 10 bits */
+    int32_t omega0;  /**< longitude of the ascending node at the start of the week, 2^-31 semicircles: 32 bits */
+    int32_t i0;      /**< inclination at toe, 2^-31 semicircles: 32 bits */
+    int32_t omega;   /**< argument of perigee, 2^-31 semicircles: 32 bits */
+    int32_t idot;    /**< rate of the inclination, 2^-43 semicircles/s: 14 bits */
+} nb_gal_word2;
+
+/** The third part, with the accuracy, of I/NAV word 3 (Galileo OS SIS ICD, 5.1.1 and 5.1.12). */
+typedef struct nb_gal_word3 {
+    uint32_t iodnav;   /**< issue of data: 10 bits */
+    int32_t omega_dot; /**< rate of the right ascension, 2^-43 semicircles/s: 24 bits */
+    int32_t delta_n;   /**< correction to the mean motion, 2^-43 semicircles/s: 16 bits */
+    int32_t cuc;       /**< cosine correction to the argument of latitude, 2^-29 rad: 16 bits */
+    int32_t cus;       /**< sine correction to the argument of latitude, 2^-29 rad: 16 bits */
+    int32_t crc;       /**< cosine correction to the orbit's radius, 2^-5 m: 16 bits */
+    int32_t crs;       /**< sine correction to the orbit's radius, 2^-5 m: 16 bits */
+    uint32_t sisa;     /**< signal in space accuracy, an index: 0 to 125, or 255 for none */
+} nb_gal_word3;
+
+/** The last part, with the clock, of I/NAV word 4 (Galileo OS SIS ICD, 5.1.1 and 5.1.3). */
+typedef struct nb_gal_word4 {
+    uint32_t iodnav; /**< issue of data: 10 bits */
+    int32_t cic;     /**< cosine correction to the inclination, 2^-29 rad: 16 bits */
+    int32_t cis;     /**< sine correction to the inclination, 2^-29 rad: 16 bits */
+    uint32_t toc;    /**< time of the clock's data, in steps of 60 s: 0 to 10,079 */
+    int32_t af0;     /**< clock bias, 2^-34 s: 31 bits */
+    int32_t af1;     /**< clock drift, 2^-46 s/s: 21 bits */
+    int32_t af2;     /**< clock drift rate, 2^-59 s/s^2: 6 bits */
+} nb_gal_word4;
+
+/** Group delays and health of a Galileo satellite, of I/NAV word 5 (Galileo OS SIS ICD, 5.1.5 and 5.1.9). */
+typedef struct nb_gal_health {
+    int32_t bgd_a;    /**< group delay between E1 and E5a, 2^-32 s: 10 bits */
+    int32_t bgd_b;    /**< group delay between E1 and E5b, 2^-32 s: 10 bits */
+    uint32_t hs_e5b;  /**< health of the signal E5b: 2 bits */
+    uint32_t hs_e1b;  /**< health of the signal E1-B: 2 bits */
+    uint32_t dvs_e5b; /**< whether the data of E5b are without guarantee: 1 bit */
+    uint32_t dvs_e1b; /**< whether the data of E1-B are without guarantee: 1 bit */
+} nb_gal_health;
+
+/** An ephemeris of Galileo. */
+typedef struct nb_gal {
+    uint32_t satellite;   /**< 1 to 36 */
+    uint32_t toe_week;    /**< week of toe, counted from 1980-01-06: 1 to 16,382 */
+    nb_sent sent;         /**< when it was sent */
+    nb_gal_word1 w1;      /**< the first part of its orbit */
+    nb_gal_word2 w2;      /**< the second part, of the same issue */
+    nb_gal_word3 w3;      /**< the third part, of the same issue */
+    nb_gal_word4 w4;      /**< the last part and the clock, of the same issue */
+    nb_gal_health health; /**< its delays and health */
+} nb_gal;
+
+/** GPS ionospheric parameters of subframe 4, page 18 (IS-GPS-200, table 20-X), 8 bits each. */
+typedef struct nb_gps_ion {
+    int32_t alpha0; /**< 2^-30 s */
+    int32_t alpha1; /**< 2^-27 s/semicircle */
+    int32_t alpha2; /**< 2^-24 s/semicircle^2 */
+    int32_t alpha3; /**< 2^-24 s/semicircle^3 */
+    int32_t beta0;  /**< 2^11 s */
+    int32_t beta1;  /**< 2^14 s/semicircle */
+    int32_t beta2;  /**< 2^16 s/semicircle^2 */
+    int32_t beta3;  /**< 2^16 s/semicircle^3 */
+} nb_gps_ion;
+
+/** Galileo ionospheric parameters of I/NAV word type 5 (Galileo OS SIS ICD, 5.1.6). */
+typedef struct nb_gal_ion {
+    uint32_t ai0;     /**< effective ionisation level, 1st order, 2^-2 solar flux units: 11 bits */
+    int32_t ai1;      /**< 2nd order, 2^-8 solar flux units/degree: 11 bits */
+    int32_t ai2;      /**< 3rd order, 2^-15 solar flux units/degree^2: 14 bits */
+    uint32_t regions; /**< disturbance flags of regions 1 to 5; region 1 is the highest of 5 bits */
+} nb_gal_ion;
+
+/** Ionospheric parameters of one system, with satellite and transmission time. */
+typedef struct nb_ion {
+    uint64_t moment;    /**< transmission time as GPS time, s from 1980-01-06, in week 1 to 16,382 */
+    uint32_t satellite; /**< of the system of the parameters: 1 to 32 (GPS) or 1 to 36 (Galileo) */
+    nb_gps_ion gps;     /**< the parameters, of kind NB_GPS_ION */
+    nb_gal_ion gal;     /**< the parameters, of kind NB_GALILEO_ION */
+} nb_ion;
+
+/** What an item is. */
+typedef enum nb_kind {
+    NB_GPS = 1,        /**< a GPS ephemeris */
+    NB_GALILEO = 2,    /**< a Galileo ephemeris */
+    NB_GPS_ION = 3,    /**< GPS ionospheric parameters */
+    NB_GALILEO_ION = 4 /**< Galileo ionospheric parameters */
+} nb_kind;
+
+/** An ephemeris or ionospheric parameters. What is not of its kind is never looked at, and left as it is. */
+typedef struct nb_item {
+    uint32_t kind; /**< an nb_kind */
+    nb_gps gps;    /**< of kind NB_GPS */
+    nb_gal gal;    /**< of kind NB_GALILEO */
+    nb_ion ion;    /**< of kinds NB_GPS_ION and NB_GALILEO_ION */
+} nb_item;
+
+/**@}*/
 
 /** The version of the library: NB_VERSION of the header that fits it. */
 uint32_t nb_version(void);
@@ -67,8 +257,161 @@ uint32_t nb_version(void);
 uint32_t nb_convert(const nb_bytes *words, size_t n_words, const uint8_t *input, size_t n, uint8_t *output, size_t room,
                     size_t *used, uint8_t *report, size_t report_room, size_t *report_used);
 
-/** What the library was built for; a compiler that lays these out otherwise stops here. */
+/** @name RTCM 10403.3
+ * A frame is the byte D3, 6 reserved bits, 10 bits of length, a payload of 0 to 1,023 bytes and the CRC-24Q of all before. */
+/**@{*/
+
+/** The most bytes that a frame has. */
+#define NB_FRAME_MOST 1029
+
+/** Whether these bytes are one whole frame with a right checksum, and nothing else. */
+bool nb_is_frame(const uint8_t *bytes, size_t n);
+
+/**
+ * @brief Makes the frame of a payload.
+ * @return its size, n + 6, which may be more than the room: the prefix that fits is put. 0 where the payload has more than
+ *         1,023 bytes.
+ */
+size_t nb_frame_make(const uint8_t *payload, size_t n, uint8_t *frame, size_t room);
+
+/**
+ * @brief Reads message 1019 (GPS) or 1046 (Galileo I/NAV) of the payload of a frame.
+ * @param week a week near that of the message, 1024 to 8191: the message has its week modulo 1024 or 4096
+ * @param item set where the answer is NB_OK, and left as it is otherwise; its transmission time is not known
+ * @return NB_OK, NB_NO_WEEK, or the first of NB_NO_NUMBER, NB_OTHER_MESSAGE, NB_SHORT, NB_BAD_SATELLITE, NB_BAD_TIME and
+ *         NB_SPARE_SISA that holds. Bytes behind the message are not looked at.
+ */
+uint32_t nb_message_read(const uint8_t *payload, size_t n, uint32_t week, nb_item *item);
+
+/**
+ * @brief Makes the frame of message 1019 or 1046 of an ephemeris: 67 or 69 bytes.
+ * @param used set to its size, which may be more than the room: the prefix that fits is put
+ * @return NB_OK, NB_NO_ITEM or NB_NO_MESSAGE; but for NB_OK nothing is put, and the size is 0
+ */
+uint32_t nb_message_write(const nb_item *item, uint8_t *frame, size_t room, size_t *used);
+
+/**@}*/
+
+/** @name Sizes
+ * What the library was built for; a compiler that lays these out otherwise stops here. */
+/**@{*/
 typedef char nb_check_bytes[sizeof(nb_bytes) == 16 && sizeof(size_t) == 8 && offsetof(nb_bytes, size) == 8 ? 1 : -1];
+typedef char nb_check_sent[sizeof(nb_sent) == 8 ? 1 : -1];
+typedef char nb_check_gps[sizeof(nb_gps) == 132 && offsetof(nb_gps, clock) == 16 && offsetof(nb_gps, fit) == 128 ? 1 : -1];
+typedef char nb_check_gal[sizeof(nb_gal) == 140 && offsetof(nb_gal, w1) == 16 && offsetof(nb_gal, health) == 116 ? 1 : -1];
+typedef char nb_check_ion[sizeof(nb_ion) == 64 && offsetof(nb_ion, gps) == 12 && offsetof(nb_ion, gal) == 44 ? 1 : -1];
+typedef char nb_check_item[sizeof(nb_item) == 344 && offsetof(nb_item, gal) == 136 && offsetof(nb_item, ion) == 280 ? 1 : -1];
+/**@}*/
+
+/** How many bytes the frame has that begins here, as its header says: 0 where these bytes do not begin with D3, and 3 where
+ * they are fewer than its header. */
+static inline size_t nb_frame_wanted(const uint8_t *bytes, size_t n) {
+    if (n == 0 || bytes[0] != 0xD3) return 0;
+    return n < 3 ? 3 : (((size_t)bytes[1] << 8 | bytes[2]) & 1023) + 6;
+}
+
+/** @name Doubles
+ * Scaled by powers of two, which is exact, and angles by one more product, which rounds once. */
+/**@{*/
+
+/** The ratio of a circle's circumference to its diameter, as the standards give it. */
+#define NB_PI 3.1415926535898
+
+/** An orbit and its clock in SI units, angles in radians. */
+typedef struct nb_orbit {
+    double toe;       /**< time of the ephemeris, s of the week toe_week */
+    double toc;       /**< time of the clock's data, s of that week; below 0 or from 604,800 on in the week before or behind */
+    double af0;       /**< clock bias, s */
+    double af1;       /**< clock drift, s/s */
+    double af2;       /**< clock drift rate, s/s^2 */
+    double group[2];  /**< group delays, s: of GPS TGD and 0; of Galileo BGD of E1 and E5a, and of E1 and E5b */
+    double root_a;    /**< square root of the semi-major axis, m^(1/2) */
+    double e;         /**< eccentricity */
+    double m0;        /**< mean anomaly at toe, rad */
+    double delta_n;   /**< correction to the mean motion, rad/s */
+    double omega0;    /**< longitude of the ascending node at the start of the week, rad */
+    double i0;        /**< inclination at toe, rad */
+    double omega;     /**< argument of perigee, rad */
+    double omega_dot; /**< rate of the right ascension, rad/s */
+    double idot;      /**< rate of the inclination, rad/s */
+    double crs;       /**< sine correction to the orbit's radius, m */
+    double crc;       /**< cosine correction to the orbit's radius, m */
+    double cus;       /**< sine correction to the argument of latitude, rad */
+    double cuc;       /**< cosine correction to the argument of latitude, rad */
+    double cis;       /**< sine correction to the inclination, rad */
+    double cic;       /**< cosine correction to the inclination, rad */
+} nb_orbit;
+
+/** The time of the clock's data that is at most half a week from toe; both in s of a week. */
+static inline double nb_near(double toc, double toe) {
+    return toc - toe > 302400 ? toc - 604800 : toc - toe < -302400 ? toc + 604800 : toc;
+}
+
+/** The orbit of an ephemeris of GPS. */
+static inline nb_orbit nb_orbit_of_gps(const nb_gps *g) {
+    nb_orbit o;
+    o.toe = 16.0 * g->a.toe;
+    o.toc = nb_near(16.0 * g->clock.toc, o.toe);
+    o.af0 = ldexp(g->clock.af0, -31);
+    o.af1 = ldexp(g->clock.af1, -43);
+    o.af2 = ldexp(g->clock.af2, -55);
+    o.group[0] = ldexp(g->clock.tgd, -31);
+    o.group[1] = 0;
+    o.root_a = ldexp(g->a.root_a, -19);
+    o.e = ldexp(g->a.e, -33);
+    o.m0 = ldexp(g->a.m0, -31) * NB_PI;
+    o.delta_n = ldexp(g->a.delta_n, -43) * NB_PI;
+    o.omega0 = ldexp(g->b.omega0, -31) * NB_PI;
+    o.i0 = ldexp(g->b.i0, -31) * NB_PI;
+    o.omega = ldexp(g->b.omega, -31) * NB_PI;
+    o.omega_dot = ldexp(g->b.omega_dot, -43) * NB_PI;
+    o.idot = ldexp(g->b.idot, -43) * NB_PI;
+    o.crs = ldexp(g->a.crs, -5);
+    o.crc = ldexp(g->b.crc, -5);
+    o.cus = ldexp(g->a.cus, -29);
+    o.cuc = ldexp(g->a.cuc, -29);
+    o.cis = ldexp(g->b.cis, -29);
+    o.cic = ldexp(g->b.cic, -29);
+    return o;
+}
+
+/** The orbit of an ephemeris of Galileo. */
+static inline nb_orbit nb_orbit_of_gal(const nb_gal *g) {
+    nb_orbit o;
+    o.toe = 60.0 * g->w1.toe;
+    o.toc = nb_near(60.0 * g->w4.toc, o.toe);
+    o.af0 = ldexp(g->w4.af0, -34);
+    o.af1 = ldexp(g->w4.af1, -46);
+    o.af2 = ldexp(g->w4.af2, -59);
+    o.group[0] = ldexp(g->health.bgd_a, -32);
+    o.group[1] = ldexp(g->health.bgd_b, -32);
+    o.root_a = ldexp(g->w1.root_a, -19);
+    o.e = ldexp(g->w1.e, -33);
+    o.m0 = ldexp(g->w1.m0, -31) * NB_PI;
+    o.delta_n = ldexp(g->w3.delta_n, -43) * NB_PI;
+    o.omega0 = ldexp(g->w2.omega0, -31) * NB_PI;
+    o.i0 = ldexp(g->w2.i0, -31) * NB_PI;
+    o.omega = ldexp(g->w2.omega, -31) * NB_PI;
+    o.omega_dot = ldexp(g->w3.omega_dot, -43) * NB_PI;
+    o.idot = ldexp(g->w2.idot, -43) * NB_PI;
+    o.crs = ldexp(g->w3.crs, -5);
+    o.crc = ldexp(g->w3.crc, -5);
+    o.cus = ldexp(g->w3.cus, -29);
+    o.cuc = ldexp(g->w3.cuc, -29);
+    o.cis = ldexp(g->w4.cis, -29);
+    o.cic = ldexp(g->w4.cic, -29);
+    return o;
+}
+
+/** The raw integer nearest to a double at a scale of 2^-bits: of an angle divide by NB_PI first. It gives back what the
+ * functions above made a double of. A number past 2^62 is 2^62, which no field has. */
+static inline int64_t nb_raw(double value, int bits) {
+    double scaled = ldexp(value, bits);
+    return scaled > -4611686018427387904.0 && scaled < 4611686018427387904.0 ? (int64_t)llround(scaled)
+                                                                            : (int64_t)4611686018427387904;
+}
+
+/**@}*/
 
 #ifdef __cplusplus
 }

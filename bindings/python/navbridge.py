@@ -1,30 +1,165 @@
-"""Broadcast orbits of GPS and Galileo, by libnavbridge.so: the conversions of navbridge over memory.
+"""Broadcast orbits of GPS and Galileo, by libnavbridge.so: RTCM 3 messages, frames and whole conversions.
 
 The shared object is made by ``make -C bindings/c`` (docs/LIBRARY.md). It is looked for where ``NAVBRIDGE_LIBRARY`` says, and
 else in ``bindings/c/out`` beside this folder. Only the standard library is needed. Calls may run in several threads: none of
 them holds the interpreter's lock while it works.
 
-An example, which runs as a test (``python3 -m doctest bindings/python/navbridge.py``):
+An example, which runs as a test (``python3 -m doctest bindings/python/navbridge.py``). A stream of RTCM 3 becomes lines, and
+its first ephemeris an item, an orbit in SI units, and its frame again:
 
 >>> stream = (EXAMPLES / "ephemerides.rtcm3").read_bytes()
 >>> lines = convert(["--from=stream", "--to=frames"], stream)
 >>> lines.status, lines.output.splitlines()[0]
 (0, b'1046 63')
->>> convert(["--from=nothing"], b"").status
-2
+>>> frame = stream[:69]
+>>> is_frame(frame), is_frame(frame[:-1]), make_frame(frame[3:-3]) == frame
+(True, False, True)
+>>> item = read_message(frame[3:-3], week=2295)
+>>> item.kind == GALILEO, item.gal.w1.iodnav == item.gal.w4.iodnav
+(True, True)
+>>> orbit_of(item).toe % 60
+0.0
+>>> write_message(item) == frame
+True
+>>> read_message(b"", week=2295)
+Traceback (most recent call last):
+    ...
+navbridge.Refused: no message number
 """
 
 from __future__ import annotations
 
 import ctypes
+import math
 import os
 from pathlib import Path
 from typing import NamedTuple, Sequence
 
-__all__ = ["Conversion", "convert"]
+__all__ = [
+    "Conversion", "GALILEO", "GALILEO_IONOSPHERE", "GPS", "GPS_IONOSPHERE", "Gal", "Gps", "Ion", "Item", "Orbit", "Refused",
+    "convert", "is_frame", "make_frame", "orbit_of", "read_message", "write_message",
+]
 
+GPS = 1
+GALILEO = 2
+GPS_IONOSPHERE = 3
+GALILEO_IONOSPHERE = 4
+PI = 3.1415926535898  # as the standards give it
 EXAMPLES = Path(__file__).resolve().parents[2] / "examples"
-VERSION = 1
+VERSION = 2
+
+REASONS = {
+    16: "no message number",
+    17: "a message other than 1019 and 1046",
+    18: "the payload is shorter than its message",
+    19: "no such satellite",
+    20: "a time past the end of the week",
+    21: "a spare accuracy",
+    22: "the reference week is not 1024 to 8191",
+    23: "the numbers stand for nothing",
+    25: "no message carries ionospheric parameters",
+}
+
+
+class Refused(ValueError):
+    """What was asked for cannot be given; ``status`` is the number that the library answered."""
+
+    def __init__(self, status: int) -> None:
+        super().__init__(REASONS.get(status, f"status {status}"))
+        self.status = status
+
+
+class _Numbers(ctypes.Structure):
+    """Raw integers, as they were broadcast; navbridge.h says the scale of each."""
+
+    def __repr__(self) -> str:
+        return type(self).__name__ + "(" + ", ".join(f"{it[0]}={getattr(self, it[0])!r}" for it in self._fields_) + ")"
+
+    def __eq__(self, other: object) -> bool:
+        return type(self) is type(other) and bytes(self) == bytes(other)  # type: ignore[call-overload]
+
+    __hash__ = None  # type: ignore[assignment]
+
+
+def _fields(text: str) -> list[tuple[str, type]]:
+    return [(it.rstrip("-"), ctypes.c_int32 if it.endswith("-") else ctypes.c_uint32) for it in text.split()]
+
+
+# a dash behind a name: a number with a sign
+class Sent(_Numbers):
+    _fields_ = _fields("is_known second-")
+
+
+class GpsClock(_Numbers):
+    _fields_ = _fields("iodc toc af2- af1- af0- tgd-")
+
+
+class GpsSide(_Numbers):
+    _fields_ = _fields("l2_code ura health l2p")
+
+
+class GpsOrbitA(_Numbers):
+    _fields_ = _fields("iode crs- delta_n- m0- cuc- e cus- root_a toe")
+
+
+class GpsOrbitB(_Numbers):
+    _fields_ = _fields("iode cic- omega0- cis- i0- crc- omega- omega_dot- idot-")
+
+
+class Gps(_Numbers):
+    """An ephemeris of GPS."""
+
+    _fields_ = _fields("satellite toe_week") + [
+        ("sent", Sent), ("clock", GpsClock), ("side", GpsSide), ("a", GpsOrbitA), ("b", GpsOrbitB), ("fit", ctypes.c_uint32),
+    ]
+
+
+class GalWord1(_Numbers):
+    _fields_ = _fields("iodnav toe m0- e root_a")
+
+
+class GalWord2(_Numbers):
+    _fields_ = _fields("iodnav omega0- i0- omega- idot-")
+
+
+class GalWord3(_Numbers):
+    _fields_ = _fields("iodnav omega_dot- delta_n- cuc- cus- crc- crs- sisa")
+
+
+class GalWord4(_Numbers):
+    _fields_ = _fields("iodnav cic- cis- toc af0- af1- af2-")
+
+
+class GalHealth(_Numbers):
+    _fields_ = _fields("bgd_a- bgd_b- hs_e5b hs_e1b dvs_e5b dvs_e1b")
+
+
+class Gal(_Numbers):
+    """An ephemeris of Galileo."""
+
+    _fields_ = _fields("satellite toe_week") + [
+        ("sent", Sent), ("w1", GalWord1), ("w2", GalWord2), ("w3", GalWord3), ("w4", GalWord4), ("health", GalHealth),
+    ]
+
+
+class GpsIon(_Numbers):
+    _fields_ = _fields("alpha0- alpha1- alpha2- alpha3- beta0- beta1- beta2- beta3-")
+
+
+class GalIon(_Numbers):
+    _fields_ = _fields("ai0 ai1- ai2- regions")
+
+
+class Ion(_Numbers):
+    """Ionospheric parameters of one system; ``moment`` is GPS time in seconds from 1980-01-06."""
+
+    _fields_ = [("moment", ctypes.c_uint64), ("satellite", ctypes.c_uint32), ("gps", GpsIon), ("gal", GalIon)]
+
+
+class Item(_Numbers):
+    """What ``kind`` says: ``gps`` of GPS, ``gal`` of GALILEO, ``ion`` of GPS_IONOSPHERE and GALILEO_IONOSPHERE."""
+
+    _fields_ = [("kind", ctypes.c_uint32), ("gps", Gps), ("gal", Gal), ("ion", Ion)]
 
 
 class Conversion(NamedTuple):
@@ -33,6 +168,32 @@ class Conversion(NamedTuple):
     status: int
     output: bytes
     report: bytes
+
+
+class Orbit(NamedTuple):
+    """An orbit and its clock in SI units, angles in radians; toe and toc in seconds of the week of toe."""
+
+    toe: float
+    toc: float
+    af0: float
+    af1: float
+    af2: float
+    group: tuple[float, float]
+    root_a: float
+    e: float
+    m0: float
+    delta_n: float
+    omega0: float
+    i0: float
+    omega: float
+    omega_dot: float
+    idot: float
+    crs: float
+    crc: float
+    cus: float
+    cuc: float
+    cis: float
+    cic: float
 
 
 class _Bytes(ctypes.Structure):
@@ -47,11 +208,18 @@ def _loaded() -> ctypes.CDLL:
     if _library is None:
         beside = Path(__file__).resolve().parents[1] / "c" / "out" / "libnavbridge.so"
         library = ctypes.CDLL(os.environ.get("NAVBRIDGE_LIBRARY", str(beside)))
-        size, text, number = ctypes.c_size_t, ctypes.c_char_p, ctypes.c_uint32
+        size, text, number, item = ctypes.c_size_t, ctypes.c_char_p, ctypes.c_uint32, ctypes.POINTER(Item)
         to_size = ctypes.POINTER(size)
-        library.nb_version.argtypes, library.nb_version.restype = [], number
-        library.nb_convert.argtypes = [ctypes.POINTER(_Bytes), size, text, size, text, size, to_size, text, size, to_size]
-        library.nb_convert.restype = number
+        for name, takes, gives in (
+            ("version", [], number),
+            ("convert", [ctypes.POINTER(_Bytes), size, text, size, text, size, to_size, text, size, to_size], number),
+            ("is_frame", [text, size], ctypes.c_bool),
+            ("frame_make", [text, size, text, size], size),
+            ("message_read", [text, size, number, item], number),
+            ("message_write", [item, text, size, to_size], number),
+        ):
+            call = getattr(library, "nb_" + name)
+            call.argtypes, call.restype = takes, gives
         if library.nb_version() != VERSION:
             raise ImportError(f"libnavbridge is of version {library.nb_version()}, and not {VERSION}")
         _library = library
@@ -72,3 +240,63 @@ def convert(words: Sequence[str], data: bytes) -> Conversion:
         if used.value <= room and report_used.value <= report_room:
             return Conversion(status, output.raw[: used.value], report.raw[: report_used.value])
         room, report_room = max(room, used.value), max(report_room, report_used.value)
+
+
+def _given(status: int) -> None:
+    if status != 0:
+        raise Refused(status)
+
+
+def is_frame(data: bytes) -> bool:
+    """Whether these bytes are one whole frame of RTCM 3 with a right checksum, and nothing else."""
+    return bool(_loaded().nb_is_frame(data, len(data)))
+
+
+def make_frame(payload: bytes) -> bytes:
+    """The frame of a payload of at most 1,023 bytes."""
+    room = ctypes.create_string_buffer(1029)
+    size = _loaded().nb_frame_make(payload, len(payload), room, len(room))
+    if size == 0:
+        raise ValueError("a payload has at most 1,023 bytes")
+    return room.raw[:size]
+
+
+def read_message(payload: bytes, week: int) -> Item:
+    """The ephemeris in message 1019 or 1046, whose week is the one near this, 1024 to 8191."""
+    item = Item()
+    _given(_loaded().nb_message_read(payload, len(payload), week, ctypes.byref(item)))
+    return item
+
+
+def write_message(item: Item) -> bytes:
+    """The frame of message 1019 or 1046 of an ephemeris."""
+    room, used = ctypes.create_string_buffer(1029), ctypes.c_size_t()
+    _given(_loaded().nb_message_write(ctypes.byref(item), room, len(room), ctypes.byref(used)))
+    return room.raw[: used.value]
+
+
+def _near(toc: float, toe: float) -> float:
+    return toc - 604800 if toc - toe > 302400 else toc + 604800 if toc - toe < -302400 else toc
+
+
+def orbit_of(item: Item) -> Orbit:
+    """The orbit of an ephemeris in SI units and radians."""
+    if item.kind == GPS:
+        clock, a, b = item.gps.clock, item.gps.a, item.gps.b
+        first, second, third, fourth, fifth = a, b, a, b, b
+        step, bits, group = 16, (-31, -43, -55), (math.ldexp(clock.tgd, -31), 0.0)
+    else:
+        clock, first, second, third, fourth = item.gal.w4, item.gal.w1, item.gal.w2, item.gal.w3, item.gal.w3
+        fifth, health = item.gal.w4, item.gal.health
+        step, bits, group = 60, (-34, -46, -59), (math.ldexp(health.bgd_a, -32), math.ldexp(health.bgd_b, -32))
+    toe = float(step * first.toe)
+    return Orbit(
+        toe=toe, toc=_near(float(step * clock.toc), toe), af0=math.ldexp(clock.af0, bits[0]), af1=math.ldexp(clock.af1, bits[1]),
+        af2=math.ldexp(clock.af2, bits[2]), group=group, root_a=math.ldexp(first.root_a, -19), e=math.ldexp(first.e, -33),
+        m0=math.ldexp(first.m0, -31) * PI, delta_n=math.ldexp(third.delta_n, -43) * PI,
+        omega0=math.ldexp(second.omega0, -31) * PI, i0=math.ldexp(second.i0, -31) * PI,
+        omega=math.ldexp(second.omega, -31) * PI, omega_dot=math.ldexp(fourth.omega_dot, -43) * PI,
+        idot=math.ldexp(second.idot, -43) * PI, crs=math.ldexp(third.crs, -5), crc=math.ldexp(fourth.crc, -5),
+        cus=math.ldexp(third.cus, -29), cuc=math.ldexp(third.cuc, -29), cis=math.ldexp(fifth.cis, -29),
+        cic=math.ldexp(fifth.cic, -29),
+    )

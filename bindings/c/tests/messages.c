@@ -1,0 +1,155 @@
+/* Compares messages and frames with those that an independent program made of items in exact arithmetic.
+ *
+ *   messages ITEMS             vectors/items.txt
+ *
+ * Each ephemeris is written as its frame; its frame is read back, made again of its payload, and is a frame no more where one
+ * of its bits is turned. Status 0: all as it should be. */
+#include "values.h"
+
+#define G(name, place) {name, offsetof(nb_gps, place)}
+static const field gps_fields[] = {
+    G("iodc", clock.iodc), G("toc", clock.toc), G("af2", clock.af2), G("af1", clock.af1), G("af0", clock.af0),
+    G("tgd", clock.tgd), G("l2_code", side.l2_code), G("ura", side.ura), G("health", side.health), G("l2p", side.l2p),
+    G("iode", a.iode), G("iode", b.iode), G("crs", a.crs), G("delta_n", a.delta_n), G("m0", a.m0), G("cuc", a.cuc), G("e", a.e),
+    G("cus", a.cus), G("root_a", a.root_a), G("toe", a.toe), G("cic", b.cic), G("omega0", b.omega0), G("cis", b.cis),
+    G("i0", b.i0), G("crc", b.crc), G("omega", b.omega), G("omega_dot", b.omega_dot), G("idot", b.idot), G("fit", fit),
+    G("toe_week", toe_week)};
+#undef G
+#define E(name, place) {name, offsetof(nb_gal, place)}
+static const field gal_fields[] = {
+    E("iodnav", w1.iodnav), E("iodnav", w2.iodnav), E("iodnav", w3.iodnav), E("iodnav", w4.iodnav), E("toe", w1.toe),
+    E("m0", w1.m0), E("e", w1.e), E("root_a", w1.root_a), E("omega0", w2.omega0), E("i0", w2.i0), E("omega", w2.omega),
+    E("idot", w2.idot), E("omega_dot", w3.omega_dot), E("delta_n", w3.delta_n), E("cuc", w3.cuc), E("cus", w3.cus),
+    E("crc", w3.crc), E("crs", w3.crs), E("sisa", w3.sisa), E("cic", w4.cic), E("cis", w4.cis), E("toc", w4.toc),
+    E("af0", w4.af0), E("af1", w4.af1), E("af2", w4.af2), E("bgd_a", health.bgd_a), E("bgd_b", health.bgd_b),
+    E("hs_e5b", health.hs_e5b), E("hs_e1b", health.hs_e1b), E("dvs_e5b", health.dvs_e5b), E("dvs_e1b", health.dvs_e1b),
+    E("toe_week", toe_week)};
+#undef E
+
+/* The ionospheric parameters behind the word: eight numbers of GPS or four of Galileo. */
+static void parse_ionosphere(nb_item *item) {
+    int32_t *gps = &item->ion.gps.alpha0;
+    const char *word;
+    int i;
+    for (i = 0; (word = strtok(NULL, " \n")) != NULL; i++) {
+        int32_t number = (int32_t)atoi(word);
+        if (item->kind == NB_GPS_ION) gps[i] = number;
+        if (item->kind == NB_GALILEO_ION && i == 0) item->ion.gal.ai0 = (uint32_t)number;
+        if (item->kind == NB_GALILEO_ION && i == 1) item->ion.gal.ai1 = number;
+        if (item->kind == NB_GALILEO_ION && i == 2) item->ion.gal.ai2 = number;
+        if (item->kind == NB_GALILEO_ION && i == 3) item->ion.gal.regions = (uint32_t)number;
+    }
+}
+
+static void parse(char *line, nb_item *item, int *number) {
+    char *word;
+    nb_sent *sent;
+    memset(item, 0, sizeof *item);
+    *number = atoi(line + 5);
+    for (word = strtok(line, " \n"); word != NULL; word = strtok(NULL, " \n")) {
+        char *value = strchr(word, '=');
+        if (value == NULL) {
+            parse_ionosphere(item);
+            return;
+        }
+        *value++ = 0;
+        sent = item->kind == NB_GPS ? &item->gps.sent : &item->gal.sent;
+        if (strcmp(word, "sat") == 0) {
+            item->kind = value[0] == 'G' ? NB_GPS : NB_GALILEO;
+            *(item->kind == NB_GPS ? &item->gps.satellite : &item->gal.satellite) = (uint32_t)atoi(value + 1);
+        } else if (strcmp(word, "moment") == 0) {
+            item->ion.satellite = item->kind == NB_GPS ? item->gps.satellite : item->gal.satellite;
+            item->gps.satellite = item->gal.satellite = 0;
+            item->ion.moment = strtoull(value, NULL, 10);
+            item->kind = item->kind == NB_GPS ? NB_GPS_ION : NB_GALILEO_ION;
+        } else if (strcmp(word, "sent") == 0) {
+            sent->is_known = strcmp(value, "unknown") != 0;
+            sent->second = sent->is_known ? atoi(value) : 0;
+        } else if (item->kind == NB_GPS) {
+            put(&item->gps, gps_fields, sizeof gps_fields / sizeof *gps_fields, word, value);
+        } else {
+            put(&item->gal, gal_fields, sizeof gal_fields / sizeof *gal_fields, word, value);
+        }
+    }
+}
+
+static void messages(int number, const nb_item *item, const uint8_t *payload, size_t n, const uint8_t *frame, size_t size) {
+    uint8_t made[NB_FRAME_MOST];
+    uint32_t week = item->kind == NB_GPS ? item->gps.toe_week : item->gal.toe_week;
+    nb_item read, unsent = *item;
+    size_t i, used = 1;
+    memset(&unsent.gps.sent, 0, sizeof unsent.gps.sent);
+    memset(&unsent.gal.sent, 0, sizeof unsent.gal.sent);
+    want(nb_message_write(item, made, sizeof made, &used) == NB_OK && used == size && memcmp(made, frame, size) == 0, number, "frame");
+    want(nb_frame_make(payload, n, made, sizeof made) == size && memcmp(made, frame, size) == 0, number, "frame of payload");
+    want(nb_is_frame(frame, size), number, "is a frame");
+    for (i = 0; i < 8 * size; i++) {
+        memcpy(made, frame, size);
+        made[i / 8] ^= (uint8_t)(1 << i % 8);
+        if (i / 8 != 1 || i % 8 < 2) want(!nb_is_frame(made, size), number, "a bit turned");
+    }
+    memset(&read, 0, sizeof read);
+    want(nb_message_read(payload, n, week, &read) == NB_OK && memcmp(&read, &unsent, sizeof read) == 0, number, "read");
+    want(nb_message_read(payload, n - 1, week, &read) == NB_SHORT, number, "short");
+    want(nb_message_read(payload, n, 1023, &read) == NB_NO_WEEK, number, "week");
+    memset(made, 0xAA, sizeof made);
+    want(nb_message_write(item, made, 10, &used) == NB_OK && used == size && memcmp(made, frame, 10) == 0 && made[10] == 0xAA, number,
+         "room");
+}
+
+static void none(int number, const nb_item *item) {
+    nb_item other = *item;
+    uint8_t room[NB_FRAME_MOST];
+    size_t used = 1;
+    if (item->kind > NB_GALILEO)
+        want(nb_message_write(item, room, sizeof room, &used) == NB_NO_MESSAGE && used == 0, number, "no message");
+    other.kind = 5;
+    used = 1;
+    want(nb_message_write(&other, room, sizeof room, &used) == NB_NO_ITEM && used == 0, number, "kind 5");
+    other = *item;
+    other.gps.clock.af0 = 2097152;
+    other.gal.w3.sisa = 126;
+    other.ion.moment = 604799;
+    used = 1;
+    want(nb_message_write(&other, room, sizeof room, &used) == NB_NO_ITEM && used == 0, number, "a field out of its range");
+    other = *item;
+    other.gps.a.iode ^= 1;
+    other.gal.w2.iodnav ^= 1;
+    if (item->kind <= NB_GALILEO)
+        want(nb_message_write(&other, room, sizeof room, &used) == NB_NO_ITEM && used == 0, number, "two issues");
+}
+
+int main(int argc, char **argv) {
+    static char line[4096];
+    FILE *items = argc == 2 ? fopen(argv[1], "r") : NULL;
+    nb_item item;
+    uint8_t payload[NB_FRAME_MOST], frame[NB_FRAME_MOST];
+    static uint8_t long_payload[1024];
+    size_t n = 0, size;
+    int number = 0, count = 0, frames = 0;
+    if (items == NULL) {
+        fprintf(stderr, "usage: messages ITEMS\n");
+        return 2;
+    }
+    want(nb_version() == NB_VERSION, -1, "version");
+    want(nb_message_read(payload, 0, 2295, &item) == NB_NO_NUMBER, -1, "no bytes");
+    want(nb_frame_make(long_payload, 1024, frame, sizeof frame) == 0, -1, "1,024 bytes");
+    want(nb_frame_make(long_payload, 1023, frame, sizeof frame) == 1029 && nb_is_frame(frame, 1029), -1, "1,023 bytes");
+    want(nb_message_read(NULL, 0, 2295, &item) == NB_NO_NUMBER && !nb_is_frame(NULL, 0), -1, "no pointer");
+    while (fgets(line, sizeof line, items) != NULL) {
+        if (strncmp(line, "item=", 5) == 0) {
+            parse(line, &item, &number);
+            none(number, &item);
+            count++;
+        }
+        if (strncmp(line, "  payload ", 10) == 0) n = bytes_of(line + 10, payload);
+        if (strncmp(line, "  frame ", 8) == 0) {
+            size = bytes_of(line + 8, frame);
+            messages(number, &item, payload, n, frame, size);
+            frames++;
+        }
+    }
+    fclose(items);
+    printf("messages: %d items, %d frames, %d wrong\n", count, frames, wrong);
+    return wrong != 0 || count == 0 || frames == 0;
+}
