@@ -69,7 +69,8 @@ done
 echo "convert: $runs runs"
 vectors=bindings/c/tests/vectors
 for suffix in '' ++; do
-  $valgrind "$made/messages$suffix" $vectors/items.txt || differs "messages$suffix"
+  $valgrind "$made/records$suffix" $vectors/items.txt $vectors/records.txt || differs "records$suffix"
+  $valgrind "$made/parts$suffix" $vectors/lnav_subframes.txt $vectors/inav_words.txt || differs "parts$suffix"
   "$made/rooms$suffix" examples/three.navcap examples/expected/three.rnx examples/expected/three.report --from=capture --to=rinex \
     --week=2295 '--date=20240101 000000 UTC' --leap=18 || differs "rooms$suffix"
   "$made/threads$suffix" examples/station.navcap examples/station.rnx --from=capture --to=rinex '--date=20240101 000000 UTC' \
@@ -78,6 +79,8 @@ for suffix in '' ++; do
     '--date=20240101 000000 UTC' --leap=18 || differs "memory_refused$suffix"
   "$made/filter$suffix" 2295 < examples/ephemerides.rtcm3 > "$out/passed" 2> /dev/null
   cmp -s examples/ephemerides.rtcm3 "$out/passed" || differs "filter$suffix"
+  "$made/listen$suffix" 2295 < examples/ephemerides.rtcm3 2> /dev/null > "$out/records"
+  tail -n +5 examples/expected/ephemerides.rnx | cmp -s - "$out/records" || differs "listen$suffix"
 done
 if [ -n "$valgrind" ]; then
   $valgrind "$made/convert" --from=stream --to=frames < examples/station.rtcm3 | cmp -s - examples/expected/station.frames \

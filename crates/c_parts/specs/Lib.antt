@@ -1,0 +1,3 @@
+pub mod Tags
+pub mod Subframes
+pub mod Pages

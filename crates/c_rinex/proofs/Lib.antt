@@ -1,0 +1,3 @@
+mod LinesOfText
+mod Lengths
+mod Prefixes

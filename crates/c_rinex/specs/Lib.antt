@@ -1,0 +1,3 @@
+pub mod RecordReads
+pub mod Fixed
+pub mod RecordWrites
