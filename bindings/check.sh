@@ -69,13 +69,30 @@ done
 echo "convert: $runs runs"
 vectors=bindings/c/tests/vectors
 for suffix in '' ++; do
-  $valgrind "$made/messages$suffix" $vectors/items.txt || differs "messages$suffix"
+  $valgrind "$made/messages$suffix" $vectors/items.txt $vectors/records.txt || differs "messages$suffix"
+  $valgrind "$made/parts$suffix" $vectors/lnav_subframes.txt $vectors/inav_words.txt || differs "parts$suffix"
   "$made/rooms$suffix" examples/three.navcap examples/expected/three.rnx examples/expected/three.report --from=capture --to=rinex \
     --week=2295 '--date=20240101 000000 UTC' --leap=18 || differs "rooms$suffix"
   "$made/threads$suffix" examples/station.navcap examples/station.rnx --from=capture --to=rinex '--date=20240101 000000 UTC' \
     --leap=18 || differs "threads$suffix"
   "$made/memory_refused$suffix" examples/station.navcap examples/station.rnx --from=capture --to=rinex \
     '--date=20240101 000000 UTC' --leap=18 || differs "memory_refused$suffix"
+  "$made/deframer$suffix" examples/ephemerides.rtcm3 examples/station.rtcm3 || differs "deframer$suffix"
+  "$made/listen$suffix" 2295 < examples/ephemerides.rtcm3 | cmp -s - examples/expected/ephemerides.heard || differs "listen$suffix"
+  rm -f "$out/log" "$out/heard"
+  mkfifo "$out/log"
+  "$made/listen$suffix" 2295 < "$out/log" > "$out/heard" &
+  exec 3> "$out/log"
+  head -c 69 examples/ephemerides.rtcm3 >&3
+  for _ in $(seq 100); do [ ! -s "$out/heard" ] || break; sleep 0.1; done
+  head -1 examples/expected/ephemerides.heard | cmp -s - "$out/heard" || differs "listen$suffix, a frame before the end"
+  exec 3>&-
+  wait $!
+  if [ -x "$made/rtklib$suffix" ]; then
+    "$made/rtklib$suffix" 2295 < examples/ephemerides.rtcm3 || differs "rtklib$suffix"
+    "$made/positions$suffix" 2295 < examples/ephemerides.rtcm3 | cmp -s - examples/expected/ephemerides.places \
+      || differs "positions$suffix"
+  fi
   "$made/filter$suffix" 2295 < examples/ephemerides.rtcm3 > "$out/passed" 2> /dev/null
   cmp -s examples/ephemerides.rtcm3 "$out/passed" || differs "filter$suffix"
 done

@@ -83,11 +83,15 @@ for path in glob.glob("crates/*/src/**/*.rt", recursive=True) + glob.glob("crate
         stems.setdefault(crate, set()).add(stem)
         continue
     # functions, and the laws of traits
-    found = list(re.finditer(r"\b(?:fn|ghost(?= \w+:)) (\w+)", text))
+    found = []
+    for it in re.finditer(r"\b(fn|ghost(?= \w+:)) (\w+)", text):
+        # a ghost value between a function's head and its clauses is no law
+        if it[1] == "fn" or not found or re.search(r"[;}]", text[found[-1].end() : it.start()]):
+            found.append(it)
     for at, it in enumerate(found):
         end = found[at + 1].start() if at + 1 < len(found) else len(text)
         said = set(re.findall(r"\b(?:ensures|requires)\*?\s+(\w+)\s*\{", text[it.start() : end]))
-        clauses.setdefault((crate, it[1]), []).append(said)
+        clauses.setdefault((crate, it[2]), []).append(said)
 for path in glob.glob("crates/*/proofs/Surface.antt"):
     known |= set(re.findall(r"\w+", code(path)))
 for path in glob.glob("crates/*/must-fail/*.edit"):

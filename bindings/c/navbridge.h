@@ -1,6 +1,6 @@
 /**
  * @file navbridge.h
- * @brief Broadcast orbits of GPS and Galileo: messages, frames and whole conversions, proved.
+ * @brief Broadcast orbits of GPS and Galileo: messages, subframes, pages, records and whole conversions, proved.
  *
  * C99 and C++. Link with libnavbridge.a (docs/LIBRARY.md says how it is made); nothing else is needed but the C library, and
  * -lm for the functions of this header that give doubles.
@@ -49,7 +49,36 @@ typedef enum nb_status {
     NB_SPARE_SISA = 21,    /**< a spare SISA index, 126 to 254 */
     NB_NO_WEEK = 22,       /**< the reference week is not 1024 to 8191 */
     NB_NO_ITEM = 23,       /**< the numbers stand for nothing: a kind that is none, a field out of its range, two issues */
-    NB_NO_MESSAGE = 25     /**< ionospheric parameters, which no message carries */
+    NB_NO_VERSION = 24,    /**< a version of navigation files other than 3 and 4 */
+    NB_NO_MESSAGE = 25,    /**< ionospheric parameters, which no message carries */
+
+    NB_RECORD_SATELLITE = 32,   /**< the record names no satellite of its system, or two */
+    NB_RECORD_SHORT = 33,       /**< the record ends before the last line of its kind */
+    NB_RECORD_NO_NUMBER = 34,   /**< a number or a part of the date is none */
+    NB_RECORD_BLANK = 35,       /**< a column is blank that must not be */
+    NB_RECORD_RANGE = 36,       /**< a number is out of the range of its field */
+    NB_RECORD_NO_DATE = 37,     /**< the calendar has no such day, or the clock no such time */
+    NB_RECORD_WEEK = 38,        /**< the date lies in no week that has a number here */
+    NB_RECORD_FIT = 39,         /**< the fit interval is 2 or 3 hours, to which no flag corresponds */
+    NB_RECORD_STEP = 40,        /**< the epoch is no multiple of the step of toc */
+    NB_RECORD_FAR = 41,         /**< the epoch is not within half a week of toe */
+    NB_RECORD_PASSED_OVER = 42, /**< a record of another kind */
+
+    NB_SUBFRAME_PREAMBLE = 48, /**< neither the preamble nor its complement stands first */
+    NB_SUBFRAME_PARITY = 48,   /**< with the number of the first word of wrong parity added: 49 to 58 */
+    NB_SUBFRAME_TOW = 59,      /**< the TOW count is 100,800 or more */
+    NB_SUBFRAME_UNUSED = 60,   /**< not subframe 1, 2 or 3, nor page 18 of subframe 4 */
+    NB_SUBFRAME_TIME = 61,     /**< toc or toe past the end of the week */
+    NB_NO_SATELLITE = 62,      /**< the satellite that was named is not 1 to 32 (GPS) or 1 to 36 (Galileo) */
+    NB_NO_TOW_COUNT = 63,      /**< the TOW count that was given is 100,800 or more */
+
+    NB_PAGE_ALERT = 65,     /**< a part is of an alert page */
+    NB_PAGE_NO_PAIR = 66,   /**< the parts are not an even one and an odd one */
+    NB_PAGE_CRC = 67,       /**< the CRC is wrong: a bit is, or the parts are of two pages */
+    NB_WORD_UNUSED = 68,    /**< the word type is not 1 to 5 */
+    NB_WORD_SATELLITE = 69, /**< word type 4 names another satellite */
+    NB_WORD_TIME = 70,      /**< toe, toc or TOW past the end of the week */
+    NB_WORD_SISA = 71       /**< a spare SISA index, 126 to 254 */
 } nb_status;
 
 /** Some bytes, which nobody changes. */
@@ -292,6 +321,165 @@ uint32_t nb_message_write(const nb_item *item, uint8_t *frame, size_t room, size
 
 /**@}*/
 
+/** @name LNAV subframes (IS-GPS-200, 20.3) */
+/**@{*/
+
+/** The 300 bits of a subframe, most significant bit first, each word with its parity; the last four bits are ignored. */
+typedef struct nb_subframe_bits {
+    uint8_t bytes[38]; /**< the bytes */
+} nb_subframe_bits;
+
+/** The content of a subframe. What is not of its number is never looked at, and left as it is. */
+typedef struct nb_subframe {
+    uint32_t number;     /**< 1 to 3, or 4 for page 18 of subframe 4 */
+    uint32_t wn;         /**< week number modulo 1024, of subframe 1: 10 bits */
+    uint32_t second;     /**< transmission time, s of the week, of subframes 1 and 4; not looked at where one is written */
+    nb_gps_clock clock;  /**< of subframe 1 */
+    nb_gps_side side;    /**< of subframe 1 */
+    nb_gps_orbit_a a;    /**< of subframe 2 */
+    uint32_t fit;        /**< fit interval flag, of subframe 2: 1 bit */
+    nb_gps_orbit_b b;    /**< of subframe 3 */
+    nb_gps_ion ion;      /**< of page 18 of subframe 4 */
+} nb_subframe;
+
+/**
+ * @brief Reads a subframe; one with inverted polarity is inverted first.
+ * @param satellite the GPS satellite that sent it, 1 to 32
+ * @param subframe  set where the answer is NB_OK, and left as it is otherwise
+ * @return NB_OK, NB_NO_SATELLITE, or the first of NB_SUBFRAME_PREAMBLE, NB_SUBFRAME_PARITY + 1 to NB_SUBFRAME_PARITY + 10,
+ *         NB_SUBFRAME_TOW, NB_SUBFRAME_UNUSED and NB_SUBFRAME_TIME that holds
+ */
+uint32_t nb_subframe_read(const nb_subframe_bits *bits, uint32_t satellite, nb_subframe *subframe);
+
+/**
+ * @brief Makes the bits of a subframe: TLM message, flags and reserved bits 0, the last four bits 0.
+ * @param tow_count the start of the next subframe, in units of 6 s from the start of the week: 0 to 100,799
+ * @param bits      set where the answer is NB_OK, and left as it is otherwise
+ * @return NB_OK, NB_NO_TOW_COUNT or NB_NO_ITEM
+ */
+uint32_t nb_subframe_write(const nb_subframe *subframe, uint32_t tow_count, nb_subframe_bits *bits);
+
+/**@}*/
+
+/** @name I/NAV pages (Galileo OS SIS ICD, 4.3.2 and 4.3.5) */
+/**@{*/
+
+/** The two parts of a page, 120 bits each, most significant bit first. */
+typedef struct nb_page_bits {
+    uint8_t even[15]; /**< the even part, sent first */
+    uint8_t odd[15];  /**< the odd part, sent one second later */
+} nb_page_bits;
+
+/** The content of the word of a page. What is not of its type is never looked at, and left as it is. */
+typedef struct nb_word {
+    uint32_t number;      /**< the word type, 1 to 5 */
+    uint32_t wn;          /**< Galileo week number modulo 4096, of word type 5: 12 bits */
+    uint32_t second;      /**< transmission time, s of the week, of word type 5: 0 to 604,799 */
+    nb_gal_word1 w1;      /**< of word type 1 */
+    nb_gal_word2 w2;      /**< of word type 2 */
+    nb_gal_word3 w3;      /**< of word type 3 */
+    nb_gal_word4 w4;      /**< of word type 4 */
+    nb_gal_health health; /**< of word type 5 */
+    nb_gal_ion ion;       /**< of word type 5 */
+} nb_word;
+
+/**
+ * @brief Reads the word of a page. Tail bits, and the eight bits behind the CRC, are ignored.
+ * @param satellite the Galileo satellite that sent it, 1 to 36
+ * @param word      set where the answer is NB_OK, and left as it is otherwise
+ * @return NB_OK, NB_NO_SATELLITE, or the first of NB_PAGE_ALERT, NB_PAGE_NO_PAIR, NB_PAGE_CRC, NB_WORD_UNUSED,
+ *         NB_WORD_SATELLITE, NB_WORD_TIME and NB_WORD_SISA that holds
+ */
+uint32_t nb_page_read(const nb_page_bits *page, uint32_t satellite, nb_word *word);
+
+/**
+ * @brief Makes the page of a word: nominal, reserved and tail bits 0.
+ * @param satellite the Galileo satellite that sends it, 1 to 36; word type 4 names it
+ * @param page      set where the answer is NB_OK, and left as it is otherwise
+ * @return NB_OK, NB_NO_SATELLITE or NB_NO_ITEM
+ */
+uint32_t nb_page_write(const nb_word *word, uint32_t satellite, nb_page_bits *page);
+
+/**@}*/
+
+/** @name RINEX navigation files */
+/**@{*/
+
+/**
+ * @brief Reads one record: its lines, with LF or CR LF. Lines behind the last of its kind, and columns behind the 80th, are
+ *        not looked at.
+ * @param version 4 for RINEX 4, where the record begins with the line that begins with `>`; 3 for RINEX 3, without it
+ * @param item    set where the answer is NB_OK, and left as it is otherwise
+ * @return NB_OK; NB_NO_VERSION; NB_RECORD_PASSED_OVER; or the first of NB_RECORD_SATELLITE to NB_RECORD_FAR that is found, in
+ *         this order: satellite, number of lines, the same satellite in the line of the date, date, numbers, what they make
+ */
+uint32_t nb_record_read(const uint8_t *text, size_t n, uint32_t version, nb_item *item);
+
+/**
+ * @brief Writes the record of an item: its lines, each with LF.
+ * @param version 4 for RINEX 4.01, with the line that begins with `>`; 3 for RINEX 3.05, without it
+ * @param used    set to the length of the record, which may be more than the room: the prefix that fits is put. Ionospheric
+ *                parameters have no record in version 3, and its length is 0
+ * @return NB_OK, NB_NO_VERSION or NB_NO_ITEM; but for NB_OK nothing is put, and the length is 0
+ */
+uint32_t nb_record_write(const nb_item *item, uint32_t version, uint8_t *text, size_t room, size_t *used);
+
+/**@}*/
+
+/** @name Frames of a stream
+ * A deframer finds the frames in bytes that come in pieces of any size. A frame may begin at each byte D3: where it is whole and
+ * its checksum right the search goes on behind it, and else at the next byte. It stands in memory of the caller's, takes none
+ * itself, and is dropped by being forgotten.
+ *
+ *     nb_deframer_init(&it);
+ *     for (;;) {
+ *         size_t n = read some bytes, at = 0;
+ *         if (n == 0) nb_deframer_finish(&it);
+ *         do {
+ *             at += nb_deframer_feed(&it, bytes + at, n - at);
+ *             while ((size = nb_deframer_next(&it, frame, sizeof frame)) > 0) use the frame;
+ *         } while (at < n);
+ *         if (n == 0) break;
+ *     }
+ */
+/**@{*/
+
+/** The most bytes that a deframer takes; nb_deframer_size() tells how many it does take. */
+#define NB_DEFRAMER_MOST 24576
+
+/** Room for a deframer, of no use before nb_deframer_init(), and to be touched by the calls below alone, one at a time. Between
+ * two calls it may be moved elsewhere, by memcpy. */
+typedef union nb_deframer {
+    uint64_t aligned;               /**< so that it is aligned */
+    uint8_t room[NB_DEFRAMER_MOST]; /**< bytes, whose meaning is the library's */
+} nb_deframer;
+
+/** How many bytes a deframer takes, at most NB_DEFRAMER_MOST: for those who do not know this header's nb_deframer. */
+size_t nb_deframer_size(void);
+
+/** Makes a deframer of this memory, whatever it held: no byte was fed. */
+void nb_deframer_init(nb_deframer *at);
+
+/**
+ * @brief Feeds bytes from the start of a piece.
+ * @return how many were taken: at least one; but none where there are none, where a frame is decided that nb_deframer_next() was
+ *         not asked for, and behind nb_deframer_finish().
+ */
+size_t nb_deframer_feed(nb_deframer *at, const uint8_t *bytes, size_t n);
+
+/**
+ * @brief Gives the next frame of what was fed, and passes what stands before its end.
+ * @param frame room for it, which wants NB_FRAME_MOST bytes: the prefix that fits is put there
+ * @return its size, 6 to 1,029. 0 where no frame is decided: what is left is empty or begins with an incomplete frame. Behind
+ *         nb_deframer_finish() 0 says that there is no further frame.
+ */
+size_t nb_deframer_next(nb_deframer *at, uint8_t *frame, size_t room);
+
+/** Says that no byte follows: a frame that is incomplete stays so, and the bytes behind its first are then searched. */
+void nb_deframer_finish(nb_deframer *at);
+
+/**@}*/
+
 /** @name Sizes
  * What the library was built for; a compiler that lays these out otherwise stops here. */
 /**@{*/
@@ -300,7 +488,12 @@ typedef char nb_check_sent[sizeof(nb_sent) == 8 ? 1 : -1];
 typedef char nb_check_gps[sizeof(nb_gps) == 132 && offsetof(nb_gps, clock) == 16 && offsetof(nb_gps, fit) == 128 ? 1 : -1];
 typedef char nb_check_gal[sizeof(nb_gal) == 140 && offsetof(nb_gal, w1) == 16 && offsetof(nb_gal, health) == 116 ? 1 : -1];
 typedef char nb_check_ion[sizeof(nb_ion) == 64 && offsetof(nb_ion, gps) == 12 && offsetof(nb_ion, gal) == 44 ? 1 : -1];
+typedef char nb_check_deframer[sizeof(nb_deframer) == NB_DEFRAMER_MOST ? 1 : -1];
 typedef char nb_check_item[sizeof(nb_item) == 344 && offsetof(nb_item, gal) == 136 && offsetof(nb_item, ion) == 280 ? 1 : -1];
+typedef char nb_check_subframe[sizeof(nb_subframe) == 160 && offsetof(nb_subframe, ion) == 128 ? 1 : -1];
+typedef char nb_check_subframe_bits[sizeof(nb_subframe_bits) == 38 ? 1 : -1];
+typedef char nb_check_word[sizeof(nb_word) == 152 && offsetof(nb_word, ion) == 136 ? 1 : -1];
+typedef char nb_check_page_bits[sizeof(nb_page_bits) == 30 && offsetof(nb_page_bits, odd) == 15 ? 1 : -1];
 /**@}*/
 
 /** How many bytes the frame has that begins here, as its header says: 0 where these bytes do not begin with D3, and 3 where

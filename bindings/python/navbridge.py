@@ -1,11 +1,11 @@
-"""Broadcast orbits of GPS and Galileo, by libnavbridge.so: RTCM 3 messages, frames and whole conversions.
+"""Broadcast orbits of GPS and Galileo, by libnavbridge.so: messages, streams, subframes, pages, records, conversions.
 
 The shared object is made by ``make -C bindings/c`` (docs/LIBRARY.md). It is looked for where ``NAVBRIDGE_LIBRARY`` says, and
 else in ``bindings/c/out`` beside this folder. Only the standard library is needed. Calls may run in several threads: none of
 them holds the interpreter's lock while it works.
 
 An example, which runs as a test (``python3 -m doctest bindings/python/navbridge.py``). A stream of RTCM 3 becomes lines, and
-its first ephemeris an item, an orbit in SI units, and its frame again:
+its first ephemeris an item, an orbit in SI units, a record, its frame again, and the page of one of its words:
 
 >>> stream = (EXAMPLES / "ephemerides.rtcm3").read_bytes()
 >>> lines = convert(["--from=stream", "--to=frames"], stream)
@@ -21,6 +21,15 @@ its first ephemeris an item, an orbit in SI units, and its frame again:
 0.0
 >>> write_message(item) == frame
 True
+>>> record = write_record(item)
+>>> record.startswith("> EPH E"), read_record(record) == item
+(True, True)
+>>> page = write_page(Word(number=1, w1=item.gal.w1), item.gal.satellite)
+>>> read_page(page, item.gal.satellite).w1 == item.gal.w1
+True
+>>> frames = Deframer()
+>>> [len(it) for it in frames.feed(stream[:100])], [len(it) for it in frames.feed(stream[100:])], frames.finish()
+([69], [67], [])
 >>> read_message(b"", week=2295)
 Traceback (most recent call last):
     ...
@@ -36,8 +45,9 @@ from pathlib import Path
 from typing import NamedTuple, Sequence
 
 __all__ = [
-    "Conversion", "GALILEO", "GALILEO_IONOSPHERE", "GPS", "GPS_IONOSPHERE", "Gal", "Gps", "Ion", "Item", "Orbit", "Refused",
-    "convert", "is_frame", "make_frame", "orbit_of", "read_message", "write_message",
+    "Conversion", "Deframer", "GALILEO", "GALILEO_IONOSPHERE", "GPS", "GPS_IONOSPHERE", "Gal", "Gps", "Ion", "Item", "Orbit",
+    "Refused", "Subframe", "Word", "convert", "is_frame", "make_frame", "orbit_of", "read_message", "read_page", "read_record",
+    "read_subframe", "write_message", "write_page", "write_record", "write_subframe",
 ]
 
 GPS = 1
@@ -57,8 +67,33 @@ REASONS = {
     21: "a spare accuracy",
     22: "the reference week is not 1024 to 8191",
     23: "the numbers stand for nothing",
+    24: "there is no such version",
     25: "no message carries ionospheric parameters",
-}
+    32: "no satellite, or two",
+    33: "the record is short",
+    34: "a number is none",
+    35: "a column is blank",
+    36: "a number is out of its range",
+    37: "there is no such date",
+    38: "the week has no number",
+    39: "a fit interval to which no flag corresponds",
+    40: "the epoch is no multiple of the step of toc",
+    41: "the epoch is far from toe",
+    42: "a record of another kind",
+    48: "no preamble",
+    59: "the TOW count is past the end of the week",
+    60: "the subframe or page is not used",
+    61: "toc or toe is past the end of the week",
+    62: "the system has no such satellite",
+    63: "the TOW count is 100,800 or more",
+    65: "an alert page",
+    66: "not an even and an odd part",
+    67: "the CRC is wrong",
+    68: "the word type is not 1 to 5",
+    69: "another satellite",
+    70: "toe, toc or TOW is past the end of the week",
+    71: "a spare accuracy",
+} | {48 + word: f"the parity of word {word} is wrong" for word in range(1, 11)}
 
 
 class Refused(ValueError):
@@ -162,6 +197,23 @@ class Item(_Numbers):
     _fields_ = [("kind", ctypes.c_uint32), ("gps", Gps), ("gal", Gal), ("ion", Ion)]
 
 
+class Subframe(_Numbers):
+    """The content of an LNAV subframe: of ``number`` 1 ``wn``, ``second``, ``clock`` and ``side``, of 2 ``a`` and ``fit``, of 3
+    ``b``, of 4 (page 18) ``second`` and ``ion``."""
+
+    _fields_ = _fields("number wn second") + [
+        ("clock", GpsClock), ("side", GpsSide), ("a", GpsOrbitA), ("fit", ctypes.c_uint32), ("b", GpsOrbitB), ("ion", GpsIon),
+    ]
+
+
+class Word(_Numbers):
+    """The content of an I/NAV word: of ``number`` 1 to 4 ``w1`` to ``w4``, of 5 ``wn``, ``second``, ``health`` and ``ion``."""
+
+    _fields_ = _fields("number wn second") + [
+        ("w1", GalWord1), ("w2", GalWord2), ("w3", GalWord3), ("w4", GalWord4), ("health", GalHealth), ("ion", GalIon),
+    ]
+
+
 class Conversion(NamedTuple):
     """How a conversion ended, what it wrote and what it reported."""
 
@@ -209,7 +261,7 @@ def _loaded() -> ctypes.CDLL:
         beside = Path(__file__).resolve().parents[1] / "c" / "out" / "libnavbridge.so"
         library = ctypes.CDLL(os.environ.get("NAVBRIDGE_LIBRARY", str(beside)))
         size, text, number, item = ctypes.c_size_t, ctypes.c_char_p, ctypes.c_uint32, ctypes.POINTER(Item)
-        to_size = ctypes.POINTER(size)
+        to_size, subframe, word = ctypes.POINTER(size), ctypes.POINTER(Subframe), ctypes.POINTER(Word)
         for name, takes, gives in (
             ("version", [], number),
             ("convert", [ctypes.POINTER(_Bytes), size, text, size, text, size, to_size, text, size, to_size], number),
@@ -217,6 +269,17 @@ def _loaded() -> ctypes.CDLL:
             ("frame_make", [text, size, text, size], size),
             ("message_read", [text, size, number, item], number),
             ("message_write", [item, text, size, to_size], number),
+            ("subframe_read", [text, number, subframe], number),
+            ("subframe_write", [subframe, number, text], number),
+            ("page_read", [text, number, word], number),
+            ("page_write", [word, number, text], number),
+            ("record_read", [text, size, number, item], number),
+            ("record_write", [item, number, text, size, to_size], number),
+            ("deframer_size", [], size),
+            ("deframer_init", [ctypes.c_void_p], None),
+            ("deframer_feed", [ctypes.c_void_p, text, size], size),
+            ("deframer_next", [ctypes.c_void_p, text, size], size),
+            ("deframer_finish", [ctypes.c_void_p], None),
         ):
             call = getattr(library, "nb_" + name)
             call.argtypes, call.restype = takes, gives
@@ -261,6 +324,36 @@ def make_frame(payload: bytes) -> bytes:
     return room.raw[:size]
 
 
+class Deframer:
+    """Finds the frames of a stream of RTCM 3 that comes in pieces of any size; for one thread at a time."""
+
+    def __init__(self) -> None:
+        library = _loaded()
+        self._state = (ctypes.c_uint64 * ((library.nb_deframer_size() + 7) // 8))()
+        library.nb_deframer_init(self._state)
+
+    def _decided(self) -> list[bytes]:
+        room, frames = ctypes.create_string_buffer(1029), []
+        while size := _loaded().nb_deframer_next(self._state, room, len(room)):
+            frames.append(room.raw[:size])
+        return frames
+
+    def feed(self, data: bytes) -> list[bytes]:
+        """The frames that are decided by these bytes behind those that were fed before; none once it is finished."""
+        frames, at, taken = self._decided(), 0, 1
+        while at < len(data) and taken:
+            piece = data[at : at + 4096]
+            taken = _loaded().nb_deframer_feed(self._state, piece, len(piece))
+            at += taken
+            frames += self._decided()
+        return frames
+
+    def finish(self) -> list[bytes]:
+        """The frames behind an incomplete one, now that no byte follows."""
+        _loaded().nb_deframer_finish(self._state)
+        return self._decided()
+
+
 def read_message(payload: bytes, week: int) -> Item:
     """The ephemeris in message 1019 or 1046, whose week is the one near this, 1024 to 8191."""
     item = Item()
@@ -273,6 +366,54 @@ def write_message(item: Item) -> bytes:
     room, used = ctypes.create_string_buffer(1029), ctypes.c_size_t()
     _given(_loaded().nb_message_write(ctypes.byref(item), room, len(room), ctypes.byref(used)))
     return room.raw[: used.value]
+
+
+def _of_size(data: bytes, size: int) -> bytes:
+    if len(data) != size:
+        raise ValueError(f"{size} bytes are wanted, and not {len(data)}")
+    return data
+
+
+def read_subframe(bits: bytes, satellite: int) -> Subframe:
+    """The content of an LNAV subframe of that GPS satellite: 300 bits with parity and four that are ignored, 38 bytes."""
+    subframe = Subframe()
+    _given(_loaded().nb_subframe_read(_of_size(bits, 38), satellite, ctypes.byref(subframe)))
+    return subframe
+
+
+def write_subframe(subframe: Subframe, tow_count: int) -> bytes:
+    """The 38 bytes of an LNAV subframe; the TOW count is the start of the next in units of 6 s from the start of the week."""
+    room = ctypes.create_string_buffer(38)
+    _given(_loaded().nb_subframe_write(ctypes.byref(subframe), tow_count, room))
+    return room.raw
+
+
+def read_page(page: bytes, satellite: int) -> Word:
+    """The content of the word of an I/NAV page of that Galileo satellite: its even and its odd part, 15 bytes each."""
+    word = Word()
+    _given(_loaded().nb_page_read(_of_size(page, 30), satellite, ctypes.byref(word)))
+    return word
+
+
+def write_page(word: Word, satellite: int) -> bytes:
+    """The even and the odd part of the I/NAV page of a word that this Galileo satellite sends, 15 bytes each."""
+    room = ctypes.create_string_buffer(30)
+    _given(_loaded().nb_page_write(ctypes.byref(word), satellite, room))
+    return room.raw
+
+
+def read_record(text: str, version: int = 4) -> Item:
+    """The item of one record of a navigation file, of version 4 with its title line, of version 3 without."""
+    item, lines = Item(), text.encode()
+    _given(_loaded().nb_record_read(lines, len(lines), version, ctypes.byref(item)))
+    return item
+
+
+def write_record(item: Item, version: int = 4) -> str:
+    """The record of an item in a navigation file of RINEX 4.01 or 3.05; ionospheric parameters have none in version 3."""
+    room, used = ctypes.create_string_buffer(1024), ctypes.c_size_t()
+    _given(_loaded().nb_record_write(ctypes.byref(item), version, room, len(room), ctypes.byref(used)))
+    return room.raw[: used.value].decode("ascii")
 
 
 def _near(toc: float, toe: float) -> float:

@@ -7,24 +7,23 @@
 
 int main(int argc, char **argv) {
     static frames in;
-    const uint8_t *frame;
     size_t size, passed = 0, dropped = 0;
     uint32_t week = argc == 2 ? (uint32_t)strtoul(argv[1], NULL, 10) : 0;
     if (nb_version() != NB_VERSION || week < 1024 || week > 8191) {
         fprintf(stderr, "usage: filter WEEK < STREAM, the week 1024 to 8191\n");
         return 2;
     }
-    frames_begin(&in, stdin);
-    while ((size = frames_next(&in, &frame)) > 0) {
+    frames_begin(&in, STDIN_FILENO);
+    while ((size = frames_next(&in)) > 0) {
         nb_item item;
-        uint32_t status = nb_message_read(frame + 3, size - 6, week, &item);
+        uint32_t status = nb_message_read(in.frame + 3, size - 6, week, &item);
         if (status == NB_OK || status == NB_OTHER_MESSAGE || status == NB_NO_NUMBER) {
-            if (fwrite(frame, 1, size, stdout) < size) return 4;
+            if (fwrite(in.frame, 1, size, stdout) < size || fflush(stdout) != 0) return 4;
             passed++;
         } else {
             dropped++;
         }
     }
     fprintf(stderr, "passed %lu\ndropped %lu\n", (unsigned long)passed, (unsigned long)dropped);
-    return fflush(stdout) == 0 ? 0 : 4;
+    return 0;
 }

@@ -1,9 +1,9 @@
-/* Compares messages and frames with those that an independent program made of items in exact arithmetic.
+/* Compares the stateless calls with items, frames and records that an independent program made in exact arithmetic.
  *
- *   messages ITEMS             vectors/items.txt
+ *   messages ITEMS RECORDS     vectors/items.txt and vectors/records.txt
  *
- * Each ephemeris is written as its frame; its frame is read back, made again of its payload, and is a frame no more where one
- * of its bits is turned. Status 0: all as it should be. */
+ * Each item is written as its frame and as its record of version 4, and that without its first line in version 3; its frame is
+ * read back, made again of its payload, and is a frame no more where one of its bits is turned. Status 0: all as it should be. */
 #include "values.h"
 
 #define G(name, place) {name, offsetof(nb_gps, place)}
@@ -97,6 +97,53 @@ static void messages(int number, const nb_item *item, const uint8_t *payload, si
          "room");
 }
 
+/* The record of the item in the file of records, up to the line that names the next. */
+static size_t record_of(FILE *from, int number, uint8_t *into, size_t room, size_t *title, size_t *last) {
+    char line[200], head[32];
+    size_t used = 0;
+    int is_there = 0;
+    sprintf(head, "item %d\n", number);
+    rewind(from);
+    *title = *last = 0;
+    while (fgets(line, sizeof line, from) != NULL) {
+        if (is_there && strncmp(line, "item ", 5) == 0) break;
+        if (is_there && used + strlen(line) <= room) {
+            memcpy(into + used, line, strlen(line));
+            used += *last = strlen(line);
+            if (*title == 0) *title = used;
+        }
+        if (strcmp(line, head) == 0) is_there = 1;
+    }
+    return used;
+}
+
+static void records(int number, const nb_item *item, FILE *from) {
+    uint8_t expected[2048], text[2048];
+    nb_item read;
+    size_t title, last, used = 1, size = record_of(from, number, expected, sizeof expected, &title, &last);
+    want(nb_record_write(item, 4, text, sizeof text, &used) == NB_OK && used == size && memcmp(text, expected, size) == 0, number,
+         "record of version 4");
+    if (item->kind > NB_GALILEO) title = size;
+    want(nb_record_write(item, 3, text, sizeof text, &used) == NB_OK && used == size - title
+             && memcmp(text, expected + title, size - title) == 0,
+         number, "record of version 3");
+    memset(text, 0xAA, sizeof text);
+    want(nb_record_write(item, 4, text, 100, &used) == NB_OK && used == size && memcmp(text, expected, 100) == 0 && text[100] == 0xAA,
+         number, "room for a record");
+    want(nb_record_write(item, 2, text, sizeof text, &used) == NB_NO_VERSION && used == 0, number, "version 2");
+    memset(&read, 0, sizeof read);
+    want(nb_record_read(expected, size, 4, &read) == NB_OK && memcmp(&read, item, sizeof read) == 0, number, "read of version 4");
+    if (item->kind <= NB_GALILEO) {
+        memset(&read, 0, sizeof read);
+        want(nb_record_read(expected + title, size - title, 3, &read) == NB_OK && memcmp(&read, item, sizeof read) == 0, number,
+             "read of version 3");
+    }
+    memset(&read, 0xAA, sizeof read);
+    want(nb_record_read(expected, size - last, 4, &read) == NB_RECORD_SHORT && read.kind == 0xAAAAAAAA, number,
+         "a record without its last line");
+    want(nb_record_read(expected, size, 2, &read) == NB_NO_VERSION, number, "read of version 2");
+}
+
 static void none(int number, const nb_item *item) {
     nb_item other = *item;
     uint8_t room[NB_FRAME_MOST];
@@ -112,23 +159,25 @@ static void none(int number, const nb_item *item) {
     other.ion.moment = 604799;
     used = 1;
     want(nb_message_write(&other, room, sizeof room, &used) == NB_NO_ITEM && used == 0, number, "a field out of its range");
+    used = 1;
+    want(nb_record_write(&other, 4, room, sizeof room, &used) == NB_NO_ITEM && used == 0, number, "no record");
     other = *item;
     other.gps.a.iode ^= 1;
     other.gal.w2.iodnav ^= 1;
     if (item->kind <= NB_GALILEO)
-        want(nb_message_write(&other, room, sizeof room, &used) == NB_NO_ITEM && used == 0, number, "two issues");
+        want(nb_record_write(&other, 4, room, sizeof room, &used) == NB_NO_ITEM && used == 0, number, "two issues");
 }
 
 int main(int argc, char **argv) {
     static char line[4096];
-    FILE *items = argc == 2 ? fopen(argv[1], "r") : NULL;
+    FILE *items = argc == 3 ? fopen(argv[1], "r") : NULL, *texts = argc == 3 ? fopen(argv[2], "r") : NULL;
     nb_item item;
     uint8_t payload[NB_FRAME_MOST], frame[NB_FRAME_MOST];
     static uint8_t long_payload[1024];
     size_t n = 0, size;
     int number = 0, count = 0, frames = 0;
-    if (items == NULL) {
-        fprintf(stderr, "usage: messages ITEMS\n");
+    if (items == NULL || texts == NULL) {
+        fprintf(stderr, "usage: messages ITEMS RECORDS\n");
         return 2;
     }
     want(nb_version() == NB_VERSION, -1, "version");
@@ -139,6 +188,7 @@ int main(int argc, char **argv) {
     while (fgets(line, sizeof line, items) != NULL) {
         if (strncmp(line, "item=", 5) == 0) {
             parse(line, &item, &number);
+            records(number, &item, texts);
             none(number, &item);
             count++;
         }
@@ -150,6 +200,7 @@ int main(int argc, char **argv) {
         }
     }
     fclose(items);
+    fclose(texts);
     printf("messages: %d items, %d frames, %d wrong\n", count, frames, wrong);
     return wrong != 0 || count == 0 || frames == 0;
 }

@@ -1,27 +1,19 @@
-/* What the tests of the stateless calls share: numbers by the names that the vectors have, hexadecimal digits, and a count of
- * what is not as it should be. */
+/* What the tests of the stateless calls share: numbers by the names that the vectors have, and hexadecimal digits. */
 #ifndef VALUES_H
 #define VALUES_H
 
+#include <ctype.h>
 #include <stdio.h>
 #include <stdlib.h>
 #include <string.h>
 
 #include "navbridge.h"
+#include "wants.h"
 
 typedef struct field {
     const char *name;
     size_t at;
 } field;
-
-static int wrong;
-
-static void want(int holds, int number, const char *what) {
-    if (!holds) {
-        wrong++;
-        printf("%d: %s\n", number, what);
-    }
-}
 
 /* Puts a number of 32 bits, with a sign or without, wherever its name stands; whether it stands somewhere. */
 static int put(void *into, const field *fields, size_t count, const char *name, const char *value) {
@@ -39,7 +31,7 @@ static int put(void *into, const field *fields, size_t count, const char *name, 
 static size_t bytes_of(const char *hex, uint8_t *into) {
     size_t n = 0;
     unsigned byte;
-    while (sscanf(hex + 2 * n, "%2x", &byte) == 1) into[n++] = (uint8_t)byte;
+    while (isxdigit((unsigned char)hex[2 * n]) && sscanf(hex + 2 * n, "%2x", &byte) == 1) into[n++] = (uint8_t)byte;
     return n;
 }
 

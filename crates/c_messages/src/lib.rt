@@ -1,11 +1,33 @@
-//! Messages 1019 and 1046 of RTCM 10403.3 and their frames, over bytes and rooms of bytes that C
-//! hands in.
+//! Messages as they are sent and as they are filed, over bytes and rooms of bytes that C hands in,
+//! from and to structs of raw integers that C can lay out:
 //!
-//! A call that is refused gives the number of the reason, and writes nothing.
+//! - messages 1019 and 1046 of RTCM 10403.3 and their frames;
+//! - subframes of the GPS LNAV message, and pages of the Galileo I/NAV message;
+//! - records of RINEX navigation message files.
+//!
+//! A call that is refused gives the number of the reason, and writes nothing. None takes memory.
 #![tactic(auto)]
 
+mod fixed;
 mod frames;
+mod laws;
 mod messages;
+mod page_raw;
+mod pages;
+mod record_reads;
+mod record_writes;
+mod subframe_raw;
+mod subframes;
+mod tags;
+mod text_lines;
+mod word_out;
 
 pub use crate::frames::{is_frame, make_frame};
+pub use crate::laws::{pages_come_back, records_come_back, subframes_come_back};
 pub use crate::messages::{read_message, write_message};
+pub use crate::page_raw::{PageBits, WordRaw};
+pub use crate::pages::{read_page, write_page};
+pub use crate::record_reads::read_record;
+pub use crate::record_writes::write_record;
+pub use crate::subframe_raw::{SubframeBits, SubframeRaw};
+pub use crate::subframes::{read_subframe, write_subframe};

@@ -1,9 +1,12 @@
 //! A buffered sink.
 
-ghost use Rattle.std.specs.Prelude.{◌≡◌, ◌≤◌, [], length, drop, ◌↔◌, MatchBool, IsNone, IfOk, OnOk};
-ghost use Rattle.std.specs.Io.KnownBytes.{Keeps, append_known};
+ghost use Rattle.std.specs.Prelude.{◌≡◌, ◌≤◌, ◌+◌, [], length, ◌↔◌, IfErr, IfOk, IsNone, IsOk};
+ghost use Rattle.std.specs.Prelude.{OnOk, vec_capacity};
+ghost use Rattle.std.specs.Io.KnownBytes.{Appends, Keeps};
+ghost use Rattle.nav_io.specs.Causes.{HasCause, Rose};
 
-use crate::faults::{FileFault, fault_of};
+use crate::faults::FileFault;
+use crate::output::FileOutput;
 use nav_io::{Failed, Sink};
 use std::alloc::{AllocError, Global};
 use std::io::Write;
@@ -15,13 +18,13 @@ const ROOM: usize = 65_536;
 /// the writer tells, and then those in the buffer.
 #[derive(Drop)]
 pub struct Gathered<W: Write> {
-    writer: W,
+    output: FileOutput<W>,
     kept: Vec<u8>,
     // how many of the buffered bytes are written
     out: usize,
-    faults: u64,
-    fault: FileFault,
     ghost within: { out ≤ length kept.items },
+    ghost fits: { length kept.items ≤ 65536 },
+    ghost room: { 65536 ≤ vec_capacity kept },
 }
 
 impl<W: Write> Gathered<W> {
@@ -35,79 +38,78 @@ impl<W: Write> Gathered<W> {
     {
         let kept = Vec::with_capacity(alloc, ROOM)?;
         Ok(Gathered {
-            writer,
+            output: FileOutput::new(writer),
             kept,
             out: 0,
-            faults: 0,
-            fault: FileFault::Other,
         })
     }
 
-    /// The writer, after the buffer was written; fails where the sink has failed, or fails now.
-    pub fn finish(self) -> Result<W, FileFault>
-    where
-        W: Drop,
+    /// The writer, after the buffer was written; the sink itself where a write of it has failed, or
+    /// fails now.
+    pub fn finish(self) -> Result<W, Gathered<W>>
         // No byte is lost between the sink and the writer.
         ensures out { IfOk result (λ writer.
             Keeps (⟦<Gathered<W> as Sink>⟧.written self) (W.contents writer)) }
         ensures sound { OnOk result (⟦<Gathered<W> as Sink>⟧.faults self ≡ 0) }
+
+        // It fails only where a write fails, or one had.
+        ensures kept { IfErr result (λ sink. Keeps (⟦<Gathered<W> as Sink>⟧.written self)
+            (⟦<Gathered<W> as Sink>⟧.written sink)) }
+        ensures later { IfErr result (λ sink.
+            ⟦<Gathered<W> as Sink>⟧.faults self ≤ ⟦<Gathered<W> as Sink>⟧.faults sink) }
+        ensures failed { IfErr result (λ sink. Rose 0 (⟦<Gathered<W> as Sink>⟧.faults sink)) }
     {
         let mut sink = self;
-        if sink.faults != 0 || !sink.put_out() {
-            return Err(sink.fault);
+        if sink.fault().is_some() || sink.put_out().is_err() {
+            return Err(sink);
         }
         let Gathered {
-            writer,
+            output,
             kept: _,
             out: _,
-            faults: _,
-            fault: _,
         } = sink;
-        Ok(writer)
+        Ok(output.into_writer())
     }
 
     /// The last fault, if any.
     pub fn fault(&self) -> Option<FileFault>
         ensures { IsNone result ↔ (⟦<Gathered<W> as Sink>⟧.faults self.now ≡ 0) }
     {
-        if self.faults == 0 {
-            None
-        } else {
-            Some(self.fault)
-        }
+        self.output.fault()
     }
 
-    // The buffered bytes that are not written yet.
-    fn rest(&self) -> &[u8]
-        ensures { result.now ≡ drop self.now.out self.now.kept.items }
+    // Buffers a piece, for which there is room.
+    fn keep(&mut self, piece: &[u8]) -> Result<(), Failed>
+        requires { length self.old.kept.items + length piece.now ≤ 65536 }
+        ensures kept { IsOk result }
+        ensures bytes { Appends (⟦<Gathered<W> as Sink>⟧.written self.old)
+            (⟦<Gathered<W> as Sink>⟧.written self.new) piece.now }
+        ensures faults { ⟦<Gathered<W> as Sink>⟧.faults self.new
+            ≡ ⟦<Gathered<W> as Sink>⟧.faults self.old }
     {
-        &self.kept[self.out..]
+        if self.kept.extend_from_slice(piece).is_err() {
+            return Err(Failed);
+        }
+        Ok(())
     }
 
-    // Writes the buffer; whether all of it is written.
-    fn put_out(&mut self) -> bool
-        ensures none_lost { Keeps (append_known (W.contents self.old.writer)
-            (drop self.old.out self.old.kept.items))
-            (append_known (W.contents self.new.writer) (drop self.new.out self.new.kept.items)) }
-        ensures out { MatchBool result (self.new.kept.items ≡ []) (Unit {0}) }
-        ensures faults { self.new.faults ≡ self.old.faults }
+    // Writes the buffer.
+    fn put_out(&mut self) -> Result<(), Failed>
+        ensures none_lost { Keeps (⟦<Gathered<W> as Sink>⟧.written self.old)
+            (⟦<Gathered<W> as Sink>⟧.written self.new) }
+        ensures out { OnOk result (self.new.kept.items ≡ []) }
+        ensures cause { HasCause (⟦<Gathered<W> as Sink>⟧.faults self.old)
+            (⟦<Gathered<W> as Sink>⟧.faults self.new) result }
     {
         while self.out < self.kept.len() {
-            match self.writer.write(&self.kept[self.out..]) {
-                Ok(0) => {
-                    self.fault = FileFault::Other;
-                    return false;
-                }
+            match self.output.put(&self.kept[self.out..]) {
                 Ok(count) => self.out += count,
-                Err(error) => {
-                    self.fault = fault_of(error.kind());
-                    return false;
-                }
+                Err(_) => return Err(Failed),
             }
         }
         self.out = 0;
         self.kept.clear();
-        true
+        Ok(())
     }
 }
 
@@ -115,22 +117,21 @@ impl<W: Write> Sink for Gathered<W> {
     ghost use Rattle.std.specs.Prelude.{drop};
     ghost use Rattle.std.specs.Io.KnownBytes.{append_known};
 
-    ghost written = { λ s. append_known (W.contents s.writer) (drop s.out s.kept.items) };
+    ghost written = { λ s. append_known (⟦<FileOutput<W> as Sink>⟧.written s.output)
+        (drop s.out s.kept.items) };
 
-    ghost faults = { λ s. s.faults };
+    ghost faults = { λ s. ⟦<FileOutput<W> as Sink>⟧.faults s.output };
 
-    /// Buffers the piece, and first writes the buffer where there is no room for both. Each `Err` of the
-    /// writer, a `write` that takes no byte, and want of memory count one fault.
+    /// Buffers the piece, and first writes the buffer where there is no room for both. A piece longer than
+    /// the buffer is written at once.
     fn write(&mut self, piece: &[u8]) -> Result<(), Failed> {
-        if piece.len() > ROOM.saturating_sub(self.kept.len()) && !self.put_out() {
-            self.faults = self.faults.saturating_add(1);
-            return Err(Failed);
+        if piece.len() <= ROOM - self.kept.len() {
+            return self.keep(piece);
         }
-        if self.kept.extend_from_slice(piece).is_err() {
-            self.faults = self.faults.saturating_add(1);
-            self.fault = FileFault::NoMemory;
-            return Err(Failed);
+        self.put_out()?;
+        if piece.len() > ROOM {
+            return self.output.write(piece);
         }
-        Ok(())
+        self.keep(piece)
     }
 }

@@ -1,17 +1,17 @@
 //! The files of the system.
 
-ghost use Rattle.std.specs.Prelude.{◌≡◌, ◌≤◌, OnOk};
-ghost use Rattle.nav_io.specs.Causes.{Rose};
+ghost use Rattle.std.specs.Prelude.{◌≡◌, ◌≤◌, ◌↔◌, IsNone, IsOk, OnOk};
+ghost use Rattle.nav_io.specs.Causes.{HasCause, Rose};
 
 use crate::faults::{FileFault, fault_of};
 use crate::folder::Folder;
 use crate::gathered::Gathered;
 use crate::input::FileInput;
 use nav_io::Sink;
-use std::alloc::Global;
-use std::fs;
+use std::alloc::{AllocError, Global};
 use std::fs::{OpenFile, OpenOptions};
 use std::rt::Files;
+use std::{fs, io};
 
 /// The files of the system, or simulated ones in a test. It tells none of their bytes.
 #[derive(Drop)]
@@ -39,6 +39,49 @@ impl<'a, R: Files> HostFolder<'a, R> {
         self.faults = self.faults.saturating_add(1);
         fault
     }
+
+    // What a call gave; one that failed counts a fault.
+    fn counted<T>(&mut self, done: io::Result<T>) -> Result<T, FileFault>
+    where
+        T: Drop,
+        ensures cause { HasCause self.old.faults self.new.faults result }
+        ensures given { IsOk result ↔ IsOk done }
+    {
+        match done {
+            Ok(given) => Ok(given),
+            Err(error) => Err(self.failed(fault_of(error.kind()))),
+        }
+    }
+
+    // Fails where an object tells a fault, and counts that.
+    fn told(&mut self, fault: Option<FileFault>) -> Result<(), FileFault>
+        ensures cause { HasCause self.old.faults self.new.faults result }
+        ensures given { IsOk result ↔ IsNone fault }
+    {
+        match fault {
+            None => Ok(()),
+            Some(fault) => Err(self.failed(fault)),
+        }
+    }
+
+    // Writes the buffer, syncs the file, and renames it.
+    fn published(
+        &mut self,
+        draft: Gathered<R::File>,
+        part: &str,
+        name: &str,
+    ) -> Result<(), FileFault>
+        ensures whole { OnOk result (⟦<Gathered<R::File> as Sink>⟧.faults draft ≡ 0) }
+        ensures cause { HasCause self.old.faults self.new.faults result }
+    {
+        match draft.finish() {
+            Ok(file) => {
+                self.counted(file.sync_all())?;
+                self.counted(fs::rename(self.files, part, name))
+            }
+            Err(draft) => self.told(draft.fault()),
+        }
+    }
 }
 
 impl<R: Files> Folder for HostFolder<'_, R> {
@@ -54,29 +97,23 @@ impl<R: Files> Folder for HostFolder<'_, R> {
 
     /// Opens the file to read it.
     fn open(&mut self, name: &str) -> Result<FileInput<R::File>, FileFault> {
-        match fs::open(self.files, name) {
-            Ok(file) => Ok(FileInput::new(file)),
-            Err(error) => Err(self.failed(fault_of(error.kind()))),
-        }
+        let file = self.counted(fs::open(self.files, name))?;
+        Ok(FileInput::new(file))
     }
 
     /// Returns the last fault of a read, if any.
     fn close(&mut self, input: FileInput<R::File>) -> Result<(), FileFault> {
-        match input.fault() {
-            None => Ok(()),
-            Some(fault) => Err(self.failed(fault)),
-        }
+        self.told(input.fault())
     }
 
     /// Creates a file that must not exist (`O_EXCL`).
     fn draft(&mut self, part: &str) -> Result<Gathered<R::File>, FileFault> {
-        let file = match begun(self.files, part) {
-            Ok(file) => file,
-            Err(fault) => return Err(self.failed(fault)),
-        };
+        let mut options = OpenOptions::new();
+        options.write(true).create_new(true);
+        let file = self.counted(options.open(self.files, part))?;
         match Gathered::new(self.alloc, file) {
             Ok(draft) => Ok(draft),
-            Err(_) => {
+            Err(AllocError) => {
                 let _ = fs::remove_file(self.files, part);
                 Err(self.failed(FileFault::NoMemory))
             }
@@ -91,48 +128,18 @@ impl<R: Files> Folder for HostFolder<'_, R> {
         part: &str,
         name: &str,
     ) -> Result<(), FileFault> {
-        match published(self.files, draft, part, name) {
-            Ok(()) => Ok(()),
-            Err(fault) => {
-                let _ = fs::remove_file(self.files, part);
-                Err(self.failed(fault))
-            }
+        let published = self.published(draft, part, name);
+        if published.is_err() {
+            let _ = fs::remove_file(self.files, part);
         }
+        published
     }
 
     /// Removes the part, and returns the last fault of a write, if any, or why the part could not be
     /// removed.
     fn discard(&mut self, draft: Gathered<R::File>, part: &str) -> Result<(), FileFault> {
         let removed = fs::remove_file(self.files, part);
-        if let Some(fault) = draft.fault() {
-            return Err(self.failed(fault));
-        }
-        match removed {
-            Ok(()) => Ok(()),
-            Err(error) => Err(self.failed(fault_of(error.kind()))),
-        }
+        self.told(draft.fault())?;
+        self.counted(removed)
     }
-}
-
-// Creates a file that must not exist.
-fn begun<R: Files>(files: &R, part: &str) -> Result<R::File, FileFault> {
-    let mut options = OpenOptions::new();
-    options.write(true).create_new(true);
-    options
-        .open(files, part)
-        .map_err(|error| fault_of(error.kind()))
-}
-
-// Writes the buffer, syncs the file, and renames it.
-fn published<R: Files>(
-    files: &R,
-    draft: Gathered<R::File>,
-    part: &str,
-    name: &str,
-) -> Result<(), FileFault>
-    ensures { OnOk result (⟦<Gathered<R::File> as Sink>⟧.faults draft ≡ 0) }
-{
-    let file = draft.finish()?;
-    file.sync_all().map_err(|error| fault_of(error.kind()))?;
-    fs::rename(files, part, name).map_err(|error| fault_of(error.kind()))
 }

@@ -19,6 +19,7 @@ mod gathered;
 mod host;
 mod input;
 mod names;
+mod output;
 mod step;
 
 pub use crate::faults::{FileFault, fault_of};
@@ -27,4 +28,5 @@ pub use crate::gathered::Gathered;
 pub use crate::host::HostFolder;
 pub use crate::input::FileInput;
 pub use crate::names::part_of;
+pub use crate::output::FileOutput;
 pub use crate::step::{Conversion, StepFault, convert_file, put_output};

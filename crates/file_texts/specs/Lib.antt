@@ -1,3 +1,4 @@
 pub mod Long
 pub mod Names
 pub mod Says
+pub mod Kinds

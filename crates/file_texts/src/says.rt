@@ -1,6 +1,7 @@
 //! Why a file is not converted, and the message and exit status for it.
 
 ghost use Rattle.std.specs.Prelude.{◌≡◌};
+ghost use Rattle.file_texts.specs.Kinds.{kind_text, targets_of};
 ghost use Rattle.file_texts.specs.Says.{status_of};
 
 use file_form::Kind;
@@ -81,7 +82,9 @@ impl Refusal<'_> {
 }
 
 /// A description of this form of a file.
-pub fn kind_text(kind: Kind) -> &'static str {
+pub fn kind_text(kind: Kind) -> &'static str
+    ensures { result.now ≡ kind_text kind }
+{
     match kind {
         Kind::Empty => "an empty file",
         Kind::Capture1 => "a capture without a week",
@@ -105,7 +108,9 @@ pub fn kind_text(kind: Kind) -> &'static str {
 }
 
 /// The targets of a file of this form, or how to make it one that can be converted.
-pub fn targets_of(kind: Kind) -> &'static str {
+pub fn targets_of(kind: Kind) -> &'static str
+    ensures { result.now ≡ targets_of kind }
+{
     match kind {
         Kind::Capture1 | Kind::Capture2 => "that converts to rinex, rinex3, rtcm, list, count",
         Kind::Rinex4 => "that converts to rinex, rinex3, rtcm, list, capture, merged, cover",

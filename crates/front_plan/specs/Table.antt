@@ -54,6 +54,20 @@ kind_named word =
     else if bytes_eq word (codes "sbf") then Some kinds.Sbf
     else None
 
+-- the target that a `--to` word names
+abbrev pub target_named : List ℕ → Option Target
+target_named word =
+    if bytes_eq word (codes "rinex") then Some Rinex
+    else if bytes_eq word (codes "rinex3") then Some Rinex3
+    else if bytes_eq word (codes "rtcm") then Some Rtcm
+    else if bytes_eq word (codes "list") then Some ToList
+    else if bytes_eq word (codes "count") then Some Count
+    else if bytes_eq word (codes "frames") then Some Frames
+    else if bytes_eq word (codes "merged") then Some Merged
+    else if bytes_eq word (codes "cover") then Some Cover
+    else if bytes_eq word (codes "capture") then Some Capture
+    else None
+
 -- a row of the table: which week is given, and whether a header is written
 abbrev pub row : WeekRule → Bool → Option Row
 row week header = Some (record { week = week; header = header })

@@ -1,91 +1,148 @@
 //! Parsing of the command line.
 
+ghost use Rattle.std.specs.Prelude.{◌≡◌, ◌⊎◌, IfOk, map, codes, option_map, option_and_then, unwrap_or};
+ghost use Rattle.std.specs.Prelude.{[], false};
+ghost use Rattle.std.specs.String.{string_bytes};
+ghost use Rattle.clap.specs.Words.{all_of, app_of, found_of, kind_of, rows_of, rule_of};
+ghost use Rattle.front_plan.specs.Commands.{Checked, IsCommand, ReadsWords, command_with};
+ghost use Rattle.front_plan.specs.Commands.{files_rule, has_flag, lacks_files, row_rule};
+ghost use Rattle.front_plan.specs.Commands.{value_in, with_default, with_rules, with_short};
+ghost use Rattle.front_plan.specs.Commands.{with_value};
+ghost use Rattle.front_plan.specs.Table.{kind_named, target_named};
+
 use crate::table::{Target, kind_named, target_named};
-use clap::{Arg, ArgAction, ArgMatches, Command, Error, value_parser};
+use clap::builder::ValueParser;
+use clap::error::ErrorKind;
+use clap::{Arg, ArgAction, ArgMatches, Command, Error};
 use file_form::Kind;
 use std::alloc::{AllocError, Global};
-
-// The words of `--from`.
-static FROM: [&str; 7] = ["auto", "capture", "stream", "rinex", "rinex3", "ubx", "sbf"];
-
-// The values of `--to`.
-static TO: [&str; 9] = [
-    "rinex", "rinex3", "rtcm", "list", "count", "frames", "merged", "cover", "capture",
-];
 
 /// What the command line asks for.
 #[derive(Drop)]
 pub struct Asked<'a> {
-    matches: ArgMatches<'a>,
+    /// What the parser found.
+    pub matches: ArgMatches<'a>,
 }
 
 impl<'a> Asked<'a> {
     /// The files, `-` for standard input.
-    pub fn files(&self) -> Option<&[&'a str]> {
+    pub fn files(&self) -> Option<&[&'a str]>
+        ensures { option_map (λ files. map (λ file. file.now) files.now) result
+            ≡ all_of (codes "files") (rows_of (found_of self.now.matches)) }
+    {
         self.matches.get_strs("files")
     }
 
     /// The form that `--from` names; `None` where each file tells its own.
-    pub fn from(&self) -> Option<Kind> {
-        kind_named(self.matches.get_str("from")?)
+    pub fn from(&self) -> Option<Kind>
+        ensures { result ≡ option_and_then kind_named (value_in self.now (codes "from")) }
+    {
+        kind_named(self.value("from")?)
     }
 
     /// The target.
-    pub fn to(&self) -> Target {
-        match self.matches.get_str("to") {
+    pub fn to(&self) -> Target
+        ensures { result ≡ unwrap_or (option_and_then target_named
+            (value_in self.now (codes "to"))) Target.Rinex }
+    {
+        match self.value("to") {
             None => Target::Rinex,
             Some(word) => target_named(word).unwrap_or(Target::Rinex),
         }
     }
 
     /// The output: a file, a folder, or `-`.
-    pub fn output(&self) -> Option<&'a str> {
-        self.matches.get_str("output")
+    pub fn output(&self) -> Option<&'a str>
+        ensures { option_map (λ text. text.now) result ≡ value_in self.now (codes "output") }
+    {
+        self.value("output")
     }
 
     /// The reference week, where one is named.
-    pub fn week(&self) -> Option<&'a str> {
-        self.matches.get_str("week")
+    pub fn week(&self) -> Option<&'a str>
+        ensures { option_map (λ text. text.now) result ≡ value_in self.now (codes "week") }
+    {
+        self.value("week")
     }
 
     /// The leap seconds of a header.
-    pub fn leap(&self) -> &'a str {
-        self.matches.get_str("leap").unwrap_or("18")
+    pub fn leap(&self) -> &'a str
+        ensures { result.now ≡ unwrap_or (value_in self.now (codes "leap")) (codes "18") }
+    {
+        self.value("leap").unwrap_or("18")
     }
 
     /// The date of a header, where one is named.
-    pub fn date(&self) -> Option<&'a str> {
-        self.matches.get_str("date")
+    pub fn date(&self) -> Option<&'a str>
+        ensures { option_map (λ text. text.now) result ≡ value_in self.now (codes "date") }
+    {
+        self.value("date")
     }
 
     /// The site of a long name by the convention of RINEX.
-    pub fn long_name(&self) -> Option<&'a str> {
-        self.matches.get_str("long-name")
+    pub fn long_name(&self) -> Option<&'a str>
+        ensures { option_map (λ text. text.now) result ≡ value_in self.now (codes "long-name") }
+    {
+        self.value("long-name")
     }
 
     /// The file for the reports.
-    pub fn report(&self) -> Option<&'a str> {
-        self.matches.get_str("report")
+    pub fn report(&self) -> Option<&'a str>
+        ensures { option_map (λ text. text.now) result ≡ value_in self.now (codes "report") }
+    {
+        self.value("report")
     }
 
     /// Whether a file that has the name of an output is replaced.
-    pub fn overwrites(&self) -> bool {
-        self.matches.get_flag("overwrite")
+    pub fn overwrites(&self) -> bool
+        ensures { result ≡ has_flag self.now (codes "overwrite") }
+    {
+        self.has("overwrite")
     }
 
     /// Whether messages of success are suppressed.
-    pub fn is_quiet(&self) -> bool {
-        self.matches.get_flag("quiet")
+    pub fn is_quiet(&self) -> bool
+        ensures { result ≡ has_flag self.now (codes "quiet") }
+    {
+        self.has("quiet")
     }
 
     /// Whether the words of `navbridge` are only printed.
-    pub fn is_dry(&self) -> bool {
-        self.matches.get_flag("dry-run")
+    pub fn is_dry(&self) -> bool
+        ensures { result ≡ has_flag self.now (codes "dry-run") }
+    {
+        self.has("dry-run")
     }
 
     /// Whether the forms are only listed.
-    pub fn lists_forms(&self) -> bool {
-        self.matches.get_flag("list-forms")
+    pub fn lists_forms(&self) -> bool
+        ensures { result ≡ has_flag self.now (codes "list-forms") }
+    {
+        self.has("list-forms")
+    }
+
+    // Whether no file is named, and the forms are not listed.
+    fn lacks_files(&self) -> bool
+        ensures { result ≡ lacks_files (rows_of (found_of self.now.matches)) }
+    {
+        self.files().is_none() && !self.lists_forms()
+    }
+
+    // The value of an option.
+    fn value(&self, name: &str) -> Option<&'a str>
+        ensures { option_map (λ text. text.now) result ≡ value_in self.now name.now }
+    {
+        self.matches.get_str(name)
+    }
+
+    // Whether a flag is given.
+    fn has(&self, name: &str) -> bool
+        ensures { result ≡ has_flag self.now name.now }
+    {
+        match self.value(name) {
+            None => false,
+            Some(text) => text == "true",
+        }
     }
 }
 
@@ -95,116 +152,267 @@ impl<'a> Asked<'a> {
 ///
 /// Help or the version was asked for, or the words are not a valid command line: `print` writes the
 /// text to standard output or standard error.
-pub fn read_words<'a>(alloc: Global, words: &'a [String]) -> Result<Asked<'a>, Error> {
-    let command = with_flags(alloc, with_options(alloc, command_of(alloc)?)?)?;
-    let matches = command.try_get_matches_from(words)?;
-    Ok(Asked { matches })
+pub fn read_words<'a>(alloc: Global, words: &'a [String]) -> Result<Asked<'a>, Error>
+    ensures { ReadsWords (map string_bytes words.now) result }
+{
+    match command_of(alloc) {
+        Ok(command) => parsed(alloc, command, words),
+        Err(AllocError) => Err(Error::from(AllocError)),
+    }
+}
+
+// What this command finds in the words.
+fn parsed<'a>(alloc: Global, command: Command<'a>, words: &'a [String]) -> Result<Asked<'a>, Error>
+    requires { IsCommand (app_of command) }
+    ensures { ReadsWords (map string_bytes words.now) result }
+{
+    match command.try_get_matches_from(words) {
+        Ok(matches) => checked(alloc, Asked { matches }),
+        Err(error) => Err(error),
+    }
+}
+
+// What was found, unless it lacks files.
+fn checked<'a>(alloc: Global, asked: Asked<'a>) -> Result<Asked<'a>, Error>
+    ensures { Checked asked.entry result }
+{
+    if asked.lacks_files() {
+        return Err(no_files(alloc));
+    }
+    Ok(asked)
+}
+
+// The error of a command line that names no file.
+fn no_files(alloc: Global) -> Error
+    ensures { (kind_of result ≡ ErrorKind.OutOfMemory)
+        ⊎ (kind_of result ≡ ErrorKind.MissingRequiredArgument) }
+{
+    match missing_files(alloc) {
+        Ok(error) => error,
+        Err(AllocError) => Error::from(AllocError),
+    }
+}
+
+// The same, where there is memory for its text.
+fn missing_files(alloc: Global) -> Result<Error, AllocError>
+    ensures { IfOk result (λ error. kind_of error ≡ ErrorKind.MissingRequiredArgument) }
+{
+    command_of(alloc)?.error(
+        ErrorKind::MissingRequiredArgument,
+        "the following required arguments were not provided:\n  <FILE>...",
+    )
+}
+
+// What an option takes.
+#[derive(Clone, Copy)]
+enum Takes {
+    Nothing,
+    Text,
+    Word(&'static [&'static str]),
+    Number(i64, i64),
+}
+
+// An option, and the name of its value.
+struct Row {
+    name: &'static str,
+    short: Option<char>,
+    takes: Takes,
+    default: Option<&'static str>,
+    value: &'static str,
+    help: &'static str,
+}
+
+static OPTIONS: [Row; 12] = [
+    Row {
+        name: "from",
+        short: Some('f'),
+        takes: Takes::Word(&["auto", "capture", "stream", "rinex", "rinex3", "ubx", "sbf"]),
+        default: Some("auto"),
+        value: "FORM",
+        help: "The form of the files; auto looks at their first bytes",
+    },
+    Row {
+        name: "to",
+        short: Some('t'),
+        takes: Takes::Word(&[
+            "rinex", "rinex3", "rtcm", "list", "count", "frames", "merged", "cover", "capture",
+        ]),
+        default: Some("rinex"),
+        value: "FORM",
+        help: "What is made of them",
+    },
+    Row {
+        name: "output",
+        short: Some('o'),
+        takes: Takes::Text,
+        default: None,
+        value: "OUT",
+        help: "The output: a file, a folder, or - for standard output",
+    },
+    Row {
+        name: "week",
+        short: None,
+        takes: Takes::Number(1024, 8191),
+        default: None,
+        value: "WEEK",
+        help: "A GPS week near which a file is read; else that of today",
+    },
+    Row {
+        name: "leap",
+        short: None,
+        takes: Takes::Number(0, 99),
+        default: Some("18"),
+        value: "SECONDS",
+        help: "The leap seconds of a header",
+    },
+    Row {
+        name: "date",
+        short: None,
+        takes: Takes::Text,
+        default: None,
+        value: "DATE",
+        help: "The date of a header, as \"20240101 000000 UTC\"",
+    },
+    Row {
+        name: "long-name",
+        short: None,
+        takes: Takes::Text,
+        default: None,
+        value: "SITE",
+        help: "Name outputs by the convention of RINEX 3, with the times in the data, as BRDC00XXX",
+    },
+    Row {
+        name: "report",
+        short: None,
+        takes: Takes::Text,
+        default: None,
+        value: "FILE",
+        help: "A file for the reports of navbridge: what was refused, and counts",
+    },
+    Row {
+        name: "overwrite",
+        short: None,
+        takes: Takes::Nothing,
+        default: None,
+        value: "",
+        help: "Replace a file that has the name of the output",
+    },
+    Row {
+        name: "quiet",
+        short: Some('q'),
+        takes: Takes::Nothing,
+        default: None,
+        value: "",
+        help: "Say nothing of what was done",
+    },
+    Row {
+        name: "dry-run",
+        short: Some('n'),
+        takes: Takes::Nothing,
+        default: None,
+        value: "",
+        help: "Print the words of navbridge, and do nothing",
+    },
+    Row {
+        name: "list-forms",
+        short: None,
+        takes: Takes::Nothing,
+        default: None,
+        value: "",
+        help: "List the forms, and do nothing",
+    },
+];
+
+// The command.
+fn command_of<'a>(alloc: Global) -> Result<Command<'a>, AllocError>
+    ensures { IfOk result (λ command. IsCommand (app_of command)) }
+{
+    let command = bare_command(alloc)?;
+    with_rows(alloc, command, OPTIONS.as_slice())
 }
 
 // The command without its options.
-fn command_of<'a>(alloc: Global) -> Result<Command<'a>, AllocError> {
+fn bare_command<'a>(alloc: Global) -> Result<Command<'a>, AllocError>
+    ensures { IfOk result (λ command. app_of command ≡ command_with []) }
+{
     Command::new(alloc, "navconvert")
         .no_binary_name(true)
         .version("1.0.0")
         .about("Converts files of GNSS broadcast orbits")
-        .arg(
-            Arg::new(alloc, "files")
-                .value_name("FILE")
-                .help("Files that are converted, each to one of its own; - is standard input")
-                .num_args(1..)
-                .required_unless_present("list-forms")?,
-        )
+        .arg(files_of(alloc))
 }
 
-// The command with the options that take a value.
-fn with_options<'a>(alloc: Global, command: Command<'a>) -> Result<Command<'a>, AllocError> {
-    command
-        .arg(
-            option(
-                alloc,
-                "from",
-                "FORM",
-                "The form of the files; auto looks at their first bytes",
-            )
-            .short('f')
-            .value_parser(FROM.as_slice())
-            .default_value("auto"),
-        )?
-        .arg(
-            option(alloc, "to", "FORM", "What is made of them")
-                .short('t')
-                .value_parser(TO.as_slice())
-                .default_value("rinex"),
-        )?
-        .arg(option(
-            alloc,
-            "output",
-            "OUT",
-            "The output: a file, a folder, or - for standard output",
-        )
-        .short('o'))?
-        .arg(option(
-            alloc,
-            "week",
-            "WEEK",
-            "A GPS week near which a file is read; else that of today",
-        )
-        .value_parser(value_parser!(u32).range(1024..=8191)))?
-        .arg(
-            option(alloc, "leap", "SECONDS", "The leap seconds of a header")
-                .value_parser(value_parser!(u8).range(0..=99))
-                .default_value("18"),
-        )?
-        .arg(option(
-            alloc,
-            "date",
-            "DATE",
-            "The date of a header, as \"20240101 000000 UTC\"",
-        ))?
-        .arg(option(
-            alloc,
-            "long-name",
-            "SITE",
-            "Name outputs by the convention of RINEX 3, with the times in the data, as BRDC00XXX",
-        ))?
-        .arg(option(
-            alloc,
-            "report",
-            "FILE",
-            "A file for the reports of navbridge: what was refused, and counts",
-        ))
+// The files.
+fn files_of<'a>(alloc: Global) -> Arg<'a>
+    ensures rule { rule_of result ≡ files_rule }
+    ensures local { result.global ≡ false }
+{
+    Arg::new(alloc, "files")
+        .value_name("FILE")
+        .help("Files that are converted, each to one of its own; - is standard input")
+        .num_args(1..)
 }
 
-// The command with the flags.
-fn with_flags<'a>(alloc: Global, command: Command<'a>) -> Result<Command<'a>, AllocError> {
-    command
-        .arg(flag(
-            alloc,
-            "overwrite",
-            "Replace a file that has the name of the output",
-        ))?
-        .arg(flag(alloc, "quiet", "Say nothing of what was done").short('q'))?
-        .arg(flag(
-            alloc,
-            "dry-run",
-            "Print the words of navbridge, and do nothing",
-        )
-        .short('n'))?
-        .arg(flag(alloc, "list-forms", "List the forms, and do nothing"))
+// A command with options of these rows.
+fn with_rows<'a>(
+    alloc: Global,
+    command: Command<'a>,
+    rows: &[Row],
+) -> Result<Command<'a>, AllocError>
+    ensures { IfOk result (λ more. app_of more
+        ≡ with_rules (app_of command.entry) (map row_rule rows.now)) }
+{
+    let mut command = command;
+    for row in rows {
+        command = command.arg(option_of(alloc, row))?;
+    }
+    Ok(command)
 }
 
-// An option with a value.
-fn option<'a>(alloc: Global, name: &'a str, value: &'a str, help: &'a str) -> Arg<'a> {
-    Arg::new(alloc, name)
-        .long(name)
-        .value_name(value)
-        .help(help)
+// An option.
+fn option_of<'a>(alloc: Global, row: &Row) -> Arg<'a>
+    ensures rule { rule_of result ≡ row_rule row.now }
+    ensures local { result.global ≡ false }
+{
+    let arg = Arg::new(alloc, row.name).long(row.name).help(row.help);
+    with_default(with_value(with_short(arg, row.short), row), row.default)
 }
 
-// A flag.
-fn flag<'a>(alloc: Global, name: &'a str, help: &'a str) -> Arg<'a> {
-    Arg::new(alloc, name)
-        .long(name)
-        .action(ArgAction::SetTrue)
-        .help(help)
+// With a short name.
+fn with_short<'a>(arg: Arg<'a>, short: Option<char>) -> Arg<'a>
+    ensures rule { rule_of result ≡ with_short short (rule_of arg.entry) }
+    ensures global { result.global ≡ arg.entry.global }
+{
+    match short {
+        None => arg,
+        Some(short) => arg.short(short),
+    }
+}
+
+// With what it takes.
+fn with_value<'a>(arg: Arg<'a>, row: &Row) -> Arg<'a>
+    ensures rule { rule_of result ≡ with_value row.now.takes (rule_of arg.entry) }
+    ensures global { result.global ≡ arg.entry.global }
+{
+    match row.takes {
+        Takes::Nothing => arg.action(ArgAction::SetTrue),
+        Takes::Text => arg.value_name(row.value),
+        Takes::Word(words) => arg
+            .value_name(row.value)
+            .value_parser(ValueParser::Names(words)),
+        Takes::Number(least, most) => arg
+            .value_name(row.value)
+            .value_parser(ValueParser::signed(least, most)),
+    }
+}
+
+// With a default.
+fn with_default<'a>(arg: Arg<'a>, default: Option<&'a str>) -> Arg<'a>
+    ensures rule { rule_of result ≡ with_default default.entry (rule_of arg.entry) }
+    ensures global { result.global ≡ arg.entry.global }
+{
+    match default {
+        None => arg,
+        Some(text) => arg.default_value(text),
+    }
 }

@@ -1,7 +1,6 @@
 //! What a user's command line asks for, and the words of `navbridge` for each of its files.
 //!
-//! - [`read_words`] parses the command line by `clap`, with its own help and error texts: it is tested,
-//!   and no clause says what it reads;
+//! - [`read_words`] parses the command line by `clap`, with its own help and error texts;
 //! - [`row_of`] gives the options that the conversion of a file of some form takes;
 //! - [`words_for`] gives the words of `navbridge` for such a conversion.
 #![tactic(auto)]

@@ -1,9 +1,8 @@
 //! The table of conversions: which options each takes.
 
-ghost use Rattle.std.specs.Prelude.{◌≡◌, ◌≢◌, None, Some, MatchOption};
+ghost use Rattle.std.specs.Prelude.{◌≡◌, Some};
 ghost use Rattle.front_plan.specs.Table.{row_of, capture_row, stream_row, file_row, file4_row};
-ghost use Rattle.front_plan.specs.Table.{to_word, ending_of, from_word, kind_named};
-ghost use Rattle.front_plan.specs.declared.table.Target.{Target};
+ghost use Rattle.front_plan.specs.Table.{to_word, ending_of, from_word, kind_named, target_named};
 
 use file_form::Kind;
 
@@ -168,8 +167,7 @@ pub fn from_word(kind: Kind) -> &'static str
 
 /// The target that a `--to` word names.
 pub fn target_named(word: &str) -> Option<Target>
-    ensures { MatchOption result ((target : Target) → word.now ≢ to_word target)
-        (λ target. word.now ≡ to_word target) }
+    ensures { result ≡ target_named word.now }
 {
     match word {
         "rinex" => Some(Target::Rinex),

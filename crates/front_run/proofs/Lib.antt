@@ -5,3 +5,5 @@ mod Reading
 pub mod Stepping
 pub mod Opening
 pub mod Copying
+pub mod FirstLines
+pub mod FormsTold

@@ -8,11 +8,11 @@ use Rattle.file_step.specs.Files.{Publishes, Stays}
 use Rattle.file_step.specs.Steps.{BrokeOff, Lacks}
 use Rattle.file_step.specs.declared.step.StepFault.{StepFault}
 use Rattle.file_step.specs.declared.step.StepFault.TheVariants as steps
-use Rattle.framing.specs.Headings.{Heading}
+use Rattle.receiver_frames.specs.Headings.{Heading}
 use Rattle.receiver_messages.specs.declared.said.Said.{Said}
 use Rattle.receiver_log.specs.Capture.{capture_of}
 use Rattle.receiver_log.specs.LogRuns.{too_many}
-use Rattle.log_source.specs.LogLeft.{capture_left}
+use Rattle.receiver_log.specs.LogLeft.{capture_left}
 use Rattle.front_run.specs.Steps.{FaultCounts, Flowed, IsLack, IsSix, LacksMore, Stepped, WritesSo, Wrote, counted}
 use Rattle.front_run.specs.declared.puts.Stop.{Stop}
 

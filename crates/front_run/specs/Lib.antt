@@ -3,3 +3,5 @@ pub mod Logs
 pub mod Asked
 pub mod Tasks
 pub mod Steps
+pub mod Statuses
+pub mod Told

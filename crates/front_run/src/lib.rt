@@ -5,7 +5,8 @@
 //! - [`convert_one`], from the file of one name to that of another: the whole of what is made of its
 //!   bytes, or every name as it was; and it is done where nothing fails;
 //! - [`convert_source`] and [`write_source`], the same from a source, which is given back, and to a
-//!   sink.
+//!   sink;
+//! - [`finish`], which has said what became of a file, and gives its exit status.
 //!
 //! A log of a receiver is converted as its capture, and to a capture it is that capture itself.
 //!
@@ -21,20 +22,26 @@ mod asked;
 mod convert;
 mod copies;
 mod ends;
+mod laws;
 mod logs;
 mod looking;
 mod plans;
 mod puts;
+mod refusals;
 mod tasks;
+mod telling;
 mod writes;
 
 pub use crate::asked::AskedJob;
 pub use crate::convert::{convert_one, convert_source};
 pub use crate::copies::copy;
 pub use crate::ends::{Outcome, Sourced, Told};
+pub use crate::laws::accepted_bytes_tell_their_form;
 pub use crate::logs::{Log, log_of, put_as};
 pub use crate::looking::look;
 pub use crate::plans::{Plan, form_of, is_copied, words_under};
 pub use crate::puts::{Put, Stop, put_plain};
+pub use crate::refusals::{is_date, refusal_of};
 pub use crate::tasks::{Task, TaskRun, ask};
+pub use crate::telling::{Teller, finish};
 pub use crate::writes::{run_as, write_source};

@@ -1,8 +1,8 @@
 -- The elements of a set of keys after an insertion.
-use Rattle.std.proofs.Common.{◌≡◌, ℕ, ◌⊎◌, ◌↔◌, true, false, cond, inl, inr, sym, ap, ◌∙◌, ⊎_elim}
-use Rattle.std.proofs.lemmas.Bool.{cases_Bool, cond-true, cond-false}
+use Rattle.std.proofs.Common.{◌≡◌, ℕ, ◌⊎◌, ◌↔◌, Bool, true, false, cond, inl, inr, refl, sym, ap, subst, ◌∙◌, ⊎_elim}
+use Rattle.std.proofs.lemmas.Bool.{cases_Bool, cond-true, cond-false, true≢false}
 use Rattle.std.proofs.lemmas.Map.Views.{btree_set_contains_iff}
-use Rattle.std.specs.Prelude.{Contains}
+use Rattle.std.specs.Prelude.{Contains, IsTrue, not}
 use Rattle.std.specs.BTreeSet.{BTreeSet, contains, Updates}
 use Rattle.std.specs.Cmp.{Equal-is}
 use Rattle.std.specs.Ordering.{is_eq}
@@ -34,3 +34,14 @@ in_inserted old new key updates q =
           h)
           (cases_Bool (is_eq (key_cmp key q)))),
     )
+
+-- a key that an insertion does not add was there
+added_or_there : (b added : Bool) → added ≡ not b → (IsTrue (not added) → b ≡ true) × (b ≡ true → IsTrue (not added))
+added_or_there true added e = (λ h. refl, λ h. subst (λ (a : Bool). IsTrue (not a)) (sym e) refl)
+added_or_there false added e = (λ h. subst (λ (a : Bool). IsTrue (not a)) e h, λ h. absurd (true≢false (sym h)))
+
+pub there_not_added : (s : BTreeSet (ℕ × ℕ)) (key : ℕ × ℕ) (added : Bool) → added ≡ not (contains key_cmp s key)
+    → IsTrue (not added) ↔ Contains s.keys key
+there_not_added s key added e =
+    let is = added_or_there (contains key_cmp s key) added e in
+    (λ h. set_in s key (is.0 h), λ h. is.1 (in_set s key h))

@@ -39,7 +39,7 @@ first_le a b h =
     (λ (le : a.0 ≤ b.0). le)
     (cases_lt b.0 a.0)
 
-first_less : (a b : ℕ × ℕ) → a.0 < b.0 → key_cmp a b ≡ Less
+pub first_less : (a b : ℕ × ℕ) → a.0 < b.0 → key_cmp a b ≡ Less
 first_less a b h = ap (λ r. ordering_then r (nat_cmp a.1 b.1)) (less a.0 b.0 h)
 
 first_greater : (a b : ℕ × ℕ) → b.0 < a.0 → key_cmp a b ≡ Greater
@@ -66,7 +66,7 @@ key_le a b h =
     (λ (high : b.0 < a.0). absurd (true≢false (sym (ap is_gt (first_greater a b high)) ∙ h))))
     (cases_order a.0 b.0)
 
-same_lt : (a b : ℕ × ℕ) → a.0 ≡ b.0 → a.1 < b.1 → key_cmp a b ≡ Less
+pub same_lt : (a b : ℕ × ℕ) → a.0 ≡ b.0 → a.1 < b.1 → key_cmp a b ≡ Less
 same_lt a b e h = first_same a b e ∙ less a.1 b.1 h
 
 same_le : (a b : ℕ × ℕ) → a.0 ≡ b.0 → a.1 ≤ b.1 → is_gt (key_cmp a b) ≡ false

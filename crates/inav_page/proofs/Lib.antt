@@ -9,3 +9,4 @@ pub mod Inserting
 pub mod Placing
 pub mod Holding
 pub mod Taking
+pub mod Ranges

@@ -125,6 +125,15 @@ crc_of_pieces bytes even odd e o e_is o_is bytes_are =
     ∙ ap (λ bs. bytes_high_first 16 (p / 2 ^ 72) ++ bs) (low_bytes o p low)
     ∙ sym (two_pieces 16 p))
 
+-- and those of an odd part alone, by their number: there is one CRC
+pub crc_of_eleven : (bytes : List ℕ) (odd crc o : ℕ) → o ≡ odd / 2 ^ 38 % 2 ^ 82 → bytes ≡ bytes_high_first 11 o
+    → IsCrc (number_at bytes 0 (8 * length bytes)) crc → crc ≡ page_crc 0 odd
+crc_of_eleven bytes odd crc o o_is bytes_are is =
+    let number : number_at bytes 0 (8 * length bytes) ≡ protected_of 0 odd =
+    ap (λ bs. number_at bs 0 (8 * length bs)) bytes_are ∙ number_at-bytes_of 11 o ∙ omega (arith, o_is) in
+    let P : ℕ → Type 0 = λ n. IsCrc n crc in
+    one_remainder (protected_of 0 odd) crc (page_crc 0 odd) (subst P number is) (page_crc_is 0 odd)
+
 -- ---- the word
 
 -- the word of its page parts

@@ -445,3 +445,19 @@ module _ (window greatest stamp place : ℕ) (old : List Second) (was second : S
 
   pub put_room : length (keys_among window raised new) ≤ length (keys_among window greatest old) + 1
   put_room = room_from old place at
+
+-- a key of a stamp that is not too old is stored exactly where it is among the keys of that stamp in its slot
+pub stored_where_there : (seconds : Seconds) (place : ℕ) (second : Second) (key : ℕ × ℕ) (stamp : ℕ) → AreSeconds seconds
+    → slice_get seconds.places.items place ≡ Some second → place ≡ stamp % (seconds.window + 2) → (half_of key).stamp ≡ stamp
+    → seconds.greatest ≤ stamp + seconds.window + 1 → Contains (keys_of stamp second) key ↔ Contains (keys_in seconds) key
+stored_where_there seconds place second key stamp are at place_is of recent =
+    ⊎_elim
+    (λ (same : second.stamp ≡ stamp).
+    let is = (found seconds stamp place second are at place_is (λ old. omega (arith, old, recent)) same).0 key in
+    let P : List (ℕ × ℕ) → Type 0 = λ keys. Contains keys key ↔ Contains (keys_in seconds) key in
+    subst P (sym (of_same stamp second same)) (λ h. (is.0 h).0, λ h. is.1 (h, of)))
+    (λ (other : second.stamp ≡ stamp → ⊥).
+    let is = (none_of_another seconds stamp place second are at place_is other).0 key in
+    let P : List (ℕ × ℕ) → Type 0 = λ keys. Contains keys key ↔ Contains (keys_in seconds) key in
+    subst P (sym (of_other stamp second other)) (λ h. (is.0 h).0, λ h. is.1 (h, of)))
+    (cases_eq second.stamp stamp)

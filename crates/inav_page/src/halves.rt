@@ -64,8 +64,8 @@ impl Halves {
     /// stored already. Then the part is stored, unless it is itself too old, and parts whose stamp is more
     /// than the window plus one second below the greatest stamp are removed.
     ///
-    /// Costs one CRC, two searches among the stored parts of its own second (lookup and insertion), one for
-    /// its partners among those of theirs, and the words. The parts are in a ring buffer of `window + 2`
+    /// Costs one CRC, one search among the stored parts of its own second, one for its partners among those
+    /// of theirs, and the words. The parts are in a ring buffer of `window + 2`
     /// seconds, allocated with the first part, so a second is found without a search. Removed parts are
     /// freed when another second takes their slot: each is freed once, and a stamp far above the others
     /// costs no more.

@@ -77,7 +77,8 @@ fn word_of_two(kind: HalfKind, one: u128, other: u128) -> Bits<16>
     }
 }
 
-// The words of a page part with those stored in a bucket.
+// The words of a page part with those stored in a bucket: from the first key of the other kind on, as long
+// as the range lasts, so that one end is searched for and not two.
 fn words_with(
     alloc: Global,
     kept: &BTreeSet<Key>,
@@ -90,9 +91,13 @@ fn words_with(
 {
     let kind = half.kind();
     let number = half.number();
+    let others = others_in(bucket, kind);
     let mut words = Vec::new(alloc);
     let _length = kept.len();
-    for key in kept.range(others_in(bucket, kind)) {
+    for key in kept.range(others.start..) {
+        if others.end.cmp(key).is_le() {
+            return Ok(words);
+        }
         words.push(word_of_two(kind, number, key.1))?;
     }
     Ok(words)
@@ -174,20 +179,8 @@ pub(crate) fn join_with_kept(
     joined_with(alloc, kept, stamp, number, signal, remainder(half), half)
 }
 
-// Whether this key, which has that stamp, is stored.
-fn is_kept(kept: &Seconds, stamp: u32, key: &Key) -> bool
-    requires seconds { AreSeconds kept.now }
-    requires stamp { (half_of key.now).stamp ≡ stamp }
-    ensures { IsTrue result ↔ Contains (keys_in kept.now) key.now }
-{
-    match kept.find(stamp) {
-        Some(second) => second.contains(key),
-        None => false,
-    }
-}
-
 // Stores a page part that is not too old, and gives the words that it makes with those stored before;
-// none, without a search for partners, where it was stored already.
+// none where it was stored already.
 pub(crate) fn keep(
     alloc: Global,
     kept: &mut Seconds,
@@ -224,10 +217,9 @@ pub(crate) fn keep(
         (keys_held kept.new.places.items ≡ keys_held kept.old.places.items) }
 {
     let (key, remainder) = key_of(stamp, number, signal, half);
-    if is_kept(kept, stamp, &key) {
+    let joined = joined_with(alloc, kept, stamp, number, signal, remainder, half)?;
+    if kept.put(alloc, stamp, key)? {
         return Ok(Joined::none(alloc));
     }
-    let joined = joined_with(alloc, kept, stamp, number, signal, remainder, half)?;
-    kept.put(alloc, stamp, key)?;
     Ok(joined)
 }

@@ -3,7 +3,7 @@
 //! is freed when another takes its slot.
 
 ghost use Rattle.std.specs.Prelude.{◌≡◌, ℕ, ◌+◌, ◌%◌, ◌<◌, ◌≤◌, ◌⊎◌, ◌↔◌, IfSome, IfNone, IsTrue};
-ghost use Rattle.std.specs.Prelude.{OnOk, OnErr, [], length, max, Contains};
+ghost use Rattle.std.specs.Prelude.{IfOk, OnOk, OnErr, [], length, max, Contains};
 ghost use Rattle.inav_page.specs.Mirrors.{half_of, keys_held, keys_in, keys_of, AreSeconds, IsKey};
 ghost use Rattle.inav_page.specs.Mirrors.{HoldsKey, IsSecondOf, KeepsKeys, PutsKey};
 
@@ -27,8 +27,10 @@ pub(crate) struct Seconds {
 }
 
 impl Second {
-    // Inserts a key of that stamp; keys of another stamp are removed first.
-    fn put(&mut self, alloc: Global, stamp: u32, key: Key) -> Result<(), AllocError>
+    // Inserts a key of that stamp, and says whether it was there; keys of another stamp are removed first.
+    fn put(&mut self, alloc: Global, stamp: u32, key: Key) -> Result<bool, AllocError>
+        ensures there { IfOk result (λ there.
+            IsTrue there ↔ Contains (keys_of stamp self.old) key) }
         ensures stamp { OnOk result (self.new.stamp ≡ stamp) }
         ensures keys { OnOk result ((other : ℕ × ℕ) → Contains self.new.keys.keys other ↔
             (Contains (keys_of stamp self.old) other ⊎ (key ≡ other))) }
@@ -37,13 +39,13 @@ impl Second {
         ensures err { OnErr result (self.new ≡ self.old) }
     {
         if self.stamp == stamp {
-            self.keys.insert(key)?;
-            return Ok(());
+            let added = self.keys.insert(key)?;
+            return Ok(!added);
         }
         let mut keys = BTreeSet::new(alloc);
         keys.insert(key)?;
         *self = Second { stamp, keys };
-        Ok(())
+        Ok(false)
     }
 }
 
@@ -114,12 +116,14 @@ impl Seconds {
         Some(&second.keys)
     }
 
-    // Inserts a key that is not too old, and raises the greatest stamp to its stamp.
-    pub(crate) fn put(&mut self, alloc: Global, stamp: u32, key: Key) -> Result<(), AllocError>
+    // Inserts a key that is not too old, says whether it was stored already, and raises the greatest stamp
+    // to its stamp.
+    pub(crate) fn put(&mut self, alloc: Global, stamp: u32, key: Key) -> Result<bool, AllocError>
         requires seconds { AreSeconds self.old }
         requires key { IsKey key }
         requires stamp { (half_of key).stamp ≡ stamp }
         requires recent { self.old.greatest ≤ stamp + self.old.window + 1 }
+        ensures there { IfOk result (λ there. IsTrue there ↔ Contains (keys_in self.old) key) }
         ensures kept { OnOk result (PutsKey self.old key self.new) }
         ensures greatest { OnOk result (self.new.greatest ≡ max self.old.greatest stamp) }
         ensures window { self.new.window ≡ self.old.window }
@@ -132,8 +136,8 @@ impl Seconds {
     {
         let place = self.place(stamp);
         make_places(alloc, &mut self.places, self.window as usize + 2)?;
-        self.places[place].put(alloc, stamp, key)?;
+        let there = self.places[place].put(alloc, stamp, key)?;
         self.greatest = self.greatest.max(stamp);
-        Ok(())
+        Ok(there)
     }
 }

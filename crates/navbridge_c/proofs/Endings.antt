@@ -11,7 +11,8 @@ use Rattle.one_run.specs.Ends.{EndedBy, RanBy, status_of}
 use Rattle.bridge_engine.specs.Job.{GivesJob, IsJob}
 use Rattle.bridge_engine.specs.Meanings.{meaning_of}
 use Rattle.bridge_engine.specs.declared.job.Job.{Job}
-use Rattle.navbridge_c.specs.Conversions.{Converts, ForJob, HasEnded, IsBegun, IsWhole, Made, StandsIn, made_of, nothing, read_by}
+use Rattle.c_records.specs.Rooms.{StandsIn}
+use Rattle.navbridge_c.specs.Conversions.{Converts, ForJob, HasEnded, IsBegun, IsWhole, Made, made_of, nothing, read_by}
 use Rattle.navbridge_c.specs.Mirrors.{HasEndedInMemory, in_memory, in_room}
 
 -- ---- each end by itself

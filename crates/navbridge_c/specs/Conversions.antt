@@ -1,9 +1,10 @@
 -- A conversion over memory: what it makes of an input, how that stands in the rooms that it was given, and what its status says.
-use Rattle.std.specs.Prelude.{◌≡◌, ◌≢◌, ◌⊎◌, ◌↔◌, ◌^◌, ◌<◌, ◌≤◌, ℕ, List, [], length, take, drop, All, IsUtf8, None, IsSome, if◌then◌else◌}
+use Rattle.std.specs.Prelude.{◌≡◌, ◌≢◌, ◌⊎◌, ◌↔◌, ◌^◌, ◌<◌, ◌≤◌, ℕ, List, [], length, All, IsUtf8, None, IsSome, if◌then◌else◌}
 use Rattle.nav_io.specs.Prefix.{IsPrefix}
 use Rattle.bridge_engine.specs.Job.{GivesJob, IsJob}
 use Rattle.bridge_engine.specs.Meanings.{meaning_of}
 use Rattle.bridge_engine.specs.declared.job.Job.{Job}
+use Rattle.c_records.specs.Rooms.{StandsIn}
 
 -- what was written and what was reported
 pub record Made : Type 0 where
@@ -66,13 +67,6 @@ pub record HasEnded (words : List (List ℕ)) (input : List ℕ) (room report_ro
   -- there is no other status
   pub known : status ≤ 9
   pub not_one : status ≢ 1
-
--- In a room of bytes stands the prefix of a text that it has room for, and used is the length of the whole text. What stands
--- behind stays.
-pub record StandsIn (old new : List ℕ) (used : ℕ) (text : List ℕ) : Type 0 where
-  pub size : used ≡ length text
-  pub prefix : take used new ≡ take (length new) text
-  pub behind : drop used new ≡ drop used old
 
 -- a conversion of these words over this input, with its output and its report in these rooms
 pub record Converts (words : List (List ℕ)) (input old new : List ℕ) (used : ℕ) (report_old report_new : List ℕ) (report_used status : ℕ) : Type 0 where

@@ -2,12 +2,13 @@
 
 ghost use Rattle.std.specs.Prelude.{◌≡◌, All, IsUtf8, [], length, map};
 ghost use Rattle.std.specs.String.{string_bytes};
-ghost use Rattle.navbridge_c.specs.Conversions.{Converts, StandsIn, made_of};
+ghost use Rattle.navbridge_c.specs.Conversions.{Converts, made_of};
 ghost use Rattle.navbridge_c.specs.Mirrors.{HasEndedInMemory, in_memory, in_room};
 
 use crate::memory::{Kept, Lent};
 use crate::words::{are_texts, texts_of};
 use bridge_engine::bridge;
+use c_records::put;
 use std::alloc::{AllocError, Global};
 
 // There was less room for the output than it takes.
@@ -99,15 +100,6 @@ fn status_in_room(run: &Run, room: usize, report_room: usize) -> u8
     } else {
         0
     }
-}
-
-// Puts the prefix of a text that there is room for, and tells how long the text is.
-fn put(text: &[u8], into: &mut [u8]) -> usize
-    ensures { StandsIn into.old into.new result text.now }
-{
-    let count = text.len().min(into.len());
-    into[..count].copy_from_slice(&text[..count]);
-    text.len()
 }
 
 // The conversion that the words ask for, put into the rooms.

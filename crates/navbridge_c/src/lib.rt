@@ -1,7 +1,8 @@
 //! `navbridge` for C: a static library, whose header is `bindings/c/navbridge.h`.
 //!
-//! - [`nb_message_read`] and [`nb_message_write`] read and write a message, from and to structs of raw
-//!   integers;
+//! - [`nb_message_read`] and [`nb_message_write`], [`nb_subframe_read`] and [`nb_subframe_write`],
+//!   [`nb_page_read`] and [`nb_page_write`], [`nb_record_read`] and [`nb_record_write`] read and write
+//!   a message, a subframe, a page and a record, from and to structs of raw integers;
 //! - [`nb_is_frame`] and [`nb_frame_make`] judge and make a frame;
 //! - [`nb_convert`] does a conversion over memory, as the program does it over its streams.
 //!
@@ -10,19 +11,29 @@
 #![tactic(auto)]
 
 mod convert;
+mod deframer;
 mod memory;
 mod words;
 
 ghost use Rattle.std.specs.Prelude.{◌≡◌, ◌<◌, ◌≤◌, ◌↔◌, IsTrue, length, map};
 ghost use Rattle.gnss_week.specs.Weeks.{IsReference};
+ghost use Rattle.nav_eph.specs.Satellite.{IsSat};
+ghost use Rattle.nav_eph.specs.declared.sat.System.TheVariants.{Gal, Gps};
+ghost use Rattle.lnav_subframe.specs.Reading.{subframe_of};
 ghost use Rattle.rtcm_frame.specs.Frames.{frame_size};
 ghost use Rattle.rtcm_frame.specs.Writing.{frame_bytes};
 ghost use Rattle.rtcm_eph.specs.Reading.{item_in as item_of_payload};
 ghost use Rattle.c_records.specs.Items.{IsItemIn, item_in};
 ghost use Rattle.c_records.specs.Rooms.{IsLeft, StandsIn};
 ghost use Rattle.c_messages.specs.Messages.{PutsMessage, WritesMessage};
+ghost use Rattle.c_messages.specs.Subframes.{IsContent, IsSubframeOf, PutsSubframe, content_in};
+ghost use Rattle.c_messages.specs.Pages.{ArePair, BelongTogether, IsAlert, IsPageOf, PutsWord};
+ghost use Rattle.c_messages.specs.Pages.{IsContent as IsWord, content_in as word_in, word_read};
+ghost use Rattle.c_messages.specs.RecordReads.{IsVersion, PutsRead, judged_in};
+ghost use Rattle.c_messages.specs.RecordWrites.{PutsRecord};
 ghost use Rattle.navbridge_c.specs.Conversions.{Converts};
 
+use c_messages::{PageBits, SubframeBits, SubframeRaw, WordRaw};
 use c_records::ItemRaw;
 use std::alloc::Global;
 
@@ -107,6 +118,103 @@ pub extern "C" fn nb_message_write(item: &ItemRaw, frame: &mut [u8], used: &mut 
         (result ≡ 23) × IsLeft frame.old frame.new used.new }
 {
     c_messages::write_message(item, frame, used)
+}
+
+/// Puts the content of an LNAV subframe received from that GPS satellite; 48 to 62 where there is
+/// none.
+#[unsafe(no_mangle)]
+pub extern "C" fn nb_subframe_read(
+    bits: &SubframeBits,
+    satellite: u32,
+    subframe: &mut SubframeRaw,
+) -> u32
+    ensures subframe { IsSat Gps satellite → PutsSubframe
+        (subframe_of bits.now.bytes (record { system = Gps; number = satellite }) 0)
+        subframe.old subframe.new result }
+    ensures satellite { (IsSat Gps satellite → ⊥) →
+        (result ≡ 62) × (subframe.new ≡ subframe.old) }
+{
+    c_messages::read_subframe(bits, satellite, subframe)
+}
+
+/// Puts the bits of the LNAV subframe with this content and TOW count; 63 for a TOW count of
+/// 100,800 or more, 23 where the numbers stand for no subframe.
+#[unsafe(no_mangle)]
+pub extern "C" fn nb_subframe_write(
+    subframe: &SubframeRaw,
+    tow_count: u32,
+    bits: &mut SubframeBits,
+) -> u32
+    ensures written { tow_count < 100800 → IsContent (content_in subframe.now) →
+        (result ≡ 0) × IsSubframeOf (content_in subframe.now) tow_count bits.new }
+    ensures none { tow_count < 100800 → (IsContent (content_in subframe.now) → ⊥) →
+        (result ≡ 23) × (bits.new ≡ bits.old) }
+    ensures tow_count { 100800 ≤ tow_count → (result ≡ 63) × (bits.new ≡ bits.old) }
+{
+    c_messages::write_subframe(subframe, tow_count, bits)
+}
+
+/// Puts the content of the word of an I/NAV page received from that Galileo satellite; 62 to 71
+/// where there is none.
+#[unsafe(no_mangle)]
+pub extern "C" fn nb_page_read(page: &PageBits, satellite: u32, word: &mut WordRaw) -> u32
+    ensures satellite { (IsSat Gal satellite → ⊥) → (result ≡ 62) × (word.new ≡ word.old) }
+    ensures alert { IsSat Gal satellite → IsAlert page.now →
+        (result ≡ 65) × (word.new ≡ word.old) }
+    ensures pair { IsSat Gal satellite → (IsAlert page.now → ⊥) → (ArePair page.now → ⊥) →
+        (result ≡ 66) × (word.new ≡ word.old) }
+    ensures checksum { IsSat Gal satellite → (IsAlert page.now → ⊥) → ArePair page.now →
+        (BelongTogether page.now → ⊥) → (result ≡ 67) × (word.new ≡ word.old) }
+    ensures word { IsSat Gal satellite → (IsAlert page.now → ⊥) → ArePair page.now →
+        BelongTogether page.now →
+        PutsWord (word_read page.now (record { system = Gal; number = satellite }))
+        word.old word.new result }
+{
+    c_messages::read_page(page, satellite, word)
+}
+
+/// Puts the I/NAV page of the word with this content, sent by that Galileo satellite; 62 where there
+/// is no such satellite, 23 where the numbers stand for no word.
+#[unsafe(no_mangle)]
+pub extern "C" fn nb_page_write(word: &WordRaw, satellite: u32, page: &mut PageBits) -> u32
+    ensures satellite { (IsSat Gal satellite → ⊥) → (result ≡ 62) × (page.new ≡ page.old) }
+    ensures none { IsSat Gal satellite → (IsWord (word_in word.now) → ⊥) →
+        (result ≡ 23) × (page.new ≡ page.old) }
+    ensures written { IsSat Gal satellite → IsWord (word_in word.now) →
+        (result ≡ 0) × IsPageOf (word_in word.now) satellite page.new }
+{
+    c_messages::write_page(word, satellite, page)
+}
+
+/// Puts the item that the text of one record of a navigation file gives, of version 4 with its title
+/// line, of version 3 without; 32 to 42 where there is none, 24 where there is no such version.
+#[unsafe(no_mangle)]
+pub extern "C" fn nb_record_read(text: &[u8], version: u32, item: &mut ItemRaw) -> u32
+    ensures read { IsVersion version →
+        PutsRead (judged_in version text.now) item.old item.new result }
+    ensures version { (IsVersion version → ⊥) → (result ≡ 24) × (item.new ≡ item.old) }
+{
+    c_messages::read_record(text, version, item)
+}
+
+/// Puts the prefix that fits of the record of an item in a navigation file of version 4, with its
+/// title line, or 3, without, and its length into `used`; 24 where there is no such version, 23
+/// where the numbers stand for no item.
+#[unsafe(no_mangle)]
+pub extern "C" fn nb_record_write(
+    item: &ItemRaw,
+    version: u32,
+    text: &mut [u8],
+    used: &mut usize,
+) -> u32
+    ensures written { IsVersion version → IsItemIn (item_in item.now) →
+        PutsRecord version (item_in item.now) text.old text.new used.new result }
+    ensures none { IsVersion version → (IsItemIn (item_in item.now) → ⊥) →
+        (result ≡ 23) × IsLeft text.old text.new used.new }
+    ensures version { (IsVersion version → ⊥) →
+        (result ≡ 24) × IsLeft text.old text.new used.new }
+{
+    c_messages::write_record(item, version, text, used)
 }
 
 /// The version of the library: that of the header that fits it.

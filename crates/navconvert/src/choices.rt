@@ -3,13 +3,12 @@
 use crate::clock::ClockWords;
 use crate::files::{Task, convert_file};
 use crate::outputs::{Output, output_of};
-use crate::refusals::is_date;
 use crate::several::{convert_joined, joins};
 use crate::telling::tell_program;
 use file_step::{FileFault, fault_of};
 use file_texts::{Refusal, is_site};
 use front_plan::{Asked, Values};
-use front_run::Plan;
+use front_run::{Plan, is_date};
 use std::fs::{File, OpenOptions};
 use std::io::IsTerminal;
 

@@ -1,13 +1,12 @@
 //! The commands of `navbridge` that do the same.
 
 use crate::files::Task;
-use crate::outputs::{Output, name_of};
-use crate::refusals::refusal_of;
+use crate::outputs::name_of;
 use crate::telling::tell_file;
 use file_form::Kind;
 use file_step::{FileInput, Folder, HostFolder};
 use file_texts::Refusal;
-use front_run::{Stop, is_copied, look, words_under};
+use front_run::{Stop, is_copied, look, refusal_of, words_under};
 use nav_io::Source;
 use peek_io::{PeekFault, Peeked};
 
@@ -43,40 +42,30 @@ fn show_source<S: Source + Drop>(task: &Task, file: &str, source: S) -> u8 {
 
 // Prints the command for the capture of a log.
 fn show_log(task: &Task, file: &str, kind: Kind) -> u8 {
-    let prefix = prefix_of(kind);
-    match print!(task.rt; "{prefix} < '{file}'") {
-        Ok(()) => end(task, file, kind),
-        Err(_) => 4,
-    }
+    let mut line = Line::new(task.rt);
+    line.text(program_of(kind));
+    line.word("< ", file);
+    line.end(task, file)
 }
 
 /// Prints the command that makes one output of several files; the status.
 pub fn show_joined(task: &Task, first: &str, files: &[&str]) -> u8 {
-    if print!(task.rt; "cat").is_err() {
-        return 4;
-    }
-    for file in files {
-        if print!(task.rt; " '{file}'").is_err() {
-            return 4;
-        }
-    }
     match words_under(task.rt.alloc(), &task.plan, Kind::Rinex4) {
-        Ok(words) => show_joined_words(task, first, &words),
+        Ok(words) => show_joined_words(task, first, files, &words),
         Err(stop) => told(task, first, stop),
     }
 }
 
-// Prints the words of that command, and where it writes.
-fn show_joined_words(task: &Task, first: &str, words: &[String]) -> u8 {
-    if print!(task.rt; " | navbridge").is_err() {
-        return 4;
+// Prints that command.
+fn show_joined_words(task: &Task, first: &str, files: &[&str], words: &[String]) -> u8 {
+    let mut line = Line::new(task.rt);
+    line.text("cat");
+    for file in files {
+        line.word("", file);
     }
-    for word in words {
-        if print!(task.rt; " '{word}'").is_err() {
-            return 4;
-        }
-    }
-    end(task, first, Kind::Ubx)
+    line.text(" | navbridge");
+    line.words(words);
+    line.end(task, first)
 }
 
 // Says why there is no command.
@@ -87,24 +76,24 @@ fn told(task: &Task, file: &str, stop: Stop) -> u8 {
 
 // Prints a command.
 fn show(task: &Task, file: &str, kind: Kind, words: &[String]) -> u8 {
-    let prefix = prefix_of(kind);
-    let done = match kind {
-        Kind::Ubx | Kind::Sbf => print!(task.rt; "{prefix} < '{file}' | navbridge"),
-        _ => print!(task.rt; "{prefix}"),
-    };
-    if done.is_err() {
-        return 4;
-    }
-    for word in words {
-        if print!(task.rt; " '{word}'").is_err() {
-            return 4;
+    let mut line = Line::new(task.rt);
+    line.text(program_of(kind));
+    match kind {
+        Kind::Ubx | Kind::Sbf => {
+            line.word("< ", file);
+            line.text(" | navbridge");
+            line.words(words);
+        }
+        _ => {
+            line.words(words);
+            line.word("< ", file);
         }
     }
-    end(task, file, kind)
+    line.end(task, file)
 }
 
 // The program that reads a file of this form.
-fn prefix_of(kind: Kind) -> &'static str {
+fn program_of(kind: Kind) -> &'static str {
     match kind {
         Kind::Ubx => "navlog --from ubx",
         Kind::Sbf => "navlog --from sbf",
@@ -112,19 +101,43 @@ fn prefix_of(kind: Kind) -> &'static str {
     }
 }
 
-// Prints where the command reads, unless navlog does, and where it writes.
-fn end(task: &Task, file: &str, kind: Kind) -> u8 {
-    let read = match kind {
-        Kind::Ubx | Kind::Sbf => Ok(()),
-        _ => print!(task.rt; " < '{file}'"),
-    };
-    let ending = task.plan.target.ending();
-    let wrote = match (
-        task.output,
-        name_of(task.rt.alloc(), task.output, file, ending),
-    ) {
-        (Output::Standard, _) | (_, Err(_)) => println!(task.rt; ""),
-        (_, Ok(name)) => println!(task.rt; " > '{name}'"),
-    };
-    if read.is_ok() && wrote.is_ok() { 0 } else { 4 }
+// A command that is printed, up to the first part that could not be.
+#[derive(Drop)]
+struct Line<'a> {
+    rt: &'a HostRuntime,
+    whole: bool,
+}
+
+impl<'a> Line<'a> {
+    // Nothing yet.
+    fn new(rt: &'a HostRuntime) -> Line<'a> {
+        Line { rt, whole: true }
+    }
+
+    // Prints a text.
+    fn text(&mut self, text: &str) {
+        self.whole = self.whole && print!(self.rt; "{text}").is_ok();
+    }
+
+    // Prints a word in quotes, behind this mark.
+    fn word(&mut self, mark: &str, word: &str) {
+        self.whole = self.whole && print!(self.rt; " {mark}'{word}'").is_ok();
+    }
+
+    // Prints words.
+    fn words(&mut self, words: &[String]) {
+        for word in words {
+            self.word("", word.as_str());
+        }
+    }
+
+    // Prints where the command writes, and ends the line; the status.
+    fn end(&mut self, task: &Task, file: &str) -> u8 {
+        let ending = task.plan.target.ending();
+        if let Ok(name) = name_of(task.rt.alloc(), task.output, file, ending) {
+            self.word("> ", name.as_str());
+        }
+        self.text("\n");
+        if self.whole { 0 } else { 4 }
+    }
 }

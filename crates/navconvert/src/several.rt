@@ -9,7 +9,7 @@ use crate::joined::Joined;
 use crate::meter::Meter;
 use crate::outputs::{Output, name_of, placed, taken};
 use crate::standard::write_from;
-use crate::steps::{finish, told_of};
+use crate::steps::{end, told_of};
 use crate::tally::Tally;
 use crate::telling::tell_file;
 use crate::times::long_name_from;
@@ -102,7 +102,7 @@ fn put_free<'a>(task: &Task<'a>, first: &'a str, files: &'a [&'a str], name: &st
 fn put_part<'a>(task: &Task<'a>, first: &'a str, files: &'a [&'a str], part: &str, name: &str) -> u8
     requires { part.now ≢ name.now }
 {
-    finish(task, first, part, name, put_joined(task, files, part, name))
+    end(task, first, part, name, put_joined(task, files, part, name))
 }
 
 // The step of the files.

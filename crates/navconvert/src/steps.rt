@@ -1,18 +1,16 @@
 //! The step of one file: from its bytes to the file of a name.
 
-ghost use Rattle.std.specs.Prelude.{◌≡◌, ◌≢◌, IfErr};
-ghost use Rattle.navconvert.specs.Statuses.{status_for};
+ghost use Rattle.std.specs.Prelude.{◌≢◌};
 
 use crate::files::Task;
 use crate::meter::Meter;
-use crate::notes::{Notes, put_counts};
+use crate::notes::Notes;
 use crate::outputs::size_of;
-use crate::refusals::refusal_of;
 use crate::tally::Tally;
-use crate::telling::{tell_done, tell_file};
+use crate::telling::{Saying, tell_file};
 use file_step::{FileFault, FileInput, HostFolder, part_of};
 use file_texts::Refusal;
-use front_run::{Outcome, Sourced, Stop, Told, convert_one, convert_source};
+use front_run::{Outcome, Sourced, Stop, Told, convert_one, convert_source, finish};
 
 /// Converts a file to that of a name, and says what became of it; the status.
 pub fn put<'a>(task: &Task<'a>, file: &'a str, name: &str) -> u8 {
@@ -27,39 +25,16 @@ fn put_part<'a>(task: &Task<'a>, file: &'a str, part: &str, name: &str) -> u8
     requires { part.now ≢ name.now }
 {
     if file == "-" {
-        finish(task, file, part, name, put_standard(task, part, name))
+        end(task, file, part, name, put_standard(task, part, name))
     } else {
-        finish(task, file, part, name, put_file(task, file, part, name))
+        end(task, file, part, name, put_file(task, file, part, name))
     }
 }
 
 /// Says what became of a file whose step has ended so; the status.
-pub fn finish(task: &Task, file: &str, part: &str, name: &str, outcome: Outcome<Tally>) -> u8
-    ensures { IfErr outcome.entry.done (λ stop. result ≡ status_for stop) }
-{
-    match outcome.done {
-        Ok(()) => end(task, file, name, &outcome),
-        Err(stop) => tell_file(task.rt, file, &refusal_of(&task.plan, stop, name, part)),
-    }
-}
-
-/// Ends the report of a file that was converted, and says what became of it; the status.
-pub fn end(task: &Task, file: &str, name: &str, outcome: &Outcome<Tally>) -> u8 {
-    if !is_counted(task, outcome) {
-        return tell_file(task.rt, file, &Refusal::ReportFault);
-    }
-    if !task.quiet {
-        tell_done(task, name, outcome);
-    }
-    0
-}
-
-// Writes the counts of a log to the report; whether that was done.
-fn is_counted(task: &Task, outcome: &Outcome<Tally>) -> bool {
-    match &outcome.counts {
-        None => true,
-        Some(counts) => put_counts(task.report, counts, outcome.count),
-    }
+pub fn end(task: &Task, file: &str, part: &str, name: &str, outcome: Outcome<Tally>) -> u8 {
+    let mut teller = Saying { task, file, name };
+    finish(&task.plan, outcome, name, part, &mut teller)
 }
 
 /// Who is told of the conversion of a file.
@@ -106,17 +81,25 @@ fn put_standard<'a>(task: &Task<'a>, part: &str, name: &str) -> Outcome<Tally<'a
     );
     let Sourced { outcome, source } = sourced;
     let mut outcome = outcome;
-    outcome.done = with_fault(outcome.done, source.fault());
+    outcome.done = with_faults(outcome.done, source.fault(), None);
     outcome
 }
 
-// How it ended, with what the source says of a read that failed.
-fn with_fault(done: Result<(), Stop>, fault: Option<FileFault>) -> Result<(), Stop> {
+/// How it ended, with what the source and the output say of a read and of a write that failed.
+pub fn with_faults(
+    done: Result<(), Stop>,
+    read: Option<FileFault>,
+    put: Option<FileFault>,
+) -> Result<(), Stop> {
     match done {
-        Err(Stop::Look(None)) => Err(Stop::Look(fault)),
-        Err(Stop::Run(kind, status, count, None, put)) => {
-            Err(Stop::Run(kind, status, count, fault, put))
-        }
+        Err(Stop::Look(None)) => Err(Stop::Look(read)),
+        Err(Stop::Run(kind, status, count, told_read, told_put)) => Err(Stop::Run(
+            kind,
+            status,
+            count,
+            told_read.or(read),
+            told_put.or(put),
+        )),
         _ => done,
     }
 }

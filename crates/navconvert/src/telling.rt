@@ -4,11 +4,13 @@ ghost use Rattle.std.specs.Prelude.{◌≡◌};
 ghost use Rattle.file_texts.specs.Says.{status_of};
 
 use crate::files::Task;
+use crate::notes::put_counts;
 use crate::tally::Tally;
 use file_form::Kind;
+use file_step::FileFault;
 use file_texts::Refusal;
 use front_plan::{WeekRule, row_of};
-use front_run::Outcome;
+use front_run::{Outcome, Teller};
 use std::io::IsTerminal;
 
 // What takes the line of a meter away.
@@ -32,9 +34,48 @@ pub fn tell_file(rt: &HostRuntime, file: &str, refusal: &Refusal) -> u8
     refusal.status()
 }
 
-/// Says what became of a file: what it has, what was refused, and the week of the clock where it was
-/// read by that.
-pub fn tell_done(task: &Task, name: &str, outcome: &Outcome<Tally>) {
+/// Who says what became of a file, under its name and that of its output.
+#[derive(Drop)]
+pub struct Saying<'x, 'a> {
+    /// What is done with each file.
+    pub task: &'x Task<'a>,
+    /// The file.
+    pub file: &'x str,
+    /// Its output.
+    pub name: &'x str,
+}
+
+impl<'a> Teller<Tally<'a>> for Saying<'_, 'a> {
+    // Where the reader of standard output has gone nothing is said.
+    fn refused(&mut self, refusal: &Refusal) {
+        if let Refusal::WriteFault(_, FileFault::ReaderGone) = refusal {
+            return;
+        }
+        let _ = tell_file(self.task.rt, self.file, refusal);
+    }
+
+    fn done(&mut self, outcome: &Outcome<Tally<'a>>) -> bool {
+        if !is_counted(self.task, outcome) {
+            return false;
+        }
+        if !self.task.quiet {
+            tell_done(self.task, self.name, outcome);
+        }
+        true
+    }
+}
+
+// Writes the counts of a log to the report; whether that was done.
+fn is_counted(task: &Task, outcome: &Outcome<Tally>) -> bool {
+    match &outcome.counts {
+        None => true,
+        Some(counts) => put_counts(task.report, counts, outcome.count),
+    }
+}
+
+// Says what became of a file: what it has, what was refused, and the week of the clock where it was
+// read by that.
+fn tell_done(task: &Task, name: &str, outcome: &Outcome<Tally>) {
     let rt = task.rt;
     clear(rt);
     let _ = eprint!(rt; "{name}: ");

@@ -3,12 +3,11 @@
 use crate::files::Task;
 use crate::meter::Meter;
 use crate::notes::Notes;
-use crate::refusals::refusal_of;
 use crate::tally::Tally;
 use arrayvec::ArrayVec;
 use file_texts::{Refusal, long_name};
 use front_plan::Target;
-use front_run::{Sourced, Told, write_source};
+use front_run::{Sourced, Told, refusal_of, write_source};
 use gnss_week::{Civil, Moment, moment_of};
 use nav_io::{Failed, Sink, Source};
 use std::alloc::{AllocError, Global};

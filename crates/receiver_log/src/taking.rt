@@ -5,8 +5,8 @@ ghost use Rattle.std.specs.Prelude.{IfErr, OnErr, OnOk};
 ghost use Rattle.std.specs.Io.KnownBytes.{Appends};
 ghost use Rattle.nav_io.specs.Causes.{HasCause};
 ghost use Rattle.nav_io.specs.Prefix.{AppendsPrefix};
-ghost use Rattle.framing.specs.Headings.{format_of};
-ghost use Rattle.framing.specs.State.{IsWaiting, MayFeed};
+ghost use Rattle.receiver_frames.specs.Headings.{format_of};
+ghost use Rattle.receiver_frames.specs.State.{IsWaiting, MayFeed};
 ghost use Rattle.one_run.specs.Causes.{HasItsCause, faults_of};
 ghost use Rattle.receiver_log.specs.Capture.{refusal_text};
 ghost use Rattle.receiver_log.specs.Log.{given};
@@ -18,9 +18,9 @@ use crate::receiver::Receiver;
 use crate::report::refusal;
 use crate::state::LogState;
 use arrayvec::ArrayVec;
-use framing::Deframer;
 use nav_io::{Failed, Sink};
 use one_run::BridgeFault;
+use receiver_frames::Deframer;
 
 // While at most this many bytes of lines wait, the lines of one more message have room.
 const ROOM: usize = 8_192;

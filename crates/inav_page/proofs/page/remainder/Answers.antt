@@ -4,4 +4,4 @@ use Rattle.inav_page.proofs.page.remainder.Goals as goal
 
 pub returns-in-Odd-clause-fits : goal.returns-in-Odd-clause-fits
 returns-in-Odd-clause-fits c =
-    xor_lt 24 c.crc_of-in-Odd.result (c.number-number.result / 16384 % 16777216) c.crc_of-in-Odd.ensures.fits (omega arith)
+    xor_lt 24 c.crc_of_odd.result (c.number-number.result / 16384 % 16777216) c.crc_of_odd.ensures.fits (omega arith)

@@ -1,6 +1,10 @@
+use Rattle.std.proofs.Common.{◌∙◌}
 use Rattle.file_step.proofs.Gathering.{out_seen}
 use Rattle.file_step.proofs.gathered.Gathered.put_out.Goals as goal
 
 pub loop-self-preserved : goal.loop-self-preserved
-loop-self-preserved g c =
-    (out_seen _ _ _ _ _ _ _ c.deref.ensures.value c.loop-self.invariant.0 c.in-Ok.ensures.bytes, c.loop-self.invariant.1)
+loop-self-preserved g c = (
+  out_seen _ _ _ _ _ _ _ c.deref.ensures.value c.loop-self.invariant.0 c.in-Ok.ensures.bytes,
+  c.in-Ok.ensures.cause.stays ∙ c.loop-self.invariant.1,
+  c.loop-self.invariant.2,
+)

@@ -1,0 +1,31 @@
+#!/usr/bin/env bash
+# The calls of the library for C: ns a call and MB/s, and RTKLIB's decode_rtcm3, input_rtcm3, gen_rtcm3 and decode_frame on the
+# same frames, where RTKLIB is installed.
+#
+#   bench/library.sh [MEGABYTES]      of distinct frames of messages 1019 and 1046; 10 where none is said
+#
+#   ARCHIVE=FILE         libnavbridge_c.a (crates/navbridge_c/out/libnavbridge_c.a, which bindings/archive.sh makes)
+#   RTKLIB=FOLDER        where rtklib.h is (/usr/include)
+#   RTKLIB_LIB, RTKLIB_FLAGS   its library, and the definitions that it was made with (those of Debian's)
+#
+# Each row is the least of five runs, in processor time.
+set -eu
+cd "$(dirname "$(readlink -f "$0")")/.."
+megabytes=${1:-10}
+archive=${ARCHIVE:-$PWD/crates/navbridge_c/out/libnavbridge_c.a}
+[ -f "$archive" ] || { echo "library: no archive $archive: bindings/archive.sh makes it" >&2; exit 2; }
+here=bench/build
+mkdir -p "$here"
+cc=${CC:-cc}
+$cc -O2 -o "$here/streams" bench/streams.c
+$cc -O2 -o "$here/captures" bench/captures.c
+"$here/streams" make distinct $((megabytes * 1000000)) > "$here/library.rtcm3"
+"$here/captures" make 7 32 2295 > "$here/library.navcap"
+words=()
+if [ -f "${RTKLIB:=/usr/include}/rtklib.h" ]; then
+  [ "$RTKLIB" = /usr/include ] || words+=(-isystem "$RTKLIB")
+  read -r -a more <<< "-DWITH_RTKLIB ${RTKLIB_FLAGS:--DENAGLO -DENAQZS -DENAGAL -DENACMP -DENAIRN -DNFREQ=5 -DNEXOBS=3} ${RTKLIB_LIB:--lRTKLib}"
+  words+=("${more[@]}")
+fi
+$cc -O2 -o "$here/library" -Ibindings/c bench/library.c bindings/c/memory.c "$archive" "${words[@]}" -lm
+"$here/library" "$here/library.rtcm3" 2295 "$here/library.navcap"

@@ -1,0 +1,6 @@
+mod LinesOfText
+mod Lengths
+mod Prefixes
+mod SubframesAgain
+mod PagesAgain
+mod RecordsAgain

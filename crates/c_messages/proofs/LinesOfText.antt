@@ -1,0 +1,130 @@
+-- The lines of a text, one after another, as far as a record looks at them.
+use Rattle.std.proofs.Common.{◌≡◌, ◌+◌, ◌<◌, ◌≤◌, ◌==◌, ◌++◌, ℕ, zero, suc, nat_lt, Bool, true, false, List, [], ◌∷◌, Option, Some, None, IfSome, IfNone, length, take, drop, get_or, map, refl, sym, ap, ◌∙◌, arith, length-drop, length-take}
+use Rattle.std.specs.Prelude.{if◌then◌else◌}
+use Rattle.std.proofs.lemmas.List.{take-append-drop, drop_more, take_all, length-map, map-append}
+use Rattle.std.proofs.lemmas.Bool.{eqb-true, lt-ltb}
+use Rattle.memchr.specs.Find.{IsFirstByte, is_byte}
+use Rattle.nav_io.specs.Lines.{ends, pieces, without_cr}
+use Rattle.nav_io.specs.Mirrors.{EndsAt}
+use Rattle.nav_io.proofs.Surface.{pieces-line}
+use Rattle.rinex_read.specs.Kept.{kept_with, padded}
+use Rattle.rinex_read.specs.Lines.{lines_of}
+
+-- ---- the first LF
+
+none_by : (n x : ℕ) (xs : List ℕ) (b : Bool) → (x == 10) ≡ b → (b ≡ true → ⊥) → ends (take n xs) ≡ false → ends (x ∷ take n xs) ≡ false
+none_by n x xs true e fails ih = absurd (fails refl)
+none_by n x xs false e fails ih = rw e ih
+
+-- no byte of the prefix is an LF
+none_before : (n : ℕ) (xs : List ℕ) → ((k : ℕ) → k < n → k < length xs → (get_or xs k 0 == 10) ≡ true → ⊥) → ends (take n xs) ≡ false
+none_before zero xs h = refl
+none_before (suc n) [] h = refl
+none_before (suc n) (x ∷ xs) h =
+    none_by n x xs (x == 10) refl (h zero (omega arith) (omega arith)) (none_before n xs (λ k less within. h (suc k) (omega arith) (omega arith)))
+
+pub first_some : (xs : List ℕ) (r : Option ℕ) → IsFirstByte (is_byte 10) xs r → IfSome r (λ place. EndsAt xs place)
+first_some xs None h = tt
+first_some xs (Some k) h = record {
+  none = none_before k xs (λ n less within. h.0.before n (omega arith) less);
+  at = drop_more xs k 0 h.0.high ∙ ap (λ (x : ℕ). x ∷ drop (k + 1) xs) (eqb-true (get_or xs k 0) 10 h.1);
+  within = h.0.high;
+}
+
+pub first_none : (xs : List ℕ) (r : Option ℕ) → IsFirstByte (is_byte 10) xs r → IfNone r (ends xs ≡ false)
+first_none xs None h =
+    ap ends (sym (take_all (length xs) xs (omega arith))) ∙ none_before (length xs) xs (λ n less within. h n (omega arith) less)
+first_none xs (Some k) h = tt
+
+-- ---- a line
+
+-- one that has an end
+pub line_first : (text line : List ℕ) (n : ℕ) → EndsAt text n → line ≡ without_cr (take n text) → lines_of text ≡ line ∷ lines_of (drop (n + 1) text)
+line_first text line n h is =
+    let cut : text ≡ take n text ++ 10 ∷ drop (n + 1) text = sym (take-append-drop n text) ∙ ap (λ (l : List ℕ). take n text ++ l) h.at in
+    ap lines_of cut ∙ ap (λ (ls : List (List ℕ)). map without_cr ls) (pieces-line false (take n text) (drop (n + 1) text) h.none)
+    ∙ ap (λ (l : List ℕ). l ∷ lines_of (drop (n + 1) text)) (sym is)
+
+no_end : (b e : Bool) → (if b then true else e) ≡ false → (b ≡ false) × (e ≡ false)
+no_end true e h = absurd cc
+no_end false e h = (refl, h)
+
+pieces-last : (x : ℕ) (p : List ℕ) → ends (x ∷ p) ≡ false → pieces false (x ∷ p) ≡ (x ∷ p) ∷ []
+pieces-last x [] h = rw (no_end (x == 10) false h).0 refl
+pieces-last x (y ∷ p) h =
+    let parts = no_end (x == 10) (ends (y ∷ p)) h in
+    rw (parts.0, pieces-last y p parts.1) refl
+
+last_line : (text : List ℕ) → ends text ≡ false → 0 < length text → pieces false text ≡ text ∷ []
+last_line [] none some = absurd (omega arith)
+last_line (x ∷ text) none some = pieces-last x text none
+
+-- the last one, which has none
+pub line_last : (text line : List ℕ) → ends text ≡ false → 0 < length text → line ≡ without_cr text → lines_of text ≡ line ∷ []
+line_last text line none some is =
+    ap (λ (ls : List (List ℕ)). map without_cr ls) (last_line text none some) ∙ ap (λ (l : List ℕ). l ∷ []) (sym is)
+
+-- ---- a CR at the end
+
+cr_last : (x : ℕ) (b : Bool) → (x == 13) ≡ b → b ≡ true → take 0 (x ∷ []) ≡ without_cr (x ∷ [])
+cr_last x true e h = rw e refl
+cr_last x false e h = absurd cc
+
+no_cr_last : (x : ℕ) (b : Bool) → (x == 13) ≡ b → b ≡ false → take 1 (x ∷ []) ≡ without_cr (x ∷ [])
+no_cr_last x true e h = absurd cc
+no_cr_last x false e h = rw e refl
+
+-- a line with a CR at its end
+pub without_cr-cr : (k : ℕ) (line : List ℕ) → length line ≡ suc k → (get_or line k 0 == 13) ≡ true → take k line ≡ without_cr line
+without_cr-cr k [] e h = absurd (omega arith)
+without_cr-cr zero (x ∷ []) e h = cr_last x (x == 13) refl h
+without_cr-cr (suc k) (x ∷ []) e h = absurd (omega arith)
+without_cr-cr zero (x ∷ y ∷ ys) e h = absurd (omega arith)
+without_cr-cr (suc k) (x ∷ y ∷ ys) e h = ap (λ (l : List ℕ). x ∷ l) (without_cr-cr k (y ∷ ys) (omega arith) h)
+
+-- a line without one
+pub without_cr-none : (k : ℕ) (line : List ℕ) → length line ≡ suc k → (get_or line k 0 == 13) ≡ false → take (suc k) line ≡ without_cr line
+without_cr-none k [] e h = absurd (omega arith)
+without_cr-none zero (x ∷ []) e h = no_cr_last x (x == 13) refl h
+without_cr-none (suc k) (x ∷ []) e h = absurd (omega arith)
+without_cr-none zero (x ∷ y ∷ ys) e h = absurd (omega arith)
+without_cr-none (suc k) (x ∷ y ∷ ys) e h = ap (λ (l : List ℕ). x ∷ l) (without_cr-none k (y ∷ ys) (omega arith) h)
+
+-- ---- lines that are kept
+
+take_next : (k : ℕ) (all : List (List ℕ)) (line : List ℕ) (more : List (List ℕ)) → drop k all ≡ line ∷ more → take (suc k) all ≡ take k all ++ line ∷ []
+take_next zero all line more e = ap (take 1) e
+take_next (suc k) [] line more e = absurd cc
+take_next (suc k) (x ∷ all) line more e = ap (λ (l : List (List ℕ)). x ∷ l) (take_next k all line more e)
+
+drop_next : (k : ℕ) (all : List (List ℕ)) (line : List ℕ) (more : List (List ℕ)) → drop k all ≡ line ∷ more → drop (suc k) all ≡ more
+drop_next zero all line more e = ap (drop 1) e
+drop_next (suc k) [] line more e = absurd cc
+drop_next (suc k) (x ∷ all) line more e = drop_next k all line more e
+
+-- one more is kept
+pub next_kept : (all kept : List (List ℕ)) (k : ℕ) (line : List ℕ) (more : List (List ℕ)) → k < 9 → kept ≡ map padded (take k all) → drop k all ≡ line ∷ more
+    → kept_with kept line ≡ map padded (take (k + 1) all)
+next_kept all kept k line more few is e =
+    let short : nat_lt (length (map padded (take k all))) 9 ≡ true =
+    lt-ltb (length (map padded (take k all))) 9 (omega (arith, length-map (take k all) padded, length-take k all)) in
+    let next : suc k ≡ k + 1 = omega arith in
+    ap (λ (ks : List (List ℕ)). kept_with ks line) is
+    ∙ ap (λ (b : Bool). if b then map padded (take k all) ++ padded line ∷ [] else map padded (take k all)) short
+    ∙ sym (map-append padded (take k all) (line ∷ []))
+    ∙ ap (map padded) (sym (take_next k all line more e) ∙ ap (λ (n : ℕ). take n all) next)
+
+-- and the lines behind it are left
+pub next_rest : (all : List (List ℕ)) (k : ℕ) (line : List ℕ) (more : List (List ℕ)) → drop k all ≡ line ∷ more → more ≡ drop (k + 1) all
+next_rest all k line more e =
+    let next : suc k ≡ k + 1 = omega arith in
+    sym (drop_next k all line more e) ∙ ap (λ (n : ℕ). drop n all) next
+
+-- no line is left
+pub none_left : (all kept : List (List ℕ)) (k : ℕ) (rest : List ℕ) → k < 9 → kept ≡ map padded (take k all) → lines_of rest ≡ drop k all → true ≡ (length rest == 0)
+    → kept ≡ map padded (take 9 all)
+none_left all kept k [] few is left e =
+    let none : length (drop k all) ≡ 0 = ap length (sym left) in
+    let short : length all ≤ k = omega (arith, none, length-drop k all) in
+    is ∙ ap (map padded) (take_all k all short ∙ sym (take_all 9 all (omega arith)))
+none_left all kept k (x ∷ rest) few is left e = absurd (omega (arith, eqb-true (length (x ∷ rest)) 0 (sym e)))

@@ -1,0 +1,7 @@
+-- What contracts see of a sink of fixed room.
+use Rattle.std.specs.Prelude.{ℕ, List}
+
+-- the bytes written, and the count of writes that failed
+pub record FixedState : Type 0 where
+  pub bytes : List ℕ
+  pub faults : ℕ

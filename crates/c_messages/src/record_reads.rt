@@ -1,0 +1,73 @@
+//! Records of RINEX navigation files, versions 4 and 3, read.
+
+ghost use Rattle.std.specs.Prelude.{◌≡◌};
+ghost use Rattle.rinex_read.specs.Lines.{lines_of};
+ghost use Rattle.c_messages.specs.RecordReads.{IsVersion, PutsRead, judged_in, reason_status};
+
+use crate::text_lines::lines_in;
+use c_records::{ItemRaw, put_item};
+use rinex_read::{FileForm, Judged, Reason, Rinex3, Rinex4};
+
+// There is no such version.
+const NO_VERSION: u32 = 24;
+
+// The record is of another kind.
+const PASSED_OVER: u32 = 42;
+
+// How the lines of a text are judged by a form.
+fn judged_by<F: FileForm>(text: &[u8]) -> Judged
+    ensures { result ≡ F.form.judged (lines_of text.now) }
+{
+    F::looks_at_kept();
+    F::judge(&lines_in(text))
+}
+
+// The number of a reason.
+fn status_of(reason: &Reason) -> u32
+    ensures { result ≡ reason_status reason.now }
+{
+    match reason {
+        Reason::BadSat => 32,
+        Reason::Short => 33,
+        Reason::NotANumber => 34,
+        Reason::Blank => 35,
+        Reason::OutOfRange => 36,
+        Reason::NoSuchDate => 37,
+        Reason::Week => 38,
+        Reason::Fit => 39,
+        Reason::EpochStep => 40,
+        Reason::EpochFar => 41,
+    }
+}
+
+// Puts the item of a record.
+fn put_judged(judged: &Judged, into: &mut ItemRaw) -> u32
+    ensures { PutsRead judged.now into.old into.new result }
+{
+    match judged {
+        Judged::Item(item) => {
+            put_item(item, into);
+            0
+        }
+        Judged::Refused(reason) => status_of(reason),
+        Judged::PassedOver => PASSED_OVER,
+    }
+}
+
+/// Puts the item that the text of one record of a navigation file gives: of version 4 (RINEX 4.01)
+/// with its title line, of version 3 (RINEX 3.05) without.
+///
+/// 0; or the number of the first reason for which it is refused, 32 to 41, 42 for a record of
+/// another kind, or 24 where there is no such version; and then nothing is put.
+pub fn read_record(text: &[u8], version: u32, into: &mut ItemRaw) -> u32
+    ensures read { IsVersion version → PutsRead (judged_in version text.now) into.old into.new result }
+    ensures version { (IsVersion version → ⊥) → (result ≡ 24) × (into.new ≡ into.old) }
+{
+    if version == 4 {
+        return put_judged(&judged_by::<Rinex4>(text), into);
+    }
+    if version == 3 {
+        return put_judged(&judged_by::<Rinex3>(text), into);
+    }
+    NO_VERSION
+}

@@ -1,0 +1,141 @@
+-- The command line of `navconvert`, as `clap` reads it.
+use Rattle.std.specs.Prelude.{◌≡◌, ◌⊎◌, ◌&&◌, ◌^◌, ◌-◌, ℕ, Bool, true, false, not, pos, List, [], ◌∷◌, ◌++◌, map, codes, bytes_eq, length, Option, None, Some, is_some, if◌then◌else◌, Result, Ok, Err, IfOk}
+use Rattle.std.specs.Option.{option_map_or}
+use Rattle.std.specs.Borrow.{Bor}
+use Rattle.clap.specs.Words.{App, Kinds, FailsBy, Row, Rule, Text, all_of, fault_of, first_of, found_of, kind_of, matches_of, new_rule, rows_of}
+use Rattle.clap.specs.Simple.{new_shape}
+use Rattle.clap.specs.Kinds.{or_else}
+use Rattle.clap.specs.declared.error.Error.{Error}
+use Rattle.clap.specs.declared.error.kind.ErrorKind.TheVariants.{MissingRequiredArgument, OutOfMemory}
+use Rattle.clap.specs.declared.builder.action.ArgAction.TheVariants.{SetTrue}
+use Rattle.clap.specs.declared.builder.value_parser.ValueParser.{ValueParser}
+use Rattle.clap.specs.declared.builder.value_parser.ValueParser.TheVariants as parsers
+use Rattle.front_plan.specs.declared.command.Asked.{Asked}
+use Rattle.front_plan.specs.declared.command.Row.{Row as OptionRow}
+use Rattle.front_plan.specs.declared.command.Takes.{Takes}
+use Rattle.front_plan.specs.declared.command.Takes.TheVariants as takes
+
+-- the values of `--from`
+abbrev pub form_words : List Text
+form_words =
+    codes "auto" ∷ codes "capture" ∷ codes "stream" ∷ codes "rinex" ∷ codes "rinex3" ∷ codes "ubx" ∷ codes "sbf" ∷ []
+
+-- the values of `--to`
+abbrev pub target_words : List Text
+target_words =
+    codes "rinex" ∷ codes "rinex3" ∷ codes "rtcm" ∷ codes "list" ∷ codes "count" ∷ codes "frames" ∷ codes "merged" ∷ codes "cover"
+    ∷ codes "capture" ∷ []
+
+-- the files: one or more words that belong to no option
+abbrev pub files_rule : Rule
+files_rule = record (new_rule (codes "files")) {
+  range = Some (record { start_inclusive = 1; end_inclusive = 2 ^ 64 - 1 });
+  value_names = 1;
+}
+
+-- an option with one value, of this kind where one is named, and its default
+abbrev pub option_rule : Text → Option ℕ → Option ValueParser → List Text → Rule
+option_rule name short parser defaults = record (new_rule name) {
+  long = Some name;
+  short = short;
+  value_names = 1;
+  parser = parser;
+  defaults = defaults;
+}
+
+-- an option without a value
+abbrev pub flag_rule : Text → Option ℕ → Rule
+flag_rule name short = record (new_rule name) { long = Some name; short = short; action = Some SetTrue }
+
+-- all options, with the words of `--from` and of `--to`
+abbrev pub option_rules : Bor (List (Bor Text)) → Bor (List (Bor Text)) → List Rule
+option_rules forms targets =
+    option_rule (codes "from") (Some 102) (Some (parsers.Names forms)) (codes "auto" ∷ [])
+    ∷ option_rule (codes "to") (Some 116) (Some (parsers.Names targets)) (codes "rinex" ∷ [])
+    ∷ option_rule (codes "output") (Some 111) None []
+    ∷ option_rule (codes "week") None (Some (parsers.Signed (pos 1024) (pos 8191))) []
+    ∷ option_rule (codes "leap") None (Some (parsers.Signed (pos 0) (pos 99))) (codes "18" ∷ [])
+    ∷ option_rule (codes "date") None None []
+    ∷ option_rule (codes "long-name") None None []
+    ∷ option_rule (codes "report") None None []
+    ∷ flag_rule (codes "overwrite") None
+    ∷ flag_rule (codes "quiet") (Some 113)
+    ∷ flag_rule (codes "dry-run") (Some 110)
+    ∷ flag_rule (codes "list-forms") None
+    ∷ []
+
+-- the command with these options, whose words do not start with the name of a program
+abbrev pub command_with : List Rule → App
+command_with rules = record {
+  top = record (new_shape (codes "navconvert")) { rules = files_rule ∷ rules; no_binary_name = true; has_version = true };
+  subs = [];
+}
+
+-- the flag of this name is given
+abbrev pub is_set : Text → List Row → Bool
+is_set name rows = option_map_or (λ text. bytes_eq text (codes "true")) (first_of name rows) false
+
+-- the value of an option, and whether a flag is given, in what was found
+abbrev pub value_in : Asked → Text → Option Text
+value_in asked name = first_of name (rows_of (found_of asked.matches))
+
+abbrev pub has_flag : Asked → Text → Bool
+has_flag asked name = is_set name (rows_of (found_of asked.matches))
+
+-- no file is named, and the forms are not listed
+abbrev pub lacks_files : List Row → Bool
+lacks_files rows = not (is_some (all_of (codes "files") rows)) && not (is_set (codes "list-forms") rows)
+
+-- the kinds of the first mistake in the words
+abbrev pub mistakes_in : App → List Text → Kinds
+mistakes_in command words =
+    or_else (fault_of command words) (if lacks_files (matches_of command words) then MissingRequiredArgument ∷ [] else [])
+
+-- What is read of words: their values by the options, where they have no mistake, and else the first mistake, or want of memory.
+pub record ReadsWords (words : List Text) (result : Result Asked Error) : Type 0 where
+  pub forms : Bor (List (Bor Text))
+  pub targets : Bor (List (Bor Text))
+  pub are_forms : map (λ w. w.now) forms.now ≡ form_words
+  pub are_targets : map (λ w. w.now) targets.now ≡ target_words
+  pub fails : FailsBy (mistakes_in (command_with (option_rules forms targets)) words) result
+  pub matches : IfOk result (λ asked.
+      rows_of (found_of asked.matches) ≡ matches_of (command_with (option_rules forms targets)) words)
+
+-- ---- rows of the table of options, which only private functions cite
+
+-- the rule with what a row has
+abbrev pub with_short : Option ℕ → Rule → Rule
+with_short None rule = rule
+with_short (Some short) rule = record rule { short = Some short }
+
+abbrev pub with_value : Takes → Rule → Rule
+with_value takes.Nothing rule = record rule { action = Some SetTrue }
+with_value takes.Text rule = record rule { value_names = 1 }
+with_value (takes.Word words) rule = record rule { value_names = 1; parser = Some (parsers.Names words) }
+with_value (takes.Number least most) rule = record rule { value_names = 1; parser = Some (parsers.Signed least most) }
+
+abbrev pub with_default : Option (Bor Text) → Rule → Rule
+with_default None rule = rule
+with_default (Some text) rule = record rule { defaults = text.now ∷ [] }
+
+-- the rule of a row
+abbrev pub row_rule : OptionRow → Rule
+row_rule row =
+    with_default row.default (with_value row.takes (with_short row.short (record (new_rule row.name.now) { long = Some row.name.now })))
+
+-- the command with these options more
+abbrev pub with_rules : App → List Rule → App
+with_rules command rules = record command { top = record command.top { rules = command.top.rules ++ rules } }
+
+-- the command has all options
+abbrev pub IsCommand : App → Type 0
+IsCommand command =
+    (forms : Bor (List (Bor Text))) × (targets : Bor (List (Bor Text)))
+    × (map (λ (w : Bor Text). w.now) forms.now ≡ form_words) × (map (λ (w : Bor Text). w.now) targets.now ≡ target_words)
+    × (command ≡ command_with (option_rules forms targets))
+
+-- what was found has a file, or needs none; or there is an error that it has none, or of memory
+abbrev pub Checked : Asked → Result Asked Error → Type 0
+Checked asked (Ok given) = (given ≡ asked) × (lacks_files (rows_of (found_of asked.matches)) ≡ false)
+Checked asked (Err error) =
+    (kind_of error ≡ OutOfMemory) ⊎ ((lacks_files (rows_of (found_of asked.matches)) ≡ true) × (kind_of error ≡ MissingRequiredArgument))

@@ -1,0 +1,46 @@
+-- The part of a log's capture that is left, and why a read of it fails.
+use Rattle.std.specs.Prelude.{◌≡◌, ◌≤◌, ℕ, ◌+◌, ◌-◌, ◌*◌, ◌^◌, nat_lt, Bool, false, if◌then◌else◌}
+use Rattle.std.specs.Prelude.{List, ◌++◌, length, Option, Some, None, Result, OnOk, OnErr, ◌⊎◌, ⊤}
+use Rattle.nav_io.specs.Causes.{Rose}
+use Rattle.receiver_frames.specs.Messages.{messages}
+use Rattle.receiver_frames.specs.Headings.{Heading, format_of}
+use Rattle.receiver_frames.specs.State.{DeframerState}
+use Rattle.receiver_messages.specs.declared.said.Said.{Said}
+use Rattle.receiver_log.specs.declared.state.LogState.{LogState}
+use Rattle.receiver_log.specs.Capture.{capture_of, lines_from}
+use Rattle.receiver_log.specs.LogRuns.{too_many}
+
+-- the capture of a log's bytes, where they are known
+abbrev pub capture_left : Heading → (List ℕ → Said) → Option (List ℕ) → Option (List ℕ)
+capture_left heading said None = None
+capture_left heading said (Some bytes) = Some (capture_of heading said bytes)
+
+-- what is left of the capture in the middle of a log: lines that wait, then those of the messages in the bytes held, in the
+-- piece read and in what follows; after the end only in the bytes held
+abbrev pub left_of : Heading → (List ℕ → Said) → LogState → List ℕ → DeframerState → List ℕ
+    → Option (List ℕ) → Option (List ℕ)
+left_of heading said s waiting held piece None = None
+left_of heading said s waiting held piece (Some following) =
+    Some (waiting ++ lines_from said s (messages (format_of heading)
+    (if held.finished then held.rest else held.rest ++ (piece ++ following))))
+
+-- the log's bytes are known, and with those read before are fewer than too_many
+abbrev pub is_short : ℕ → Option (List ℕ) → Bool
+is_short taken None = false
+is_short taken (Some bytes) = nat_lt (taken + length bytes) too_many
+
+-- A bound on the steps to come: each step reads bytes, feeds bytes that wait, finds the end or gives lines.
+abbrev pub steps_left : ℕ → ℕ → Bool → Bool → ℕ
+steps_left taken waiting finished has_lines =
+    2 * (2 ^ 64 - taken) + waiting + (if finished then 0 else 1) + (if has_lines then 0 else 1)
+
+-- The length of the log, where known, has not changed: bytes read plus bytes left.
+abbrev pub KeepsLength : ℕ → Option (List ℕ) → ℕ → Option (List ℕ) → Type 0
+KeepsLength taken None taken_new left_new = ⊤
+KeepsLength taken (Some xs) taken_new None = ⊥
+KeepsLength taken (Some xs) taken_new (Some ys) = taken_new + length ys ≡ taken + length xs
+
+-- A read that succeeds leaves the log's count of faults; one that fails has raised it, or too many bytes were read.
+pub record HasLogCause {T E : Type 0} (before now taken : ℕ) (result : Result T E) : Type 0 where
+  pub stays : OnOk result (now ≡ before)
+  pub failed : OnErr result (Rose before now ⊎ (too_many ≤ taken))
