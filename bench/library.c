@@ -120,6 +120,56 @@ static size_t in_pieces(size_t piece, int with) {
 static size_t deframes(size_t piece) { return in_pieces(piece, 0); }
 static size_t deframes_and_reads(size_t piece) { return in_pieces(piece, 1); }
 
+/* Subframes 1 to 3, a page with word 1 and a record, of numbers that are zero. */
+static nb_subframe_bits subframes[3];
+static nb_page_bits page;
+static uint8_t record[1024];
+static size_t record_size;
+
+static int make_parts(void) {
+    nb_subframe value;
+    nb_word word;
+    uint32_t i;
+    memset(&word, 0, sizeof word);
+    for (i = 0; i < 3; i++) {
+        memset(&value, 0, sizeof value);
+        value.number = i + 1;
+        if (nb_subframe_write(&value, 1, &subframes[i]) != NB_OK) return 0;
+    }
+    word.number = 1;
+    return nb_page_write(&word, 11, &page) == NB_OK &&
+           nb_record_write(&items[0], 4, record, sizeof record, &record_size) == NB_OK && record_size <= sizeof record;
+}
+
+static size_t reads_subframes(size_t count) {
+    nb_subframe value;
+    size_t i, k, found = 0;
+    for (i = 0; i < count; i++)
+        for (k = 0; k < 3; k++) found += nb_subframe_read(&subframes[k], 7, &value);
+    return found;
+}
+
+static size_t reads_pages(size_t count) {
+    nb_word word;
+    size_t i, found = 0;
+    for (i = 0; i < count; i++) found += nb_page_read(&page, 11, &word);
+    return found;
+}
+
+static size_t reads_records(size_t count) {
+    nb_item item;
+    size_t i, found = 0;
+    for (i = 0; i < count; i++) found += nb_record_read(record, record_size, 4, &item);
+    return found;
+}
+
+static size_t writes_records(size_t word) {
+    uint8_t text[1024];
+    size_t i, used, count = word;
+    for (i = 0; i < n_frames; i++) count += nb_record_write(&items[i], 4, text, sizeof text, &used) + used;
+    return count;
+}
+
 static const char *const jobs[][4] = {
     {"--from=stream", "--to=frames", "", ""},
     {"--from=stream", "--to=rinex", "--date=20240101 000000 UTC", "--leap=18"},
@@ -197,7 +247,7 @@ int main(int argc, char **argv) {
     output.bytes = (uint8_t *)calloc(output.n, 1);
     report.bytes = (uint8_t *)calloc(report.n, 1);
     find_frames();
-    if (output.bytes == NULL || report.bytes == NULL || n_frames == 0) return 6;
+    if (output.bytes == NULL || report.bytes == NULL || n_frames == 0 || !make_parts()) return 6;
     printf("%-52s %10s %10s\n", "call", "ns a call", "MB/s");
     row("nb_is_frame", are_frames, 0, n_frames, stream.n);
     row("nb_message_read", reads, 0, n_frames, stream.n);
@@ -206,6 +256,10 @@ int main(int argc, char **argv) {
     row("deframer, 64 bytes a call", deframes, 64, (stream.n + 63) / 64, stream.n);
     row("deframer, 4,096 bytes a call", deframes, 4096, (stream.n + 4095) / 4096, stream.n);
     row("deframer and nb_message_read, 4,096 bytes a call", deframes_and_reads, 4096, n_frames, stream.n);
+    row("nb_subframe_read, three subframes", reads_subframes, 300000, 300000, 300000 * sizeof subframes);
+    row("nb_page_read", reads_pages, 300000, 300000, 300000 * sizeof page);
+    row("nb_record_read", reads_records, 100000, 100000, 100000 * record_size);
+    row("nb_record_write", writes_records, 0, n_frames, n_frames * record_size);
     row("nb_convert, stream to frames", converts, 0, 1, stream.n);
     row("nb_convert, stream to rinex", converts, 1, 1, stream.n);
     row("nb_convert, capture to rinex", converts, 2, 1, capture.n);
