@@ -4,7 +4,6 @@ pub mod Equations
 pub mod ParityWords
 pub mod Choice
 pub mod ParityFunctions
-pub mod ParitySurface
 pub mod Places
 pub mod Faults
 pub mod Agree

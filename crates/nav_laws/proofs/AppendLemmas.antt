@@ -1,6 +1,6 @@
 -- What is in two lists, concatenated.
 use Rattle.std.proofs.Common.{◌⊎◌, inl, inr, List, [], ◌∷◌, ◌++◌}
-use Rattle.periods.proofs.EndSurface.{In}
+use Rattle.periods.proofs.Surface.{In}
 
 pub In-append_left : {X : Type 0} (xs ys : List X) (x : X) → In xs x → In (xs ++ ys) x
 In-append_left [] ys x h = absurd h

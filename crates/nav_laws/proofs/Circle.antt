@@ -3,7 +3,7 @@ use Rattle.std.proofs.Common.{◌≡◌, ℕ, ◌+◌, ◌<◌, ◌≤◌, ◌�
 use Rattle.nav_eph.specs.Values.{IsPartValue}
 use Rattle.nav_eph.specs.declared.part.Part.{Part}
 use Rattle.nav_eph.specs.declared.items.NavItem.{NavItem}
-use Rattle.periods.proofs.EndSurface.{In, In-from_contains, contains_from_In, covered}
+use Rattle.periods.proofs.Surface.{In, In-from_contains, contains_from_In, covered}
 use Rattle.nav_laws.proofs.AppendLemmas.{In-append_left, In-append_right, In-append_cases}
 use Rattle.periods.specs.declared.key.Key.{Key}
 use Rattle.periods.specs.declared.key.Place.{Place}

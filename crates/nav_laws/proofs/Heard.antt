@@ -20,7 +20,7 @@ use Rattle.inav_word.specs.Reading.{reading_of}
 use Rattle.capture_lines.specs.Late.{IsAccepted, stamp_of}
 use Rattle.capture_lines.specs.declared.item.LineItem.{LineItem}
 use Rattle.capture_lines.specs.declared.item.LineItem.TheVariants.{Lnav, Half, Frame}
-use Rattle.periods.proofs.EndSurface.{In, In-from_contains, contains_from_In}
+use Rattle.periods.proofs.Surface.{In, In-from_contains, contains_from_In}
 use Rattle.nav_laws.proofs.AppendLemmas.{In-append_right}
 use Rattle.capture_log.specs.Events.{half_of, is_alert, of_subframe, of_word}
 use Rattle.capture_log.specs.Heard.{IsHalfHeard, IsPartHeard}

@@ -3,8 +3,8 @@ use Rattle.std.proofs.Common.{◌≡◌, ℕ, ◌+◌, ◌<◌, ◌≤◌, inl, 
 use Rattle.std.proofs.lemmas.Bool.{and_parts, and_from, both_ways}
 use Rattle.std.proofs.lemmas.List.Elements.{All-contains, All-push, All-weaker}
 use Rattle.nav_eph.specs.declared.part.Part.{Part}
-use Rattle.periods.proofs.EndSurface.{In, In-from_contains, contains_from_In}
-use Rattle.periods.proofs.EndSurface.{Same}
+use Rattle.periods.proofs.Surface.{In, In-from_contains, contains_from_In}
+use Rattle.periods.proofs.Surface.{Same}
 use Rattle.periods.specs.declared.key.Place.{Place}
 use Rattle.periods.specs.Values.{IsBest, IsFirstBy}
 use Rattle.nav_eph.specs.Values.{IsPartValue}

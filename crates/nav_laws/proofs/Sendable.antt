@@ -19,7 +19,7 @@ use Rattle.lnav_subframe.specs.Bytes.{subframe_bytes}
 use Rattle.inav_word.specs.Writing.{word1_bytes, word2_bytes, word3_bytes, word4_bytes, word5_bytes}
 use Rattle.inav_page.specs.Pages.{bytes_of_half, even_of, odd_of}
 use Rattle.nav_eph.specs.declared.signal.Signal.TheVariants.{E1b}
-use Rattle.periods.proofs.EndSurface.{In}
+use Rattle.periods.proofs.Surface.{In}
 use Rattle.nav_laws.proofs.AppendLemmas.{In-append_cases}
 use Rattle.page_send.specs.Slots.{count_of, galileo_second, galileo_week_number, gps_week_number, half_item, items_at, no_ionosphere, slot_stamp, subframe_item}
 use Rattle.page_send.specs.Sendable.{first_fault, has_other_issue, is_far, is_full, is_sent, no_fault, sendable, slots_items}

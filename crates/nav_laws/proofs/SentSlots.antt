@@ -34,7 +34,7 @@ use Rattle.capture_lines.specs.Late.{stamp_of}
 use Rattle.capture_lines.specs.Spellings.{IsEnded, IsHalfLine, IsLnavLine}
 use Rattle.capture_lines.specs.Texts.{half_text, lnav_text}
 use Rattle.capture_lines.specs.declared.item.LineItem.{LineItem}
-use Rattle.periods.proofs.EndSurface.{In, In-from_contains, contains_from_In}
+use Rattle.periods.proofs.Surface.{In, In-from_contains, contains_from_In}
 use Rattle.nav_laws.proofs.AppendLemmas.{In-append_cases, In-append_left, In-append_right}
 use Rattle.capture_log.specs.Events.{of_subframe, of_word}
 use Rattle.capture_log.specs.Heard.{IsPartHeard}

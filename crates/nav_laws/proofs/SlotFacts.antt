@@ -19,7 +19,7 @@ use Rattle.nav_eph.specs.declared.items.GpsEph.{GpsEph}
 use Rattle.nav_eph.specs.declared.items.GalEph.{GalEph}
 use Rattle.nav_eph.specs.declared.items.NavItem.{NavItem}
 use Rattle.nav_eph.specs.declared.items.NavItem.TheVariants.{Gps as GpsItem, Gal as GalItem, Ion as IonItem}
-use Rattle.periods.proofs.EndSurface.{In, In-from_contains, contains_from_In}
+use Rattle.periods.proofs.Surface.{In, In-from_contains, contains_from_In}
 use Rattle.periods.specs.declared.key.Key.{Key}
 use Rattle.periods.specs.declared.key.Key.TheVariants.{Gps, Gal, GalIon}
 use Rattle.periods.specs.declared.key.Place.{Place}

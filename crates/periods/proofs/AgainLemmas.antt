@@ -1,6 +1,6 @@
 -- The key's last complete period before an end, and its repetition: the same for equal sets, kept by later parts, and unique.
 use Rattle.std.proofs.Common.{◌≡◌, ℕ, ◌+◌, ◌<◌, inl, inr, sym, subst, ◌∙◌, arith}
-use Rattle.periods.proofs.EndSurface.{Same, same_sym}
+use Rattle.periods.proofs.EndFacts.{Same, same_sym}
 use Rattle.nav_eph.specs.declared.items.NavItem.{NavItem}
 use Rattle.nav_eph.specs.declared.part.Part.{Part}
 use Rattle.periods.specs.declared.key.Key.{Key}

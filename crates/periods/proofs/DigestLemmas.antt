@@ -14,7 +14,7 @@ use Rattle.nav_eph.specs.contracts.galileo.GalWord4PartialEq.TheImpl.{eq-value a
 use Rattle.nav_eph.specs.declared.part.Part.{Part}
 use Rattle.nav_eph.specs.declared.part.Body.{Body}
 use Rattle.nav_eph.specs.declared.part.Body.TheVariants.{GpsClock as OfClock, GpsA as OfOrbitA, GpsB as OfOrbitB, GalW1 as OfWord1, GalW2 as OfWord2, GalW3 as OfWord3, GalW4 as OfWord4, GalHealth as OfHealth, GpsIon as OfGpsIon, GalIon as OfGalIon}
-use Rattle.periods.proofs.EndSurface.{Same}
+use Rattle.periods.proofs.EndFacts.{Same}
 use Rattle.periods.specs.declared.key.Key.{Key}
 use Rattle.periods.specs.declared.key.Key.TheVariants.{Gps, Gal, GpsIon, GalIon}
 use Rattle.periods.specs.declared.key.Transmission.{Transmission}

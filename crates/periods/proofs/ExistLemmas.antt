@@ -4,8 +4,8 @@ use Rattle.std.specs.List.{AllByRecursion}
 use Rattle.std.proofs.lemmas.Bool.{both_ways}
 use Rattle.std.proofs.lemmas.List.Elements.{All-contains, Contains-append_left, Contains-append_cases, Contains-push_cases}
 use Rattle.nav_eph.specs.declared.part.Part.{Part}
-use Rattle.periods.proofs.EndSurface.{In, In-from_contains, contains_from_In}
-use Rattle.periods.proofs.EndSurface.{Same}
+use Rattle.periods.proofs.EndFacts.{In, In-from_contains, contains_from_In}
+use Rattle.periods.proofs.EndFacts.{Same}
 use Rattle.periods.specs.declared.key.Key.{Key}
 use Rattle.periods.specs.declared.key.Place.{Place}
 use Rattle.periods.specs.declared.closed.Closed.{Closed}

@@ -1,7 +1,7 @@
 -- The best value read from a list's elements, and the better of two bests.
 use Rattle.std.proofs.Common.{◌≡◌, ◌⊎◌, inl, inr, Bool, true, false, ◌&&◌, if◌then◌else◌, List, [], ◌∷◌, Option, None, Some, refl, sym, ap, subst, ◌∙◌}
 use Rattle.std.proofs.lemmas.Bool.{both_ways}
-use Rattle.periods.proofs.EndSurface.{In}
+use Rattle.periods.proofs.EndFacts.{In}
 use Rattle.periods.specs.Values.{IsEmpty, IsFirstBy, IsBest}
 use Rattle.periods.specs.Mirrors.{is_better, best_with, best_among, best_join}
 use Rattle.periods.proofs.Orders.{Decides}

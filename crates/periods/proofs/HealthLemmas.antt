@@ -5,8 +5,8 @@ use Rattle.nav_eph.specs.Satellite.{Satellite}
 use Rattle.nav_eph.specs.declared.galileo.GalHealth.{GalHealth}
 use Rattle.nav_eph.specs.declared.tag.SentTag.{SentTag}
 use Rattle.nav_eph.specs.declared.part.Part.{Part}
-use Rattle.periods.proofs.EndSurface.{Same}
-use Rattle.periods.proofs.EndSurface.{In-from_contains, contains_from_In}
+use Rattle.periods.proofs.EndFacts.{Same}
+use Rattle.periods.proofs.EndFacts.{In-from_contains, contains_from_In}
 use Rattle.periods.specs.declared.key.Key.{Key}
 use Rattle.periods.specs.declared.key.Key.TheVariants.{Gps, Gal, GpsIon, GalIon}
 use Rattle.periods.specs.Values.{IsBest, IsEarlier, IsLater}

@@ -4,7 +4,7 @@ use Rattle.std.proofs.lemmas.Bool.{and_parts, and_from, both_ways, cases_lt}
 use Rattle.nav_eph.specs.Items.{IsAlike}
 use Rattle.nav_eph.specs.declared.items.NavItem.{NavItem}
 use Rattle.nav_eph.specs.declared.part.Part.{Part}
-use Rattle.periods.proofs.EndSurface.{In-from_contains, contains_from_In}
+use Rattle.periods.proofs.EndFacts.{In-from_contains, contains_from_In}
 use Rattle.periods.specs.declared.key.Key.{Key}
 use Rattle.periods.specs.declared.key.Key.TheVariants.{Gps, Gal, GpsIon, GalIon}
 use Rattle.periods.specs.declared.key.Place.{Place}

@@ -3,7 +3,7 @@ mod EndLemmas
 mod JoinLemmas
 mod Lists
 mod EndsApart
-pub mod EndSurface
+pub mod EndFacts
 mod Orders
 mod Folds
 mod KeyLemmas

@@ -5,8 +5,8 @@ use Rattle.std.proofs.lemmas.Bool.{both_ways}
 use Rattle.std.proofs.lemmas.List.{append_assoc}
 use Rattle.nav_eph.specs.declared.items.NavItem.{NavItem}
 use Rattle.nav_eph.specs.declared.part.Part.{Part}
-use Rattle.periods.proofs.EndSurface.{In, In-from_contains, contains_from_In}
-use Rattle.periods.proofs.EndSurface.{Same}
+use Rattle.periods.proofs.EndFacts.{In, In-from_contains, contains_from_In}
+use Rattle.periods.proofs.EndFacts.{Same}
 use Rattle.periods.specs.declared.key.Place.{Place}
 use Rattle.periods.specs.declared.closed.Closed.{Closed}
 use Rattle.nav_eph.specs.Values.{IsPartValue}
@@ -16,7 +16,7 @@ use Rattle.periods.specs.PeriodLists.{IsAscending, ArePeriods, AreClosed, closed
 use Rattle.periods.proofs.Orders.{irreflexive, transitive}
 use Rattle.periods.proofs.PeriodLemmas.{IsPeriod-same}
 use Rattle.periods.proofs.VerdictLemmas.{IsClosed-same, IsClosed-one}
-use Rattle.periods.proofs.EndSurface.{same_sym}
+use Rattle.periods.proofs.EndFacts.{same_sym}
 
 pub before_irr : (a : Place) → IsBefore a a → ⊥
 before_irr a h = irreflexive (place_numbers a) h

@@ -1,7 +1,7 @@
 -- Periods of sets of parts, and their findings: the same for equal sets, kept by later parts where they are closed.
 use Rattle.std.proofs.Common.{◌≡◌, ℕ, ◌+◌, ◌<◌, ◌≤◌, ◌⊎◌, inl, inr, subst, arith}
 use Rattle.periods.specs.Ends.{IsLaterSet}
-use Rattle.periods.proofs.EndSurface.{Same, same_sym, IsEnd-same, IsEndOf-same, IsEnd-later, IsEnd-was, IsEndOf-later, IsEndOf-was}
+use Rattle.periods.proofs.EndFacts.{Same, same_sym, IsEnd-same, IsEndOf-same, IsEnd-later, IsEnd-was, IsEndOf-later, IsEndOf-was}
 use Rattle.nav_eph.specs.declared.galileo.GalHealth.{GalHealth}
 use Rattle.nav_eph.specs.declared.tag.SentTag.{SentTag}
 use Rattle.nav_eph.specs.declared.part.Part.{Part}

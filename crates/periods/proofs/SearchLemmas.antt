@@ -4,8 +4,8 @@ use Rattle.std.specs.List.{list_all}
 use Rattle.std.proofs.lemmas.Bool.{and_parts, and_from, or_cases, or_left, or_right, both_ways, not-true, not_from_false, cases_lt}
 use Rattle.nav_eph.specs.declared.part.Part.{Part}
 use Rattle.periods.specs.Ends.{IsEnd, IsEndOf}
-use Rattle.periods.proofs.EndSurface.{In, In-from_contains, contains_from_In}
-use Rattle.periods.proofs.EndSurface.{Same, own_end}
+use Rattle.periods.proofs.EndFacts.{In, In-from_contains, contains_from_In}
+use Rattle.periods.proofs.EndFacts.{Same, own_end}
 use Rattle.periods.specs.declared.key.Key.{Key}
 use Rattle.periods.specs.declared.key.Place.{Place}
 use Rattle.periods.specs.declared.digest.Digest.{Digest}

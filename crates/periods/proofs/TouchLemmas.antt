@@ -4,9 +4,9 @@ use Rattle.std.proofs.lemmas.List.Elements.{Contains-append_left, Contains-push,
 use Rattle.nav_eph.specs.declared.part.Part.{Part}
 use Rattle.periods.specs.Ends.{IsEndOf}
 use Rattle.periods.specs.Joining.{IsWith, IsTouchedEnd, IsJoinedEnd}
-use Rattle.periods.proofs.EndSurface.{In-from_contains, contains_from_In}
-use Rattle.periods.proofs.EndSurface.{Same, IsKnown, IsKnown-same, ReadOf, known_list, IsEnd-same, IsEndOf-same, same_sym}
-use Rattle.periods.proofs.EndSurface.{joined, joined_touched, other_stays, at_most_two}
+use Rattle.periods.proofs.EndFacts.{In-from_contains, contains_from_In}
+use Rattle.periods.proofs.EndFacts.{Same, IsKnown, IsKnown-same, ReadOf, known_list, IsEnd-same, IsEndOf-same, same_sym}
+use Rattle.periods.proofs.EndFacts.{joined, joined_touched, other_stays, at_most_two}
 use Rattle.periods.specs.declared.key.Key.{Key}
 use Rattle.periods.specs.declared.key.Place.{Place}
 use Rattle.periods.specs.Parts.{key_of}

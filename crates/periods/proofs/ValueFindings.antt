@@ -17,7 +17,7 @@ use Rattle.nav_eph.specs.declared.items.NavItem.{NavItem}
 use Rattle.nav_eph.specs.declared.items.NavItem.TheVariants.{Gps as GpsItem, Gal as GalItem, Ion as IonItem}
 use Rattle.nav_eph.specs.declared.part.Part.{Part}
 use Rattle.nav_eph.proofs.Surface.{one_side, one_tag, one_health, one_transmission}
-use Rattle.periods.proofs.EndSurface.{Same, same_sym}
+use Rattle.periods.proofs.EndFacts.{Same, same_sym}
 use Rattle.periods.specs.declared.key.Key.{Key}
 use Rattle.periods.specs.declared.key.Key.TheVariants.{Gps, Gal, GpsIon, GalIon}
 use Rattle.periods.specs.declared.key.Transmission.{Transmission}

@@ -2,7 +2,7 @@
 use Rattle.std.proofs.Common.{◌⊎◌, inl, inr, List, [], ◌∷◌, sym, ◌∙◌}
 use Rattle.std.specs.List.{AllByRecursion}
 use Rattle.nav_eph.specs.declared.part.Part.{Part}
-use Rattle.periods.proofs.EndSurface.{Same}
+use Rattle.periods.proofs.EndFacts.{Same}
 use Rattle.periods.specs.Values.{IsEmpty, IsOnly, Differ, IsFirstBy, IsFirstOrElse}
 use Rattle.periods.specs.Parts.{Kind, Value, HasValue, AnyOf}
 use Rattle.periods.proofs.Folds.{Grows}

@@ -5,7 +5,7 @@ use Rattle.std.proofs.lemmas.Bool.{and_parts, both_ways}
 use Rattle.std.specs.Int.Bits.{bit_xor, xor_assoc, xor_self, xor_zero_r}
 use Rattle.lnav_subframe.specs.Parity.{IsGood}
 use Rattle.lnav_subframe.specs.ParityFunctions.{is_good}
-use Rattle.lnav_subframe.proofs.ParitySurface.{good-decides}
+use Rattle.lnav_subframe.proofs.Surface.{good-decides}
 use Rattle.receiver_messages.specs.Words.{reading_behind, reading, are_good_behind, are_good}
 use Rattle.receiver_messages.specs.Words.{data_mask, whole_mask, read_words}
 use Rattle.receiver_messages.specs.Readings.{IsMask, logged_behind, logged}

@@ -6,7 +6,7 @@ use Rattle.std.proofs.lemmas.List.Elements.{All-push}
 use Rattle.nav_eph.specs.Values.{IsPartValue}
 use Rattle.nav_eph.specs.declared.items.NavItem.{NavItem}
 use Rattle.nav_eph.specs.declared.part.Part.{Part}
-use Rattle.periods.proofs.EndSurface.{Same, IsEnd-same, IsEndOf-same}
+use Rattle.periods.proofs.Surface.{Same, IsEnd-same, IsEndOf-same}
 use Rattle.periods.specs.declared.key.Key.{Key}
 use Rattle.periods.specs.declared.key.Place.{Place}
 use Rattle.periods.specs.Parts.{key_of}

@@ -3,7 +3,7 @@ use Rattle.std.proofs.Common.{◌≡◌, ℕ, ◌+◌, ◌<◌, ◌≤◌, inl, 
 use Rattle.std.proofs.lemmas.Bool.{cases_lt}
 use Rattle.nav_eph.specs.declared.part.Part.{Part}
 use Rattle.periods.specs.Ends.{IsEndOf}
-use Rattle.periods.proofs.EndSurface.{Same, IsKnown, own_end, bridge}
+use Rattle.periods.proofs.Surface.{Same, IsKnown, own_end, bridge}
 use Rattle.periods.specs.declared.key.Key.{Key}
 use Rattle.periods.specs.declared.key.Place.{Place}
 use Rattle.periods.specs.Digests.{IsDigest}

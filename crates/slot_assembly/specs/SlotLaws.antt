@@ -5,7 +5,7 @@ use Rattle.std.proofs.lemmas.List.Elements.{All-contains, Contains-get_or}
 use Rattle.nav_eph.specs.declared.items.NavItem.{NavItem}
 use Rattle.nav_eph.specs.declared.part.Part.{Part}
 use Rattle.nav_eph.specs.Values.{IsPartValue}
-use Rattle.periods.proofs.EndSurface.{Same, same_sym}
+use Rattle.periods.proofs.Surface.{Same, same_sym}
 use Rattle.periods.specs.declared.key.Key.{Key}
 use Rattle.periods.specs.declared.key.Place.{Place}
 use Rattle.periods.proofs.Surface.{IsPeriod-same, members_same, IsDigest-same, IsComplete-same, HasValue-to}

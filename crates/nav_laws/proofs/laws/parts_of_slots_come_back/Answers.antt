@@ -1,7 +1,7 @@
 use Rattle.std.proofs.Common.{◌≡◌, ℕ, List, All}
 use Rattle.nav_eph.specs.Ranges.{IsItem}
 use Rattle.nav_eph.specs.declared.items.NavItem.{NavItem}
-use Rattle.periods.proofs.EndSurface.{In-from_contains}
+use Rattle.periods.proofs.Surface.{In-from_contains}
 use Rattle.periods.specs.PeriodLists.{items_in}
 use Rattle.periods.specs.PeriodsOf.{periods_of}
 use Rattle.page_send.specs.Sendable.{sendable}

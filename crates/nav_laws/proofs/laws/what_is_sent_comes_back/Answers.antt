@@ -6,7 +6,7 @@ use Rattle.nav_eph.specs.declared.part.Part.{Part}
 use Rattle.nav_eph.specs.declared.items.NavItem.{NavItem}
 use Rattle.capture_lines.specs.Late.{IsAccepted, stamp_of}
 use Rattle.capture_lines.specs.declared.item.LineItem.{LineItem}
-use Rattle.periods.proofs.EndSurface.{In-from_contains, contains_from_In}
+use Rattle.periods.proofs.Surface.{In-from_contains, contains_from_In}
 use Rattle.periods.specs.PeriodLists.{items_in}
 use Rattle.periods.specs.PeriodsOf.{periods_of}
 use Rattle.capture_log.specs.Heard.{IsPartHeard, NoneLate, SameItems}

@@ -1,7 +1,7 @@
 use Rattle.std.proofs.Common.{Contains, List, [], ◌∷◌, ◌++◌, inl, inr, sym, ◌≡◌}
 use Rattle.std.proofs.lemmas.List.Elements.{Contains-append_left, Contains-append_right, Contains-append_cases}
 use Rattle.nav_eph.specs.declared.part.Part.{Part}
-use Rattle.periods.proofs.EndSurface.{In-from_contains, contains_from_In}
+use Rattle.periods.proofs.EndFacts.{In-from_contains, contains_from_In}
 use Rattle.periods.specs.Periods.{IsMember}
 use Rattle.periods.specs.Verdicts.{IsUpToEnd, IsBehindEnd}
 use Rattle.periods.specs.DigestsOf.{health_at}

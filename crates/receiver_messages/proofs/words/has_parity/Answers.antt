@@ -2,7 +2,7 @@ use Rattle.std.proofs.Common.{◌%◌, subst, sym, ◌∙◌}
 use Rattle.std.proofs.lemmas.Bool.Decides.{same_from_decides}
 use Rattle.lnav_subframe.specs.Parity.{IsGood}
 use Rattle.lnav_subframe.specs.ParityFunctions.{is_good}
-use Rattle.lnav_subframe.proofs.ParitySurface.{good-decides}
+use Rattle.lnav_subframe.proofs.Surface.{good-decides}
 use Rattle.receiver_messages.proofs.words.has_parity.Goals as goal
 
 pub returns : goal.returns
