@@ -1,6 +1,6 @@
 //! Reading a line.
 
-ghost use Rattle.std.specs.Prelude.{◌≡◌, ◌≤◌, ◌==◌, length, nat_eq, slice_index};
+ghost use Rattle.std.specs.Prelude.{◌≡◌, ◌≤◌, ◌==◌, ◌&&◌, length, nat_eq, slice_index};
 ghost use Rattle.std.specs.List.{list_all, starts_with};
 ghost use Rattle.capture_lines.specs.Reading.{form_in, frame_in, half_in, is_passed, item_of};
 ghost use Rattle.capture_lines.specs.Reading.{lnav_in, satellite_in, signal_in};
@@ -77,11 +77,30 @@ fn begins_comment(line: &[u8]) -> bool
     !line.is_empty() && line[0] == b'#'
 }
 
-// Whether the text begins with these bytes.
+// Whether the first four bytes are the other four.
+fn are_four(a: u8, b: u8, c: u8, d: u8, e: u8, f: u8, g: u8, h: u8) -> bool
+    ensures { result ≡ (nat_eq a e && (nat_eq b f && (nat_eq c g && nat_eq d h))) }
+{
+    if a != e {
+        return false;
+    }
+    if b != f {
+        return false;
+    }
+    if c != g {
+        return false;
+    }
+    d == h
+}
+
+// Whether the text begins with these bytes; four are compared one by one, without a call.
 fn begins(text: &[u8], prefix: &[u8]) -> bool
     ensures { result ≡ starts_with nat_eq text.now prefix.now }
 {
-    text.starts_with(prefix)
+    match (text, prefix) {
+        ([a, b, c, d, ..], [e, f, g, h]) => are_four(*a, *b, *c, *d, *e, *f, *g, *h),
+        _ => text.starts_with(prefix),
+    }
 }
 
 // Reads what follows the stamp.

@@ -6,7 +6,7 @@ use Rattle.std.specs.Int.{from_be_bytes}
 use Rattle.nav_bits.specs.Bits.{number_at}
 use Rattle.nav_bits.specs.Laws.{number_at-append, number_at-byte, number_at-lt}
 
-byte_more : (bytes : List ℕ) (first k : ℕ) → slice_index bytes (first + k) < 256
+pub byte_more : (bytes : List ℕ) (first k : ℕ) → slice_index bytes (first + k) < 256
     → number_at bytes (8 * first) (8 * k + 8) ≡ number_at bytes (8 * first) (8 * k) * 256 + slice_index bytes (first + k)
 byte_more bytes first k h =
     let place : 8 * first + 8 * k ≡ 8 * (first + k) = omega arith in

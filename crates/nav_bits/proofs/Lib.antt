@@ -1,5 +1,6 @@
 pub mod BitPatterns
 pub mod EightBytes
+pub mod EightBytesWritten
 pub mod BytePart
 pub mod Halves
 pub mod PutFields

@@ -78,8 +78,8 @@ fn put_part(bytes: &mut [u8], byte: usize, skip: usize, width: usize, value: u8)
     bytes[byte] = (bytes[byte] & !mask) | (value << shift);
 }
 
-/// Writes a value of `width` bits from bit offset `at`, a byte at a time; all other bits stay.
-pub(crate) fn put_number(bytes: &mut [u8], at: usize, width: usize, value: u64)
+// Writes a value of `width` bits from bit offset `at`, a byte at a time; all other bits stay.
+fn put_by_bytes(bytes: &mut [u8], at: usize, width: usize, value: u64)
     requires most { width ≤ 64 }
     requires inside { at + width ≤ 8 * length bytes.old }
     requires fits { value < 2 ^ width }
@@ -93,4 +93,48 @@ pub(crate) fn put_number(bytes: &mut [u8], at: usize, width: usize, value: u64)
         put_part(bytes, at / 8 + place / 8, place % 8, step, part);
         done += step;
     }
+}
+
+// Writes eight bytes from byte offset `first`, most significant byte first.
+fn put_eight(bytes: &mut [u8], first: usize, word: u64)
+    requires inside { first + 8 ≤ length bytes.old }
+    ensures { Puts bytes.old bytes.new (8 * first) 64 word }
+{
+    bytes[first..first + 8].copy_from_slice(&word.to_be_bytes());
+}
+
+// Writes a value of `width` bits into eight bytes, after their first `skip` bits.
+fn put_in_eight(bytes: &mut [u8], first: usize, skip: usize, width: usize, value: u64)
+    requires some { 1 ≤ width }
+    requires within { skip + width ≤ 64 }
+    requires inside { first + 8 ≤ length bytes.old }
+    requires fits { value < 2 ^ width }
+    ensures { Puts bytes.old bytes.new (8 * first + skip) width value }
+{
+    let shift = 64 - skip - width;
+    let mask = (u64::MAX >> (64 - width)) << shift;
+    let word = (eight_bytes(bytes, first) & !mask) | (value << shift);
+    put_eight(bytes, first, word);
+}
+
+/// Writes a value of `width` bits from bit offset `at`, by one shift and mask where eight bytes hold
+/// them; all other bits stay.
+pub(crate) fn put_number(bytes: &mut [u8], at: usize, width: usize, value: u64)
+    requires most { width ≤ 64 }
+    requires inside { at + width ≤ 8 * length bytes.old }
+    requires fits { value < 2 ^ width }
+    ensures { Puts bytes.old bytes.new at width value }
+{
+    let length = bytes.len();
+    if width == 0 || length < 8 {
+        put_by_bytes(bytes, at, width, value);
+        return;
+    }
+    let first = (at / 8).min(length - 8);
+    let skip = at - 8 * first;
+    if skip + width > 64 {
+        put_by_bytes(bytes, at, width, value);
+        return;
+    }
+    put_in_eight(bytes, first, skip, width, value);
 }

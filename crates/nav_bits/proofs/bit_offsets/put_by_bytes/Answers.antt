@@ -4,7 +4,7 @@ use Rattle.std.proofs.lemmas.Nat.{mod_below, pow_pos}
 use Rattle.nav_bits.specs.Bits.{number_at}
 use Rattle.nav_bits.proofs.BytePart.{byte_low}
 use Rattle.nav_bits.proofs.BitPatterns.{Puts-more, SameOutside-none}
-use Rattle.nav_bits.proofs.bit_offsets.put_number.Goals as goal
+use Rattle.nav_bits.proofs.bit_offsets.put_by_bytes.Goals as goal
 
 pub loop-done-init : goal.loop-done-init
 unfolding number_at

@@ -1,6 +1,6 @@
 use Rattle.std.proofs.Common.{◌-◌, ◌+◌, ◌/◌, ◌^◌, ◌≡◌, ◌≤◌}
 use Rattle.nav_bits.specs.Bits.{number_at, SameOutside}
-use Rattle.nav_bits.proofs.bit_offsets.put_number.Given as goal
+use Rattle.nav_bits.proofs.bit_offsets.put_by_bytes.Given as goal
 
 abbrev pub invariant-loop-done : goal.invariant-loop-done
 invariant-loop-done l = record {
