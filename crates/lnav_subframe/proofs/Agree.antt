@@ -5,7 +5,8 @@ use Rattle.std.proofs.lemmas.Nat.Bits.{bit_at-lt}
 use Rattle.nav_bits.specs.Bits.{bit, number_at, SameInside}
 use Rattle.nav_bits.specs.Laws.{bit-lt, number_at-append, number_at-lt, number_at-same}
 use Rattle.lnav_subframe.specs.Parity.{IsGood, IsSource, IsSolved}
-use Rattle.lnav_subframe.proofs.Surface.{checked_source, one_source}
+use Rattle.lnav_subframe.proofs.ParityWords.{checked_source}
+use Rattle.lnav_subframe.proofs.ParityFunctions.{one_source}
 use Rattle.lnav_subframe.specs.Words.{AreSource, IsWord, last_before, word_of}
 use Rattle.lnav_subframe.specs.Writing.{AreWords}
 

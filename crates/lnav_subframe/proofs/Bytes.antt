@@ -11,7 +11,9 @@ use Rattle.nav_bits.specs.Signed.{IsSigned, signed_of, unsigned_of}
 use Rattle.nav_bits.proofs.Surface.{number_at-of_whole, number_packed, only_packed, signed_of-same, signed_of-unsigned, unsigned_of-lt}
 use Rattle.lnav_subframe.specs.Parity.{IsGood, IsSource, IsSolved}
 use Rattle.lnav_subframe.specs.ParityFunctions.{made_of, solved_of}
-use Rattle.lnav_subframe.proofs.Surface.{made-good, made-source, made-lt, one_solved, one_word, solved-is, solved-lt}
+use Rattle.lnav_subframe.proofs.Equations.{one_word}
+use Rattle.lnav_subframe.proofs.Choice.{one_solved}
+use Rattle.lnav_subframe.proofs.ParityFunctions.{made-good, made-source, made-lt, solved-is, solved-lt}
 use Rattle.lnav_subframe.specs.declared.out.SubframeOut.{SubframeOut}
 use Rattle.lnav_subframe.specs.declared.out.SubframeOut.TheVariants.{Clock, OrbitA, OrbitB, Ion, Other}
 use Rattle.lnav_subframe.specs.Bytes.{HasBits, data_of, data_table, subframe_bytes, word_fields, word_number}

@@ -10,7 +10,7 @@ use Rattle.nav_eph.specs.declared.part.Part.{Part}
 use Rattle.nav_eph.specs.declared.part.Body.{Body}
 use Rattle.lnav_subframe.specs.ParityFunctions.{is_good, source_of}
 use Rattle.lnav_subframe.specs.Parity.{IsGood, IsSource}
-use Rattle.lnav_subframe.proofs.Surface.{good-decides, source-is}
+use Rattle.lnav_subframe.proofs.ParityFunctions.{good-decides, source-is}
 use Rattle.lnav_subframe.specs.declared.fault.LnavFault.{LnavFault}
 use Rattle.lnav_subframe.specs.declared.fault.LnavFault.TheVariants.{Preamble, Parity}
 use Rattle.lnav_subframe.specs.Reading.{StandsFor, by_words, content, heard, subframe_of}

@@ -12,7 +12,7 @@ use Rattle.nav_bits.specs.Packed.{AreBytes, ZerosFrom, pack, packed}
 use Rattle.nav_bits.specs.Signed.{IsSigned, signed_of, unsigned_of}
 use Rattle.nav_bits.proofs.Surface.{are_bytes, fields_stand, number_at-bytes_of, number_at-of_whole, pack-lt, packed_number, signed_of-unsigned, zeros_stand}
 use Rattle.lnav_subframe.specs.ParityFunctions.{made_of, solved_of}
-use Rattle.lnav_subframe.proofs.Surface.{made-good, made-source, solved-is}
+use Rattle.lnav_subframe.proofs.ParityFunctions.{made-good, made-source, solved-is}
 use Rattle.nav_eph.specs.Satellite.{Satellite}
 use Rattle.lnav_subframe.specs.declared.out.SubframeOut.{SubframeOut}
 use Rattle.lnav_subframe.specs.declared.out.SubframeOut.TheVariants.{Clock, OrbitA, OrbitB, Ion, Other}
