@@ -1,7 +1,8 @@
--- What other crates cite of the words: they give one list of values.
-use Rattle.std.proofs.Common.{◌≡◌, ◌∙◌, ℕ, List, Option, sym, ap, subst}
-use Rattle.bridge_engine.specs.Options.{Choice, OptionsGiven, GiveValues, HaveValues}
-use Rattle.bridge_engine.proofs.Spellings.{spells_once}
+-- What other crates cite of the words: they give one list of values, and a value in their first word is that of its option.
+use Rattle.std.proofs.Common.{◌≡◌, ◌∙◌, ℕ, suc, zero, List, [], ◌∷◌, ◌++◌, Option, refl, sym, ap, subst, arith}
+use Rattle.std.specs.Prelude.{Contains}
+use Rattle.bridge_engine.specs.Options.{AreOnce, Begins, Choice, OptionsGiven, GiveValues, HaveValues, Spells, choice}
+use Rattle.bridge_engine.proofs.Spellings.{begins_once, begins_one, spells_once}
 use Rattle.bridge_engine.proofs.Listings.{holds_once}
 
 -- words give one list of values
@@ -21,3 +22,27 @@ same_given words g h (s, v) (t, w) =
     ∙ ap (λ (x : Option (List ℕ)). given h.from h.to h.week h.leap x g.seed g.sats) (both _ _ _ v.date w.date)
     ∙ ap (λ (x : Option (List ℕ)). given h.from h.to h.week h.leap h.date x g.sats) (both _ _ _ v.seed w.seed)
     ∙ ap (λ (x : Option (List ℕ)). given h.from h.to h.week h.leap h.date h.seed x) (both _ _ _ v.sats w.sats)
+
+-- ---- the value of an option that stands first, in one word with its name
+
+begins_first : (name value : List ℕ) (more : List (List ℕ)) → ¬ Contains name 61
+    → Begins ((45 ∷ 45 ∷ ((name ++ 61 ∷ []) ++ value)) ∷ more) (choice name value) more
+begins_first name value more free =
+    begins_one _ more (45 ∷ 45 ∷ ((name ++ 61 ∷ []) ++ value)) ((name ++ 61 ∷ []) ++ value) name value refl refl free refl
+
+in_turn : (option other : Choice) (options : List Choice) (A : Type 0) → (option ≡ other → A) → (Contains options other → A)
+    → Contains (option ∷ options) other → A
+in_turn option other options A first later (zero, below, is) = first is
+in_turn option other options A first later (suc k, below, is) = later (k, omega (arith, below), is)
+
+pub first_value : (name value held : List ℕ) (more : List (List ℕ)) (options : List Choice) → ¬ Contains name 61
+    → Spells ((45 ∷ 45 ∷ ((name ++ 61 ∷ []) ++ value)) ∷ more) options → AreOnce options → Contains options (choice name held) → value ≡ held
+first_value name value held more [] free spells once has =
+    absurd (let no : (45 ∷ 45 ∷ ((name ++ 61 ∷ []) ++ value)) ∷ more ≡ [] = spells in cc)
+first_value name value held more (option ∷ options) free (rest, begins, others) (alone, once) has =
+    let same : option ≡ choice name value =
+    (begins_once _ option (choice name value) rest more begins (begins_first name value more free)).0 in
+    in_turn option (choice name held) options (value ≡ held)
+    (λ is. ap (λ (c : Choice). c.value) (sym same ∙ is))
+    (λ later. absurd (alone held (subst (λ (n : List ℕ). Contains options (choice n held)) (sym (ap (λ (c : Choice). c.name) same)) later)))
+    has

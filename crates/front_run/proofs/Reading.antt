@@ -1,45 +1,26 @@
 -- The job of words that convert a file reads an input.
-use Rattle.std.proofs.Common.{◌≡◌, ℕ, suc, zero, true, false, List, [], ◌∷◌, ◌++◌, bytes_eq, codes, Option, Some, refl, sym, ap, subst, ◌∙◌, arith}
+use Rattle.std.proofs.Common.{◌≡◌, ℕ, suc, zero, true, false, List, bytes_eq, codes, Option, Some, refl, sym, subst, ◌∙◌, arith}
 use Rattle.std.specs.Prelude.{Contains}
 use Rattle.file_form.specs.declared.Kind.{Kind}
 use Rattle.file_form.specs.declared.Kind.TheVariants as kinds
 use Rattle.front_plan.specs.Table.{from_word}
 use Rattle.bridge_engine.specs.Job.{IsJob}
 use Rattle.bridge_engine.specs.Meanings.{meaning_of}
-use Rattle.bridge_engine.specs.Options.{AreOnce, Begins, Choice, Holds, Spells, choice}
+use Rattle.bridge_engine.specs.Options.{Holds, Spells}
 use Rattle.bridge_engine.specs.declared.job.Job.{Job}
 use Rattle.bridge_engine.specs.declared.job.SeedJob.{SeedJob}
 use Rattle.bridge_engine.specs.declared.job.Job.TheVariants as jobs
-use Rattle.bridge_engine.proofs.Spellings.{begins_once, begins_one}
+use Rattle.bridge_engine.proofs.Surface.{first_value}
 use Rattle.front_run.specs.Forms.{AreWords, words_with}
 use Rattle.front_run.specs.declared.plans.Plan.{Plan}
 
--- ---- the value of `--from`, where it stands first
-
+-- the name of `--from` has no `=` in it
 from_free : Contains (codes "from") 61 → ⊥
 from_free (zero, below, e) = absurd (omega (arith, e))
 from_free (suc zero, below, e) = absurd (omega (arith, e))
 from_free (suc (suc zero), below, e) = absurd (omega (arith, e))
 from_free (suc (suc (suc zero)), below, e) = absurd (omega (arith, e))
 from_free (suc (suc (suc (suc k))), below, e) = absurd (omega (arith, below))
-
-from_first : (w : List ℕ) (more : List (List ℕ)) → Begins ((codes "--from=" ++ w) ∷ more) (choice (codes "from") w) more
-from_first w more = begins_one _ more (codes "--from=" ++ w) (codes "from=" ++ w) (codes "from") w refl refl from_free refl
-
-in_turn : (option other : Choice) (options : List Choice) (A : Type 0) → (option ≡ other → A) → (Contains options other → A)
-    → Contains (option ∷ options) other → A
-in_turn option other options A first later (zero, below, is) = first is
-in_turn option other options A first later (suc k, below, is) = later (k, omega (arith, below), is)
-
-from_value : (w v : List ℕ) (more : List (List ℕ)) (options : List Choice) → Spells ((codes "--from=" ++ w) ∷ more) options → AreOnce options
-    → Contains options (choice (codes "from") v) → w ≡ v
-from_value w v more [] spells once has = absurd (let no : (codes "--from=" ++ w) ∷ more ≡ [] = spells in cc)
-from_value w v more (option ∷ options) (rest, begins, others) (alone, once) has =
-    let same : option ≡ choice (codes "from") w = (begins_once _ option (choice (codes "from") w) rest more begins (from_first w more)).0 in
-    in_turn option (choice (codes "from") v) options (w ≡ v)
-    (λ is. ap (λ (c : Choice). c.value) (sym same ∙ is))
-    (λ later. absurd (alone v (subst (λ (n : List ℕ). Contains options (choice n v)) (sym (ap (λ (c : Choice). c.name) same)) later)))
-    has
 
 -- ---- no form is a seed
 
@@ -76,7 +57,7 @@ not_seed plan kind words job (row, there, is) gives =
     subst (λ (o : Option (List ℕ)). Holds spelling.options (codes "from") o) gives.asks.from gives.options.1.from in
     let spells : Spells (words_with plan kind row) spelling.options =
     subst (λ (w : List (List ℕ)). Spells w spelling.options) is spelling.spelled in
-    never_seed kind (from_value (from_word kind) (codes "seed") _ spelling.options spells spelling.once has)
+    never_seed kind (first_value (codes "from") (from_word kind) (codes "seed") _ spelling.options from_free spells spelling.once has)
 
 pub job_reads : (plan : Plan) (kind : Kind) (words : List (List ℕ)) (job : Job) → AreWords plan kind words → IsJob words job
     → (meaning_of job).reads ≡ true
