@@ -1,3 +1,10 @@
+mod Yielded
+mod Watermarks
+mod Sums
+mod Partners
+mod PairLists
+mod Steps
+mod Counts
 mod References
 mod CaptureTexts
 mod Messages
@@ -5,3 +12,8 @@ mod Conversions
 mod SameTexts
 mod Headers
 mod Jobs
+mod SaidRanges
+mod LogTexts
+mod LogBegins
+mod LogLines
+mod TakenLogs

@@ -2,7 +2,7 @@
 use Rattle.std.specs.Prelude.{◌≡◌, ℕ, ◌+◌, List, [], length}
 use Rattle.capture_log.specs.Log.{line_items_of}
 use Rattle.capture_log.specs.declared.event.Event.{Event}
-use Rattle.capture_laws.specs.Counted.{Pair, own_weight, pairs_weight}
+use Rattle.job_laws.specs.Counted.{Pair, own_weight, pairs_weight}
 use Rattle.captures.specs.Captures.{Capture}
 use Rattle.captures.specs.Reports.{is_late, is_malformed, is_refused_event, is_unused}
 use Rattle.captures.specs.declared.counts.CaptureCounts.{CaptureCounts}

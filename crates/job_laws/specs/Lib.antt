@@ -1,4 +1,9 @@
+pub mod Places
+pub mod Counted
 pub mod Converted
 pub mod SayTheSame
 pub mod CountedLines
 pub mod Written
+pub mod LogItems
+pub mod LogHeard
+pub mod LogTaken

@@ -1,4 +1,4 @@
-//! The laws: each is the contract of an empty function.
+//! Laws of conversions of captures: each is the contract of an empty function.
 
 ghost use Rattle.std.specs.Prelude.{◌≡◌, ℕ, List, Option, Some, IfSome};
 ghost use Rattle.gnss_week.specs.Weeks.{IsReference};
@@ -6,7 +6,7 @@ ghost use Rattle.rinex_write.specs.Texts.{IsHeader};
 ghost use Rattle.rinex_write.specs.declared.words.HeaderWords.{HeaderWords};
 ghost use Rattle.outlets.specs.declared.target.Target.TheVariants as targets;
 ghost use Rattle.capture_log.specs.Log.{line_items_of};
-ghost use Rattle.capture_laws.specs.Counted.{ArePairsHeard, Pair};
+ghost use Rattle.job_laws.specs.Counted.{ArePairsHeard, Pair};
 ghost use Rattle.captures.specs.Captures.{Capture, capture_meaning, capture_of, counts_of};
 ghost use Rattle.captures.specs.Captures.{output_of};
 ghost use Rattle.captures.specs.declared.target.CaptureTo.{CaptureTo};
@@ -40,7 +40,7 @@ pub fn counts_are_of_lines_and_words()
     ensures { (c : Capture) (pairs : List Pair) → ArePairsHeard c.window (line_items_of c.lines) pairs
         → CountLines c pairs (counts_of c) }
 {
-    capture_laws::events_are_counted();
+    crate::counted::events_are_counted();
 }
 
 /// The output for a capture is the text of the items of the periods of the parts received, and reads

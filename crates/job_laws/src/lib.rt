@@ -1,19 +1,42 @@
-//! The output of a conversion of a capture, stated by all lines of the capture at once, and by the
-//! words of the command line.
+//! What runs write, stated by all of their input at once: all lines of a capture, the messages of a
+//! receiver's log, the words of the command line.
 //!
-//! `bridge_engine` says that a job writes the meaning of the bytes of its input; the laws here say
-//! what that is. The crate has no other functions.
+//! The crates of the runs say what each writes line by line, and `bridge_engine` that a job writes the
+//! meaning of the bytes of its input; the laws here say what that is. The crate has no other functions.
+//!
+//! Of the log of a capture (`capture_log`):
+//!
+//! - [`late_lines_are_told`]: a line is late exactly where one before it has a stamp that is later by
+//!   more than the window;
+//! - [`events_are_counted`]: a count is the sum over each line alone and over each word received, once;
+//! - [`pairs_are_counted_once`]: the order in which the words received are listed does not matter.
+//!
+//! Of a conversion of a capture:
 //!
 //! - [`converted_captures_come_back`]: the text is that of the items of the periods of the parts
 //!   received, and reads back as these items; [`what_is_converted_comes_back`] says so of the words of
 //!   a command line;
 //! - [`order_of_lines_changes_no_text`]: the same lines in another order give the same output;
 //! - [`counts_are_of_lines_and_words`]: each count is a number of events of lines and words received.
+//!
+//! Of the log of a receiver (`receiver_log`) and its capture:
+//!
+//! - [`a_log_is_heard_through_its_capture`]: the parts received from the capture are those that the
+//!   messages of the log carry;
+//! - [`a_heard_log_is_a_capture`], from the lines of a capture to its week, window and periods;
+//! - [`a_log_is_converted_through_its_capture`], the same from the bytes of a log.
 #![tactic(auto)]
 
+mod counted;
 mod laws;
+mod logs;
 
+pub use crate::counted::{events_are_counted, late_lines_are_told, pairs_are_counted_once};
 pub use crate::laws::{
     converted_captures_come_back, counts_are_of_lines_and_words, order_of_lines_changes_no_text,
     what_is_converted_comes_back,
+};
+pub use crate::logs::{
+    a_heard_log_is_a_capture, a_log_is_converted_through_its_capture,
+    a_log_is_heard_through_its_capture,
 };

@@ -1,7 +1,0 @@
-mod Yielded
-mod Watermarks
-mod Sums
-mod Partners
-mod PairLists
-mod Steps
-mod Counts

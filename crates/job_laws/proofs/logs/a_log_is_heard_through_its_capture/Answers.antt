@@ -1,0 +1,25 @@
+use Rattle.ubx_frames.specs.Form.{ubx}
+use Rattle.sbf_frames.specs.Form.{sbf}
+use Rattle.receiver_messages.specs.Sbf.{sbf_said}
+use Rattle.receiver_messages.specs.Ubx.{ubx_said}
+use Rattle.job_laws.proofs.LogLines.{ChainLaws, heard_through}
+use Rattle.job_laws.proofs.SaidRanges.{sbf_said_is, ubx_said_is}
+use Rattle.job_laws.proofs.logs.a_log_is_heard_through_its_capture.Goals as goal
+
+pub returns : goal.returns
+returns c =
+    let laws : ChainLaws = record {
+      lines = record {
+        printed = c.spellings_are_lines.ensures.printed;
+        short = c.spellings_are_lines.ensures.short;
+        only = c.each_line_stands_for_one_thing.ensures.only;
+        given = c.written_lines_are_given.ensures;
+      };
+      heads = λ line head is. (c.each_first_line_is_one_head.ensures line head).1 is;
+      lnav = c.texts_stand_for_their_items.ensures.lnav;
+      half = c.texts_stand_for_their_items.ensures.half;
+    } in
+    record {
+      ubx = λ bytes. heard_through laws ubx ubx_said ubx_said_is bytes;
+      sbf = λ bytes. heard_through laws sbf sbf_said sbf_said_is bytes;
+    }

@@ -1,0 +1,46 @@
+-- The capture of a log, as the runs over captures read it.
+use Rattle.std.specs.Prelude.{◌≡◌, ◌++◌, ℕ, List, Option, Some, None}
+use Rattle.capture_log.specs.Log.{line_items_of, parts_of}
+use Rattle.periods.specs.PeriodsOf.{periods_of}
+use Rattle.outlets.specs.declared.target.Target.{Target}
+use Rattle.outlets.specs.Targets.{back_text, prefix_text}
+use Rattle.captures.specs.declared.counts.CaptureCounts.{CaptureCounts}
+use Rattle.captures.specs.Captures.{Capture, capture_of, counts_of, counts_text, output_of, periods}
+use Rattle.captures.specs.Captures.{texts_of}
+use Rattle.job_laws.specs.LogHeard.{parts_heard}
+use Rattle.job_laws.specs.LogItems.{Timed, items_of_log, week_of_log}
+
+-- the output for a log of this week in this form: the periods of the parts received from its items
+-- and, where the form has them, these counts
+abbrev pub log_output : Target → ℕ → List Timed → CaptureCounts → List ℕ
+log_output to week log counts =
+    prefix_text to
+    ++ (texts_of to (periods_of week 7200 (parts_heard 7200 (items_of_log week log)))
+    ++ back_text to (counts_text counts))
+
+-- The text is a capture, whether or not the command line names its week: it has the log's week, a
+-- window of two hours, and lines that stand for the items of the log. Its periods and its output are
+-- those of the parts received from these.
+pub record IsTaken (week : ℕ) (log : List Timed) (text : List ℕ) : Type 0 where
+  pub capture : Capture
+  pub is : capture_of None text ≡ Some capture
+  pub is_named : capture_of (Some week) text ≡ Some capture
+  pub week_is : capture.week ≡ week
+  pub window_is : capture.window ≡ 7200
+  pub items_are : line_items_of capture.lines ≡ items_of_log week log
+  pub parts_are : parts_of 7200 capture.lines ≡ parts_heard 7200 (items_of_log week log)
+  pub periods_are :
+      periods capture ≡ periods_of week 7200 (parts_heard 7200 (items_of_log week log))
+  pub output_is : (to : Target)
+      → output_of to None text ≡ log_output to week log (counts_of capture)
+  pub named_output_is : (to : Target)
+      → output_of to (Some week) text ≡ log_output to week log (counts_of capture)
+
+-- where a log has no week, the text is no capture
+abbrev pub IsTakenBy : Option ℕ → List Timed → List ℕ → Type 0
+IsTakenBy (Some week) log text = IsTaken week log text
+IsTakenBy None log text = (named : Option ℕ) → capture_of named text ≡ None
+
+-- the text is read as the capture of what the log yields
+abbrev pub IsTakenThrough : List Timed → List ℕ → Type 0
+IsTakenThrough log text = IsTakenBy (week_of_log log) log text

@@ -1,8 +1,0 @@
-use Rattle.log_headline.proofs.TakenLogs.{taken_by}
-use Rattle.log_headline.proofs.laws.a_log_is_converted_through_its_capture.Goals as goal
-
-pub returns : goal.returns
-returns c = record {
-  ubx = λ bytes. taken_by _ _ _ (c.a_log_is_heard_through_its_capture.ensures.ubx bytes);
-  sbf = λ bytes. taken_by _ _ _ (c.a_log_is_heard_through_its_capture.ensures.sbf bytes);
-}

@@ -1,4 +1,0 @@
-mod SaidRanges
-mod LogTexts
-mod LogBegins
-mod LogLines

@@ -1,2 +1,0 @@
-pub mod LogItems
-pub mod LogHeard
