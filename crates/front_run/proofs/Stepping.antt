@@ -8,7 +8,7 @@ use Rattle.file_step.specs.Files.{Publishes, Stays}
 use Rattle.file_step.specs.Steps.{BrokeOff, Lacks}
 use Rattle.file_step.specs.declared.step.StepFault.{StepFault}
 use Rattle.file_step.specs.declared.step.StepFault.TheVariants as steps
-use Rattle.framing.specs.Headings.{Heading}
+use Rattle.receiver_frames.specs.Headings.{Heading}
 use Rattle.receiver_messages.specs.declared.said.Said.{Said}
 use Rattle.receiver_log.specs.Capture.{capture_of}
 use Rattle.receiver_log.specs.LogRuns.{too_many}

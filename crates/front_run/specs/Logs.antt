@@ -1,7 +1,7 @@
 -- Logs of receivers, which are converted as their captures.
 use Rattle.std.specs.Prelude.{ℕ, List, Option, None, Some}
-use Rattle.ubx_frames.specs.Form.{ubx}
-use Rattle.sbf_frames.specs.Form.{sbf}
+use Rattle.receiver_frames.specs.UbxForm.{ubx}
+use Rattle.receiver_frames.specs.SbfForm.{sbf}
 use Rattle.receiver_messages.specs.Sbf.{sbf_said}
 use Rattle.receiver_messages.specs.Ubx.{ubx_said}
 use Rattle.receiver_log.specs.Capture.{capture_of}

@@ -12,8 +12,8 @@ use log_source::{LogParts, LogSource, Refusals};
 use nav_io::Source;
 use peek_io::{Counted, Peeked, Progress};
 use receiver_log::Receiver;
-use sbf_frames::SbfJudge;
-use ubx_frames::UbxJudge;
+use receiver_frames::SbfJudge;
+use receiver_frames::UbxJudge;
 
 /// The forms of logs.
 #[derive(Clone, Copy, PartialEq, Eq, Debug)]

@@ -20,9 +20,9 @@ use log_source::{LogParts, LogSource, Refusals};
 use nav_io::{Sink, Source};
 use peek_io::{Counted, Peeked, Progress};
 use receiver_log::{Counts, Receiver};
-use sbf_frames::SbfJudge;
+use receiver_frames::SbfJudge;
 use std::alloc::Global;
-use ubx_frames::UbxJudge;
+use receiver_frames::UbxJudge;
 
 /// What a run over an input leaves.
 #[derive(Drop)]

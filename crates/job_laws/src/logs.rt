@@ -1,10 +1,10 @@
 //! Laws of logs of receivers: each is the contract of an empty function.
 
 ghost use Rattle.std.specs.Prelude.{ℕ, List, None};
-ghost use Rattle.framing.specs.Headings.{format_of};
-ghost use Rattle.framing.specs.Messages.{messages};
-ghost use Rattle.ubx_frames.specs.Form.{ubx};
-ghost use Rattle.sbf_frames.specs.Form.{sbf};
+ghost use Rattle.receiver_frames.specs.Headings.{format_of};
+ghost use Rattle.receiver_frames.specs.Messages.{messages};
+ghost use Rattle.receiver_frames.specs.UbxForm.{ubx};
+ghost use Rattle.receiver_frames.specs.SbfForm.{sbf};
 ghost use Rattle.receiver_messages.specs.Sbf.{sbf_said};
 ghost use Rattle.receiver_messages.specs.Ubx.{ubx_said};
 ghost use Rattle.receiver_log.specs.Capture.{capture_of};

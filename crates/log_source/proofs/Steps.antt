@@ -5,9 +5,9 @@ use Rattle.std.specs.Prelude.{Option, Some, None}
 use Rattle.std.specs.Io.KnownBytes.{Keeps, Consumes}
 use Rattle.std.proofs.lemmas.List.{take-append-drop, drop-drop}
 use Rattle.std.proofs.lemmas.Bool.{both_ways}
-use Rattle.framing.specs.Messages.{messages}
-use Rattle.framing.specs.Headings.{Heading, format_of}
-use Rattle.framing.specs.State.{DeframerState, TakesMessage}
+use Rattle.receiver_frames.specs.Messages.{messages}
+use Rattle.receiver_frames.specs.Headings.{Heading, format_of}
+use Rattle.receiver_frames.specs.State.{DeframerState, TakesMessage}
 use Rattle.receiver_messages.specs.declared.said.Said.{Said}
 use Rattle.receiver_log.specs.declared.state.LogState.{LogState}
 use Rattle.receiver_log.specs.Log.{given}

@@ -2,9 +2,9 @@
 use Rattle.std.specs.Prelude.{◌≡◌, ◌≤◌, ℕ, ◌+◌, ◌-◌, ◌*◌, ◌^◌, nat_lt, Bool, false, if◌then◌else◌}
 use Rattle.std.specs.Prelude.{List, ◌++◌, length, Option, Some, None, Result, OnOk, OnErr, ◌⊎◌, ⊤}
 use Rattle.nav_io.specs.Causes.{Rose}
-use Rattle.framing.specs.Messages.{messages}
-use Rattle.framing.specs.Headings.{Heading, format_of}
-use Rattle.framing.specs.State.{DeframerState}
+use Rattle.receiver_frames.specs.Messages.{messages}
+use Rattle.receiver_frames.specs.Headings.{Heading, format_of}
+use Rattle.receiver_frames.specs.State.{DeframerState}
 use Rattle.receiver_messages.specs.declared.said.Said.{Said}
 use Rattle.receiver_log.specs.declared.state.LogState.{LogState}
 use Rattle.receiver_log.specs.Capture.{capture_of, lines_from}

@@ -3,9 +3,9 @@
 ghost use Rattle.std.specs.Prelude.{◌≡◌, ◌+◌, ◌-◌, ◌^◌, ◌<◌, ◌≤◌, ◌++◌, ℕ, List, [], length};
 ghost use Rattle.std.specs.Prelude.{drop, take, nat_lt, ◌&&◌, true, false};
 ghost use Rattle.std.specs.Prelude.{IsTrue, IsOk, IfOk, OnOk, OnErr, MatchResult};
-ghost use Rattle.framing.specs.Headings.{format_of};
-ghost use Rattle.framing.specs.Messages.{messages};
-ghost use Rattle.framing.specs.State.{IsWaiting, MayFeed};
+ghost use Rattle.receiver_frames.specs.Headings.{format_of};
+ghost use Rattle.receiver_frames.specs.Messages.{messages};
+ghost use Rattle.receiver_frames.specs.State.{IsWaiting, MayFeed};
 ghost use Rattle.std.specs.Io.{ReadsAtMost};
 ghost use Rattle.std.specs.Io.KnownBytes.{Consumes, IsAtEnd, Keeps, ReadConsumes};
 ghost use Rattle.nav_io.specs.Causes.{HasCause};
@@ -17,7 +17,7 @@ ghost use Rattle.log_source.specs.LogLeft.{HasLogCause, KeepsLength};
 ghost use Rattle.log_source.specs.LogLeft.{capture_left, is_short, left_of, steps_left};
 
 use arrayvec::ArrayVec;
-use framing::Deframer;
+use receiver_frames::Deframer;
 use nav_io::{Failed, Source};
 use receiver_log::{Counts, Lines, LogState, Receiver, hear};
 use receiver_messages::Reason;

@@ -2,9 +2,9 @@
 
 use nav_io::{MemSink, MemSource};
 use receiver_log::{Receiver, run_log};
-use sbf_frames::SbfJudge;
+use receiver_frames::SbfJudge;
 use std::alloc::{AllocError, Global};
-use ubx_frames::UbxJudge;
+use receiver_frames::UbxJudge;
 
 // The two forms of logs.
 #[derive(Clone, Copy)]

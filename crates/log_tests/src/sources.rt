@@ -6,7 +6,7 @@ use log_source::{LogSource, Unheard};
 use nav_io::Source;
 use std::alloc::{AllocError, Global};
 use std::test::Fail;
-use ubx_frames::UbxJudge;
+use receiver_frames::UbxJudge;
 
 // How the small log is read, and what the source over it gives.
 struct Reading {

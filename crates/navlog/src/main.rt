@@ -9,11 +9,11 @@
 
 use nav_io::{ReadSource, WriteSink};
 use receiver_log::run_log;
-use sbf_frames::SbfJudge;
+use receiver_frames::SbfJudge;
 use std::env;
 use std::io::ErrorKind;
 use std::process::ExitCode;
-use ubx_frames::UbxJudge;
+use receiver_frames::UbxJudge;
 
 // The command line names no form.
 const NO_FORM: u8 = 2;

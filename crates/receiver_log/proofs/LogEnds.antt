@@ -8,9 +8,9 @@ use Rattle.std.specs.Prelude.{Option, Some, None, IsTrue, Result, Ok, Err, OnOk,
 use Rattle.std.specs.Io.KnownBytes.{Appends, Consumes, IsAtEnd, Keeps}
 use Rattle.nav_io.specs.Causes.{Rose}
 use Rattle.nav_io.specs.Prefix.{AppendsPrefix}
-use Rattle.framing.specs.Headings.{Heading, format_of}
-use Rattle.framing.specs.Messages.{messages, decided}
-use Rattle.framing.specs.State.{DeframerState, IsWaiting, MayFeed}
+use Rattle.receiver_frames.specs.Headings.{Heading, format_of}
+use Rattle.receiver_frames.specs.Messages.{messages, decided}
+use Rattle.receiver_frames.specs.State.{DeframerState, IsWaiting, MayFeed}
 use Rattle.one_run.specs.Causes.{HasItsCause, faults_of}
 use Rattle.one_run.specs.Runs.{World}
 use Rattle.one_run.specs.declared.fault.BridgeFault.{BridgeFault}

@@ -8,11 +8,11 @@ use Rattle.std.proofs.lemmas.List.{take-append-drop}
 use Rattle.std.specs.Prelude.{Option, Some, None, Result, Ok, Err, OnOk, OnErr}
 use Rattle.std.specs.Io.KnownBytes.{Appends}
 use Rattle.nav_io.specs.Prefix.{AppendsPrefix}
-use Rattle.framing.specs.Headings.{Heading, IsHeading, format_of}
-use Rattle.framing.specs.Messages.{messages, decided}
-use Rattle.framing.specs.State.{TakesMessage, TakesNone}
+use Rattle.receiver_frames.specs.Headings.{Heading, IsHeading, format_of}
+use Rattle.receiver_frames.specs.Messages.{messages, decided}
+use Rattle.receiver_frames.specs.State.{TakesMessage, TakesNone}
 use Rattle.one_run.proofs.Surface.{prefix_behind, prefix_longer, no_prefix, whole_prefix}
-use Rattle.framing.proofs.Surface.{decided_message, decided_none}
+use Rattle.receiver_frames.proofs.Surface.{decided_message, decided_none}
 use Rattle.receiver_messages.specs.declared.said.Said.{Said}
 use Rattle.receiver_log.specs.declared.state.LogState.{LogState}
 use Rattle.receiver_log.specs.Capture.{lines_from, refusal_text, refusals_from, state_after}

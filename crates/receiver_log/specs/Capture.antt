@@ -1,7 +1,7 @@
 -- The capture of a log, and its report.
 use Rattle.std.specs.Prelude.{ℕ, List, [], ◌∷◌, ◌++◌, length, codes, Option, Some, None}
-use Rattle.framing.specs.Messages.{messages, decided}
-use Rattle.framing.specs.Headings.{Heading, format_of}
+use Rattle.receiver_frames.specs.Messages.{messages, decided}
+use Rattle.receiver_frames.specs.Headings.{Heading, format_of}
 use Rattle.one_run.specs.Reports.{report_line}
 use Rattle.receiver_messages.specs.declared.said.Reason.{Reason}
 use Rattle.receiver_messages.specs.declared.said.Said.{Said}

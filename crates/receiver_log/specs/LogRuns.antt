@@ -4,7 +4,7 @@ use Rattle.std.specs.Prelude.{Err, IsTrue}
 use Rattle.std.specs.Io.KnownBytes.{Appends, Consumes, IsAtEnd}
 use Rattle.nav_io.specs.Causes.{Rose}
 use Rattle.nav_io.specs.Prefix.{AppendsPrefix}
-use Rattle.framing.specs.Headings.{Heading}
+use Rattle.receiver_frames.specs.Headings.{Heading}
 use Rattle.one_run.specs.Runs.{World}
 use Rattle.one_run.specs.Ends.{status_of}
 use Rattle.one_run.specs.declared.fault.BridgeFault.{BridgeFault}

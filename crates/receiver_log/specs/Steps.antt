@@ -2,8 +2,8 @@
 use Rattle.std.specs.Prelude.{◌≡◌, ℕ, Bool, true, false, List, [], ◌++◌, Option}
 use Rattle.std.specs.Io.KnownBytes.{Appends}
 use Rattle.nav_io.specs.Prefix.{AppendsPrefix}
-use Rattle.framing.specs.Messages.{messages, decided}
-use Rattle.framing.specs.Headings.{Heading, format_of}
+use Rattle.receiver_frames.specs.Messages.{messages, decided}
+use Rattle.receiver_frames.specs.Headings.{Heading, format_of}
 use Rattle.receiver_messages.specs.declared.said.Said.{Said}
 use Rattle.receiver_log.specs.declared.state.LogState.{LogState}
 use Rattle.receiver_log.specs.Capture.{lines_from, refusals_from, state_after}

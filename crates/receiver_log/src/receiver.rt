@@ -6,10 +6,10 @@ ghost use Rattle.receiver_messages.specs.Sbf.{sbf_said as sbf_says};
 ghost use Rattle.receiver_messages.specs.Ubx.{ubx_said as ubx_says};
 ghost use Rattle.receiver_messages.specs.Systems.{SaysOfSystem};
 
-use framing::Judge;
+use receiver_frames::Judge;
 use receiver_messages::{Said, sbf_said, ubx_said};
-use sbf_frames::SbfJudge;
-use ubx_frames::UbxJudge;
+use receiver_frames::SbfJudge;
+use receiver_frames::UbxJudge;
 
 /// A format of messages, and their content.
 pub trait Receiver: Judge {

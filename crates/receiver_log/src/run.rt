@@ -15,7 +15,7 @@ use crate::receiver::Receiver;
 use crate::report::counts_text;
 use crate::state::{Counts, LogState};
 use crate::taking::{process_messages, process_piece};
-use framing::Deframer;
+use receiver_frames::Deframer;
 use nav_io::{Failed, Sink, Source};
 use one_run::BridgeFault;
 

@@ -1,6 +1,6 @@
 use Rattle.std.proofs.Common.{◌≡◌, ◌++◌, true, ℕ, List, [], length}
-use Rattle.framing.specs.Messages.{messages}
-use Rattle.framing.specs.Headings.{format_of}
+use Rattle.receiver_frames.specs.Messages.{messages}
+use Rattle.receiver_frames.specs.Headings.{format_of}
 use Rattle.receiver_log.specs.Capture.{lines_from}
 use Rattle.log_source.proofs.source.hear_messages.Given as goal
 

@@ -1,7 +1,7 @@
 use Rattle.std.proofs.Common.{Bool, not, [], refl, subst, ap, ◌∙◌, arith}
 use Rattle.std.proofs.lemmas.Result.{err_from_is_err_and}
-use Rattle.framing.specs.Headings.{format_of}
-use Rattle.framing.specs.State.{TakesMessage, TakesNone}
+use Rattle.receiver_frames.specs.Headings.{format_of}
+use Rattle.receiver_frames.specs.State.{TakesMessage, TakesNone}
 use Rattle.receiver_log.proofs.LogSteps.{hears_last, hears_message, hears_nothing, on_err1, on_ok2}
 use Rattle.receiver_log.proofs.LogSteps.{stops_last, stops_put, stops_told}
 use Rattle.receiver_log.proofs.taking.process_messages.Goals as goal

@@ -1,6 +1,6 @@
 use Rattle.std.proofs.Common.{◌≡◌, ◌-◌, ◌≤◌, ◌++◌, true, [], length, take}
-use Rattle.framing.specs.Headings.{format_of}
-use Rattle.framing.specs.State.{MayFeed}
+use Rattle.receiver_frames.specs.Headings.{format_of}
+use Rattle.receiver_frames.specs.State.{MayFeed}
 use Rattle.receiver_log.specs.Steps.{Hears}
 use Rattle.receiver_log.proofs.taking.process_piece.Given as goal
 

@@ -1,0 +1,17 @@
+pub mod Messages
+pub mod Headings
+pub mod Syncs
+pub mod SyncLaws
+pub mod Places
+pub mod State
+pub mod Mirrors
+pub mod UbxForm
+pub mod UbxSums
+pub mod UbxSumLaws
+pub mod UbxFormLaws
+pub mod UbxField
+pub mod SbfRegister
+pub mod SbfForm
+pub mod SbfFormLaws
+pub mod SbfStates
+pub mod SbfStateLaws

@@ -1,0 +1,50 @@
+//! Messages in the byte stream of a receiver: UBX of u-blox, SBF of Septentrio, and any format whose
+//! messages give their size in their first bytes.
+//!
+//! A message is searched for at each byte: where a complete message with the right checksum begins,
+//! the search continues after it, else one byte further. A format defines how messages begin, their
+//! size and their checksum ([`Judge`]). This crate has
+//!
+//! - [`Deframer`], which takes the bytes of a stream in any pieces and gives the messages in them;
+//! - laws of messages of any format: at which offsets they are, and which are decided while more
+//!   bytes may come;
+//! - [`UbxJudge`]: the sync bytes B5 62, class, ID, a payload length of two bytes (low byte first),
+//!   the payload, and the checksum of all bytes from class to payload: CK_A, the sum of the bytes, and
+//!   CK_B, the sum of its running values, both modulo 256;
+//! - [`SbfJudge`]: the sync bytes `$@`, a CRC, a block ID and the length of the whole block, two bytes
+//!   each, low byte first, and the body. The length is at least 8 and a multiple of 4. The CRC covers
+//!   all bytes after it: polynomial x^16 + x^12 + x^5 + 1, initial value 0, no reflection.
+//!
+//! ```rust
+//! let mut deframer: UbxDeframer = UbxDeframer::new();
+//! let count = deframer.feed_some(&[0xb5, 0x62, 5, 1, 0, 0, 6, 0x11]);
+//! while deframer.next_message() {
+//!     use_payload(payload_of(deframer.message()));
+//! }
+//! ```
+#![tactic(auto)]
+
+mod deframer;
+mod form;
+mod judge;
+mod laws;
+mod sbf;
+mod sbf_laws;
+mod sbf_register;
+mod sbf_states;
+mod search;
+mod ubx;
+mod ubx_laws;
+mod ubx_sums;
+
+pub use crate::deframer::Deframer;
+pub use crate::judge::Judge;
+pub use crate::laws::{
+    decided_messages_stand_before_the_open_place, decided_messages_stay,
+    decided_messages_stay_decided, headings_are_formats, messages_after_the_first,
+    messages_are_at_the_chosen_places, nothing_is_decided_while_bytes_wait,
+};
+pub use crate::sbf::{SbfDeframer, SbfJudge};
+pub use crate::sbf_laws::sbf_is_a_format;
+pub use crate::ubx::{UbxDeframer, UbxJudge};
+pub use crate::ubx_laws::{ubx_is_a_format, ubx_messages_are_those_of_the_field};

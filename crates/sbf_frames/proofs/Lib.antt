@@ -1,7 +1,0 @@
-mod SumLaws
-mod RegisterLaws
-mod TableLemmas
-mod EntryLemmas
-mod LookupLemmas
-mod CrcSteps
-mod Sizes

@@ -1,3 +1,0 @@
-mod SumSteps
-mod Sizes
-mod FieldLaws
