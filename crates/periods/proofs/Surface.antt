@@ -1,6 +1,6 @@
 -- Lemmas that other crates cite: over sets of parts and of stamps, which a law over lists cannot state, and membership
 -- by recursion.
-pub use Rattle.periods.proofs.EndFacts.{In, In-from_contains, contains_from_In, Same, same_sym, IsKnown, covered}
+pub use Rattle.periods.proofs.EndFacts.{In, In-from_contains, contains_from_In, Same, same_sym, IsEnd-same, IsEndOf-same, own_end, bridge, IsKnown, covered}
 pub use Rattle.periods.proofs.Orders.{Decides, earlier_decides, is_below-true, below-is_below}
 pub use Rattle.periods.proofs.Folds.{some_is, none_some, Grows, best_join-is, Passing, best_among-is, IsBest-same}
 pub use Rattle.periods.proofs.KeyLemmas.{same_sat-is, is-same_sat, same_key-is, is-same_key, is_of-is, is-is_of, IsKeyValue, key_value, cases_key, cases_place, same_place}
