@@ -12,7 +12,7 @@ use Rattle.receiver_frames.specs.Headings.{Heading}
 use Rattle.receiver_messages.specs.declared.said.Said.{Said}
 use Rattle.receiver_log.specs.Capture.{capture_of}
 use Rattle.receiver_log.specs.LogRuns.{too_many}
-use Rattle.log_source.specs.LogLeft.{capture_left}
+use Rattle.receiver_log.specs.LogLeft.{capture_left}
 use Rattle.front_run.specs.Steps.{FaultCounts, Flowed, IsLack, IsSix, LacksMore, Stepped, WritesSo, Wrote, counted}
 use Rattle.front_run.specs.declared.puts.Stop.{Stop}
 

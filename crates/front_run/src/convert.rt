@@ -21,9 +21,9 @@ use crate::tasks::{Task, TaskRun, ask};
 use bridge_engine::words_give_one_job;
 use file_form::Kind;
 use file_step::{FileFault, Folder};
-use log_source::Refusals;
 use nav_io::{Sink, Source};
 use peek_io::{PeekFault, Peeked, Progress};
+use receiver_log::Refusals;
 use std::alloc::Global;
 
 /// The form of an input, and what is done with it.

@@ -6,10 +6,9 @@ ghost use Rattle.front_run.specs.Steps.{EndsSo, IsSix, WritesSo};
 use crate::puts::Stop;
 use file_form::Kind;
 use file_step::{FileFault, StepFault};
-use log_source::Refusals;
 use nav_io::{Sink, Source};
 use peek_io::Progress;
-use receiver_log::Counts;
+use receiver_log::{Counts, Refusals};
 
 /// Who is told of a conversion.
 #[derive(Drop)]

@@ -8,12 +8,10 @@ ghost use Rattle.front_run.specs.Steps.{Stepped, counted};
 use crate::puts::{Put, put_plain};
 use file_form::Kind;
 use file_step::{Conversion, Folder, put_output};
-use log_source::{LogParts, LogSource, Refusals};
 use nav_io::Source;
 use peek_io::{Counted, Peeked, Progress};
-use receiver_log::Receiver;
-use receiver_frames::SbfJudge;
-use receiver_frames::UbxJudge;
+use receiver_frames::{SbfJudge, UbxJudge};
+use receiver_log::{LogParts, LogSource, Receiver, Refusals};
 
 /// The forms of logs.
 #[derive(Clone, Copy, PartialEq, Eq, Debug)]

@@ -16,13 +16,11 @@ use crate::tasks::TaskRun;
 use bridge_engine::words_give_one_job;
 use file_form::Kind;
 use file_step::Conversion;
-use log_source::{LogParts, LogSource, Refusals};
 use nav_io::{Sink, Source};
 use peek_io::{Counted, Peeked, Progress};
-use receiver_log::{Counts, Receiver};
-use receiver_frames::SbfJudge;
+use receiver_frames::{SbfJudge, UbxJudge};
+use receiver_log::{Counts, LogParts, LogSource, Receiver, Refusals};
 use std::alloc::Global;
-use receiver_frames::UbxJudge;
 
 /// What a run over an input leaves.
 #[derive(Drop)]

@@ -2,7 +2,7 @@
 
 use crate::runs::source_of;
 use crate::small::{ALL, LOG, PAGE};
-use log_source::{LogSource, Unheard};
+use receiver_log::{LogSource, Unheard};
 use nav_io::Source;
 use std::alloc::{AllocError, Global};
 use std::test::Fail;

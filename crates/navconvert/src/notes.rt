@@ -1,7 +1,6 @@
 //! What the report says of a log: the messages that are refused, and counts, as `navlog` has them.
 
-use log_source::Refusals;
-use receiver_log::Counts;
+use receiver_log::{Counts, Refusals};
 use receiver_messages::Reason;
 use std::fs::File;
 use std::io::Write;

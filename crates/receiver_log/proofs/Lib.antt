@@ -1,2 +1,3 @@
 mod LogSteps
 mod LogEnds
+mod SourceSteps

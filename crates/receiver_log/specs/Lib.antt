@@ -3,3 +3,4 @@ pub mod Capture
 pub mod Report
 pub mod LogRuns
 pub mod Steps
+pub mod LogLeft

@@ -6,7 +6,9 @@
 //!
 //! - [`Receiver`], a format of messages and their content: `UbxJudge` and `SbfJudge`;
 //! - [`hear`], the lines of one message;
-//! - [`run_log`], which writes the capture of a log, and reports refused messages and counts.
+//! - [`run_log`], which writes the capture of a log, and reports refused messages and counts;
+//! - [`LogSource`], over a source of the log's bytes, which gives the same capture however reads cut
+//!   it, so that a conversion of captures can read a log.
 //!
 //! ```rust
 //! let mut input = ReadSource::new(rt.stdin());
@@ -21,6 +23,7 @@ mod lines;
 mod receiver;
 mod report;
 mod run;
+mod source;
 mod state;
 mod taking;
 
@@ -28,4 +31,5 @@ pub use crate::hearing::hear;
 pub use crate::lines::Lines;
 pub use crate::receiver::Receiver;
 pub use crate::run::run_log;
+pub use crate::source::{LogParts, LogSource, Refusals, Unheard};
 pub use crate::state::{Counts, LogState};

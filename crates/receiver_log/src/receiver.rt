@@ -6,10 +6,8 @@ ghost use Rattle.receiver_messages.specs.Sbf.{sbf_said as sbf_says};
 ghost use Rattle.receiver_messages.specs.Ubx.{ubx_said as ubx_says};
 ghost use Rattle.receiver_messages.specs.Systems.{SaysOfSystem};
 
-use receiver_frames::Judge;
+use receiver_frames::{Judge, SbfJudge, UbxJudge};
 use receiver_messages::{Said, sbf_said, ubx_said};
-use receiver_frames::SbfJudge;
-use receiver_frames::UbxJudge;
 
 /// A format of messages, and their content.
 pub trait Receiver: Judge {

@@ -15,9 +15,9 @@ use crate::receiver::Receiver;
 use crate::report::counts_text;
 use crate::state::{Counts, LogState};
 use crate::taking::{process_messages, process_piece};
-use receiver_frames::Deframer;
 use nav_io::{Failed, Sink, Source};
 use one_run::BridgeFault;
+use receiver_frames::Deframer;
 
 // The most bytes of one read.
 const PIECE: usize = 16_384;

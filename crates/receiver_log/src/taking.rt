@@ -18,9 +18,9 @@ use crate::receiver::Receiver;
 use crate::report::refusal;
 use crate::state::LogState;
 use arrayvec::ArrayVec;
-use receiver_frames::Deframer;
 use nav_io::{Failed, Sink};
 use one_run::BridgeFault;
+use receiver_frames::Deframer;
 
 // While at most this many bytes of lines wait, the lines of one more message have room.
 const ROOM: usize = 8_192;

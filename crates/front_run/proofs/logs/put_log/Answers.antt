@@ -1,6 +1,6 @@
 use Rattle.std.proofs.Common.{ap, sym, ◌∙◌}
 use Rattle.receiver_log.specs.Capture.{capture_of}
-use Rattle.log_source.specs.LogLeft.{capture_left}
+use Rattle.receiver_log.specs.LogLeft.{capture_left}
 use Rattle.front_run.proofs.Stepping.{captured, stepped_by}
 use Rattle.front_run.proofs.logs.put_log.Goals as goal
 

@@ -2,7 +2,7 @@ use Rattle.std.proofs.Common.{◌≡◌, ◌++◌, true, ℕ, List, [], length}
 use Rattle.receiver_frames.specs.Messages.{messages}
 use Rattle.receiver_frames.specs.Headings.{format_of}
 use Rattle.receiver_log.specs.Capture.{lines_from}
-use Rattle.log_source.proofs.source.hear_messages.Given as goal
+use Rattle.receiver_log.proofs.source.hear_messages.Given as goal
 
 abbrev pub invariant-loop-deframer : goal.invariant-loop-deframer
 invariant-loop-deframer g l = record {

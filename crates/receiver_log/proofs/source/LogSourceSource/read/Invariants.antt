@@ -1,8 +1,8 @@
 use Rattle.std.proofs.Common.{◌≡◌, ◌+◌, ◌-◌, nat_lt, drop, length}
 use Rattle.std.specs.Prelude.{IsTrue}
 use Rattle.std.specs.Io.KnownBytes.{Keeps}
-use Rattle.log_source.specs.LogLeft.{KeepsLength, is_short, left_of, steps_left}
-use Rattle.log_source.proofs.source.LogSourceSource.read.Given as goal
+use Rattle.receiver_log.specs.LogLeft.{KeepsLength, is_short, left_of, steps_left}
+use Rattle.receiver_log.proofs.source.LogSourceSource.read.Given as goal
 
 abbrev pub invariant-loop-self : goal.invariant-loop-self
 invariant-loop-self g l = record {

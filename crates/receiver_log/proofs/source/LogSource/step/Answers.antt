@@ -1,5 +1,5 @@
-use Rattle.log_source.proofs.Steps.{heard_keeps}
-use Rattle.log_source.proofs.source.LogSource.step.Goals as goal
+use Rattle.receiver_log.proofs.SourceSteps.{heard_keeps}
+use Rattle.receiver_log.proofs.source.LogSource.step.Goals as goal
 
 pub returns-then-not-is_empty-clause-left : goal.returns-then-not-is_empty-clause-left
 returns-then-not-is_empty-clause-left g c =

@@ -13,13 +13,13 @@ ghost use Rattle.receiver_log.specs.Log.{Gives, given};
 ghost use Rattle.receiver_log.specs.Capture.{lines_from};
 ghost use Rattle.receiver_log.specs.LogRuns.{too_many};
 ghost use Rattle.receiver_log.specs.declared.state.LogState.{LogState as LogStateNow};
-ghost use Rattle.log_source.specs.LogLeft.{HasLogCause, KeepsLength};
-ghost use Rattle.log_source.specs.LogLeft.{capture_left, is_short, left_of, steps_left};
+ghost use Rattle.receiver_log.specs.LogLeft.{HasLogCause, KeepsLength};
+ghost use Rattle.receiver_log.specs.LogLeft.{capture_left, is_short, left_of, steps_left};
 
+use crate::{Counts, Lines, LogState, Receiver, hear};
 use arrayvec::ArrayVec;
-use receiver_frames::Deframer;
 use nav_io::{Failed, Source};
-use receiver_log::{Counts, Lines, LogState, Receiver, hear};
+use receiver_frames::Deframer;
 use receiver_messages::Reason;
 
 // The most bytes of one read.

@@ -1,7 +1,7 @@
 use Rattle.std.proofs.Common.{◌≡◌, ◌++◌, take, drop, ap, ◌∙◌}
 use Rattle.std.proofs.lemmas.List.{take_rest}
-use Rattle.log_source.proofs.Steps.{fed_keeps}
-use Rattle.log_source.proofs.source.refill.Goals as goal
+use Rattle.receiver_log.proofs.SourceSteps.{fed_keeps}
+use Rattle.receiver_log.proofs.source.refill.Goals as goal
 
 pub returns-then-fed-len-clause-left : goal.returns-then-fed-len-clause-left
 returns-then-fed-len-clause-left g c = λ state.

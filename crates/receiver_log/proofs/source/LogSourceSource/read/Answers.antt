@@ -1,9 +1,9 @@
 use Rattle.std.proofs.Common.{◌≡◌, [], drop, subst, ◌∙◌, arith}
 use Rattle.std.proofs.lemmas.List.{drop_all}
 use Rattle.std.specs.Io.KnownBytes.{Keeps}
-use Rattle.log_source.specs.LogLeft.{left_of}
-use Rattle.log_source.proofs.Steps.{given_consumes, keeps_more, length_more}
-use Rattle.log_source.proofs.source.LogSourceSource.read.Goals as goal
+use Rattle.receiver_log.specs.LogLeft.{left_of}
+use Rattle.receiver_log.proofs.SourceSteps.{given_consumes, keeps_more, length_more}
+use Rattle.receiver_log.proofs.source.LogSourceSource.read.Goals as goal
 
 pub loop-self-preserved : goal.loop-self-preserved
 loop-self-preserved g c =

@@ -12,7 +12,7 @@ use Rattle.receiver_messages.specs.declared.said.Said.{Said}
 use Rattle.receiver_log.specs.declared.state.LogState.{LogState}
 use Rattle.receiver_log.specs.Log.{given}
 use Rattle.receiver_log.specs.Capture.{lines_from}
-use Rattle.log_source.specs.LogLeft.{KeepsLength, left_of}
+use Rattle.receiver_log.specs.LogLeft.{KeepsLength, left_of}
 
 module _ (h : Heading) (said : List ℕ → Said) where
   -- bytes of a piece are fed
