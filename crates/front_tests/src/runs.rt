@@ -5,9 +5,9 @@ use file_memory::MemFolder;
 use file_step::part_of;
 use front_plan::{Target, Values};
 use front_run::{Plan, Sourced, Stop, Told, convert_one, convert_source};
-use receiver_log::Unheard;
 use nav_io::{MemSink, MemSource};
 use peek_io::Untold;
+use receiver_log::Unheard;
 use std::alloc::{AllocError, Global};
 use std::test::Fail;
 

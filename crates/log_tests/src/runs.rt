@@ -1,10 +1,9 @@
 //! Runs over memory.
 
 use nav_io::{MemSink, MemSource};
+use receiver_frames::{SbfJudge, UbxJudge};
 use receiver_log::{Receiver, run_log};
-use receiver_frames::SbfJudge;
 use std::alloc::{AllocError, Global};
-use receiver_frames::UbxJudge;
 
 // The two forms of logs.
 #[derive(Clone, Copy)]

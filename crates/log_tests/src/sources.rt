@@ -2,11 +2,11 @@
 
 use crate::runs::source_of;
 use crate::small::{ALL, LOG, PAGE};
-use receiver_log::{LogSource, Unheard};
 use nav_io::Source;
+use receiver_frames::UbxJudge;
+use receiver_log::{LogSource, Unheard};
 use std::alloc::{AllocError, Global};
 use std::test::Fail;
-use receiver_frames::UbxJudge;
 
 // How the small log is read, and what the source over it gives.
 struct Reading {

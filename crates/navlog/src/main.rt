@@ -8,12 +8,11 @@
 #![tactic(auto)]
 
 use nav_io::{ReadSource, WriteSink};
+use receiver_frames::{SbfJudge, UbxJudge};
 use receiver_log::run_log;
-use receiver_frames::SbfJudge;
 use std::env;
 use std::io::ErrorKind;
 use std::process::ExitCode;
-use receiver_frames::UbxJudge;
 
 // The command line names no form.
 const NO_FORM: u8 = 2;
