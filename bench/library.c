@@ -29,6 +29,7 @@ static nb_item *items;
 static size_t n_frames;
 static uint32_t week;
 static nb_deframer deframer;
+static nb_push_state conversion;
 static volatile size_t kept; /* what a row found, so that none of it is left out */
 
 static double now(void) {
@@ -175,11 +176,9 @@ static const char *const jobs[][4] = {
     {"--from=stream", "--to=rinex", "--date=20240101 000000 UTC", "--leap=18"},
     {"--from=capture", "--to=rinex", "--date=20240101 000000 UTC", "--leap=18"}};
 
-static size_t converts(size_t job) {
-    nb_bytes words[5];
-    char near[32];
-    const text *input = job == 2 ? &capture : &stream;
-    size_t n = 0, i, used = 0, report_used = 0;
+/* The words of a job, and how many; near is room for one of them. */
+static size_t words_of(size_t job, nb_bytes *words, char *near) {
+    size_t n = 0, i;
     for (i = 0; i < 4 && jobs[job][i][0] != 0; i++) {
         words[n].at = (const uint8_t *)jobs[job][i];
         words[n++].size = strlen(jobs[job][i]);
@@ -188,8 +187,35 @@ static size_t converts(size_t job) {
         words[n].at = (const uint8_t *)near;
         words[n++].size = (size_t)sprintf(near, "--week=%u", (unsigned)week);
     }
+    return n;
+}
+
+static size_t converts(size_t job) {
+    nb_bytes words[5];
+    char near[32];
+    const text *input = job == 2 ? &capture : &stream;
+    size_t n = words_of(job, words, near), used = 0, report_used = 0;
     if (nb_convert(words, n, input->bytes, input->n, output.bytes, output.n, &used, report.bytes, report.n, &report_used) != NB_OK)
         printf("a conversion failed\n");
+    return used;
+}
+
+/* The same in pieces of 4,096 bytes, whose output is taken as it comes. */
+static size_t pushes(size_t job) {
+    nb_bytes words[5];
+    char near[32];
+    const text *input = job == 2 ? &capture : &stream;
+    size_t n = words_of(job, words, near), at = 0, used = 0;
+    uint32_t status = nb_push_open(&conversion, words, n);
+    while (status == NB_OK && at < input->n) {
+        size_t size = input->n - at < 4096 ? input->n - at : 4096;
+        status = nb_push(&conversion, input->bytes + at, size);
+        at += size;
+        used += nb_push_take(&conversion, output.bytes + used, output.n - used);
+    }
+    if (status != NB_OK || nb_push_finish(&conversion) != NB_OK) printf("a pushed conversion failed\n");
+    used += nb_push_take(&conversion, output.bytes + used, output.n - used);
+    nb_push_close(&conversion);
     return used;
 }
 
@@ -263,6 +289,8 @@ int main(int argc, char **argv) {
     row("nb_convert, stream to frames", converts, 0, 1, stream.n);
     row("nb_convert, stream to rinex", converts, 1, 1, stream.n);
     row("nb_convert, capture to rinex", converts, 2, 1, capture.n);
+    row("nb_push, stream to rinex, 4,096 bytes a call", pushes, 1, 1, stream.n);
+    row("nb_push, capture to rinex, 4,096 bytes a call", pushes, 2, 1, capture.n);
 #ifdef WITH_RTKLIB
     if (!init_rtcm(&rtcm)) return 6;
     rtcm.time = gpst2time((int)week, 302400);

@@ -67,6 +67,26 @@ for program in convert convert++; do
   done < examples/runs.txt
 done
 echo "convert: $runs runs"
+runs=0
+for program in follow follow++; do
+  while IFS='|' read -r status input output report words; do
+    case $status$words in
+      '0--from stream --to r'* | [05]'--from capture'* | '0--from=capture'* | '0--to count --from capture') ;;
+      *) continue ;;
+    esac
+    eval "set -- $words"
+    case $output in -) output=/dev/null ;; *) output=examples/$output ;; esac
+    case $report in -) report=/dev/null ;; *) report=examples/$report ;; esac
+    (cd examples && "$made/$program" "$@" < "$input" > "$out/output" 2> "$out/report")
+    got=$?
+    runs=$((runs + 1))
+    [ "$got" = "$status" ] || differs "status $got: $program $words < $input"
+    cmp -s "$out/output" "$output" || differs "output: $program $words < $input"
+    cmp -s "$out/report" "$report" || differs "report: $program $words < $input"
+  done < examples/runs.txt
+done
+[ "$runs" = 20 ] || differs "$runs runs of follow, and not 20"
+echo "follow: $runs runs"
 vectors=bindings/c/tests/vectors
 for suffix in '' ++; do
   $valgrind "$made/messages$suffix" $vectors/items.txt $vectors/records.txt || differs "messages$suffix"
@@ -77,6 +97,13 @@ for suffix in '' ++; do
     --leap=18 || differs "threads$suffix"
   "$made/memory_refused$suffix" examples/station.navcap examples/station.rnx --from=capture --to=rinex \
     '--date=20240101 000000 UTC' --leap=18 || differs "memory_refused$suffix"
+  cat examples/ephemerides.rtcm3 examples/beside/*.rtcm3 > "$out/stream"
+  $valgrind "$made/push$suffix" "$out/stream" --from=stream --to=rinex --week=2295 '--date=20240101 000000 UTC' \
+    --leap=18 || differs "push$suffix"
+  $valgrind "$made/push$suffix" examples/three.navcap --from=capture --to=rinex --week=2295 '--date=20240101 000000 UTC' \
+    --leap=18 || differs "push$suffix, a capture"
+  "$made/push$suffix" examples/station.navcap --from=capture --to=list || differs "push$suffix, a long capture"
+  $valgrind "$made/pairs$suffix" $vectors/inav_words.txt || differs "pairs$suffix"
   "$made/deframer$suffix" examples/ephemerides.rtcm3 examples/station.rtcm3 || differs "deframer$suffix"
   "$made/listen$suffix" 2295 < examples/ephemerides.rtcm3 | cmp -s - examples/expected/ephemerides.heard || differs "listen$suffix"
   rm -f "$out/log" "$out/heard"

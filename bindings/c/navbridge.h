@@ -24,7 +24,7 @@
 #include <stdint.h>
 
 /** The version of this header: the library answers the same number (nb_version()). */
-#define NB_VERSION 2
+#define NB_VERSION 3
 
 #ifdef __cplusplus
 extern "C" {
@@ -38,8 +38,11 @@ typedef enum nb_status {
     NB_NOT_THIS_FORM = 5, /**< nb_convert(): the first line of a capture, or the header of a navigation file, is refused */
     NB_NO_MEMORY = 6,     /**< malloc or realloc gave none */
     NB_REPORT_ROOM = 7,   /**< nb_convert(): the report is longer than its room; its length says how long */
-    NB_TOO_LONG = 8,      /**< nb_convert(): the input has more than 4,294,967,295 bytes */
+    NB_TOO_LONG = 8,      /**< nb_convert(): the input has more than 4,294,967,295 bytes; nb_push(): as it says */
     NB_NO_TEXT = 9,       /**< nb_convert(): a word is not UTF-8 */
+    NB_NOT_PUSHED = 10,   /**< nb_push_open(): the input of the words' job cannot be pushed: only nb_convert() does it */
+    NB_ENDED = 11,        /**< nb_push(), nb_push_finish(): nb_push_finish() was called before */
+    NB_CLOSED = 12,       /**< nb_push(), nb_push_finish(): no job is open */
 
     NB_NO_NUMBER = 16,     /**< a payload of fewer than two bytes, which has no message number */
     NB_OTHER_MESSAGE = 17, /**< a message other than 1019 and 1046 */
@@ -78,7 +81,8 @@ typedef enum nb_status {
     NB_WORD_UNUSED = 68,    /**< the word type is not 1 to 5 */
     NB_WORD_SATELLITE = 69, /**< word type 4 names another satellite */
     NB_WORD_TIME = 70,      /**< toe, toc or TOW past the end of the week */
-    NB_WORD_SISA = 71       /**< a spare SISA index, 126 to 254 */
+    NB_WORD_SISA = 71,      /**< a spare SISA index, 126 to 254 */
+    NB_NO_SIGNAL = 72       /**< a signal that is no nb_signal */
 } nb_status;
 
 /** Some bytes, which nobody changes. */
@@ -402,6 +406,75 @@ uint32_t nb_page_write(const nb_word *word, uint32_t satellite, nb_page_bits *pa
 
 /**@}*/
 
+/** @name I/NAV page parts, joined to pages (Galileo OS SIS ICD, 4.3.2)
+ * A receiver hears the two parts of a page one second apart, of many satellites at once, some twice, some not at all. Page parts
+ * that were taken wait here for their partners: a part of the same satellite and signal and of the other kind, the odd one a
+ * second after the even one, with which the CRC is right. They stand in memory of the caller's, and take more from malloc.
+ *
+ *     nb_pages_init(&it, 60);
+ *     for each part that is heard:
+ *         if (nb_pages_take(&it, part, stamp, satellite, NB_E1B) == NB_OK)
+ *             while (nb_pages_next(&it, &joined)) nb_page_read(&joined.page, satellite, &word);
+ *     nb_pages_close(&it);
+ */
+/**@{*/
+
+/** The most bytes that page parts take; nb_pages_size() tells how many they do take. */
+#define NB_PAGES_MOST 1024
+
+/** Room for page parts, of no use before nb_pages_init(), and to be touched by the calls below alone, one at a time. Between two
+ * calls it may be moved elsewhere, by memcpy. */
+typedef union nb_pages {
+    uint64_t aligned;            /**< so that it is aligned */
+    uint8_t room[NB_PAGES_MOST]; /**< bytes, whose meaning is the library's */
+} nb_pages;
+
+/** The signal on which a part was received. */
+typedef enum nb_signal {
+    NB_E1B = 1, /**< E1-B */
+    NB_E5B = 2  /**< E5b-I */
+} nb_signal;
+
+/** A page whose parts belong together. */
+typedef struct nb_joined {
+    nb_page_bits page; /**< its parts: those that were taken, but for reserved and tail bits, which are 0 */
+    uint32_t stamp;    /**< the stamp of its odd part */
+} nb_joined;
+
+/** How many bytes page parts take, at most NB_PAGES_MOST: for those who do not know this header's nb_pages. */
+size_t nb_pages_size(void);
+
+/**
+ * @brief Makes page parts of this memory, whatever it held: none was taken.
+ * @param window in seconds, 60 to 14,400; less is taken as 60, more as 14,400. A part is kept while its stamp is at most the
+ *               window and one second below the greatest.
+ */
+void nb_pages_init(nb_pages *at, uint32_t window);
+
+/**
+ * @brief Takes a part, in any order with the others. What was not asked for of the part before is gone.
+ * @param part      its 120 bits, 15 bytes, most significant bit first
+ * @param stamp     when it was received, in whole seconds of any clock that does not jump
+ * @param satellite the Galileo satellite that sent it, 1 to 36
+ * @param signal    an nb_signal
+ * @return NB_OK; or the first of NB_NO_SATELLITE, NB_PAGE_ALERT, NB_NO_SIGNAL and NB_NO_MEMORY that holds, and then nothing is
+ *         changed
+ */
+uint32_t nb_pages_take(nb_pages *at, const uint8_t *part, uint32_t stamp, uint32_t satellite, uint32_t signal);
+
+/**
+ * @brief Gives the next page that the last part makes with its partners: none where there is no partner yet, or where the same
+ *        part is kept already; several where several parts are partners.
+ * @param page set where there is one
+ * @return 1, or 0 where there is none
+ */
+uint32_t nb_pages_next(nb_pages *at, nb_joined *page);
+
+/** Gives back all memory that the parts hold: none is kept, and the window is of 60 seconds. */
+void nb_pages_close(nb_pages *at);
+
+/**@}*/
+
 /** @name RINEX navigation files */
 /**@{*/
 
@@ -480,6 +553,73 @@ void nb_deframer_finish(nb_deframer *at);
 
 /**@}*/
 
+/** @name Conversions whose input is pushed
+ * What nb_convert() does of a whole input, of one that comes in pieces of any size: a capture (`--from=capture`) to whatever it is
+ * converted to, a stream (`--from=stream`) to RINEX or to frames of its ephemerides. It stands in memory of the caller's, and
+ * keeps what it writes and reports until it is closed; the output and the report are taken as they come, into rooms of any size.
+ *
+ *     status = nb_push_open(&it, words, n_words);
+ *     while (status == NB_OK) {
+ *         size_t n = read some bytes;
+ *         status = n > 0 ? nb_push(&it, bytes, n) : nb_push_finish(&it);
+ *         while ((size = nb_push_take(&it, room, sizeof room)) > 0) use the output;
+ *         while ((size = nb_push_take_report(&it, room, sizeof room)) > 0) use the report;
+ *         if (n == 0) break;
+ *     }
+ *     nb_push_close(&it);
+ *
+ * Whatever the pieces, what is taken up to the end is what nb_convert() puts of the whole input. Before the end it is what the
+ * bytes decide, whatever follows: the record of an ephemeris of a stream is there as soon as its frame is whole, that of a
+ * capture as soon as its period is closed.
+ */
+/**@{*/
+
+/** The most bytes that a conversion takes; nb_push_size() tells how many it does take. */
+#define NB_PUSH_MOST 65536
+
+/** Room for a conversion, of no use before nb_push_open(), and to be touched by the calls below alone, one at a time. Between two
+ * calls it may be moved elsewhere, by memcpy. */
+typedef union nb_push_state {
+    uint64_t aligned;           /**< so that it is aligned */
+    uint8_t room[NB_PUSH_MOST]; /**< bytes, whose meaning is the library's */
+} nb_push_state;
+
+/** How many bytes a conversion takes, at most NB_PUSH_MOST: for those who do not know this header's nb_push_state. */
+size_t nb_push_size(void);
+
+/**
+ * @brief Makes a conversion of this memory, whatever it held, and opens the job that the words give. Call nb_push_close() at its
+ *        end, whatever was answered, and before it is opened anew: it holds memory.
+ * @param words   the words of the command line behind the program's name, as for nb_convert()
+ * @param n_words how many
+ * @return NB_OK, NB_NO_JOB, NB_NO_MEMORY, NB_NO_TEXT or NB_NOT_PUSHED
+ */
+uint32_t nb_push_open(nb_push_state *at, const nb_bytes *words, size_t n_words);
+
+/**
+ * @brief Pushes the next bytes of the input.
+ * @return NB_OK; NB_NOT_THIS_FORM where the first line of a capture is refused; NB_NO_MEMORY, behind which what was written and
+ *         reported is a prefix of what the whole gives; NB_TOO_LONG where a capture has 2^32 bytes, or a stream 2^64. Each answer
+ *         but NB_OK is given by each further call, and so is that of nb_push_open(); NB_ENDED behind nb_push_finish(), NB_CLOSED
+ *         behind nb_push_close().
+ */
+uint32_t nb_push(nb_push_state *at, const uint8_t *bytes, size_t n);
+
+/** Says that no byte follows: an incomplete frame may hide whole ones, a last line may lack its end, what is open of a capture is
+ * closed, and the report ends with the counts. NB_OK, or as nb_push(), but NB_TOO_LONG never comes here. */
+uint32_t nb_push_finish(nb_push_state *at);
+
+/** Puts the next bytes of the output, as many as wait and fit, and tells how many: 0 where none waits, or there is no room. */
+size_t nb_push_take(nb_push_state *at, uint8_t *room, size_t n);
+
+/** The same of the report. */
+size_t nb_push_take_report(nb_push_state *at, uint8_t *room, size_t n);
+
+/** Gives back all memory that the conversion holds. What was not taken is gone. */
+void nb_push_close(nb_push_state *at);
+
+/**@}*/
+
 /** @name Sizes
  * What the library was built for; a compiler that lays these out otherwise stops here. */
 /**@{*/
@@ -489,6 +629,8 @@ typedef char nb_check_gps[sizeof(nb_gps) == 132 && offsetof(nb_gps, clock) == 16
 typedef char nb_check_gal[sizeof(nb_gal) == 140 && offsetof(nb_gal, w1) == 16 && offsetof(nb_gal, health) == 116 ? 1 : -1];
 typedef char nb_check_ion[sizeof(nb_ion) == 64 && offsetof(nb_ion, gps) == 12 && offsetof(nb_ion, gal) == 44 ? 1 : -1];
 typedef char nb_check_deframer[sizeof(nb_deframer) == NB_DEFRAMER_MOST ? 1 : -1];
+typedef char nb_check_pages[sizeof(nb_pages) == NB_PAGES_MOST && sizeof(nb_joined) == 36 && offsetof(nb_joined, stamp) == 32 ? 1 : -1];
+typedef char nb_check_push[sizeof(nb_push_state) == NB_PUSH_MOST ? 1 : -1];
 typedef char nb_check_item[sizeof(nb_item) == 344 && offsetof(nb_item, gal) == 136 && offsetof(nb_item, ion) == 280 ? 1 : -1];
 typedef char nb_check_subframe[sizeof(nb_subframe) == 160 && offsetof(nb_subframe, ion) == 128 ? 1 : -1];
 typedef char nb_check_subframe_bits[sizeof(nb_subframe_bits) == 38 ? 1 : -1];

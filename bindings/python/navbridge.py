@@ -27,9 +27,18 @@ True
 >>> page = write_page(Word(number=1, w1=item.gal.w1), item.gal.satellite)
 >>> read_page(page, item.gal.satellite).w1 == item.gal.w1
 True
+>>> parts = PageParts()
+>>> parts.take(page[15:], 1001, item.gal.satellite), parts.take(page[:15], 1000, item.gal.satellite)[0].page == page
+([], True)
 >>> frames = Deframer()
 >>> [len(it) for it in frames.feed(stream[:100])], [len(it) for it in frames.feed(stream[100:])], frames.finish()
 ([69], [67], [])
+>>> words = ["--from=stream", "--to=rinex", "--week=2295", "--date=20240101 000000 UTC", "--leap=18"]
+>>> with Push(words) as push:
+...     first, second, last = push.push(stream[:100]), push.push(stream[100:]), push.finish()
+...     report = push.report()
+>>> first + second + last == convert(words, stream).output, second.startswith(b"> EPH"), report.splitlines()[0]
+(True, True, b'frames 2')
 >>> read_message(b"", week=2295)
 Traceback (most recent call last):
     ...
@@ -42,23 +51,32 @@ import ctypes
 import math
 import os
 from pathlib import Path
-from typing import NamedTuple, Sequence
+from typing import Callable, NamedTuple, Sequence
 
 __all__ = [
-    "Conversion", "Deframer", "GALILEO", "GALILEO_IONOSPHERE", "GPS", "GPS_IONOSPHERE", "Gal", "Gps", "Ion", "Item", "Orbit",
-    "Refused", "Subframe", "Word", "convert", "is_frame", "make_frame", "orbit_of", "read_message", "read_page", "read_record",
-    "read_subframe", "write_message", "write_page", "write_record", "write_subframe",
+    "Conversion", "Deframer", "E1B", "E5B", "GALILEO", "GALILEO_IONOSPHERE", "GPS", "GPS_IONOSPHERE", "Gal", "Gps", "Ion", "Item",
+    "Orbit", "Page", "PageParts", "Push", "Refused", "Subframe", "Word", "convert", "is_frame", "make_frame", "orbit_of",
+    "read_message", "read_page", "read_record", "read_subframe", "write_message", "write_page", "write_record", "write_subframe",
 ]
 
 GPS = 1
 GALILEO = 2
 GPS_IONOSPHERE = 3
 GALILEO_IONOSPHERE = 4
+E1B = 1
+E5B = 2
 PI = 3.1415926535898  # as the standards give it
 EXAMPLES = Path(__file__).resolve().parents[2] / "examples"
-VERSION = 2
+VERSION = 3
 
 REASONS = {
+    2: "the words name no job",
+    6: "there is no memory",
+    8: "the input is too long",
+    9: "a word is not UTF-8",
+    10: "the input of this job cannot be pushed",
+    11: "the input has ended",
+    12: "no job is open",
     16: "no message number",
     17: "a message other than 1019 and 1046",
     18: "the payload is shorter than its message",
@@ -93,6 +111,7 @@ REASONS = {
     69: "another satellite",
     70: "toe, toc or TOW is past the end of the week",
     71: "a spare accuracy",
+    72: "there is no such signal",
 } | {48 + word: f"the parity of word {word} is wrong" for word in range(1, 11)}
 
 
@@ -222,6 +241,13 @@ class Conversion(NamedTuple):
     report: bytes
 
 
+class Page(NamedTuple):
+    """The page of two parts that belong together, and the stamp of its odd part."""
+
+    page: bytes
+    stamp: int
+
+
 class Orbit(NamedTuple):
     """An orbit and its clock in SI units, angles in radians; toe and toc in seconds of the week of toe."""
 
@@ -252,6 +278,10 @@ class _Bytes(ctypes.Structure):
     _fields_ = [("at", ctypes.c_char_p), ("size", ctypes.c_size_t)]
 
 
+class _Joined(ctypes.Structure):
+    _fields_ = [("page", ctypes.c_uint8 * 30), ("stamp", ctypes.c_uint32)]
+
+
 _library: ctypes.CDLL | None = None
 
 
@@ -280,6 +310,18 @@ def _loaded() -> ctypes.CDLL:
             ("deframer_feed", [ctypes.c_void_p, text, size], size),
             ("deframer_next", [ctypes.c_void_p, text, size], size),
             ("deframer_finish", [ctypes.c_void_p], None),
+            ("pages_size", [], size),
+            ("pages_init", [ctypes.c_void_p, number], None),
+            ("pages_take", [ctypes.c_void_p, text, number, number, number], number),
+            ("pages_next", [ctypes.c_void_p, ctypes.POINTER(_Joined)], number),
+            ("pages_close", [ctypes.c_void_p], None),
+            ("push_size", [], size),
+            ("push_open", [ctypes.c_void_p, ctypes.POINTER(_Bytes), size], number),
+            ("push", [ctypes.c_void_p, text, size], number),
+            ("push_finish", [ctypes.c_void_p], number),
+            ("push_take", [ctypes.c_void_p, text, size], size),
+            ("push_take_report", [ctypes.c_void_p, text, size], size),
+            ("push_close", [ctypes.c_void_p], None),
         ):
             call = getattr(library, "nb_" + name)
             call.argtypes, call.restype = takes, gives
@@ -289,16 +331,20 @@ def _loaded() -> ctypes.CDLL:
     return _library
 
 
+def _words(words: Sequence[str]) -> tuple[ctypes.Array[_Bytes], int]:
+    texts = [it.encode() for it in words]
+    return (_Bytes * len(texts))(*[_Bytes(it, len(it)) for it in texts]), len(texts)
+
+
 def convert(words: Sequence[str], data: bytes) -> Conversion:
     """Does what the program ``navbridge`` does with these words and this input."""
-    texts = [it.encode() for it in words]
-    given = (_Bytes * len(texts))(*[_Bytes(it, len(it)) for it in texts])
+    given, count = _words(words)
     room, report_room = max(65536, 2 * len(data)), 65536
     while True:
         output, report = ctypes.create_string_buffer(room), ctypes.create_string_buffer(report_room)
         used, report_used = ctypes.c_size_t(), ctypes.c_size_t()
         status = _loaded().nb_convert(
-            given, len(texts), data, len(data), output, room, ctypes.byref(used), report, report_room, ctypes.byref(report_used)
+            given, count, data, len(data), output, room, ctypes.byref(used), report, report_room, ctypes.byref(report_used)
         )
         if used.value <= room and report_used.value <= report_room:
             return Conversion(status, output.raw[: used.value], report.raw[: report_used.value])
@@ -352,6 +398,91 @@ class Deframer:
         """The frames behind an incomplete one, now that no byte follows."""
         _loaded().nb_deframer_finish(self._state)
         return self._decided()
+
+
+class PageParts:
+    """Parts of I/NAV pages that wait for their partners, taken in any order; for one thread at a time.
+
+    A part is kept while its stamp is at most ``window`` and one second below the greatest, 60 to 14,400 seconds."""
+
+    def __init__(self, window: int = 60) -> None:
+        library = _loaded()
+        self._state = (ctypes.c_uint64 * ((library.nb_pages_size() + 7) // 8))()
+        library.nb_pages_init(self._state, window)
+
+    def take(self, part: bytes, stamp: int, satellite: int, signal: int = E1B) -> list[Page]:
+        """The pages that a part of 15 bytes makes with those that were taken, each as ``read_page`` takes it."""
+        _given(_loaded().nb_pages_take(self._state, _of_size(part, 15), stamp, satellite, signal))
+        joined, pages = _Joined(), []
+        while _loaded().nb_pages_next(self._state, ctypes.byref(joined)):
+            pages.append(Page(bytes(joined.page), joined.stamp))
+        return pages
+
+    def close(self) -> None:
+        """Gives back its memory; none is kept."""
+        _loaded().nb_pages_close(self._state)
+
+    def __del__(self) -> None:
+        if hasattr(self, "_state"):
+            self.close()
+
+
+class Push:
+    """A conversion whose input is pushed in pieces of any size: what ``convert`` gives of the whole, as it comes.
+
+    Its words name a job over a capture, or over a stream to RINEX or to its ephemerides; for one thread at a time. As a context it is
+    closed at its end, and gives back its memory; else by ``close``."""
+
+    def __init__(self, words: Sequence[str]) -> None:
+        library = _loaded()
+        self._state: ctypes.Array[ctypes.c_uint64] | None = (ctypes.c_uint64 * ((library.nb_push_size() + 7) // 8))()
+        given, count = _words(words)
+        status = library.nb_push_open(self._state, given, count)
+        if status != 0:
+            self.close()
+            raise Refused(status)
+
+    def _taken(self, take: Callable[..., int]) -> bytes:
+        room, pieces = ctypes.create_string_buffer(65536), []
+        while size := take(self._state, room, len(room)):
+            pieces.append(room.raw[:size])
+        return b"".join(pieces)
+
+    def _open(self) -> ctypes.Array[ctypes.c_uint64]:
+        if self._state is None:
+            raise Refused(12)
+        return self._state
+
+    def push(self, data: bytes) -> bytes:
+        """Takes the next bytes of the input, and gives the output that they decide."""
+        _given(_loaded().nb_push(self._open(), data, len(data)))
+        return self._taken(_loaded().nb_push_take)
+
+    def finish(self) -> bytes:
+        """The last of the output, now that no byte follows."""
+        _given(_loaded().nb_push_finish(self._open()))
+        return self._taken(_loaded().nb_push_take)
+
+    def report(self) -> bytes:
+        """What was reported since this was last asked."""
+        self._open()
+        return self._taken(_loaded().nb_push_take_report)
+
+    def close(self) -> None:
+        """Gives back its memory."""
+        if self._state is not None:
+            _loaded().nb_push_close(self._state)
+            self._state = None
+
+    def __enter__(self) -> Push:
+        return self
+
+    def __exit__(self, *error: object) -> None:
+        self.close()
+
+    def __del__(self) -> None:
+        if getattr(self, "_state", None) is not None:
+            self.close()
 
 
 def read_message(payload: bytes, week: int) -> Item:

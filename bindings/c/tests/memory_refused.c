@@ -8,51 +8,7 @@
 #include <string.h>
 
 #include "navbridge.h"
-
-#ifdef __cplusplus
-extern "C" {
-#endif
-
-/* These stand for those of the library's memory.c, which the linker then leaves out. */
-struct rattle_got {
-    uint64_t ok;
-    void *at;
-};
-struct rattle_got rattle_alloc(size_t size, size_t align);
-struct rattle_got rattle_realloc(void *old, size_t old_size, size_t size, size_t align);
-void rattle_dealloc(void *old);
-
-static long left, asked, held;
-static char none;
-
-static struct rattle_got got(void *at) {
-    struct rattle_got it;
-    it.ok = at != NULL;
-    it.at = at != NULL ? at : &none;
-    return it;
-}
-
-struct rattle_got rattle_alloc(size_t size, size_t align) {
-    asked++;
-    if (left-- <= 0) return got(NULL);
-    held++;
-    return got(malloc(size != 0 ? size : align));
-}
-
-struct rattle_got rattle_realloc(void *old, size_t old_size, size_t size, size_t align) {
-    (void)old_size;
-    asked++;
-    return left-- <= 0 ? got(NULL) : got(realloc(old, size != 0 ? size : align));
-}
-
-void rattle_dealloc(void *old) {
-    held--;
-    free(old);
-}
-
-#ifdef __cplusplus
-}
-#endif
+#include "refused.h"
 
 enum { MOST = 1 << 22, WORDS = 16 };
 
@@ -83,11 +39,10 @@ int main(int argc, char **argv) {
     for (;; from++) {
         size_t used = 0, report_used = 0;
         uint32_t status;
-        left = from;
-        asked = held = 0;
+        refuse_from(from);
         status = nb_convert(words, n_words, input, n_input, output, MOST, &used, report, MOST, &report_used);
-        if (held != 0 || used > n_expected || memcmp(output, expected, used) != 0) wrong++;
-        if (asked <= from) {
+        if (requests_held() != 0 || used > n_expected || memcmp(output, expected, used) != 0) wrong++;
+        if (requests_asked() <= from) {
             if (status != NB_OK || used != n_expected) wrong++;
             break;
         }

@@ -16,7 +16,7 @@ typedef struct field {
 } field;
 
 /* Puts a number of 32 bits, with a sign or without, wherever its name stands; whether it stands somewhere. */
-static int put(void *into, const field *fields, size_t count, const char *name, const char *value) {
+static inline int put(void *into, const field *fields, size_t count, const char *name, const char *value) {
     uint32_t bits = (uint32_t)(unsigned long long)atoll(value);
     int is_there = 0;
     size_t i;
@@ -28,7 +28,7 @@ static int put(void *into, const field *fields, size_t count, const char *name, 
     return is_there;
 }
 
-static size_t bytes_of(const char *hex, uint8_t *into) {
+static inline size_t bytes_of(const char *hex, uint8_t *into) {
     size_t n = 0;
     unsigned byte;
     while (isxdigit((unsigned char)hex[2 * n]) && sscanf(hex + 2 * n, "%2x", &byte) == 1) into[n++] = (uint8_t)byte;

@@ -38,6 +38,7 @@ pub use crate::job::{CaptureJob, Job, SeedJob, StreamJob, job_of};
 pub use crate::laws::{captures_are_told, words_give_one_job};
 pub use crate::options::{Found, options_of};
 pub use crate::statuses::bridge;
+pub use crate::values::is_date;
 pub use crate::word_laws::{words_give_values_in_one_way, words_spell_options_in_one_way};
 pub use captures::{CaptureCounts, CaptureTo, SeedCounts, SeedTo, run_capture, run_seed};
 pub use nav_files::{

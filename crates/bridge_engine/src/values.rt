@@ -168,11 +168,14 @@ fn value_of_digits(text: &[u8]) -> u64
     value
 }
 
-// Whether 19 characters have the form of a date: eight digits, a space, six digits, and ` UTC`.
-fn is_date(text: &[u8]) -> bool
-    requires { length text.now ≡ 19 }
+/// Whether a text has the form of a date in a RINEX header: eight digits, a space, six digits, and
+/// ` UTC`.
+pub fn is_date(text: &[u8]) -> bool
     ensures { IsTrue result ↔ IsDateText text.now text.now }
 {
+    if text.len() != 19 {
+        return false;
+    }
     if text[8] != b' ' {
         return false;
     }

@@ -1,40 +1,13 @@
 -- The lines of a text, one after another, as far as a record looks at them.
-use Rattle.std.proofs.Common.{◌≡◌, ◌+◌, ◌<◌, ◌≤◌, ◌==◌, ◌++◌, ℕ, zero, suc, nat_lt, Bool, true, false, List, [], ◌∷◌, Option, Some, None, IfSome, IfNone, length, take, drop, get_or, map, refl, sym, ap, ◌∙◌, arith, length-drop, length-take}
+use Rattle.std.proofs.Common.{◌≡◌, ◌+◌, ◌<◌, ◌≤◌, ◌==◌, ◌++◌, ℕ, zero, suc, nat_lt, Bool, true, false, List, [], ◌∷◌, length, take, drop, map, refl, sym, ap, ◌∙◌, arith, length-drop, length-take}
 use Rattle.std.specs.Prelude.{if◌then◌else◌}
-use Rattle.std.proofs.lemmas.List.{take-append-drop, drop_more, take_all, length-map, map-append}
+use Rattle.std.proofs.lemmas.List.{take-append-drop, take_all, length-map, map-append}
 use Rattle.std.proofs.lemmas.Bool.{eqb-true, lt-ltb}
-use Rattle.memchr.specs.Find.{IsFirstByte, is_byte}
 use Rattle.nav_io.specs.Lines.{ends, pieces, without_cr}
 use Rattle.nav_io.specs.Mirrors.{EndsAt}
 use Rattle.nav_io.proofs.Surface.{pieces-line}
 use Rattle.rinex_read.specs.Kept.{kept_with, padded}
 use Rattle.rinex_read.specs.Lines.{lines_of}
-
--- ---- the first LF
-
-none_by : (n x : ℕ) (xs : List ℕ) (b : Bool) → (x == 10) ≡ b → (b ≡ true → ⊥) → ends (take n xs) ≡ false → ends (x ∷ take n xs) ≡ false
-none_by n x xs true e fails ih = absurd (fails refl)
-none_by n x xs false e fails ih = rw e ih
-
--- no byte of the prefix is an LF
-none_before : (n : ℕ) (xs : List ℕ) → ((k : ℕ) → k < n → k < length xs → (get_or xs k 0 == 10) ≡ true → ⊥) → ends (take n xs) ≡ false
-none_before zero xs h = refl
-none_before (suc n) [] h = refl
-none_before (suc n) (x ∷ xs) h =
-    none_by n x xs (x == 10) refl (h zero (omega arith) (omega arith)) (none_before n xs (λ k less within. h (suc k) (omega arith) (omega arith)))
-
-pub first_some : (xs : List ℕ) (r : Option ℕ) → IsFirstByte (is_byte 10) xs r → IfSome r (λ place. EndsAt xs place)
-first_some xs None h = tt
-first_some xs (Some k) h = record {
-  none = none_before k xs (λ n less within. h.0.before n (omega arith) less);
-  at = drop_more xs k 0 h.0.high ∙ ap (λ (x : ℕ). x ∷ drop (k + 1) xs) (eqb-true (get_or xs k 0) 10 h.1);
-  within = h.0.high;
-}
-
-pub first_none : (xs : List ℕ) (r : Option ℕ) → IsFirstByte (is_byte 10) xs r → IfNone r (ends xs ≡ false)
-first_none xs None h =
-    ap ends (sym (take_all (length xs) xs (omega arith))) ∙ none_before (length xs) xs (λ n less within. h n (omega arith) less)
-first_none xs (Some k) h = tt
 
 -- ---- a line
 
@@ -63,32 +36,6 @@ last_line (x ∷ text) none some = pieces-last x text none
 pub line_last : (text line : List ℕ) → ends text ≡ false → 0 < length text → line ≡ without_cr text → lines_of text ≡ line ∷ []
 line_last text line none some is =
     ap (λ (ls : List (List ℕ)). map without_cr ls) (last_line text none some) ∙ ap (λ (l : List ℕ). l ∷ []) (sym is)
-
--- ---- a CR at the end
-
-cr_last : (x : ℕ) (b : Bool) → (x == 13) ≡ b → b ≡ true → take 0 (x ∷ []) ≡ without_cr (x ∷ [])
-cr_last x true e h = rw e refl
-cr_last x false e h = absurd cc
-
-no_cr_last : (x : ℕ) (b : Bool) → (x == 13) ≡ b → b ≡ false → take 1 (x ∷ []) ≡ without_cr (x ∷ [])
-no_cr_last x true e h = absurd cc
-no_cr_last x false e h = rw e refl
-
--- a line with a CR at its end
-pub without_cr-cr : (k : ℕ) (line : List ℕ) → length line ≡ suc k → (get_or line k 0 == 13) ≡ true → take k line ≡ without_cr line
-without_cr-cr k [] e h = absurd (omega arith)
-without_cr-cr zero (x ∷ []) e h = cr_last x (x == 13) refl h
-without_cr-cr (suc k) (x ∷ []) e h = absurd (omega arith)
-without_cr-cr zero (x ∷ y ∷ ys) e h = absurd (omega arith)
-without_cr-cr (suc k) (x ∷ y ∷ ys) e h = ap (λ (l : List ℕ). x ∷ l) (without_cr-cr k (y ∷ ys) (omega arith) h)
-
--- a line without one
-pub without_cr-none : (k : ℕ) (line : List ℕ) → length line ≡ suc k → (get_or line k 0 == 13) ≡ false → take (suc k) line ≡ without_cr line
-without_cr-none k [] e h = absurd (omega arith)
-without_cr-none zero (x ∷ []) e h = no_cr_last x (x == 13) refl h
-without_cr-none (suc k) (x ∷ []) e h = absurd (omega arith)
-without_cr-none zero (x ∷ y ∷ ys) e h = absurd (omega arith)
-without_cr-none (suc k) (x ∷ y ∷ ys) e h = ap (λ (l : List ℕ). x ∷ l) (without_cr-none k (y ∷ ys) (omega arith) h)
 
 -- ---- lines that are kept
 

@@ -1,33 +1,12 @@
 //! The lines of a text, as far as a record looks at them.
 
-ghost use Rattle.std.specs.Prelude.{◌≡◌, ◌<◌, ◌≤◌, ◌∷◌, IfNone, IfSome, false, length, map, take};
-ghost use Rattle.nav_io.specs.Lines.{ends, without_cr};
-ghost use Rattle.nav_io.specs.Mirrors.{EndsAt};
+ghost use Rattle.std.specs.Prelude.{◌≡◌, ◌<◌, ◌∷◌, length, map, take};
+ghost use Rattle.nav_io.specs.Lines.{without_cr};
 ghost use Rattle.rinex_read.specs.Kept.{padded};
 ghost use Rattle.rinex_read.specs.Lines.{lines_of};
 
-use memchr::memchr;
+use nav_io::{first_end, length_without_cr};
 use rinex_read::RecordLines;
-
-// The place of the first LF.
-fn first_end(text: &[u8]) -> Option<usize>
-    ensures some { IfSome result (λ place. EndsAt text.now place) }
-    ensures none { IfNone result (ends text.now ≡ false) }
-{
-    memchr(b'\n', text)
-}
-
-// How many bytes the line has without the CR at its end.
-fn length_without_cr(line: &[u8]) -> usize
-    ensures within { result ≤ length line.now }
-    ensures value { take result line.now ≡ without_cr line.now }
-{
-    if line.is_empty() {
-        return 0;
-    }
-    let last = line.len() - 1;
-    if line[last] == b'\r' { last } else { last + 1 }
-}
 
 // The line without the CR at its end.
 fn without_end(line: &[u8]) -> &[u8]

@@ -1,1 +1,6 @@
 mod CallLemmas
+mod CapturePushes
+mod GrowLemmas
+mod PageLemmas
+mod PushLemmas
+mod TextWords

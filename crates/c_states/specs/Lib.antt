@@ -1,2 +1,6 @@
 pub mod Calls
 pub mod Deframers
+pub mod PagePairs
+pub mod Places
+pub mod Pushes
+pub mod Waiting

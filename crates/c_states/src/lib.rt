@@ -1,7 +1,10 @@
-//! States that stand in memory of C's: safe steps over them, each of which leaves a state that is a
-//! function of the one before and of its answer, so that a contract over memory can name it.
+//! States that stand in memory of C's, and safe steps over them. Each leaves a state that stands in a
+//! relation to the one before and to its answer, or is a function of them, so that a contract over
+//! memory can name it.
 //!
-//! - [`deframer`]: the frames of a stream that comes in pieces (RTCM 10403.3, the transport layer).
+//! - [`deframer`]: the frames of a stream that comes in pieces (RTCM 10403.3, the transport layer);
+//! - [`pages`]: the parts of Galileo I/NAV pages, joined to pages as they come in any order;
+//! - [`push`]: a whole conversion whose input comes in pieces, as the program does it over its streams.
 //!
 //! ```rust
 //! let mut state = deframer::new();
@@ -11,6 +14,14 @@
 #![tactic(auto)]
 
 pub mod deframer;
+mod kept;
 mod laws;
+pub mod pages;
+pub mod push;
+mod words;
 
+pub use crate::kept::Kept;
 pub use crate::laws::what_a_deframer_gives_does_not_depend_on_pieces;
+pub use crate::pages::{JoinedPage, PagePairs, PartBits};
+pub use crate::push::Conversion;
+pub use crate::words::{are_texts, texts_of};

@@ -22,7 +22,9 @@ use Rattle.one_run.specs.declared.fault.BridgeFault.{BridgeFault}
 use Rattle.one_run.specs.declared.fault.BridgeFault.TheVariants.{ReadFault, WriteFault, ReportFault, TooLong, NoMemory, NotThisForm}
 use Rattle.outlets.specs.Targets.{back_text, prefix_text}
 use Rattle.captures.specs.Captures.{accepted_line, capture_in, capture_meaning, capture_of, capture_with, counts_in, counts_of, counts_text, least_output, output_of, periods, refusals_text, report_of_capture, flushed_output, flushed_report, flushed_text, target_meaning, target_of, texts_of}
-use Rattle.captures.specs.Converts.{AcceptsHead, CaptureAhead, CapturePrefix, ConvertsAll, ConversionBroke, ConversionSays, GivesHead, GivesNoHead, Stop, StopSays, closed_texts, no_tally}
+use Rattle.captures.specs.declared.hearing.Hearing.{Hearing}
+use Rattle.captures.specs.Conversions.{ConvertsAll, ConversionBroke, ConversionSays}
+use Rattle.captures.specs.Converts.{AcceptsHead, CaptureAhead, CapturePrefix, GivesHead, GivesNoHead, Stop, StopSays, closed_texts, no_tally}
 use Rattle.captures.specs.Notes.{line_report, tallied}
 use Rattle.captures.specs.Reports.{count_in, is_late, is_malformed, is_refused_event, is_unused}
 use Rattle.one_run.specs.Causes.{Faults, HasItsCause, faults_of}
@@ -96,6 +98,10 @@ pub head_accepts : (week : Option ℕ) (left left1 : Option (List ℕ)) (old new
 head_accepts week left left1 old new head fresh h =
     accepts_first week head h.line left h.accepted (known_lines left left1 old new (h.line ∷ []) h.gives.reads fresh.rest fresh.ended)
 
+-- one line was read
+pub one_line : (week : Option ℕ) (left left1 : Option (List ℕ)) (old new : LinesState) (head : Accepted) → IsFresh old → GivesHead week left left1 old new head → new.number ≡ 1 + length {A = Line} []
+one_line week left left1 old new head fresh h = omega (arith, fresh.number, h.gives.number)
+
 -- the capture that the bytes taken are
 head_capture : (week : Option ℕ) (left left1 left2 : Option (List ℕ)) (old middle new : LinesState) (head : Accepted) (given : List Line) → IsFresh old → (h : GivesHead week left left1 old middle head)
     → (reads : Reads left1 left2 middle new given) → capture_of week (h.gives.reads.taken ++ reads.taken) ≡ Some (capture_by head (given ++ lines_by false new.rest))
@@ -145,46 +151,46 @@ recent_head line a b prefix rest n e few all recent =
     (omega (arith, sum_pieces prefix (take k s), ended_before prefix rest (line ∷ []) (ap (lines_by false) (sym e) ∙ all), lines_length true (take k s), recent))
 
 -- a prefix of what all bytes give
-convert_prefix : (to : Target) (week : Option ℕ) (left left1 left2 written written1 written2 reported reported2 : Option (List ℕ)) (middle new : LinesState) (head : Accepted) (line : Line) (fault : BridgeFault) → accepted_line week line ≡ Some head
-    → Appends written written1 (prefix_text to) → (p : ConversionBroke to head left1 left2 middle new written1 written2 reported reported2 fault)
+convert_prefix : (to : Target) (week : Option ℕ) (left left1 left2 written written1 written2 reported reported2 : Option (List ℕ)) (middle new : LinesState) (hearing : Hearing) (head : Accepted) (line : Line) (fault : BridgeFault) → accepted_line week line ≡ Some head
+    → Appends written written1 (prefix_text to) → (p : ConversionBroke to head [] left1 left2 middle new hearing written1 written2 reported reported2 fault)
     → Follow left new (line ∷ (p.given ++ p.last)) → CapturePrefix to week left written written2 reported reported2
-convert_prefix to week None left1 left2 written written1 written2 reported reported2 middle new head line fault accepted begun p k = tt
-convert_prefix to week (Some bytes) left1 left2 written written1 written2 reported reported2 middle new head line fault accepted begun p k =
+convert_prefix to week None left1 left2 written written1 written2 reported reported2 middle new hearing head line fault accepted begun p k = tt
+convert_prefix to week (Some bytes) left1 left2 written written1 written2 reported reported2 middle new hearing head line fault accepted begun p k =
     let text = p.text k.0 k.2 in
     prefixes_of to week head line (p.given ++ p.last) k.0 bytes written written1 written2 reported reported2 accepted k.1 begun (text.prefix, text.within, text.grew) p.report
 
 -- what the fault says besides
-convert_says : (to : Target) (week : Option ℕ) (left left1 left2 written written1 written2 reported reported2 : Option (List ℕ)) (old middle new : LinesState) (head : Accepted) (given last : List Line) (fault : BridgeFault) → IsFresh old
+convert_says : (to : Target) (week : Option ℕ) (left left1 left2 written written1 written2 reported reported2 : Option (List ℕ)) (old middle new : LinesState) (hearing : Hearing) (head : Accepted) (given last : List Line) (fault : BridgeFault) → IsFresh old
     → (h : GivesHead week left left1 old middle head) → Appends written written1 (prefix_text to) → (reads : Reads left1 left2 middle new (given ++ last))
-    → ConversionSays to head given last new written1 written2 reported reported2 fault
+    → ConversionSays to head given last new hearing written1 written2 reported reported2 fault
     → StopSays to week left (h.gives.reads.taken ++ reads.taken) written written2 reported reported2 fault
-convert_says to week left left1 left2 written written1 written2 reported reported2 old middle new head given last ReadFault fresh h begun reads says =
+convert_says to week left left1 left2 written written1 written2 reported reported2 old middle new hearing head given last ReadFault fresh h begun reads says =
     let t = h.gives.reads.taken ++ reads.taken in
     let all = reads_more left left1 left2 old middle new (h.line ∷ []) (given ++ last) h.gives.reads reads in
     let ended : lines_by true t ≡ h.line ∷ given =
-    ap (lines_by true) (held_none old.rest t fresh.rest) ∙ ended_lines left left2 old new (h.line ∷ (given ++ last)) all says.1 says.2
+    ap (lines_by true) (held_none old.rest t fresh.rest) ∙ ended_lines left left2 old new (h.line ∷ (given ++ last)) all says.1.more says.1.none
     ∙ ap (λ (l : List Line). h.line ∷ (given ++ l)) says.0 ∙ ap (λ (l : List Line). h.line ∷ l) (append-nil given) in
     let closed = closed_texts to head given in
     let text : flushed_output to week t ≡ prefix_text to ++ closed =
     flushed_is to week t (h.line ∷ given) ended ∙ ap (flushed_text to) (capture_lines week head h.line given h.accepted) in
     let report : flushed_report week t ≡ line_report (log_of head.window given) =
     flushed_report_is week t (h.line ∷ given) ended ∙ ap refusals_text (capture_lines week head h.line given h.accepted) in (
-      subst (Appends written written2) (sym text) (Appends-trans written written1 written2 (prefix_text to) closed begun says.3),
-      subst (Appends reported reported2) (sym report) says.4,
+      subst (Appends written written2) (sym text) (Appends-trans written written1 written2 (prefix_text to) closed begun says.1.stands.flushed.text),
+      subst (Appends reported reported2) (sym report) says.1.stands.report,
     )
-convert_says to week left left1 left2 written written1 written2 reported reported2 old middle new head given last TooLong fresh h begun reads says =
+convert_says to week left left1 left2 written written1 written2 reported reported2 old middle new hearing head given last TooLong fresh h begun reads says =
     omega (arith, says, (reads_more left left1 left2 old middle new (h.line ∷ []) (given ++ last) h.gives.reads reads).count, fresh.taken)
-convert_says to week left left1 left2 written written1 written2 reported reported2 old middle new head given last NotThisForm fresh h begun reads says = absurd says
-convert_says to week left left1 left2 written written1 written2 reported reported2 old middle new head given last WriteFault fresh h begun reads says = head_accepts week left left1 old middle head fresh h
-convert_says to week left left1 left2 written written1 written2 reported reported2 old middle new head given last ReportFault fresh h begun reads says = head_accepts week left left1 old middle head fresh h
-convert_says to week left left1 left2 written written1 written2 reported reported2 old middle new head given last NoMemory fresh h begun reads says = head_accepts week left left1 old middle head fresh h
+convert_says to week left left1 left2 written written1 written2 reported reported2 old middle new hearing head given last NotThisForm fresh h begun reads says = absurd says
+convert_says to week left left1 left2 written written1 written2 reported reported2 old middle new hearing head given last WriteFault fresh h begun reads says = head_accepts week left left1 old middle head fresh h
+convert_says to week left left1 left2 written written1 written2 reported reported2 old middle new hearing head given last ReportFault fresh h begun reads says = head_accepts week left left1 old middle head fresh h
+convert_says to week left left1 left2 written written1 written2 reported reported2 old middle new hearing head given last NoMemory fresh h begun reads says = head_accepts week left left1 old middle head fresh h
 
 -- a prefix of the output of the lines
-pub convert_stops : (laws : LogLaws) (to : Target) (week : Option ℕ) (left left1 left2 written written1 written2 reported reported2 : Option (List ℕ)) (old middle new : LinesState) (head : Accepted) (fault : BridgeFault) → IsFresh old
+pub convert_stops : (laws : LogLaws) (to : Target) (week : Option ℕ) (left left1 left2 written written1 written2 reported reported2 : Option (List ℕ)) (old middle new : LinesState) (hearing : Hearing) (head : Accepted) (fault : BridgeFault) → IsFresh old
     → GivesHead week left left1 old middle head → Appends written written1 (prefix_text to)
-    → ConversionBroke to head left1 left2 middle new written1 written2 reported reported2 fault
+    → ConversionBroke to head [] left1 left2 middle new hearing written1 written2 reported reported2 fault
     → Stop to week left left2 written written2 reported reported2 fault
-convert_stops laws to week left left1 left2 written written1 written2 reported reported2 old middle new head fault fresh h begun p =
+convert_stops laws to week left left1 left2 written written1 written2 reported reported2 old middle new hearing head fault fresh h begun p =
     let a = h.gives.reads.taken in
     let t = a ++ p.reads.taken in
     let reads = reads_more left left1 left2 old middle new (h.line ∷ []) (p.given ++ p.last) h.gives.reads p.reads in
@@ -215,11 +221,11 @@ convert_stops laws to week left left1 left2 written written1 written2 reported r
           (prefix_trans (line_report (log_of head.window (p.given ++ p.last))) (line_report (log_of head.window c.lines)) (line_report (log_of head.window c.lines) ++ counts_text (counts_of c))
           (report_prefix head.window (p.given ++ p.last) more) (prefix_more (line_report (log_of head.window c.lines)) (counts_text (counts_of c)))) p.report);
       ahead = (
-        convert_prefix to week left left1 left2 written written1 written2 reported reported2 middle new head h.line fault h.accepted begun p
+        convert_prefix to week left left1 left2 written written1 written2 reported reported2 middle new hearing head h.line fault h.accepted begun p
             (lines_follow left left2 old new (h.line ∷ (p.given ++ p.last)) reads fresh.rest fresh.ended),
         last_texts to week left left2 written written1 written2 (periods c) begun (text.prefix, text.within, text.grew),
       );
-      says = convert_says to week left left1 left2 written written1 written2 reported reported2 old middle new head p.given p.last fault fresh h begun p.reads p.says;
+      says = convert_says to week left left1 left2 written written1 written2 reported reported2 old middle new hearing head p.given p.last fault fresh h begun p.reads p.says;
     }
 
 -- ---- all lines were taken
@@ -259,7 +265,7 @@ pub record IsTaken (to : Target) (week : Option ℕ) (left left2 written written
 
 pub all_taken : (to : Target) (week : Option ℕ) (left left1 left2 written written1 written2 reported reported2 : Option (List ℕ)) (old middle new : LinesState) (head : Accepted) (tally : Tally) (said : Said) (counts : CaptureCounts)
     → IsFresh old → GivesHead week left left1 old middle head → Appends written written1 (prefix_text to)
-    → ConvertsAll to head left1 left2 middle new written1 written2 reported reported2 tally said → counts ≡ with_counts new.number tally said
+    → ConvertsAll to head [] left1 left2 middle new written1 written2 reported reported2 tally said → counts ≡ with_counts new.number tally said
     → IsTaken to week left left2 written written2 reported reported2 head counts
 all_taken to week left left1 left2 written written1 written2 reported reported2 old middle new head tally said counts fresh h begun p counted =
     let reads = reads_more left left1 left2 old middle new (h.line ∷ []) p.given h.gives.reads p.reads in
@@ -347,13 +353,13 @@ pub convert_cause : (reads reads1 writes writes1 reports : ℕ) (now : Faults) (
 convert_cause reads reads1 writes writes1 reports now fault h e f =
     subst (λ (n : ℕ). HasItsCause {T = Unit {0}} (faults_of reads n reports) now (Err fault)) f (subst (λ (n : ℕ). HasItsCause {T = Unit {0}} (faults_of n writes1 reports) now (Err fault)) e h)
 
-convert_form : (to : Target) (head : Accepted) (given last : List Line) (new : LinesState) (start written told reported : Option (List ℕ)) (fault : BridgeFault)
-    → ConversionSays to head given last new start written told reported fault → fault ≡ NotThisForm → ⊥
-convert_form to head given last new start written told reported fault says e = subst (ConversionSays to head given last new start written told reported) e says
+convert_form : (to : Target) (head : Accepted) (lines last : List Line) (new : LinesState) (hearing : Hearing) (start written told reported : Option (List ℕ)) (fault : BridgeFault)
+    → ConversionSays to head lines last new hearing start written told reported fault → fault ≡ NotThisForm → ⊥
+convert_form to head lines last new hearing start written told reported fault says e = subst (ConversionSays to head lines last new hearing start written told reported) e says
 
-pub converted_form : (to : Target) (head : Accepted) (left left_new : Option (List ℕ)) (old new : LinesState) (start written told reported : Option (List ℕ)) (fault : BridgeFault)
-    → ConversionBroke to head left left_new old new start written told reported fault → fault ≡ NotThisForm → ⊥
-converted_form to head left left_new old new start written told reported fault p e = convert_form to head p.given p.last new start written told reported fault p.says e
+pub converted_form : (to : Target) (head : Accepted) (past : List Line) (left left_new : Option (List ℕ)) (old new : LinesState) (hearing : Hearing) (start written told reported : Option (List ℕ)) (fault : BridgeFault)
+    → ConversionBroke to head past left left_new old new hearing start written told reported fault → fault ≡ NotThisForm → ⊥
+converted_form to head past left left_new old new hearing start written told reported fault p e = convert_form to head (past ++ p.given) p.last new hearing start written told reported fault p.says e
 
 written_fault : (fault other : BridgeFault) → (WriteFault ≡ other → ⊥) → (ReportFault ≡ other → ⊥) → (fault ≡ WriteFault) ⊎ (fault ≡ ReportFault) → fault ≡ other → ⊥
 written_fault fault other write report kind e =

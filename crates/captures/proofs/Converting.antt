@@ -30,7 +30,8 @@ use Rattle.outlets.specs.declared.target.Target.{Target}
 use Rattle.captures.specs.declared.accept.Accepted.{Accepted}
 use Rattle.captures.specs.declared.hearing.Hearing.{Hearing}
 use Rattle.captures.specs.Captures.{texts_of}
-use Rattle.captures.specs.Converts.{ConvertsAll, ConversionBroke, ConversionSays, closed_texts, no_tally, period_texts}
+use Rattle.captures.specs.Conversions.{ConvertsAll, ConversionBroke, ConversionSays}
+use Rattle.captures.specs.Converts.{closed_texts, no_tally, period_texts}
 use Rattle.captures.specs.Hearings.{Finished, IsNew, IsStepFault, Stands, StepBroke}
 use Rattle.captures.specs.Notes.{GivesItem, KeepsHalves, line_report, tallied, total}
 use Rattle.captures.specs.Flushed.{IsWriting, said_of}
@@ -57,30 +58,34 @@ ended_lines left left_new old new lines reads more none =
 
 -- ---- between two lines
 
--- The lines given were processed, and what they close was written. The bytes held and taken are those lines and the rest.
-pub record Between (to : Target) (head : Accepted) (left left_new : Option (List ℕ)) (old new : LinesState) (h : Hearing) (start written told reported : Option (List ℕ)) : Type 0 where
+-- Behind the lines of before, the lines given were processed, and what they close was written. The bytes held and taken are those
+-- lines and the rest.
+pub record Between (to : Target) (head : Accepted) (past : List Line) (left left_new : Option (List ℕ)) (old new : LinesState) (h : Hearing) (start written told reported : Option (List ℕ)) : Type 0 where
   pub given : List Line
   pub reads : Reads left left_new old new given
   pub prefix : List ℕ
   pub split : old.rest ++ reads.taken ≡ prefix ++ new.rest
   pub held : length new.rest ≤ 4096
   pub low : new.taken < 2 ^ 32
+  pub first : old.number ≡ 1 + length past
   pub number : new.number ≡ old.number + length given
   pub few : new.number < 2 ^ 32
-  pub stands : Stands to head given h start written told reported
+  pub stands : Stands to head (past ++ given) h start written told reported
 
-pub between_start : (to : Target) (head : Accepted) (left : Option (List ℕ)) (state : LinesState) (h : Hearing) (start told : Option (List ℕ))
-    → length state.rest ≤ 4096 → state.taken < 2 ^ 32 → state.number < 2 ^ 32 → Stands to head [] h start start told told → Between to head left left state state h start start told told
-between_start to head left state h start told held low few stands = record {
+pub between_start : (to : Target) (head : Accepted) (past : List Line) (left : Option (List ℕ)) (state : LinesState) (h : Hearing) (start written told reported : Option (List ℕ))
+    → length state.rest ≤ 4096 → state.taken < 2 ^ 32 → state.number < 2 ^ 32 → state.number ≡ 1 + length past → Stands to head past h start written told reported
+    → Between to head past left left state state h start written told reported
+between_start to head past left state h start written told reported held low few first stands = record {
   given = [];
   reads = reads_none left state;
   prefix = [];
   split = append-nil state.rest;
   held = held;
   low = low;
+  first = first;
   number = omega arith;
   few = few;
-  stands = stands;
+  stands = subst (λ (l : List Line). Stands to head l h start written told reported) (sym (append-nil past)) stands;
 }
 
 -- what stands up to a line, and the rest
@@ -91,34 +96,41 @@ split_more rest taken prefix middle more behind next e f =
     ∙ ap (λ (l : List ℕ). prefix ++ l) f ∙ sym (append_assoc prefix behind next)
 
 -- a line more
-pub between_more : (to : Target) (head : Accepted) (left left1 left2 : Option (List ℕ)) (old middle state : LinesState) (h new : Hearing) (start written written_new told reported reported_new : Option (List ℕ)) (item : LineItem)
-    (b : Between to head left left1 old middle h start written told reported) (gives : GivesItem left1 left2 middle state item)
-    → Stands to head (b.given ++ gives.line ∷ []) new start written_new told reported_new → Between to head left left2 old state new start written_new told reported_new
-between_more to head left left1 left2 old middle state h new start written written_new told reported reported_new item b gives stands = record {
+pub between_more : (to : Target) (head : Accepted) (past : List Line) (left left1 left2 : Option (List ℕ)) (old middle state : LinesState) (h new : Hearing) (start written written_new told reported reported_new : Option (List ℕ)) (item : LineItem)
+    (b : Between to head past left left1 old middle h start written told reported) (gives : GivesItem left1 left2 middle state item)
+    → Stands to head ((past ++ b.given) ++ gives.line ∷ []) new start written_new told reported_new → Between to head past left left2 old state new start written_new told reported_new
+between_more to head past left left1 left2 old middle state h new start written written_new told reported reported_new item b gives stands = record {
   given = b.given ++ gives.line ∷ [];
   reads = reads_more left left1 left2 old middle state b.given (gives.line ∷ []) b.reads gives.gives.reads;
   prefix = b.prefix ++ gives.gives.prefix;
   split = split_more old.rest b.reads.taken b.prefix middle.rest gives.gives.reads.taken gives.gives.prefix state.rest b.split gives.gives.split;
   held = gives.gives.short b.held;
   low = gives.gives.low;
+  first = b.first;
   number = omega (arith, gives.gives.number, b.number, length-append b.given (gives.line ∷ []));
   few = omega (arith, gives.gives.numbered, gives.gives.low);
-  stands = stands;
+  stands = subst (λ (l : List Line). Stands to head l new start written_new told reported_new) (append_assoc past b.given (gives.line ∷ [])) stands;
 }
+
+-- the number of the next line
+pub between_number : (to : Target) (head : Accepted) (past : List Line) (left left1 left2 : Option (List ℕ)) (old middle state : LinesState) (h : Hearing) (start written told reported : Option (List ℕ)) (item : LineItem) (number : ℕ)
+    (b : Between to head past left left1 old middle h start written told reported) → GivesItem left1 left2 middle state item → number ≡ state.number → number ≡ 2 + length (past ++ b.given)
+between_number to head past left left1 left2 old middle state h start written told reported item number b gives same =
+    omega (arith, same, gives.gives.number, b.number, b.first, length-append past b.given)
 
 -- ---- ends
 
-reported_nil : (window : ℕ) (given : List Line) (told reported : Option (List ℕ)) → Appends told reported (line_report (log_of window given))
-    → AppendsPrefix told reported (line_report (log_of window (given ++ [])))
-reported_nil window given told reported text =
-    subst (λ (l : List Line). AppendsPrefix told reported (line_report (log_of window l))) (sym (append-nil given))
-    (appends_whole told reported (line_report (log_of window given)) text)
+reported_nil : (window : ℕ) (past given : List Line) (told reported : Option (List ℕ)) → Appends told reported (line_report (log_of window (past ++ given)))
+    → AppendsPrefix told reported (line_report (log_of window (past ++ (given ++ []))))
+reported_nil window past given told reported text =
+    subst (λ (l : List Line). AppendsPrefix told reported (line_report (log_of window (past ++ l)))) (sym (append-nil given))
+    (appends_whole told reported (line_report (log_of window (past ++ given))) text)
 
 -- the input ended so
-broke_lines : (laws : LogLaws) (to : Target) (head : Accepted) (left left1 left2 : Option (List ℕ)) (old middle state : LinesState) (h : Hearing) (start written told reported : Option (List ℕ)) (fault : LineFault)
-    → Between to head left left1 old middle h start written told reported → Breaks fault left1 left2 middle state
-    → ConversionBroke to head left left2 old state start written told reported (fault_by fault)
-broke_lines laws to head left left1 left2 old middle state h start written told reported lines.ReadFault b breaks =
+broke_lines : (laws : LogLaws) (to : Target) (head : Accepted) (past : List Line) (left left1 left2 : Option (List ℕ)) (old middle state : LinesState) (h : Hearing) (start written told reported : Option (List ℕ)) (fault : LineFault)
+    → Between to head past left left1 old middle h start written told reported → Breaks fault left1 left2 middle state
+    → ConversionBroke to head past left left2 old state h start written told reported (fault_by fault)
+broke_lines laws to head past left left1 left2 old middle state h start written told reported lines.ReadFault b breaks =
     let reads = reads_more left left1 left2 old middle state b.given [] b.reads breaks.reads in
     record {
       given = b.given;
@@ -127,11 +139,22 @@ broke_lines laws to head left left1 left2 old middle state h start written told 
       reads = reads;
       recent = recent_ended (old.rest ++ reads.taken) (b.given ++ []) (ended_lines left left2 old state (b.given ++ []) reads breaks.more breaks.none);
       text = λ more none.
-          written_closed laws head.week head.window to b.given more ((b.given ++ []) ++ more) start written (ap (λ (l : List Line). l ++ more) (append-nil b.given)) b.stands.flushed.text;
-      report = reported_nil head.window b.given told reported b.stands.report;
-      says = (refl, breaks.more, breaks.none, b.stands.flushed.text, b.stands.report);
+          written_closed laws head.week head.window to (past ++ b.given) more ((past ++ (b.given ++ [])) ++ more) start written (ap (λ (l : List Line). (past ++ l) ++ more) (append-nil b.given)) b.stands.flushed.text;
+      report = reported_nil head.window past b.given told reported b.stands.report;
+      says = (
+        refl,
+        record {
+          more = breaks.more;
+          none = breaks.none;
+          held = omega (arith, breaks.short);
+          low = breaks.low;
+          number = omega (arith, breaks.number, b.number, b.first, length-append past b.given);
+          few = omega (arith, breaks.number, b.few);
+          stands = b.stands;
+        },
+      );
     }
-broke_lines laws to head left left1 left2 old middle state h start written told reported lines.TooLong b breaks =
+broke_lines laws to head past left left1 left2 old middle state h start written told reported lines.TooLong b breaks =
     let reads = reads_more left left1 left2 old middle state b.given [] b.reads breaks.reads in
     let whole : old.rest ++ reads.taken ≡ (b.prefix ++ breaks.prefix) ++ breaks.last =
     split_more old.rest b.reads.taken b.prefix middle.rest breaks.reads.taken breaks.prefix breaks.last b.split breaks.split in
@@ -147,33 +170,33 @@ broke_lines laws to head left left1 left2 old middle state h start written told 
       reads = reads;
       recent = recent_within (old.rest ++ reads.taken) (b.prefix ++ breaks.prefix) breaks.last (length (b.given ++ [])) whole (breaks.few b.low) few;
       text = λ more none.
-          written_closed laws head.week head.window to b.given more ((b.given ++ []) ++ more) start written (ap (λ (l : List Line). l ++ more) (append-nil b.given)) b.stands.flushed.text;
-      report = reported_nil head.window b.given told reported b.stands.report;
+          written_closed laws head.week head.window to (past ++ b.given) more ((past ++ (b.given ++ [])) ++ more) start written (ap (λ (l : List Line). (past ++ l) ++ more) (append-nil b.given)) b.stands.flushed.text;
+      report = reported_nil head.window past b.given told reported b.stands.report;
       says = breaks.too_many;
     }
 
-pub broke_input : (laws : LogLaws) (to : Target) (head : Accepted) (left left1 left2 : Option (List ℕ)) (old middle state : LinesState) (h : Hearing) (start written told reported : Option (List ℕ)) (fault : LineFault) (answer : BridgeFault)
-    → answer ≡ fault_by fault → Between to head left left1 old middle h start written told reported → Breaks fault left1 left2 middle state
-    → ConversionBroke to head left left2 old state start written told reported answer
-broke_input laws to head left left1 left2 old middle state h start written told reported fault answer e b breaks =
-    subst (ConversionBroke to head left left2 old state start written told reported) (sym e)
-    (broke_lines laws to head left left1 left2 old middle state h start written told reported fault b breaks)
+pub broke_input : (laws : LogLaws) (to : Target) (head : Accepted) (past : List Line) (left left1 left2 : Option (List ℕ)) (old middle state : LinesState) (h : Hearing) (start written told reported : Option (List ℕ)) (fault : LineFault) (answer : BridgeFault)
+    → answer ≡ fault_by fault → Between to head past left left1 old middle h start written told reported → Breaks fault left1 left2 middle state
+    → ConversionBroke to head past left left2 old state h start written told reported answer
+broke_input laws to head past left left1 left2 old middle state h start written told reported fault answer e b breaks =
+    subst (ConversionBroke to head past left left2 old state h start written told reported) (sym e)
+    (broke_lines laws to head past left left1 left2 old middle state h start written told reported fault b breaks)
 
 -- a line was not taken whole
-step_says : (to : Target) (head : Accepted) (given last : List Line) (new : LinesState) (start written told reported : Option (List ℕ)) (before now : Faults) (fault : BridgeFault)
-    → IsStepFault before now fault → ConversionSays to head given last new start written told reported fault
-step_says to head given last new start written told reported before now ReadFault h = absurd h
-step_says to head given last new start written told reported before now WriteFault h = tt
-step_says to head given last new start written told reported before now ReportFault h = tt
-step_says to head given last new start written told reported before now TooLong h = absurd h
-step_says to head given last new start written told reported before now NoMemory h = tt
-step_says to head given last new start written told reported before now NotThisForm h = absurd h
+step_says : (to : Target) (head : Accepted) (lines last : List Line) (new : LinesState) (h : Hearing) (start written told reported : Option (List ℕ)) (before now : Faults) (fault : BridgeFault)
+    → IsStepFault before now fault → ConversionSays to head lines last new h start written told reported fault
+step_says to head lines last new h start written told reported before now ReadFault says = absurd says
+step_says to head lines last new h start written told reported before now WriteFault says = tt
+step_says to head lines last new h start written told reported before now ReportFault says = tt
+step_says to head lines last new h start written told reported before now TooLong says = absurd says
+step_says to head lines last new h start written told reported before now NoMemory says = tt
+step_says to head lines last new h start written told reported before now NotThisForm says = absurd says
 
-pub broke_step : (to : Target) (head : Accepted) (left left1 left2 : Option (List ℕ)) (old middle state : LinesState) (h : Hearing) (start written written_new told reported reported_new : Option (List ℕ)) (item : LineItem) (before now : Faults) (fault : BridgeFault)
-    (b : Between to head left left1 old middle h start written told reported) (gives : GivesItem left1 left2 middle state item)
-    → StepBroke to head b.given gives.line start written_new told reported_new before now fault
-    → ConversionBroke to head left left2 old state start written_new told reported_new fault
-broke_step to head left left1 left2 old middle state h start written written_new told reported reported_new item before now fault b gives broke =
+pub broke_step : (to : Target) (head : Accepted) (past : List Line) (left left1 left2 : Option (List ℕ)) (old middle state : LinesState) (h new : Hearing) (start written written_new told reported reported_new : Option (List ℕ)) (item : LineItem) (before now : Faults) (fault : BridgeFault)
+    (b : Between to head past left left1 old middle h start written told reported) (gives : GivesItem left1 left2 middle state item)
+    → StepBroke to head (past ++ b.given) gives.line start written_new told reported_new before now fault
+    → ConversionBroke to head past left left2 old state new start written_new told reported_new fault
+broke_step to head past left left1 left2 old middle state h new start written written_new told reported reported_new item before now fault b gives broke =
     let reads = reads_more left left1 left2 old middle state b.given (gives.line ∷ []) b.reads gives.gives.reads in
     let whole = split_more old.rest b.reads.taken b.prefix middle.rest gives.gives.reads.taken gives.gives.prefix state.rest b.split gives.gives.split in
     record {
@@ -183,24 +206,26 @@ broke_step to head left left1 left2 old middle state h start written written_new
       reads = reads;
       recent = recent_lines (old.rest ++ reads.taken) (b.prefix ++ gives.gives.prefix) state.rest (b.given ++ gives.line ∷ []) whole (gives.gives.short b.held)
           (all_lines left left2 old state (b.given ++ gives.line ∷ []) reads);
-      text = λ more none. broke.text more;
-      report = broke.report;
-      says = step_says to head b.given (gives.line ∷ []) state start written_new told reported_new before now fault broke.cause;
+      text = λ more none.
+          subst (λ (l : List Line). AppendsBetween start written_new (closed_texts to head (past ++ b.given)) (period_texts to head (l ++ more))) (append_assoc past b.given (gives.line ∷ [])) (broke.text more);
+      report = subst (λ (l : List Line). AppendsPrefix told reported_new (line_report (log_of head.window l))) (append_assoc past b.given (gives.line ∷ [])) broke.report;
+      says = step_says to head (past ++ b.given) (gives.line ∷ []) state new start written_new told reported_new before now fault broke.cause;
     }
 
 -- all was taken and written
-pub all_written : (to : Target) (head : Accepted) (left left1 left2 : Option (List ℕ)) (old middle state : LinesState) (h new : Hearing) (start written written_new told reported : Option (List ℕ))
-    (b : Between to head left left1 old middle h start written told reported) → GivesEnd left1 left2 middle state → Finished to head b.given h new start written_new
-    → ConvertsAll to head left left2 old state start written_new told reported new.ear.tally new.said
-all_written to head left left1 left2 old middle state h new start written written_new told reported b ends_now done =
-    let nil = sym (append-nil b.given) in
+pub all_written : (to : Target) (head : Accepted) (past : List Line) (left left1 left2 : Option (List ℕ)) (old middle state : LinesState) (h new : Hearing) (start written written_new told reported : Option (List ℕ))
+    (b : Between to head past left left1 old middle h start written told reported) → GivesEnd left1 left2 middle state → Finished to head (past ++ b.given) h new start written_new
+    → ConvertsAll to head past left left2 old state start written_new told reported new.ear.tally new.said
+all_written to head past left left1 left2 old middle state h new start written written_new told reported b ends_now done =
+    let none = sym (append-nil b.given) in
+    let nil : past ++ b.given ≡ past ++ (b.given ++ []) = ap (λ (l : List Line). past ++ l) none in
     record {
       given = b.given ++ [];
       reads = reads_more left left1 left2 old middle state b.given [] b.reads ends_now.reads;
       rest = ends_now.rest;
       ended = ends_now.ended;
       low = ends_now.low;
-      number = omega (arith, ends_now.number, b.number, ap length nil);
+      number = omega (arith, ends_now.number, b.number, ap length none);
       text = subst (λ (l : List Line). Appends start written_new (period_texts to head l)) nil done.text;
       report = subst (λ (l : List Line). Appends told reported (line_report (log_of head.window l))) nil b.stands.report;
       counts = done.tally ∙ b.stands.counted.counts ∙ ap (λ (l : List Line). tallied no_tally (log_of head.window l)) nil;
@@ -208,20 +233,20 @@ all_written to head left left1 left2 old middle state h new start written writte
     }
 
 -- all was taken, and not all was written
-finish_says : (to : Target) (head : Accepted) (given last : List Line) (new : LinesState) (start written told reported : Option (List ℕ)) (before now : ℕ) (fault : BridgeFault)
-    → IsWriting {T = Unit {0}} before now (Err fault) → ConversionSays to head given last new start written told reported fault
-finish_says to head given last new start written told reported before now ReadFault h = absurd h
-finish_says to head given last new start written told reported before now WriteFault h = tt
-finish_says to head given last new start written told reported before now ReportFault h = absurd h
-finish_says to head given last new start written told reported before now TooLong h = absurd h
-finish_says to head given last new start written told reported before now NoMemory h = tt
-finish_says to head given last new start written told reported before now NotThisForm h = absurd h
+finish_says : (to : Target) (head : Accepted) (lines last : List Line) (new : LinesState) (h : Hearing) (start written told reported : Option (List ℕ)) (before now : ℕ) (fault : BridgeFault)
+    → IsWriting {T = Unit {0}} before now (Err fault) → ConversionSays to head lines last new h start written told reported fault
+finish_says to head lines last new h start written told reported before now ReadFault says = absurd says
+finish_says to head lines last new h start written told reported before now WriteFault says = tt
+finish_says to head lines last new h start written told reported before now ReportFault says = absurd says
+finish_says to head lines last new h start written told reported before now TooLong says = absurd says
+finish_says to head lines last new h start written told reported before now NoMemory says = tt
+finish_says to head lines last new h start written told reported before now NotThisForm says = absurd says
 
-pub broke_finish : (to : Target) (head : Accepted) (left left1 left2 : Option (List ℕ)) (old middle state : LinesState) (h : Hearing) (start written written_new told reported : Option (List ℕ)) (before now : ℕ) (fault : BridgeFault)
-    (b : Between to head left left1 old middle h start written told reported) → GivesEnd left1 left2 middle state
-    → AppendsBetween start written_new (closed_texts to head b.given) (period_texts to head b.given) → IsWriting {T = Unit {0}} before now (Err fault)
-    → ConversionBroke to head left left2 old state start written_new told reported fault
-broke_finish to head left left1 left2 old middle state h start written written_new told reported before now fault b ends_now between cause =
+pub broke_finish : (to : Target) (head : Accepted) (past : List Line) (left left1 left2 : Option (List ℕ)) (old middle state : LinesState) (h new : Hearing) (start written written_new told reported : Option (List ℕ)) (before now : ℕ) (fault : BridgeFault)
+    (b : Between to head past left left1 old middle h start written told reported) → GivesEnd left1 left2 middle state
+    → AppendsBetween start written_new (closed_texts to head (past ++ b.given)) (period_texts to head (past ++ b.given)) → IsWriting {T = Unit {0}} before now (Err fault)
+    → ConversionBroke to head past left left2 old state new start written_new told reported fault
+broke_finish to head past left left1 left2 old middle state h new start written written_new told reported before now fault b ends_now between cause =
     let reads = reads_more left left1 left2 old middle state b.given [] b.reads ends_now.reads in
     let rest : old.rest ++ reads.taken ≡ (old.rest ++ reads.taken) ++ [] = sym (append-nil (old.rest ++ reads.taken)) in
     let lines : lines_by false (old.rest ++ reads.taken) ≡ (b.given ++ []) ++ lines_by false [] =
@@ -233,24 +258,25 @@ broke_finish to head left left1 left2 old middle state h start written written_n
       reads = reads;
       recent = recent_lines (old.rest ++ reads.taken) (old.rest ++ reads.taken) [] (b.given ++ []) rest (omega arith) lines;
       text = λ more none.
-          let same : b.given ≡ (b.given ++ []) ++ more =
-          sym (append-nil b.given) ∙ sym (append-nil (b.given ++ [])) ∙ ap (λ (l : List Line). (b.given ++ []) ++ l) (sym (none ends_now.ended ends_now.rest)) in
-          subst (λ (l : List Line). AppendsBetween start written_new (closed_texts to head b.given) (period_texts to head l)) same between;
-      report = reported_nil head.window b.given told reported b.stands.report;
-      says = finish_says to head b.given [] state start written_new told reported before now fault cause;
+          let same : past ++ b.given ≡ (past ++ (b.given ++ [])) ++ more =
+          ap (λ (l : List Line). past ++ l) (sym (append-nil b.given)) ∙ sym (append-nil (past ++ (b.given ++ [])))
+          ∙ ap (λ (l : List Line). (past ++ (b.given ++ [])) ++ l) (sym (none ends_now.ended ends_now.rest)) in
+          subst (λ (l : List Line). AppendsBetween start written_new (closed_texts to head (past ++ b.given)) (period_texts to head l)) same between;
+      report = reported_nil head.window past b.given told reported b.stands.report;
+      says = finish_says to head (past ++ b.given) [] state new start written_new told reported before now fault cause;
     }
 
 -- the last answer, by what finishing answers
-pub converted_end : {T : Type 0} (to : Target) (head : Accepted) (left left1 left2 : Option (List ℕ)) (old middle state : LinesState) (h new : Hearing) (start written written_new told reported : Option (List ℕ)) (before now : ℕ) (result : Result T BridgeFault)
-    (b : Between to head left left1 old middle h start written told reported) → GivesEnd left1 left2 middle state
-    → MatchResult result (λ x. Finished to head b.given h new start written_new × (now ≡ before))
-    (λ fault. AppendsBetween start written_new (closed_texts to head b.given) (period_texts to head b.given) × IsWriting {T = Unit {0}} before now (Err fault))
-    → MatchResult result (λ x. ConvertsAll to head left left2 old state start written_new told reported new.ear.tally new.said)
-    (λ fault. ConversionBroke to head left left2 old state start written_new told reported fault)
-converted_end to head left left1 left2 old middle state h new start written written_new told reported before now (Ok x) b ends_now done =
-    all_written to head left left1 left2 old middle state h new start written written_new told reported b ends_now done.0
-converted_end to head left left1 left2 old middle state h new start written written_new told reported before now (Err fault) b ends_now done =
-    broke_finish to head left left1 left2 old middle state h start written written_new told reported before now fault b ends_now done.0 done.1
+pub converted_end : {T : Type 0} (to : Target) (head : Accepted) (past : List Line) (left left1 left2 : Option (List ℕ)) (old middle state : LinesState) (h new : Hearing) (start written written_new told reported : Option (List ℕ)) (before now : ℕ) (result : Result T BridgeFault)
+    (b : Between to head past left left1 old middle h start written told reported) → GivesEnd left1 left2 middle state
+    → MatchResult result (λ x. Finished to head (past ++ b.given) h new start written_new × (now ≡ before))
+    (λ fault. AppendsBetween start written_new (closed_texts to head (past ++ b.given)) (period_texts to head (past ++ b.given)) × IsWriting {T = Unit {0}} before now (Err fault))
+    → MatchResult result (λ x. ConvertsAll to head past left left2 old state start written_new told reported new.ear.tally new.said)
+    (λ fault. ConversionBroke to head past left left2 old state new start written_new told reported fault)
+converted_end to head past left left1 left2 old middle state h new start written written_new told reported before now (Ok x) b ends_now done =
+    all_written to head past left left1 left2 old middle state h new start written written_new told reported b ends_now done.0
+converted_end to head past left left1 left2 old middle state h new start written written_new told reported before now (Err fault) b ends_now done =
+    broke_finish to head past left left1 left2 old middle state h new start written written_new told reported before now fault b ends_now done.0 done.1
 
 -- ---- causes
 
@@ -262,6 +288,9 @@ step_cause reads reads_new writes writes_new writes1 reports reports_new reports
 step_cause reads reads_new writes writes_new writes1 reports reports_new reports1 ReadFault h e f = absurd h
 step_cause reads reads_new writes writes_new writes1 reports reports_new reports1 TooLong h e f = absurd h
 step_cause reads reads_new writes writes_new writes1 reports reports_new reports1 NotThisForm h e f = absurd h
+
+pub step_never : (writes writes_new reports reports_new : ℕ) (fault : BridgeFault) → IsStepFault (faults_of 0 writes reports) (faults_of 0 writes_new reports_new) fault → fault ≡ ReadFault → ⊥
+step_never writes writes_new reports reports_new fault says e = subst (IsStepFault (faults_of 0 writes reports) (faults_of 0 writes_new reports_new)) e says
 
 pub finish_cause : {T : Type 0} (to : Target) (head : Accepted) (lines : List Line) (h new : Hearing) (start written : Option (List ℕ)) (before : ℕ) (result : Result T BridgeFault)
     (reads reads1 reads_new writes writes_new reports reports1 : ℕ) → reads_new ≡ reads1 → reads1 ≡ reads → before ≡ writes → reports1 ≡ reports

@@ -7,6 +7,7 @@ mod Ears
 mod Converting
 mod FrameEvents
 mod Prefixes
+mod Pushing
 mod ItemEvents
 mod Keeping
 mod LineCounts

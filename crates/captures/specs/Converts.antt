@@ -1,9 +1,9 @@
 -- A capture while its lines after the first are read. Private functions cite these.
-use Rattle.std.specs.Prelude.{◌≡◌, ℕ, ◌+◌, ◌-◌, ◌*◌, ◌^◌, ◌<◌, ◌≤◌, ◌⊎◌, true, false, List, [], ◌++◌, length, take, Option, Some, None, IsSome, IfSome}
+use Rattle.std.specs.Prelude.{◌≡◌, ℕ, ◌+◌, ◌*◌, ◌^◌, ◌≤◌, ◌⊎◌, List, length, Option, Some, None, IsSome, IfSome}
 use Rattle.std.specs.Io.KnownBytes.{Appends, Consumes}
 use Rattle.nav_io.specs.Prefix.{AppendsPrefix}
-use Rattle.nav_io.specs.Lines.{Line, ends, lines_by}
-use Rattle.nav_io.specs.LinesState.{LinesState, Reads, GivesLine, GivesEnd, BreaksRead, BreaksLong}
+use Rattle.nav_io.specs.Lines.{Line}
+use Rattle.nav_io.specs.LinesState.{LinesState, GivesLine, GivesEnd, BreaksRead, BreaksLong}
 use Rattle.inav_page.specs.Keeping.{Keeping}
 use Rattle.periods.specs.PeriodsOf.{periods_of, closed_of}
 use Rattle.capture_log.specs.Events.{nothing_known}
@@ -11,15 +11,13 @@ use Rattle.capture_log.specs.Log.{line_items_of, known_from, log_of, watermark_a
 use Rattle.outlets.specs.declared.target.Target.{Target}
 use Rattle.outlets.specs.declared.target.Target.TheVariants.{Count}
 use Rattle.captures.specs.declared.counts.Tally.{Tally}
-use Rattle.captures.specs.declared.counts.Said.{Said}
 use Rattle.one_run.specs.declared.fault.BridgeFault.{BridgeFault}
 use Rattle.one_run.specs.declared.fault.BridgeFault.TheVariants.{ReadFault, WriteFault, ReportFault, TooLong, NoMemory, NotThisForm}
 use Rattle.captures.specs.Captures.{accepted_line, capture_of, counts_in, least_output, output_of, report_of_capture, flushed_output, flushed_report, texts_of}
 use Rattle.captures.specs.declared.accept.Accepted.{Accepted}
-use Rattle.captures.specs.Notes.{KeepsHalves, line_report, tallied, total}
+use Rattle.captures.specs.Notes.{KeepsHalves, tallied, total}
 use Rattle.one_run.specs.Runs.{AppendsBetween}
 use Rattle.captures.specs.Runs.{WritesLast}
-use Rattle.captures.specs.Flushed.{said_of}
 
 -- nothing was counted
 abbrev pub no_tally : Tally
@@ -42,43 +40,6 @@ closed_texts to head lines = texts_of to (closed_of head.week head.window (water
 -- the texts of all periods of lines
 abbrev pub period_texts : Target → Accepted → List Line → List ℕ
 period_texts to head lines = texts_of to (periods_of head.week head.window (parts_of head.window lines))
-
--- All lines were read and processed, all periods were written, and all events were reported and counted.
-pub record ConvertsAll (to : Target) (head : Accepted) (left left_new : Option (List ℕ)) (old new : LinesState) (start written told reported : Option (List ℕ)) (tally : Tally) (said : Said) : Type 0 where
-  pub given : List Line
-  pub reads : Reads left left_new old new given
-  pub rest : new.rest ≡ []
-  pub ended : new.ended ≡ true
-  pub low : new.taken < 2 ^ 32
-  pub number : new.number ≡ old.number + length given
-  pub text : Appends start written (period_texts to head given)
-  pub report : Appends told reported (line_report (log_of head.window given))
-  pub counts : tally ≡ tallied no_tally (log_of head.window given)
-  pub verdicts : said ≡ said_of (periods_of head.week head.window (parts_of head.window given))
-
--- What a fault says besides. After a failed read the complete lines were processed, exactly the periods that they close were
--- written, and all their events were reported. At `TooLong` 2^32 bytes were counted.
-abbrev pub ConversionSays : Target → Accepted → List Line → List Line → LinesState → Option (List ℕ) → Option (List ℕ) → Option (List ℕ) → Option (List ℕ) → BridgeFault → Type 0
-ConversionSays to head given last new start written told reported ReadFault =
-    (last ≡ []) × (new.ended ≡ false) × (ends new.rest ≡ false) × Appends start written (closed_texts to head given) × Appends told reported (line_report (log_of head.window given))
-ConversionSays to head given last new start written told reported TooLong = new.taken ≡ 2 ^ 32
-ConversionSays to head given last new start written told reported NotThisForm = ⊥
-ConversionSays to head given last new start written told reported WriteFault = Unit {0}
-ConversionSays to head given last new start written told reported ReportFault = Unit {0}
-ConversionSays to head given last new start written told reported NoMemory = Unit {0}
-
--- A fault. The lines `given` were processed, and `last`, at most one, perhaps in part; no more lines are complete before the last
--- 4,096 bytes. A prefix was written of what these lines and any that follow give, no less than what `given` close; and a prefix
--- of the report of these lines was reported.
-pub record ConversionBroke (to : Target) (head : Accepted) (left left_new : Option (List ℕ)) (old new : LinesState) (start written told reported : Option (List ℕ)) (fault : BridgeFault) : Type 0 where
-  pub given : List Line
-  pub last : List Line
-  pub few : length last ≤ 1
-  pub reads : Reads left left_new old new (given ++ last)
-  pub recent : length (lines_by true (take (length (old.rest ++ reads.taken) - 4096) (old.rest ++ reads.taken))) ≤ length (given ++ last)
-  pub text : (more : List Line) → (new.ended ≡ true → new.rest ≡ [] → more ≡ []) → AppendsBetween start written (closed_texts to head given) (period_texts to head ((given ++ last) ++ more))
-  pub report : AppendsPrefix told reported (line_report (log_of head.window (given ++ last)))
-  pub says : ConversionSays to head given last new start written told reported fault
 
 -- the first line was read and is accepted
 pub record GivesHead (week : Option ℕ) (left left_new : Option (List ℕ)) (old new : LinesState) (head : Accepted) : Type 0 where

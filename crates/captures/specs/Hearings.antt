@@ -4,7 +4,6 @@ use Rattle.std.specs.Io.KnownBytes.{Appends}
 use Rattle.nav_io.specs.Causes.{Rose}
 use Rattle.nav_io.specs.Prefix.{AppendsPrefix}
 use Rattle.nav_io.specs.Lines.{Line}
-use Rattle.nav_io.specs.LinesState.{LinesState}
 use Rattle.capture_lines.specs.declared.item.LineItem.{LineItem}
 use Rattle.periods.specs.PeriodsOf.{periods_of}
 use Rattle.slot_assembly.specs.Standing.{Stood, nothing_yet}
@@ -20,7 +19,7 @@ use Rattle.captures.specs.declared.accept.Accepted.{Accepted}
 use Rattle.captures.specs.declared.ear.Ear.{Ear}
 use Rattle.captures.specs.declared.hearing.Hearing.{Hearing}
 use Rattle.outlets.specs.declared.target.Target.{Target}
-use Rattle.captures.specs.Converts.{Counted, ConvertsAll, ConversionBroke, closed_texts, no_tally, period_texts}
+use Rattle.captures.specs.Converts.{Counted, closed_texts, no_tally, period_texts}
 use Rattle.captures.specs.Notes.{AreFrom, KeepsHalves, Notes, line_report, total}
 use Rattle.captures.specs.Flushed.{IsWriting, Flushed, said_of}
 
@@ -145,15 +144,3 @@ Finishes to old new written written_new before now result =
     (head : Accepted) (lines : List Line) (start told reported : Option (List ℕ)) → Stands to head lines old start written told reported
     → MatchResult result (λ x. Finished to head lines old new start written_new × (now ≡ before))
     (λ fault. AppendsBetween start written_new (closed_texts to head lines) (period_texts to head lines) × IsWriting {T = Unit {0}} before now (Err fault))
-
--- the state is that before any line
-pub record HoldsNone (to : Target) (h : Hearing) (written reported : Option (List ℕ)) : Type 0 where
-  pub head : Accepted
-  pub stands : Stands to head [] h written written reported reported
-
--- the lines were processed, and the periods that were left were written
-abbrev pub Converts : {T : Type 0} → Target → Hearing → Hearing → Option (List ℕ) → Option (List ℕ) → LinesState → LinesState → Option (List ℕ) → Option (List ℕ) → Option (List ℕ) → Option (List ℕ) → Result T BridgeFault → Type 0
-Converts to h new left left_new lines lines_new written written_new reported reported_new result =
-    (head : Accepted) → Stands to head [] h written written reported reported
-    → MatchResult result (λ x. ConvertsAll to head left left_new lines lines_new written written_new reported reported_new new.ear.tally new.said)
-    (λ fault. ConversionBroke to head left left_new lines lines_new written written_new reported reported_new fault)

@@ -7,3 +7,6 @@ pub mod Notes
 pub mod Flushed
 pub mod Converts
 pub mod Hearings
+pub mod Conversions
+pub mod Pushed
+pub mod Following

@@ -1,6 +1,6 @@
 //! The lines of a capture, and its end.
 
-ghost use Rattle.std.specs.Prelude.{◌≡◌, ◌⊎◌, ◌^◌, ◌<◌, ◌≤◌, [], length};
+ghost use Rattle.std.specs.Prelude.{◌≡◌, ◌⊎◌, ◌^◌, ◌<◌, ◌≤◌, length};
 ghost use Rattle.std.specs.Prelude.{IsTrue, IsErrOf, IfOk, IfErr, OnOk, OnErr};
 ghost use Rattle.std.specs.Io.KnownBytes.{Appends};
 ghost use Rattle.nav_io.specs.Causes.{Rose};
@@ -9,7 +9,7 @@ ghost use Rattle.one_run.specs.Causes.{HasItsCause, fault_by, faults_of};
 ghost use Rattle.outlets.specs.Targets.{back_text};
 ghost use Rattle.captures.specs.Captures.{counts_text};
 ghost use Rattle.captures.specs.Converts.{GivesHead, GivesNoHead};
-ghost use Rattle.captures.specs.Hearings.{HoldsNone, Converts};
+ghost use Rattle.captures.specs.Conversions.{Converts, HoldsPast};
 
 use crate::accept::{Accepted, accept};
 use crate::counts::{CaptureCounts, capture_counts_text};
@@ -38,7 +38,6 @@ pub(crate) fn first_line<S: Source>(
     week: Option<RefWeek>,
     input: &mut S,
 ) -> Result<Accepted, BridgeFault>
-    requires first { (lines.old.number ≡ 0) × (lines.old.rest ≡ []) }
     ensures accepted { IfOk result (GivesHead week
         (S.left input.old) (S.left input.new) lines.old lines.new) }
     ensures broken { IfErr result (GivesNoHead week
@@ -62,7 +61,8 @@ pub(crate) fn first_line<S: Source>(
     }
 }
 
-// Processes the lines after the first; at the end of the input writes the periods that are left.
+// Processes the further lines; at the end of the input writes the periods that are left. After a
+// failed read it goes on where it stopped.
 pub(crate) fn convert<S: Source, T: Sink, U: Sink>(
     hearing: &mut Hearing,
     lines: &mut Lines,
@@ -71,16 +71,18 @@ pub(crate) fn convert<S: Source, T: Sink, U: Sink>(
     output: &mut T,
     report: &mut U,
 ) -> Result<(), BridgeFault>
-    requires first { lines.old.number ≡ 1 }
     requires held { length lines.old.rest ≤ 4096 }
     requires low { lines.old.taken < 2 ^ 32 }
-    requires none { HoldsNone to.now hearing.old (T.written output.old) (U.written report.old) }
+    requires past { HoldsPast to.now lines.old.number hearing.old
+        (T.written output.old) (U.written report.old) }
     ensures converts { Converts to.now hearing.old hearing.new (S.left input.old) (S.left input.new)
         lines.old lines.new (T.written output.old) (T.written output.new)
         (U.written report.old) (U.written report.new) result }
     ensures cause { HasItsCause
         (faults_of (S.faults input.old) (T.faults output.old) (U.faults report.old))
         (faults_of (S.faults input.new) (T.faults output.new) (U.faults report.new)) result }
+    ensures still { IsErrOf result BridgeFault.ReadFault
+        → (T.faults output.new ≡ T.faults output.old) × (U.faults report.new ≡ U.faults report.old) }
     ensures never { IsTrue (S.never_fails input.old) → IsErrOf result BridgeFault.ReadFault → ⊥ }
 {
     what_is_closed_stays();

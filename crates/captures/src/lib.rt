@@ -2,6 +2,7 @@
 //!
 //! - [`run_capture`], over a capture of subframes, page parts and frames: to RINEX 4 and RINEX 3, to
 //!   RTCM, to a list, to counts;
+//! - [`CaptureRun`], over a capture that is pushed in pieces: the same, whatever the pieces;
 //! - [`run_seed`], which makes the capture of a seed, a number of satellites and a week, and writes it
 //!   or counts it. It reads nothing.
 //!
@@ -33,6 +34,7 @@ mod flush;
 mod hearing;
 mod laws;
 mod next;
+mod push;
 mod report;
 mod seed;
 mod seed_target;
@@ -41,6 +43,7 @@ mod target;
 pub use crate::capture::run_capture;
 pub use crate::counts::CaptureCounts;
 pub use crate::laws::generated_captures_are_accepted;
+pub use crate::push::CaptureRun;
 pub use crate::seed::run_seed;
 pub use crate::seed_target::{SeedCounts, SeedTo};
 pub use crate::target::CaptureTo;

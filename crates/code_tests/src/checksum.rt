@@ -82,11 +82,6 @@ static PAGES: [PageRow; 3] = [
     },
 ];
 
-fn is_page(row: &PageRow) -> bool {
-    let bits = Bits::<25>::from_bytes(*row.bytes);
-    row.from <= 4 && crc_bits(&bits, row.from, 196).value() == row.crc
-}
-
 #[test]
 fn bytes_and_pages_have_their_crc(rt: HostRuntime) {
     one_crc();
@@ -99,7 +94,8 @@ fn bytes_and_pages_have_their_crc(rt: HostRuntime) {
         all = all && crc_bytes(row.bytes).value() == row.crc;
     }
     for row in &PAGES {
-        all = all && is_page(row);
+        let bits = Bits::<25>::from_bytes(*row.bytes);
+        all = all && row.from <= 4 && crc_bits(&bits, row.from, 196).value() == row.crc;
     }
     assert!(rt; all);
 }

@@ -93,16 +93,6 @@ fn finds_a_frame_behind_many_false_starts(alloc: Global) -> Result<bool, AllocEr
     gives(alloc, bytes.as_slice(), &bytes.as_slice()[300..])
 }
 
-#[test]
-fn streams(rt: HostRuntime) -> Result<(), Fail> {
-    let mut all = finds_a_frame_behind_many_false_starts(rt.alloc())?;
-    for row in &STREAMS {
-        all = gives(rt.alloc(), row.bytes, row.frames)? && all;
-    }
-    assert!(rt; all);
-    Ok(())
-}
-
 // Whether frames are written and read, and none is read with a byte behind it.
 fn one_frame_is_written_and_read() -> Option<bool> {
     let mut bytes = ArrayVec::new();
@@ -132,6 +122,12 @@ fn no_byte_is_gone_over_twice() -> bool {
 }
 
 #[test]
-fn frames(rt: HostRuntime) {
-    assert!(rt; one_frame_is_written_and_read() == Some(true) && no_byte_is_gone_over_twice());
+fn streams_and_frames(rt: HostRuntime) -> Result<(), Fail> {
+    let mut all = finds_a_frame_behind_many_false_starts(rt.alloc())?;
+    for row in &STREAMS {
+        all = gives(rt.alloc(), row.bytes, row.frames)? && all;
+    }
+    let one = one_frame_is_written_and_read() == Some(true);
+    assert!(rt; all && one && no_byte_is_gone_over_twice());
+    Ok(())
 }

@@ -1,5 +1,5 @@
-//! Tests of the codes and of the layers of bits: values from outside, worked rows, and what no
-//! clause says. They stand beside the libraries, which they see as every caller does, so that none
+//! Tests of the codes, of the layers of bits and of logs of receivers: values from outside, worked
+//! rows, and what no clause says. They stand beside the libraries, which they see as every caller does, so that none
 //! of these is proved once more with its tests.
 #![tactic(auto)]
 
@@ -14,7 +14,15 @@ mod frames;
 #[cfg(test)]
 mod lines;
 #[cfg(test)]
+mod log_runs;
+#[cfg(test)]
+mod log_sources;
+#[cfg(test)]
+mod logs;
+#[cfg(test)]
 mod messages;
+#[cfg(test)]
+mod odd_logs;
 #[cfg(test)]
 mod pages;
 #[cfg(test)]
@@ -22,8 +30,12 @@ mod parity;
 #[cfg(test)]
 mod samples;
 #[cfg(test)]
+mod small_log;
+#[cfg(test)]
 mod sources;
 #[cfg(test)]
 mod subframes;
+#[cfg(test)]
+mod ubx_said;
 #[cfg(test)]
 mod words;

@@ -223,15 +223,6 @@ fn is_message(row: &MessageRow) -> bool {
     }
 }
 
-#[test]
-fn messages(rt: HostRuntime) {
-    let mut all = true;
-    for row in &MESSAGES {
-        all = all && is_message(row);
-    }
-    assert!(rt; all);
-}
-
 // Message 1046 of an ephemeris that is 0 but for the satellite, 11, the week, the issue and the
 // accuracy.
 const GAL: &[u8] =
@@ -293,8 +284,11 @@ fn is_frame(row: &FrameRow) -> Option<bool> {
 }
 
 #[test]
-fn parts_and_frames(rt: HostRuntime) {
+fn messages_parts_and_frames(rt: HostRuntime) {
     let mut all = are_parts() == Some(true);
+    for row in &MESSAGES {
+        all = all && is_message(row);
+    }
     for row in &FRAMES {
         all = all && is_frame(row) == Some(true);
     }

@@ -68,15 +68,6 @@ fn parts_are_read_and_refused() -> bool {
     refused && read && kinds && kept && !is_joined
 }
 
-#[test]
-fn words_and_parts(rt: HostRuntime) {
-    let mut all = parts_are_read_and_refused();
-    for row in &WORDS {
-        all = all && is_split(row);
-    }
-    assert!(rt; all);
-}
-
 const EVEN: &[u8; 30] = b"010140000000000000000000000000";
 
 const ODD: &[u8; 30] = b"8000000000000000000038a9288000";
@@ -325,8 +316,11 @@ fn all_give(alloc: Global, row: &PartsRow) -> Result<bool, AllocError> {
 }
 
 #[test]
-fn parts_are_joined(rt: HostRuntime) -> Result<(), Fail> {
-    let mut all = true;
+fn words_are_split_and_parts_joined(rt: HostRuntime) -> Result<(), Fail> {
+    let mut all = parts_are_read_and_refused();
+    for row in &WORDS {
+        all = all && is_split(row);
+    }
     for row in &PARTS {
         all = all_give(rt.alloc(), row)? && all;
     }

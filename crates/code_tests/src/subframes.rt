@@ -237,15 +237,6 @@ fn is_subframe(row: &SubframeRow) -> bool {
     }
 }
 
-#[test]
-fn subframes_both_ways(rt: HostRuntime) {
-    let mut all = true;
-    for row in &SUBFRAMES {
-        all = all && is_subframe(row);
-    }
-    assert!(rt; all);
-}
-
 // Digits, and why they are refused; `None` where they are read.
 struct ReadingRow {
     digits: &'static [u8],
@@ -315,8 +306,11 @@ fn last_second_is_read() -> Option<bool> {
 }
 
 #[test]
-fn readings_and_faults(rt: HostRuntime) {
+fn subframes_both_ways_and_faults(rt: HostRuntime) {
     let mut all = read(&bits_of(TURNED)) == read(&bits_of(UPRIGHT));
+    for row in &SUBFRAMES {
+        all = all && is_subframe(row);
+    }
     for row in &READINGS {
         all = all && is_read(&bits_of(row.digits), row.fault);
     }

@@ -1,7 +1,8 @@
-//! The form of a file, told by its first bytes.
+//! The form of a file, told by its first bytes, and what a file of a form converts to.
 //!
 //! [`kind_of`] looks at no more than 80 bytes, so the first 80 bytes of a file tell the same form as
-//! the whole file ([`first_bytes_decide`]).
+//! the whole file ([`first_bytes_decide`]). [`row_of`] is the table of conversions: which options of
+//! `navbridge` that of a form to a target takes.
 //!
 //! ```rust
 //! assert!(rt; kind_of(b"NAVCAP 1\n") == Kind::Capture1);
@@ -14,14 +15,16 @@ ghost use Rattle.file_form.specs.Kinds.{kind_of, prefix_kind, binary_kind, text_
 ghost use Rattle.file_form.specs.Kinds.{rinex_kind, version_of, first_char};
 
 mod laws;
+mod table;
 
 pub use crate::laws::first_bytes_decide;
+pub use crate::table::{Row, Target, WeekRule, from_word, kind_named, row_of, target_named};
 
 /// How many bytes tell a file's form: the first line of a RINEX file.
 pub const LOOKED_AT: usize = 80;
 
 /// The form of a file.
-#[derive(Clone, Copy, PartialEq, Eq, Debug)]
+#[derive(Clone, Copy, PartialEq, Eq)]
 pub enum Kind {
     /// No byte.
     Empty,

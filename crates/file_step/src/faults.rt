@@ -3,7 +3,7 @@
 use std::io::ErrorKind;
 
 /// Why a call on a file failed.
-#[derive(Clone, Copy, PartialEq, Eq, Debug)]
+#[derive(Clone, Copy)]
 pub enum FileFault {
     /// There is no file of this name.
     NotFound,

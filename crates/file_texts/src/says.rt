@@ -9,7 +9,7 @@ use file_step::FileFault;
 use std::fmt;
 
 /// Why a file is not converted, or not to its end.
-#[derive(Clone, Copy, Debug, Drop)]
+#[derive(Clone, Copy, Drop)]
 pub enum Refusal<'a> {
     /// A file of this form is not converted to the target.
     NoSuchConversion(Kind),
@@ -146,79 +146,93 @@ fn fault_text(fault: FileFault) -> &'static str {
     }
 }
 
+// What is said of a file of this form whose first line or header is not accepted.
+fn header_text(kind: Kind) -> &'static str {
+    match kind {
+        Kind::Capture1 => "its first line names no week; name it by --week",
+        Kind::Capture2 => "its first line names another week than --week",
+        Kind::Ubx | Kind::Sbf => "it has no subframe and no page that a time stands before",
+        _ => "its header is not accepted",
+    }
+}
+
+// Writes a sentence about a name or a value.
+fn say<W: fmt::Write>(
+    f: &mut fmt::Formatter<W>,
+    before: &str,
+    name: &str,
+    after: &str,
+) -> fmt::Result {
+    f.write_str(before)?;
+    f.write_str(name)?;
+    f.write_str(after)
+}
+
+// Writes the sentence of a read that failed after so many bytes.
+fn say_read<W: fmt::Write>(f: &mut fmt::Formatter<W>, count: u64, reason: &str) -> fmt::Result {
+    write!(f, "reading it failed after {count} bytes: {reason}")
+}
+
 impl fmt::Display for Refusal<'_> {
     fn fmt<W: fmt::Write>(&self, f: &mut fmt::Formatter<W>) -> fmt::Result {
         match *self {
             Refusal::NoSuchConversion(kind) | Refusal::NoConversion(kind) => {
-                write!(f, "it is {}; {}", kind_text(kind), targets_of(kind))
+                say(f, "it is ", kind_text(kind), "; ")?;
+                f.write_str(targets_of(kind))
             }
             Refusal::Date(date) => {
-                write!(f, "--date {date}: write it as \"20240101 000000 UTC\"")
+                say(f, "--date ", date, ": write it as \"20240101 000000 UTC\"")
             }
-            Refusal::Week(week) => write!(f, "--week {week}: 1024 to 8191"),
-            Refusal::NoName => write!(f, "it has no name of a file; name the output by -o"),
+            Refusal::Week(week) => say(f, "--week ", week, ": 1024 to 8191"),
+            Refusal::NoName => f.write_str("it has no name of a file; name the output by -o"),
             Refusal::SeveralFiles(name) => {
-                write!(
+                say(
                     f,
-                    "{name} is one file; for several name a folder that is there"
+                    "",
+                    name,
+                    " is one file; for several name a folder that is there",
                 )
             }
-            Refusal::Site(site) => write!(
+            Refusal::Site(site) => say(
                 f,
-                "--long-name {site}: four capital letters or digits, two digits and a country, as BRDC00XXX"
+                "--long-name ",
+                site,
+                ": four capital letters or digits, two digits and a country, as BRDC00XXX",
             ),
-            Refusal::NoLongName => write!(
-                f,
-                "--long-name names navigation files that are made of files, beside them or in a folder"
+            Refusal::NoLongName => f.write_str(
+                "--long-name names navigation files that are made of files, beside them or in a folder",
             ),
-            Refusal::NoTimes => write!(f, "it has no ephemeris, by whose time it would be named"),
-            Refusal::NotOpened(fault) => write!(f, "{}", fault_text(fault)),
-            Refusal::ReadFault(count, fault) => {
-                write!(
-                    f,
-                    "reading it failed after {count} bytes: {}",
-                    fault_text(fault)
-                )
+            Refusal::NoTimes => {
+                f.write_str("it has no ephemeris, by whose time it would be named")
             }
+            Refusal::NotOpened(fault) => f.write_str(fault_text(fault)),
+            Refusal::ReadFault(count, fault) => say_read(f, count, fault_text(fault)),
             Refusal::OutputThere(name) => {
-                write!(f, "{name} is there already; --overwrite replaces it")
+                say(f, "", name, " is there already; --overwrite replaces it")
             }
-            Refusal::PartThere(part) => write!(
+            Refusal::PartThere(part) => say(
                 f,
-                "{part} is there: another run is writing it, or one was cut off; remove it"
+                "",
+                part,
+                " is there: another run is writing it, or one was cut off; remove it",
             ),
             Refusal::SameFile(name) => {
-                write!(f, "{name} is the input itself; name the output by -o")
+                say(f, "", name, " is the input itself; name the output by -o")
             }
             Refusal::WriteFault(name, FileFault::NotFound) => {
-                write!(f, "writing {name} failed: its folder is not there")
+                say(f, "writing ", name, " failed: its folder is not there")
             }
             Refusal::WriteFault(name, fault) => {
-                write!(
-                    f,
-                    "writing {name} failed: {}; it is as it was",
-                    fault_text(fault)
-                )
+                say(f, "writing ", name, " failed: ")?;
+                say(f, "", fault_text(fault), "; it is as it was")
             }
-            Refusal::NotAccepted(Kind::Capture1) => {
-                write!(f, "its first line names no week; name it by --week")
-            }
-            Refusal::NotAccepted(Kind::Capture2) => {
-                write!(f, "its first line names another week than --week")
-            }
-            Refusal::NotAccepted(Kind::Ubx | Kind::Sbf) => {
-                write!(
-                    f,
-                    "it has no subframe and no page that a time stands before"
-                )
-            }
-            Refusal::NotAccepted(_) => write!(f, "its header is not accepted"),
-            Refusal::NoMemory => write!(f, "there was no memory"),
-            Refusal::ReportFault => write!(f, "the report was not written"),
+            Refusal::NotAccepted(kind) => f.write_str(header_text(kind)),
+            Refusal::NoMemory => f.write_str("there was no memory"),
+            Refusal::ReportFault => f.write_str("the report was not written"),
             Refusal::TooLong => {
-                write!(f, "it has more than 4,294,967,295 bytes; cut it in parts")
+                f.write_str("it has more than 4,294,967,295 bytes; cut it in parts")
             }
-            Refusal::Word => write!(f, "a word of the command line is not UTF-8"),
+            Refusal::Word => f.write_str("a word of the command line is not UTF-8"),
         }
     }
 }

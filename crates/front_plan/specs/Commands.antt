@@ -7,13 +7,11 @@ use Rattle.clap.specs.Simple.{new_shape}
 use Rattle.clap.specs.Kinds.{or_else}
 use Rattle.clap.specs.declared.error.Error.{Error}
 use Rattle.clap.specs.declared.error.kind.ErrorKind.TheVariants.{MissingRequiredArgument, OutOfMemory}
-use Rattle.clap.specs.declared.builder.action.ArgAction.TheVariants.{SetTrue}
+use Rattle.clap.specs.declared.builder.action.ArgAction.TheVariants.{Set, SetTrue}
 use Rattle.clap.specs.declared.builder.value_parser.ValueParser.{ValueParser}
 use Rattle.clap.specs.declared.builder.value_parser.ValueParser.TheVariants as parsers
 use Rattle.front_plan.specs.declared.command.Asked.{Asked}
 use Rattle.front_plan.specs.declared.command.Row.{Row as OptionRow}
-use Rattle.front_plan.specs.declared.command.Takes.{Takes}
-use Rattle.front_plan.specs.declared.command.Takes.TheVariants as takes
 
 -- the values of `--from`
 abbrev pub form_words : List Text
@@ -33,31 +31,32 @@ files_rule = record (new_rule (codes "files")) {
   value_names = 1;
 }
 
--- an option with one value, of this kind where one is named, and its default
-abbrev pub option_rule : Text → Option ℕ → Option ValueParser → List Text → Rule
+-- an option with one value of this kind, and its default
+abbrev pub option_rule : Text → Option ℕ → ValueParser → List Text → Rule
 option_rule name short parser defaults = record (new_rule name) {
   long = Some name;
   short = short;
+  action = Some Set;
   value_names = 1;
-  parser = parser;
+  parser = Some parser;
   defaults = defaults;
 }
 
 -- an option without a value
 abbrev pub flag_rule : Text → Option ℕ → Rule
-flag_rule name short = record (new_rule name) { long = Some name; short = short; action = Some SetTrue }
+flag_rule name short = record (new_rule name) { long = Some name; short = short; action = Some SetTrue; parser = Some parsers.Bool }
 
 -- all options, with the words of `--from` and of `--to`
 abbrev pub option_rules : Bor (List (Bor Text)) → Bor (List (Bor Text)) → List Rule
 option_rules forms targets =
-    option_rule (codes "from") (Some 102) (Some (parsers.Names forms)) (codes "auto" ∷ [])
-    ∷ option_rule (codes "to") (Some 116) (Some (parsers.Names targets)) (codes "rinex" ∷ [])
-    ∷ option_rule (codes "output") (Some 111) None []
-    ∷ option_rule (codes "week") None (Some (parsers.Signed (pos 1024) (pos 8191))) []
-    ∷ option_rule (codes "leap") None (Some (parsers.Signed (pos 0) (pos 99))) (codes "18" ∷ [])
-    ∷ option_rule (codes "date") None None []
-    ∷ option_rule (codes "long-name") None None []
-    ∷ option_rule (codes "report") None None []
+    option_rule (codes "from") (Some 102) (parsers.Names forms) (codes "auto" ∷ [])
+    ∷ option_rule (codes "to") (Some 116) (parsers.Names targets) (codes "rinex" ∷ [])
+    ∷ option_rule (codes "output") (Some 111) parsers.String []
+    ∷ option_rule (codes "week") None (parsers.Signed (pos 1024) (pos 8191)) []
+    ∷ option_rule (codes "leap") None (parsers.Signed (pos 0) (pos 99)) (codes "18" ∷ [])
+    ∷ option_rule (codes "date") None parsers.String []
+    ∷ option_rule (codes "long-name") None parsers.String []
+    ∷ option_rule (codes "report") None parsers.String []
     ∷ flag_rule (codes "overwrite") None
     ∷ flag_rule (codes "quiet") (Some 113)
     ∷ flag_rule (codes "dry-run") (Some 110)
@@ -103,25 +102,20 @@ pub record ReadsWords (words : List Text) (result : Result Asked Error) : Type 0
 
 -- ---- rows of the table of options, which only private functions cite
 
--- the rule with what a row has
+-- the rule with a short name, where one is there
 abbrev pub with_short : Option ℕ → Rule → Rule
 with_short None rule = rule
 with_short (Some short) rule = record rule { short = Some short }
 
-abbrev pub with_value : Takes → Rule → Rule
-with_value takes.Nothing rule = record rule { action = Some SetTrue }
-with_value takes.Text rule = record rule { value_names = 1 }
-with_value (takes.Word words) rule = record rule { value_names = 1; parser = Some (parsers.Names words) }
-with_value (takes.Number least most) rule = record rule { value_names = 1; parser = Some (parsers.Signed least most) }
-
-abbrev pub with_default : Option (Bor Text) → Rule → Rule
-with_default None rule = rule
-with_default (Some text) rule = record rule { defaults = text.now ∷ [] }
-
 -- the rule of a row
 abbrev pub row_rule : OptionRow → Rule
-row_rule row =
-    with_default row.default (with_value row.takes (with_short row.short (record (new_rule row.name.now) { long = Some row.name.now })))
+row_rule row = with_short row.short (record (new_rule row.name.now) {
+  long = Some row.name.now;
+  action = Some row.action;
+  value_names = length row.values.now;
+  parser = Some row.parser;
+  defaults = map (λ text. text.now) row.defaults.now;
+})
 
 -- the command with these options more
 abbrev pub with_rules : App → List Rule → App

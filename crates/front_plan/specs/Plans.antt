@@ -1,11 +1,11 @@
 -- The command-line words of `navbridge` for the conversion of a file.
 use Rattle.std.specs.Prelude.{ℕ, List, [], ◌∷◌, ◌++◌, Bool, true, false, Option, None, Some, codes}
 use Rattle.file_form.specs.declared.Kind.{Kind}
-use Rattle.front_plan.specs.Table.{from_word, to_word}
-use Rattle.front_plan.specs.declared.table.Row.{Row}
-use Rattle.front_plan.specs.declared.table.Target.{Target}
-use Rattle.front_plan.specs.declared.table.WeekRule.{WeekRule}
-use Rattle.front_plan.specs.declared.table.WeekRule.TheVariants.{Never, IfNamed, Always}
+use Rattle.file_form.specs.Table.{from_word, to_word}
+use Rattle.file_form.specs.declared.table.Row.{Row}
+use Rattle.file_form.specs.declared.table.Target.{Target}
+use Rattle.file_form.specs.declared.table.WeekRule.{WeekRule}
+use Rattle.file_form.specs.declared.table.WeekRule.TheVariants.{Never, IfNamed, Always}
 
 -- the `--week` words: the week that is named or, where one is required and none named, that of the clock
 abbrev pub week_words : WeekRule → Option (List ℕ) → List ℕ → List (List ℕ)

@@ -6,15 +6,13 @@ ghost use Rattle.std.specs.String.{string_bytes};
 ghost use Rattle.clap.specs.Words.{all_of, app_of, found_of, kind_of, rows_of, rule_of};
 ghost use Rattle.front_plan.specs.Commands.{Checked, IsCommand, ReadsWords, command_with};
 ghost use Rattle.front_plan.specs.Commands.{files_rule, has_flag, lacks_files, row_rule};
-ghost use Rattle.front_plan.specs.Commands.{value_in, with_default, with_rules, with_short};
-ghost use Rattle.front_plan.specs.Commands.{with_value};
-ghost use Rattle.front_plan.specs.Table.{kind_named, target_named};
+ghost use Rattle.front_plan.specs.Commands.{value_in, with_rules, with_short};
+ghost use Rattle.file_form.specs.Table.{kind_named, target_named};
 
-use crate::table::{Target, kind_named, target_named};
 use clap::builder::ValueParser;
 use clap::error::ErrorKind;
 use clap::{Arg, ArgAction, ArgMatches, Command, Error};
-use file_form::Kind;
+use file_form::{Kind, Target, kind_named, target_named};
 use std::alloc::{AllocError, Global};
 
 /// What the command line asks for.
@@ -203,22 +201,15 @@ fn missing_files(alloc: Global) -> Result<Error, AllocError>
     )
 }
 
-// What an option takes.
-#[derive(Clone, Copy)]
-enum Takes {
-    Nothing,
-    Text,
-    Word(&'static [&'static str]),
-    Number(i64, i64),
-}
-
-// An option, and the name of its value.
+// An option: what a use of it does, what its value has to be, its defaults, and the names of its
+// value.
 struct Row {
     name: &'static str,
     short: Option<char>,
-    takes: Takes,
-    default: Option<&'static str>,
-    value: &'static str,
+    action: ArgAction,
+    parser: ValueParser<'static>,
+    defaults: &'static [&'static str],
+    values: &'static [&'static str],
     help: &'static str,
 }
 
@@ -226,99 +217,111 @@ static OPTIONS: [Row; 12] = [
     Row {
         name: "from",
         short: Some('f'),
-        takes: Takes::Word(&["auto", "capture", "stream", "rinex", "rinex3", "ubx", "sbf"]),
-        default: Some("auto"),
-        value: "FORM",
+        action: ArgAction::Set,
+        parser: ValueParser::Names(&["auto", "capture", "stream", "rinex", "rinex3", "ubx", "sbf"]),
+        defaults: &["auto"],
+        values: &["FORM"],
         help: "The form of the files; auto looks at their first bytes",
     },
     Row {
         name: "to",
         short: Some('t'),
-        takes: Takes::Word(&[
+        action: ArgAction::Set,
+        parser: ValueParser::Names(&[
             "rinex", "rinex3", "rtcm", "list", "count", "frames", "merged", "cover", "capture",
         ]),
-        default: Some("rinex"),
-        value: "FORM",
+        defaults: &["rinex"],
+        values: &["FORM"],
         help: "What is made of them",
     },
     Row {
         name: "output",
         short: Some('o'),
-        takes: Takes::Text,
-        default: None,
-        value: "OUT",
+        action: ArgAction::Set,
+        parser: ValueParser::String,
+        defaults: &[],
+        values: &["OUT"],
         help: "The output: a file, a folder, or - for standard output",
     },
     Row {
         name: "week",
         short: None,
-        takes: Takes::Number(1024, 8191),
-        default: None,
-        value: "WEEK",
+        action: ArgAction::Set,
+        parser: ValueParser::Signed(1024, 8191),
+        defaults: &[],
+        values: &["WEEK"],
         help: "A GPS week near which a file is read; else that of today",
     },
     Row {
         name: "leap",
         short: None,
-        takes: Takes::Number(0, 99),
-        default: Some("18"),
-        value: "SECONDS",
+        action: ArgAction::Set,
+        parser: ValueParser::Signed(0, 99),
+        defaults: &["18"],
+        values: &["SECONDS"],
         help: "The leap seconds of a header",
     },
     Row {
         name: "date",
         short: None,
-        takes: Takes::Text,
-        default: None,
-        value: "DATE",
+        action: ArgAction::Set,
+        parser: ValueParser::String,
+        defaults: &[],
+        values: &["DATE"],
         help: "The date of a header, as \"20240101 000000 UTC\"",
     },
     Row {
         name: "long-name",
         short: None,
-        takes: Takes::Text,
-        default: None,
-        value: "SITE",
+        action: ArgAction::Set,
+        parser: ValueParser::String,
+        defaults: &[],
+        values: &["SITE"],
         help: "Name outputs by the convention of RINEX 3, with the times in the data, as BRDC00XXX",
     },
     Row {
         name: "report",
         short: None,
-        takes: Takes::Text,
-        default: None,
-        value: "FILE",
+        action: ArgAction::Set,
+        parser: ValueParser::String,
+        defaults: &[],
+        values: &["FILE"],
         help: "A file for the reports of navbridge: what was refused, and counts",
     },
     Row {
         name: "overwrite",
         short: None,
-        takes: Takes::Nothing,
-        default: None,
-        value: "",
+        action: ArgAction::SetTrue,
+        parser: ValueParser::Bool,
+        defaults: &[],
+        values: &[],
         help: "Replace a file that has the name of the output",
     },
     Row {
         name: "quiet",
         short: Some('q'),
-        takes: Takes::Nothing,
-        default: None,
-        value: "",
+        action: ArgAction::SetTrue,
+        parser: ValueParser::Bool,
+        defaults: &[],
+        values: &[],
         help: "Say nothing of what was done",
     },
     Row {
         name: "dry-run",
         short: Some('n'),
-        takes: Takes::Nothing,
-        default: None,
-        value: "",
+        action: ArgAction::SetTrue,
+        parser: ValueParser::Bool,
+        defaults: &[],
+        values: &[],
         help: "Print the words of navbridge, and do nothing",
     },
     Row {
         name: "list-forms",
         short: None,
-        takes: Takes::Nothing,
-        default: None,
-        value: "",
+        action: ArgAction::SetTrue,
+        parser: ValueParser::Bool,
+        defaults: &[],
+        values: &[],
         help: "List the forms, and do nothing",
     },
 ];
@@ -374,8 +377,14 @@ fn option_of<'a>(alloc: Global, row: &Row) -> Arg<'a>
     ensures rule { rule_of result ≡ row_rule row.now }
     ensures local { result.global ≡ false }
 {
-    let arg = Arg::new(alloc, row.name).long(row.name).help(row.help);
-    with_default(with_value(with_short(arg, row.short), row), row.default)
+    let arg = Arg::new(alloc, row.name)
+        .long(row.name)
+        .action(row.action)
+        .value_names(row.values)
+        .value_parser(row.parser)
+        .default_values(row.defaults)
+        .help(row.help);
+    with_short(arg, row.short)
 }
 
 // With a short name.
@@ -386,33 +395,5 @@ fn with_short<'a>(arg: Arg<'a>, short: Option<char>) -> Arg<'a>
     match short {
         None => arg,
         Some(short) => arg.short(short),
-    }
-}
-
-// With what it takes.
-fn with_value<'a>(arg: Arg<'a>, row: &Row) -> Arg<'a>
-    ensures rule { rule_of result ≡ with_value row.now.takes (rule_of arg.entry) }
-    ensures global { result.global ≡ arg.entry.global }
-{
-    match row.takes {
-        Takes::Nothing => arg.action(ArgAction::SetTrue),
-        Takes::Text => arg.value_name(row.value),
-        Takes::Word(words) => arg
-            .value_name(row.value)
-            .value_parser(ValueParser::Names(words)),
-        Takes::Number(least, most) => arg
-            .value_name(row.value)
-            .value_parser(ValueParser::signed(least, most)),
-    }
-}
-
-// With a default.
-fn with_default<'a>(arg: Arg<'a>, default: Option<&'a str>) -> Arg<'a>
-    ensures rule { rule_of result ≡ with_default default.entry (rule_of arg.entry) }
-    ensures global { result.global ≡ arg.entry.global }
-{
-    match default {
-        None => arg,
-        Some(text) => arg.default_value(text),
     }
 }

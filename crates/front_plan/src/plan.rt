@@ -4,8 +4,7 @@ ghost use Rattle.std.specs.Prelude.{◌≡◌, ◌++◌, ◌∷◌, [], IfOk, On
 ghost use Rattle.std.specs.String.{string_bytes};
 ghost use Rattle.front_plan.specs.Plans.{words_of, week_words, header_words};
 
-use crate::table::{Row, Target, WeekRule, from_word};
-use file_form::Kind;
+use file_form::{Kind, Row, Target, WeekRule, from_word};
 use std::alloc::{AllocError, Global};
 
 /// The option values of a conversion.

@@ -7,3 +7,4 @@ pub mod Opening
 pub mod Copying
 pub mod FirstLines
 pub mod FormsTold
+mod Refusing

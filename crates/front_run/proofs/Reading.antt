@@ -3,7 +3,7 @@ use Rattle.std.proofs.Common.{◌≡◌, ℕ, suc, zero, true, false, List, byte
 use Rattle.std.specs.Prelude.{Contains}
 use Rattle.file_form.specs.declared.Kind.{Kind}
 use Rattle.file_form.specs.declared.Kind.TheVariants as kinds
-use Rattle.front_plan.specs.Table.{from_word}
+use Rattle.file_form.specs.Table.{from_word}
 use Rattle.bridge_engine.specs.Job.{IsJob}
 use Rattle.bridge_engine.specs.Meanings.{meaning_of}
 use Rattle.bridge_engine.specs.Options.{Holds, Spells}

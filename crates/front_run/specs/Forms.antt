@@ -3,10 +3,10 @@ use Rattle.std.specs.Prelude.{◌≡◌, ℕ, List, Bool, true, false, Option, N
 use Rattle.file_form.specs.declared.Kind.{Kind}
 use Rattle.file_form.specs.declared.Kind.TheVariants as kinds
 use Rattle.front_plan.specs.Plans.{words_of}
-use Rattle.front_plan.specs.Table.{row_of}
-use Rattle.front_plan.specs.declared.table.Row.{Row}
-use Rattle.front_plan.specs.declared.table.Target.{Target}
-use Rattle.front_plan.specs.declared.table.Target.TheVariants as targets
+use Rattle.file_form.specs.Table.{row_of}
+use Rattle.file_form.specs.declared.table.Row.{Row}
+use Rattle.file_form.specs.declared.table.Target.{Target}
+use Rattle.file_form.specs.declared.table.Target.TheVariants as targets
 use Rattle.front_run.specs.declared.plans.Plan.{Plan}
 
 -- the form that is named, or else the one that the first bytes tell; a capture that names its week is read as one that does

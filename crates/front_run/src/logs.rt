@@ -14,7 +14,7 @@ use receiver_frames::{SbfJudge, UbxJudge};
 use receiver_log::{LogParts, LogSource, Receiver, Refusals};
 
 /// The forms of logs.
-#[derive(Clone, Copy, PartialEq, Eq, Debug)]
+#[derive(Clone, Copy)]
 pub enum Log {
     /// Messages of UBX.
     Ubx,

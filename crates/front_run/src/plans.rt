@@ -5,8 +5,8 @@ ghost use Rattle.std.specs.String.{string_bytes};
 ghost use Rattle.front_run.specs.Forms.{AreWords, HasRow, form_of, is_copied};
 
 use crate::puts::Stop;
-use file_form::Kind;
-use front_plan::{Target, Values, row_of, words_for};
+use file_form::{Kind, Target, row_of};
+use front_plan::{Values, words_for};
 use std::alloc::Global;
 
 /// What is asked of each file.

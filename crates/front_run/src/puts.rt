@@ -10,7 +10,7 @@ use peek_io::{Counted, Peeked, Progress};
 use receiver_log::Counts;
 
 /// Why a file is not converted.
-#[derive(Clone, Copy, Debug, Drop)]
+#[derive(Clone, Copy, Drop)]
 pub enum Stop {
     /// It was not opened.
     Open(FileFault),

@@ -1,28 +1,44 @@
 //! What is said of a file, and the exit status for it.
 
-ghost use Rattle.std.specs.Prelude.{◌≡◌, ◌⊎◌, IfErr, OnOk};
+ghost use Rattle.std.specs.Prelude.{◌≡◌, ◌≤◌, ℕ, IfErr, OnOk};
+ghost use Rattle.nav_io.specs.Causes.{HasCause};
 ghost use Rattle.file_texts.specs.Says.{status_of};
-ghost use Rattle.front_run.specs.Statuses.{status_for};
+ghost use Rattle.file_texts.specs.declared.says.Refusal.{Refusal};
+ghost use Rattle.front_run.specs.Statuses.{EndsReport, IsRefusalFor, status_for};
 
 use crate::ends::Outcome;
 use crate::plans::Plan;
 use crate::refusals::refusal_of;
 use file_texts::Refusal;
-use nav_io::Sink;
+use nav_io::{Failed, Sink};
 
-/// Who says what became of a file.
+/// Who says what became of a file, and ends its report.
 pub trait Teller<U: Sink> {
-    /// Says why it is not converted.
-    fn refused(&mut self, refusal: &Refusal);
+    // How often a report could not be ended: a count that never falls, and saturates at 2^64 - 1.
+    ghost faults: { Self → ℕ };
 
-    /// Ends the report of a file that was converted, and says what was made of it; whether the report
-    /// was written.
-    fn done(&mut self, outcome: &Outcome<U>) -> bool;
+    // What was told last of a file that is not converted.
+    ghost told: { Self → Refusal → Type 0 };
+
+    /// Says why a file is not converted.
+    fn refused(&mut self, refusal: &Refusal)
+        ensures says { told self.new refusal.now }
+        ensures later { faults self.old ≤ faults self.new };
+
+    /// Ends the report of a file that was converted, and says what was made of it.
+    ///
+    /// # Errors
+    ///
+    /// The report could not be written, which counts one fault.
+    fn done(&mut self, outcome: &Outcome<U>) -> Result<(), Failed>
+        ensures { HasCause (faults self.old) (faults self.new) result };
 }
 
 // Says why a file is not converted; the exit status.
 fn refuse<U: Sink, T: Teller<U>>(teller: &mut T, refusal: &Refusal) -> u8
-    ensures { result ≡ status_of refusal.now }
+    ensures status { result ≡ status_of refusal.now }
+    ensures says { T.told teller.new refusal.now }
+    ensures later { T.faults teller.old ≤ T.faults teller.new }
 {
     teller.refused(refusal);
     refusal.status()
@@ -38,15 +54,18 @@ pub fn finish<U: Sink + Drop, T: Teller<U>>(
     teller: &mut T,
 ) -> u8
     ensures refused { IfErr outcome.done (λ stop. result ≡ status_for stop) }
-    ensures done { OnOk outcome.done ((result ≡ 0) ⊎ (result ≡ 7)) }
+    ensures told { IfErr outcome.done (λ stop. (refusal : Refusal)
+        × IsRefusalFor plan.now stop name.entry part.entry refusal × T.told teller.new refusal) }
+
+    // 0 where the report was ended, and 7 where it could not be.
+    ensures done { OnOk outcome.done
+        (EndsReport (T.faults teller.old) (T.faults teller.new) result) }
 {
     match outcome.done {
-        Ok(()) => {
-            if teller.done(&outcome) {
-                return 0;
-            }
-            refuse::<U, T>(teller, &Refusal::ReportFault)
-        }
+        Ok(()) => match teller.done(&outcome) {
+            Ok(()) => 0,
+            Err(Failed) => refuse::<U, T>(teller, &Refusal::ReportFault),
+        },
         Err(stop) => refuse::<U, T>(teller, &refusal_of(plan, stop, name, part)),
     }
 }

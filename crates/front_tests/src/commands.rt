@@ -1,15 +1,16 @@
 //! Command lines.
 
 use clap::error::ErrorKind;
-use front_plan::{Target, read_words};
+use file_form::Target;
+use front_plan::{Asked, read_words};
 use std::alloc::{AllocError, Global};
 use std::test::Fail;
 
-// The words of a command line, which are divided by `|`.
-fn words_of(alloc: Global, text: &str) -> Result<Vec<String>, AllocError> {
+// The words of a command line.
+fn words_of(alloc: Global, texts: &[&str]) -> Result<Vec<String>, AllocError> {
     let mut words = Vec::new(alloc);
-    for word in text.split('|') {
-        words.push(String::from_str(alloc, word)?)?;
+    for text in texts {
+        words.push(String::from_str(alloc, text)?)?;
     }
     Ok(words)
 }
@@ -23,15 +24,28 @@ fn has_mistake(alloc: Global, case: &Mistake) -> Result<bool, AllocError> {
     })
 }
 
+// Whether these options are asked for, and no others.
+fn has_options(asked: &Asked) -> bool {
+    let is_form = asked.to() == Target::Rtcm && asked.from().is_none();
+    let is_time = asked.week() == Some("2295") && asked.leap() == "18";
+    is_form && is_time && asked.is_quiet() && !asked.overwrites()
+}
+
 // Whether the options of a command line are read.
 fn are_options_read(alloc: Global) -> Result<bool, AllocError> {
-    let words = words_of(alloc, "a.navcap|-t|rtcm|-o|out|b.navcap|--week=2295|-q")?;
+    let texts = [
+        "a.navcap",
+        "-t",
+        "rtcm",
+        "-o",
+        "out",
+        "b.navcap",
+        "--week=2295",
+        "-q",
+    ];
+    let words = words_of(alloc, &texts)?;
     Ok(match read_words(alloc, &words) {
-        Ok(asked) => {
-            let is_form = asked.to() == Target::Rtcm && asked.from().is_none();
-            let is_time = asked.week() == Some("2295") && asked.leap() == "18";
-            is_form && is_time && asked.is_quiet() && !asked.overwrites()
-        }
+        Ok(asked) => has_options(&asked),
         Err(_) => false,
     })
 }
@@ -44,29 +58,29 @@ fn options_are_read(rt: HostRuntime) -> Result<(), Fail> {
 
 // A command line, and the kind of the mistake in it.
 struct Mistake {
-    words: &'static str,
+    words: &'static [&'static str],
     kind: Option<ErrorKind>,
 }
 
 static MISTAKES: [Mistake; 5] = [
     Mistake {
-        words: "a|--to|rinx",
+        words: &["a", "--to", "rinx"],
         kind: Some(ErrorKind::InvalidValue),
     },
     Mistake {
-        words: "a|--overwrit",
+        words: &["a", "--overwrit"],
         kind: Some(ErrorKind::UnknownArgument),
     },
     Mistake {
-        words: "a|--week|1023",
+        words: &["a", "--week", "1023"],
         kind: Some(ErrorKind::ValueValidation),
     },
     Mistake {
-        words: "-q",
+        words: &["-q"],
         kind: Some(ErrorKind::MissingRequiredArgument),
     },
     Mistake {
-        words: "--list-forms",
+        words: &["--list-forms"],
         kind: None,
     },
 ];
@@ -74,7 +88,7 @@ static MISTAKES: [Mistake; 5] = [
 #[test]
 fn mistakes_are_told_apart(rt: HostRuntime) -> Result<(), Fail> {
     for case in &MISTAKES {
-        assert!(rt; has_mistake(rt.alloc(), case)?, "{}", case.words);
+        assert!(rt; has_mistake(rt.alloc(), case)?);
     }
     Ok(())
 }

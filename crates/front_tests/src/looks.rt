@@ -1,7 +1,7 @@
 //! Sources that are looked at, and counted.
 
 use nav_io::{MemSource, Source};
-use peek_io::{Counted, PeekFault, Progress, peek};
+use peek_io::{Counted, PeekFault, Peeked, Progress, peek};
 use std::alloc::{AllocError, Global};
 use std::test::Fail;
 
@@ -37,23 +37,30 @@ fn read_all<S: Source>(source: &mut S, bytes: &mut Vec<u8>) -> Result<(), AllocE
 
 static TEXT: &[u8] = b"0123456789abc";
 
-// Whether the bytes of which at most so many were looked at come again, and are counted.
-fn come_again(alloc: Global, most: usize) -> Result<bool, AllocError> {
-    let Ok(peeked) = peek(alloc, source_of(alloc, TEXT, 99)?, most) else {
-        return Ok(false);
-    };
-    let is_prefix = peeked.prefix() == &TEXT[..most.min(TEXT.len())];
+// Whether the bytes of a source that was looked at come again, and are counted.
+fn come_again(alloc: Global, peeked: Peeked<MemSource>) -> Result<bool, AllocError> {
     let mut counted = Counted::new(peeked, Last(0));
     let mut bytes = Vec::new(alloc);
     read_all(&mut counted, &mut bytes)?;
-    let is_whole = bytes.as_slice() == TEXT && counted.count() == 13;
-    Ok(is_prefix && is_whole && counted.into_parts().1.0 == 13)
+    let is_counted = counted.count() == 13 && counted.into_parts().1.0 == 13;
+    Ok(is_counted && bytes.as_slice() == TEXT)
+}
+
+// Whether that is so where at most so many bytes were looked at, which are the first ones.
+fn are_given_again(alloc: Global, most: usize) -> Result<bool, AllocError> {
+    match peek(alloc, source_of(alloc, TEXT, 99)?, most) {
+        Err(_) => Ok(false),
+        Ok(peeked) => {
+            let is_prefix = peeked.prefix() == &TEXT[..most.min(TEXT.len())];
+            Ok(is_prefix && come_again(alloc, peeked)?)
+        }
+    }
 }
 
 #[test]
 fn bytes_that_were_looked_at_come_again(rt: HostRuntime) -> Result<(), Fail> {
     for most in [0, 1, 3, 7, 13, 80] {
-        assert!(rt; come_again(rt.alloc(), most)?, "{most}");
+        assert!(rt; are_given_again(rt.alloc(), most)?, "{most}");
     }
     Ok(())
 }
@@ -61,6 +68,11 @@ fn bytes_that_were_looked_at_come_again(rt: HostRuntime) -> Result<(), Fail> {
 #[test]
 fn read_that_fails_is_told(rt: HostRuntime) -> Result<(), Fail> {
     let source = source_of(rt.alloc(), TEXT, 1)?;
-    assert!(rt; peek(rt.alloc(), source, 7).err() == Some(PeekFault::ReadFault));
+    assert!(rt;
+        matches!(
+            peek(rt.alloc(), source, 7).err(),
+            Some(PeekFault::ReadFault)
+        )
+    );
     Ok(())
 }

@@ -1,15 +1,143 @@
 //! Whole conversions over a folder in memory.
 
-use file_form::Kind;
+ghost use Rattle.std.specs.Prelude.{◌≡◌};
+
+use file_form::{Kind, Target};
 use file_memory::MemFolder;
-use file_step::part_of;
-use front_plan::{Target, Values};
-use front_run::{Plan, Sourced, Stop, Told, convert_one, convert_source};
-use nav_io::{MemSink, MemSource};
+use file_texts::Refusal;
+use front_plan::Values;
+use front_run::{Outcome, Plan, Sourced, Stop, Teller, Told, convert_one, convert_source, finish};
+use nav_io::{Failed, MemSink, MemSource};
 use peek_io::Untold;
 use receiver_log::Unheard;
 use std::alloc::{AllocError, Global};
 use std::test::Fail;
+
+// How a conversion ended, with the form under which the file was read.
+#[derive(Clone, Copy, PartialEq, Eq)]
+enum End {
+    Done,
+    NotOpened,
+    NotRead,
+    NoConversion(Kind),
+    NoJob(Kind),
+    NotAccepted(Kind),
+    Other,
+}
+
+// How a conversion ended.
+fn end_of(done: Result<(), Stop>) -> End {
+    match done {
+        Ok(()) => End::Done,
+        Err(Stop::Open(_)) => End::NotOpened,
+        Err(Stop::Look(None)) => End::NotRead,
+        Err(Stop::NoConversion(kind)) => End::NoConversion(kind),
+        Err(Stop::NoJob(kind)) => End::NoJob(kind),
+        Err(Stop::Run(kind, 5, _, _, _)) => End::NotAccepted(kind),
+        Err(_) => End::Other,
+    }
+}
+
+// A file of these bytes, where it is there, and what is asked of it; the output's bytes before and
+// afterwards, how it ends, and its status where the report can be ended, or cannot.
+struct Case {
+    bytes: Option<&'static [u8]>,
+    target: Target,
+    week: Option<&'static str>,
+    old: Option<&'static [u8]>,
+    new: Option<&'static [u8]>,
+    end: End,
+    fails: bool,
+    status: u8,
+}
+
+const CAPTURE: &[u8] = b"NAVCAP 2 2295 300\n";
+
+static CASES: [Case; 8] = [
+    Case {
+        bytes: Some(CAPTURE),
+        target: Target::List,
+        week: None,
+        old: None,
+        new: Some(b""),
+        end: End::Done,
+        fails: false,
+        status: 0,
+    },
+    // the report cannot be ended
+    Case {
+        bytes: Some(CAPTURE),
+        target: Target::List,
+        week: None,
+        old: None,
+        new: Some(b""),
+        end: End::Done,
+        fails: true,
+        status: 7,
+    },
+    // another week than that of the capture
+    Case {
+        bytes: Some(CAPTURE),
+        target: Target::List,
+        week: Some("2294"),
+        old: Some(b"old"),
+        new: Some(b"old"),
+        end: End::NotAccepted(Kind::Capture2),
+        fails: false,
+        status: 5,
+    },
+    // a log is copied as its capture
+    Case {
+        bytes: Some(b"\xb5\x62 and no message"),
+        target: Target::Capture,
+        week: None,
+        old: None,
+        new: Some(b""),
+        end: End::Done,
+        fails: false,
+        status: 0,
+    },
+    Case {
+        bytes: Some(b"\xb5\x62 and no message"),
+        target: Target::List,
+        week: None,
+        old: None,
+        new: None,
+        end: End::NotAccepted(Kind::Ubx),
+        fails: false,
+        status: 5,
+    },
+    Case {
+        bytes: Some(b"NAVCAP 1 300\n"),
+        target: Target::Frames,
+        week: None,
+        old: None,
+        new: None,
+        end: End::NoConversion(Kind::Capture1),
+        fails: false,
+        status: 2,
+    },
+    Case {
+        bytes: Some(b"NAVCAP 1 300\n"),
+        target: Target::List,
+        week: Some("99999"),
+        old: None,
+        new: None,
+        end: End::NoJob(Kind::Capture1),
+        fails: false,
+        status: 2,
+    },
+    Case {
+        bytes: None,
+        target: Target::List,
+        week: None,
+        old: None,
+        new: None,
+        end: End::NotOpened,
+        fails: false,
+        status: 3,
+    },
+];
 
 // What is asked: this target, with the week where one is named.
 fn plan_of<'a>(target: Target, week: Option<&'a str>) -> Plan<'a> {
@@ -25,19 +153,6 @@ fn plan_of<'a>(target: Target, week: Option<&'a str>) -> Plan<'a> {
     }
 }
 
-// How the conversion from one name to another ended.
-fn convert(
-    alloc: Global,
-    folder: &mut MemFolder,
-    plan: &Plan,
-    from: &str,
-    name: &str,
-) -> Result<Result<(), Stop>, AllocError> {
-    let part = part_of(alloc, name)?;
-    let told = listeners(alloc)?;
-    Ok(convert_one(alloc, plan, folder, told, from, part.as_str(), name).done)
-}
-
 // Nobody but a report is told.
 fn listeners(alloc: Global) -> Result<Told<MemSink, Unheard, Untold>, AllocError> {
     Ok(Told {
@@ -47,27 +162,39 @@ fn listeners(alloc: Global) -> Result<Told<MemSink, Unheard, Untold>, AllocError
     })
 }
 
-// How the conversion of a source of these bytes to a list ended, of which these calls fail.
-fn convert_bytes(
-    alloc: Global,
-    folder: &mut MemFolder,
-    bytes: &[u8],
-    fails: &[u32],
-) -> Result<Result<(), Stop>, AllocError> {
-    let part = part_of(alloc, "s.list")?;
-    let source = MemSource::new(bytes.to_vec(alloc)?, Vec::new(alloc), fails.to_vec(alloc)?);
-    let plan = plan_of(Target::List, None);
-    let told = listeners(alloc)?;
-    let Sourced { outcome, source: _ } = convert_source(
-        alloc,
-        &plan,
-        folder,
-        source,
-        told,
-        part.as_str(),
-        "s.list",
-    );
-    Ok(outcome.done)
+// Who hears what became of a file, and can end its report, or cannot.
+#[derive(Drop)]
+struct Hearer {
+    fails: bool,
+    faults: u64,
+}
+
+impl Teller<MemSink> for Hearer {
+    ghost faults = { λ s. s.faults };
+
+    ghost told = { λ _ _. Unit {0} };
+
+    fn refused(&mut self, _refusal: &Refusal) {}
+
+    fn done(&mut self, _outcome: &Outcome<MemSink>) -> Result<(), Failed> {
+        if !self.fails {
+            return Ok(());
+        }
+        self.faults = self.faults.saturating_add(1);
+        Err(Failed)
+    }
+}
+
+// The folder of a case.
+fn folder_of(alloc: Global, case: &Case) -> Result<MemFolder, AllocError> {
+    let mut folder = MemFolder::new(alloc);
+    if let Some(bytes) = case.bytes {
+        folder.put("in", bytes)?;
+    }
+    if let Some(bytes) = case.old {
+        folder.put("out", bytes)?;
+    }
+    Ok(folder)
 }
 
 // Whether the file of this name has these bytes, or none is there.
@@ -79,57 +206,66 @@ fn has(folder: &MemFolder, name: &str, bytes: Option<&[u8]>) -> bool {
     }
 }
 
+// Whether the conversion of a case ends so, and leaves these files.
+fn ends_so(alloc: Global, case: &Case) -> Result<bool, AllocError> {
+    let mut folder = folder_of(alloc, case)?;
+    let told = listeners(alloc)?;
+    let plan = plan_of(case.target, case.week);
+    let outcome = convert_one(alloc, &plan, &mut folder, told, "in", "part", "out");
+    let is_end = end_of(outcome.done) == case.end;
+    let mut hearer = Hearer {
+        fails: case.fails,
+        faults: 0,
+    };
+    let status = finish(&plan, outcome, "out", "part", &mut hearer);
+    Ok(
+        is_end
+            && status == case.status
+            && has(&folder, "out", case.new)
+            && has(&folder, "part", None),
+    )
+}
+
 #[test]
-fn second_of_two_captures_is_refused(rt: HostRuntime) -> Result<(), Fail> {
-    let mut folder = MemFolder::new(rt.alloc());
-    folder.put("a.navcap", b"NAVCAP 2 2295 300\n")?;
-    folder.put("b.navcap", b"NAVCAP 2 2295 300\n")?;
-    folder.put("b.list", b"old")?;
-    let plan = plan_of(Target::List, None);
-    let done = convert(rt.alloc(), &mut folder, &plan, "a.navcap", "a.list")?;
-    assert!(rt; done.is_ok() && has(&folder, "a.list", Some(b"")));
-    let plan = plan_of(Target::List, Some("2294"));
-    let done = convert(rt.alloc(), &mut folder, &plan, "b.navcap", "b.list")?;
-    assert!(rt; matches!(&done, Err(Stop::Run(Kind::Capture2, 5, _, _, _))));
-    assert!(rt; has(&folder, "b.list", Some(b"old")) && has(&folder, "b.list.part", None));
+fn files_are_converted_as_the_table_says(rt: HostRuntime) -> Result<(), Fail> {
+    for case in &CASES {
+        assert!(rt; ends_so(rt.alloc(), case)?);
+    }
     Ok(())
+}
+
+// A source of a capture of which this call fails.
+fn source_of(alloc: Global, fails: u32) -> Result<MemSource, AllocError> {
+    let calls = [fails].to_vec(alloc)?;
+    Ok(MemSource::new(CAPTURE.to_vec(alloc)?, Vec::new(alloc), calls))
+}
+
+// Whether its conversion to a list ends so, with this output.
+fn source_ends_so(
+    alloc: Global,
+    fails: u32,
+    end: End,
+    output: Option<&[u8]>,
+) -> Result<bool, AllocError> {
+    let told = listeners(alloc)?;
+    let source = source_of(alloc, fails)?;
+    let mut folder = MemFolder::new(alloc);
+    let plan = plan_of(Target::List, None);
+    let Sourced { outcome, source: _ } = convert_source(
+        alloc,
+        &plan,
+        &mut folder,
+        source,
+        told,
+        "part",
+        "out",
+    );
+    Ok(end_of(outcome.done) == end && has(&folder, "out", output))
 }
 
 #[test]
 fn source_is_converted_unless_a_read_fails(rt: HostRuntime) -> Result<(), Fail> {
-    let mut folder = MemFolder::new(rt.alloc());
-    let done = convert_bytes(rt.alloc(), &mut folder, b"NAVCAP 2 2295 300\n", &[0])?;
-    assert!(rt; matches!(&done, Err(Stop::Look(None))) && has(&folder, "s.list", None));
-    let done = convert_bytes(rt.alloc(), &mut folder, b"NAVCAP 2 2295 300\n", &[])?;
-    assert!(rt; done.is_ok() && has(&folder, "s.list", Some(b"")));
-    Ok(())
-}
-
-#[test]
-fn log_is_copied_as_its_capture(rt: HostRuntime) -> Result<(), Fail> {
-    let mut folder = MemFolder::new(rt.alloc());
-    folder.put("a.ubx", b"\xb5\x62 and no message")?;
-    let plan = plan_of(Target::Capture, None);
-    let done = convert(rt.alloc(), &mut folder, &plan, "a.ubx", "a.navcap")?;
-    assert!(rt; done.is_ok() && has(&folder, "a.navcap", Some(b"")));
-    let plan = plan_of(Target::List, None);
-    let done = convert(rt.alloc(), &mut folder, &plan, "a.ubx", "a.list")?;
-    assert!(rt; matches!(&done, Err(Stop::Run(Kind::Ubx, 5, _, _, _))));
-    Ok(())
-}
-
-#[test]
-fn what_cannot_be_asked_is_told(rt: HostRuntime) -> Result<(), Fail> {
-    let mut folder = MemFolder::new(rt.alloc());
-    folder.put("a.navcap", b"NAVCAP 1 300\n")?;
-    let plan = plan_of(Target::Frames, None);
-    let done = convert(rt.alloc(), &mut folder, &plan, "a.navcap", "a.frames")?;
-    assert!(rt; matches!(&done, Err(Stop::NoConversion(Kind::Capture1))));
-    let plan = plan_of(Target::List, Some("99999"));
-    let done = convert(rt.alloc(), &mut folder, &plan, "a.navcap", "a.list")?;
-    assert!(rt; matches!(&done, Err(Stop::NoJob(Kind::Capture1))));
-    let done = convert(rt.alloc(), &mut folder, &plan, "c.navcap", "c.list")?;
-    assert!(rt; matches!(&done, Err(Stop::Open(_))));
-    assert!(rt; has(&folder, "a.frames", None) && has(&folder, "a.list", None));
+    assert!(rt; source_ends_so(rt.alloc(), 0, End::NotRead, None)?);
+    assert!(rt; source_ends_so(rt.alloc(), 99, End::Done, Some(b""))?);
     Ok(())
 }

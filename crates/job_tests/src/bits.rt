@@ -1,5 +1,7 @@
-//! Texts with names in place of bits: subframes, page parts and frames, each by an independent encoder.
+//! Texts with names in place of bits and lines: subframes, page parts and frames, each by an
+//! independent encoder.
 
+use crate::samples::TEXTS;
 use std::alloc::{AllocError, Global};
 
 // What a name stands for: digits of a capture, or the bytes of a frame of a stream.
@@ -8,7 +10,7 @@ struct Bits {
     bits: &'static [u8],
 }
 
-static BITS: [Bits; 34] = [
+static BITS: [Bits; 35] = [
     // Subframe 1: count 1, week number 247, all else 0.
     Bits {
         name: "A",
@@ -179,24 +181,34 @@ static BITS: [Bits; 34] = [
         name: "NOISE",
         bits: b"noise \xd3",
     },
+    // A comment of the greatest length, without the end of its line.
+    Bits {
+        name: "COMMENT",
+        bits: &[b'#'; 2_200],
+    },
 ];
 
-// The bits of that name.
-fn bits_of(name: &str) -> &'static [u8] {
+// What stands for that name.
+fn named(name: &str) -> &'static [u8] {
     for known in &BITS {
         if known.name == name {
             return known.bits;
         }
     }
+    for known in &TEXTS {
+        if known.name == name {
+            return known.text.as_bytes();
+        }
+    }
     b""
 }
 
-// Appends the text, in which `{NAME}` stands for the bits of that name.
+// Appends the text, in which `{NAME}` stands for what has that name.
 fn append(bytes: &mut Vec<u8>, text: &str) -> Result<(), AllocError> {
     for (number, piece) in text.split('{').enumerate() {
         match piece.split_once('}') {
             Some((name, rest)) if number > 0 => {
-                bytes.extend_from_slice(bits_of(name))?;
+                bytes.extend_from_slice(named(name))?;
                 bytes.extend_from_slice(rest.as_bytes())?;
             }
             _ => bytes.extend_from_slice(piece.as_bytes())?,
@@ -205,11 +217,30 @@ fn append(bytes: &mut Vec<u8>, text: &str) -> Result<(), AllocError> {
     Ok(())
 }
 
-/// The concatenated texts, in which `{NAME}` stands for the bits of that name.
-pub(crate) fn expand(alloc: Global, texts: &[&str]) -> Result<Vec<u8>, AllocError> {
+// The bytes with `new` in the first place of `old`.
+fn changed(alloc: Global, bytes: &[u8], old: &str, new: &str) -> Result<Vec<u8>, AllocError> {
+    for place in 0..bytes.len() {
+        if let Some(rest) = bytes[place..].strip_prefix(old.as_bytes()) {
+            let mut all = bytes[..place].to_vec(alloc)?;
+            all.extend_from_slice(new.as_bytes())?;
+            all.extend_from_slice(rest)?;
+            return Ok(all);
+        }
+    }
+    bytes.to_vec(alloc)
+}
+
+/// The concatenated texts, in which `{NAME}` stands for what has that name, and then `new` in the first
+/// place of `old`.
+pub(crate) fn expand(
+    alloc: Global,
+    texts: &[&str],
+    old: &str,
+    new: &str,
+) -> Result<Vec<u8>, AllocError> {
     let mut bytes = Vec::new(alloc);
     for text in texts {
         append(&mut bytes, text)?;
     }
-    Ok(bytes)
+    changed(alloc, bytes.as_slice(), old, new)
 }

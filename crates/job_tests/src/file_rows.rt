@@ -1,88 +1,163 @@
-//! RINEX 4 navigation files, converted over memory.
+//! Navigation files of both forms, converted over memory.
 
-use crate::bits::expand;
-use crate::over_memory::{
-    ANYTHING, Failing, NOTHING_FAILS, Outcome, PREFIX, REPORT_FAILS, RUN, Run, around, ends,
-    run_over, runs_that_end_so,
+use crate::over_memory::{ANYTHING, RUN, Run, runs_that_end_so};
+use crate::samples::{
+    FILE_TO_LIST, FILE_TO_RINEX, FIRST, FRAMES_TO_RINEX, GALILEO, GALILEO_EPH, GPS, HEADER,
+    OLDER_HEADER, ONE_ITEM, ORBIT, ORBIT_LINE, RECORD, UNSENT,
 };
-use crate::samples::{FILE_TO_LIST, FILE_TO_RINEX, GALILEO, HEADER, ONE_ITEM, RECORD};
-use std::alloc::{AllocError, Global};
 use std::test::Fail;
 
+// Words of the jobs, with `;` between them.
 const TO_RTCM: &str = "--from=rinex;--to=rtcm";
 
-// Runs over a file of one record.
-static CONVERTED: [Run; 6] = [
+const TO_RINEX3: &str = "--from=rinex;--to=rinex3;--date=20240101 000000 UTC;--leap=18";
+
+const BACK_TO_RINEX: &str = "--from=rinex3;--to=rinex;--date=20240101 000000 UTC;--leap=18";
+
+const OLDER_AGAIN: &str = "--from=rinex3;--to=rinex3;--date=20240101 000000 UTC;--leap=18";
+
+const OLDER_TO_RTCM: &str = "--from=rinex3;--to=rtcm";
+
+const OLDER_TO_LIST: &str = "--from=rinex3;--to=list";
+
+const CAPTURE_TO_RINEX3: &str =
+    "--from=capture;--to=rinex3;--week=2295;--date=20240101 000000 UTC;--leap=18";
+
+const OWN_WEEK_TO_RINEX3: &str = "--from=capture;--to=rinex3;--date=20240101 000000 UTC;--leap=18";
+
+// Files, captures and frames, and what they are converted to.
+static CONVERTED: [Run; 16] = [
     Run {
         words: FILE_TO_RINEX,
-        input: [HEADER, RECORD, ""],
-        output: [HEADER, RECORD, ""],
-        report: [ONE_ITEM, "", ""],
+        input: &[HEADER, RECORD],
+        output: &[HEADER, RECORD],
+        report: &[ONE_ITEM],
         ..RUN
     },
     Run {
         words: TO_RTCM,
-        input: [HEADER, RECORD, ""],
-        output: ["{GPS_FRAME}", "", ""],
-        report: [ONE_ITEM, "", ""],
+        input: &[HEADER, RECORD],
+        output: &["{GPS_FRAME}"],
+        report: &[ONE_ITEM],
         ..RUN
     },
     Run {
         words: FILE_TO_LIST,
-        input: [HEADER, RECORD, ""],
-        output: ["5 EPH G05 0 2295 0\n", "", ""],
-        report: [ONE_ITEM, "", ""],
+        input: &[HEADER, RECORD],
+        output: &["5 EPH G05 0 2295 0\n"],
+        report: &[ONE_ITEM],
         ..RUN
     },
-    // calls that fail
+    // to the older form and back
     Run {
-        words: FILE_TO_RINEX,
-        input: [HEADER, RECORD, ""],
-        failing: Failing {
-            cuts: &[300],
-            reads: &[1],
-            ..NOTHING_FAILS
-        },
-        status: 3,
-        output: [PREFIX, HEADER, ""],
-        report: ["", "", ""],
+        words: TO_RINEX3,
+        input: &[HEADER, RECORD],
+        output: &[OLDER_HEADER, ORBIT],
+        report: &[ONE_ITEM],
         ..RUN
     },
     Run {
-        words: FILE_TO_RINEX,
-        input: [HEADER, RECORD, ""],
-        failing: Failing {
-            writes: &[0],
-            ..NOTHING_FAILS
-        },
-        status: 4,
+        words: BACK_TO_RINEX,
+        input: &[OLDER_HEADER, ORBIT],
+        output: &[HEADER, RECORD],
+        report: &[ONE_ITEM],
+        ..RUN
+    },
+    Run {
+        words: OLDER_AGAIN,
+        input: &[OLDER_HEADER, ORBIT],
+        output: &[OLDER_HEADER, ORBIT],
+        report: &[ONE_ITEM],
+        ..RUN
+    },
+    Run {
+        words: OLDER_TO_RTCM,
+        input: &[OLDER_HEADER, ORBIT],
+        output: &["{GPS_FRAME}"],
+        report: &[ONE_ITEM],
+        ..RUN
+    },
+    Run {
+        words: OLDER_TO_LIST,
+        input: &[OLDER_HEADER, ORBIT],
+        output: &["5 EPH G05 0 2295 0\n"],
+        report: &[ONE_ITEM],
+        ..RUN
+    },
+    // captures
+    Run {
+        words: CAPTURE_TO_RINEX3,
+        input: &[FIRST, GPS],
+        output: &[OLDER_HEADER, ORBIT],
+        ..RUN
+    },
+    Run {
+        words: OWN_WEEK_TO_RINEX3,
+        input: &["NAVCAP 2 2295 60\n", GPS],
+        output: &[OLDER_HEADER, ORBIT],
+        ..RUN
+    },
+    Run {
+        words: OWN_WEEK_TO_RINEX3,
+        input: &[FIRST, GPS],
+        status: 5,
+        ..RUN
+    },
+    Run {
+        words: CAPTURE_TO_RINEX3,
+        input: &[FIRST, "18 L G05 {PAGE_18}\n"],
+        output: &[OLDER_HEADER],
+        ..RUN
+    },
+    // records of other kinds, of which an ephemeris of Galileo by F/NAV is one
+    Run {
+        words: OLDER_TO_LIST,
+        input: &[OLDER_HEADER, "{GALILEO_ORBIT}{GLONASS}"],
+        old: " 5.170000000000D+02",
+        new: " 2.580000000000D+02",
+        report: &["records 2\nrefused 0\npassed 2\nitems 0\n"],
+        ..RUN
+    },
+    // files of other programs, and their frames
+    Run {
+        words: TO_RTCM,
+        input: &["{FOREIGN}"],
+        output: &["{GPS_FRAME}{GALILEO_FRAME}"],
+        report: &["records 4\nrefused 0\npassed 2\nitems 2\n"],
         ..RUN
     },
     Run {
         words: FILE_TO_RINEX,
-        input: [HEADER, RECORD, ""],
-        failing: REPORT_FAILS,
-        status: 7,
-        output: [HEADER, RECORD, ""],
-        report: ["", "", ""],
+        input: &["{FOREIGN}"],
+        old: "\n     8.000000000000D+00",
+        printed: "\n     9.999000000000D+08",
+        output: &[HEADER, ORBIT_LINE, UNSENT, GALILEO_EPH],
+        ..RUN
+    },
+    Run {
+        words: FRAMES_TO_RINEX,
+        input: &["{GPS_FRAME}{GALILEO_FRAME}"],
+        old: "\n     8.000000000000D+00",
+        printed: "\n     9.999000000000D+08",
+        output: &[HEADER, ORBIT_LINE, UNSENT, GALILEO_EPH],
         ..RUN
     },
 ];
 
 #[test]
-fn converts_a_file_of_one_record(rt: HostRuntime) -> Result<(), Fail> {
+fn converts_files(rt: HostRuntime) -> Result<(), Fail> {
     let count = runs_that_end_so(rt.alloc(), &CONVERTED)?;
     assert!(rt; count == CONVERTED.len(), "{count}");
     Ok(())
 }
 
-// What stands in a file in place of some words of a record, and what its conversion has there.
-struct Reading {
-    record: &'static str,
-    old: &'static str,
-    new: &'static str,
-    printed: &'static str,
-}
+// A file of one record of GPS.
+const READING: Run = Run {
+    words: FILE_TO_RINEX,
+    input: &[HEADER, RECORD],
+    output: &[HEADER, RECORD],
+    ..RUN
+};
 
 // The fields of the second orbit line of GPS.
 const ISSUE: &str = "\n     0.000000000000D+00";
@@ -93,306 +168,337 @@ const ANOMALY: &str =
 const ANOMALY_1: &str =
     "\n     0.000000000000D+00 0.000000000000D+00 0.000000000000D+00 1.462918079267D-09\n";
 
-static READINGS: [Reading; 15] = [
-    Reading {
-        record: RECORD,
+// What stands in a file in place of some words of a record, and what its conversion has there.
+static READINGS: [Run; 15] = [
+    Run {
         old: ANOMALY,
         new: "\n     0.000000000000D+00 0.000000000000D+00 0.000000000000D+00 1.462918079267e-09\n",
         printed: ANOMALY_1,
+        ..READING
     },
-    Reading {
-        record: RECORD,
+    Run {
         old: ANOMALY,
         new: "\n     0.000000000000D+00 0.000000000000D+00 0.000000000000D+00 1.462918079268D-09\n",
         printed: ANOMALY_1,
+        ..READING
     },
-    Reading {
-        record: RECORD,
+    Run {
         old: ISSUE,
         new: "\n                 .5D+01",
         printed: "\n     5.000000000000D+00",
+        ..READING
     },
-    Reading {
-        record: RECORD,
+    Run {
         old: ISSUE,
         new: "\n                      5",
         printed: "\n     5.000000000000D+00",
+        ..READING
     },
-    Reading {
-        record: RECORD,
+    Run {
         old: ISSUE,
         new: "\n                   +5.0",
         printed: "\n     5.000000000000D+00",
+        ..READING
     },
-    Reading {
-        record: RECORD,
+    Run {
         old: ISSUE,
         new: "\n                   -0.0",
         printed: ISSUE,
+        ..READING
     },
-    Reading {
-        record: RECORD,
+    Run {
         old: " 2.000000000000D+00",
         new: "               3.40",
         printed: " 2.800000000000D+00",
+        ..READING
     },
-    Reading {
-        record: RECORD,
+    Run {
         old: " 2.000000000000D+00",
         new: "               3.41",
         printed: " 4.000000000000D+00",
+        ..READING
     },
-    Reading {
-        record: RECORD,
+    Run {
         old: " 2.000000000000D+00",
         new: "                 -1",
         printed: " 8.192000000000D+03",
+        ..READING
     },
-    Reading {
-        record: RECORD,
+    Run {
         old: " 2.000000000000D+00",
         new: "                  0",
         printed: " 2.000000000000D+00",
+        ..READING
     },
-    Reading {
-        record: RECORD,
+    Run {
         old: " 4.000000000000D+00",
         new: "                  6",
         printed: " 6.000000000000D+00",
+        ..READING
     },
-    Reading {
-        record: RECORD,
+    Run {
         old: " 4.000000000000D+00",
         new: "",
         printed: " 4.000000000000D+00",
+        ..READING
     },
-    Reading {
-        record: GALILEO,
+    Run {
         old: " 3.120000000000D+00",
         new: "               3.12",
         printed: " 3.120000000000D+00",
+        input: &[HEADER, GALILEO],
+        output: &[HEADER, GALILEO],
+        ..READING
     },
-    Reading {
-        record: GALILEO,
+    Run {
         old: " 3.120000000000D+00",
         new: "               3.13",
         printed: " 3.280000000000D+00",
+        input: &[HEADER, GALILEO],
+        output: &[HEADER, GALILEO],
+        ..READING
     },
-    Reading {
-        record: GALILEO,
+    Run {
         old: " 3.120000000000D+00",
         new: "               6.01",
         printed: "-1.000000000000D+00",
+        input: &[HEADER, GALILEO],
+        output: &[HEADER, GALILEO],
+        ..READING
     },
 ];
-
-impl Reading {
-    // Whether the conversion of the file has there what is printed.
-    fn is_printed(&self, alloc: Global) -> Result<bool, AllocError> {
-        let (prefix, rest) = around(self.record, self.old);
-        let input = [HEADER, prefix, self.new, rest];
-        let want = [HEADER, prefix, self.printed, rest];
-        ends(alloc, FILE_TO_RINEX, &input, 0, &want, &[ANYTHING])
-    }
-}
 
 #[test]
 fn reads_fields_in_any_spelling(rt: HostRuntime) -> Result<(), Fail> {
-    for case in &READINGS {
-        assert!(rt; case.is_printed(rt.alloc())?, "{}", case.new);
-    }
+    let count = runs_that_end_so(rt.alloc(), &READINGS)?;
+    assert!(rt; count == READINGS.len(), "{count}");
     Ok(())
 }
 
-// What stands in the record of GPS, what stands in its place, and why that is refused.
-struct Refused {
-    old: &'static str,
-    new: &'static str,
-    reason: &'static str,
-}
+// The list of a file of one record of GPS.
+const JUDGED: Run = Run {
+    words: FILE_TO_LIST,
+    input: &[HEADER, RECORD],
+    ..RUN
+};
 
-static REFUSED: [Refused; 10] = [
-    Refused {
+// What is reported of a record that ends too soon.
+const SHORT: &str = "line 5 short\nrecords 1\nrefused 1\npassed 0\nitems 0\n";
+
+// What stands in a file in place of some words, and why its record or the file is refused.
+static REFUSED: [Run; 34] = [
+    Run {
         old: "> EPH G05",
         new: "> EPH G33",
-        reason: "satellite",
+        report: &["line 5 satellite", ANYTHING],
+        ..JUDGED
     },
-    Refused {
+    Run {
         old: "     0.000000000000D+00 0.000000000000D+00 2.295",
         new: "> 2.295",
-        reason: "short",
+        report: &["line 5 short", ANYTHING],
+        ..JUDGED
     },
-    Refused {
+    Run {
         old: "G05 2023 12 31",
         new: "G05 2023 12 32",
-        reason: "date",
+        report: &["line 5 date", ANYTHING],
+        ..JUDGED
     },
-    Refused {
+    Run {
         old: "G05 2023 12 31",
         new: "G05 2024 01 08",
-        reason: "far",
+        report: &["line 5 far", ANYTHING],
+        ..JUDGED
     },
-    Refused {
+    Run {
         old: "12 31 00 00 00",
         new: "12 31 00 00 01",
-        reason: "step",
+        report: &["line 5 step", ANYTHING],
+        ..JUDGED
     },
-    Refused {
+    Run {
         old: "0.000000000000D+00\n     0.000000000000D+00 4",
         new: "1024\n     0.000000000000D+00 4",
-        reason: "range",
+        report: &["line 5 range", ANYTHING],
+        ..JUDGED
     },
-    Refused {
+    Run {
         old: ISSUE,
         new: "\n               1.0D 05",
-        reason: "number",
+        report: &["line 5 number", ANYTHING],
+        ..JUDGED
     },
-    Refused {
+    Run {
         old: ISSUE,
         new: "\n                       ",
-        reason: "blank",
+        report: &["line 5 blank", ANYTHING],
+        ..JUDGED
     },
-    Refused {
+    Run {
         old: ISSUE,
         new: "\n                    256",
-        reason: "range",
+        report: &["line 5 range", ANYTHING],
+        ..JUDGED
     },
-    Refused {
+    Run {
         old: " 4.000000000000D+00",
         new: "                  2",
-        reason: "fit",
+        report: &["line 5 fit", ANYTHING],
+        ..JUDGED
     },
-];
-
-impl Refused {
-    // Whether the record is refused so.
-    fn is_refused(&self, alloc: Global) -> Result<bool, AllocError> {
-        let (prefix, rest) = around(RECORD, self.old);
-        let input = [HEADER, prefix, self.new, rest];
-        let report = ["line 5 ", self.reason, ANYTHING];
-        ends(alloc, FILE_TO_LIST, &input, 0, &[], &report)
-    }
-}
-
-#[test]
-fn refuses_records(rt: HostRuntime) -> Result<(), Fail> {
-    for case in &REFUSED {
-        assert!(rt; case.is_refused(rt.alloc())?, "{}", case.new);
-    }
-    Ok(())
-}
-
-// A file as other programs write it: version 4.00, the exponent letter e, lines that end with CR LF,
-// no fit interval, a transmission time that is not known, and records of other kinds.
-const FOREIGN: &str = concat!(
-    "     4.00           NAVIGATION DATA     M                   RINEX VERSION / TYPE\r\n",
-    "    18                                                      LEAP SECONDS\r\n",
-    "                                                            END OF HEADER\r\n",
-    "> EPH R01 FDMA\r\n",
-    "R01 2023 12 31 00 15 00-5.752365104850e-03 0.000000000000e+00 3.870000000000e+05\r\n",
-    "     1.158612988000e+04-2.010898590000e+00 0.000000000000e+00 0.000000000000e+00\r\n",
-    "     1.150612207000e+04-9.106531140000e-01 0.000000000000e+00 1.000000000000e+00\r\n",
-    "     1.974410205000e+04 1.713361740000e+00-2.793967724000e-09 0.000000000000e+00\r\n",
-    "> STO G31 LNAV\r\n",
-    "    2023 12 31 00 00 00 GPUT                                  UTC(USNO)\r\n",
-    "     3.456000000000e+05-9.313225746155e-10 2.664535259100e-15 0.000000000000e+00\r\n",
-    "> EPH G05 LNAV\r\n",
-    "G05 2023 12 31 00 00 00 0.000000000000e+00 0.000000000000e+00 0.000000000000e+00\r\n",
-    "     0.000000000000e+00 0.000000000000e+00 0.000000000000e+00 0.000000000000e+00\r\n",
-    "     0.000000000000e+00 0.000000000000e+00 0.000000000000e+00 0.000000000000e+00\r\n",
-    "     0.000000000000e+00 0.000000000000e+00 0.000000000000e+00 0.000000000000e+00\r\n",
-    "     0.000000000000e+00 0.000000000000e+00 0.000000000000e+00 0.000000000000e+00\r\n",
-    "     0.000000000000e+00 0.000000000000e+00 2.295000000000e+03 0.000000000000e+00\r\n",
-    "     2.000000000000e+00 0.000000000000e+00 0.000000000000e+00 0.000000000000e+00\r\n",
-    "     9.999000000000e+08                   \r\n",
-    "> EPH E11 INAV\r\n",
-    "E11 2023 12 31 00 00 00 0.000000000000e+00 0.000000000000e+00 0.000000000000e+00\r\n",
-    "     5.000000000000e+00 0.000000000000e+00 0.000000000000e+00 0.000000000000e+00\r\n",
-    "     0.000000000000e+00 0.000000000000e+00 0.000000000000e+00 0.000000000000e+00\r\n",
-    "     0.000000000000e+00 0.000000000000e+00 0.000000000000e+00 0.000000000000e+00\r\n",
-    "     0.000000000000e+00 0.000000000000e+00 0.000000000000e+00 0.000000000000e+00\r\n",
-    "     0.000000000000e+00 5.170000000000e+02 2.295000000000e+03 0.000000000000e+00\r\n",
-    "     3.120000000000e+00 0.000000000000e+00 0.000000000000e+00 0.000000000000e+00\r\n",
-    "     9.999000000000e+08\r\n",
-);
-
-// The frames of the file, and their conversion to such a file.
-const FRAMES: &str = "{GPS_FRAME}{GALILEO_FRAME}";
-
-const FRAMES_TO_RINEX: &str =
-    "--from=stream;--to=rinex;--week=2295;--date=20240101 000000 UTC;--leap=18";
-
-// A run over a text.
-fn converted(alloc: Global, words: &str, input: &str) -> Result<Outcome, AllocError> {
-    let bytes = expand(alloc, &[input])?;
-    run_over(alloc, words, bytes.as_slice(), &NOTHING_FAILS)
-}
-
-// Whether the frames give the same file as the file itself.
-fn are_converted_alike(alloc: Global) -> Result<bool, AllocError> {
-    let first = converted(alloc, FILE_TO_RINEX, FOREIGN)?;
-    let second = converted(alloc, FRAMES_TO_RINEX, FRAMES)?;
-    Ok(second.status == 0 && first.output.bytes() == second.output.bytes())
-}
-
-#[test]
-fn takes_files_of_other_programs(rt: HostRuntime) -> Result<(), Fail> {
-    let report = "records 4\nrefused 0\npassed 2\nitems 2\n";
-    let is_sent = ends(rt.alloc(), TO_RTCM, &[FOREIGN], 0, &[FRAMES], &[report])?;
-    let is_same = are_converted_alike(rt.alloc())?;
-    assert!(rt; is_sent && is_same);
-    Ok(())
-}
-
-// What stands in the header, what stands in its place, and the status.
-struct Headed {
-    old: &'static str,
-    new: &'static str,
-    status: u8,
-}
-
-static HEADERS: [Headed; 5] = [
-    Headed {
+    // headers
+    Run {
         old: "     4.01",
         new: "     4.00",
-        status: 0,
+        output: &[ANYTHING],
+        ..JUDGED
     },
-    Headed {
+    Run {
         old: "     4.01",
         new: "     3.05",
         status: 5,
+        report: &[],
+        ..JUDGED
     },
-    Headed {
+    Run {
         old: "N: GNSS",
         new: "O: GNSS",
         status: 5,
+        report: &[],
+        ..JUDGED
     },
-    Headed {
+    Run {
         old: "END OF HEADER",
         new: "END OF HEADERS",
-        status: 0,
+        output: &[ANYTHING],
+        ..JUDGED
     },
-    Headed {
+    Run {
         old: "END OF HEADER",
         new: "",
         status: 5,
+        report: &[],
+        ..JUDGED
+    },
+    // versions of the older form
+    Run {
+        words: OLDER_TO_LIST,
+        old: "4.01",
+        new: "4.01",
+        status: 5,
+        output: &[ANYTHING],
+        ..JUDGED
+    },
+    Run {
+        words: OLDER_TO_LIST,
+        old: "4.01",
+        new: "3.01",
+        status: 5,
+        output: &[ANYTHING],
+        ..JUDGED
+    },
+    Run {
+        words: OLDER_TO_LIST,
+        old: "4.01",
+        new: "3.02",
+        output: &[ANYTHING],
+        ..JUDGED
+    },
+    Run {
+        words: OLDER_TO_LIST,
+        old: "4.01",
+        new: "3.04",
+        output: &[ANYTHING],
+        ..JUDGED
+    },
+    Run {
+        words: OLDER_TO_LIST,
+        old: "4.01",
+        new: "3.05",
+        output: &[ANYTHING],
+        ..JUDGED
+    },
+    // a file that is cut behind each of its lines
+    Run {
+        length: 0,
+        status: 5,
+        report: &[],
+        ..JUDGED
+    },
+    Run {
+        length: 81,
+        status: 5,
+        report: &[],
+        ..JUDGED
+    },
+    Run {
+        length: 161,
+        status: 5,
+        report: &[],
+        ..JUDGED
+    },
+    Run {
+        length: 234,
+        status: 5,
+        report: &[],
+        ..JUDGED
+    },
+    Run {
+        length: 308,
+        report: &["records 0\nrefused 0\npassed 0\nitems 0\n"],
+        ..JUDGED
+    },
+    Run {
+        length: 323,
+        report: &[SHORT],
+        ..JUDGED
+    },
+    Run {
+        length: 404,
+        report: &[SHORT],
+        ..JUDGED
+    },
+    Run {
+        length: 485,
+        report: &[SHORT],
+        ..JUDGED
+    },
+    Run {
+        length: 566,
+        report: &[SHORT],
+        ..JUDGED
+    },
+    Run {
+        length: 647,
+        report: &[SHORT],
+        ..JUDGED
+    },
+    Run {
+        length: 728,
+        report: &[SHORT],
+        ..JUDGED
+    },
+    Run {
+        length: 809,
+        report: &[SHORT],
+        ..JUDGED
+    },
+    Run {
+        length: 890,
+        report: &[SHORT],
+        ..JUDGED
+    },
+    Run {
+        output: &["5 EPH G05 0 2295 0\n"],
+        report: &[ONE_ITEM],
+        ..JUDGED
     },
 ];
 
-impl Headed {
-    // Whether a run over the file ends so.
-    fn is_judged(&self, alloc: Global) -> Result<bool, AllocError> {
-        let (prefix, rest) = around(HEADER, self.old);
-        let input = [prefix, self.new, rest, RECORD];
-        let said = if self.status == 0 { ANYTHING } else { "" };
-        ends(alloc, FILE_TO_LIST, &input, self.status, &[said], &[said])
-    }
-}
-
 #[test]
-fn judges_the_header(rt: HostRuntime) -> Result<(), Fail> {
-    for case in &HEADERS {
-        assert!(rt; case.is_judged(rt.alloc())?, "{}", case.new);
-    }
+fn says_why_a_record_or_a_file_is_refused(rt: HostRuntime) -> Result<(), Fail> {
+    let count = runs_that_end_so(rt.alloc(), &REFUSED)?;
+    assert!(rt; count == REFUSED.len(), "{count}");
     Ok(())
 }

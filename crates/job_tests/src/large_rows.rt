@@ -1,27 +1,22 @@
-//! Captures of very many lines over memory: periods of one ephemeris, none of them whole, and an hour that is made.
+//! Captures that are made, and captures of very many lines, over memory.
 
 use crate::bits::expand;
-use crate::over_memory::{NOTHING_FAILS, run_over, run_within};
-use crate::samples::{FIRST, TO_LIST};
+use crate::over_memory::{ANYTHING, NOTHING_FAILS, RUN, Run, run_over, runs_that_end_so};
+use crate::samples::{FIRST, ONE_TO_COUNT, TO_CAPTURE, TO_COUNT, TO_LIST};
 use one_run::{Text, append_decimal};
 use std::alloc::{AllocError, Global};
 use std::test::Fail;
 
-// How many subframes there are, and how many seconds lie between two: the window and one.
-const SUBFRAMES: u32 = 200_000;
+// Words of a capture of two satellites of each system, and its counts, as an independent program has
+// them.
+const TWO_TO_COUNT: &str = "--from=seed;--to=count;--seed=7;--sats=2;--week=2295";
 
-const APART: u64 = 7_201;
-
-// How many bytes of list there is room for.
-const LIST_ROOM: usize = 6_291_456;
-
-// The report on the subframes.
-const SUBFRAME_COUNTS: &str = concat!(
-    "lines 200001\nmalformed 0\nlate 0\nrefused 0\nunused 0\n",
-    "whole 0\npartial 200000\ncontradicted 0\nnohealth 0\nagain 0\n",
+const COUNTS: &str = concat!(
+    "lines 15731\nmalformed 0\nlate 0\nrefused 0\nunused 5274\n",
+    "whole 6\npartial 0\ncontradicted 0\nnohealth 0\nagain 0\n",
 );
 
-// Words of an hour of twelve satellites of each system, and its counts, as an independent program has them.
+// The same of an hour of twelve satellites of each system.
 const HOUR_TO_COUNT: &str = "--from=seed;--to=count;--seed=7;--sats=12;--week=2295";
 
 const HOUR_COUNTS: &str = concat!(
@@ -29,11 +24,92 @@ const HOUR_COUNTS: &str = concat!(
     "whole 26\npartial 0\ncontradicted 0\nnohealth 0\nagain 0\n",
 );
 
-// A capture of one subframe 3, sent again whenever it was forgotten.
-fn far_apart(alloc: Global) -> Result<Vec<u8>, AllocError> {
-    let line = expand(alloc, &[" L G05 {C}\n"])?;
-    let mut bytes = Vec::new(alloc);
-    bytes.extend_from_slice(FIRST.as_bytes())?;
+// The counts of a capture with a comment of the greatest length and one that is longer.
+const COMMENT_COUNTS: &str = concat!(
+    "lines 3\nmalformed 1\nlate 0\nrefused 0\nunused 0\n",
+    "whole 0\npartial 0\ncontradicted 0\nnohealth 0\nagain 0\n",
+);
+
+// Captures that are made, of which no input is read, and one with long comments.
+static MADE: [Run; 5] = [
+    Run {
+        words: TWO_TO_COUNT,
+        input: &["not read"],
+        output: &[COUNTS],
+        report: &[COUNTS],
+        left: 8,
+        ..RUN
+    },
+    Run {
+        words: HOUR_TO_COUNT,
+        output: &[HOUR_COUNTS],
+        report: &[HOUR_COUNTS],
+        ..RUN
+    },
+    Run {
+        words: TO_CAPTURE,
+        output: &["NAVCAP 1\n6 P E01 5 ", ANYTHING],
+        report: &[],
+        ..RUN
+    },
+    Run {
+        words: ONE_TO_COUNT,
+        output: &["lines 7866\n", ANYTHING],
+        ..RUN
+    },
+    // a comment of the greatest length, and one that is longer
+    Run {
+        words: TO_COUNT,
+        input: &["NAVCAP 1\n{COMMENT}\n{COMMENT}#\n"],
+        output: &[COMMENT_COUNTS],
+        report: &["line 3 malformed\n", COMMENT_COUNTS],
+        ..RUN
+    },
+];
+
+#[test]
+fn counts_captures_that_are_made(rt: HostRuntime) -> Result<(), Fail> {
+    let count = runs_that_end_so(rt.alloc(), &MADE)?;
+    assert!(rt; count == MADE.len(), "{count}");
+    Ok(())
+}
+
+// Whether a run over these bytes writes what a run by other words writes over none.
+fn writes_alike(
+    alloc: Global,
+    words: &str,
+    bytes: &[u8],
+    others: &str,
+) -> Result<bool, AllocError> {
+    let first = run_over(alloc, words, bytes, &NOTHING_FAILS)?;
+    let second = run_over(alloc, others, b"", &NOTHING_FAILS)?;
+    let is_same = first.output.bytes() == second.output.bytes();
+    Ok(first.status == 0 && second.status == 0 && is_same)
+}
+
+#[test]
+fn writes_a_capture_that_counts_the_same(rt: HostRuntime) -> Result<(), Fail> {
+    let made = run_over(rt.alloc(), TO_CAPTURE, b"", &NOTHING_FAILS)?;
+    let bytes = made.output.bytes();
+    assert!(rt; writes_alike(rt.alloc(), TO_COUNT, bytes, ONE_TO_COUNT)?);
+    Ok(())
+}
+
+// How many subframes there are, and how many seconds lie between two: the window and one.
+const SUBFRAMES: u32 = 200_000;
+
+const APART: u64 = 7_201;
+
+// The report on the subframes.
+const SUBFRAME_COUNTS: &str = concat!(
+    "lines 200001\nmalformed 0\nlate 0\nrefused 0\nunused 0\n",
+    "whole 0\npartial 200000\ncontradicted 0\nnohealth 0\nagain 0\n",
+);
+
+// A first line, and lines that begin with the seconds of the subframes and end with these texts.
+fn far_apart(alloc: Global, first: &str, texts: &[&str]) -> Result<Vec<u8>, AllocError> {
+    let line = expand(alloc, texts, "", "")?;
+    let mut bytes = first.as_bytes().to_vec(alloc)?;
     for number in 0..SUBFRAMES {
         let mut stamp = Text::new();
         append_decimal(&mut stamp, u64::from(number) * APART);
@@ -43,41 +119,14 @@ fn far_apart(alloc: Global) -> Result<Vec<u8>, AllocError> {
     Ok(bytes)
 }
 
-// How many lines the text has.
-fn line_count(text: &[u8]) -> u32 {
-    let mut count = 0u32;
-    for byte in text {
-        if *byte == b'\n' {
-            count = count.saturating_add(1);
-        }
-    }
-    count
-}
-
+// One subframe 3 that is sent again whenever it was forgotten.
 #[test]
 fn lists_many_periods_of_one_ephemeris(rt: HostRuntime) -> Result<(), Fail> {
-    let input = far_apart(rt.alloc())?;
-    let run = run_within(
-        rt.alloc(),
-        LIST_ROOM,
-        TO_LIST,
-        input.as_slice(),
-        &NOTHING_FAILS,
-    )?;
-    let list = run.output.bytes();
-    let is_listed = list.starts_with(b"0 EPH G05 0 partial\n7201 EPH G05 0 partial\n")
-        && list.ends_with(b"\n1440192799 EPH G05 0 partial\n")
-        && line_count(list) == SUBFRAMES;
+    let input = far_apart(rt.alloc(), FIRST, &[" L G05 {C}\n"])?;
+    let list = far_apart(rt.alloc(), "", &[" EPH G05 0 partial\n"])?;
+    let run = run_over(rt.alloc(), TO_LIST, input.as_slice(), &NOTHING_FAILS)?;
+    let is_listed = run.output.bytes() == list.as_slice();
     let is_counted = run.report.bytes() == SUBFRAME_COUNTS.as_bytes();
     assert!(rt; run.status == 0 && is_listed && is_counted);
-    Ok(())
-}
-
-#[test]
-fn counts_an_hour_that_is_made(rt: HostRuntime) -> Result<(), Fail> {
-    let run = run_over(rt.alloc(), HOUR_TO_COUNT, b"", &NOTHING_FAILS)?;
-    let counts = HOUR_COUNTS.as_bytes();
-    let is_counted = run.output.bytes() == counts && run.report.bytes() == counts;
-    assert!(rt; run.status == 0 && is_counted);
     Ok(())
 }

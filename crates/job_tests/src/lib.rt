@@ -7,34 +7,20 @@ mod archive_rows;
 #[cfg(test)]
 mod bits;
 #[cfg(test)]
-mod capture_tests;
-#[cfg(test)]
-mod cut_rows;
-#[cfg(test)]
-mod each_fault;
+mod capture_rows;
 #[cfg(test)]
 mod failures;
 #[cfg(test)]
 mod file_rows;
 #[cfg(test)]
-mod health_rows;
-#[cfg(test)]
 mod large_rows;
 #[cfg(test)]
 mod over_memory;
 #[cfg(test)]
-mod rinex3_rows;
-#[cfg(test)]
-mod rows;
-#[cfg(test)]
 mod samples;
-#[cfg(test)]
-mod seed_rows;
 #[cfg(test)]
 mod sent_rows;
 #[cfg(test)]
 mod stream_rows;
 #[cfg(test)]
 mod tests;
-#[cfg(test)]
-mod texts;

@@ -6,7 +6,7 @@ use nav_io::{MemSink, MemSource};
 use std::alloc::{AllocError, Global};
 
 // How many bytes of output and of report there is room for.
-const OUTPUT_ROOM: usize = 1_048_576;
+const OUTPUT_ROOM: usize = 6_291_456;
 
 const REPORT_ROOM: usize = 65_536;
 
@@ -82,20 +82,9 @@ pub(crate) fn run_over(
     input: &[u8],
     failing: &Failing,
 ) -> Result<Outcome, AllocError> {
-    run_within(alloc, OUTPUT_ROOM, words, input, failing)
-}
-
-/// The same with room for so many bytes of output.
-pub(crate) fn run_within(
-    alloc: Global,
-    room: usize,
-    words: &str,
-    input: &[u8],
-    failing: &Failing,
-) -> Result<Outcome, AllocError> {
     let words = words_of(alloc, words)?;
     let mut input = source_of(alloc, input, failing)?;
-    let mut output = sink_of(alloc, room, failing.writes)?;
+    let mut output = sink_of(alloc, OUTPUT_ROOM, failing.writes)?;
     let mut report = sink_of(alloc, REPORT_ROOM, failing.reports)?;
     let status = bridge(alloc, &words, &mut input, &mut output, &mut report);
     let left = input.left().len();
@@ -107,9 +96,15 @@ pub(crate) fn run_within(
     })
 }
 
-// Whether the bytes are those of the expected text.
-fn are_those(alloc: Global, bytes: &[u8], want: &[&str]) -> Result<bool, AllocError> {
-    let text = expand(alloc, want)?;
+// Whether the bytes are those of the expected text, in which `new` stands in the place of `old`.
+fn are_those(
+    alloc: Global,
+    bytes: &[u8],
+    want: &[&str],
+    old: &str,
+    new: &str,
+) -> Result<bool, AllocError> {
+    let text = expand(alloc, want, old, new)?;
     if want.last() == Some(&ANYTHING) {
         return Ok(bytes.starts_with(text.as_slice()));
     }
@@ -119,80 +114,52 @@ fn are_those(alloc: Global, bytes: &[u8], want: &[&str]) -> Result<bool, AllocEr
     Ok(bytes == text.as_slice())
 }
 
-/// Whether a run over these bytes answers this status, and writes and reports these texts.
-pub(crate) fn ends_over(
-    alloc: Global,
-    words: &str,
-    input: &[u8],
-    failing: &Failing,
-    status: u8,
-    output: &[&str],
-    report: &[&str],
-) -> Result<bool, AllocError> {
-    let run = run_over(alloc, words, input, failing)?;
-    let is_written = are_those(alloc, run.output.bytes(), output)?;
-    let is_reported = are_those(alloc, run.report.bytes(), report)?;
-    Ok(run.status == status && is_written && is_reported)
-}
-
-/// The same over a text, some of whose calls fail.
-pub(crate) fn ends_failing(
-    alloc: Global,
-    words: &str,
-    input: &[&str],
-    failing: &Failing,
-    status: u8,
-    output: &[&str],
-    report: &[&str],
-) -> Result<bool, AllocError> {
-    let bytes = expand(alloc, input)?;
-    ends_over(
-        alloc,
-        words,
-        bytes.as_slice(),
-        failing,
-        status,
-        output,
-        report,
-    )
-}
-
-/// A run over a text: the parts of its input, what fails in it, its status, and what it writes and
-/// reports.
+/// A run over a text.
 #[derive(Clone, Copy)]
-pub(crate) struct Run {
-    pub(crate) words: &'static str,
-    pub(crate) input: [&'static str; 3],
-    pub(crate) failing: Failing<'static>,
+pub(crate) struct Run<'a> {
+    pub(crate) words: &'a str,
+    // the parts of the input, and how many of its bytes stand
+    pub(crate) input: &'a [&'a str],
+    pub(crate) length: usize,
+    // words of the input and of the output, what stands in their first place in the input, and in the
+    // output
+    pub(crate) old: &'a str,
+    pub(crate) new: &'a str,
+    pub(crate) printed: &'a str,
+    pub(crate) failing: Failing<'a>,
     pub(crate) status: u8,
-    pub(crate) output: [&'static str; 3],
-    pub(crate) report: [&'static str; 3],
+    // what is written and reported, and how many bytes of the input are left at the least
+    pub(crate) output: &'a [&'a str],
+    pub(crate) report: &'a [&'a str],
+    pub(crate) left: usize,
 }
 
 /// A run over nothing, in which nothing fails, whose report is not looked at.
-pub(crate) const RUN: Run = Run {
+pub(crate) const RUN: Run<'static> = Run {
     words: "",
-    input: ["", "", ""],
+    input: &[],
+    length: usize::MAX,
+    old: "",
+    new: "",
+    printed: "",
     failing: NOTHING_FAILS,
     status: 0,
-    output: ["", "", ""],
-    report: ["", "", ANYTHING],
+    output: &[],
+    report: &[ANYTHING],
+    left: 0,
 };
 
-impl Run {
-    // Whether it ends so.
-    fn ends_so(&self, alloc: Global) -> Result<bool, AllocError> {
-        let Run { words, status, .. } = *self;
-        let failing = &self.failing;
-        ends_failing(
-            alloc,
-            words,
-            &self.input,
-            failing,
-            status,
-            &self.output,
-            &self.report,
-        )
+impl Run<'_> {
+    /// Whether it ends so.
+    pub(crate) fn ends_so(&self, alloc: Global) -> Result<bool, AllocError> {
+        let mut input = expand(alloc, self.input, self.old, self.new)?;
+        input.truncate(self.length);
+        let run = run_over(alloc, self.words, input.as_slice(), &self.failing)?;
+        let output = run.output.bytes();
+        let is_written = are_those(alloc, output, self.output, self.old, self.printed)?;
+        let is_reported = are_those(alloc, run.report.bytes(), self.report, "", "")?;
+        let is_ended = run.status == self.status && run.left >= self.left;
+        Ok(is_ended && is_written && is_reported)
     }
 }
 
@@ -206,24 +173,4 @@ pub(crate) fn runs_that_end_so(alloc: Global, runs: &[Run]) -> Result<usize, All
         count = count.saturating_add(1);
     }
     Ok(count)
-}
-
-/// The same where nothing fails.
-pub(crate) fn ends(
-    alloc: Global,
-    words: &str,
-    input: &[&str],
-    status: u8,
-    output: &[&str],
-    report: &[&str],
-) -> Result<bool, AllocError> {
-    ends_failing(alloc, words, input, &NOTHING_FAILS, status, output, report)
-}
-
-/// What stands in front of the first place of some words of a text, and what stands behind it.
-pub(crate) fn around<'a>(text: &'a str, words: &str) -> (&'a str, &'a str) {
-    match text.split_once(words) {
-        None => (text, ""),
-        Some((prefix, rest)) => (prefix, rest),
-    }
 }

@@ -257,16 +257,16 @@ impl Lines {
     }
 }
 
-// The offset of the first LF.
-fn first_end(bytes: &[u8]) -> Option<usize>
+/// The offset of the first LF.
+pub fn first_end(bytes: &[u8]) -> Option<usize>
     ensures some { IfSome result (λ place. EndsAt bytes.now place) }
     ensures none { IfNone result (ends bytes.now ≡ false) }
 {
     memchr(b'\n', bytes)
 }
 
-// The length of the line without a CR at its end.
-fn length_without_cr(line: &[u8]) -> usize
+/// The length of a line without a CR at its end.
+pub fn length_without_cr(line: &[u8]) -> usize
     ensures within { result ≤ length line.now }
     ensures value { take result line.now ≡ without_cr line.now }
 {

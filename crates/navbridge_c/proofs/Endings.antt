@@ -1,13 +1,13 @@
 -- How a conversion over memory ends, by how a run ended.
-use Rattle.std.proofs.Common.{◌≡◌, ◌≢◌, ◌≤◌, ◌<◌, ◌^◌, ◌⊎◌, ◌↔◌, inl, inr, refl, sym, ap, ◌∙◌, subst, arith, ℕ, Bool, true, false, List, [], ◌++◌, length, append-nil, length-append}
+use Rattle.std.proofs.Common.{◌≡◌, ◌≤◌, ◌<◌, ◌^◌, ◌⊎◌, inl, inr, refl, sym, ap, ◌∙◌, subst, arith, ℕ, Bool, true, false, List, [], ◌++◌, length, append-nil, length-append}
 use Rattle.std.proofs.lemmas.Bool.{eq-eqb, eqb-true, ltb-true, ltb-false}
-use Rattle.std.specs.Prelude.{All, IsUtf8, Option, None, Some, Result, Ok, Err, IfSome, IsSome, IsTrue, nat_lt, ◌==◌, if◌then◌else◌}
-use Rattle.std.specs.Io.KnownBytes.{Appends, Consumes, IsAtEnd}
-use Rattle.nav_io.specs.Prefix.{AppendsPrefix, IsPrefix}
+use Rattle.std.specs.Prelude.{All, IsUtf8, Option, None, Some, Result, Ok, Err, IfSome, IsSome, nat_lt, ◌==◌, if◌then◌else◌}
+use Rattle.std.specs.Io.KnownBytes.{Consumes, IsAtEnd}
+use Rattle.nav_io.specs.Prefix.{IsPrefix}
 use Rattle.one_run.specs.declared.fault.BridgeFault.{BridgeFault}
 use Rattle.one_run.specs.declared.fault.BridgeFault.TheVariants.{ReadFault, WriteFault, ReportFault, NotThisForm, TooLong, NoMemory}
-use Rattle.one_run.specs.Runs.{AppendsBetween, Broke, Done, Ended, World, bytes_for, world}
-use Rattle.one_run.specs.Ends.{EndedBy, RanBy, status_of}
+use Rattle.one_run.specs.Runs.{Broke, Done, Ended, World, world}
+use Rattle.one_run.specs.Ends.{RanBy, status_of}
 use Rattle.bridge_engine.specs.Job.{GivesJob, IsJob}
 use Rattle.bridge_engine.specs.Meanings.{meaning_of}
 use Rattle.bridge_engine.specs.declared.job.Job.{Job}

@@ -1,3 +1,2 @@
 mod Endings
 mod Steps
-mod TextWords

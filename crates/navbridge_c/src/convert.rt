@@ -5,10 +5,10 @@ ghost use Rattle.std.specs.String.{string_bytes};
 ghost use Rattle.navbridge_c.specs.Conversions.{Converts, made_of};
 ghost use Rattle.navbridge_c.specs.Mirrors.{HasEndedInMemory, in_memory, in_room};
 
-use crate::memory::{Kept, Lent};
-use crate::words::{are_texts, texts_of};
+use crate::memory::Lent;
 use bridge_engine::bridge;
 use c_records::put;
+use c_states::{Kept, are_texts, texts_of};
 use std::alloc::{AllocError, Global};
 
 // There was less room for the output than it takes.

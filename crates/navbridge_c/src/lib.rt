@@ -13,7 +13,8 @@
 mod convert;
 mod deframer;
 mod memory;
-mod words;
+mod pages;
+mod push;
 
 ghost use Rattle.std.specs.Prelude.{◌≡◌, ◌<◌, ◌≤◌, ◌↔◌, IsTrue, length, map};
 ghost use Rattle.gnss_week.specs.Weeks.{IsReference};
@@ -220,7 +221,7 @@ pub extern "C" fn nb_record_write(
 /// The version of the library: that of the header that fits it.
 #[unsafe(no_mangle)]
 pub extern "C" fn nb_version() -> u32
-    ensures { result ≡ 2 }
+    ensures { result ≡ 3 }
 {
-    2
+    3
 }

@@ -1,9 +1,8 @@
-//! A source over bytes that are lent, and a sink that keeps what is written.
+//! A source over bytes that are lent.
 
 ghost use Rattle.std.specs.Prelude.{◌≡◌, ◌<◌, ◌≤◌, [], length, take};
 
-use nav_io::{Failed, Sink, Source};
-use std::alloc::Global;
+use nav_io::{Failed, Source};
 
 // Bytes that are lent. It never fails.
 #[derive(Drop)]
@@ -38,39 +37,4 @@ fn give(left: &[u8], into: &mut [u8]) -> usize
     let count = left.len().min(into.len());
     into[..count].copy_from_slice(&left[..count]);
     count
-}
-
-// What was written. It fails for want of memory alone.
-#[derive(Drop)]
-pub(crate) struct Kept {
-    pub(crate) bytes: Vec<u8>,
-    faults: u64,
-}
-
-impl Kept {
-    // Nothing was written.
-    pub(crate) fn new(alloc: Global) -> Kept
-        ensures bytes { result.bytes.items ≡ [] }
-        ensures faults { result.faults ≡ 0 }
-    {
-        let bytes = Vec::new(alloc);
-        Kept { bytes, faults: 0 }
-    }
-}
-
-impl Sink for Kept {
-    ghost use Rattle.std.specs.Prelude.{Some};
-
-    ghost written = { λ s. Some s.bytes.items };
-
-    ghost faults = { λ s. s.faults };
-
-    /// Appends the piece whole, or fails and appends nothing.
-    fn write(&mut self, piece: &[u8]) -> Result<(), Failed> {
-        if self.bytes.extend_from_slice(piece).is_ok() {
-            return Ok(());
-        }
-        self.faults = self.faults.saturating_add(1);
-        Err(Failed)
-    }
 }

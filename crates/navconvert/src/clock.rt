@@ -44,13 +44,7 @@ fn now(rt: &HostRuntime) -> Moment {
 
 // A date as the header of a navigation file has it.
 fn date_text(alloc: Global, date: &Civil) -> Result<String, AllocError> {
-    let day = day_text(alloc, date)?;
-    let (hour, minute, second) = (date.hour, date.minute, date.second);
-    format!(in alloc; "{day} {hour:02}{minute:02}{second:02} UTC")
-}
-
-// A day as eight digits.
-fn day_text(alloc: Global, date: &Civil) -> Result<String, AllocError> {
     let (year, month, day) = (date.year, date.month, date.day);
-    format!(in alloc; "{year:04}{month:02}{day:02}")
+    let (hour, minute, second) = (date.hour, date.minute, date.second);
+    format!(in alloc; "{year:04}{month:02}{day:02} {hour:02}{minute:02}{second:02} UTC")
 }

@@ -1,40 +1,32 @@
 //! The commands of `navbridge` that do the same.
 
 use crate::files::Task;
+use crate::forms::{file_kind, input_kind};
 use crate::outputs::name_of;
 use crate::telling::tell_file;
 use file_form::Kind;
-use file_step::{FileInput, Folder, HostFolder};
-use file_texts::Refusal;
-use front_run::{Stop, is_copied, look, refusal_of, words_under};
-use nav_io::Source;
-use peek_io::{PeekFault, Peeked};
+use file_step::FileInput;
+use front_run::{Stop, is_copied, refusal_of, words_under};
 
 /// Prints the command that does what is asked of a file; the status.
 pub fn show_file(task: &Task, file: &str) -> u8 {
-    if file == "-" {
-        return show_source(task, file, FileInput::new(task.rt.stdin()));
-    }
-    let mut folder = HostFolder::new(task.rt.alloc(), task.rt);
-    match folder.open(file) {
-        Ok(input) => show_source(task, file, input),
-        Err(fault) => tell_file(task.rt, file, &Refusal::NotOpened(fault)),
+    let kind = if file == "-" {
+        input_kind(task, FileInput::new(task.rt.stdin()))
+    } else {
+        file_kind(task, file)
+    };
+    match kind {
+        Ok(kind) => show_kind(task, file, kind),
+        Err(refusal) => tell_file(task.rt, file, &refusal),
     }
 }
 
-// The same, once its first bytes are there.
-fn show_source<S: Source + Drop>(task: &Task, file: &str, source: S) -> u8 {
-    let alloc = task.rt.alloc();
-    let mut input = Peeked::new(alloc, source);
-    let kind = match look(task.plan.form, &mut input) {
-        Ok(kind) => kind,
-        Err(PeekFault::NoMemory) => return told(task, file, Stop::NoMemory),
-        Err(PeekFault::ReadFault) => return told(task, file, Stop::Look(None)),
-    };
+// The same of a file of this form.
+fn show_kind(task: &Task, file: &str, kind: Kind) -> u8 {
     if is_copied(kind, task.plan.target) {
         return show_log(task, file, kind);
     }
-    match words_under(alloc, &task.plan, kind) {
+    match words_under(task.rt.alloc(), &task.plan, kind) {
         Ok(words) => show(task, file, kind, &words),
         Err(stop) => told(task, file, stop),
     }

@@ -1,16 +1,15 @@
 //! The conversion of one file.
 
 use crate::dry::show_file;
-use crate::forms::file_kind;
+use crate::forms::{file_kind, opened};
 use crate::outputs::{Output, is_file, is_folder, name_of, placed, taken};
 use crate::standard::to_standard;
 use crate::steps::put;
 use crate::telling::tell_file;
 use crate::times::long_name_from;
-use file_form::Kind;
-use file_step::{FileFault, Folder, HostFolder};
+use file_form::{Kind, Target, row_of};
+use file_step::FileFault;
 use file_texts::Refusal;
-use front_plan::{Target, row_of};
 use front_run::{Plan, is_copied};
 use std::fs::File;
 
@@ -114,9 +113,8 @@ fn long_name_of<'a>(
 
 // That name without a folder, by the times in the file.
 fn times_name<'a>(task: &Task<'a>, file: &'a str, site: &'a str) -> Result<String, Refusal<'a>> {
-    let mut folder = HostFolder::new(task.rt.alloc(), task.rt);
-    match folder.open(file) {
+    match opened(task, file) {
         Ok(input) => long_name_from(task, input, file, site),
-        Err(fault) => Err(Refusal::NotOpened(fault)),
+        Err(refusal) => Err(refusal),
     }
 }

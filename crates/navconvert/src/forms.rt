@@ -1,6 +1,4 @@
-//! The form of a file.
-
-ghost use Rattle.std.specs.Prelude.{◌≡◌, []};
+//! Files that are opened, and their forms.
 
 use crate::files::Task;
 use file_form::Kind;
@@ -9,39 +7,37 @@ use file_texts::Refusal;
 use front_run::look;
 use peek_io::{PeekFault, Peeked};
 use std::fs::File;
+use std::io::Read;
 
-/// The form under which a file is read.
-pub fn file_kind<'a>(task: &Task<'a>, file: &str) -> Result<Kind, Refusal<'static>> {
+/// A file that is opened to read it.
+pub fn opened(task: &Task, file: &str) -> Result<FileInput<File>, Refusal<'static>> {
     let mut folder = HostFolder::new(task.rt.alloc(), task.rt);
     match folder.open(file) {
-        Ok(input) => {
-            let input = Peeked::new(task.rt.alloc(), input);
-            peeked_kind(task, &mut folder, input)
-        }
+        Ok(input) => Ok(input),
         Err(fault) => Err(Refusal::NotOpened(fault)),
     }
 }
 
-// The same of a file that was opened.
-fn peeked_kind(
-    task: &Task,
-    folder: &mut HostFolder<HostRuntime>,
-    input: Peeked<FileInput<File>>,
-) -> Result<Kind, Refusal<'static>>
-    requires { input.prefix.items ≡ [] }
-{
-    let mut input = input;
-    match look(task.plan.form, &mut input) {
-        Ok(kind) => Ok(kind),
-        Err(PeekFault::NoMemory) => Err(Refusal::NoMemory),
-        Err(PeekFault::ReadFault) => Err(unread(folder, input.into_source())),
+/// The form under which a file is read.
+pub fn file_kind(task: &Task, file: &str) -> Result<Kind, Refusal<'static>> {
+    match opened(task, file) {
+        Ok(input) => input_kind(task, input),
+        Err(refusal) => Err(refusal),
     }
 }
 
-// Why a file was not read.
-fn unread(folder: &mut HostFolder<HostRuntime>, input: FileInput<File>) -> Refusal<'static> {
-    match folder.close(input) {
-        Ok(()) => Refusal::ReadFault(0, FileFault::Other),
-        Err(fault) => Refusal::ReadFault(0, fault),
+/// The form under which an input is read.
+pub fn input_kind<R: Read + Drop>(
+    task: &Task,
+    input: FileInput<R>,
+) -> Result<Kind, Refusal<'static>> {
+    let mut input = Peeked::new(task.rt.alloc(), input);
+    match look(task.plan.form, &mut input) {
+        Ok(kind) => Ok(kind),
+        Err(PeekFault::NoMemory) => Err(Refusal::NoMemory),
+        Err(PeekFault::ReadFault) => {
+            let fault = input.into_source().fault();
+            Err(Refusal::ReadFault(0, fault.unwrap_or(FileFault::Other)))
+        }
     }
 }

@@ -27,30 +27,36 @@ use crate::choices::{begin, convert_asked};
 use crate::clock::clock_of;
 use crate::telling::tell_program;
 use file_texts::Refusal;
-use front_plan::read_words;
+use front_plan::{Asked, read_words};
 use std::env;
 use std::io::ErrorKind;
 use std::process::ExitCode;
 
 fn main(rt: HostRuntime) -> ExitCode {
-    let words = match words_of(&rt) {
-        Ok(words) => words,
-        Err(refusal) => return ExitCode::from(tell_program(&rt, &refusal)),
+    let status = match words_of(&rt) {
+        Ok(words) => run(&rt, &words),
+        Err(refusal) => tell_program(&rt, &refusal),
     };
-    let asked = match read_words(rt.alloc(), &words) {
-        Ok(asked) => asked,
-        Err(error) => return ExitCode::from(tell_words(&rt, &error)),
-    };
-    let clock = match clock_of(&rt) {
-        Ok(clock) => clock,
-        Err(_) => return ExitCode::from(tell_program(&rt, &Refusal::NoMemory)),
-    };
-    let report = match begin(&rt, &asked) {
-        Ok(report) => report,
-        Err(status) => return ExitCode::from(status),
-    };
-    let status = convert_asked(&rt, &asked, &clock, report.as_ref());
     ExitCode::from(status)
+}
+
+// Does what the words ask; the status.
+fn run(rt: &HostRuntime, words: &[String]) -> u8 {
+    match read_words(rt.alloc(), words) {
+        Ok(asked) => run_asked(rt, &asked),
+        Err(error) => tell_words(rt, &error),
+    }
+}
+
+// Does what is asked; the status.
+fn run_asked(rt: &HostRuntime, asked: &Asked) -> u8 {
+    let Ok(clock) = clock_of(rt) else {
+        return tell_program(rt, &Refusal::NoMemory);
+    };
+    match begin(rt, asked) {
+        Ok(report) => convert_asked(rt, asked, &clock, report.as_ref()),
+        Err(status) => status,
+    }
 }
 
 // The words of the command line, without the program's name.

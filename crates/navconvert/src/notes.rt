@@ -45,20 +45,22 @@ pub fn put_counts(file: Option<&File>, counts: &Counts, taken: u64) -> bool {
     let Some(file) = file else {
         return true;
     };
-    let skipped = taken.saturating_sub(counts.within);
-    put_count(file, "messages", counts.messages)
-        && put_count(file, "skipped", skipped)
-        && put_count(file, "times", counts.times)
-        && put_count(file, "subframes", counts.subframes)
-        && put_count(file, "pages", counts.pages)
-        && put_count(file, "refused", counts.refused)
-        && put_count(file, "other", counts.other)
-        && put_count(file, "turned", counts.turned)
-        && put_count(file, "parity", counts.parity)
-}
-
-// Writes a count; whether that was done.
-fn put_count(file: &File, name: &str, count: u64) -> bool {
+    let lines = [
+        ("messages", counts.messages),
+        ("skipped", taken.saturating_sub(counts.within)),
+        ("times", counts.times),
+        ("subframes", counts.subframes),
+        ("pages", counts.pages),
+        ("refused", counts.refused),
+        ("other", counts.other),
+        ("turned", counts.turned),
+        ("parity", counts.parity),
+    ];
     let mut file = file;
-    writeln!(file, "{name} {count}").is_ok()
+    for (name, count) in &lines {
+        if writeln!(file, "{name} {count}").is_err() {
+            return false;
+        }
+    }
+    true
 }

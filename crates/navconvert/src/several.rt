@@ -13,9 +13,9 @@ use crate::steps::{end, told_of};
 use crate::tally::Tally;
 use crate::telling::tell_file;
 use crate::times::long_name_from;
+use file_form::{Target, row_of};
 use file_step::{HostFolder, part_of};
 use file_texts::Refusal;
-use front_plan::{Target, row_of};
 use front_run::{Outcome, Sourced, convert_source};
 
 /// Whether one output is made of several files.

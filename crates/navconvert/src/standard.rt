@@ -1,11 +1,11 @@
 //! Conversion to standard output.
 
 use crate::files::Task;
+use crate::forms::opened;
 use crate::meter::Meter;
 use crate::steps::{told_of, with_faults};
 use crate::telling::{Saying, tell_file};
-use file_step::{FileInput, FileOutput, Folder, HostFolder};
-use file_texts::Refusal;
+use file_step::{FileInput, FileOutput};
 use front_run::{Sourced, finish, write_source};
 use nav_io::Source;
 
@@ -14,10 +14,9 @@ pub fn to_standard(task: &Task, file: &str) -> u8 {
     if file == "-" {
         return write_from(task, file, FileInput::new(task.rt.stdin()));
     }
-    let mut folder = HostFolder::new(task.rt.alloc(), task.rt);
-    match folder.open(file) {
+    match opened(task, file) {
         Ok(input) => write_from(task, file, input),
-        Err(fault) => tell_file(task.rt, file, &Refusal::NotOpened(fault)),
+        Err(refusal) => tell_file(task.rt, file, &refusal),
     }
 }
 
@@ -38,6 +37,7 @@ pub fn write_from<S: Source + Drop>(task: &Task, file: &str, source: S) -> u8 {
         task,
         file,
         name: file,
+        faults: 0,
     };
     finish(&task.plan, outcome, "standard output", "-", &mut teller)
 }

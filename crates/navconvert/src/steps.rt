@@ -33,7 +33,12 @@ fn put_part<'a>(task: &Task<'a>, file: &'a str, part: &str, name: &str) -> u8
 
 /// Says what became of a file whose step has ended so; the status.
 pub fn end(task: &Task, file: &str, part: &str, name: &str, outcome: Outcome<Tally>) -> u8 {
-    let mut teller = Saying { task, file, name };
+    let mut teller = Saying {
+        task,
+        file,
+        name,
+        faults: 0,
+    };
     finish(&task.plan, outcome, name, part, &mut teller)
 }
 

@@ -6,16 +6,16 @@ ghost use Rattle.file_texts.specs.Says.{status_of};
 use crate::files::Task;
 use crate::notes::put_counts;
 use crate::tally::Tally;
-use file_form::Kind;
+use file_form::{Kind, WeekRule, row_of};
 use file_step::FileFault;
 use file_texts::Refusal;
-use front_plan::{WeekRule, row_of};
 use front_run::{Outcome, Teller};
+use nav_io::Failed;
 use std::io::IsTerminal;
 
 // What takes the line of a meter away.
 const BLANKS: &str =
-    "                                                                               ";
+    "\r                                                                               ";
 
 /// Says why nothing is done; the status.
 pub fn tell_program(rt: &HostRuntime, refusal: &Refusal) -> u8
@@ -43,9 +43,15 @@ pub struct Saying<'x, 'a> {
     pub file: &'x str,
     /// Its output.
     pub name: &'x str,
+    /// How often a report could not be ended.
+    pub faults: u64,
 }
 
 impl<'a> Teller<Tally<'a>> for Saying<'_, 'a> {
+    ghost faults = { λ s. s.faults };
+
+    ghost told = { λ _ _. Unit {0} };
+
     // Where the reader of standard output has gone nothing is said.
     fn refused(&mut self, refusal: &Refusal) {
         if let Refusal::WriteFault(_, FileFault::ReaderGone) = refusal {
@@ -54,14 +60,15 @@ impl<'a> Teller<Tally<'a>> for Saying<'_, 'a> {
         let _ = tell_file(self.task.rt, self.file, refusal);
     }
 
-    fn done(&mut self, outcome: &Outcome<Tally<'a>>) -> bool {
+    fn done(&mut self, outcome: &Outcome<Tally<'a>>) -> Result<(), Failed> {
         if !is_counted(self.task, outcome) {
-            return false;
+            self.faults = self.faults.saturating_add(1);
+            return Err(Failed);
         }
         if !self.task.quiet {
             tell_done(self.task, self.name, outcome);
         }
-        true
+        Ok(())
     }
 }
 
@@ -78,40 +85,48 @@ fn is_counted(task: &Task, outcome: &Outcome<Tally>) -> bool {
 fn tell_done(task: &Task, name: &str, outcome: &Outcome<Tally>) {
     let rt = task.rt;
     clear(rt);
-    let _ = eprint!(rt; "{name}: ");
+    tell(rt, name, ": ");
     tell_made(rt, outcome);
     if let Some(counts) = &outcome.counts {
-        let _ = eprint!(rt; ", {} messages refused", counts.refused);
+        tell_count(rt, ", ", counts.refused, " messages refused");
     }
     if outcome.kind.is_some_and(|kind| takes_clock(task, kind)) {
-        let _ = eprint!(rt;
-            ", read near week {} of the clock",
-            task.plan.values.clock_week
-        );
+        tell(rt, ", read near week ", task.plan.values.clock_week);
+        tell(rt, " of the clock", "");
     }
-    let _ = eprintln!(rt; "");
+    tell(rt, "\n", "");
 }
 
-// Says what was made.
+// Says what was made, and how many lines of it were refused.
 fn tell_made(rt: &HostRuntime, outcome: &Outcome<Tally>) {
     let said = outcome.report.said();
-    let _ = match (said.written, said.refused, &outcome.counts) {
-        (Some(written), Some(refused), _) => {
-            eprint!(rt; "{written} ephemerides, {refused} lines refused")
-        }
-        (Some(written), None, _) => eprint!(rt; "{written} ephemerides"),
-        (None, Some(refused), _) => eprint!(rt; "written, {refused} lines refused"),
+    match (said.written, said.refused, &outcome.counts) {
+        (Some(written), _, _) => tell_count(rt, "", written, " ephemerides"),
         (None, None, Some(counts)) => {
-            eprint!(rt; "{} subframes, {} pages", counts.subframes, counts.pages)
+            tell_count(rt, "", counts.subframes, " subframes");
+            tell_count(rt, ", ", counts.pages, " pages");
         }
-        (None, None, None) => eprint!(rt; "written"),
-    };
+        _ => tell(rt, "written", ""),
+    }
+    if let Some(refused) = said.refused {
+        tell_count(rt, ", ", refused, " lines refused");
+    }
+}
+
+// Says a text, and what follows.
+fn tell(rt: &HostRuntime, text: &str, next: &str) {
+    let _ = eprint!(rt; "{text}{next}");
+}
+
+// Says a count between two texts.
+fn tell_count(rt: &HostRuntime, before: &str, count: u64, after: &str) {
+    let _ = eprint!(rt; "{before}{count}{after}");
 }
 
 // Whether a file of this form is read by the week of the clock.
 fn takes_clock(task: &Task, kind: Kind) -> bool {
     match (task.plan.values.week, row_of(kind, task.plan.target)) {
-        (None, Some(row)) => row.week == WeekRule::Always,
+        (None, Some(row)) => matches!(row.week, WeekRule::Always),
         _ => false,
     }
 }
@@ -119,6 +134,6 @@ fn takes_clock(task: &Task, kind: Kind) -> bool {
 // Takes the line of a meter away, where there is a terminal.
 fn clear(rt: &HostRuntime) {
     if rt.stderr().is_terminal() {
-        let _ = eprint!(rt; "\r{BLANKS}\r");
+        tell(rt, BLANKS, "\r");
     }
 }

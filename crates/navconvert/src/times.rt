@@ -5,8 +5,8 @@ use crate::meter::Meter;
 use crate::notes::Notes;
 use crate::tally::Tally;
 use arrayvec::ArrayVec;
+use file_form::Target;
 use file_texts::{Refusal, long_name};
-use front_plan::Target;
 use front_run::{Sourced, Told, refusal_of, write_source};
 use gnss_week::{Civil, Moment, moment_of};
 use nav_io::{Failed, Sink, Source};
@@ -77,44 +77,56 @@ fn with(range: Option<(Moment, Moment)>, time: Moment) -> (Moment, Moment) {
     }
 }
 
+// How a line of an ephemeris begins: a capital letter, two characters, and a time whose digits are 0
+// here.
+static FORM: &[u8; ROOM] = b"A?? 0000 00 00 00 00 00";
+
 // The time of an ephemeris, where the line begins with a satellite and a time, as
 // `G01 2023 12 31 02 00 00`.
 fn time_in(line: &[u8]) -> Option<Moment> {
-    if line.len() != ROOM || !line[0].is_ascii_uppercase() {
+    if line.len() != ROOM {
         return None;
     }
-    let blanks = [line[3], line[8], line[11], line[14], line[17], line[20]];
-    if !blanks.iter().all(|byte| *byte == b' ') {
-        return None;
+    for (byte, form) in line.iter().zip(FORM) {
+        if !has_form(*byte, *form) {
+            return None;
+        }
     }
     let date = Civil {
-        year: number(&line[4..8])?,
-        month: pair(&line[9..11])?,
-        day: pair(&line[12..14])?,
-        hour: pair(&line[15..17])?,
-        minute: pair(&line[18..20])?,
-        second: pair(&line[21..23])?,
+        year: number(&line[4..8]),
+        month: pair(&line[9..11]),
+        day: pair(&line[12..14]),
+        hour: pair(&line[15..17]),
+        minute: pair(&line[18..20]),
+        second: pair(&line[21..23]),
     };
     moment_of(&date).ok()
 }
 
+// Whether a character is of this form.
+fn has_form(byte: u8, form: u8) -> bool {
+    match form {
+        b'?' => true,
+        b'A' => byte.is_ascii_uppercase(),
+        b'0' => byte.is_ascii_digit(),
+        _ => byte == form,
+    }
+}
+
 // The number of two digits.
-fn pair(digits: &[u8]) -> Option<u8> {
-    u8::try_from(number(digits)?).ok()
+fn pair(digits: &[u8]) -> u8 {
+    (number(digits) % 100) as u8
 }
 
 // The number that digits write.
-fn number(digits: &[u8]) -> Option<u16> {
+fn number(digits: &[u8]) -> u16 {
     let mut number = 0u16;
     for digit in digits {
-        if !digit.is_ascii_digit() {
-            return None;
-        }
         number = number
             .saturating_mul(10)
-            .saturating_add(u16::from(*digit - b'0'));
+            .saturating_add(u16::from(digit.saturating_sub(b'0')));
     }
-    Some(number)
+    number
 }
 
 /// The name by the convention of RINEX of what is made of a source, which is converted for its times.

@@ -9,7 +9,7 @@ use nav_io::{Failed, Source};
 use std::alloc::{AllocError, Global};
 
 /// Why a source could not be peeked at.
-#[derive(Clone, Copy, PartialEq, Eq, Debug)]
+#[derive(Clone, Copy)]
 pub enum PeekFault {
     /// There was no memory.
     NoMemory,

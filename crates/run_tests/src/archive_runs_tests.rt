@@ -276,14 +276,6 @@ fn is_merged(alloc: Global, row: &Merged) -> Result<bool, AllocError> {
     Ok(is_reported && row.output.has(alloc, output.bytes())?)
 }
 
-#[test]
-fn merges_two_files(rt: HostRuntime) -> Result<(), Fail> {
-    for row in &MERGED {
-        assert!(rt; is_merged(rt.alloc(), row)?);
-    }
-    Ok(())
-}
-
 // Whether a file twice is counted so, and no file is none.
 fn are_kept_counted(alloc: Global) -> Result<bool, AllocError> {
     let mut output = sink_of(alloc)?;
@@ -301,8 +293,12 @@ fn are_kept_counted(alloc: Global) -> Result<bool, AllocError> {
 }
 
 #[test]
-fn counts_what_is_kept(rt: HostRuntime) -> Result<(), Fail> {
-    assert!(rt; are_kept_counted(rt.alloc())?);
+fn merges_two_files_and_counts_what_is_kept(rt: HostRuntime) -> Result<(), Fail> {
+    let mut all = are_kept_counted(rt.alloc())?;
+    for row in &MERGED {
+        all = is_merged(rt.alloc(), row)? && all;
+    }
+    assert!(rt; all);
     Ok(())
 }
 
@@ -360,14 +356,6 @@ fn is_covered(alloc: Global, row: &Covered) -> Result<bool, AllocError> {
     Ok(counts.is_ok() && output.bytes() == row.ranges && report.bytes() == row.report)
 }
 
-#[test]
-fn covers_ranges(rt: HostRuntime) -> Result<(), Fail> {
-    for row in &COVERED {
-        assert!(rt; is_covered(rt.alloc(), row)?);
-    }
-    Ok(())
-}
-
 // Whether a file twice is counted so, and no file is none.
 fn are_items_counted(alloc: Global) -> Result<bool, AllocError> {
     let mut output = sink_of(alloc)?;
@@ -384,7 +372,11 @@ fn are_items_counted(alloc: Global) -> Result<bool, AllocError> {
 }
 
 #[test]
-fn counts_what_covers(rt: HostRuntime) -> Result<(), Fail> {
-    assert!(rt; are_items_counted(rt.alloc())?);
+fn covers_ranges_and_counts_what_covers(rt: HostRuntime) -> Result<(), Fail> {
+    let mut all = are_items_counted(rt.alloc())?;
+    for row in &COVERED {
+        all = is_covered(rt.alloc(), row)? && all;
+    }
+    assert!(rt; all);
     Ok(())
 }

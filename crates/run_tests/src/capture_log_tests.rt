@@ -13,18 +13,13 @@ use rtcm_eph::MessageFault;
 use std::test::Fail;
 
 #[test]
-fn a_part_is_heard(rt: HostRuntime) -> Result<(), Fail> {
+fn what_is_heard_refused_and_not_used(rt: HostRuntime) -> Result<(), Fail> {
     let part = Part {
         stamp: 6,
         sat: Sat::new(System::Gps, 5).ok_or("a satellite")?,
         body: Body::GpsB(gps_orbit_b(U::from_bits(85))),
     };
-    assert!(rt; subframe_event(Ok(part)) == Event::Heard(part));
-    Ok(())
-}
-
-#[test]
-fn what_is_refused_and_what_is_not_used(rt: HostRuntime) -> Result<(), Fail> {
+    let heard = subframe_event(Ok(part)) == Event::Heard(part);
     let parity = Refusal::Parity { word: 7 };
     let subframes = subframe_event(Err(LnavFault::Parity { word: 7 })) == Event::Refused(parity)
         && subframe_event(Err(LnavFault::Unused {
@@ -35,16 +30,13 @@ fn what_is_refused_and_what_is_not_used(rt: HostRuntime) -> Result<(), Fail> {
         && word_event(WordFault::OtherWord { number: 6 }) == Event::Unused;
     let messages = message_event(MessageFault::Short) == Event::Refused(Refusal::Short)
         && message_event(MessageFault::OtherMessage { number: 1005 }) == Event::Unused;
-    assert!(rt; subframes && words && messages);
-    Ok(())
-}
 
-#[test]
-fn laws_cost_nothing(rt: HostRuntime) -> Result<(), Fail> {
+    // Laws cost nothing.
     taken_parts_are_heard();
     lines_yield_what_is_heard();
     order_of_lines_does_not_matter();
     what_is_closed_stays();
-    assert!(rt; Event::Late != Event::Malformed);
+    let differ = Event::Late != Event::Malformed;
+    assert!(rt; heard && subframes && words && messages && differ);
     Ok(())
 }

@@ -7,7 +7,7 @@ use one_run::BridgeFault;
 use rinex_write::HeaderWords;
 use std::alloc::{AllocError, Global};
 use std::test::Fail;
-use streams::{StreamCounts, StreamTo, run_stream};
+use streams::{StreamCounts, StreamRun, StreamTo, run_stream};
 
 // Message 1019 of an ephemeris of G05 in week 2295 whose other fields are 0, as a frame.
 const FRAME: &[u8] = b"\xd3\x00\x3d\x3f\xb1\x4f\x70\
@@ -109,26 +109,57 @@ fn stays(alloc: Global, bytes: &[u8]) -> Result<bool, AllocError> {
     )
 }
 
+// What is counted of two equal frames, and one with no payload between them.
+const TWICE: StreamCounts = StreamCounts {
+    frames: 3,
+    refused: 0,
+    unused: 1,
+    items: 1,
+};
+
+// What is reported of them.
+const TWICE_REPORT: &[u8] = b"frames 3\nrefused 0\nunused 1\nitems 1\n";
+
 // Whether two equal frames, and one with no payload, become one.
 fn is_given_once(alloc: Global) -> Result<bool, AllocError> {
     let bytes = [FRAME, EMPTY_FRAME, FRAME].concat(alloc)?;
     let mut output = sink_of(alloc)?;
     let mut report = sink_of(alloc)?;
     let counts = stream_run(alloc, &StreamTo::Rtcm, &bytes, &mut output, &mut report)?;
-    let want = StreamCounts {
-        frames: 3,
-        refused: 0,
-        unused: 1,
-        items: 1,
-    };
-    let text: &[u8] = b"frames 3\nrefused 0\nunused 1\nitems 1\n";
-    let is_reported = report.bytes() == text;
-    Ok(counts == Some(want) && output.bytes() == FRAME && is_reported)
+    let is_reported = report.bytes() == TWICE_REPORT;
+    Ok(counts == Some(TWICE) && output.bytes() == FRAME && is_reported)
 }
 
+// Whether the same frames, pushed in pieces of one byte more than so many, become the same.
+fn is_given_once_of_pieces(alloc: Global, more: u8) -> Result<bool, AllocError> {
+    let Some(r) = RefWeek::new(2295) else {
+        return Ok(false);
+    };
+    let bytes = [FRAME, EMPTY_FRAME, FRAME].concat(alloc)?;
+    let mut output = sink_of(alloc)?;
+    let mut report = sink_of(alloc)?;
+    let Ok(mut run) = StreamRun::new(alloc, r, &StreamTo::Rtcm, &mut output) else {
+        return Ok(false);
+    };
+    for piece in bytes.chunks(usize::from(more) + 1) {
+        if run.push(piece, &mut output, &mut report).is_err() {
+            return Ok(false);
+        }
+    }
+    let counts = run.finish(&mut output, &mut report).ok();
+    let is_reported = report.bytes() == TWICE_REPORT;
+    Ok(counts == Some(TWICE) && output.bytes() == FRAME && is_reported)
+}
+
+// One less than the sizes of the pieces: single bytes, pieces that end in the middle of a frame, at its end and one behind it,
+// and a piece that is all.
+static PIECES: [u8; 6] = [0, 1, 6, 66, 67, 255];
+
 #[test]
-fn gives_an_ephemeris_of_a_stream_once(rt: HostRuntime) -> Result<(), Fail> {
-    assert!(rt; is_given_once(rt.alloc())?);
+fn takes_a_stream_in_pieces(rt: HostRuntime) -> Result<(), Fail> {
+    for more in &PIECES {
+        assert!(rt; is_given_once_of_pieces(rt.alloc(), *more)?);
+    }
     Ok(())
 }
 
@@ -142,12 +173,6 @@ fn comes_back(alloc: Global) -> Result<bool, AllocError> {
     Ok(is_file && list && file_becomes(alloc, &RinexTo::Rtcm, file.bytes(), FRAME, one)?)
 }
 
-#[test]
-fn converts_a_stream_to_files_and_back(rt: HostRuntime) -> Result<(), Fail> {
-    assert!(rt; comes_back(rt.alloc())?);
-    Ok(())
-}
-
 // Whether a stream becomes a file of the older form, and that itself again.
 fn is_of_older_form(alloc: Global) -> Result<bool, AllocError> {
     let mut file = sink_of(alloc)?;
@@ -156,7 +181,9 @@ fn is_of_older_form(alloc: Global) -> Result<bool, AllocError> {
 }
 
 #[test]
-fn converts_a_file_of_the_older_form(rt: HostRuntime) -> Result<(), Fail> {
-    assert!(rt; is_of_older_form(rt.alloc())?);
+fn converts_a_stream_once_to_both_forms_and_back(rt: HostRuntime) -> Result<(), Fail> {
+    let once = is_given_once(rt.alloc())?;
+    let older = is_of_older_form(rt.alloc())?;
+    assert!(rt; comes_back(rt.alloc())? && once && older);
     Ok(())
 }

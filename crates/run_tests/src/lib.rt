@@ -11,6 +11,8 @@ mod bridge_engine_tests;
 #[cfg(test)]
 mod capture_log_tests;
 #[cfg(test)]
+mod capture_run_tests;
+#[cfg(test)]
 mod item_runs_tests;
 #[cfg(test)]
 mod page_send_tests;

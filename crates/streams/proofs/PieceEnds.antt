@@ -19,7 +19,7 @@ use Rattle.one_run.proofs.Surface.{whole_prefix}
 use Rattle.streams.proofs.StreamLemmas.{between_whole}
 
 -- frames that are taken whatever follows are taken where nothing follows
-moves_last : (r : ℕ) (prefix : List ℕ) (text : NavItem → List ℕ) (a b : List ℕ) (w w1 u u1 : Option (List ℕ)) (g g1 : GivenState) (c c1 : StreamCounts)
+pub moves_last : (r : ℕ) (prefix : List ℕ) (text : NavItem → List ℕ) (a b : List ℕ) (w w1 u u1 : Option (List ℕ)) (g g1 : GivenState) (c c1 : StreamCounts)
     → StreamMoves r prefix text true a b w w1 u u1 g g1 c c1 → StreamMoves r prefix text false a b w w1 u u1 g g1 c c1
 moves_last r prefix text a b w w1 u u1 g g1 c c1 moves = record {
   frames_are = moves.frames_are;

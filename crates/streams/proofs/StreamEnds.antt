@@ -22,12 +22,12 @@ use Rattle.streams.proofs.StreamLemmas.{between_whole, output_fault, output_item
 
 -- ---- the readings of more frames begin with those of fewer
 
-readings_append : (r : ℕ) (xs ys : List (List ℕ)) → readings r (xs ++ ys) ≡ readings r xs ++ readings r ys
+pub readings_append : (r : ℕ) (xs ys : List (List ℕ)) → readings r (xs ++ ys) ≡ readings r xs ++ readings r ys
 readings_append r [] ys = refl
 readings_append r (x ∷ xs) ys = ap (λ (l : List Reading). item_in r (payload_of x) ∷ l) (readings_append r xs ys)
 
 -- the report of fewer
-report_longer : (n : ℕ) (xs ys : List Reading) → IsPrefix (readings_report n xs) (readings_report n (xs ++ ys))
+pub report_longer : (n : ℕ) (xs ys : List Reading) → IsPrefix (readings_report n xs) (readings_report n (xs ++ ys))
 report_longer n [] ys = (readings_report n ys, refl)
 report_longer n (x ∷ xs) ys =
     let rest = report_longer (n + 1) xs ys in
@@ -39,7 +39,7 @@ output_one prefix text rs (Ok item) = (once_text text (has (items_of_readings rs
 output_one prefix text rs (Err fault) = ([], output_fault prefix text rs fault ∙ sym (append-nil (readings_output prefix text rs)))
 
 -- the output of fewer
-output_longer : (prefix : List ℕ) (text : NavItem → List ℕ) (ys xs : List Reading) → IsPrefix (readings_output prefix text xs) (readings_output prefix text (xs ++ ys))
+pub output_longer : (prefix : List ℕ) (text : NavItem → List ℕ) (ys xs : List Reading) → IsPrefix (readings_output prefix text xs) (readings_output prefix text (xs ++ ys))
 output_longer prefix text [] xs = subst (λ (l : List Reading). IsPrefix (readings_output prefix text xs) (readings_output prefix text l)) (sym (append-nil xs)) ([], sym (append-nil (readings_output prefix text xs)))
 output_longer prefix text (y ∷ ys) xs =
     subst (λ (l : List Reading). IsPrefix (readings_output prefix text xs) (readings_output prefix text l)) (append_assoc xs (y ∷ []) ys)
@@ -47,7 +47,7 @@ output_longer prefix text (y ∷ ys) xs =
     (output_one prefix text xs y) (output_longer prefix text ys (xs ++ y ∷ [])))
 
 -- what grew by a text between two others grew by one between a prefix of the first and any text that the second begins
-between_within : (w w1 : Option (List ℕ)) (least some more whole : List ℕ) → IsPrefix least some → IsPrefix more whole → AppendsBetween w w1 some more → AppendsBetween w w1 least whole
+pub between_within : (w w1 : Option (List ℕ)) (least some more whole : List ℕ) → IsPrefix least some → IsPrefix more whole → AppendsBetween w w1 some more → AppendsBetween w w1 least whole
 between_within w w1 least some more whole low high grew = record {
   prefix = grew.prefix;
   within = prefix_trans grew.prefix more whole grew.within high;
@@ -71,7 +71,7 @@ abbrev pub NoneGiven : GivenState → Type 0
 NoneGiven g = ((other : NavItem) → is_given g other ≡ false) × NothingKept g
 
 -- the leading text was written, and no frame was processed
-begins : (r : ℕ) (prefix : List ℕ) (text : NavItem → List ℕ) (w w1 u : Option (List ℕ)) (g : GivenState) (c : StreamCounts)
+pub begins : (r : ℕ) (prefix : List ℕ) (text : NavItem → List ℕ) (w w1 u : Option (List ℕ)) (g : GivenState) (c : StreamCounts)
     → Appends w w1 prefix → NoneGiven g → c ≡ counts_of_readings [] → Appends u u [] → StreamSoFar r prefix text [] w w1 u u g c
 begins r prefix text w w1 u g c grew none nothing same = record {
   output = subst (Appends w w1) (sym (append-nil prefix)) grew;

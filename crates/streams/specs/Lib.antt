@@ -1,5 +1,6 @@
 pub mod Targets
 pub mod Streams
 pub mod Mirrors
+pub mod Pushed
 pub mod FrameLines
 pub mod FrameRuns

@@ -381,19 +381,6 @@ fn is_file(alloc: Global, start: &[u8], row: &FileRow) -> Result<bool, AllocErro
     Ok(read && is_text(four.bytes(), row.four) && is_text(three.bytes(), row.three))
 }
 
-#[test]
-fn files(rt: HostRuntime) -> Result<(), Fail> {
-    let mut all = true;
-    for row in &FILES {
-        all = is_file(rt.alloc(), b"", row)? && all;
-    }
-    for row in &RECORDS {
-        all = is_file(rt.alloc(), HEADER, row)? && all;
-    }
-    assert!(rt; all);
-    Ok(())
-}
-
 // Bytes, and what a reader answers when it is asked for their header, once and again.
 struct HeaderRow {
     bytes: &'static [u8],
@@ -463,8 +450,14 @@ fn is_written(alloc: Global) -> Result<bool, AllocError> {
 }
 
 #[test]
-fn headers(rt: HostRuntime) -> Result<(), Fail> {
+fn files_and_headers(rt: HostRuntime) -> Result<(), Fail> {
     let mut all = is_written(rt.alloc())?;
+    for row in &FILES {
+        all = is_file(rt.alloc(), b"", row)? && all;
+    }
+    for row in &RECORDS {
+        all = is_file(rt.alloc(), HEADER, row)? && all;
+    }
     for row in &HEADERS {
         all = answers_twice(rt.alloc(), row)? && all;
     }

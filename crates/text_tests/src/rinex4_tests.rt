@@ -648,16 +648,6 @@ fn is_file(alloc: Global, row: &FileRow) -> Result<bool, AllocError> {
     Ok(read && sink.bytes().strip_prefix(first) == Some(next_record(row)))
 }
 
-#[test]
-fn files(rt: HostRuntime) -> Result<(), Fail> {
-    let mut all = true;
-    for row in &FILES {
-        all = is_file(rt.alloc(), row)? && all;
-    }
-    assert!(rt; all);
-    Ok(())
-}
-
 // The record of zeroes with other characters from one place on, and what it is to stand for.
 struct ChangeRow {
     place: usize,
@@ -797,15 +787,6 @@ fn is_change(row: &ChangeRow) -> bool {
     }
 }
 
-#[test]
-fn records_with_one_change(rt: HostRuntime) {
-    let mut all = true;
-    for row in &CHANGES {
-        all = all && is_change(row);
-    }
-    assert!(rt; all);
-}
-
 // Bytes, and what a reader answers when it is asked for their header, once and again.
 struct HeaderRow {
     bytes: &'static [u8],
@@ -924,9 +905,15 @@ fn is_written(alloc: Global, row: &WrittenRow, item: &NavItem) -> Result<bool, A
 }
 
 #[test]
-fn headers(rt: HostRuntime) -> Result<(), Fail> {
+fn files_changes_and_headers(rt: HostRuntime) -> Result<(), Fail> {
     let item = ionosphere().ok_or("an ionosphere")?;
     let mut all = true;
+    for row in &FILES {
+        all = is_file(rt.alloc(), row)? && all;
+    }
+    for row in &CHANGES {
+        all = all && is_change(row);
+    }
     for row in &HEADERS {
         all = answers_twice(rt.alloc(), row)? && all;
     }

@@ -1,8 +1,8 @@
-use Rattle.std.proofs.Common.{ℕ, refl, ap, ◌∙◌, Err}
+use Rattle.std.proofs.Common.{ℕ, [], refl, ap, ◌∙◌, Err, arith}
 use Rattle.one_run.specs.Causes.{Faults}
 use Rattle.one_run.specs.declared.fault.BridgeFault.TheVariants.{WriteFault}
 use Rattle.captures.specs.Flushed.{with_counts}
-use Rattle.captures.proofs.CaptureEnds.{IsFresh, ahead_of, all_done, all_taken, end_cause, end_form, end_quiet, end_read, end_stopped, convert_cause, convert_stops, converted_form, head_cause, head_part, head_stops, stopped_by, write_form, write_read}
+use Rattle.captures.proofs.CaptureEnds.{IsFresh, ahead_of, all_done, all_taken, end_cause, end_form, end_quiet, end_read, end_stopped, one_line, convert_cause, convert_stops, converted_form, head_cause, head_part, head_stops, stopped_by, write_form, write_read}
 use Rattle.captures.proofs.Converting.{stands_start}
 use Rattle.captures.proofs.Prefixes.{LogLaws}
 use Rattle.captures.proofs.capture.run_capture.Goals as goal
@@ -34,36 +34,44 @@ returns-in-Err-begin-clause-ahead g c =
     ahead_of c.args.to.now c.target-target.result c.args.week _ _ _ _ _ _ WriteFault c.target-target.ensures
     (head_part c.target-target.result c.args.week _ _ _ _ _ c.new-lines.result c.first_line.new.lines c.in-Ok.head fresh c.in-Ok.ensures.accepted c.in-Err-begin.ensures.bytes)
 
-pub convert-requires-clause-none : goal.convert-requires-clause-none
-convert-requires-clause-none g c = record {
-  head = c.in-Ok.head;
-  stands = stands_start _ c.in-Ok.head c.new-hearing.result _ _ c.in-Ok.ensures.most c.new-hearing.ensures;
-}
+pub convert-requires-clause-past : goal.convert-requires-clause-past
+convert-requires-clause-past g c =
+    let fresh : IsFresh c.new-lines.result = record { rest = c.new-lines.ensures.rest; ended = c.new-lines.ensures.ended; taken = c.new-lines.ensures.taken; number = c.new-lines.ensures.number } in
+    let first = one_line _ _ _ _ _ _ fresh c.in-Ok.ensures.accepted in
+    record {
+      head = c.in-Ok.head;
+      past = [];
+      start = _;
+      told = _;
+      number_is = first;
+      few = omega (arith, first);
+      stands = stands_start _ c.in-Ok.head c.new-hearing.result _ _ c.in-Ok.ensures.most c.new-hearing.ensures;
+    }
 
 pub returns-in-Err-convert-clause-ended : goal.returns-in-Err-convert-clause-ended
 returns-in-Err-convert-clause-ended g c =
     let laws : LogLaws = record { later = c.what_is_closed_stays.ensures.later; rise = c.what_is_closed_stays.ensures.rise; prefix = c.what_is_closed_stays.ensures.prefix; values = c.parts_of_lines_are_values.ensures } in
     let fresh : IsFresh c.new-lines.result = record { rest = c.new-lines.ensures.rest; ended = c.new-lines.ensures.ended; taken = c.new-lines.ensures.taken; number = c.new-lines.ensures.number } in
-    let broke = c.in-Err-convert.ensures.converts c.in-Ok.head (stands_start _ c.in-Ok.head c.new-hearing.result _ _ c.in-Ok.ensures.most c.new-hearing.ensures) in
+    let broke = c.in-Err-convert.ensures.converts c.in-Ok.head [] _ _ (one_line _ _ _ _ _ _ fresh c.in-Ok.ensures.accepted) (stands_start _ c.in-Ok.head c.new-hearing.result _ _ c.in-Ok.ensures.most c.new-hearing.ensures) in
     stopped_by c.args.to.now c.target-target.result c.args.week _ _ c.in-Err-convert.fault c.target-target.ensures
-    (convert_stops laws c.target-target.result c.args.week _ _ _ _ _ _ _ _ c.new-lines.result c.first_line.new.lines c.convert.new.lines c.in-Ok.head c.in-Err-convert.fault fresh c.in-Ok.ensures.accepted
+    (convert_stops laws c.target-target.result c.args.week _ _ _ _ _ _ _ _ c.new-lines.result c.first_line.new.lines c.convert.new.lines c.convert.new.hearing c.in-Ok.head c.in-Err-convert.fault fresh c.in-Ok.ensures.accepted
     c.in-Ok-begin.ensures.bytes broke)
     (convert_cause _ _ _ _ _ _ c.in-Err-convert.fault c.in-Err-convert.ensures.cause c.in-Ok.ensures.quiet c.in-Ok-begin.ensures.cause.stays)
     (λ e quiet. c.in-Err-convert.ensures.never (c.in-Ok.ensures.never quiet).1 (ap Err e))
-    (λ e. absurd (converted_form _ _ _ _ _ _ _ _ _ _ c.in-Err-convert.fault broke e))
+    (λ e. absurd (converted_form _ _ _ _ _ _ _ _ _ _ _ _ c.in-Err-convert.fault broke e))
 
 pub returns-in-Err-convert-clause-ahead : goal.returns-in-Err-convert-clause-ahead
 returns-in-Err-convert-clause-ahead g c =
     let laws : LogLaws = record { later = c.what_is_closed_stays.ensures.later; rise = c.what_is_closed_stays.ensures.rise; prefix = c.what_is_closed_stays.ensures.prefix; values = c.parts_of_lines_are_values.ensures } in
     let fresh : IsFresh c.new-lines.result = record { rest = c.new-lines.ensures.rest; ended = c.new-lines.ensures.ended; taken = c.new-lines.ensures.taken; number = c.new-lines.ensures.number } in
     ahead_of c.args.to.now c.target-target.result c.args.week _ _ _ _ _ _ c.in-Err-convert.fault c.target-target.ensures
-    (convert_stops laws c.target-target.result c.args.week _ _ _ _ _ _ _ _ c.new-lines.result c.first_line.new.lines c.convert.new.lines c.in-Ok.head c.in-Err-convert.fault fresh c.in-Ok.ensures.accepted
-    c.in-Ok-begin.ensures.bytes (c.in-Err-convert.ensures.converts c.in-Ok.head (stands_start _ c.in-Ok.head c.new-hearing.result _ _ c.in-Ok.ensures.most c.new-hearing.ensures)))
+    (convert_stops laws c.target-target.result c.args.week _ _ _ _ _ _ _ _ c.new-lines.result c.first_line.new.lines c.convert.new.lines c.convert.new.hearing c.in-Ok.head c.in-Err-convert.fault fresh c.in-Ok.ensures.accepted
+    c.in-Ok-begin.ensures.bytes (c.in-Err-convert.ensures.converts c.in-Ok.head [] _ _ (one_line _ _ _ _ _ _ fresh c.in-Ok.ensures.accepted) (stands_start _ c.in-Ok.head c.new-hearing.result _ _ c.in-Ok.ensures.most c.new-hearing.ensures)))
 
 pub returns-in-Ok-end_run-clause-ended : goal.returns-in-Ok-end_run-clause-ended
 returns-in-Ok-end_run-clause-ended g c =
     let fresh : IsFresh c.new-lines.result = record { rest = c.new-lines.ensures.rest; ended = c.new-lines.ensures.ended; taken = c.new-lines.ensures.taken; number = c.new-lines.ensures.number } in
-    let converted = c.in-Ok-convert.ensures.converts c.in-Ok.head (stands_start _ c.in-Ok.head c.new-hearing.result _ _ c.in-Ok.ensures.most c.new-hearing.ensures) in
+    let converted = c.in-Ok-convert.ensures.converts c.in-Ok.head [] _ _ (one_line _ _ _ _ _ _ fresh c.in-Ok.ensures.accepted) (stands_start _ c.in-Ok.head c.new-hearing.result _ _ c.in-Ok.ensures.most c.new-hearing.ensures) in
     let taken = all_taken c.target-target.result c.args.week _ _ _ _ _ _ _ _ c.new-lines.result c.first_line.new.lines c.convert.new.lines c.in-Ok.head
     c.convert.new.hearing.ear.tally c.convert.new.hearing.said c.counts_with-counts.result fresh c.in-Ok.ensures.accepted c.in-Ok-begin.ensures.bytes
     converted (c.counts_with-counts.ensures ∙ ap (λ (n : ℕ). with_counts n c.convert.new.hearing.ear.tally c.convert.new.hearing.said) c.number.ensures) in
@@ -74,7 +82,7 @@ pub returns-clause-ended : goal.returns-clause-ended
 returns-clause-ended g c =
     let laws : LogLaws = record { later = c.what_is_closed_stays.ensures.later; rise = c.what_is_closed_stays.ensures.rise; prefix = c.what_is_closed_stays.ensures.prefix; values = c.parts_of_lines_are_values.ensures } in
     let fresh : IsFresh c.new-lines.result = record { rest = c.new-lines.ensures.rest; ended = c.new-lines.ensures.ended; taken = c.new-lines.ensures.taken; number = c.new-lines.ensures.number } in
-    let converted = c.in-Ok-convert.ensures.converts c.in-Ok.head (stands_start _ c.in-Ok.head c.new-hearing.result _ _ c.in-Ok.ensures.most c.new-hearing.ensures) in
+    let converted = c.in-Ok-convert.ensures.converts c.in-Ok.head [] _ _ (one_line _ _ _ _ _ _ fresh c.in-Ok.ensures.accepted) (stands_start _ c.in-Ok.head c.new-hearing.result _ _ c.in-Ok.ensures.most c.new-hearing.ensures) in
     let taken = all_taken c.target-target.result c.args.week _ _ _ _ _ _ _ _ c.new-lines.result c.first_line.new.lines c.convert.new.lines c.in-Ok.head
     c.convert.new.hearing.ear.tally c.convert.new.hearing.said c.counts_with-counts.result fresh c.in-Ok.ensures.accepted c.in-Ok-begin.ensures.bytes
     converted (c.counts_with-counts.ensures ∙ ap (λ (n : ℕ). with_counts n c.convert.new.hearing.ear.tally c.convert.new.hearing.said) c.number.ensures) in
@@ -89,7 +97,7 @@ pub returns-clause-ahead : goal.returns-clause-ahead
 returns-clause-ahead g c =
     let laws : LogLaws = record { later = c.what_is_closed_stays.ensures.later; rise = c.what_is_closed_stays.ensures.rise; prefix = c.what_is_closed_stays.ensures.prefix; values = c.parts_of_lines_are_values.ensures } in
     let fresh : IsFresh c.new-lines.result = record { rest = c.new-lines.ensures.rest; ended = c.new-lines.ensures.ended; taken = c.new-lines.ensures.taken; number = c.new-lines.ensures.number } in
-    let converted = c.in-Ok-convert.ensures.converts c.in-Ok.head (stands_start _ c.in-Ok.head c.new-hearing.result _ _ c.in-Ok.ensures.most c.new-hearing.ensures) in
+    let converted = c.in-Ok-convert.ensures.converts c.in-Ok.head [] _ _ (one_line _ _ _ _ _ _ fresh c.in-Ok.ensures.accepted) (stands_start _ c.in-Ok.head c.new-hearing.result _ _ c.in-Ok.ensures.most c.new-hearing.ensures) in
     let taken = all_taken c.target-target.result c.args.week _ _ _ _ _ _ _ _ c.new-lines.result c.first_line.new.lines c.convert.new.lines c.in-Ok.head
     c.convert.new.hearing.ear.tally c.convert.new.hearing.said c.counts_with-counts.result fresh c.in-Ok.ensures.accepted c.in-Ok-begin.ensures.bytes
     converted (c.counts_with-counts.ensures ∙ ap (λ (n : ℕ). with_counts n c.convert.new.hearing.ear.tally c.convert.new.hearing.said) c.number.ensures) in

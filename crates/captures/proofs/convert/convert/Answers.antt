@@ -1,13 +1,15 @@
-use Rattle.std.proofs.Common.{◌≡◌, ◌+◌, length, refl, ap, ◌∙◌, arith}
+use Rattle.std.proofs.Common.{◌≡◌, ◌++◌, length-append, refl, ap, ◌∙◌, arith}
 use Rattle.one_run.specs.Causes.{Faults}
+use Rattle.one_run.specs.declared.fault.BridgeFault.TheVariants.{ReadFault}
 use Rattle.captures.specs.Notes.{GivesEnd, GivesItem}
 use Rattle.captures.proofs.Prefixes.{LogLaws}
-use Rattle.captures.proofs.Converting.{between_more, between_start, broke_input, broke_step, finish_cause, finish_never, converted_end, step_cause}
+use Rattle.captures.proofs.Converting.{between_more, between_number, between_start, broke_input, broke_step, finish_cause, finish_never, converted_end, step_cause, step_never}
 use Rattle.captures.proofs.convert.convert.Goals as goal
 
 pub lines-init : goal.lines-init
 lines-init g c = record {
-  between = λ head stands. between_start _ _ _ _ _ _ _ c.requires.held c.requires.low (omega (arith, c.requires.first)) stands;
+  between = λ head past start told first stands.
+      between_start _ _ _ _ _ _ _ _ _ _ c.requires.held c.requires.low c.requires.past.few first stands;
   input = refl;
   output = refl;
   report = refl;
@@ -16,50 +18,50 @@ lines-init g c = record {
 
 pub finish-requires : goal.finish-requires
 finish-requires g c =
-    let b = c.lines.invariant.between c.requires.none.head c.requires.none.stands in
+    let b = c.lines.invariant.between c.requires.past.head c.requires.past.past c.requires.past.start c.requires.past.told c.requires.past.number_is c.requires.past.stands in
     record {
-      head = c.requires.none.head;
-      lines = b.given;
+      head = c.requires.past.head;
+      lines = c.requires.past.past ++ b.given;
       start = _;
       told = _;
       reported = _;
-      few = omega (arith, b.number, b.few, c.requires.first);
+      few = omega (arith, b.number, b.few, b.first, length-append c.requires.past.past b.given);
       stands = b.stands;
     }
 
 pub returns-in-Ok-false-clause-converts : goal.returns-in-Ok-false-clause-converts
-returns-in-Ok-false-clause-converts g c head none =
+returns-in-Ok-false-clause-converts g c head past start told first stands =
     let gives : GivesEnd (g.S.Source.left c.lines.input) (g.S.Source.left c.next_item.new.source) c.lines.lines c.next_item.new.lines = c.in-Ok-false.ensures.end c.in-Ok-false.field-0-test in
-    let b = c.lines.invariant.between head none in
-    converted_end _ _ _ _ _ _ _ _ c.lines.hearing c.finish.new.self _ _ _ _ _ _ _ c.finish.result b gives (c.finish.ensures head b.given _ _ _ b.stands)
+    let b = c.lines.invariant.between head past start told first stands in
+    converted_end _ _ _ _ _ _ _ _ _ c.lines.hearing c.finish.new.self _ _ _ _ _ _ _ c.finish.result b gives (c.finish.ensures head (past ++ b.given) _ _ _ b.stands)
 
 pub returns-in-Ok-false-clause-cause : goal.returns-in-Ok-false-clause-cause
 returns-in-Ok-false-clause-cause g c =
-    let b = c.lines.invariant.between c.requires.none.head c.requires.none.stands in
+    let b = c.lines.invariant.between c.requires.past.head c.requires.past.past c.requires.past.start c.requires.past.told c.requires.past.number_is c.requires.past.stands in
     finish_cause _ _ _ _ _ _ _ _ c.finish.result _ _ _ _ _ _ _ c.in-Ok-false.ensures.quiet c.lines.invariant.input c.lines.invariant.output c.lines.invariant.report
-    (c.finish.ensures c.requires.none.head b.given _ _ _ b.stands)
+    (c.finish.ensures c.requires.past.head (c.requires.past.past ++ b.given) _ _ _ b.stands)
 
 pub returns-in-Ok-false-clause-never : goal.returns-in-Ok-false-clause-never
 returns-in-Ok-false-clause-never g c quiet =
-    let b = c.lines.invariant.between c.requires.none.head c.requires.none.stands in
-    finish_never _ _ _ _ _ _ _ _ _ c.finish.result (c.finish.ensures c.requires.none.head b.given _ _ _ b.stands)
+    let b = c.lines.invariant.between c.requires.past.head c.requires.past.past c.requires.past.start c.requires.past.told c.requires.past.number_is c.requires.past.stands in
+    finish_never _ _ _ _ _ _ _ _ _ c.finish.result (c.finish.ensures c.requires.past.head (c.requires.past.past ++ b.given) _ _ _ b.stands)
 
 pub returns-in-Err-clause-converts : goal.returns-in-Err-clause-converts
-returns-in-Err-clause-converts g c head none =
+returns-in-Err-clause-converts g c head past start told first stands =
     let laws : LogLaws = record { later = c.what_is_closed_stays.ensures.later; rise = c.what_is_closed_stays.ensures.rise; prefix = c.what_is_closed_stays.ensures.prefix; values = c.parts_of_lines_are_values.ensures } in
-    broke_input laws _ _ _ _ _ _ _ _ c.lines.hearing _ _ _ _ c.in-Err.fault c.fault_of.result c.fault_of.ensures (c.lines.invariant.between head none) c.in-Err.ensures.fault
+    broke_input laws _ _ _ _ _ _ _ _ _ c.lines.hearing _ _ _ _ c.in-Err.fault c.fault_of.result c.fault_of.ensures (c.lines.invariant.between head past start told first stands) c.in-Err.ensures.fault
 
 pub step-requires-clause-next : goal.step-requires-clause-next
 step-requires-clause-next g c =
     let gives : GivesItem (g.S.Source.left c.lines.input) (g.S.Source.left c.next_item.new.source) c.lines.lines c.next_item.new.lines c.next_item.new.item = c.in-Ok-true.ensures.item c.in-Ok-true.field-0-test in
-    let b = c.lines.invariant.between c.requires.none.head c.requires.none.stands in
+    let b = c.lines.invariant.between c.requires.past.head c.requires.past.past c.requires.past.start c.requires.past.told c.requires.past.number_is c.requires.past.stands in
     record {
-      head = c.requires.none.head;
-      lines = b.given;
+      head = c.requires.past.head;
+      lines = c.requires.past.past ++ b.given;
       line = gives.line;
       start = _;
       told = _;
-      number_is = omega (arith, c.number.ensures, gives.gives.number, b.number, c.requires.first);
+      number_is = between_number _ _ _ _ _ _ _ _ _ _ _ _ _ _ _ c.number.result b gives c.number.ensures;
       item_is = gives.item_is;
       stands = b.stands;
     }
@@ -67,14 +69,14 @@ step-requires-clause-next g c =
 pub lines-preserved : goal.lines-preserved
 lines-preserved g c =
     let gives : GivesItem (g.S.Source.left c.lines.input) (g.S.Source.left c.next_item.new.source) c.lines.lines c.next_item.new.lines c.next_item.new.item = c.in-Ok-true.ensures.item c.in-Ok-true.field-0-test in
-    let first = c.lines.invariant.between c.requires.none.head c.requires.none.stands in
-    let number : c.number.result ≡ 2 + length first.given = omega (arith, c.number.ensures, gives.gives.number, first.number, c.requires.first) in
-    let same = (c.in-Ok.ensures c.requires.none.head first.given gives.line _ _ number gives.item_is first.stands).1 in
+    let b = c.lines.invariant.between c.requires.past.head c.requires.past.past c.requires.past.start c.requires.past.told c.requires.past.number_is c.requires.past.stands in
+    let number = between_number _ _ _ _ _ _ _ _ _ _ _ _ _ _ _ c.number.result b gives c.number.ensures in
+    let same = (c.in-Ok.ensures c.requires.past.head (c.requires.past.past ++ b.given) gives.line _ _ number gives.item_is b.stands).1 in
     record {
-      between = λ head none.
-          let b = c.lines.invariant.between head none in
-          let next : c.number.result ≡ 2 + length b.given = omega (arith, c.number.ensures, gives.gives.number, b.number, c.requires.first) in
-          between_more _ head _ _ _ _ _ _ c.lines.hearing c.step.new.self _ _ _ _ _ _ c.next_item.new.item b gives (c.in-Ok.ensures head b.given gives.line _ _ next gives.item_is b.stands).0;
+      between = λ head past start told first stands.
+          let b = c.lines.invariant.between head past start told first stands in
+          let next = between_number _ _ _ _ _ _ _ _ _ _ _ _ _ _ _ c.number.result b gives c.number.ensures in
+          between_more _ head past _ _ _ _ _ _ c.lines.hearing c.step.new.self _ _ _ _ _ _ c.next_item.new.item b gives (c.in-Ok.ensures head (past ++ b.given) gives.line _ _ next gives.item_is b.stands).0;
       input = c.in-Ok-true.ensures.quiet ∙ c.lines.invariant.input;
       output = ap (λ (f : Faults). f.output) same ∙ c.lines.invariant.output;
       report = ap (λ (f : Faults). f.report) same ∙ c.lines.invariant.report;
@@ -82,16 +84,37 @@ lines-preserved g c =
     }
 
 pub returns-in-Err-step-clause-converts : goal.returns-in-Err-step-clause-converts
-returns-in-Err-step-clause-converts g c head none =
+returns-in-Err-step-clause-converts g c head past start told first stands =
     let gives : GivesItem (g.S.Source.left c.lines.input) (g.S.Source.left c.next_item.new.source) c.lines.lines c.next_item.new.lines c.next_item.new.item = c.in-Ok-true.ensures.item c.in-Ok-true.field-0-test in
-    let b = c.lines.invariant.between head none in
-    let number : c.number.result ≡ 2 + length b.given = omega (arith, c.number.ensures, gives.gives.number, b.number, c.requires.first) in
-    broke_step _ head _ _ _ _ _ _ c.lines.hearing _ _ _ _ _ _ c.next_item.new.item _ _ c.in-Err-step.fault b gives (c.in-Err-step.ensures head b.given gives.line _ _ number gives.item_is b.stands)
+    let b = c.lines.invariant.between head past start told first stands in
+    let number = between_number _ _ _ _ _ _ _ _ _ _ _ _ _ _ _ c.number.result b gives c.number.ensures in
+    broke_step _ head past _ _ _ _ _ _ c.lines.hearing c.step.new.self _ _ _ _ _ _ c.next_item.new.item _ _ c.in-Err-step.fault b gives (c.in-Err-step.ensures head (past ++ b.given) gives.line _ _ number gives.item_is b.stands)
 
 pub returns-in-Err-step-clause-cause : goal.returns-in-Err-step-clause-cause
 returns-in-Err-step-clause-cause g c =
     let gives : GivesItem (g.S.Source.left c.lines.input) (g.S.Source.left c.next_item.new.source) c.lines.lines c.next_item.new.lines c.next_item.new.item = c.in-Ok-true.ensures.item c.in-Ok-true.field-0-test in
-    let b = c.lines.invariant.between c.requires.none.head c.requires.none.stands in
-    let number : c.number.result ≡ 2 + length b.given = omega (arith, c.number.ensures, gives.gives.number, b.number, c.requires.first) in
-    step_cause _ _ _ _ _ _ _ _ c.in-Err-step.fault (c.in-Err-step.ensures c.requires.none.head b.given gives.line _ _ number gives.item_is b.stands).cause
+    let b = c.lines.invariant.between c.requires.past.head c.requires.past.past c.requires.past.start c.requires.past.told c.requires.past.number_is c.requires.past.stands in
+    let number = between_number _ _ _ _ _ _ _ _ _ _ _ _ _ _ _ c.number.result b gives c.number.ensures in
+    step_cause _ _ _ _ _ _ _ _ c.in-Err-step.fault (c.in-Err-step.ensures c.requires.past.head (c.requires.past.past ++ b.given) gives.line _ _ number gives.item_is b.stands).cause
     c.lines.invariant.output c.lines.invariant.report
+
+pub returns-in-Ok-false-clause-still : goal.returns-in-Ok-false-clause-still
+returns-in-Ok-false-clause-still g c failed =
+    let b = c.lines.invariant.between c.requires.past.head c.requires.past.past c.requires.past.start c.requires.past.told c.requires.past.number_is c.requires.past.stands in
+    absurd (finish_never _ _ _ _ _ _ _ _ _ c.finish.result (c.finish.ensures c.requires.past.head (c.requires.past.past ++ b.given) _ _ _ b.stands) failed)
+
+pub returns-in-Err-step-clause-still : goal.returns-in-Err-step-clause-still
+returns-in-Err-step-clause-still g c failed =
+    let gives : GivesItem (g.S.Source.left c.lines.input) (g.S.Source.left c.next_item.new.source) c.lines.lines c.next_item.new.lines c.next_item.new.item = c.in-Ok-true.ensures.item c.in-Ok-true.field-0-test in
+    let b = c.lines.invariant.between c.requires.past.head c.requires.past.past c.requires.past.start c.requires.past.told c.requires.past.number_is c.requires.past.stands in
+    let number = between_number _ _ _ _ _ _ _ _ _ _ _ _ _ _ _ c.number.result b gives c.number.ensures in
+    let same : c.in-Err-step.fault ≡ ReadFault = cc in
+    absurd (step_never _ _ _ _ c.in-Err-step.fault (c.in-Err-step.ensures c.requires.past.head (c.requires.past.past ++ b.given) gives.line _ _ number gives.item_is b.stands).cause same)
+
+pub returns-in-Err-step-clause-never : goal.returns-in-Err-step-clause-never
+returns-in-Err-step-clause-never g c quiet failed =
+    let gives : GivesItem (g.S.Source.left c.lines.input) (g.S.Source.left c.next_item.new.source) c.lines.lines c.next_item.new.lines c.next_item.new.item = c.in-Ok-true.ensures.item c.in-Ok-true.field-0-test in
+    let b = c.lines.invariant.between c.requires.past.head c.requires.past.past c.requires.past.start c.requires.past.told c.requires.past.number_is c.requires.past.stands in
+    let number = between_number _ _ _ _ _ _ _ _ _ _ _ _ _ _ _ c.number.result b gives c.number.ensures in
+    let same : c.in-Err-step.fault ≡ ReadFault = cc in
+    step_never _ _ _ _ c.in-Err-step.fault (c.in-Err-step.ensures c.requires.past.head (c.requires.past.past ++ b.given) gives.line _ _ number gives.item_is b.stands).cause same

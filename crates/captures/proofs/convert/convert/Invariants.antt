@@ -1,5 +1,6 @@
-use Rattle.std.proofs.Common.{◌≡◌, ◌-◌, ◌^◌, []}
-use Rattle.std.specs.Prelude.{IsTrue}
+use Rattle.std.proofs.Common.{◌≡◌, ℕ, ◌+◌, ◌-◌, ◌^◌, List, length}
+use Rattle.std.specs.Prelude.{Option, IsTrue}
+use Rattle.nav_io.specs.Lines.{Line}
 use Rattle.captures.specs.declared.accept.Accepted.{Accepted}
 use Rattle.captures.specs.Hearings.{Stands}
 use Rattle.captures.proofs.Converting.{Between}
@@ -7,10 +8,10 @@ use Rattle.captures.proofs.convert.convert.Given as goal
 
 abbrev pub invariant-lines : goal.invariant-lines
 invariant-lines g l = record {
-  between : (head : Accepted)
-      → Stands l.to head [] l.fn.hearing (g.T.Sink.written l.fn.output) (g.T.Sink.written l.fn.output) (g.U.Sink.written l.fn.report) (g.U.Sink.written l.fn.report)
-      → Between l.to head (g.S.Source.left l.fn.input) (g.S.Source.left l.input) l.fn.lines l.lines l.hearing (g.T.Sink.written l.fn.output) (g.T.Sink.written l.output)
-      (g.U.Sink.written l.fn.report) (g.U.Sink.written l.report);
+  between : (head : Accepted) (past : List Line) (start told : Option (List ℕ)) → l.fn.lines.number ≡ 1 + length past
+      → Stands l.to head past l.fn.hearing start (g.T.Sink.written l.fn.output) told (g.U.Sink.written l.fn.report)
+      → Between l.to head past (g.S.Source.left l.fn.input) (g.S.Source.left l.input) l.fn.lines l.lines l.hearing start (g.T.Sink.written l.output)
+      told (g.U.Sink.written l.report);
   input : g.S.Source.faults l.input ≡ g.S.Source.faults l.fn.input;
   output : g.T.Sink.faults l.output ≡ g.T.Sink.faults l.fn.output;
   report : g.U.Sink.faults l.report ≡ g.U.Sink.faults l.fn.report;

@@ -1,4 +1,4 @@
-use Rattle.navbridge_c.specs.declared.memory.Kept.{Kept}
+use Rattle.c_states.specs.declared.kept.Kept.{Kept}
 use Rattle.navbridge_c.specs.declared.memory.Lent.{Lent}
 use Rattle.navbridge_c.proofs.Endings.{ended_in_memory}
 use Rattle.navbridge_c.proofs.convert.run_texts.Goals as goal

@@ -1,0 +1,43 @@
+//! A sink that keeps what is written.
+
+ghost use Rattle.std.specs.Prelude.{◌≡◌, []};
+
+use nav_io::{Failed, Sink};
+use std::alloc::Global;
+
+/// What was written. It fails for want of memory alone.
+#[derive(Drop)]
+pub struct Kept {
+    /// The bytes that were written.
+    pub bytes: Vec<u8>,
+    /// How many writes failed.
+    pub faults: u64,
+}
+
+impl Kept {
+    /// Nothing was written.
+    pub fn new(alloc: Global) -> Kept
+        ensures bytes { result.bytes.items ≡ [] }
+        ensures faults { result.faults ≡ 0 }
+    {
+        let bytes = Vec::new(alloc);
+        Kept { bytes, faults: 0 }
+    }
+}
+
+impl Sink for Kept {
+    ghost use Rattle.std.specs.Prelude.{Some};
+
+    ghost written = { λ s. Some s.bytes.items };
+
+    ghost faults = { λ s. s.faults };
+
+    /// Appends the piece whole, or fails and appends nothing.
+    fn write(&mut self, piece: &[u8]) -> Result<(), Failed> {
+        if self.bytes.extend_from_slice(piece).is_ok() {
+            return Ok(());
+        }
+        self.faults = self.faults.saturating_add(1);
+        Err(Failed)
+    }
+}

@@ -1,0 +1,301 @@
+//! A conversion whose input is pushed in pieces, and whose output and report are taken as they come.
+
+ghost use Rattle.std.specs.Prelude.{◌≡◌, ◌≢◌, ◌⊎◌, ◌↔◌, All, IfErr, IfOk, IsUtf8, map};
+ghost use Rattle.std.specs.String.{string_bytes};
+ghost use Rattle.one_run.specs.declared.fault.BridgeFault.TheVariants.{NotThisForm, ReadFault, TooLong};
+ghost use Rattle.streams.specs.Mirrors.{IsStreamFault};
+ghost use Rattle.bridge_engine.specs.Job.{GivesJob, IsJob};
+ghost use Rattle.c_states.specs.Pushes.{Begins, Finishes, Opens, Pushes, Takes, closed, taken_more, told_more, without_job};
+
+use crate::kept::Kept;
+use crate::words::{are_texts, texts_of};
+use bridge_engine::{BridgeFault, Job, job_of};
+use c_records::put;
+use capture_log::what_is_closed_stays;
+use captures::CaptureRun;
+use nav_io::Failed;
+use std::alloc::{AllocError, Global};
+use std::marker::Model;
+use streams::StreamRun;
+
+// The words give no job.
+const NO_JOB: u32 = 2;
+
+// There was no memory.
+const NO_MEMORY: u32 = 6;
+
+// A word is no text.
+const NO_TEXT: u32 = 9;
+
+// The input of the job cannot be pushed.
+const NOT_PUSHED: u32 = 10;
+
+// The input has ended.
+const ENDED: u32 = 11;
+
+// No job was opened.
+const CLOSED: u32 = 12;
+
+// The run that takes the input.
+#[derive(Drop)]
+enum Run {
+    // There is none: nothing was opened, or the input has ended.
+    Idle,
+    Capture(CaptureRun),
+    Stream(StreamRun),
+}
+
+/// A conversion whose input comes in pieces.
+///
+/// It keeps all that it writes and reports, until it is closed.
+#[derive(Drop)]
+pub struct Conversion {
+    alloc: Global,
+    run: Run,
+    output: Kept,
+    taken: usize,
+    report: Kept,
+    told: usize,
+    status: u32,
+}
+
+impl Model for Conversion {
+    ghost use Rattle.c_states.specs.Pushes.{PushState};
+
+    ghost Value = { PushState };
+
+    ghost view = { λ p. record {
+      run = p.run;
+      output = p.output.bytes.items;
+      taken = p.taken;
+      report = p.report.bytes.items;
+      told = p.told;
+      status = p.status;
+    } };
+}
+
+// A conversion that does no job, and answers so.
+fn without_job(alloc: Global, status: u32) -> Conversion
+    ensures { result ≡ without_job status }
+{
+    Conversion {
+        alloc,
+        run: Run::Idle,
+        output: Kept::new(alloc),
+        taken: 0,
+        report: Kept::new(alloc),
+        told: 0,
+        status,
+    }
+}
+
+/// A conversion that does no job yet.
+pub fn new(alloc: Global) -> Conversion
+    ensures { result ≡ closed }
+{
+    without_job(alloc, CLOSED)
+}
+
+// The job that the words give, or the answer where there is none.
+fn job_in(alloc: Global, words: &[&[u8]]) -> Result<Job, u32>
+    ensures job { IfOk result (IsJob (map (λ word. word.now) words.now)) }
+    ensures texts { IfOk result (λ _. All IsUtf8 (map (λ word. word.now) words.now)) }
+    ensures none { IfErr result (λ answer. ((answer ≡ 2)
+        × (¬ GivesJob (map (λ word. word.now) words.now))
+        × All IsUtf8 (map (λ word. word.now) words.now))
+        ⊎ ((answer ≡ 6) × All IsUtf8 (map (λ word. word.now) words.now))
+        ⊎ ((answer ≡ 9) × (¬ All IsUtf8 (map (λ word. word.now) words.now)))) }
+{
+    if !are_texts(words) {
+        return Err(NO_TEXT);
+    }
+    let texts = match texts_of(alloc, words) {
+        Ok(texts) => texts,
+        Err(AllocError) => return Err(NO_MEMORY),
+    };
+    match job_of(alloc, &texts) {
+        Ok(Some(job)) => Ok(job),
+        Ok(None) => Err(NO_JOB),
+        Err(AllocError) => Err(NO_MEMORY),
+    }
+}
+
+// The conversion that begins with a job.
+fn begun(alloc: Global, job: &Job) -> Conversion
+    ensures { Begins job.now result }
+{
+    match job {
+        Job::Capture(job) => Conversion {
+            alloc,
+            run: Run::Capture(CaptureRun::new(alloc, job.week, &job.to)),
+            output: Kept::new(alloc),
+            taken: 0,
+            report: Kept::new(alloc),
+            told: 0,
+            status: 0,
+        },
+        Job::Stream(job) => {
+            let mut output = Kept::new(alloc);
+            match StreamRun::new(alloc, job.week, &job.to, &mut output) {
+                Ok(run) => Conversion {
+                    alloc,
+                    run: Run::Stream(run),
+                    output,
+                    taken: 0,
+                    report: Kept::new(alloc),
+                    told: 0,
+                    status: 0,
+                },
+                Err(Failed) => without_job(alloc, NO_MEMORY),
+            }
+        }
+        _ => without_job(alloc, NOT_PUSHED),
+    }
+}
+
+// The conversion that the words open.
+fn opened(alloc: Global, words: &[&[u8]]) -> Conversion
+    ensures { Opens (map (λ word. word.now) words.now) result result.status }
+{
+    match job_in(alloc, words) {
+        Ok(job) => begun(alloc, &job),
+        Err(answer) => without_job(alloc, answer),
+    }
+}
+
+/// Opens the conversion that the words ask for, whatever was done before, and answers 0; or 2 where
+/// they give no job, 6 for want of memory, 9 where a word is not UTF-8, and 10 where the input of
+/// their job cannot be pushed.
+pub fn open(state: &mut Conversion, words: &[&[u8]]) -> u32
+    ensures { Opens (map (λ word. word.now) words.now) state.new result }
+{
+    let alloc = state.alloc;
+    *state = opened(alloc, words);
+    state.status
+}
+
+// The answer where a run ended for this fault: its sinks fail for want of memory alone.
+fn answer_of(fault: BridgeFault) -> u32
+    ensures some { result ≢ 0 }
+    ensures memory { IsStreamFault fault → result ≡ 6 }
+    ensures long { fault ≡ TooLong → result ≡ 8 }
+    ensures capture { (fault ≡ ReadFault → ⊥) → (result ≡ 5) ⊎ (result ≡ 6) ⊎ (result ≡ 8) }
+    ensures form { result ≡ 5 → fault ≡ NotThisForm }
+    ensures last { result ≡ 8 → fault ≡ TooLong }
+{
+    match fault {
+        BridgeFault::ReadFault => 3,
+        BridgeFault::NotThisForm => 5,
+        BridgeFault::WriteFault | BridgeFault::ReportFault | BridgeFault::NoMemory => NO_MEMORY,
+        BridgeFault::TooLong => 8,
+    }
+}
+
+/// Pushes a piece of the input, and answers 0; or 5 where the first line of a capture is refused, 6
+/// for want of memory, and 8 where a capture has 2^32 bytes, or a stream 2^64. Each answer but 0 is
+/// that of each further call; where no job was opened it is 12, and behind `finish` 11.
+pub fn push(state: &mut Conversion, piece: &[u8]) -> u32
+    ensures { Pushes state.old piece.now state.new result }
+{
+    if state.status != 0 {
+        return state.status;
+    }
+    what_is_closed_stays();
+    match &mut state.run {
+        Run::Idle => 0,
+        Run::Capture(run) => match run.push(piece, &mut state.output, &mut state.report) {
+            Ok(()) => 0,
+            Err(fault) => {
+                let answer = answer_of(fault);
+                state.status = answer;
+                answer
+            }
+        },
+        Run::Stream(run) => match run.push(piece, &mut state.output, &mut state.report) {
+            Ok(()) => 0,
+            Err(fault) => {
+                let answer = answer_of(fault);
+                state.status = answer;
+                answer
+            }
+        },
+    }
+}
+
+/// Says that no byte follows, and answers 0; or 5 or 6 as `push`. Each further call answers 11,
+/// or again what was answered before.
+pub fn finish(state: &mut Conversion) -> u32
+    ensures { Finishes state.old state.new result }
+{
+    if state.status != 0 {
+        return state.status;
+    }
+    what_is_closed_stays();
+    match std::mem::replace(&mut state.run, Run::Idle) {
+        Run::Idle => {
+            state.status = ENDED;
+            0
+        }
+        Run::Capture(run) => match run.finish(&mut state.output, &mut state.report) {
+            Ok(_) => {
+                state.status = ENDED;
+                0
+            }
+            Err(fault) => {
+                let answer = answer_of(fault);
+                state.status = answer;
+                answer
+            }
+        },
+        Run::Stream(run) => match run.finish(&mut state.output, &mut state.report) {
+            Ok(_) => {
+                state.status = ENDED;
+                0
+            }
+            Err(fault) => {
+                let answer = answer_of(fault);
+                state.status = answer;
+                answer
+            }
+        },
+    }
+}
+
+// Puts what follows in a text behind the bytes that were taken of it, as many as there is room for,
+// and tells how many.
+fn put_behind(made: &[u8], taken: usize, room: &mut [u8]) -> usize
+    ensures { Takes made.now taken room.old room.new result }
+{
+    let waiting = &made[taken.min(made.len())..];
+    let count = waiting.len().min(room.len());
+    put(&waiting[..count], room)
+}
+
+/// Puts what waits of the output into a room, as many bytes as there is room for, and tells how
+/// many.
+pub fn take(state: &mut Conversion, room: &mut [u8]) -> usize
+    ensures takes { Takes state.old.output state.old.taken room.old room.new result }
+    ensures state { state.new ≡ taken_more state.old result }
+{
+    let count = put_behind(&state.output.bytes, state.taken, room);
+    state.taken += count;
+    count
+}
+
+/// Puts what waits of the report into a room, as many bytes as there is room for, and tells how
+/// many.
+pub fn take_report(state: &mut Conversion, room: &mut [u8]) -> usize
+    ensures takes { Takes state.old.report state.old.told room.old room.new result }
+    ensures state { state.new ≡ told_more state.old result }
+{
+    let count = put_behind(&state.report.bytes, state.told, room);
+    state.told += count;
+    count
+}
+
+/// Gives all memory back; no job is open then.
+pub fn close(state: &mut Conversion)
+    ensures { state.new ≡ closed }
+{
+    *state = new(state.alloc);
+}

@@ -1,0 +1,315 @@
+//! A run over a capture whose bytes are pushed in pieces, as they come.
+
+ghost use Rattle.std.specs.Prelude.{◌≡◌, ◌<◌, ◌≤◌, ℕ, List, [], ◌++◌, length, take, Option, None};
+ghost use Rattle.std.specs.Prelude.{Some, Err, IsTrue, IsErrOf, IfErr, IfOk, IfSome, OnErr, OnOk};
+ghost use Rattle.one_run.specs.Causes.{HasItsCause, faults_of};
+ghost use Rattle.captures.specs.Captures.{target_of};
+ghost use Rattle.captures.specs.Following.{Follows};
+ghost use Rattle.captures.specs.Pushed.{IsCutShort, IsPushed, IsReady, IsWhole};
+
+use crate::convert::{convert, end_run, first_line};
+use crate::counts::{CaptureCounts, counts_with};
+use crate::hearing::Hearing;
+use crate::target::CaptureTo;
+use capture_log::{parts_of_lines_are_values, what_is_closed_stays};
+use gnss_week::RefWeek;
+use nav_io::{Failed, Lines, Sink, Source};
+use one_run::BridgeFault;
+use outlets::Target;
+use std::alloc::Global;
+use std::marker::Model;
+
+// A piece of an input of which more may come: a read behind its end fails.
+#[derive(Drop)]
+struct Piece<'a> {
+    rest: &'a [u8],
+    failed: bool,
+}
+
+impl<'a> Source for Piece<'a> {
+    ghost use Rattle.std.specs.Prelude.{Some, false, [], ◌∷◌, ◌++◌};
+    ghost use Rattle.captures.specs.Following.{piece_faults};
+
+    // One byte more, so that the end of the piece is not that of the input.
+    ghost left = { λ s. Some (s.rest.now ++ 0 ∷ []) };
+
+    ghost faults = { λ s. piece_faults s.failed s.rest.now };
+
+    ghost never_fails = { λ _. false };
+
+    /// Gives what is left of the piece, as much as there is room for.
+    fn read(&mut self, into: &mut [u8]) -> Result<usize, Failed> {
+        if self.rest.is_empty() {
+            self.failed = true;
+            return Err(Failed);
+        }
+        self.failed = false;
+        let count = give(self.rest, into);
+        self.rest = &self.rest[count..];
+        Ok(count)
+    }
+}
+
+// Copies the prefix that there is room for.
+fn give(rest: &[u8], into: &mut [u8]) -> usize
+    requires { 0 < length rest.now }
+    ensures rest { result ≤ length rest.now }
+    ensures fits { result ≤ length into.new }
+    ensures bytes { take result into.new ≡ take result rest.now }
+    ensures some { 0 < length into.new → 0 < result }
+{
+    let count = rest.len().min(into.len());
+    into[..count].copy_from_slice(&rest[..count]);
+    count
+}
+
+// The end of an input.
+#[derive(Drop)]
+struct End;
+
+impl Source for End {
+    ghost use Rattle.std.specs.Prelude.{Some, true, []};
+
+    ghost left = { λ _. Some [] };
+
+    ghost faults = { λ _. 0 };
+
+    ghost never_fails = { λ _. true };
+
+    /// Gives nothing.
+    fn read(&mut self, _into: &mut [u8]) -> Result<usize, Failed> {
+        Ok(0)
+    }
+}
+
+/// A run over a capture that comes in pieces: of any pieces it writes and reports what
+/// [`crate::run_capture`] does of the whole.
+///
+/// After the first line the text before the items is written, such as a RINEX header, and after each
+/// line what it closes. After a fault each further call gives the same fault.
+#[derive(Drop)]
+pub struct CaptureRun {
+    alloc: Global,
+    to: Target,
+    week: Option<RefWeek>,
+    lines: Lines,
+    // none before the first line
+    hearing: Option<Hearing>,
+    // why it goes no further
+    fault: Option<BridgeFault>,
+}
+
+impl Model for CaptureRun {
+    ghost use Rattle.std.specs.Prelude.{◌≡◌, None};
+    ghost use Rattle.captures.specs.Pushed.{CaptureRunState, IsReady};
+
+    ghost Value = { CaptureRunState };
+
+    ghost view = { λ s. record {
+      to = s.to;
+      week = s.week;
+      lines = s.lines;
+      hearing = s.hearing;
+      fault = s.fault;
+    } };
+
+    ghost invariant = { λ s. s.fault ≡ None → IsReady s.to s.week s.lines s.hearing };
+}
+
+// Reads and processes lines until the input ends or a read fails; the first line is that before any
+// other.
+fn follow<S: Source, T: Sink, U: Sink>(
+    alloc: Global,
+    week: Option<RefWeek>,
+    to: &Target,
+    hearing: &mut Option<Hearing>,
+    lines: &mut Lines,
+    input: &mut S,
+    output: &mut T,
+    report: &mut U,
+) -> Result<(), BridgeFault>
+    requires ready { IsReady to.now week lines.old hearing.old }
+    ensures follows { Follows to.now week (S.left input.old) (S.left input.new)
+        lines.old lines.new hearing.old hearing.new (T.written output.old) (T.written output.new)
+        (U.written report.old) (U.written report.new) result }
+    ensures cause { HasItsCause
+        (faults_of (S.faults input.old) (T.faults output.old) (U.faults report.old))
+        (faults_of (S.faults input.new) (T.faults output.new) (U.faults report.new)) result }
+    ensures still { IsErrOf result BridgeFault.ReadFault
+        → (T.faults output.new ≡ T.faults output.old) × (U.faults report.new ≡ U.faults report.old) }
+    ensures never { IsTrue (S.never_fails input.old) → IsErrOf result BridgeFault.ReadFault → ⊥ }
+    ensures form { IsErrOf result BridgeFault.NotThisForm
+        → (output.new ≡ output.old) × (report.new ≡ report.old) }
+{
+    what_is_closed_stays();
+    parts_of_lines_are_values();
+    if let Some(hearing) = hearing {
+        return convert(hearing, lines, to, input, output, report);
+    }
+    let head = match first_line(lines, week, input) {
+        Ok(head) => head,
+        Err(fault) => return Err(fault),
+    };
+    match to.begin(output) {
+        Ok(()) => {}
+        Err(Failed) => return Err(BridgeFault::WriteFault),
+    }
+    let mut first = Hearing::new(alloc, head.week, head.window);
+    let result = convert(&mut first, lines, to, input, output, report);
+    *hearing = Some(first);
+    result
+}
+
+impl CaptureRun {
+    /// Begins a run. The reference week is that of `week` or of the first line; one of them must
+    /// name it, and if both do they must agree.
+    pub fn new(alloc: Global, week: Option<RefWeek>, to: &CaptureTo) -> CaptureRun
+        ensures run { (result.to ≡ target_of to.now) × (result.week ≡ week)
+            × (result.fault ≡ None) }
+        ensures pushed { (start begun : Option (List ℕ))
+            → IsPushed result [] start start begun begun }
+    {
+        let target = to.target();
+        let lines = Lines::new();
+        CaptureRun {
+            alloc,
+            to: target,
+            week,
+            lines,
+            hearing: None,
+            fault: None,
+        }
+    }
+
+    /// Takes the next piece of the capture, and writes and reports what it decides.
+    ///
+    /// # Errors
+    ///
+    /// - `NotThisForm` exactly where the first line is not accepted, as soon as it has ended; nothing
+    ///   is written then.
+    /// - `WriteFault`, `ReportFault` only where the fault count of the output or the report rose, or
+    ///   is at its maximum.
+    /// - `TooLong` only where 4,294,967,296 bytes were pushed.
+    /// - `NoMemory` when memory is missing.
+    ///
+    /// After any of them each further call gives it again, and touches nothing.
+    pub fn push<T: Sink, U: Sink>(
+        &mut self,
+        piece: &[u8],
+        output: &mut T,
+        report: &mut U,
+    ) -> Result<(), BridgeFault>
+        ensures pushed { OnOk result ((bytes : List ℕ) (start begun : Option (List ℕ))
+            → IsPushed self.old bytes start (T.written output.old) begun (U.written report.old)
+            → IsPushed self.new (bytes ++ piece.now) start (T.written output.new)
+            begun (U.written report.new)) }
+        ensures short { IfErr result (λ fault. (bytes more : List ℕ)
+            (start begun : Option (List ℕ))
+            → IsPushed self.old bytes start (T.written output.old) begun (U.written report.old)
+            → IsCutShort self.old.to self.old.week bytes ((bytes ++ piece.now) ++ more)
+            start (T.written output.new) begun (U.written report.new) fault) }
+        ensures same { (self.new.to ≡ self.old.to) × (self.new.week ≡ self.old.week) }
+        ensures open { OnOk result (self.new.fault ≡ None) }
+        ensures fault { IfErr result (λ fault. self.new.fault ≡ Some fault) }
+        ensures again { IfSome self.old.fault (λ fault. (result ≡ Err fault)
+            × (output.new ≡ output.old) × (report.new ≡ report.old)) }
+        ensures cause { self.old.fault ≡ None → HasItsCause
+            (faults_of 0 (T.faults output.old) (U.faults report.old))
+            (faults_of 0 (T.faults output.new) (U.faults report.new)) result }
+        ensures form { IsErrOf result BridgeFault.NotThisForm
+            → (output.new ≡ output.old) × (report.new ≡ report.old) }
+        ensures read { self.old.fault ≡ None → IsErrOf result BridgeFault.ReadFault → ⊥ }
+    {
+        if let Some(fault) = self.fault {
+            return Err(fault);
+        }
+        let mut input = Piece {
+            rest: piece,
+            failed: false,
+        };
+        match follow(
+            self.alloc,
+            self.week,
+            &self.to,
+            &mut self.hearing,
+            &mut self.lines,
+            &mut input,
+            output,
+            report,
+        ) {
+            // A piece has no end.
+            Ok(()) => unreachable!(),
+            Err(fault) => match fault {
+                BridgeFault::ReadFault => Ok(()),
+                _ => {
+                    self.fault = Some(fault);
+                    Err(fault)
+                }
+            },
+        }
+    }
+
+    /// Ends the capture: processes a last line that lacks its LF, writes the periods that are left,
+    /// and reports the counts.
+    ///
+    /// # Errors
+    ///
+    /// As [`CaptureRun::push`], `TooLong` excepted.
+    pub fn finish<T: Sink, U: Sink>(
+        self,
+        output: &mut T,
+        report: &mut U,
+    ) -> Result<CaptureCounts, BridgeFault>
+        ensures whole { IfOk result (λ counts. (bytes : List ℕ) (start begun : Option (List ℕ))
+            → IsPushed self bytes start (T.written output.old) begun (U.written report.old)
+            → IsWhole self.to self.week bytes start (T.written output.new)
+            begun (U.written report.new) counts) }
+        ensures short { IfErr result (λ fault. (bytes : List ℕ) (start begun : Option (List ℕ))
+            → IsPushed self bytes start (T.written output.old) begun (U.written report.old)
+            → IsCutShort self.to self.week bytes bytes start (T.written output.new)
+            begun (U.written report.new) fault) }
+        ensures again { IfSome self.fault (λ fault. (result ≡ Err fault)
+            × (output.new ≡ output.old) × (report.new ≡ report.old)) }
+        ensures cause { self.fault ≡ None → HasItsCause
+            (faults_of 0 (T.faults output.old) (U.faults report.old))
+            (faults_of 0 (T.faults output.new) (U.faults report.new)) result }
+        ensures form { IsErrOf result BridgeFault.NotThisForm
+            → (output.new ≡ output.old) × (report.new ≡ report.old) }
+        ensures read { self.fault ≡ None → IsErrOf result BridgeFault.ReadFault → ⊥ }
+    {
+        let CaptureRun {
+            alloc,
+            to,
+            week,
+            mut lines,
+            mut hearing,
+            fault,
+        } = self;
+        if let Some(fault) = fault {
+            return Err(fault);
+        }
+        what_is_closed_stays();
+        parts_of_lines_are_values();
+        match follow(
+            alloc,
+            week,
+            &to,
+            &mut hearing,
+            &mut lines,
+            &mut End,
+            output,
+            report,
+        ) {
+            Ok(()) => {}
+            Err(fault) => return Err(fault),
+        }
+        let Some(hearing) = hearing else {
+            unreachable!();
+        };
+        let counts = counts_with(lines.number(), &hearing.ear.tally, &hearing.said);
+        match end_run(&to, &counts, output, report) {
+            Ok(()) => Ok(counts),
+            Err(fault) => Err(fault),
+        }
+    }
+}

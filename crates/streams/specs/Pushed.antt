@@ -1,0 +1,66 @@
+-- A stream whose bytes are pushed in pieces: what was written and reported of those so far.
+use Rattle.std.specs.Prelude.{◌≡◌, ◌+◌, ◌≤◌, ◌^◌, ◌⊎◌, ℕ, List, ◌++◌, length, Option, None, Some}
+use Rattle.std.specs.Io.KnownBytes.{Appends}
+use Rattle.nav_io.specs.Prefix.{AppendsPrefix}
+use Rattle.rtcm_frame.specs.Frames.{decided, frames}
+use Rattle.rtcm_frame.specs.State.{DeframerState, MayFeed}
+use Rattle.outlets.specs.Targets.{prefix_text, item_text}
+use Rattle.outlets.specs.declared.target.Target.{Target}
+use Rattle.one_run.specs.Runs.{AppendsBetween}
+use Rattle.one_run.specs.declared.fault.BridgeFault.{BridgeFault}
+use Rattle.one_run.specs.declared.fault.BridgeFault.TheVariants.{TooLong}
+use Rattle.streams.specs.declared.counts.StreamCounts.{StreamCounts}
+use Rattle.streams.specs.Streams.{flushed_output_by, flushed_readings, readings_report, stream_output_by, stream_report}
+use Rattle.streams.specs.Mirrors.{AreFew, GivenState, IsStreamFault, StreamSoFar}
+
+-- what contracts see of a conversion between two pieces
+pub record StreamRunState : Type 0 where
+  -- what the stream is converted to
+  pub to : Target
+  -- the reference week
+  pub week : ℕ
+  -- the bytes that no frame has used yet
+  pub deframer : DeframerState
+  -- the items that were given
+  pub given : GivenState
+  -- what was counted
+  pub counts : StreamCounts
+  -- how many bytes were pushed
+  pub taken : ℕ
+  -- why it goes no further
+  pub fault : Option BridgeFault
+
+-- bytes may be pushed: nothing has failed
+pub record IsOpen (s : StreamRunState) : Type 0 where
+  pub may_feed : MayFeed s.deframer
+  pub few : AreFew s.counts
+  pub room : s.counts.frames + length s.deframer.rest ≤ s.taken
+
+-- the state behind these bytes: the frames `past` were processed, and the rest is that of the deframer, whatever bytes follow
+pub record IsBehind (s : StreamRunState) (bytes : List ℕ) (start written begun reported : Option (List ℕ)) : Type 0 where
+  pub past : List (List ℕ)
+  pub stream : (following : List ℕ) → frames (bytes ++ following) ≡ past ++ frames (s.deframer.rest ++ following)
+  pub decides : (following : List ℕ) → decided (bytes ++ following) ≡ past ++ decided (s.deframer.rest ++ following)
+  pub so_far : StreamSoFar s.week (prefix_text s.to) (item_text s.to 0) past start written begun reported s.given s.counts
+
+-- These bytes were pushed since the output was `start` and the report `begun`: exactly what they decide was written and reported.
+pub record IsPushed (s : StreamRunState) (bytes : List ℕ) (start written begun reported : Option (List ℕ)) : Type 0 where
+  pub output : Appends start written (flushed_output_by (prefix_text s.to) (item_text s.to 0) s.week bytes)
+  pub report : Appends begun reported (readings_report 1 (flushed_readings s.week bytes))
+  pub behind : IsBehind s bytes start written begun reported
+
+-- Something failed: no less was written than what `bytes` decide, and no more than what the whole stream gives, of whose report a
+-- prefix was written.
+pub record IsCutShort (s : StreamRunState) (bytes whole : List ℕ) (start written begun reported : Option (List ℕ)) : Type 0 where
+  pub output : AppendsBetween start written (flushed_output_by (prefix_text s.to) (item_text s.to 0) s.week bytes)
+      (stream_output_by (prefix_text s.to) (item_text s.to 0) s.week whole)
+  pub report : AppendsPrefix begun reported (stream_report s.week whole)
+
+-- the whole stream was written and reported
+pub record IsWhole (s : StreamRunState) (bytes : List ℕ) (start written begun reported : Option (List ℕ)) : Type 0 where
+  pub output : Appends start written (stream_output_by (prefix_text s.to) (item_text s.to 0) s.week bytes)
+  pub report : Appends begun reported (stream_report s.week bytes)
+
+-- why a piece was not taken: what a run over the stream may fail by, or 2^64 bytes
+abbrev pub IsPushFault : ℕ → BridgeFault → Type 0
+IsPushFault size fault = IsStreamFault fault ⊎ ((fault ≡ TooLong) × (2 ^ 64 ≤ size))
