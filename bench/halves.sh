@@ -30,9 +30,9 @@ cat > "$folder/crates/halves/src/main.rt" <<'PROGRAM'
 ghost use Rattle.std.specs.Prelude.{◌≡◌};
 ghost use Rattle.nav_eph.specs.declared.sat.System.TheVariants.{Gal};
 
-use inav_page::{Half, Halves, Signal, split};
+use inav_page::{Half, Halves, split};
 use nav_bits::Bits;
-use nav_eph::{Sat, System};
+use nav_eph::{Sat, Signal, System};
 use std::alloc::AllocError;
 use std::process::ExitCode;
 
@@ -78,9 +78,9 @@ cat > "$folder/crates/crowded/src/main.rt" <<'PROGRAM'
 ghost use Rattle.std.specs.Prelude.{◌≡◌};
 ghost use Rattle.nav_eph.specs.declared.sat.System.TheVariants.{Gal};
 
-use inav_page::{Halves, Signal, split};
+use inav_page::{Halves, split};
 use nav_bits::Bits;
-use nav_eph::{Sat, System};
+use nav_eph::{Sat, Signal, System};
 use std::alloc::AllocError;
 use std::process::ExitCode;
 

@@ -3,61 +3,76 @@
 #
 #   bench/slots.sh [PARTS]      200,000 where none is said
 #
-# Two runs: partial periods of one key, each a window and a second after the one before; and as many ionospheres of
-# contents of their own, all open at once. A program over the crate is made in a folder of its own, proved and built
-# there, and timed as a whole.
+# Four runs: partial periods of one key, each a window and a second after the one before; as many ionospheres of
+# contents of their own, all open at once; and parts of 64 keys again and again, ten seconds apart, in order and in
+# another order. A program over the crate is made in a folder of its own, proved and built there, and timed as a whole.
 set -eu
 cd "$(git rev-parse --show-toplevel)"
 parts=${1:-200000}
 folder=$(mktemp -d)
 trap 'rm -rf "$folder"' EXIT
 (cd "$folder" && git init -q . && mkdir crates)
-crates="nav_bits gnss_week nav_eph periods periods slot_assembly slot_assembly"
+crates="nav_bits gnss_week nav_eph periods slot_assembly"
 for name in $crates; do
   grep "^$name:" crates.txt >> "$folder/crates.txt"
   cp -r "crates/$name" "$folder/crates/"
 done
-echo 'slots: nav_bits gnss_week nav_eph periods slot_assembly slot_assembly' >> "$folder/crates.txt"
+echo 'slots: nav_bits gnss_week nav_eph periods slot_assembly' >> "$folder/crates.txt"
 mkdir -p "$folder/crates/slots/src" "$folder/crates/slots/proofs"
 touch "$folder/crates/slots/proofs/Lib.antt"
 cat > "$folder/crates/slots/src/main.rt" <<'PROGRAM'
 #![tactic(auto)]
 
+ghost use Rattle.std.specs.Prelude.{◌<◌};
+
 use gnss_week::{RefWeek, Second};
-use slot_assembly::{Closed, add_periods};
 use nav_bits::{S, U};
 use nav_eph::{Body, GpsIon, GpsOrbitB, NavItem, Part, Sat, SentTag, System};
-use slot_assembly::SlotAssembly;
+use periods::Closed;
+use slot_assembly::{SlotAssembly, add_periods};
 use std::alloc::{AllocError, Global};
 use std::process::ExitCode;
 
-// A half of an orbit, always of one issue.
-fn half(sat: Sat, stamp: u32) -> Part {
+// A half of an orbit.
+fn half(sat: Sat, issue: u64, stamp: u32) -> Part
+    requires { issue < 2 }
+{
     let orbit = GpsOrbitB {
-        iode: U::from_digits(0),
-        cic: S::from_digits(0),
-        omega0: S::from_digits(0),
-        cis: S::from_digits(0),
-        i0: S::from_digits(0),
-        crc: S::from_digits(0),
-        omega: S::from_digits(0),
-        omega_dot: S::from_digits(0),
-        idot: S::from_digits(0),
+        iode: U::from_bits(issue),
+        cic: S::from_bits(0),
+        omega0: S::from_bits(0),
+        cis: S::from_bits(0),
+        i0: S::from_bits(0),
+        crc: S::from_bits(0),
+        omega: S::from_bits(0),
+        omega_dot: S::from_bits(0),
+        idot: S::from_bits(0),
     };
     Part { stamp, sat, body: Body::GpsB(orbit) }
+}
+
+// The half with this number, of one key, each a window and a second after the one before.
+fn partial(sat: Sat, _second: Second, number: u64) -> Part {
+    half(sat, 0, (number % 596_000 * 7_201) as u32)
+}
+
+// The half with this number, of 64 keys in turn, ten seconds after the last one of its key.
+fn repeated(sat: Sat, _second: Second, number: u64) -> Part {
+    let sat = Sat::new(System::Gps, (number % 32 + 1) as u8).unwrap_or(sat);
+    half(sat, number / 32 % 2, (number / 64 % 400_000_000 * 10) as u32)
 }
 
 // An ionosphere with a content of its own.
 fn ionosphere(sat: Sat, second: Second, number: u64) -> Part {
     let content = GpsIon {
-        alpha0: S::from_digits(number % 128),
-        alpha1: S::from_digits(number / 128 % 128),
-        alpha2: S::from_digits(number / 16_384 % 128),
-        alpha3: S::from_digits(0),
-        beta0: S::from_digits(0),
-        beta1: S::from_digits(0),
-        beta2: S::from_digits(0),
-        beta3: S::from_digits(0),
+        alpha0: S::from_bits(number % 128),
+        alpha1: S::from_bits(number / 128 % 128),
+        alpha2: S::from_bits(number / 16_384 % 128),
+        alpha3: S::from_bits(0),
+        beta0: S::from_bits(0),
+        beta1: S::from_bits(0),
+        beta2: S::from_bits(0),
+        beta3: S::from_bits(0),
     };
     Part { stamp: 0, sat, body: Body::GpsIon(content, second) }
 }
@@ -65,11 +80,8 @@ fn ionosphere(sat: Sat, second: Second, number: u64) -> Part {
 fn some_parts(alloc: Global, sat: Sat, second: Second) -> Result<Vec<Part>, AllocError> {
     let (_body, _tag): (Option<Body>, Option<SentTag>) = (None, None);
     let mut parts = Vec::new(alloc);
-    let mut stamp: u32 = 0;
     for number in 0..PARTSu64 {
-        let part = if IONOSPHERES { ionosphere(sat, second, number) } else { half(sat, stamp) };
-        parts.push(part)?;
-        stamp = stamp.wrapping_add(7_201);
+        parts.push(KIND(sat, second, number * STEPu64 % PARTSu64))?;
     }
     Ok(parts)
 }
@@ -86,7 +98,7 @@ fn count(alloc: Global, r: RefWeek, sat: Sat, second: Second) -> Result<usize, A
 fn main(rt: HostRuntime) -> ExitCode {
     match (RefWeek::new(2_295), Sat::new(System::Gps, 5), Second::new(18)) {
         (Some(r), Some(sat), Some(second)) => match count(rt.alloc(), r, sat, second) {
-            Ok(periods) => ExitCode::from(if periods == PARTS { 0 } else { 2 }),
+            Ok(periods) => ExitCode::from(if periods == PERIODS { 0 } else { 2 }),
             Err(_) => ExitCode::from(1),
         },
         _ => ExitCode::from(3),
@@ -96,11 +108,10 @@ PROGRAM
 main="$folder/crates/slots/src/main.rt"
 sed -i "s/PARTS/$parts/g" "$main"
 cp "$main" "$folder/main.rt"
-for kind in false true; do
-  sed "s/IONOSPHERES/$kind/" "$folder/main.rt" > "$main"
-  (cd "$folder/crates/slots" && rt run > "$folder/log" 2>&1) || { tail -20 "$folder/log"; exit 1; }
+while read -r kind step periods what; do
+  sed "s/KIND/$kind/; s/STEP/$step/; s/PERIODS/$periods/" "$folder/main.rt" > "$main"
+  (cd "$folder/crates/slots" && rt run < /dev/null > "$folder/log" 2>&1) || { tail -20 "$folder/log"; exit 1; }
   program="$folder/crates/slots/out/slots"
-  [ "$kind" = true ] && what="ionospheres open at once" || what="partial periods of one key"
   python3 - "$program" "$parts" "$what" <<'TIME'
 import resource, subprocess, sys, time
 program, parts, what = sys.argv[1], int(sys.argv[2]), sys.argv[3]
@@ -110,4 +121,9 @@ seconds = time.monotonic() - start
 peak = resource.getrusage(resource.RUSAGE_CHILDREN).ru_maxrss * 1024
 print(f"{parts} {what}: {1e6 * seconds / parts:.2f} microseconds a part, {peak / 1e6:.0f} MB, {peak // parts} bytes a part")
 TIME
-done
+done << RUNS
+partial 1 $parts partial periods of one key
+ionosphere 1 $parts ionospheres open at once
+repeated 1 64 repeated parts of 64 keys
+repeated 7919 64 repeated parts of 64 keys in another order
+RUNS

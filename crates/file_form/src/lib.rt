@@ -18,7 +18,7 @@ mod laws;
 mod table;
 
 pub use crate::laws::first_bytes_decide;
-pub use crate::table::{Row, Target, WeekRule, from_word, kind_named, row_of, target_named};
+pub use crate::table::{Row, Target, WeekRule, row_of};
 
 /// How many bytes tell a file's form: the first line of a RINEX file.
 pub const LOOKED_AT: usize = 80;

@@ -2,7 +2,6 @@
 
 ghost use Rattle.std.specs.Prelude.{◌≡◌, Some};
 ghost use Rattle.file_form.specs.Table.{row_of, capture_row, stream_row, file_row, file4_row};
-ghost use Rattle.file_form.specs.Table.{to_word, ending_of, from_word, kind_named, target_named};
 
 use crate::Kind;
 
@@ -27,41 +26,6 @@ pub enum Target {
     Cover,
     /// A capture.
     Capture,
-}
-
-impl Target {
-    /// Its `--to` word.
-    pub fn word(self) -> &'static str
-        ensures { result.now ≡ to_word self }
-    {
-        match self {
-            Target::Rinex => "rinex",
-            Target::Rinex3 => "rinex3",
-            Target::Rtcm => "rtcm",
-            Target::List => "list",
-            Target::Count => "count",
-            Target::Frames => "frames",
-            Target::Merged => "merged",
-            Target::Cover => "cover",
-            Target::Capture => "capture",
-        }
-    }
-
-    /// The ending of its file names.
-    pub fn ending(self) -> &'static str
-        ensures { result.now ≡ ending_of self }
-    {
-        match self {
-            Target::Rinex | Target::Rinex3 => "rnx",
-            Target::Rtcm => "rtcm3",
-            Target::List => "list",
-            Target::Count => "count",
-            Target::Frames => "frames",
-            Target::Merged => "merged.rnx",
-            Target::Cover => "cover",
-            Target::Capture => "navcap",
-        }
-    }
 }
 
 /// Whether `navbridge` is given a reference week.
@@ -149,51 +113,5 @@ fn file4_row(target: Target) -> Option<Row>
         Target::Merged => some_row(WeekRule::Never, true),
         Target::Cover => some_row(WeekRule::Never, false),
         _ => file_row(target),
-    }
-}
-
-/// The `--from` word of a form; empty for a form that cannot be converted.
-pub fn from_word(kind: Kind) -> &'static str
-    ensures { result.now ≡ from_word kind }
-{
-    match kind {
-        Kind::Capture1 | Kind::Capture2 | Kind::Ubx | Kind::Sbf => "capture",
-        Kind::Stream => "stream",
-        Kind::Rinex4 => "rinex",
-        Kind::Rinex3 => "rinex3",
-        _ => "",
-    }
-}
-
-/// The target that a `--to` word names.
-pub fn target_named(word: &str) -> Option<Target>
-    ensures { result ≡ target_named word.now }
-{
-    match word {
-        "rinex" => Some(Target::Rinex),
-        "rinex3" => Some(Target::Rinex3),
-        "rtcm" => Some(Target::Rtcm),
-        "list" => Some(Target::List),
-        "count" => Some(Target::Count),
-        "frames" => Some(Target::Frames),
-        "merged" => Some(Target::Merged),
-        "cover" => Some(Target::Cover),
-        "capture" => Some(Target::Capture),
-        _ => None,
-    }
-}
-
-/// The form that a `--from` word names; `capture` is taken as one that names no week.
-pub fn kind_named(word: &str) -> Option<Kind>
-    ensures { result ≡ kind_named word.now }
-{
-    match word {
-        "capture" => Some(Kind::Capture1),
-        "stream" => Some(Kind::Stream),
-        "rinex" => Some(Kind::Rinex4),
-        "rinex3" => Some(Kind::Rinex3),
-        "ubx" => Some(Kind::Ubx),
-        "sbf" => Some(Kind::Sbf),
-        _ => None,
     }
 }

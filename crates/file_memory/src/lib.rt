@@ -1,15 +1,11 @@
-//! A folder in memory, which tells the bytes of each of its files.
+//! The files of a folder in memory, as a list of changes of names, the newest first.
 //!
-//! ```rust
-//! let mut folder = MemFolder::new(rt.alloc());
-//! folder.put("a.navcap", b"NAVCAP 1\n")?;
-//! convert_file(&mut folder, &mut run, "a.navcap", "a.rnx.part", "a.rnx")?;
-//! let text = folder.get("a.rnx");
-//! ```
+//! - [`Entry`], a change of a name; [`set`] adds one, and [`found`] has the bytes of a name;
+//! - [`MemDraft`], a file that is being written; [`published`] gives it its name.
 #![tactic(auto)]
 
 mod draft;
-mod folder;
+mod entries;
 
 pub use crate::draft::MemDraft;
-pub use crate::folder::{MemFolder, MemInput};
+pub use crate::entries::{Entry, found, published, set};

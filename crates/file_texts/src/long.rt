@@ -66,7 +66,6 @@ fn is_digit(byte: u8) -> bool
 ///
 /// The period starts at the whole hour where both times lie in one hour, and else at the midnight
 /// before the first. A period of more than 99 days is unspecified (`00U`).
-#[tactic(auto, unfolding(crate::specs::Long::long_name))]
 pub fn long_name(
     alloc: Global,
     site: &str,
@@ -75,15 +74,22 @@ pub fn long_name(
 ) -> Result<String, AllocError>
     ensures { IfOk result (λ name. string_bytes name ≡ long_name site.now first last) }
 {
-    let date = civil(first);
     let mut name = String::from_str(alloc, site)?;
-    name.push_str("_R_")?;
-    push_date(&mut name, &date)?;
-    push_time(&mut name, first, last)?;
-    name.push_str("_")?;
-    push_period(&mut name, first, last)?;
-    name.push_str("_MN.rnx")?;
+    push_times(&mut name, first, last)?;
     Ok(name)
+}
+
+// Makes a site the name with these times.
+#[tactic(auto, unfolding(crate::specs::Long::long_name))]
+fn push_times(name: &mut String, first: Moment, last: Moment) -> Result<(), AllocError>
+    ensures { OnOk result (string_bytes name.new ≡ long_name (string_bytes name.old) first last) }
+{
+    name.push_str("_R_")?;
+    push_date(name, &civil(first))?;
+    push_time(name, first, last)?;
+    name.push_str("_")?;
+    push_period(name, first, last)?;
+    name.push_str("_MN.rnx")
 }
 
 // Whether both times lie in one hour.

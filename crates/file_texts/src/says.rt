@@ -156,83 +156,81 @@ fn header_text(kind: Kind) -> &'static str {
     }
 }
 
-// Writes a sentence about a name or a value.
-fn say<W: fmt::Write>(
-    f: &mut fmt::Formatter<W>,
-    before: &str,
-    name: &str,
-    after: &str,
-) -> fmt::Result {
-    f.write_str(before)?;
-    f.write_str(name)?;
-    f.write_str(after)
-}
-
 // Writes the sentence of a read that failed after so many bytes.
 fn say_read<W: fmt::Write>(f: &mut fmt::Formatter<W>, count: u64, reason: &str) -> fmt::Result {
     write!(f, "reading it failed after {count} bytes: {reason}")
 }
 
-impl fmt::Display for Refusal<'_> {
-    fn fmt<W: fmt::Write>(&self, f: &mut fmt::Formatter<W>) -> fmt::Result {
+impl Refusal<'_> {
+    // How its sentence begins: a name or a value, with what stands before it and behind.
+    fn front(&self) -> (&str, &str, &str) {
         match *self {
             Refusal::NoSuchConversion(kind) | Refusal::NoConversion(kind) => {
-                say(f, "it is ", kind_text(kind), "; ")?;
-                f.write_str(targets_of(kind))
+                ("it is ", kind_text(kind), "; ")
             }
-            Refusal::Date(date) => {
-                say(f, "--date ", date, ": write it as \"20240101 000000 UTC\"")
-            }
-            Refusal::Week(week) => say(f, "--week ", week, ": 1024 to 8191"),
-            Refusal::NoName => f.write_str("it has no name of a file; name the output by -o"),
+            Refusal::Date(date) => ("--date ", date, ": write it as \"20240101 000000 UTC\""),
+            Refusal::Week(week) => ("--week ", week, ": 1024 to 8191"),
             Refusal::SeveralFiles(name) => {
-                say(
-                    f,
+                (
                     "",
                     name,
                     " is one file; for several name a folder that is there",
                 )
             }
-            Refusal::Site(site) => say(
-                f,
+            Refusal::Site(site) => (
                 "--long-name ",
                 site,
                 ": four capital letters or digits, two digits and a country, as BRDC00XXX",
             ),
-            Refusal::NoLongName => f.write_str(
-                "--long-name names navigation files that are made of files, beside them or in a folder",
-            ),
-            Refusal::NoTimes => {
-                f.write_str("it has no ephemeris, by whose time it would be named")
-            }
-            Refusal::NotOpened(fault) => f.write_str(fault_text(fault)),
-            Refusal::ReadFault(count, fault) => say_read(f, count, fault_text(fault)),
             Refusal::OutputThere(name) => {
-                say(f, "", name, " is there already; --overwrite replaces it")
+                ("", name, " is there already; --overwrite replaces it")
             }
-            Refusal::PartThere(part) => say(
-                f,
+            Refusal::PartThere(part) => (
                 "",
                 part,
                 " is there: another run is writing it, or one was cut off; remove it",
             ),
-            Refusal::SameFile(name) => {
-                say(f, "", name, " is the input itself; name the output by -o")
-            }
-            Refusal::WriteFault(name, FileFault::NotFound) => {
-                say(f, "writing ", name, " failed: its folder is not there")
-            }
-            Refusal::WriteFault(name, fault) => {
-                say(f, "writing ", name, " failed: ")?;
-                say(f, "", fault_text(fault), "; it is as it was")
-            }
-            Refusal::NotAccepted(kind) => f.write_str(header_text(kind)),
-            Refusal::NoMemory => f.write_str("there was no memory"),
-            Refusal::ReportFault => f.write_str("the report was not written"),
-            Refusal::TooLong => {
-                f.write_str("it has more than 4,294,967,295 bytes; cut it in parts")
-            }
-            Refusal::Word => f.write_str("a word of the command line is not UTF-8"),
+            Refusal::SameFile(name) => ("", name, " is the input itself; name the output by -o"),
+            Refusal::WriteFault(name, _) => ("writing ", name, " failed: "),
+            _ => ("", "", ""),
         }
+    }
+
+    // How its sentence ends.
+    fn end(&self) -> (&str, &str) {
+        match *self {
+            Refusal::NoSuchConversion(kind) | Refusal::NoConversion(kind) => {
+                (targets_of(kind), "")
+            }
+            Refusal::NoName => ("it has no name of a file; name the output by -o", ""),
+            Refusal::NoLongName => (
+                "--long-name names navigation files that are made of files, beside them or in a folder",
+                "",
+            ),
+            Refusal::NoTimes => ("it has no ephemeris, by whose time it would be named", ""),
+            Refusal::NotOpened(fault) | Refusal::ReadFault(_, fault) => (fault_text(fault), ""),
+            Refusal::WriteFault(_, FileFault::NotFound) => ("its folder is not there", ""),
+            Refusal::WriteFault(_, fault) => (fault_text(fault), "; it is as it was"),
+            Refusal::NotAccepted(kind) => (header_text(kind), ""),
+            Refusal::NoMemory => ("there was no memory", ""),
+            Refusal::ReportFault => ("the report was not written", ""),
+            Refusal::TooLong => ("it has more than 4,294,967,295 bytes; cut it in parts", ""),
+            Refusal::Word => ("a word of the command line is not UTF-8", ""),
+            _ => ("", ""),
+        }
+    }
+}
+
+impl fmt::Display for Refusal<'_> {
+    fn fmt<W: fmt::Write>(&self, f: &mut fmt::Formatter<W>) -> fmt::Result {
+        if let Refusal::ReadFault(count, _) = *self {
+            write!(f, "reading it failed after {count} bytes: ")?;
+        }
+        let (before, name, after) = self.front();
+        let (reason, state) = self.end();
+        for part in &[before, name, after, reason, state] {
+            f.write_str(part)?;
+        }
+        Ok(())
     }
 }

@@ -9,10 +9,11 @@ ghost use Rattle.front_plan.specs.Commands.{files_rule, has_flag, lacks_files, r
 ghost use Rattle.front_plan.specs.Commands.{value_in, with_rules, with_short};
 ghost use Rattle.file_form.specs.Table.{kind_named, target_named};
 
+use crate::words::{kind_named, target_named};
 use clap::builder::ValueParser;
 use clap::error::ErrorKind;
 use clap::{Arg, ArgAction, ArgMatches, Command, Error};
-use file_form::{Kind, Target, kind_named, target_named};
+use file_form::{Kind, Target};
 use std::alloc::{AllocError, Global};
 
 /// What the command line asks for.

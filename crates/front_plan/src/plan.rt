@@ -4,7 +4,8 @@ ghost use Rattle.std.specs.Prelude.{◌≡◌, ◌++◌, ◌∷◌, [], IfOk, On
 ghost use Rattle.std.specs.String.{string_bytes};
 ghost use Rattle.front_plan.specs.Plans.{words_of, week_words, header_words};
 
-use file_form::{Kind, Row, Target, WeekRule, from_word};
+use crate::words::{from_word, to_word};
+use file_form::{Kind, Row, Target, WeekRule};
 use std::alloc::{AllocError, Global};
 
 /// The option values of a conversion.
@@ -33,11 +34,28 @@ pub fn words_for(
         values.now.clock_week.now values.now.leap.now values.now.date.now) }
 {
     let mut words = Vec::new(alloc);
-    push_option(alloc, &mut words, "--from=", from_word(kind))?;
-    push_option(alloc, &mut words, "--to=", target.word())?;
-    push_week(alloc, &mut words, row.week, values.week, values.clock_week)?;
-    push_header(alloc, &mut words, row.header, values.leap, values.date)?;
+    push_words(alloc, &mut words, kind, target, row, values)?;
     Ok(words)
+}
+
+// Appends these words to none.
+fn push_words(
+    alloc: Global,
+    words: &mut Vec<String>,
+    kind: Kind,
+    target: Target,
+    row: Row,
+    values: &Values,
+) -> Result<(), AllocError>
+    requires { words.old.items ≡ [] }
+    ensures { OnOk result (map string_bytes words.new.items
+        ≡ words_of kind target row (option_map (λ week. week.now) values.now.week)
+        values.now.clock_week.now values.now.leap.now values.now.date.now) }
+{
+    push_option(alloc, words, "--from=", from_word(kind))?;
+    push_option(alloc, words, "--to=", to_word(target))?;
+    push_week(alloc, words, row.week, values.week, values.clock_week)?;
+    push_header(alloc, words, row.header, values.leap, values.date)
 }
 
 // Appends the `--week` words by this rule.

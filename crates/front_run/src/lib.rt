@@ -6,7 +6,9 @@
 //!   bytes, or every name as it was; and it is done where nothing fails;
 //! - [`convert_source`] and [`write_source`], the same from a source, which is given back, and to a
 //!   sink;
-//! - [`finish`], which has said what became of a file, and gives its exit status.
+//! - [`finish`], which has said what became of a file, and gives its exit status;
+//! - [`HostFolder`], the files of the system as a folder, and [`MemFolder`], one in memory, which tells
+//!   the bytes of each of its files.
 //!
 //! A log of a receiver is converted as its capture, and to a capture it is that capture itself.
 //!
@@ -22,9 +24,12 @@ mod asked;
 mod convert;
 mod copies;
 mod ends;
+mod host;
+mod input;
 mod laws;
 mod logs;
 mod looking;
+mod memory;
 mod plans;
 mod puts;
 mod refusals;
@@ -36,9 +41,12 @@ pub use crate::asked::AskedJob;
 pub use crate::convert::{convert_one, convert_source};
 pub use crate::copies::copy;
 pub use crate::ends::{Outcome, Sourced, Told};
+pub use crate::host::HostFolder;
+pub use crate::input::FileInput;
 pub use crate::laws::{accepted_bytes_tell_their_form, stops_have_one_refusal};
 pub use crate::logs::{Log, log_of, put_as};
 pub use crate::looking::look;
+pub use crate::memory::{MemFolder, MemInput};
 pub use crate::plans::{Plan, form_of, is_copied, words_under};
 pub use crate::puts::{Put, Stop, put_plain};
 pub use crate::refusals::refusal_of;

@@ -4,62 +4,63 @@ use Rattle.std.proofs.lemmas.Bool.{cases_eq}
 use Rattle.std.proofs.lemmas.List.{length-append}
 use Rattle.std.specs.Prelude.{Contains, Result, Ok, Err, OnErr}
 use Rattle.std.specs.List.{slice_get, slice_set}
-use Rattle.inav_page.specs.declared.seconds.Second.{Second}
+use Rattle.inav_page.specs.declared.second.Second.{Second}
 use Rattle.inav_page.specs.declared.seconds.Seconds.{Seconds}
 use Rattle.inav_page.specs.Heard.{StampedHalf}
-use Rattle.inav_page.specs.Mirrors.{half_of, keys_held, keys_of, AreSeconds, HoldsKey}
+use Rattle.inav_page.specs.Mirrors.{half_of}
+use Rattle.inav_page.specs.Kept.{keys_held, keys_of, AreSeconds}
 use Rattle.inav_page.proofs.Membership.{In, contains_from_In, In-from_contains, in_map, map_in}
 use Rattle.inav_page.proofs.Placing.{HasPut, append_in, in_left, in_right, of_other, of_same, of_to, some_is}
 
 -- one more second without keys adds none
-pub held_empty : (seconds : List Second) (empty : Second) → empty.keys.keys ≡ [] → keys_held (seconds ++ empty ∷ []) ≡ keys_held seconds
+pub held_empty : (seconds : List Second) (empty : Second) → empty.keys ≡ [] → keys_held (seconds ++ empty ∷ []) ≡ keys_held seconds
 held_empty [] empty none = ap (λ keys. keys ++ []) none
-held_empty (s ∷ ss) empty none = ap (λ keys. s.keys.keys ++ keys) (held_empty ss empty none)
+held_empty (s ∷ ss) empty none = ap (λ keys. s.keys ++ keys) (held_empty ss empty none)
 
 -- an allocated key is in a second
 held_to : (seconds : List Second) (q : ℕ × ℕ) → In (keys_held seconds) q
-    → (i : ℕ) × (second : Second) × (slice_get seconds i ≡ Some second) × In second.keys.keys q
+    → (i : ℕ) × (second : Second) × (slice_get seconds i ≡ Some second) × In second.keys q
 held_to [] q h = absurd h
 held_to (x ∷ xs) q h =
     ⊎_elim
-    (λ (here : In x.keys.keys q). (0, x, refl, here))
+    (λ (here : In x.keys q). (0, x, refl, here))
     (λ (later : In (keys_held xs) q). let is = held_to xs q later in (suc is.0, is.1, is.2, is.3))
-    (append_in x.keys.keys (keys_held xs) q h)
+    (append_in x.keys (keys_held xs) q h)
 
-held_from : (seconds : List Second) (q : ℕ × ℕ) (i : ℕ) (second : Second) → slice_get seconds i ≡ Some second → In second.keys.keys q
+held_from : (seconds : List Second) (q : ℕ × ℕ) (i : ℕ) (second : Second) → slice_get seconds i ≡ Some second → In second.keys q
     → In (keys_held seconds) q
 held_from [] q i second at there = absurd (cc at)
 held_from (x ∷ xs) q zero second at there =
-    let P : Second → Type 0 = λ s. In s.keys.keys q in
-    in_left x.keys.keys (keys_held xs) q (subst P (sym (some_is x second at)) there)
-held_from (x ∷ xs) q (suc i) second at there = in_right x.keys.keys (keys_held xs) q (held_from xs q i second at there)
+    let P : Second → Type 0 = λ s. In s.keys q in
+    in_left x.keys (keys_held xs) q (subst P (sym (some_is x second at)) there)
+held_from (x ∷ xs) q (suc i) second at there = in_right x.keys (keys_held xs) q (held_from xs q i second at there)
 
 -- after a second is stored, an allocated key was allocated before or is in it
 set_held : (seconds : List Second) (i : ℕ) (second : Second) (q : ℕ × ℕ) → In (keys_held (slice_set seconds i second)) q
-    → In (keys_held seconds) q ⊎ In second.keys.keys q
+    → In (keys_held seconds) q ⊎ In second.keys q
 set_held [] i second q h = absurd h
 set_held (x ∷ xs) zero second q h =
-    ⊎_elim (λ (new : In second.keys.keys q). inr new) (λ (later : In (keys_held xs) q). inl (in_right x.keys.keys (keys_held xs) q later))
-    (append_in second.keys.keys (keys_held xs) q h)
+    ⊎_elim (λ (new : In second.keys q). inr new) (λ (later : In (keys_held xs) q). inl (in_right x.keys (keys_held xs) q later))
+    (append_in second.keys (keys_held xs) q h)
 set_held (x ∷ xs) (suc i) second q h =
     ⊎_elim
-    (λ (here : In x.keys.keys q). inl (in_left x.keys.keys (keys_held xs) q here))
+    (λ (here : In x.keys q). inl (in_left x.keys (keys_held xs) q here))
     (λ (later : In (keys_held (slice_set xs i second)) q).
-    ⊎_elim (λ (was : In (keys_held xs) q). inl (in_right x.keys.keys (keys_held xs) q was)) (λ (new : In second.keys.keys q). inr new)
+    ⊎_elim (λ (was : In (keys_held xs) q). inl (in_right x.keys (keys_held xs) q was)) (λ (new : In second.keys q). inr new)
     (set_held xs i second q later))
-    (append_in x.keys.keys (keys_held (slice_set xs i second)) q h)
+    (append_in x.keys (keys_held (slice_set xs i second)) q h)
 
 set_room : (seconds : List Second) (i : ℕ) (was second : Second) → slice_get seconds i ≡ Some was
-    → length second.keys.keys ≤ length was.keys.keys + 1 → length (keys_held (slice_set seconds i second)) ≤ length (keys_held seconds) + 1
+    → length second.keys ≤ length was.keys + 1 → length (keys_held (slice_set seconds i second)) ≤ length (keys_held seconds) + 1
 set_room [] i was second at room = absurd (cc at)
 set_room (x ∷ xs) zero was second at room =
-    let same : length x.keys.keys ≡ length was.keys.keys = ap (λ (s : Second). length s.keys.keys) (some_is x was at) in
-    omega (arith, same, room, length-append second.keys.keys (keys_held xs), length-append x.keys.keys (keys_held xs))
+    let same : length x.keys ≡ length was.keys = ap (λ (s : Second). length s.keys) (some_is x was at) in
+    omega (arith, same, room, length-append second.keys (keys_held xs), length-append x.keys (keys_held xs))
 set_room (x ∷ xs) (suc i) was second at room =
     let rest = set_room xs i was second at room in
-    omega (arith, rest, length-append x.keys.keys (keys_held (slice_set xs i second)), length-append x.keys.keys (keys_held xs))
+    omega (arith, rest, length-append x.keys (keys_held (slice_set xs i second)), length-append x.keys (keys_held xs))
 
-fewer_of : (stamp : ℕ) (was : Second) → length (keys_of stamp was) ≤ length was.keys.keys
+fewer_of : (stamp : ℕ) (was : Second) → length (keys_of stamp was) ≤ length was.keys
 fewer_of stamp was =
     ⊎_elim
     (λ (same : was.stamp ≡ stamp). let is = ap length (of_same stamp was same) in omega (arith, is))
@@ -74,13 +75,13 @@ pub put_held : (stamp place : ℕ) (old : List Second) (was second : Second) (ke
 put_held stamp place old was second key at put = (
   λ q h. ⊎_elim
       (λ (before : In (keys_held old) q). inl (contains_from_In (keys_held old) q before))
-      (λ (new : In second.keys.keys q).
+      (λ (new : In second.keys q).
       ⊎_elim
       (λ (kept : Contains (keys_of stamp was) q).
       inl (contains_from_In (keys_held old) q
-      (held_from old q place was at (In-from_contains was.keys.keys q (of_to stamp was q kept).1))))
+      (held_from old q place was at (In-from_contains was.keys q (of_to stamp was q kept).1))))
       (λ (same : key ≡ q). inr same)
-      ((put.keys q).0 (contains_from_In second.keys.keys q new)))
+      ((put.keys q).0 (contains_from_In second.keys q new)))
       (set_held old place second q (In-from_contains (keys_held (slice_set old place second)) q h)),
   let room = put.room in
       let fewer = fewer_of stamp was in
@@ -99,8 +100,8 @@ one_second seconds are one other first second same =
     let b = map_in half_of keys other (In-from_contains (map half_of keys) other second) in
     let p = held_to seconds.places.items a.0 a.1 in
     let q = held_to seconds.places.items b.0 b.1 in
-    let its = are.placed p.0 p.1 p.2 a.0 (contains_from_In p.1.keys.keys a.0 p.3) in
-    let those = are.placed q.0 q.1 q.2 b.0 (contains_from_In q.1.keys.keys b.0 q.3) in
+    let its = are.placed p.0 p.1 p.2 a.0 (contains_from_In p.1.keys a.0 p.3) in
+    let those = are.placed q.0 q.1 q.2 b.0 (contains_from_In q.1.keys b.0 q.3) in
     let stamp_a : one.stamp ≡ p.1.stamp = ap (λ (h : StampedHalf). h.stamp) (sym a.2) ∙ its.stamp_is in
     let stamp_b : other.stamp ≡ q.1.stamp = ap (λ (h : StampedHalf). h.stamp) (sym b.2) ∙ those.stamp_is in
     let rest : ℕ → ℕ = λ n. n % (seconds.window + 2) in
@@ -134,10 +135,6 @@ fewer_halves old new fewer =
     let a = as_many new in
     let b = as_many old in
     omega (arith, fewer, a, b)
-
--- nothing is inserted
-pub holds_again : (seconds : Seconds) (key : ℕ × ℕ) → HoldsKey seconds key seconds
-holds_again seconds key = (λ q h. inl h, omega arith)
 
 -- what holds for every result of a call
 pub on_err : {A E : Type 0} (r : Result A E) (P : Type 0) → P → OnErr r P

@@ -14,7 +14,7 @@ use Rattle.inav_page.specs.declared.half.HalfKind.{HalfKind}
 use Rattle.inav_page.specs.declared.half.HalfKind.TheVariants.{Even, Odd}
 use Rattle.inav_page.specs.Pages.{kind_of}
 use Rattle.inav_page.proofs.Surface.{not_both}
-use Rattle.inav_page.specs.Mirrors.{key_cmp, first_partner, end_of_partners}
+use Rattle.inav_page.specs.Mirrors.{key_cmp, other_kind, first_partner, end_of_partners}
 
 less : (a b : ℕ) → a < b → nat_cmp a b ≡ Less
 less a b h = cond-true _ _ _ (lt-ltb a b h)
@@ -39,7 +39,7 @@ first_le a b h =
     (λ (le : a.0 ≤ b.0). le)
     (cases_lt b.0 a.0)
 
-pub first_less : (a b : ℕ × ℕ) → a.0 < b.0 → key_cmp a b ≡ Less
+first_less : (a b : ℕ × ℕ) → a.0 < b.0 → key_cmp a b ≡ Less
 first_less a b h = ap (λ r. ordering_then r (nat_cmp a.1 b.1)) (less a.0 b.0 h)
 
 first_greater : (a b : ℕ × ℕ) → b.0 < a.0 → key_cmp a b ≡ Greater
@@ -66,7 +66,7 @@ key_le a b h =
     (λ (high : b.0 < a.0). absurd (true≢false (sym (ap is_gt (first_greater a b high)) ∙ h))))
     (cases_order a.0 b.0)
 
-pub same_lt : (a b : ℕ × ℕ) → a.0 ≡ b.0 → a.1 < b.1 → key_cmp a b ≡ Less
+same_lt : (a b : ℕ × ℕ) → a.0 ≡ b.0 → a.1 < b.1 → key_cmp a b ≡ Less
 same_lt a b e h = first_same a b e ∙ less a.1 b.1 h
 
 same_le : (a b : ℕ × ℕ) → a.0 ≡ b.0 → a.1 ≤ b.1 → is_gt (key_cmp a b) ≡ false
@@ -100,10 +100,6 @@ even_to n even =
     (cases_lt n (2 ^ 119))
 
 -- ---- a range has the page parts at a place that are not of a kind
-
-abbrev pub other_kind : HalfKind → HalfKind
-other_kind Even = Odd
-other_kind Odd = Even
 
 abbrev pub in_range : ℕ → HalfKind → ℕ × ℕ → Bool
 in_range place kind key = range_contains key_cmp (Included (first_partner place kind)) (Excluded (end_of_partners place kind)) key

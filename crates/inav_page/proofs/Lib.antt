@@ -6,7 +6,8 @@ pub mod KeyOrder
 pub mod Remainders
 pub mod Partners
 pub mod Inserting
+pub mod Ascending
+pub mod Shown
 pub mod Placing
 pub mod Holding
 pub mod Taking
-pub mod Ranges

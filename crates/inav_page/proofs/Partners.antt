@@ -1,7 +1,7 @@
 -- The partners of a page part among the keys, and the words that it makes with them.
 use Rattle.std.proofs.Common.{◌≡◌, ℕ, zero, suc, ◌+◌, ◌-◌, ◌*◌, ◌/◌, ◌%◌, ◌<◌, ◌≤◌, ◌^◌, List, [], ◌∷◌, ◌++◌, Bool, true, length, map, None, Some, inl, inr, refl, sym, ap, subst, ◌∙◌, ⊎_elim, arith}
 use Rattle.std.proofs.lemmas.Bool.{cond_both}
-use Rattle.std.proofs.lemmas.List.{map-append, length-map}
+use Rattle.std.proofs.lemmas.List.{map-append}
 use Rattle.std.proofs.lemmas.List.Kept.{IsStrictlySortedBy-filter}
 use Rattle.std.specs.Prelude.{Contains}
 use Rattle.std.specs.List.{filter, AllByRecursion}
@@ -18,12 +18,13 @@ use Rattle.nav_eph.specs.declared.signal.Signal.TheVariants.{E1b, E5b}
 use Rattle.inav_page.specs.Pages.{kind_of}
 use Rattle.inav_page.specs.Heard.{StampedHalf, MakeWord, ArePartners, AreWordsWith, IsAbove, IsAscending, word_by, word_with}
 use Rattle.inav_page.specs.Keeping.{stamped}
-use Rattle.inav_page.specs.Mirrors.{signal_number, signal_of, place_of, bucket_of, half_of, remainder_by, remainder_of, key_cmp, first_partner, end_of_partners, keys_in_bucket, words_by, words_in_bucket, IsKey, AreKeys, IsSecondOf, HasPartnerStamp}
+use Rattle.inav_page.specs.Mirrors.{signal_number, signal_of, place_of, bucket_of, half_of, remainder_by, remainder_of, is_right_by, other_kind, key_cmp, first_partner, end_of_partners, keys_in_bucket, words_by, words_in_bucket, AreKeys, AreWordsIn, HasPartnerStamp, IsKey, IsPartnerAt}
+use Rattle.inav_page.specs.Kept.{IsSecondOf}
 use Rattle.inav_page.proofs.Surface.{not_both}
 use Rattle.inav_page.proofs.PageNumbers.{right_to, right_from}
-use Rattle.inav_page.proofs.Remainders.{is_right_by, same_remainder, right_by_remainder, remainder-lt}
+use Rattle.inav_page.proofs.Remainders.{same_remainder, right_by_remainder, remainder-lt}
 use Rattle.inav_page.proofs.Membership.{In, contains_from_In, In-from_contains, filter_in, in_filter, in_map, map_in}
-use Rattle.inav_page.proofs.KeyOrder.{key_lt, in_range, range_to, range_from, other_kind}
+use Rattle.inav_page.proofs.KeyOrder.{key_lt, in_range, range_to, range_from}
 
 -- ---- keys and page parts
 
@@ -31,7 +32,7 @@ signal_again : (signal : Signal) → signal_of (signal_number signal) ≡ signal
 signal_again E1b = refl
 signal_again E5b = refl
 
-signal_number-lt : (signal : Signal) → signal_number signal < 2
+pub signal_number-lt : (signal : Signal) → signal_number signal < 2
 signal_number-lt E1b = omega arith
 signal_number-lt E5b = omega arith
 
@@ -62,7 +63,7 @@ place_back key =
     omega (arith, lane)
 
 -- a bucket by its place and its CRC remainder
-bucket_parts : (bucket place remainder : ℕ) → remainder < 2 ^ 24 → bucket ≡ bucket_of place remainder
+pub bucket_parts : (bucket place remainder : ℕ) → remainder < 2 ^ 24 → bucket ≡ bucket_of place remainder
     → (bucket / 2 ^ 24 ≡ place) × (bucket % 2 ^ 24 ≡ remainder)
 bucket_parts bucket place remainder fits is = (omega arith, omega arith)
 
@@ -176,7 +177,7 @@ keys_ascend place [] places h = tt
 keys_ascend place (key ∷ keys) places h =
     (all_above place key keys (places key (inl refl)) (λ k there. places k (inr there)) h.0, keys_ascend place keys (λ k there. places k (inr there)) h.1)
 
-map-map : {X Y Z : Type 0} (f : Y → Z) (g : X → Y) (xs : List X) → map f (map g xs) ≡ map (λ x. f (g x)) xs
+pub map-map : {X Y Z : Type 0} (f : Y → Z) (g : X → Y) (xs : List X) → map f (map g xs) ≡ map (λ x. f (g x)) xs
 map-map f g [] = refl
 map-map f g (x ∷ xs) = ap (λ ys. f (g x) ∷ ys) (map-map f g xs)
 
@@ -198,54 +199,90 @@ sorted_in_bucket : (keys : List (ℕ × ℕ)) (bucket : ℕ) (kind : HalfKind) �
 unfolding keys_in_bucket
 sorted_in_bucket keys bucket kind sorted = IsStrictlySortedBy-filter key_cmp (in_range bucket kind) keys sorted
 
+pub filter-fewer : {X : Type 0} (p : X → Bool) (xs : List X) → length (filter p xs) ≤ length xs
+filter-fewer p [] = omega arith
+filter-fewer {X} p (x ∷ xs) =
+    let P : List X → Type 0 = λ found. length found ≤ suc (length xs) in
+    let fewer = filter-fewer p xs in
+    cond_both (p x) (x ∷ filter p xs) (filter p xs) P (λ passes. omega (arith, fewer)) (λ fails. omega (arith, fewer))
+
+fewer_in_bucket : (keys : List (ℕ × ℕ)) (bucket : ℕ) (kind : HalfKind) → length (keys_in_bucket keys bucket kind) ≤ length keys
+unfolding keys_in_bucket
+fewer_in_bucket keys bucket kind = filter-fewer (in_range bucket kind) keys
+
 -- the CRC remainder of a key whose page part is of a kind
 remainder_of_kind : (key : ℕ × ℕ) (kind : HalfKind) → IsKey key → kind_of key.1 ≡ kind → key.0 % 2 ^ 24 ≡ remainder_by kind key.1
 remainder_of_kind key kind is own = is.remainder ∙ ap (λ k. remainder_by k key.1) own
 
--- the words in the partners' bucket, among the keys of their second, are those of the page part with its partners among all
-pub words_of_partners : (all second : List (ℕ × ℕ)) (stamp number : ℕ) (signal : Signal) (half other bucket : ℕ) → AreKeys all
-    → IsSecondOf all other second → IsStrictlySortedBy key_cmp second → number < 64 → HasPartnerStamp (kind_of half) stamp (Some other)
-    → bucket ≡ bucket_of (place_of other number signal) (remainder_of half)
-    → AreWordsWith (Contains (map half_of all)) (stamped stamp (record { system = Gal; number = number }) signal half) (words_in_bucket second bucket half)
-words_of_partners all second stamp number signal half other bucket are those sorted fits has bucket_is =
+-- the words in a bucket are those of the page part with its partners among the keys
+pub words_in_tree : (keys : List (ℕ × ℕ)) (place half bucket : ℕ) → AreKeys keys → IsStrictlySortedBy key_cmp keys
+    → bucket ≡ bucket_of place (remainder_of half) → AreWordsIn keys place half (words_in_bucket keys bucket half)
+words_in_tree keys place half bucket are sorted bucket_is =
     let kind = kind_of half in
-    let place = place_of other number signal in
-    let taken = stamped stamp (record { system = Gal; number = number }) signal half in
-    let found = keys_in_bucket second bucket kind in
+    let found = keys_in_bucket keys bucket kind in
     let parts = bucket_parts bucket place (remainder_of half) (remainder-lt kind half) bucket_is in
-    let partner : (key : ℕ × ℕ) → In found key → In all key × ArePartners taken (half_of key) =
+    let partner : (key : ℕ × ℕ) → In found key → Contains keys key × IsPartnerAt place half key =
     λ key h.
-    let is = in_bucket second bucket kind key h in
-    let there : Contains all key = ((those.0 key).0 (contains_from_In second key is.0)).0 in
+    let is = in_bucket keys bucket kind key h in
+    let there : Contains keys key = contains_from_In keys key is.0 in
     let own = remainder_of_kind key (other_kind kind) (are key there) is.2 in
-    let here : key.0 / 2 ^ 24 ≡ place = ap (λ n. n / 2 ^ 24) is.1 ∙ parts.0 in
     let same : remainder_by kind half ≡ remainder_by (other_kind kind) key.1 = sym parts.1 ∙ sym (ap (λ n. n % 2 ^ 24) is.1) ∙ own in
-    (In-from_contains all key there, is_partner stamp number signal half other kind key refl fits has here is.2 (right_by_remainder kind half key.1 same)) in
-    let stands : (key : ℕ × ℕ) → In all key → ArePartners taken (half_of key) → In found key =
+    (there, record { place_is = ap (λ n. n / 2 ^ 24) is.1 ∙ parts.0; kind_is = is.2; right = right_by_remainder kind half key.1 same }) in
+    let stands : (key : ℕ × ℕ) → Contains keys key → IsPartnerAt place half key → In found key =
+    λ key there partner.
+    let own = remainder_of_kind key (other_kind kind) (are key there) partner.kind_is in
+    let same : remainder_by kind half ≡ remainder_by (other_kind kind) key.1 = same_remainder kind half key.1 partner.right in
+    let rest : key.0 % 2 ^ 24 ≡ bucket % 2 ^ 24 = own ∙ sym same ∙ sym parts.1 in
+    let prefix : key.0 / 2 ^ 24 ≡ bucket / 2 ^ 24 = partner.place_is ∙ sym parts.0 in
+    stands_in_bucket keys bucket kind key (In-from_contains keys key there)
+    (omega (arith, whole_bucket key.0, whole_bucket bucket, rest, prefix)) partner.kind_is in
+    record {
+      partners = found;
+      each = λ key. (
+        λ h. partner key (In-from_contains found key h),
+        λ h. contains_from_In found key (stands key h.0 h.1),
+      );
+      ascending = keys_ascend bucket found (λ key h. (in_bucket keys bucket kind key h).1) (sorted_in_bucket keys bucket kind sorted);
+      words_are = refl;
+      fewer = fewer_in_bucket keys bucket kind;
+    }
+
+-- the words with the partners in their second are those with the partners among all
+pub words_of_second : (all second : List (ℕ × ℕ)) (stamp number : ℕ) (signal : Signal) (half other : ℕ) (words : List (List ℕ))
+    → IsSecondOf all other second → number < 64 → HasPartnerStamp (kind_of half) stamp (Some other)
+    → AreWordsIn second (place_of other number signal) half words
+    → AreWordsWith (Contains (map half_of all)) (stamped stamp (record { system = Gal; number = number }) signal half) words
+words_of_second all second stamp number signal half other words those fits has are =
+    let kind = kind_of half in
+    let taken = stamped stamp (record { system = Gal; number = number }) signal half in
+    let partner : (key : ℕ × ℕ) → Contains are.partners key → In all key × ArePartners taken (half_of key) =
+    λ key h.
+    let is = (are.each key).0 h in
+    let at = is.1 in (
+      In-from_contains all key ((those.0 key).0 is.0).0,
+      is_partner stamp number signal half other kind key refl fits has at.place_is at.kind_is at.right,
+    ) in
+    let stands : (key : ℕ × ℕ) → In all key → ArePartners taken (half_of key) → Contains are.partners key =
     λ key there partners.
     let is = partner_place stamp number signal half other kind key refl has partners in
-    let own = remainder_of_kind key (other_kind kind) (are key (contains_from_In all key there)) is.1 in
-    let same : remainder_by kind half ≡ remainder_by (other_kind kind) key.1 = same_remainder kind half key.1 is.2 in
-    let rest : key.0 % 2 ^ 24 ≡ bucket % 2 ^ 24 = own ∙ sym same ∙ sym parts.1 in
-    let prefix : key.0 / 2 ^ 24 ≡ bucket / 2 ^ 24 = is.0 ∙ sym parts.0 in
     let its : (half_of key).stamp ≡ other = stamp_at_place other number signal (key.0 / 2 ^ 24) fits is.0 in
-    let of_second : In second key = In-from_contains second key ((those.0 key).1 (contains_from_In all key there, its)) in
-    stands_in_bucket second bucket kind key of_second (omega (arith, whole_bucket key.0, whole_bucket bucket, rest, prefix)) is.1 in
+    (are.each key).1 ((those.0 key).1 (contains_from_In all key there, its), record { place_is = is.0; kind_is = is.1; right = is.2 }) in
     record {
-      partners = map half_of found;
+      partners = map half_of are.partners;
       each = λ one. (
-        λ h. let key = map_in half_of found one (In-from_contains (map half_of found) one h) in
-            let is = partner key.0 key.1 in
+        λ h. let key = map_in half_of are.partners one (In-from_contains (map half_of are.partners) one h) in
+            let is = partner key.0 (contains_from_In are.partners key.0 key.1) in
             let P : StampedHalf → Type 0 = λ h. Contains (map half_of all) h × ArePartners taken h in
             subst P key.2 (contains_from_In (map half_of all) (half_of key.0) (in_map half_of all key.0 is.0), is.1),
         λ h. let key = map_in half_of all one (In-from_contains (map half_of all) one h.0) in
             let P : StampedHalf → Type 0 = ArePartners taken in
-            let Q : StampedHalf → Type 0 = Contains (map half_of found) in
-            subst Q key.2 (contains_from_In (map half_of found) (half_of key.0)
-            (in_map half_of found key.0 (stands key.0 key.1 (subst P (sym key.2) h.1)))),
+            let Q : StampedHalf → Type 0 = Contains (map half_of are.partners) in
+            subst Q key.2 (contains_from_In (map half_of are.partners) (half_of key.0)
+            (in_map half_of are.partners key.0
+            (In-from_contains are.partners key.0 (stands key.0 key.1 (subst P (sym key.2) h.1))))),
       );
-      ascending = keys_ascend bucket found (λ key h. (in_bucket second bucket kind key h).1) (sorted_in_bucket second bucket kind sorted);
-      words_are = sym (map-map (word_with taken) half_of found);
+      ascending = are.ascending;
+      words_are = are.words_are ∙ sym (map-map (word_with taken) half_of are.partners);
     }
 
 -- no words, where no key is a partner
@@ -299,22 +336,3 @@ unfolding keys_in_bucket
 range_is keys bucket kind start end first last =
     ap (λ s. filter (range_contains key_cmp (Included s) (Excluded end)) keys) first
     ∙ ap (λ e. filter (range_contains key_cmp (Included (first_partner bucket kind)) (Excluded e)) keys) last
-
--- ---- how many
-
-filter-fewer : (p : ℕ × ℕ → Bool) (keys : List (ℕ × ℕ)) → length (filter p keys) ≤ length keys
-filter-fewer p [] = omega arith
-filter-fewer p (key ∷ keys) =
-    let P : List (ℕ × ℕ) → Type 0 = λ found. length found ≤ suc (length keys) in
-    let fewer = filter-fewer p keys in
-    cond_both (p key) (key ∷ filter p keys) (filter p keys) P (λ passes. omega (arith, fewer)) (λ fails. omega (arith, fewer))
-
-pub words-fewer : (keys : List (ℕ × ℕ)) (bucket half : ℕ) → length (words_in_bucket keys bucket half) ≤ length keys
-unfolding keys_in_bucket
-words-fewer keys bucket half =
-    let kind = kind_of half in
-    omega (
-      arith,
-      length-map (keys_in_bucket keys bucket kind) (λ key. word_by kind half key.1),
-      filter-fewer (in_range bucket kind) keys,
-    )

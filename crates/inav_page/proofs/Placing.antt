@@ -6,10 +6,11 @@ use Rattle.std.proofs.Math.Nat.{div-add-mod}
 use Rattle.std.specs.Prelude.{Contains}
 use Rattle.std.specs.List.{slice_get, slice_set}
 use Rattle.std.specs.Option.{unwrap_or}
-use Rattle.inav_page.specs.declared.seconds.Second.{Second}
+use Rattle.inav_page.specs.declared.second.Second.{Second}
 use Rattle.inav_page.specs.declared.seconds.Seconds.{Seconds}
 use Rattle.inav_page.specs.Keeping.{IsRecent}
-use Rattle.inav_page.specs.Mirrors.{half_of, keys_in, keys_among, keys_of, recent_keys, ArePlaced, AreKeys, AreSeconds, IsKey, IsSecondOf, KeepsKeys}
+use Rattle.inav_page.specs.Mirrors.{half_of, AreKeys, IsKey}
+use Rattle.inav_page.specs.Kept.{keys_in, keys_among, keys_of, recent_keys, ArePlaced, AreSeconds, IsSecondOf, KeepsKeys}
 use Rattle.inav_page.proofs.Membership.{In, contains_from_In, In-from_contains}
 
 pub some_is : (a b : Second) → Some a ≡ Some b → a ≡ b
@@ -42,19 +43,19 @@ abbrev IsLate : ℕ → ℕ → Second → Type 0
 IsLate window greatest second = greatest ≤ second.stamp + window + 1
 
 recent_to : (window greatest : ℕ) (second : Second) (q : ℕ × ℕ) → In (recent_keys window greatest second) q
-    → IsLate window greatest second × In second.keys.keys q
+    → IsLate window greatest second × In second.keys q
 recent_to window greatest second q h =
-    let P : List (ℕ × ℕ) → Type 0 = λ keys. In keys q → IsLate window greatest second × In second.keys.keys q in
-    cond_both (nat_lt (second.stamp + window + 1) greatest) [] second.keys.keys P
+    let P : List (ℕ × ℕ) → Type 0 = λ keys. In keys q → IsLate window greatest second × In second.keys q in
+    cond_both (nat_lt (second.stamp + window + 1) greatest) [] second.keys P
     (λ old there. absurd there)
     (λ late there. (grind (arith), there)) h
 
-recent_is : (window greatest : ℕ) (second : Second) → IsLate window greatest second → recent_keys window greatest second ≡ second.keys.keys
+recent_is : (window greatest : ℕ) (second : Second) → IsLate window greatest second → recent_keys window greatest second ≡ second.keys
 recent_is window greatest second late =
-    cond-false (nat_lt (second.stamp + window + 1) greatest) [] second.keys.keys (le-ltb (second.stamp + window + 1) greatest late)
+    cond-false (nat_lt (second.stamp + window + 1) greatest) [] second.keys (le-ltb (second.stamp + window + 1) greatest late)
 
 pub among_to : (window greatest : ℕ) (seconds : List Second) (q : ℕ × ℕ) → In (keys_among window greatest seconds) q
-    → (i : ℕ) × (second : Second) × (slice_get seconds i ≡ Some second) × IsLate window greatest second × In second.keys.keys q
+    → (i : ℕ) × (second : Second) × (slice_get seconds i ≡ Some second) × IsLate window greatest second × In second.keys q
 among_to window greatest [] q h = absurd h
 among_to window greatest (x ∷ xs) q h =
     ⊎_elim
@@ -64,7 +65,7 @@ among_to window greatest (x ∷ xs) q h =
     (append_in (recent_keys window greatest x) (keys_among window greatest xs) q h)
 
 pub among_from : (window greatest : ℕ) (seconds : List Second) (q : ℕ × ℕ) (i : ℕ) (second : Second) → slice_get seconds i ≡ Some second
-    → IsLate window greatest second → In second.keys.keys q → In (keys_among window greatest seconds) q
+    → IsLate window greatest second → In second.keys q → In (keys_among window greatest seconds) q
 among_from window greatest [] q i second at late there = absurd (cc at)
 among_from window greatest (x ∷ xs) q zero second at late there =
     let P : Second → Type 0 = λ s. In (recent_keys window greatest s) q in
@@ -75,11 +76,11 @@ among_from window greatest (x ∷ xs) q (suc i) second at late there =
     in_right (recent_keys window greatest x) (keys_among window greatest xs) q (among_from window greatest xs q i second at late there)
 
 fewer_in : (window greatest : ℕ) (seconds : List Second) (i : ℕ) (second : Second) → slice_get seconds i ≡ Some second
-    → IsLate window greatest second → length second.keys.keys ≤ length (keys_among window greatest seconds)
+    → IsLate window greatest second → length second.keys ≤ length (keys_among window greatest seconds)
 fewer_in window greatest [] i second at late = absurd (cc at)
 fewer_in window greatest (x ∷ xs) zero second at late =
-    let is : recent_keys window greatest second ≡ second.keys.keys = recent_is window greatest second late in
-    let same : length (recent_keys window greatest x) ≡ length second.keys.keys =
+    let is : recent_keys window greatest second ≡ second.keys = recent_is window greatest second late in
+    let same : length (recent_keys window greatest x) ≡ length second.keys =
     ap (λ s. length (recent_keys window greatest s)) (some_is x second at) ∙ ap length is in
     omega (arith, same, length-append (recent_keys window greatest x) (keys_among window greatest xs))
 fewer_in window greatest (x ∷ xs) (suc i) second at late =
@@ -121,14 +122,14 @@ one_stamp window greatest place a b first second low_a low_b late_a late_b =
 pub are_keys : (seconds : Seconds) → AreSeconds seconds → AreKeys (keys_in seconds)
 are_keys seconds are key h =
     let is = among_to seconds.window seconds.greatest seconds.places.items key (In-from_contains (keys_in seconds) key h) in
-    (are.placed is.0 is.1 is.2 key (contains_from_In is.1.keys.keys key is.4)).is_key
+    (are.placed is.0 is.1 is.2 key (contains_from_In is.1.keys key is.4)).is_key
 
 -- no stamp is above the greatest, none is too old
 pub in_window : (seconds : Seconds) (key : ℕ × ℕ) → AreSeconds seconds → Contains (keys_in seconds) key
     → ((half_of key).stamp ≤ seconds.greatest) × IsRecent seconds.window seconds.greatest (half_of key)
 in_window seconds key are h =
     let is = among_to seconds.window seconds.greatest seconds.places.items key (In-from_contains (keys_in seconds) key h) in
-    let at = are.placed is.0 is.1 is.2 key (contains_from_In is.1.keys.keys key is.4) in
+    let at = are.placed is.0 is.1 is.2 key (contains_from_In is.1.keys key is.4) in
     let late = is.3 in
     let same = at.stamp_is in
     let early = at.early in
@@ -139,23 +140,23 @@ in_window seconds key are h =
 -- the second at the slot of a stamp, which is not too old, and has that stamp
 pub found : (seconds : Seconds) (stamp place : ℕ) (second : Second) → AreSeconds seconds → slice_get seconds.places.items place ≡ Some second
     → place ≡ stamp % (seconds.window + 2) → (stamp + seconds.window + 1 < seconds.greatest → ⊥) → second.stamp ≡ stamp
-    → IsSecondOf (keys_in seconds) stamp second.keys.keys
+    → IsSecondOf (keys_in seconds) stamp second.keys
 found seconds stamp place second are at place_is late same =
     let all = keys_in seconds in
     let is_late : IsLate seconds.window seconds.greatest second = omega (arith, late, same) in (
       λ key. (
         λ h. (
           contains_from_In all key (among_from seconds.window seconds.greatest seconds.places.items key place second at is_late
-              (In-from_contains second.keys.keys key h)),
+              (In-from_contains second.keys key h)),
           (are.placed place second at key h).stamp_is ∙ same,
         ),
         λ h. let is = among_to seconds.window seconds.greatest seconds.places.items key (In-from_contains all key h.0) in
-            let its = are.placed is.0 is.1 is.2 key (contains_from_In is.1.keys.keys key is.4) in
+            let its = are.placed is.0 is.1 is.2 key (contains_from_In is.1.keys key is.4) in
             let here : is.0 ≡ place = its.place_is ∙ ap (λ s. s % (seconds.window + 2)) (sym its.stamp_is ∙ h.1) ∙ sym place_is in
             let P : ℕ → Type 0 = λ i. slice_get seconds.places.items i ≡ Some is.1 in
             let one : is.1 ≡ second = some_is is.1 second (sym (subst P here is.2) ∙ at) in
-            let Q : Second → Type 0 = λ s. Contains s.keys.keys key in
-            subst Q one (contains_from_In is.1.keys.keys key is.4),
+            let Q : Second → Type 0 = λ s. Contains s.keys key in
+            subst Q one (contains_from_In is.1.keys key is.4),
       ),
       fewer_in seconds.window seconds.greatest seconds.places.items place second at is_late,
     )
@@ -178,7 +179,7 @@ pub none_outside : (seconds : Seconds) (stamp place : ℕ) → AreSeconds second
 none_outside seconds stamp place are at place_is =
     none_of (keys_in seconds) stamp (λ key h same.
     let is = among_to seconds.window seconds.greatest seconds.places.items key (In-from_contains (keys_in seconds) key h) in
-    let its = are.placed is.0 is.1 is.2 key (contains_from_In is.1.keys.keys key is.4) in
+    let its = are.placed is.0 is.1 is.2 key (contains_from_In is.1.keys key is.4) in
     let here : is.0 ≡ place = its.place_is ∙ ap (λ s. s % (seconds.window + 2)) (sym its.stamp_is ∙ same) ∙ sym place_is in
     let P : ℕ → Type 0 = λ i. slice_get seconds.places.items i ≡ Some is.1 in
     cc (subst P here is.2, at))
@@ -189,7 +190,7 @@ pub none_of_another : (seconds : Seconds) (stamp place : ℕ) (second : Second) 
 none_of_another seconds stamp place second are at place_is other =
     none_of (keys_in seconds) stamp (λ key h same.
     let is = among_to seconds.window seconds.greatest seconds.places.items key (In-from_contains (keys_in seconds) key h) in
-    let its = are.placed is.0 is.1 is.2 key (contains_from_In is.1.keys.keys key is.4) in
+    let its = are.placed is.0 is.1 is.2 key (contains_from_In is.1.keys key is.4) in
     let here : is.0 ≡ place = its.place_is ∙ ap (λ s. s % (seconds.window + 2)) (sym its.stamp_is ∙ same) ∙ sym place_is in
     let P : ℕ → Type 0 = λ i. slice_get seconds.places.items i ≡ Some is.1 in
     let one : is.1 ≡ second = some_is is.1 second (sym (subst P here is.2) ∙ at) in
@@ -198,7 +199,7 @@ none_of_another seconds stamp place second are at place_is other =
 -- ---- allocating slots
 
 -- one more second with no keys
-pub adds_empty : (old now new : List Second) (empty : Second) → empty.keys.keys ≡ [] → KeepsKeys old now → new ≡ now ++ empty ∷ [] → KeepsKeys old new
+pub adds_empty : (old now new : List Second) (empty : Second) → empty.keys ≡ [] → KeepsKeys old now → new ≡ now ++ empty ∷ [] → KeepsKeys old new
 adds_empty old now new empty none so is window greatest =
     let P : List Second → Type 0 = λ ss. (keys_among window greatest ss ≡ keys_among window greatest old)
     × (ArePlaced window greatest old → ArePlaced window greatest ss) in
@@ -209,12 +210,12 @@ adds_empty old now new empty none so is window greatest =
           (λ (there : slice_get now place ≡ Some second). before.1 placed place second there key h)
           (λ (one : empty ≡ second).
           let Q : List (ℕ × ℕ) → Type 0 = λ keys. In keys key in
-          absurd (subst Q (ap (λ (s : Second). s.keys.keys) (sym one) ∙ none) (In-from_contains second.keys.keys key h)))
+          absurd (subst Q (ap (λ (s : Second). s.keys) (sym one) ∙ none) (In-from_contains second.keys key h)))
           (where_is now place second at),
     )
   where
     nothing : recent_keys window greatest empty ≡ []
-    nothing = cond_both (nat_lt (empty.stamp + window + 1) greatest) [] empty.keys.keys (λ keys. keys ≡ []) (λ old. refl) (λ late. none)
+    nothing = cond_both (nat_lt (empty.stamp + window + 1) greatest) [] empty.keys (λ keys. keys ≡ []) (λ old. refl) (λ late. none)
 
     same : (ss : List Second) → keys_among window greatest (ss ++ empty ∷ []) ≡ keys_among window greatest ss
     same [] = ap (λ keys. keys ++ []) nothing
@@ -247,7 +248,7 @@ fewer_recent : (window greatest raised : ℕ) (x : Second) → greatest ≤ rais
 fewer_recent window greatest raised x more =
     ⊎_elim
     (λ (old : x.stamp + window + 1 < raised).
-    let none = ap length (cond-true (nat_lt (x.stamp + window + 1) raised) [] x.keys.keys (lt-ltb (x.stamp + window + 1) raised old)) in
+    let none = ap length (cond-true (nat_lt (x.stamp + window + 1) raised) [] x.keys (lt-ltb (x.stamp + window + 1) raised old)) in
     omega (arith, none))
     (λ (late : raised ≤ x.stamp + window + 1).
     let one = ap length (recent_is window raised x late) in
@@ -269,14 +270,14 @@ fewer_later window greatest raised (x ∷ xs) more =
       length-append (recent_keys window greatest x) (keys_among window greatest xs),
     )
 
-pub of_same : (stamp : ℕ) (second : Second) → second.stamp ≡ stamp → keys_of stamp second ≡ second.keys.keys
-of_same stamp second same = cond-true (nat_eq second.stamp stamp) second.keys.keys [] (eq-eqb second.stamp stamp same)
+pub of_same : (stamp : ℕ) (second : Second) → second.stamp ≡ stamp → keys_of stamp second ≡ second.keys
+of_same stamp second same = cond-true (nat_eq second.stamp stamp) second.keys [] (eq-eqb second.stamp stamp same)
 
 pub of_other : (stamp : ℕ) (second : Second) → (second.stamp ≡ stamp → ⊥) → keys_of stamp second ≡ []
-of_other stamp second other = cond-false (nat_eq second.stamp stamp) second.keys.keys [] (ne_eqb second.stamp stamp other)
+of_other stamp second other = cond-false (nat_eq second.stamp stamp) second.keys [] (ne_eqb second.stamp stamp other)
 
 -- a key in a second of that stamp
-pub of_to : (stamp : ℕ) (second : Second) (q : ℕ × ℕ) → Contains (keys_of stamp second) q → (second.stamp ≡ stamp) × Contains second.keys.keys q
+pub of_to : (stamp : ℕ) (second : Second) (q : ℕ × ℕ) → Contains (keys_of stamp second) q → (second.stamp ≡ stamp) × Contains second.keys q
 of_to stamp second q h =
     ⊎_elim
     (λ (same : second.stamp ≡ stamp). let P : List (ℕ × ℕ) → Type 0 = λ keys. Contains keys q in (same, subst P (of_same stamp second same) h))
@@ -288,8 +289,8 @@ of_to stamp second q h =
 -- the keys of a second after a key of a stamp was inserted
 pub record HasPut (stamp : ℕ) (was : Second) (key : ℕ × ℕ) (second : Second) : Type 0 where
   pub stamp_is : second.stamp ≡ stamp
-  pub keys : (other : ℕ × ℕ) → Contains second.keys.keys other ↔ (Contains (keys_of stamp was) other ⊎ (key ≡ other))
-  pub room : length second.keys.keys ≤ length (keys_of stamp was) + 1
+  pub keys : (other : ℕ × ℕ) → Contains second.keys other ↔ (Contains (keys_of stamp was) other ⊎ (key ≡ other))
+  pub room : length second.keys ≤ length (keys_of stamp was) + 1
 
 module _ (window greatest stamp place : ℕ) (old : List Second) (was second : Second) (key : ℕ × ℕ)
     (placed : ArePlaced window greatest old) (at : slice_get old place ≡ Some was) (place_is : place ≡ stamp % (window + 2))
@@ -307,14 +308,14 @@ module _ (window greatest stamp place : ℕ) (old : List Second) (was second : S
   late = let is = put.stamp_is in omega (arith, is, recent)
 
   -- the second in the slot is that of the stamp, or too old
-  put_to : (q : ℕ × ℕ) (i : ℕ) (s : Second) → slice_get new i ≡ Some s → IsLate window raised s → Contains s.keys.keys q
+  put_to : (q : ℕ × ℕ) (i : ℕ) (s : Second) → slice_get new i ≡ Some s → IsLate window raised s → Contains s.keys q
       → (Contains (keys_among window greatest old) q ⊎ (key ≡ q)) × IsRecent window raised (half_of q)
   put_to q i s there is_late h =
       ⊎_elim
       (λ (same : i ≡ place).
       let P : ℕ → Type 0 = λ j. slice_get new j ≡ Some s in
       let one : s ≡ second = some_is s second (sym (subst P same there) ∙ here) in
-      let Q : Second → Type 0 = λ t. Contains t.keys.keys q in
+      let Q : Second → Type 0 = λ t. Contains t.keys q in
       ⊎_elim
       (λ (before : Contains (keys_of stamp was) q).
       let both = of_to stamp was q before in
@@ -322,7 +323,7 @@ module _ (window greatest stamp place : ℕ) (old : List Second) (was second : S
       let is : (half_of q).stamp ≡ stamp = its.stamp_is ∙ both.0 in
       let was_late : IsLate window greatest was = let e = both.0 in omega (arith, e, recent) in (
         inl (contains_from_In (keys_among window greatest old) q
-            (among_from window greatest old q place was at was_late (In-from_contains was.keys.keys q both.1))),
+            (among_from window greatest old q place was at was_late (In-from_contains was.keys q both.1))),
         omega (arith, is, recent),
       ))
       (λ (is : key ≡ q). (inr is, let e = ap (λ k. (half_of k).stamp) (sym is) ∙ own in omega (arith, e, recent)))
@@ -333,7 +334,7 @@ module _ (window greatest stamp place : ℕ) (old : List Second) (was second : S
       let is = its.stamp_is in
       let was_late : IsLate window greatest s = omega (arith, is_late) in (
         inl (contains_from_In (keys_among window greatest old) q
-            (among_from window greatest old q i s there_old was_late (In-from_contains s.keys.keys q h))),
+            (among_from window greatest old q i s there_old was_late (In-from_contains s.keys q h))),
         omega (arith, is, is_late),
       ))
       (cases_eq i place)
@@ -342,13 +343,13 @@ module _ (window greatest stamp place : ℕ) (old : List Second) (was second : S
       → Contains (keys_among window raised new) q
   put_from q h fresh =
       let all = keys_among window raised new in
-      let own_second : Contains second.keys.keys q → Contains all q =
-      λ there. contains_from_In all q (among_from window raised new q place second here late (In-from_contains second.keys.keys q there)) in
+      let own_second : Contains second.keys q → Contains all q =
+      λ there. contains_from_In all q (among_from window raised new q place second here late (In-from_contains second.keys q there)) in
       ⊎_elim
       (λ (before : Contains (keys_among window greatest old) q).
       let is = among_to window greatest old q (In-from_contains (keys_among window greatest old) q before) in
       let s = is.1 in
-      let stands : Contains s.keys.keys q = contains_from_In s.keys.keys q is.4 in
+      let stands : Contains s.keys q = contains_from_In s.keys q is.4 in
       let its = placed is.0 s is.2 q stands in
       let stamp_at = its.stamp_is in
       let is_late : IsLate window raised s = omega (arith, stamp_at, fresh) in
@@ -360,7 +361,7 @@ module _ (window greatest stamp place : ℕ) (old : List Second) (was second : S
       let equal : s.stamp ≡ stamp =
       one_stamp window raised place s.stamp stamp (sym same ∙ its.place_is) place_is (omega (arith, early)) (omega arith) is_late (omega (arith, recent)) in
       let of_stamp : was.stamp ≡ stamp = ap (λ (t : Second). t.stamp) (sym one) ∙ equal in
-      let Q : Second → Type 0 = λ t. Contains t.keys.keys q in
+      let Q : Second → Type 0 = λ t. Contains t.keys q in
       let R : List (ℕ × ℕ) → Type 0 = λ keys. Contains keys q in
       own_second ((put.keys q).1 (inl (subst R (sym (of_same stamp was of_stamp)) (subst Q one stands)))))
       (λ (apart : is.0 ≡ place → ⊥).
@@ -373,7 +374,7 @@ module _ (window greatest stamp place : ℕ) (old : List Second) (was second : S
       ↔ ((Contains (keys_among window greatest old) q ⊎ (key ≡ q)) × IsRecent window raised (half_of q))
   put_kept q = (
     λ h. let is = among_to window raised new q (In-from_contains (keys_among window raised new) q h) in
-        put_to q is.0 is.1 is.2 is.3 (contains_from_In is.1.keys.keys q is.4),
+        put_to q is.0 is.1 is.2 is.3 (contains_from_In is.1.keys q is.4),
     λ h. put_from q h.0 h.1,
   )
 
@@ -383,7 +384,7 @@ module _ (window greatest stamp place : ℕ) (old : List Second) (was second : S
       (λ (same : i ≡ place).
       let P : ℕ → Type 0 = λ j. slice_get new j ≡ Some s in
       let one : s ≡ second = some_is s second (sym (subst P same there) ∙ here) in
-      let Q : Second → Type 0 = λ t. Contains t.keys.keys q in
+      let Q : Second → Type 0 = λ t. Contains t.keys q in
       let stamp_at : s.stamp ≡ stamp = ap (λ (t : Second). t.stamp) one ∙ put.stamp_is in
       let known : IsKey q × ((half_of q).stamp ≡ stamp) =
       ⊎_elim

@@ -1,5 +1,5 @@
 -- The CRC of a page is the sum of the contributions of its parts, so partners are those with equal CRC remainders.
-use Rattle.std.proofs.Common.{◌≡◌, ℕ, ◌*◌, ◌^◌, ◌<◌, Bool, true, sym, ap, subst, ◌∙◌, arith}
+use Rattle.std.proofs.Common.{◌≡◌, ℕ, ◌*◌, ◌^◌, ◌<◌, true, sym, ap, subst, ◌∙◌, arith}
 use Rattle.std.proofs.lemmas.Bool.{eqb-true, eq-eqb}
 use Rattle.std.proofs.lemmas.Nat.{xor_comm, xor_lt}
 use Rattle.std.specs.Int.Bits.{bit_xor, xor_assoc, xor_self, xor_zero_l}
@@ -9,9 +9,8 @@ use Rattle.crc24q.proofs.Surface.{crc_of_sum, one_remainder}
 use Rattle.inav_page.specs.declared.half.HalfKind.{HalfKind}
 use Rattle.inav_page.specs.declared.half.HalfKind.TheVariants.{Even, Odd}
 use Rattle.inav_page.specs.Pages.{bits_at, protected_of, page_crc, has_right_crc}
-use Rattle.inav_page.specs.Mirrors.{remainder_by}
+use Rattle.inav_page.specs.Mirrors.{is_right_by, other_kind, remainder_by}
 use Rattle.inav_page.proofs.PageNumbers.{page_crc_is}
-use Rattle.inav_page.proofs.KeyOrder.{other_kind}
 
 -- the protected bits, concatenated, are the sum of both parts
 protected-parts : (even odd : ℕ) → bit_xor (protected_of even 0) (protected_of 0 odd) ≡ protected_of even odd
@@ -55,10 +54,6 @@ remainder-lt Even half = (page_crc_is half 0).fits
 remainder-lt Odd half = xor_lt 24 (page_crc 0 half) (bits_at half 82 24) (page_crc_is 0 half).fits (omega arith)
 
 -- ---- two page parts, the first of that kind
-
-abbrev pub is_right_by : HalfKind → ℕ → ℕ → Bool
-is_right_by Even one other = has_right_crc one other
-is_right_by Odd one other = has_right_crc other one
 
 pub same_remainder : (kind : HalfKind) (one other : ℕ) → is_right_by kind one other ≡ true
     → remainder_by kind one ≡ remainder_by (other_kind kind) other

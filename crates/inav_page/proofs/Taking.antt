@@ -6,7 +6,8 @@ use Rattle.nav_eph.specs.declared.sat.System.TheVariants.{Gal}
 use Rattle.inav_page.specs.Heard.{StampedHalf}
 use Rattle.inav_page.specs.Keeping.{IsRecent}
 use Rattle.inav_page.specs.declared.seconds.Seconds.{Seconds}
-use Rattle.inav_page.specs.Mirrors.{half_of, keys_in, IsKey, AreKeys, AreSeconds, PutsKey}
+use Rattle.inav_page.specs.Mirrors.{half_of, IsKey, AreKeys}
+use Rattle.inav_page.specs.Kept.{keys_in, AreSeconds}
 use Rattle.inav_page.proofs.Membership.{contains_from_In, In-from_contains, in_map, map_in}
 use Rattle.inav_page.proofs.Partners.{same_key}
 use Rattle.inav_page.proofs.Placing.{in_window}
@@ -78,17 +79,6 @@ kept_without seconds taken are old other = (
       (λ (same : taken ≡ other). absurd (let late = h.1 in let at = ap (λ s. s.stamp) same in omega (arith, late, at, old)))
       h.0,
 )
-
--- a key that is stored already changes nothing
-pub puts_again : (seconds : Seconds) (key : ℕ × ℕ) → AreSeconds seconds → Contains (keys_in seconds) key → PutsKey seconds key seconds
-puts_again seconds key are there =
-    let P : ℕ × ℕ → Type 0 = Contains (keys_in seconds) in (
-      λ q. (
-        λ h. (inl h, (in_window seconds q are h).1),
-        λ h. ⊎_elim (λ (was : Contains (keys_in seconds) q). was) (λ (same : key ≡ q). subst P same there) h.0,
-      ),
-      omega arith,
-    )
 
 -- ---- what holds for every result of a call
 

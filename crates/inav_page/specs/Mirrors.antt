@@ -1,6 +1,6 @@
--- Mirrors of the code's order of page parts: by the number of stamp, satellite and signal, the CRC remainder
--- (equal for partners), and the bits.
-use Rattle.std.specs.Prelude.{◌≡◌, ℕ, ◌+◌, ◌-◌, ◌*◌, ◌/◌, ◌%◌, ◌^◌, ◌<◌, ◌≤◌, ◌⊎◌, ◌↔◌, ◌++◌, List, [], ◌∷◌, length, nat_lt, Option, Some, slice_get, SomeIff, nat_eq, map, if◌then◌else◌, bit_xor, Contains}
+-- Mirrors of the code's orders of page parts: in a second by satellite, signal and bits; in a tree by the number of
+-- stamp, satellite and signal, the CRC remainder (equal for partners), and the bits.
+use Rattle.std.specs.Prelude.{◌≡◌, ℕ, ◌+◌, ◌-◌, ◌*◌, ◌/◌, ◌%◌, ◌^◌, ◌<◌, ◌≤◌, ◌↔◌, ◌++◌, Bool, true, List, length, slice_index, Option, SomeIff, nat_eq, map, if◌then◌else◌, bit_xor, Contains}
 use Rattle.std.specs.Ordering.{nat_cmp, ordering_then}
 use Rattle.std.specs.List.{filter}
 use Rattle.std.specs.declared.cmp.Ordering.{Ordering}
@@ -9,13 +9,10 @@ use Rattle.std.specs.BTreeMap.Range.{range_contains}
 use Rattle.nav_eph.specs.declared.sat.System.TheVariants.{Gal}
 use Rattle.inav_page.specs.declared.half.HalfKind.{HalfKind}
 use Rattle.inav_page.specs.declared.half.HalfKind.TheVariants.{Even, Odd}
-use Rattle.inav_page.specs.declared.seconds.Second.{Second}
-use Rattle.inav_page.specs.declared.seconds.Seconds.{Seconds}
 use Rattle.nav_eph.specs.declared.signal.Signal.{Signal}
 use Rattle.nav_eph.specs.declared.signal.Signal.TheVariants.{E1b, E5b}
-use Rattle.inav_page.specs.Pages.{bits_at, kind_of, page_crc}
-use Rattle.inav_page.specs.Heard.{StampedHalf, word_by}
-use Rattle.inav_page.specs.Keeping.{IsRecent}
+use Rattle.inav_page.specs.Pages.{bits_at, has_right_crc, kind_of, page_crc}
+use Rattle.inav_page.specs.Heard.{StampedHalf, IsAscending, word_by}
 
 -- the number of a signal in the order of signals
 abbrev pub signal_number : Signal → ℕ
@@ -25,6 +22,10 @@ signal_number E5b = 1
 -- the signal of a number
 abbrev pub signal_of : ℕ → Signal
 signal_of lane = if nat_eq lane 0 then E1b else E5b
+
+-- the number of a Galileo satellite number and signal, in this order
+abbrev pub lane_of : ℕ → Signal → ℕ
+lane_of number signal = number * 2 + signal_number signal
 
 -- the number of a stamp, Galileo satellite number and signal, in this order
 abbrev pub place_of : ℕ → ℕ → Signal → ℕ
@@ -66,70 +67,55 @@ pub record IsKey (key : ℕ × ℕ) : Type 0 where
 abbrev pub AreKeys : List (ℕ × ℕ) → Type 0
 AreKeys keys = (key : ℕ × ℕ) → Contains keys key → IsKey key
 
--- the keys of a second, if it has that stamp
-abbrev pub keys_of : ℕ → Second → List (ℕ × ℕ)
-keys_of stamp second = if nat_eq second.stamp stamp then second.keys.keys else []
+-- ---- page parts of one second as numbers
 
--- the keys of a second, unless it is too old
-abbrev pub recent_keys : ℕ → ℕ → Second → List (ℕ × ℕ)
-recent_keys window greatest second = if nat_lt (second.stamp + window + 1) greatest then [] else second.keys.keys
+-- the number of a page part in its second: satellite and signal, followed by the bits
+abbrev pub number_of : ℕ → Signal → ℕ → ℕ
+number_of number signal bits = lane_of number signal * 2 ^ 120 + bits
 
--- the keys of those seconds that are not too old
-abbrev pub keys_among : ℕ → ℕ → List Second → List (ℕ × ℕ)
-keys_among window greatest [] = []
-keys_among window greatest (second ∷ seconds) = recent_keys window greatest second ++ keys_among window greatest seconds
+-- the key of the page part with this number in the second of a stamp
+abbrev pub key_at : ℕ → ℕ → ℕ × ℕ
+key_at stamp number = (bucket_of (stamp * 128 + number / 2 ^ 120) (remainder_of (number % 2 ^ 120)), number % 2 ^ 120)
 
--- the stored keys of the ring buffer
-abbrev pub keys_in : Seconds → List (ℕ × ℕ)
-keys_in seconds = keys_among seconds.window seconds.greatest seconds.places.items
+-- the keys of a second: of the page parts that are numbers, and of those in a tree
+abbrev pub keys_shown : ℕ → List ℕ → List (ℕ × ℕ) → List (ℕ × ℕ)
+keys_shown stamp few many = map (key_at stamp) few ++ many
 
--- the keys of all seconds, also of those too old
-abbrev pub keys_held : List Second → List (ℕ × ℕ)
-keys_held [] = []
-keys_held (second ∷ seconds) = second.keys.keys ++ keys_held seconds
+-- what contracts see of a second: its stamp, and the keys of its page parts
+pub record KeysOfSecond : Type 0 where
+  pub stamp : ℕ
+  pub keys : List (ℕ × ℕ)
 
--- the key may be in a second at a slot: it has its stamp, which is at most the greatest, and the slot is that of the stamp
-pub record IsKeyAt (window greatest place stamp : ℕ) (key : ℕ × ℕ) : Type 0 where
-  pub is_key : IsKey key
-  pub stamp_is : (half_of key).stamp ≡ stamp
-  pub place_is : place ≡ stamp % (window + 2)
-  pub early : stamp ≤ greatest
+-- the numbers ascend strictly
+pub record Rises (numbers : List ℕ) : Type 0 where
+  pub at : (i j : ℕ) → i < j → j < length numbers → slice_index numbers i < slice_index numbers j
 
--- each key of the ring buffer has the stamp and slot of its second
-abbrev pub ArePlaced : ℕ → ℕ → List Second → Type 0
-ArePlaced window greatest seconds = (place : ℕ) (second : Second) → slice_get seconds place ≡ Some second
-    → (key : ℕ × ℕ) → Contains second.keys.keys key → IsKeyAt window greatest place second.stamp key
-
--- the ring buffer is valid: its window is at most 14,400 seconds, and its keys have their slots
-pub record AreSeconds (seconds : Seconds) : Type 0 where
-  pub small : seconds.window ≤ 14400
-  pub placed : ArePlaced seconds.window seconds.greatest seconds.places.items
-
--- the keys are exactly those of one stamp among all
-abbrev pub IsSecondOf : List (ℕ × ℕ) → ℕ → List (ℕ × ℕ) → Type 0
-IsSecondOf all stamp keys = ((key : ℕ × ℕ) → Contains keys key ↔ (Contains all key × ((half_of key).stamp ≡ stamp))) × (length keys ≤ length all)
-
--- the new seconds have the same stored keys as the old, and keep them in valid slots
-abbrev pub KeepsKeys : List Second → List Second → Type 0
-KeepsKeys old new = (window greatest : ℕ) → (keys_among window greatest new ≡ keys_among window greatest old)
-    × (ArePlaced window greatest old → ArePlaced window greatest new)
-
--- a key was inserted: of the keys before and this one the recent ones are stored, at most one more than before
-abbrev pub PutsKey : Seconds → ℕ × ℕ → Seconds → Type 0
-PutsKey old key new = ((other : ℕ × ℕ) → Contains (keys_in new) other
-    ↔ ((Contains (keys_in old) other ⊎ (key ≡ other)) × IsRecent old.window new.greatest (half_of other)))
-    × (length (keys_in new) ≤ length (keys_in old) + 1)
-
--- a key was inserted: no keys are allocated but those before and this one, at most one more than before
-abbrev pub HoldsKey : Seconds → ℕ × ℕ → Seconds → Type 0
-HoldsKey old key new = ((other : ℕ × ℕ) → Contains (keys_held new.places.items) other
-    → Contains (keys_held old.places.items) other ⊎ (key ≡ other))
-    × (length (keys_held new.places.items) ≤ length (keys_held old.places.items) + 1)
+-- ---- partners
 
 -- the stamp of the partners of a page part: none below 0 and none above 2^32 - 1
 abbrev pub HasPartnerStamp : HalfKind → ℕ → Option ℕ → Type 0
 HasPartnerStamp Even stamp other = SomeIff other (stamp + 1 < 2 ^ 32) (stamp + 1)
 HasPartnerStamp Odd stamp other = SomeIff other (1 ≤ stamp) (stamp - 1)
+
+-- the kind of the partners
+abbrev pub other_kind : HalfKind → HalfKind
+other_kind Even = Odd
+other_kind Odd = Even
+
+-- the CRC is right of two page parts, the first of that kind
+abbrev pub is_right_by : HalfKind → ℕ → ℕ → Bool
+is_right_by Even one other = has_right_crc one other
+is_right_by Odd one other = has_right_crc other one
+
+-- the first number of the page parts of the other kind of a satellite and signal; they end 2^119 above
+abbrev pub first_number : ℕ → HalfKind → ℕ
+first_number lane Even = lane * 2 ^ 120 + 2 ^ 119
+first_number lane Odd = lane * 2 ^ 120
+
+-- the words of a page part with those of these numbers with which the CRC is right
+abbrev pub words_of_numbers : HalfKind → ℕ → List ℕ → List (List ℕ)
+words_of_numbers kind half numbers =
+    map (λ number. word_by kind half (number % 2 ^ 120)) (filter (λ number. is_right_by kind half (number % 2 ^ 120)) numbers)
 
 -- the first key of the other kind in a bucket
 abbrev pub first_partner : ℕ → HalfKind → ℕ × ℕ
@@ -157,3 +143,17 @@ words_by kind half keys = map (λ key. word_by kind half key.1) keys
 -- the words of a page part with those in a bucket
 abbrev pub words_in_bucket : List (ℕ × ℕ) → ℕ → ℕ → List (List ℕ)
 words_in_bucket keys bucket half = words_by (kind_of half) half (keys_in_bucket keys bucket (kind_of half))
+
+-- the key is of a partner of a page part whose partners have that number of stamp, satellite and signal
+pub record IsPartnerAt (place half : ℕ) (key : ℕ × ℕ) : Type 0 where
+  pub place_is : key.0 / 2 ^ 24 ≡ place
+  pub kind_is : kind_of key.1 ≡ other_kind (kind_of half)
+  pub right : is_right_by (kind_of half) half key.1 ≡ true
+
+-- the words of a page part with its partners among the keys of a second
+pub record AreWordsIn (keys : List (ℕ × ℕ)) (place half : ℕ) (words : List (List ℕ)) : Type 0 where
+  pub partners : List (ℕ × ℕ)
+  pub each : (key : ℕ × ℕ) → Contains partners key ↔ (Contains keys key × IsPartnerAt place half key)
+  pub ascending : IsAscending (map half_of partners)
+  pub words_are : words ≡ words_by (kind_of half) half partners
+  pub fewer : length partners ≤ length keys

@@ -9,7 +9,7 @@ ghost use Rattle.inav_page.specs.Keeping.{stamped, HoldsOneSecond, IsKeptWith};
 
 use crate::half::Half;
 use crate::joined::Joined;
-use crate::keys::{join_with_kept, keep};
+use crate::joining::{join_with_kept, keep};
 use crate::seconds::Seconds;
 use nav_eph::{Sat, Signal};
 use std::alloc::{AllocError, Global};
@@ -28,7 +28,8 @@ pub struct Halves {
 impl Model for Halves {
     ghost use Rattle.std.specs.Prelude.{◌≡◌, ℕ, map};
     ghost use Rattle.inav_page.specs.Keeping.{Keeping};
-    ghost use Rattle.inav_page.specs.Mirrors.{half_of, keys_held, keys_in, AreSeconds};
+    ghost use Rattle.inav_page.specs.Mirrors.{half_of};
+    ghost use Rattle.inav_page.specs.Kept.{keys_held, keys_in, AreSeconds};
 
     ghost Value = { Keeping };
 
@@ -64,11 +65,12 @@ impl Halves {
     /// stored already. Then the part is stored, unless it is itself too old, and parts whose stamp is more
     /// than the window plus one second below the greatest stamp are removed.
     ///
-    /// Costs one CRC, one search among the stored parts of its own second, one for its partners among those
-    /// of theirs, and the words. The parts are in a ring buffer of `window + 2`
-    /// seconds, allocated with the first part, so a second is found without a search. Removed parts are
-    /// freed when another second takes their slot: each is freed once, and a stamp far above the others
-    /// costs no more.
+    /// Costs one search among the stored parts of its own second, one for its partners among those of theirs,
+    /// and the words. Of up to 72 parts of a second those of the satellite, signal and other kind are tried,
+    /// a CRC each; of more the partners alone are found, by the remainder of one CRC. The parts are in a ring
+    /// buffer of `window + 2` seconds, allocated with the first part, so a second is found without a search.
+    /// Removed parts leave when another second takes their slot, which uses their room again: a stamp far
+    /// above the others costs no more.
     ///
     /// `AllocError` where memory runs out; nothing is changed then.
     pub fn take(

@@ -1,25 +1,15 @@
-//! Page parts in the order in which they are stored: by stamp, satellite, signal, CRC remainder (equal
-//! for partners), kind, and bits. So the partners of a page part are adjacent.
+//! Page parts as keys of a tree, by stamp, satellite, signal, CRC remainder (equal for partners), kind, and
+//! bits. So the partners of a page part are adjacent.
 
-ghost use Rattle.std.specs.Prelude.{◌≡◌, ℕ, ◌+◌, ◌*◌, ◌/◌, ◌^◌, ◌<◌, ◌≤◌, ◌↔◌, SomeIff, IfOk, OnOk};
-ghost use Rattle.std.specs.Prelude.{OnErr, List, [], length, map, max, Contains, IsTrue};
+ghost use Rattle.std.specs.Prelude.{◌≡◌, ℕ, ◌+◌, ◌*◌, ◌^◌, ◌<◌, ◌≤◌, ◌⊎◌, ◌↔◌, length, map, Contains};
+ghost use Rattle.std.specs.Prelude.{IfOk, IsTrue, OnErr, OnOk};
 ghost use Rattle.std.specs.List.Sorted.{IsStrictlySortedBy};
-ghost use Rattle.nav_eph.specs.declared.sat.System.TheVariants.{Gal};
-ghost use Rattle.inav_page.specs.Pages.{kind_of};
-ghost use Rattle.inav_page.specs.Heard.{AreWordsWith, stamp_by, word_by};
-ghost use Rattle.inav_page.specs.Keeping.{stamped};
-ghost use Rattle.inav_page.specs.Mirrors.{end_of_partners, first_partner, half_of, key_cmp};
-ghost use Rattle.inav_page.specs.Mirrors.{keys_held, keys_in, place_of, remainder_of, bucket_of};
-ghost use Rattle.inav_page.specs.Mirrors.{words_in_bucket, AreSeconds, HasPartnerStamp, IsKey};
-ghost use Rattle.inav_page.specs.Mirrors.{HoldsKey, PutsKey};
+ghost use Rattle.inav_page.specs.Mirrors.{bucket_of, end_of_partners, first_partner, key_at};
+ghost use Rattle.inav_page.specs.Mirrors.{key_cmp, words_in_bucket};
 
 use crate::half::{Half, HalfKind, ODD};
-use crate::joined::Joined;
-use crate::page::{remainder, word};
-use crate::seconds::Seconds;
-use crate::signal::signal_code;
+use crate::page::{remainder, word_of_two};
 use nav_bits::Bits;
-use nav_eph::Signal;
 use std::alloc::{AllocError, Global};
 use std::collections::BTreeSet;
 use std::ops::Range;
@@ -28,31 +18,52 @@ use std::ops::Range;
 // remainder), and its bits.
 pub(crate) type Key = (u64, u128);
 
-// The bucket of a stamp, Galileo satellite number, signal, and CRC remainder.
-fn bucket(stamp: u32, number: u8, signal: Signal, remainder: u64) -> u64
-    requires number { number < 64 }
+// The bucket of a stamp, the number of a satellite and signal, and a CRC remainder.
+pub(crate) fn bucket(stamp: u32, lane: u64, remainder: u64) -> u64
+    requires lane { lane < 256 }
     requires remainder { remainder < 2 ^ 24 }
-    ensures same { result ≡ bucket_of (place_of stamp number signal) remainder }
-    ensures fits { result < 2 ^ 63 }
+    ensures same { result ≡ bucket_of (stamp * 128 + lane) remainder }
+    ensures fits { lane < 128 → result < 2 ^ 63 }
 {
-    let place = u64::from(stamp) * 128 + u64::from(number) * 2 + signal_code(signal);
-    place * 0x100_0000 + remainder
+    (u64::from(stamp) * 128 + lane) * 0x100_0000 + remainder
 }
 
-// The stamp of the partners of a page part.
-fn partner_stamp(kind: HalfKind, stamp: u32) -> Option<u32>
-    ensures { HasPartnerStamp kind stamp result }
+// The key of the page part with this number in the second of a stamp.
+pub(crate) fn key_of(stamp: u32, number: u128) -> Key
+    ensures { result ≡ key_at stamp number }
 {
-    match kind {
-        HalfKind::Even => {
-            if stamp < u32::MAX {
-                Some(stamp + 1)
-            } else {
-                None
-            }
-        }
-        HalfKind::Odd => { if 0 < stamp { Some(stamp - 1) } else { None } }
+    let lane = (number / (1 << 120)) as u64;
+    let bits = number % (1 << 120);
+    (bucket(stamp, lane, remainder(bits)), bits)
+}
+
+// Inserts a key, and says whether it was there.
+pub(crate) fn put_key(keys: &mut BTreeSet<Key>, key: Key) -> Result<bool, AllocError>
+    ensures there { IfOk result (λ there. IsTrue there ↔ Contains keys.old.keys key) }
+    ensures keys { OnOk result ((other : ℕ × ℕ) → Contains keys.new.keys other ↔
+        (Contains keys.old.keys other ⊎ (key ≡ other))) }
+    ensures room { OnOk result (length keys.new.keys ≤ length keys.old.keys + 1) }
+    ensures err { OnErr result (keys.new.keys ≡ keys.old.keys) }
+{
+    let added = keys.insert(key)?;
+    Ok(!added)
+}
+
+// The keys of the page parts with these numbers, in a tree.
+pub(crate) fn tree_of(
+    alloc: Global,
+    stamp: u32,
+    numbers: &[u128],
+) -> Result<BTreeSet<Key>, AllocError>
+    ensures keys { IfOk result (λ keys. (other : ℕ × ℕ) → Contains keys.keys other ↔
+        Contains (map (key_at stamp) numbers.now) other) }
+    ensures room { IfOk result (λ keys. length keys.keys ≤ length numbers.now) }
+{
+    let mut keys = BTreeSet::new(alloc);
+    for number in numbers {
+        put_key(&mut keys, key_of(stamp, *number))?;
     }
+    Ok(keys)
 }
 
 // The range of the page parts of the other kind in a bucket.
@@ -67,19 +78,8 @@ fn others_in(bucket: u64, kind: HalfKind) -> Range<Key>
     }
 }
 
-// The word of a page part of that kind and its partner.
-fn word_of_two(kind: HalfKind, one: u128, other: u128) -> Bits<16>
-    ensures { result ≡ word_by kind one other }
-{
-    match kind {
-        HalfKind::Even => word(one, other),
-        HalfKind::Odd => word(other, one),
-    }
-}
-
-// The words of a page part with those stored in a bucket: from the first key of the other kind on, as long
-// as the range lasts, so that one end is searched for and not two.
-fn words_with(
+// The words of a page part with those stored in a bucket.
+pub(crate) fn words_with(
     alloc: Global,
     kept: &BTreeSet<Key>,
     bucket: u64,
@@ -91,135 +91,10 @@ fn words_with(
 {
     let kind = half.kind();
     let number = half.number();
-    let others = others_in(bucket, kind);
     let mut words = Vec::new(alloc);
     let _length = kept.len();
-    for key in kept.range(others.start..) {
-        if others.end.cmp(key).is_le() {
-            return Ok(words);
-        }
+    for key in kept.range(others_in(bucket, kind)) {
         words.push(word_of_two(kind, number, key.1))?;
     }
     Ok(words)
-}
-
-// The words that a page part with this CRC remainder makes with the stored ones, and their stamp.
-fn joined_with(
-    alloc: Global,
-    kept: &Seconds,
-    stamp: u32,
-    number: u8,
-    signal: Signal,
-    remainder: u64,
-    half: &Half,
-) -> Result<Joined, AllocError>
-    requires number { number < 64 }
-    requires seconds { AreSeconds kept.now }
-    requires remainder { remainder ≡ remainder_of half.now }
-    requires fits { remainder < 2 ^ 24 }
-    ensures words { IfOk result (λ joined. AreWordsWith (Contains (map half_of (keys_in kept.now)))
-        (stamped stamp (record { system = Gal; number = number }) signal half.now) joined.words) }
-    ensures stamp { IfOk result (λ joined. (joined.words ≡ [] → ⊥) →
-        joined.stamp ≡ stamp_by (kind_of half.now) stamp) }
-    ensures count { IfOk result (λ joined. length joined.words ≤ length (keys_in kept.now)) }
-{
-    let kind = half.kind();
-    let Some(other) = partner_stamp(kind, stamp) else {
-        return Ok(Joined::none(alloc));
-    };
-    let Some(second) = kept.find(other) else {
-        return Ok(Joined::none(alloc));
-    };
-    let words = words_with(
-        alloc,
-        second,
-        bucket(other, number, signal, remainder),
-        half,
-    )?;
-    let heard = match kind {
-        HalfKind::Even => other,
-        HalfKind::Odd => stamp,
-    };
-    Ok(Joined::new(words, heard))
-}
-
-// The key of a page part, and its CRC remainder.
-fn key_of(stamp: u32, number: u8, signal: Signal, half: &Half) -> (Key, u64)
-    requires { number < 64 }
-    ensures place { result.0.0 / 2 ^ 24 ≡ place_of stamp number signal }
-    ensures bits { result.0.1 ≡ half.now }
-    ensures key { IsKey result.0 }
-    ensures remainder { result.1 ≡ remainder_of half.now }
-    ensures fits { result.1 < 2 ^ 24 }
-{
-    let remainder = remainder(half);
-    (
-        (bucket(stamp, number, signal, remainder), half.number()),
-        remainder,
-    )
-}
-
-// The words that a page part makes with the stored ones, and their stamp.
-pub(crate) fn join_with_kept(
-    alloc: Global,
-    kept: &Seconds,
-    stamp: u32,
-    number: u8,
-    signal: Signal,
-    half: &Half,
-) -> Result<Joined, AllocError>
-    requires number { number < 64 }
-    requires seconds { AreSeconds kept.now }
-    ensures words { IfOk result (λ joined. AreWordsWith (Contains (map half_of (keys_in kept.now)))
-        (stamped stamp (record { system = Gal; number = number }) signal half.now) joined.words) }
-    ensures stamp { IfOk result (λ joined. (joined.words ≡ [] → ⊥) →
-        joined.stamp ≡ stamp_by (kind_of half.now) stamp) }
-    ensures count { IfOk result (λ joined. length joined.words ≤ length (keys_in kept.now)) }
-{
-    joined_with(alloc, kept, stamp, number, signal, remainder(half), half)
-}
-
-// Stores a page part that is not too old, and gives the words that it makes with those stored before;
-// none where it was stored already.
-pub(crate) fn keep(
-    alloc: Global,
-    kept: &mut Seconds,
-    stamp: u32,
-    number: u8,
-    signal: Signal,
-    half: &Half,
-) -> Result<Joined, AllocError>
-    requires number { number < 64 }
-    requires seconds { AreSeconds kept.old }
-    requires recent { kept.old.greatest ≤ stamp + kept.old.window + 1 }
-    ensures words { IfOk result (λ joined. (Contains (map half_of (keys_in kept.old))
-        (stamped stamp (record { system = Gal; number = number }) signal half.now) → ⊥) →
-        AreWordsWith (Contains (map half_of (keys_in kept.old)))
-        (stamped stamp (record { system = Gal; number = number }) signal half.now) joined.words) }
-    ensures again { IfOk result (λ joined. Contains (map half_of (keys_in kept.old))
-        (stamped stamp (record { system = Gal; number = number }) signal half.now) →
-        joined.words ≡ []) }
-    ensures stamp { IfOk result (λ joined. (joined.words ≡ [] → ⊥) →
-        joined.stamp ≡ stamp_by (kind_of half.now) stamp) }
-    ensures count { IfOk result (λ joined. length joined.words ≤ length (keys_in kept.old)) }
-    ensures kept { OnOk result ((key : ℕ × ℕ) ×
-        (half_of key ≡ stamped stamp (record { system = Gal; number = number }) signal half.now) ×
-        PutsKey kept.old key kept.new) }
-    ensures held { OnOk result ((key : ℕ × ℕ) ×
-        (half_of key ≡ stamped stamp (record { system = Gal; number = number }) signal half.now) ×
-        HoldsKey kept.old key kept.new) }
-    ensures greatest { OnOk result (kept.new.greatest ≡ max kept.old.greatest stamp) }
-    ensures window { kept.new.window ≡ kept.old.window }
-    ensures seconds { AreSeconds kept.new }
-    ensures err { OnErr result (kept.new.greatest ≡ kept.old.greatest) }
-    ensures err_keys { OnErr result (keys_in kept.new ≡ keys_in kept.old) }
-    ensures err_held { OnErr result
-        (keys_held kept.new.places.items ≡ keys_held kept.old.places.items) }
-{
-    let (key, remainder) = key_of(stamp, number, signal, half);
-    let joined = joined_with(alloc, kept, stamp, number, signal, remainder, half)?;
-    if kept.put(alloc, stamp, key)? {
-        return Ok(Joined::none(alloc));
-    }
-    Ok(joined)
 }

@@ -24,9 +24,12 @@ mod fault;
 mod half;
 mod halves;
 mod joined;
+mod joining;
 mod keys;
 mod laws;
+mod numbers;
 mod page;
+mod second;
 mod seconds;
 mod signal;
 

@@ -5,7 +5,8 @@ ghost use Rattle.nav_bits.specs.Bits.{number_at};
 ghost use Rattle.inav_page.specs.declared.half.HalfKind.TheVariants.{Even, Odd};
 ghost use Rattle.inav_page.specs.Pages.{bits_at, even_of, has_right_crc, kind_of, odd_of};
 ghost use Rattle.inav_page.specs.Pages.{page_crc, word_of, HasRightCrc, IsHalf, IsSplit};
-ghost use Rattle.inav_page.specs.Mirrors.{remainder_of};
+ghost use Rattle.inav_page.specs.Heard.{word_by};
+ghost use Rattle.inav_page.specs.Mirrors.{is_right_by, remainder_of};
 
 use crate::half::{Half, HalfKind, ODD};
 use crc24q::crc_bytes;
@@ -46,22 +47,32 @@ fn crc_of_odd(odd: u128) -> u64
 }
 
 // The CRC in the odd part is right.
-pub(crate) fn belong(even: u128, odd: u128) -> bool
+fn belong(even: u128, odd: u128) -> bool
     ensures { result ≡ has_right_crc even odd }
 {
     crc_of(even, odd) == (odd / 0x4000 % 0x100_0000) as u64
 }
 
+// The same of two page parts, the first of that kind.
+pub(crate) fn belong_by(kind: HalfKind, one: u128, other: u128) -> bool
+    ensures { result ≡ is_right_by kind one other }
+{
+    match kind {
+        HalfKind::Even => belong(one, other),
+        HalfKind::Odd => belong(other, one),
+    }
+}
+
 // The CRC remainder, equal for partners: the contribution of an even part to the CRC of its page, or
 // the contribution that an odd part's CRC demands of the even part.
-pub(crate) fn remainder(half: &Half) -> u64
-    ensures same { result ≡ remainder_of half.now }
+pub(crate) fn remainder(half: u128) -> u64
+    ensures same { result ≡ remainder_of half }
     ensures fits { result < 2 ^ 24 }
 {
-    let number = half.number();
-    match half.kind() {
-        HalfKind::Even => crc_of(number, 0),
-        HalfKind::Odd => crc_of_odd(number) ^ (number / 0x4000 % 0x100_0000) as u64,
+    if half < ODD {
+        crc_of(half, 0)
+    } else {
+        crc_of_odd(half) ^ (half / 0x4000 % 0x100_0000) as u64
     }
 }
 
@@ -72,6 +83,16 @@ pub(crate) fn word(even: u128, odd: u128) -> Bits<16>
     let high = even / 0x40 % (1 << 112);
     let low = (odd >> 102) % 0x1_0000;
     Bits::from_bytes((high * 0x1_0000 + low).to_be_bytes())
+}
+
+// The word of two page parts, the first of that kind.
+pub(crate) fn word_of_two(kind: HalfKind, one: u128, other: u128) -> Bits<16>
+    ensures { result ≡ word_by kind one other }
+{
+    match kind {
+        HalfKind::Even => word(one, other),
+        HalfKind::Odd => word(other, one),
+    }
 }
 
 /// The word of a page: the 112 data bits of the even part followed by the 16 of the odd part (Galileo OS

@@ -1,22 +1,15 @@
-//! The keys of page parts in a ring buffer of seconds: a stamp has the slot at its remainder modulo
-//! `window + 2`, so a second is found without a search. A second that is too old counts as removed, and
-//! is freed when another takes its slot.
+//! The page parts in a ring buffer of seconds: a stamp has the slot at its remainder modulo `window + 2`, so
+//! a second is found without a search. A second that is too old counts as removed; its room is used again
+//! when another takes its slot.
 
-ghost use Rattle.std.specs.Prelude.{◌≡◌, ℕ, ◌+◌, ◌%◌, ◌<◌, ◌≤◌, ◌⊎◌, ◌↔◌, IfSome, IfNone, IsTrue};
-ghost use Rattle.std.specs.Prelude.{IfOk, OnOk, OnErr, [], length, max, Contains};
-ghost use Rattle.inav_page.specs.Mirrors.{half_of, keys_held, keys_in, keys_of, AreSeconds, IsKey};
-ghost use Rattle.inav_page.specs.Mirrors.{HoldsKey, IsSecondOf, KeepsKeys, PutsKey};
+ghost use Rattle.std.specs.Prelude.{◌≡◌, ℕ, ◌+◌, ◌%◌, ◌^◌, ◌<◌, ◌≤◌, ◌↔◌, IfSome, IfNone, IsTrue, IfOk};
+ghost use Rattle.std.specs.Prelude.{OnOk, OnErr, [], length, max, Contains};
+ghost use Rattle.inav_page.specs.Mirrors.{key_at};
+ghost use Rattle.inav_page.specs.Kept.{keys_held, keys_in, AreSeconds, HoldsKey, IsSecondOf};
+ghost use Rattle.inav_page.specs.Kept.{KeepsKeys, PutsKey};
 
-use crate::keys::Key;
+use crate::second::Second;
 use std::alloc::{AllocError, Global};
-use std::collections::BTreeSet;
-
-// The keys of the page parts of one second.
-#[derive(Drop)]
-pub(crate) struct Second {
-    stamp: u32,
-    keys: BTreeSet<Key>,
-}
 
 // The seconds of a window, which ends at the greatest stamp.
 #[derive(Drop)]
@@ -26,29 +19,6 @@ pub(crate) struct Seconds {
     places: Vec<Second>,
 }
 
-impl Second {
-    // Inserts a key of that stamp, and says whether it was there; keys of another stamp are removed first.
-    fn put(&mut self, alloc: Global, stamp: u32, key: Key) -> Result<bool, AllocError>
-        ensures there { IfOk result (λ there.
-            IsTrue there ↔ Contains (keys_of stamp self.old) key) }
-        ensures stamp { OnOk result (self.new.stamp ≡ stamp) }
-        ensures keys { OnOk result ((other : ℕ × ℕ) → Contains self.new.keys.keys other ↔
-            (Contains (keys_of stamp self.old) other ⊎ (key ≡ other))) }
-        ensures room { OnOk result
-            (length self.new.keys.keys ≤ length (keys_of stamp self.old) + 1) }
-        ensures err { OnErr result (self.new ≡ self.old) }
-    {
-        if self.stamp == stamp {
-            let added = self.keys.insert(key)?;
-            return Ok(!added);
-        }
-        let mut keys = BTreeSet::new(alloc);
-        keys.insert(key)?;
-        *self = Second { stamp, keys };
-        Ok(false)
-    }
-}
-
 // Appends empty slots up to that count.
 fn make_places(alloc: Global, places: &mut Vec<Second>, count: usize) -> Result<(), AllocError>
     ensures enough { OnOk result (count ≤ length places.new.items) }
@@ -56,10 +26,7 @@ fn make_places(alloc: Global, places: &mut Vec<Second>, count: usize) -> Result<
     ensures held { keys_held places.new.items ≡ keys_held places.old.items }
 {
     for _ in places.len()..count {
-        places.push(Second {
-            stamp: 0,
-            keys: BTreeSet::new(alloc),
-        })?;
+        places.push(Second::new(alloc))?;
     }
     Ok(())
 }
@@ -98,10 +65,12 @@ impl Seconds {
         (stamp % (self.window + 2)) as usize
     }
 
-    // The keys of a second, unless it is too old or has none.
-    pub(crate) fn find(&self, stamp: u32) -> Option<&BTreeSet<Key>>
+    // A second, unless it is too old or has no page parts.
+    pub(crate) fn find(&self, stamp: u32) -> Option<&Second>
         requires { AreSeconds self.now }
-        ensures there { IfSome result (λ keys. IsSecondOf (keys_in self.now) stamp keys.now.keys) }
+        ensures there { IfSome result (λ second.
+            IsSecondOf (keys_in self.now) stamp second.now.keys) }
+        ensures stamp { IfSome result (λ second. second.now.stamp ≡ stamp) }
         ensures none { IfNone result (IsSecondOf (keys_in self.now) stamp []) }
     {
         if self.is_too_old(stamp) {
@@ -110,33 +79,38 @@ impl Seconds {
         let Some(second) = self.places.get(self.place(stamp)) else {
             return None;
         };
-        if second.stamp != stamp {
+        if second.stamp() != stamp {
             return None;
         }
-        Some(&second.keys)
+        Some(second)
     }
 
-    // Inserts a key that is not too old, says whether it was stored already, and raises the greatest stamp
-    // to its stamp.
-    pub(crate) fn put(&mut self, alloc: Global, stamp: u32, key: Key) -> Result<bool, AllocError>
+    // Inserts the page part with this number in its second, which is not too old, says whether it was stored
+    // already, and raises the greatest stamp to its stamp.
+    pub(crate) fn put(
+        &mut self,
+        alloc: Global,
+        stamp: u32,
+        number: u128,
+    ) -> Result<bool, AllocError>
         requires seconds { AreSeconds self.old }
-        requires key { IsKey key }
-        requires stamp { (half_of key).stamp ≡ stamp }
+        requires fits { number < 2 ^ 127 }
         requires recent { self.old.greatest ≤ stamp + self.old.window + 1 }
-        ensures there { IfOk result (λ there. IsTrue there ↔ Contains (keys_in self.old) key) }
-        ensures kept { OnOk result (PutsKey self.old key self.new) }
+        ensures there { IfOk result (λ there.
+            IsTrue there ↔ Contains (keys_in self.old) (key_at stamp number)) }
+        ensures kept { OnOk result (PutsKey self.old (key_at stamp number) self.new) }
         ensures greatest { OnOk result (self.new.greatest ≡ max self.old.greatest stamp) }
         ensures window { self.new.window ≡ self.old.window }
         ensures seconds { AreSeconds self.new }
         ensures err { OnErr result (self.new.greatest ≡ self.old.greatest) }
         ensures err_keys { OnErr result (keys_in self.new ≡ keys_in self.old) }
-        ensures held { OnOk result (HoldsKey self.old key self.new) }
+        ensures held { OnOk result (HoldsKey self.old (key_at stamp number) self.new) }
         ensures err_held { OnErr result
             (keys_held self.new.places.items ≡ keys_held self.old.places.items) }
     {
         let place = self.place(stamp);
         make_places(alloc, &mut self.places, self.window as usize + 2)?;
-        let there = self.places[place].put(alloc, stamp, key)?;
+        let there = self.places[place].put(alloc, stamp, number)?;
         self.greatest = self.greatest.max(stamp);
         Ok(there)
     }

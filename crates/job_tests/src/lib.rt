@@ -1,5 +1,6 @@
-//! Tests of the jobs of `navbridge`: whole runs over memory, with the outputs, reports and statuses
-//! that were worked by hand.
+//! Tests of the jobs: whole runs of `navbridge` over memory, with the outputs, reports and statuses that
+//! were worked by hand; and of the step from one file to another, which `navconvert` takes, over folders
+//! in memory and files that are played.
 #![tactic(auto)]
 
 #[cfg(test)]
@@ -9,18 +10,34 @@ mod bits;
 #[cfg(test)]
 mod capture_rows;
 #[cfg(test)]
+mod commands;
+#[cfg(test)]
 mod failures;
 #[cfg(test)]
 mod file_rows;
 #[cfg(test)]
+mod forms;
+#[cfg(test)]
+mod in_memory;
+#[cfg(test)]
 mod large_rows;
 #[cfg(test)]
+mod looks;
+#[cfg(test)]
 mod over_memory;
+#[cfg(test)]
+mod played;
+#[cfg(test)]
+mod runs;
 #[cfg(test)]
 mod samples;
 #[cfg(test)]
 mod sent_rows;
 #[cfg(test)]
+mod steps;
+#[cfg(test)]
 mod stream_rows;
 #[cfg(test)]
 mod tests;
+#[cfg(test)]
+mod texts;

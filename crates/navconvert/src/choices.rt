@@ -1,10 +1,10 @@
 //! What is done, by what was asked.
 
 use crate::clock::ClockWords;
-use crate::files::{Task, convert_file};
+use crate::files::{Task, convert_file, convert_joined};
 use crate::outputs::{Output, output_of};
-use crate::several::{convert_joined, joins};
 use crate::telling::tell_program;
+use file_form::Target;
 use file_step::{FileFault, fault_of};
 use file_texts::{Refusal, is_site};
 use front_plan::{Asked, Values};
@@ -101,6 +101,14 @@ fn plan_of<'x, 'a>(asked: &'x Asked<'a>, clock: &'x ClockWords) -> Plan<'x> {
         form: asked.from(),
         target: asked.to(),
         values,
+    }
+}
+
+// Whether one output is made of several files.
+fn joins(target: Target) -> bool {
+    match target {
+        Target::Merged | Target::Cover => true,
+        _ => false,
     }
 }
 

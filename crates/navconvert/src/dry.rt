@@ -5,91 +5,75 @@ use crate::forms::{file_kind, input_kind};
 use crate::outputs::name_of;
 use crate::telling::tell_file;
 use file_form::Kind;
-use file_step::FileInput;
-use front_run::{Stop, is_copied, refusal_of, words_under};
+use file_texts::Refusal;
+use front_plan::ending_of;
+use front_run::{FileInput, is_copied, refusal_of, words_under};
 
-/// Prints the command that does what is asked of a file; the status.
-pub fn show_file(task: &Task, file: &str) -> u8 {
-    let kind = if file == "-" {
+/// Prints the command that does what is asked of files, the first of which has this name; the status.
+pub fn show_files(task: &Task, first: &str, files: &[&str]) -> u8 {
+    match kind_of_files(task, first, files) {
+        Ok(kind) => show_kind(task, first, files, kind),
+        Err(refusal) => tell_file(task.rt, first, &refusal),
+    }
+}
+
+// The form under which files are read.
+fn kind_of_files(task: &Task, first: &str, files: &[&str]) -> Result<Kind, Refusal<'static>> {
+    if files.len() > 1 {
+        Ok(Kind::Rinex4)
+    } else if first == "-" {
         input_kind(task, FileInput::new(task.rt.stdin()))
     } else {
-        file_kind(task, file)
-    };
-    match kind {
-        Ok(kind) => show_kind(task, file, kind),
-        Err(refusal) => tell_file(task.rt, file, &refusal),
+        file_kind(task, first)
     }
 }
 
-// The same of a file of this form.
-fn show_kind(task: &Task, file: &str, kind: Kind) -> u8 {
+// Prints the command for files of this form.
+fn show_kind(task: &Task, first: &str, files: &[&str], kind: Kind) -> u8 {
     if is_copied(kind, task.plan.target) {
-        return show_log(task, file, kind);
+        return show(task, first, files, kind, None);
     }
     match words_under(task.rt.alloc(), &task.plan, kind) {
-        Ok(words) => show(task, file, kind, &words),
-        Err(stop) => told(task, file, stop),
+        Ok(words) => show(task, first, files, kind, Some(words.as_slice())),
+        Err(stop) => {
+            let refusal = refusal_of(&task.plan, stop, first, first);
+            tell_file(task.rt, first, &refusal)
+        }
     }
 }
 
-// Prints the command for the capture of a log.
-fn show_log(task: &Task, file: &str, kind: Kind) -> u8 {
-    let mut line = Line::new(task.rt);
-    line.text(program_of(kind));
-    line.word("< ", file);
-    line.end(task, file)
-}
-
-/// Prints the command that makes one output of several files; the status.
-pub fn show_joined(task: &Task, first: &str, files: &[&str]) -> u8 {
-    match words_under(task.rt.alloc(), &task.plan, Kind::Rinex4) {
-        Ok(words) => show_joined_words(task, first, files, &words),
-        Err(stop) => told(task, first, stop),
+// Prints the command in which navbridge has these words, where it has a part in it.
+fn show(task: &Task, first: &str, files: &[&str], kind: Kind, words: Option<&[String]>) -> u8 {
+    let mut line = Line {
+        rt: task.rt,
+        whole: true,
+    };
+    match reader_of(kind, files.len()) {
+        Some((program, mark)) => {
+            line.text(program);
+            line.files(mark, files);
+            if words.is_some() {
+                line.text(" | navbridge");
+            }
+            line.words(words);
+        }
+        None => {
+            line.text("navbridge");
+            line.words(words);
+            line.files("< ", files);
+        }
     }
-}
-
-// Prints that command.
-fn show_joined_words(task: &Task, first: &str, files: &[&str], words: &[String]) -> u8 {
-    let mut line = Line::new(task.rt);
-    line.text("cat");
-    for file in files {
-        line.word("", file);
-    }
-    line.text(" | navbridge");
-    line.words(words);
     line.end(task, first)
 }
 
-// Says why there is no command.
-fn told(task: &Task, file: &str, stop: Stop) -> u8 {
-    let refusal = refusal_of(&task.plan, stop, file, file);
-    tell_file(task.rt, file, &refusal)
-}
-
-// Prints a command.
-fn show(task: &Task, file: &str, kind: Kind, words: &[String]) -> u8 {
-    let mut line = Line::new(task.rt);
-    line.text(program_of(kind));
+// The program that reads so many files of this form, and the mark before their names, where that is
+// not navbridge.
+fn reader_of(kind: Kind, count: usize) -> Option<(&'static str, &'static str)> {
     match kind {
-        Kind::Ubx | Kind::Sbf => {
-            line.word("< ", file);
-            line.text(" | navbridge");
-            line.words(words);
-        }
-        _ => {
-            line.words(words);
-            line.word("< ", file);
-        }
-    }
-    line.end(task, file)
-}
-
-// The program that reads a file of this form.
-fn program_of(kind: Kind) -> &'static str {
-    match kind {
-        Kind::Ubx => "navlog --from ubx",
-        Kind::Sbf => "navlog --from sbf",
-        _ => "navbridge",
+        Kind::Ubx => Some(("navlog --from ubx", "< ")),
+        Kind::Sbf => Some(("navlog --from sbf", "< ")),
+        _ if count > 1 => Some(("cat", "")),
+        _ => None,
     }
 }
 
@@ -100,12 +84,7 @@ struct Line<'a> {
     whole: bool,
 }
 
-impl<'a> Line<'a> {
-    // Nothing yet.
-    fn new(rt: &'a HostRuntime) -> Line<'a> {
-        Line { rt, whole: true }
-    }
-
+impl Line<'_> {
     // Prints a text.
     fn text(&mut self, text: &str) {
         self.whole = self.whole && print!(self.rt; "{text}").is_ok();
@@ -116,16 +95,25 @@ impl<'a> Line<'a> {
         self.whole = self.whole && print!(self.rt; " {mark}'{word}'").is_ok();
     }
 
-    // Prints words.
-    fn words(&mut self, words: &[String]) {
-        for word in words {
-            self.word("", word.as_str());
+    // Prints words, where there are any.
+    fn words(&mut self, words: Option<&[String]>) {
+        if let Some(words) = words {
+            for word in words {
+                self.word("", word.as_str());
+            }
+        }
+    }
+
+    // Prints the names of files, each behind this mark.
+    fn files(&mut self, mark: &str, files: &[&str]) {
+        for file in files {
+            self.word(mark, file);
         }
     }
 
     // Prints where the command writes, and ends the line; the status.
     fn end(&mut self, task: &Task, file: &str) -> u8 {
-        let ending = task.plan.target.ending();
+        let ending = ending_of(task.plan.target);
         if let Ok(name) = name_of(task.rt.alloc(), task.output, file, ending) {
             self.word("> ", name.as_str());
         }

@@ -1,7 +1,8 @@
-//! The conversion of one file.
+//! The conversion of one file, or of several to one output.
 
-use crate::dry::show_file;
+use crate::dry::show_files;
 use crate::forms::{file_kind, opened};
+use crate::joined::Joined;
 use crate::outputs::{Output, is_file, is_folder, name_of, placed, taken};
 use crate::standard::to_standard;
 use crate::steps::put;
@@ -10,8 +11,10 @@ use crate::times::long_name_from;
 use file_form::{Kind, Target, row_of};
 use file_step::FileFault;
 use file_texts::Refusal;
+use front_plan::ending_of;
 use front_run::{Plan, is_copied};
 use std::fs::File;
+use std::slice::from_ref;
 
 /// What is done with each file.
 #[derive(Clone, Copy)]
@@ -37,45 +40,100 @@ pub struct Task<'a> {
 }
 
 /// Converts a file, `-` for standard input, and says what became of it; the status.
-pub fn convert_file<'a>(task: &Task<'a>, file: &'a str) -> u8 {
-    if file != "-" && is_folder(task.rt, file) {
+pub fn convert_file<'a>(task: &Task<'a>, file: &'a &'a str) -> u8 {
+    if *file != "-" && is_folder(task.rt, file) {
         return tell_file(task.rt, file, &Refusal::NotOpened(FileFault::IsFolder));
     }
+    convert(task, file, from_ref(file))
+}
+
+/// Makes one output of files, which has the name of the first where none is named; the status.
+pub fn convert_joined<'a>(task: &Task<'a>, files: &'a [&'a str]) -> u8 {
+    for file in files {
+        if let Some(status) = refused_form(task, file) {
+            return status;
+        }
+    }
+    match files.first() {
+        None => 0,
+        Some(first) => convert(task, first, files),
+    }
+}
+
+// The status, where a file is of no form that can be joined.
+fn refused_form<'a>(task: &Task<'a>, file: &'a str) -> Option<u8> {
+    let refusal = match file_kind(task, file) {
+        Err(refusal) => refusal,
+        Ok(kind) => match row_of(kind, task.plan.target) {
+            Some(_) => return None,
+            None => Refusal::NoSuchConversion(kind),
+        },
+    };
+    Some(tell_file(task.rt, file, &refusal))
+}
+
+// Makes one output of files, the first of which has this name, `-` for standard input; the status.
+fn convert<'a>(task: &Task<'a>, first: &'a str, files: &'a [&'a str]) -> u8 {
     if task.dry {
-        return show_file(task, file);
+        return show_files(task, first, files);
     }
     match task.output {
-        Output::Standard => to_standard(task, file),
-        Output::Beside if file == "-" => to_standard(task, file),
-        output => to_name(task, output, file),
-    }
-}
-
-// Converts a file to one of its own name.
-fn to_name<'a>(task: &Task<'a>, output: Output, file: &'a str) -> u8 {
-    match named(task, output, file) {
-        Ok(name) => put_free(task, file, name.as_str()),
-        Err(refusal) => tell_file(task.rt, file, &refusal),
-    }
-}
-
-// The name of the output of a file.
-fn named<'a>(task: &Task<'a>, output: Output, file: &'a str) -> Result<String, Refusal<'a>> {
-    match task.site {
-        None => name_of(task.rt.alloc(), output, file, task.plan.target.ending()),
-        Some(site) => long_name_of(task, output, file, site),
-    }
-}
-
-// Converts a file to that of a name, where it may have it. Where it may not, and has no conversion
-// either, that is what is said.
-fn put_free<'a>(task: &Task<'a>, file: &'a str, name: &str) -> u8 {
-    match taken(task.rt, file, name, task.overwrites) {
-        None => put(task, file, name),
-        Some(refusal) => match unconverted(task, file) {
-            None => tell_file(task.rt, file, &refusal),
-            Some(kind) => tell_file(task.rt, file, &Refusal::NoSuchConversion(kind)),
+        Output::Standard => to_standard(task, first, files),
+        Output::Beside if first == "-" && files.len() == 1 => to_standard(task, first, files),
+        _ => match named(task, first, files) {
+            Ok(name) => put_free(task, first, files, name.as_str()),
+            Err(refusal) => tell_file(task.rt, first, &refusal),
         },
+    }
+}
+
+// The name of the output.
+fn named<'a>(task: &Task<'a>, first: &'a str, files: &'a [&'a str]) -> Result<String, Refusal<'a>> {
+    let alloc = task.rt.alloc();
+    let Some(site) = task.site else {
+        return name_of(alloc, task.output, first, ending_of(task.plan.target));
+    };
+    match times_name(task, first, files, site) {
+        Ok(name) => placed(alloc, task.output, first, name.as_str()),
+        Err(refusal) => Err(refusal),
+    }
+}
+
+// Its name by the convention of RINEX, by the times in the files.
+fn times_name<'a>(
+    task: &Task<'a>,
+    first: &'a str,
+    files: &'a [&'a str],
+    site: &'a str,
+) -> Result<String, Refusal<'a>> {
+    if files.len() > 1 {
+        let source = Joined::new(task.rt.alloc(), task.rt, files);
+        return long_name_from(task, source, first, site);
+    }
+    if first == "-" {
+        return Err(Refusal::NoLongName);
+    }
+    match opened(task, first) {
+        Ok(input) => long_name_from(task, input, first, site),
+        Err(refusal) => Err(refusal),
+    }
+}
+
+// Makes the output under this name, where it may have it.
+fn put_free<'a>(task: &Task<'a>, first: &'a str, files: &'a [&'a str], name: &str) -> u8 {
+    for file in files {
+        if let Some(refusal) = taken(task.rt, file, name, task.overwrites) {
+            return tell_taken(task, file, &refusal);
+        }
+    }
+    put(task, first, files, name)
+}
+
+// Says why an output may not have its name; or that the file has no conversion, where that is so.
+fn tell_taken(task: &Task, file: &str, refusal: &Refusal) -> u8 {
+    match unconverted(task, file) {
+        None => tell_file(task.rt, file, refusal),
+        Some(kind) => tell_file(task.rt, file, &Refusal::NoSuchConversion(kind)),
     }
 }
 
@@ -93,28 +151,4 @@ fn unconverted(task: &Task, file: &str) -> Option<Kind> {
 // Whether a file of this form is converted to that.
 fn converts(target: Target, kind: Kind) -> bool {
     is_copied(kind, target) || row_of(kind, target).is_some()
-}
-
-// The name of the output of a file by the convention of RINEX.
-fn long_name_of<'a>(
-    task: &Task<'a>,
-    output: Output,
-    file: &'a str,
-    site: &'a str,
-) -> Result<String, Refusal<'a>> {
-    if file == "-" {
-        return Err(Refusal::NoLongName);
-    }
-    match times_name(task, file, site) {
-        Ok(name) => placed(task.rt.alloc(), output, file, name.as_str()),
-        Err(refusal) => Err(refusal),
-    }
-}
-
-// That name without a folder, by the times in the file.
-fn times_name<'a>(task: &Task<'a>, file: &'a str, site: &'a str) -> Result<String, Refusal<'a>> {
-    match opened(task, file) {
-        Ok(input) => long_name_from(task, input, file, site),
-        Err(refusal) => Err(refusal),
-    }
 }

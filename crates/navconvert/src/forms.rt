@@ -2,9 +2,9 @@
 
 use crate::files::Task;
 use file_form::Kind;
-use file_step::{FileFault, FileInput, Folder, HostFolder};
+use file_step::{FileFault, Folder};
 use file_texts::Refusal;
-use front_run::look;
+use front_run::{FileInput, HostFolder, look};
 use peek_io::{PeekFault, Peeked};
 use std::fs::File;
 use std::io::Read;

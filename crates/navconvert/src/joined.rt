@@ -3,7 +3,8 @@
 ghost use Rattle.std.specs.Prelude.{◌≤◌, length};
 ghost use Rattle.std.specs.Io.{ReadsAtMost};
 
-use file_step::{FileInput, Folder, HostFolder};
+use file_step::Folder;
+use front_run::{FileInput, HostFolder};
 use nav_io::{Failed, Source};
 use std::alloc::Global;
 use std::fs::File;

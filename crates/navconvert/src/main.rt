@@ -16,7 +16,6 @@ mod joined;
 mod meter;
 mod notes;
 mod outputs;
-mod several;
 mod standard;
 mod steps;
 mod tally;

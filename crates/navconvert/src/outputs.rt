@@ -69,32 +69,36 @@ pub fn name_of(
     file: &str,
     ending: &str,
 ) -> Result<String, Refusal<'static>> {
-    match made_name(alloc, output, file, ending) {
-        Ok(Some(name)) => Ok(name),
+    match output {
+        Output::File(name) => owned(alloc, name),
+        Output::Standard => Err(Refusal::NoName),
+        Output::Folder(folder) => made_name(alloc, file, Some(folder), ending),
+        Output::Beside => made_name(alloc, file, None, ending),
+    }
+}
+
+// The same in this folder, or beside the file.
+fn made_name(
+    alloc: Global,
+    file: &str,
+    folder: Option<&str>,
+    ending: &str,
+) -> Result<String, Refusal<'static>> {
+    if file == "-" {
+        return Err(Refusal::NoName);
+    }
+    match output_name(alloc, file, folder, ending) {
+        Ok(Some(path)) => owned(alloc, path.path_text()),
         Ok(None) => Err(Refusal::NoName),
         Err(AllocError) => Err(Refusal::NoMemory),
     }
 }
 
-// The same, or none where the file has no name of its own.
-fn made_name(
-    alloc: Global,
-    output: Output,
-    file: &str,
-    ending: &str,
-) -> Result<Option<String>, AllocError> {
-    let folder = match output {
-        Output::File(name) => return Ok(Some(String::from_str(alloc, name)?)),
-        Output::Standard => return Ok(None),
-        Output::Folder(folder) => Some(folder),
-        Output::Beside => None,
-    };
-    if file == "-" {
-        return Ok(None);
-    }
-    match output_name(alloc, file, folder, ending)? {
-        None => Ok(None),
-        Some(path) => Ok(Some(String::from_str(alloc, path.path_text())?)),
+// A name of its own.
+fn owned(alloc: Global, name: &str) -> Result<String, Refusal<'static>> {
+    match String::from_str(alloc, name) {
+        Ok(name) => Ok(name),
+        Err(AllocError) => Err(Refusal::NoMemory),
     }
 }
 
@@ -105,26 +109,15 @@ pub fn placed(
     file: &str,
     name: &str,
 ) -> Result<String, Refusal<'static>> {
-    match path_of(alloc, output, file, name) {
-        Ok(Some(path)) => Ok(path),
-        Ok(None) => Err(Refusal::NoLongName),
+    let path = match output {
+        Output::Beside => Path::new(file).with_file_name(alloc, name),
+        Output::Folder(folder) => Path::new(folder).join(alloc, name),
+        Output::File(_) | Output::Standard => return Err(Refusal::NoLongName),
+    };
+    match path {
+        Ok(path) => owned(alloc, path.path_text()),
         Err(AllocError) => Err(Refusal::NoMemory),
     }
-}
-
-// The same, or none where the output has its own name.
-fn path_of(
-    alloc: Global,
-    output: Output,
-    file: &str,
-    name: &str,
-) -> Result<Option<String>, AllocError> {
-    let path = match output {
-        Output::Beside => Path::new(file).with_file_name(alloc, name)?,
-        Output::Folder(folder) => Path::new(folder).join(alloc, name)?,
-        Output::File(_) | Output::Standard => return Ok(None),
-    };
-    Ok(Some(String::from_str(alloc, path.path_text())?))
 }
 
 /// Why an output may not have this name, if it may not.

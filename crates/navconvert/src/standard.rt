@@ -2,26 +2,32 @@
 
 use crate::files::Task;
 use crate::forms::opened;
+use crate::joined::Joined;
 use crate::meter::Meter;
 use crate::steps::{told_of, with_faults};
 use crate::telling::{Saying, tell_file};
-use file_step::{FileInput, FileOutput};
-use front_run::{Sourced, finish, write_source};
+use file_step::FileOutput;
+use front_run::{FileInput, Sourced, finish, write_source};
 use nav_io::Source;
 
-/// Converts a file to standard output, and says what became of it; the status.
-pub fn to_standard(task: &Task, file: &str) -> u8 {
-    if file == "-" {
-        return write_from(task, file, FileInput::new(task.rt.stdin()));
+/// Converts files, the first of which has this name, to standard output, and says what became of them;
+/// the status.
+pub fn to_standard<'a>(task: &Task<'a>, first: &'a str, files: &'a [&'a str]) -> u8 {
+    if files.len() > 1 {
+        let source = Joined::new(task.rt.alloc(), task.rt, files);
+        return write_from(task, first, source);
     }
-    match opened(task, file) {
-        Ok(input) => write_from(task, file, input),
-        Err(refusal) => tell_file(task.rt, file, &refusal),
+    if first == "-" {
+        return write_from(task, first, FileInput::new(task.rt.stdin()));
+    }
+    match opened(task, first) {
+        Ok(input) => write_from(task, first, input),
+        Err(refusal) => tell_file(task.rt, first, &refusal),
     }
 }
 
-/// Writes what is made of a source to standard output. Where its reader has gone nothing is said.
-pub fn write_from<S: Source + Drop>(task: &Task, file: &str, source: S) -> u8 {
+// Writes what is made of a source to standard output. Where its reader has gone nothing is said.
+fn write_from<S: Source + Drop>(task: &Task, file: &str, source: S) -> u8 {
     let mut output = FileOutput::new(task.rt.stdout());
     let told = told_of(task, Meter::Off);
     let Sourced { outcome, source: _ } = write_source(

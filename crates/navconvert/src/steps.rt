@@ -1,41 +1,44 @@
-//! The step of one file: from its bytes to the file of a name.
+//! The step to the file of a name.
 
 ghost use Rattle.std.specs.Prelude.{◌≢◌};
 
 use crate::files::Task;
+use crate::joined::Joined;
 use crate::meter::Meter;
 use crate::notes::Notes;
 use crate::outputs::size_of;
 use crate::tally::Tally;
 use crate::telling::{Saying, tell_file};
-use file_step::{FileFault, FileInput, HostFolder, part_of};
+use file_step::{FileFault, part_of};
 use file_texts::Refusal;
-use front_run::{Outcome, Sourced, Stop, Told, convert_one, convert_source, finish};
+use front_run::{
+    FileInput, HostFolder, Outcome, Sourced, Stop, Told, convert_one, convert_source, finish,
+};
+use nav_io::Source;
 
-/// Converts a file to that of a name, and says what became of it; the status.
-pub fn put<'a>(task: &Task<'a>, file: &'a str, name: &str) -> u8 {
+/// Converts files, the first of which has this name, to that of a name, and says what became of them;
+/// the status.
+pub fn put<'a>(task: &Task<'a>, first: &'a str, files: &'a [&'a str], name: &str) -> u8 {
     match part_of(task.rt.alloc(), name) {
-        Ok(part) => put_part(task, file, part.as_str(), name),
-        Err(_) => tell_file(task.rt, file, &Refusal::NoMemory),
+        Ok(part) => put_part(task, first, files, part.as_str(), name),
+        Err(_) => tell_file(task.rt, first, &Refusal::NoMemory),
     }
 }
 
 // The same, by a part of this name.
-fn put_part<'a>(task: &Task<'a>, file: &'a str, part: &str, name: &str) -> u8
+fn put_part<'a>(task: &Task<'a>, first: &'a str, files: &'a [&'a str], part: &str, name: &str) -> u8
     requires { part.now ≢ name.now }
 {
-    if file == "-" {
-        end(task, file, part, name, put_standard(task, part, name))
+    let outcome = if files.len() > 1 {
+        put_joined(task, files, part, name)
+    } else if first == "-" {
+        put_standard(task, part, name)
     } else {
-        end(task, file, part, name, put_file(task, file, part, name))
-    }
-}
-
-/// Says what became of a file whose step has ended so; the status.
-pub fn end(task: &Task, file: &str, part: &str, name: &str, outcome: Outcome<Tally>) -> u8 {
+        put_file(task, first, part, name)
+    };
     let mut teller = Saying {
         task,
-        file,
+        file: first,
         name,
         faults: 0,
     };
@@ -72,22 +75,48 @@ fn put_file<'a>(task: &Task<'a>, file: &'a str, part: &str, name: &str) -> Outco
 fn put_standard<'a>(task: &Task<'a>, part: &str, name: &str) -> Outcome<Tally<'a>>
     requires { part.now ≢ name.now }
 {
-    let mut folder = HostFolder::new(task.rt.alloc(), task.rt);
-    let told = told_of(task, meter_of(task, "-"));
     let input = FileInput::new(task.rt.stdin());
-    let sourced = convert_source(
-        task.rt.alloc(),
-        &task.plan,
-        &mut folder,
-        input,
-        told,
-        part,
-        name,
-    );
-    let Sourced { outcome, source } = sourced;
+    let Sourced { outcome, source } = put_source(task, input, meter_of(task, "-"), part, name);
     let mut outcome = outcome;
     outcome.done = with_faults(outcome.done, source.fault(), None);
     outcome
+}
+
+// The step of several files.
+fn put_joined<'a>(
+    task: &Task<'a>,
+    files: &'a [&'a str],
+    part: &str,
+    name: &str,
+) -> Outcome<Tally<'a>>
+    requires { part.now ≢ name.now }
+{
+    let source = Joined::new(task.rt.alloc(), task.rt, files);
+    let Sourced { outcome, source: _ } = put_source(task, source, Meter::Off, part, name);
+    outcome
+}
+
+// The step of a source.
+fn put_source<'a, S: Source + Drop>(
+    task: &Task<'a>,
+    source: S,
+    meter: Meter<'a>,
+    part: &str,
+    name: &str,
+) -> Sourced<Tally<'a>, S>
+    requires { part.now ≢ name.now }
+{
+    let mut folder = HostFolder::new(task.rt.alloc(), task.rt);
+    let told = told_of(task, meter);
+    convert_source(
+        task.rt.alloc(),
+        &task.plan,
+        &mut folder,
+        source,
+        told,
+        part,
+        name,
+    )
 }
 
 /// How it ended, with what the source and the output say of a read and of a write that failed.

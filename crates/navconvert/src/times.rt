@@ -1,5 +1,7 @@
 //! The times in a navigation file that is made.
 
+ghost use Rattle.std.specs.Prelude.{◌+◌, ◌≤◌, length};
+
 use crate::files::Task;
 use crate::meter::Meter;
 use crate::notes::Notes;
@@ -94,11 +96,11 @@ fn time_in(line: &[u8]) -> Option<Moment> {
     }
     let date = Civil {
         year: number(&line[4..8]),
-        month: pair(&line[9..11]),
-        day: pair(&line[12..14]),
-        hour: pair(&line[15..17]),
-        minute: pair(&line[18..20]),
-        second: pair(&line[21..23]),
+        month: pair(line, 9),
+        day: pair(line, 12),
+        hour: pair(line, 15),
+        minute: pair(line, 18),
+        second: pair(line, 21),
     };
     moment_of(&date).ok()
 }
@@ -113,9 +115,11 @@ fn has_form(byte: u8, form: u8) -> bool {
     }
 }
 
-// The number of two digits.
-fn pair(digits: &[u8]) -> u8 {
-    (number(digits) % 100) as u8
+// The number of the two digits at this place.
+fn pair(line: &[u8], place: usize) -> u8
+    requires { place + 2 ≤ length line.now }
+{
+    (number(&line[place..place + 2]) % 100) as u8
 }
 
 // The number that digits write.

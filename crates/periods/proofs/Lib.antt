@@ -12,6 +12,7 @@ mod ValueLemmas
 mod ValueFindings
 mod ValueItems
 mod DigestLemmas
+mod AddLemmas
 mod DigestFindings
 mod HealthLemmas
 mod PeriodLemmas

@@ -100,6 +100,11 @@ digest_join (GalForm x) (GalForm y) = GalForm (gal_join x y)
 digest_join (IonForm x) (IonForm y) = IonForm (if earlier transmission_numbers y x then y else x)
 digest_join x y = x
 
+-- the earlier of a transmission and that of a further part, if it has one
+abbrev pub transmission_with : Transmission → Option Transmission → Transmission
+transmission_with s None = s
+transmission_with s (Some t) = if earlier transmission_numbers t s then t else s
+
 -- the finding of a GPS period without differing contents: complete where all is there
 abbrev pub gps_item : ℕ → Satellite → Option GpsClock → Option GpsOrbitA → Option GpsOrbitB → Option (ℕ × GpsSide) → Option (ℕ × ℕ) → Option (ℕ × SentTag) → Finding
 gps_item r satellite (Some c) (Some o) (Some q) (Some s) (Some f) (Some t) =

@@ -39,7 +39,10 @@ fn is_before(stamp: u32, number: u64, other_stamp: u32, other_number: u64) -> bo
 }
 
 // The later of two SV statuses.
-fn later_side(one: Option<(u32, GpsSide)>, other: Option<(u32, GpsSide)>) -> Option<(u32, GpsSide)>
+pub(crate) fn later_side(
+    one: Option<(u32, GpsSide)>,
+    other: Option<(u32, GpsSide)>,
+) -> Option<(u32, GpsSide)>
     ensures { result ≡ best_join (later side_numbers) one other }
 {
     match (one, other) {
@@ -56,7 +59,7 @@ fn later_side(one: Option<(u32, GpsSide)>, other: Option<(u32, GpsSide)>) -> Opt
 }
 
 // The later of two fit interval flags.
-fn later_fit(one: Option<(u32, U<1>)>, other: Option<(u32, U<1>)>) -> Option<(u32, U<1>)>
+pub(crate) fn later_fit(one: Option<(u32, U<1>)>, other: Option<(u32, U<1>)>) -> Option<(u32, U<1>)>
     ensures { result ≡ best_join (later fit_numbers) one other }
 {
     match (one, other) {
@@ -73,7 +76,10 @@ fn later_fit(one: Option<(u32, U<1>)>, other: Option<(u32, U<1>)>) -> Option<(u3
 }
 
 // The earlier of two tags.
-fn earlier_tag(one: Option<(u32, SentTag)>, other: Option<(u32, SentTag)>) -> Option<(u32, SentTag)>
+pub(crate) fn earlier_tag(
+    one: Option<(u32, SentTag)>,
+    other: Option<(u32, SentTag)>,
+) -> Option<(u32, SentTag)>
     ensures { result ≡ best_join (earlier tag_numbers) one other }
 {
     match (one, other) {
@@ -90,7 +96,7 @@ fn earlier_tag(one: Option<(u32, SentTag)>, other: Option<(u32, SentTag)>) -> Op
 }
 
 // One transmission is before another: by stamp, then satellite, then time of transmission.
-fn is_earlier_transmission(one: &Transmission, other: &Transmission) -> bool
+pub(crate) fn is_earlier_transmission(one: &Transmission, other: &Transmission) -> bool
     ensures { result ≡ earlier transmission_numbers one.now other.now }
 {
     if one.stamp != other.stamp {

@@ -1,5 +1,6 @@
 ghost use Rattle.std.specs.Prelude.{◌≡◌};
-ghost use Rattle.periods.specs.Readings.{sent_in, toe_in};
+ghost use Rattle.periods.specs.Parts.{IonTransmission};
+ghost use Rattle.periods.specs.Readings.{reading, sent_in, toe_in};
 ghost use Rattle.periods.specs.DigestsOf.{digest_of};
 
 use crate::digest::{Digest, GalDigest, GpsDigest, Seen};
@@ -27,7 +28,7 @@ const NO_GAL: GalDigest = GalDigest {
 };
 
 // The tag with its stamp, where it names a transmission time.
-fn sent_tag(stamp: u32, tag: &SentTag) -> Option<(u32, SentTag)>
+pub(crate) fn sent_tag(stamp: u32, tag: &SentTag) -> Option<(u32, SentTag)>
     ensures { result ≡ sent_in stamp tag.now }
 {
     match tag {
@@ -37,12 +38,33 @@ fn sent_tag(stamp: u32, tag: &SentTag) -> Option<(u32, SentTag)>
 }
 
 // The tag with its stamp, where it names a toe.
-fn toe_tag(stamp: u32, tag: &SentTag) -> Option<(u32, SentTag)>
+pub(crate) fn toe_tag(stamp: u32, tag: &SentTag) -> Option<(u32, SentTag)>
     ensures { result ≡ toe_in stamp tag.now }
 {
     match tag {
         SentTag::Sent { wn: _, second: _ } => None,
         SentTag::Toe { wn: _, second: _ } => Some((stamp, *tag)),
+    }
+}
+
+// The transmission of an ionosphere; `None` for a part of another kind.
+pub(crate) fn transmission_of(part: &Part) -> Option<Transmission>
+    ensures { result ≡ reading IonTransmission part.now }
+{
+    match &part.body {
+        Body::GpsIon(_, second) => Some(Transmission {
+            stamp: part.stamp,
+            sat: part.sat,
+            wn: U::from_bits(0),
+            second: *second,
+        }),
+        Body::GalIon(_, wn, second) => Some(Transmission {
+            stamp: part.stamp,
+            sat: part.sat,
+            wn: *wn,
+            second: *second,
+        }),
+        _ => None,
     }
 }
 

@@ -28,6 +28,7 @@
 
 mod closed;
 mod digest;
+mod digest_add;
 mod digest_finding;
 mod digest_join;
 mod digest_of;

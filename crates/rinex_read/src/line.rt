@@ -15,8 +15,12 @@ pub(crate) fn padded(line: &[u8]) -> PaddedLine
     ensures { result ≡ padded line.now }
 {
     let mut columns = [b' '; 80];
-    let count = line.len().min(80);
-    columns[..count].copy_from_slice(&line[..count]);
+    if line.len() >= 80 {
+        columns.copy_from_slice(&line[..80]);
+        return columns;
+    }
+    let count = line.len();
+    columns[..count].copy_from_slice(line);
     columns
 }
 

@@ -5,6 +5,7 @@ ghost use Rattle.std.specs.Prelude.{IsErrOf, IfOk, IfErr, IfSome, IfNone, OnOk, 
 ghost use Rattle.nav_io.specs.Causes.{Rose};
 ghost use Rattle.rinex_read.specs.declared.judged.HeaderState.TheVariants.{Passed};
 ghost use Rattle.rinex_read.specs.Files.{read_at};
+ghost use Rattle.rinex_read.specs.Forms.{begins};
 ghost use Rattle.rinex_read.specs.Mirrors.{EndsWith, HeaderRefused, IsRecord, TakesLine, state_of};
 ghost use Rattle.rinex_read.specs.RoundTrip.{IsWholeRead};
 ghost use Rattle.rinex_read.specs.States.{BreaksRecord, GivesRead};
@@ -102,13 +103,25 @@ fn answer_of(header: HeaderState) -> Result<(), HeaderFault>
     }
 }
 
-// Processes the next line: it continues the record in progress, or ends it and begins another.
-fn process_line<F: FileForm>(
+// Processes a line that begins no record: it continues the record in progress, if there is one.
+fn process_more<F: FileForm>(kept: &mut RecordLines, line: &[u8])
+    requires { begins F.form line.now ≡ false }
+    ensures { (first number : ℕ) → TakesLine F.form kept.old first kept.new first line.now number [] }
+{
+    F::looks_at_kept();
+    if !kept.is_empty() {
+        kept.push(line);
+    }
+}
+
+// Processes a line that begins a record: it ends the record in progress, if there is one.
+fn process_title<F: FileForm>(
     kept: &mut RecordLines,
     first: &mut u32,
     line: &[u8],
     number: u32,
 ) -> Option<ItemRead>
+    requires { begins F.form line.now ≡ true }
     ensures none { IfNone result
         (TakesLine F.form kept.old first.old kept.new first.new line.now number []) }
     ensures whole { IfSome result (λ read. IsWholeRead read) }
@@ -117,19 +130,13 @@ fn process_line<F: FileForm>(
 {
     F::looks_at_kept();
     F::gives_items();
-    if !begins::<F>(line) {
-        if !kept.is_empty() {
-            kept.push(line);
-        }
-        return None;
-    }
     if kept.is_empty() {
         kept.push(line);
         *first = number;
         return None;
     }
     let read = read_at(*first, F::judge(kept));
-    *kept = RecordLines::new();
+    kept.clear();
     kept.push(line);
     *first = number;
     Some(read)
@@ -146,7 +153,7 @@ fn process_end<F: FileForm>(kept: &mut RecordLines, first: u32) -> ItemRead
         return ItemRead::End;
     }
     let read = read_at(first, F::judge(kept));
-    *kept = RecordLines::new();
+    kept.clear();
     read
 }
 
@@ -226,7 +233,10 @@ fn next_record<F: FileForm, S: Source>(
                 if is_end(kind) {
                     return Ok(process_end::<F>(kept, *first));
                 }
-                if let Some(read) = process_line::<F>(kept, first, lines.text(), lines.number()) {
+                let line = lines.text();
+                if !begins::<F>(line) {
+                    process_more::<F>(kept, line);
+                } else if let Some(read) = process_title::<F>(kept, first, line, lines.number()) {
                     return Ok(read);
                 }
             }

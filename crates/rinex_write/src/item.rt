@@ -63,27 +63,27 @@ fn append_title(text: &mut Record, title: &Title, sat: &Sat)
     append(text, b"\n");
 }
 
-// The text of a record.
-fn record_of(
+// Appends the lines of a record; nothing stands before it.
+fn append_record(
+    text: &mut Record,
     title: &Title,
     sat: &Sat,
     four: &[u8; 4],
     moment: Moment,
     layout: &RecordLayout,
     fields: &[i64],
-) -> Record
+)
+    requires empty { text.old.items ≡ [] }
     requires table { IsTable layout.now.rows.now layout.now.columns.now }
     requires ready { AreReady layout.now.columns.now fields.now }
     ensures { (k : Kind) → title.now.class ≡ k.class → title.now.message ≡ k.message
         → layout.now.columns.now ≡ joined_rows k.rows → layout.now.rows.now ≡ map length k.rows
-        → result.items ≡ text_of (record_lines k sat.now four.now moment fields.now) }
+        → text.new.items ≡ text_of (record_lines k sat.now four.now moment fields.now) }
 {
-    let mut text = Record::new();
-    append_title(&mut text, title, sat);
-    append(&mut text, four);
-    append(&mut text, &date_columns(&civil(moment)));
-    append_table(&mut text, layout, fields);
-    text
+    append_title(text, title, sat);
+    append(text, four);
+    append(text, &date_columns(&civil(moment)));
+    append_table(text, layout, fields);
 }
 
 // The four columns before the date of an ephemeris.
@@ -114,73 +114,88 @@ const GALILEO_IONOSPHERE: Title = Title {
     message: *b"IFNV",
 };
 
-// The record of a GPS ephemeris.
-fn gps_record(e: &GpsEph) -> Record
-    requires { HasGpsRanges e.now }
-    ensures { result.items ≡ text_of (item_lines (Gps e.now)) }
+// Appends the record of a GPS ephemeris; nothing stands before it.
+fn append_gps(text: &mut Record, e: &GpsEph)
+    requires empty { text.old.items ≡ [] }
+    requires ranges { HasGpsRanges e.now }
+    ensures { text.new.items ≡ text_of (item_lines (Gps e.now)) }
 {
     let start = satellite_start(&e.sat);
     let fields = gps_fields(e);
-    record_of(&GPS, &e.sat, &start, gps_epoch(e), &gps_layout(), &fields)
+    append_record(
+        text,
+        &GPS,
+        &e.sat,
+        &start,
+        gps_epoch(e),
+        &gps_layout(),
+        &fields,
+    );
 }
 
-// The record of a Galileo ephemeris.
-fn galileo_record(e: &GalEph) -> Record
-    requires { HasGalRanges e.now }
-    ensures { result.items ≡ text_of (item_lines (Gal e.now)) }
+// Appends the record of a Galileo ephemeris; nothing stands before it.
+fn append_galileo(text: &mut Record, e: &GalEph)
+    requires empty { text.old.items ≡ [] }
+    requires ranges { HasGalRanges e.now }
+    ensures { text.new.items ≡ text_of (item_lines (Gal e.now)) }
 {
     let start = satellite_start(&e.sat);
     let fields = galileo_fields(e);
-    record_of(
+    append_record(
+        text,
         &GALILEO,
         &e.sat,
         &start,
         galileo_epoch(e),
         &galileo_layout(),
         &fields,
-    )
+    );
 }
 
-// The record of an ionosphere.
-fn ionosphere_record(e: &IonEph) -> Record
-    requires { HasIonRanges e.now }
-    ensures { result.items ≡ text_of (item_lines (Ion e.now)) }
+// Appends the record of an ionosphere; nothing stands before it.
+fn append_ionosphere(text: &mut Record, e: &IonEph)
+    requires empty { text.old.items ≡ [] }
+    requires ranges { HasIonRanges e.now }
+    ensures { text.new.items ≡ text_of (item_lines (Ion e.now)) }
 {
     match &e.content {
         IonContent::Gps(i) => {
             let fields = gps_ionosphere_fields(i);
-            record_of(
+            append_record(
+                text,
                 &GPS_IONOSPHERE,
                 &e.sat,
                 b"    ",
                 e.moment,
                 &gps_ionosphere_layout(),
                 &fields,
-            )
+            );
         }
         IonContent::Gal(i) => {
             let fields = galileo_ionosphere_fields(i);
-            record_of(
+            append_record(
+                text,
                 &GALILEO_IONOSPHERE,
                 &e.sat,
                 b"    ",
                 e.moment,
                 &galileo_ionosphere_layout(),
                 &fields,
-            )
+            );
         }
     }
 }
 
-// The record of an item.
-fn item_record(item: &NavItem) -> Record
-    ensures { result.items ≡ text_of (item_lines item.now) }
+// Appends the record of an item; nothing stands before it.
+fn append_item(text: &mut Record, item: &NavItem)
+    requires { text.old.items ≡ [] }
+    ensures { text.new.items ≡ text_of (item_lines item.now) }
 {
     item.ranges();
     match item {
-        NavItem::Gps(e) => gps_record(e),
-        NavItem::Gal(e) => galileo_record(e),
-        NavItem::Ion(e) => ionosphere_record(e),
+        NavItem::Gps(e) => append_gps(text, e),
+        NavItem::Gal(e) => append_galileo(text, e),
+        NavItem::Ion(e) => append_ionosphere(text, e),
     }
 }
 
@@ -200,18 +215,21 @@ pub fn write_item<T: Sink>(item: &NavItem, out: &mut T) -> Result<(), Failed>
     ensures { Writes (T.written out.old) (T.written out.new) (T.faults out.old) (T.faults out.new)
         result (text_of (item_lines item.now)) }
 {
-    out.write(&item_record(item))
+    let mut text = Record::new();
+    append_item(&mut text, item);
+    out.write(&text)
 }
 
 // The length in bytes of the first line of a record, with its LF.
 const TITLE_LINE: usize = 15;
 
-// The record of an item; its first line has this length.
-fn titled_record(item: &NavItem) -> Record
-    ensures title { 15 ≤ length result.items }
-    ensures body { drop 15 result.items ≡ text_of (body_lines item.now) }
+// Appends the record of an item, whose first line has this length; nothing stands before it.
+fn append_titled(text: &mut Record, item: &NavItem)
+    requires { text.old.items ≡ [] }
+    ensures title { 15 ≤ length text.new.items }
+    ensures body { drop 15 text.new.items ≡ text_of (body_lines item.now) }
 {
-    item_record(item)
+    append_item(text, item);
 }
 
 /// Appends the record of an item without its title line to a sink, by one write: the record as in
@@ -226,6 +244,7 @@ pub fn write_body<T: Sink>(item: &NavItem, out: &mut T) -> Result<(), Failed>
     ensures { Writes (T.written out.old) (T.written out.new) (T.faults out.old) (T.faults out.new)
         result (text_of (body_lines item.now)) }
 {
-    let record = titled_record(item);
-    out.write(&record[TITLE_LINE..])
+    let mut text = Record::new();
+    append_titled(&mut text, item);
+    out.write(&text[TITLE_LINE..])
 }

@@ -98,8 +98,25 @@ impl Deframer {
             (TakesNone (not self.old.finished) self.old.rest self.new.rest) }
         ensures finished { self.new.finished ≡ self.old.finished }
     {
+        let mut frame = Frame::without_payload();
+        if self.next_into(&mut frame) {
+            Some(frame)
+        } else {
+            None
+        }
+    }
+
+    /// Whether there is a next frame, as [`Deframer::next_frame`]. It takes the place of the one in
+    /// the caller's room, so that none is moved.
+    pub fn next_into(&mut self, frame: &mut Frame) -> bool
+        ensures frame { result ≡ true →
+            TakesFrame (not self.old.finished) self.old.rest frame.new self.new.rest }
+        ensures none { result ≡ false →
+            TakesNone (not self.old.finished) self.old.rest self.new.rest }
+        ensures finished { self.new.finished ≡ self.old.finished }
+    {
         if !self.finished && self.window.len() < self.wanted {
-            return None;
+            return false;
         }
         let size = decide(
             &mut self.window,
@@ -108,12 +125,12 @@ impl Deframer {
             !self.finished,
         );
         if size == 0 {
-            return None;
+            return false;
         }
-        let frame = frame_at(&self.window, self.start, size);
+        put_frame(&self.window, self.start, size, frame);
         self.start += size;
         self.wanted = 0;
-        Some(frame)
+        true
     }
 
     /// Says that no byte follows. A frame that is incomplete stays so; the bytes after its preamble
@@ -177,15 +194,15 @@ fn find(window: &mut Window, start: usize, more: bool) -> (usize, usize)
     (place, 0)
 }
 
-// The frame of `size` bytes at this offset.
+// Puts the frame of `size` bytes at this offset into the caller's room.
 #[tactic(auto, using(crate::proofs::Takes::sizes))]
-fn frame_at(window: &Window, place: usize, size: usize) -> Frame
+fn put_frame(window: &Window, place: usize, size: usize, frame: &mut Frame)
     requires size { size ≡ frame_size (drop place window.now) }
     requires some { 0 < size }
     requires end { place + size ≤ 4096 }
-    ensures { result ≡ take size (drop place window.now) }
+    ensures { frame.new ≡ take size (drop place window.now) }
 {
-    Frame::new(&window.bytes()[place..place + size])
+    frame.set(&window.bytes()[place..place + size]);
 }
 
 // The number of bytes in the window below which no frame is decided. An all-consumed window is

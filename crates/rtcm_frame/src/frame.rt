@@ -1,6 +1,6 @@
 //! One whole frame.
 
-ghost use Rattle.std.specs.Prelude.{◌≡◌, ◌<◌, ◌≤◌, ◌↔◌, length, IsSome, IfSome};
+ghost use Rattle.std.specs.Prelude.{◌≡◌, ◌<◌, ◌≤◌, ◌↔◌, [], length, IsSome, IfSome};
 ghost use Rattle.rtcm_frame.specs.Frames.{frame_size};
 ghost use Rattle.rtcm_frame.specs.State.{payload_of};
 
@@ -37,6 +37,25 @@ impl Frame {
             unreachable!();
         }
         Frame { bytes: frame }
+    }
+
+    // Replaces it by the frame with these bytes.
+    pub(crate) fn set(&mut self, bytes: &[u8])
+        requires shortest { 6 ≤ length bytes.now }
+        requires longest { length bytes.now ≤ 1029 }
+        ensures { self.new ≡ bytes.now }
+    {
+        self.bytes.clear();
+        if self.bytes.try_extend_from_slice(bytes).is_err() {
+            unreachable!();
+        }
+    }
+
+    /// A frame without payload, as room for one that is given ([`crate::Deframer::next_into`]).
+    pub fn without_payload() -> Self
+        ensures { payload_of result ≡ [] }
+    {
+        Frame::new(&[0xD3, 0, 0, 0x47, 0xEA, 0x4B])
     }
 
     /// The bytes of the whole frame, from the preamble to the checksum.

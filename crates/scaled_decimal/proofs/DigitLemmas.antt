@@ -1,5 +1,5 @@
 -- The digits of numbers, one by one.
-use Rattle.std.proofs.Common.{◌≡◌, ℕ, zero, suc, ◌+◌, ◌*◌, ◌/◌, ◌%◌, ◌^◌, List, [], ◌∷◌, ◌++◌, get_or, refl, sym, ap, ap₂, ◌∙◌, arith}
+use Rattle.std.proofs.Common.{◌≡◌, ℕ, zero, suc, ◌+◌, ◌*◌, ◌/◌, ◌%◌, ◌^◌, ◌<◌, List, [], ◌∷◌, ◌++◌, get_or, refl, sym, ap, ap₂, ◌∙◌, arith}
 use Rattle.std.proofs.Math.Nat.{div-div-eq-div-mul}
 use Rattle.std.proofs.lemmas.Nat.{pow-add, div-add-mod'}
 use Rattle.scaled_decimal.specs.NumberText.{digits}
@@ -69,3 +69,18 @@ six_of n s t u s_is t_is u_is =
     ap (λ s. get_or s 0 0 ∷ get_or s 1 0 ∷ get_or t 0 0 ∷ get_or t 1 0 ∷ get_or u 0 0 ∷ get_or u 1 0 ∷ []) (s_is ∙ last_two (n / 100 / 100) ∙ ap (digits 2) second)
     ∙ ap₂ (λ t u. get_or (digits 2 (n / 10 / 10 / 10 / 10)) 0 0 ∷ get_or (digits 2 (n / 10 / 10 / 10 / 10)) 1 0 ∷ get_or t 0 0 ∷ get_or t 1 0 ∷ get_or u 0 0 ∷ get_or u 1 0 ∷ [])
     (t_is ∙ last_two (n / 100) ∙ ap (digits 2) hundred) (u_is ∙ last_two n)
+
+-- six digits of a number that has no more
+pub six_few : (n : ℕ) (s t u : List ℕ) → n < 1000000 → s ≡ digits 2 (n / 100 / 100) → t ≡ digits 2 (n / 100 % 100) → u ≡ digits 2 (n % 100)
+    → get_or s 0 0 ∷ get_or s 1 0 ∷ get_or t 0 0 ∷ get_or t 1 0 ∷ get_or u 0 0 ∷ get_or u 1 0 ∷ [] ≡ digits 6 n
+six_few n s t u few s_is t_is u_is =
+    let same : n / 100 / 100 ≡ n / 100 / 100 % 100 = omega arith in
+    six_of n s t u (s_is ∙ ap (digits 2) same) t_is u_is
+
+pub pair_first : (k : ℕ) (t : List ℕ) → t ≡ digits 2 k → get_or t 0 0 ≡ 48 + k / 10 % 10
+unfolding digits
+pair_first k t is = ap (λ s. get_or s 0 0) is
+
+pub pair_second : (k : ℕ) (t : List ℕ) → t ≡ digits 2 k → get_or t 1 0 ≡ 48 + k % 10
+unfolding digits
+pair_second k t is = ap (λ s. get_or s 1 0) is

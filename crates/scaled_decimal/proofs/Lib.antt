@@ -16,4 +16,7 @@ pub mod WalkLemmas
 pub mod ReadLemmas
 pub mod GrammarLemmas
 pub mod UsualLemmas
+pub mod FourDigits
+pub mod GuessLemmas
+pub mod LiftLemmas
 pub mod Surface

@@ -1,10 +1,12 @@
 -- The value of an accepted scale: its parts, and that each number at it is in range.
-use Rattle.std.proofs.Common.{◌≡◌, ℕ, zero, suc, ◌+◌, ◌*◌, ◌%◌, ◌^◌, ◌<◌, ◌≤◌, Bool, true, false, refl, sym, ap, ap₂, ◌∙◌, subst, arith, ℤ, pos, negsuc, ◌≤ℤ◌, mul-pos, mul-le-mul}
+use Rattle.std.proofs.Common.{◌≡◌, ℕ, zero, suc, ◌+◌, ◌-◌, ◌*◌, ◌%◌, ◌^◌, ◌<◌, ◌≤◌, Bool, true, false, refl, sym, ap, ap₂, ◌∙◌, subst, arith, ℤ, pos, negsuc, ◌≤ℤ◌, unsigned_abs, mul-pos, mul-le-mul}
 use Rattle.std.proofs.Math.Nat.{pow-le-pow_right, one-le-pow}
 use Rattle.std.proofs.lemmas.Int.{ints}
 use Rattle.scaled_decimal.specs.declared.scales.Scale.{Scale}
 use Rattle.scaled_decimal.specs.Fractions.{two_to, ten_to}
 use Rattle.scaled_decimal.specs.ScaleValue.{size_of, pi_part, AreWithin, IsScale}
+use Rattle.scaled_decimal.specs.Mirrors.{IsSize}
+use Rattle.scaled_decimal.proofs.PowerLemmas.{crossed}
 
 -- numerator and denominator of a power of two from 2^-59 to 2^16
 pub record AreTwoParts (a b : ℕ) : Type 0 where
@@ -133,3 +135,50 @@ product_is f w g a x y x_is y_is most =
     let turned : (x * y) * a ≡ ((f * g) * w) * a = ap₂ (λ m n. (m * n) * a) x_is y_is in
     let same : (x * y) * a ≡ ((f * w) * g) * a = omega arith in
     omega arith
+
+-- the parts of the size of a scale as factors: pi or 1 as the whole number w at 10^c, the power of ten at 10^x
+factored : (f a t p b u q w c x : ℕ) → t * 10 ^ c ≡ u * 10 ^ x → p * 10 ^ 20 ≡ q * (w * 10 ^ c)
+    → (f * (a * (t * p))) * (b * 10 ^ 20) ≡ ((f * w) * 10 ^ x * a) * (1 * (b * (u * q)))
+factored f a t p b u q w c x tens pis =
+    let first : (p * 10 ^ 20) * (f * (a * (t * b))) ≡ (q * (w * 10 ^ c)) * (f * (a * (t * b))) = ap (λ n. n * (f * (a * (t * b)))) pis in
+    let second : (t * 10 ^ c) * (f * (a * (b * (q * w)))) ≡ (u * 10 ^ x) * (f * (a * (b * (q * w)))) = ap (λ n. n * (f * (a * (b * (q * w))))) tens in
+    omega arith
+
+ten_lower : (z : ℤ) (c : ℕ) → negsuc 1 ≤ℤ z → z ≤ℤ pos 0 → 7 ≤ c → (ten_to z).over * 10 ^ c ≡ (ten_to z).under * 10 ^ (c - unsigned_abs z)
+ten_lower (pos k) c low high h =
+    let none : k ≡ 0 = omega (arith, ints) in
+    crossed (pos k) (c - k) c (omega (arith, ints))
+ten_lower (negsuc k) c low high h =
+    let few : k ≤ 1 = omega (arith, ints) in
+    crossed (negsuc k) (c - suc k) c (omega (arith, ints))
+
+abs_few : (z : ℤ) → negsuc 1 ≤ℤ z → z ≤ℤ pos 0 → unsigned_abs z ≤ 2
+abs_few (pos k) low high = omega (arith, ints)
+abs_few (negsuc k) low high = omega (arith, ints)
+
+sized_in_factors : (s : Scale) (w c a b : ℕ) → AreWithin s.factor s.two s.ten → 2 ^ a ≡ (two_to s.two).over → 2 ^ b ≡ (two_to s.two).under
+    → a ≤ 16 → b ≤ 59 → (pi_part s.pi).over * 10 ^ 20 ≡ (pi_part s.pi).under * (w * 10 ^ c) → 1 ≤ w → w ≤ 31415926535898 → 7 ≤ c → c ≤ 20
+    → IsSize (size_of s) (s.factor * w) (c - unsigned_abs s.ten) a b
+sized_in_factors s w c a b h over under up down pis wf wt cf ct =
+    let few = abs_few s.ten h.4 h.5 in
+    let same = factored s.factor (two_to s.two).over (ten_to s.ten).over (pi_part s.pi).over (two_to s.two).under (ten_to s.ten).under (pi_part s.pi).under
+    w c (c - unsigned_abs s.ten) (ten_lower s.ten c h.4 h.5 cf) pis in
+    record {
+      same = subst (λ y. (size_of s).over * (y * 10 ^ 20) ≡ ((s.factor * w) * 10 ^ (c - unsigned_abs s.ten) * 2 ^ a) * (size_of s).under) (sym under)
+          (subst (λ x. (size_of s).over * ((two_to s.two).under * 10 ^ 20) ≡ ((s.factor * w) * 10 ^ (c - unsigned_abs s.ten) * x) * (size_of s).under) (sym over) same);
+      some = mul-pos h.0 wf;
+      most = mul-le-mul h.1 wt;
+      tens_from = omega arith;
+      tens_to = omega arith;
+      up = up;
+      down = down;
+    }
+
+pub is_size : (s : Scale) (two ten : ℤ) (f w c j a b : ℕ) → AreWithin s.factor s.two s.ten → two ≡ s.two → ten ≡ s.ten → f ≡ s.factor
+    → 2 ^ a ≡ (two_to two).over → 2 ^ b ≡ (two_to two).under → a ≤ 16 → b ≤ 59
+    → (pi_part s.pi).over * 10 ^ 20 ≡ (pi_part s.pi).under * (w * 10 ^ c) → 1 ≤ w → w ≤ 31415926535898 → 7 ≤ c → c ≤ 20
+    → j ≡ unsigned_abs ten → IsSize (size_of s) (f * w) (c - j) a b
+is_size s two ten f w c j a b h two_is ten_is f_is over under up down pis wf wt cf ct j_is =
+    let plain = sized_in_factors s w c a b h (over ∙ ap (λ z. (two_to z).over) two_is) (under ∙ ap (λ z. (two_to z).under) two_is) up down pis wf wt cf ct in
+    subst (λ n. IsSize (size_of s) (n * w) (c - j) a b) (sym f_is)
+    (subst (λ n. IsSize (size_of s) (s.factor * w) (c - n) a b) (sym (j_is ∙ ap unsigned_abs ten_is)) plain)

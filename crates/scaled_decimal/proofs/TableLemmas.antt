@@ -4,7 +4,7 @@ use Rattle.std.proofs.lemmas.Bool.{eqb-true}
 use Rattle.std.proofs.Math.Nat.{pow-zero, pow-suc}
 use Rattle.scaled_decimal.specs.NumberText.{digits}
 use Rattle.scaled_decimal.specs.declared.printing.TheConstants.{PAIRS}
-use Rattle.scaled_decimal.specs.declared.powers.TheConstants.{TENS, FIVES}
+use Rattle.scaled_decimal.specs.declared.powers.TheConstants.{TENS, FIVES, WIDE_FIVES}
 
 -- the numbers are t, t times b, and so on
 abbrev pub are_powers : ℕ → ℕ → List ℕ → Bool
@@ -31,6 +31,9 @@ ten_is k h = power_is 10 1 TENS refl k h ∙ omega arith
 
 pub five_is : (k : ℕ) → k < 25 → get_or FIVES k 0 ≡ 5 ^ k
 five_is k h = power_is 5 1 FIVES refl k h ∙ omega arith
+
+pub wide_five_is : (k : ℕ) → k < 31 → get_or WIDE_FIVES k 0 ≡ 5 ^ k
+wide_five_is k h = power_is 5 1 WIDE_FIVES refl k h ∙ omega arith
 
 -- the characters are the two digits of k, of the number after k, and so on
 abbrev pub are_pairs : ℕ → List ℕ → Bool

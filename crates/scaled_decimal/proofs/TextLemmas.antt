@@ -70,7 +70,7 @@ number_is : (s : Fraction) (n : ℕ) → IsScale s → n ≤ 4294967295 → IsNe
 number_is s zero scale small = none_near s (worth (record { digits = 0; exponent = pos 0 })) (omega arith)
 number_is s (suc n) scale small = parts_stand s (suc n) scale (omega arith) small
 
-parts_at_printable : (s : Fraction) (n : ℕ) → IsScale s → n ≤ 4294967295 → IsPrintable (parts_at s n)
+pub parts_at_printable : (s : Fraction) (n : ℕ) → IsScale s → n ≤ 4294967295 → IsPrintable (parts_at s n)
 parts_at_printable s zero scale small = record { digits = omega arith; from = search rules; to = search rules }
 parts_at_printable s (suc n) scale small = parts_printable (scaled (suc n) s) (in_reach s (suc n) scale (omega arith) small)
 

@@ -14,8 +14,8 @@ pub(crate) struct Ratio {
     pub(crate) bits: u32,
 }
 
-// 2^`exponent` as 2^a / 2^b: the pair (a, b).
-fn two_parts(exponent: i32) -> (u32, u32)
+/// 2^`exponent` as 2^a / 2^b: the pair (a, b).
+pub(crate) fn two_parts(exponent: i32) -> (u32, u32)
     requires from { negsuc 58 ≤ℤ exponent }
     requires to { exponent ≤ℤ pos 16 }
     ensures over { 2 ^ result.0 ≡ (two_to exponent).over }

@@ -270,25 +270,24 @@ fn signed(minus: bool, number: u64) -> i32
     if minus { -number } else { number }
 }
 
-// `first` and the digits from offset `from` to before `to` as one number; None where one of these
-// is not a digit.
-fn digits_behind(first: u64, text: &[u8], from: usize, to: usize) -> Option<u64>
-    requires first { first < 10 }
-    requires from { from ≤ to }
-    requires few { to ≤ from + 12 }
-    requires to { to ≤ length text.now }
-    ensures { MatchOption result (Unit {0}) (λ n. ((k : ℕ) → span first k (drop from text.now)
-        ≡ span n (k + (to - from)) (drop to text.now)) × (n < 10 ^ (1 + (to - from)))) }
+// The four digits from an offset on as one number, all told at once; None where one of these is not
+// a digit.
+#[inline(always)]
+fn four_digits(text: &[u8], at: usize) -> Option<u64>
+    requires { at + 4 ≤ length text.now }
+    ensures { MatchOption result (Unit {0}) (λ n. ((m k : ℕ) → span m k (drop at text.now)
+        ≡ span (m * 10000 + n) (k + 4) (drop (at + 4) text.now)) × (n < 10000)) }
 {
-    let mut number = first;
-    for place in from..to {
-        let c = text[place];
-        if !is_decimal(c) {
-            return None;
-        }
-        number = number * 10 + u64::from(c - b'0');
+    let all = u32::from_le_bytes([text[at], text[at + 1], text[at + 2], text[at + 3]]);
+    if all & 0xf0f0_f0f0 != 0x3030_3030 {
+        return None;
     }
-    Some(number)
+    if (all + 0x0606_0606) & 0xf0f0_f0f0 != 0x3030_3030 {
+        return None;
+    }
+    let digits = all - 0x3030_3030;
+    let pairs = digits * 10 + digits / 256;
+    Some(u64::from(pairs % 256 * 100 + pairs / 65_536 % 256))
 }
 
 // The mantissa of a text in the usual form.
@@ -301,7 +300,10 @@ fn usual_mantissa(text: &[u8]) -> Option<u64>
     if !is_decimal(first) || text[2] != b'.' {
         return None;
     }
-    digits_behind(u64::from(first - b'0'), text, 3, 15)
+    let a = four_digits(text, 3)?;
+    let b = four_digits(text, 7)?;
+    let c = four_digits(text, 11)?;
+    Some(((u64::from(first - b'0') * 10_000 + a) * 10_000 + b) * 10_000 + c)
 }
 
 // The exponent of a text in the usual form.
@@ -319,6 +321,7 @@ fn usual_exponent(text: &[u8]) -> Option<i32>
 
 /// The value of a text in the usual form: a blank or `-`, one digit, a point, twelve digits, a
 /// letter, a sign and two digits. None where a text has another form.
+#[inline(always)]
 pub(crate) fn usual(text: &[u8]) -> Option<Decimal>
     ensures { MatchOption result (Unit {0}) (λ d. (decimal_of (trim_end (trim_start text.now))
         ≡ Some (record {

@@ -14,13 +14,16 @@
 //! ```
 #![tactic(auto)]
 
+mod dividing;
 mod fractions;
 mod grammar;
 mod laws;
+mod lifting;
 mod powers;
 mod printing;
 mod reading;
 mod scales;
+mod sizes;
 
 pub use crate::grammar::{Span, is_decimal, leading_digits, trimmed};
 pub use crate::laws::{

@@ -9,15 +9,9 @@ ghost use Rattle.scaled_decimal.specs.NumberText.{carried, parts_to, parts_at, d
 ghost use Rattle.scaled_decimal.specs.NumberText.{exponent_sign, body, sign_column, number_text};
 
 use crate::fractions::{nearest_by_ten, nearest_by_two, ratio_of};
+use crate::lifting::{Parts, lifted_parts};
 use crate::powers::{power_of_ten, power_of_two};
 use crate::scales::Scale;
-
-// Thirteen digits, with the point after the first, and an exponent.
-#[derive(Clone, Copy)]
-struct Parts {
-    digits: u64,
-    exponent: i32,
-}
 
 // The greatest k up to `limit` with `start` x 10^k at most `over`.
 fn steps_to(over: u128, start: u128, limit: u32) -> u32
@@ -111,8 +105,10 @@ fn carried(digits: u64, exponent: i32) -> Parts
     }
 }
 
-// The thirteen digits and the exponent of a non-zero number at a scale.
-fn parts_of(number: u64, scale: &Scale) -> Parts
+// The thirteen digits and the exponent of a non-zero number at a scale, by division.
+#[cold]
+#[inline(never)]
+fn parts_by_division(number: u64, scale: &Scale) -> Parts
     requires some { 0 < number }
     requires small { number ≤ 4294967295 }
     requires scale { AreWithin scale.now.factor scale.now.two scale.now.ten }
@@ -126,11 +122,18 @@ fn parts_of(number: u64, scale: &Scale) -> Parts
     carried(digits, place as i32 - 20)
 }
 
-// The last digit of a number, as a character.
-fn last_digit(number: u32) -> u8
-    ensures { result ≡ 48 + number % 10 }
+// The thirteen digits and the exponent of a non-zero number at a scale.
+fn parts_of(number: u64, scale: &Scale) -> Parts
+    requires some { 0 < number }
+    requires small { number ≤ 4294967295 }
+    requires scale { AreWithin scale.now.factor scale.now.two scale.now.ten }
+    ensures { record { digits = result.digits; exponent = result.exponent }
+        ≡ parts_to (scaled number (size_of scale.now)) }
 {
-    b'0' + (number % 10) as u8
+    match lifted_parts(number, scale) {
+        Some(parts) => parts,
+        None => parts_by_division(number, scale),
+    }
 }
 
 // The two digits of a number.
@@ -142,11 +145,12 @@ fn two_digits(number: u32) -> [u8; 2]
     [PAIRS[place], PAIRS[place + 1]]
 }
 
-// The last six digits of a number.
+// The six digits of a number.
 fn six_digits(number: u32) -> [u8; 6]
+    requires { number < 1000000 }
     ensures { result ≡ digits 6 number }
 {
-    let [a, b] = two_digits(number / 100 / 100 % 100);
+    let [a, b] = two_digits(number / 100 / 100);
     let [c, d] = two_digits(number / 100 % 100);
     let [e, f] = two_digits(number % 100);
     [a, b, c, d, e, f]
@@ -160,17 +164,20 @@ fn exponent_sign(exponent: i32) -> u8
 
 // The text of a sign, digits and an exponent.
 fn text_of(sign: u8, parts: &Parts) -> [u8; 19]
+    requires digits { parts.now.digits < 10 ^ 13 }
+    requires from { negsuc 98 ≤ℤ parts.now.exponent }
+    requires to { parts.now.exponent ≤ℤ pos 99 }
     ensures { result ≡ sign ∷ body
         (record { digits = parts.now.digits; exponent = parts.now.exponent }) }
 {
-    let first = (parts.digits / 1_000_000_000_000 % 10) as u32;
+    let first = parts.digits / 1_000_000_000_000;
     let others = parts.digits % 1_000_000_000_000;
     let [a, b, c, d, e, f] = six_digits((others / 1_000_000) as u32);
     let [g, h, i, j, k, l] = six_digits((others % 1_000_000) as u32);
-    let exponent = parts.exponent.unsigned_abs();
+    let [m, n] = two_digits(parts.exponent.unsigned_abs());
     [
         sign,
-        last_digit(first),
+        b'0' + first as u8,
         b'.',
         a,
         b,
@@ -186,8 +193,8 @@ fn text_of(sign: u8, parts: &Parts) -> [u8; 19]
         l,
         b'D',
         exponent_sign(parts.exponent),
-        last_digit(exponent / 10),
-        last_digit(exponent),
+        m,
+        n,
     ]
 }
 

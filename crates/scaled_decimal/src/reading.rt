@@ -7,6 +7,7 @@ ghost use Rattle.scaled_decimal.specs.ScaleValue.{size_of, AreWithin};
 ghost use Rattle.scaled_decimal.specs.Mirrors.{IsDecimalRead};
 ghost use Rattle.scaled_decimal.specs.NumberReading.{at_size, signed, seen, number, read_of};
 
+use crate::dividing::guessed_number;
 use crate::fractions::{nearest, ratio_of};
 use crate::grammar::{Decimal, decimal_of, trimmed, usual};
 use crate::powers::power_of_ten;
@@ -132,9 +133,11 @@ fn shifts(exponent: i32) -> (u32, u32)
     }
 }
 
-// The magnitude of the integer nearest to a value divided by a scale; None only where it is above
-// 2^32.
-fn value_at(decimal: &Decimal, scale: &Scale) -> Option<u128>
+// The magnitude of the integer nearest to a value divided by a scale, by division; None only where
+// it is above 2^32.
+#[cold]
+#[inline(never)]
+fn value_by_division(decimal: &Decimal, scale: &Scale) -> Option<u128>
     requires decimal { IsDecimalRead decimal.now.digits decimal.now.exponent }
     requires scale { AreWithin scale.now.factor scale.now.two scale.now.ten }
     ensures { let value = at_size (size_of scale.now)
@@ -146,7 +149,24 @@ fn value_at(decimal: &Decimal, scale: &Scale) -> Option<u128>
     nearest_at(decimal.digits, up, down, size.over, size.bits)
 }
 
+// The same; by a guess, where that tells it.
+#[inline(always)]
+fn value_at(decimal: &Decimal, scale: &Scale) -> Option<u128>
+    requires decimal { IsDecimalRead decimal.now.digits decimal.now.exponent }
+    requires scale { AreWithin scale.now.factor scale.now.two scale.now.ten }
+    ensures { let value = at_size (size_of scale.now)
+        (record { digits = decimal.now.digits; exponent = decimal.now.exponent })
+        in MatchOption result (4294967295 < nearest_to value) (λ n. n ≡ nearest_to value) }
+{
+    let (up, down) = shifts(decimal.exponent + 20);
+    if let Some(number) = guessed_number(decimal.digits, up, down, scale) {
+        return Some(number);
+    }
+    value_by_division(decimal, scale)
+}
+
 // The same; None exactly where it is above 4,294,967,295.
+#[inline(always)]
 fn magnitude(decimal: &Decimal, scale: &Scale) -> Option<u64>
     requires decimal { IsDecimalRead decimal.now.digits decimal.now.exponent }
     requires scale { AreWithin scale.now.factor scale.now.two scale.now.ten }
@@ -183,6 +203,7 @@ fn within(nearest: i64, low: i64, high: i64) -> Result<i64, DecimalFault>
 }
 
 // The integer nearest to a value divided by a scale, if in range.
+#[inline(always)]
 fn within_range(decimal: &Decimal, scale: &Scale, low: i64, high: i64) -> Result<i64, DecimalFault>
     requires decimal { IsDecimalRead decimal.now.digits decimal.now.exponent }
     requires scale { AreWithin scale.now.factor scale.now.two scale.now.ten }
@@ -196,6 +217,26 @@ fn within_range(decimal: &Decimal, scale: &Scale, low: i64, high: i64) -> Result
         return Err(DecimalFault::OutOfRange);
     };
     within(signed(decimal.minus, magnitude), low, high)
+}
+
+// Reads a text of any form.
+#[cold]
+#[inline(never)]
+fn read_any(text: &[u8], scale: &Scale, low: i64, high: i64) -> Result<i64, DecimalFault>
+    requires text { length text.now ≤ 19 }
+    requires scale { AreWithin scale.now.factor scale.now.two scale.now.ten }
+    requires low { negsuc 4294967294 ≤ℤ low }
+    requires high { high ≤ℤ pos 4294967295 }
+    ensures { result ≡ read_of low high (seen (size_of scale.now) text.now) }
+{
+    let text = trimmed(text);
+    if text.is_empty() {
+        return Err(DecimalFault::Blank);
+    }
+    let Some(decimal) = decimal_of(text) else {
+        return Err(DecimalFault::NotANumber);
+    };
+    within_range(&decimal, scale, low, high)
 }
 
 /// Reads a text at a scale: the integer nearest to the text's value divided by the scale, ties to
@@ -220,12 +261,5 @@ pub fn read(text: &[u8], scale: &Scale, low: i64, high: i64) -> Result<i64, Deci
     if let Some(decimal) = usual(text) {
         return within_range(&decimal, scale, low, high);
     }
-    let text = trimmed(text);
-    if text.is_empty() {
-        return Err(DecimalFault::Blank);
-    }
-    let Some(decimal) = decimal_of(text) else {
-        return Err(DecimalFault::NotANumber);
-    };
-    within_range(&decimal, scale, low, high)
+    read_any(text, scale, low, high)
 }

@@ -15,18 +15,19 @@ use Rattle.periods.proofs.Surface.{some_is, IsKeyValue, cases_place, period_key,
 use Rattle.slot_assembly.specs.Standing.{Standing, IsAfter, IsNext, NoneDue, giving}
 use Rattle.slot_assembly.proofs.Surface.{after_trans, NoneDue-give}
 use Rattle.slot_assembly.specs.declared.order.Rank.{Rank}
+use Rattle.slot_assembly.specs.declared.order.ByStart.{ByStart}
 use Rattle.slot_assembly.specs.declared.order.ByEnd.{ByEnd}
-use Rattle.slot_assembly.specs.declared.order.ByKey.{ByKey}
 use Rattle.slot_assembly.specs.declared.slot.Slot.{Slot}
-use Rattle.slot_assembly.specs.declared.slot.PackedSlot.{PackedSlot}
-use Rattle.slot_assembly.specs.contracts.order.ByEndOrd.TheImpl.{cmp-value as end_cmp}
+use Rattle.slot_assembly.specs.declared.slot.Held.{Held}
+use Rattle.slot_assembly.specs.contracts.order.ByStartOrd.TheImpl.{cmp-value as start_cmp}
 use Rattle.slot_assembly.specs.contracts.order.RankOrd.TheImpl.{cmp-value as rank_cmp}
-use Rattle.slot_assembly.specs.Order.{by_end, rank_of}
+use Rattle.slot_assembly.specs.Order.{by_start, rank_of}
 use Rattle.slot_assembly.specs.Slots.{kept_at, at_of, slot_place, IsOpen, AreIndexed, IsChanged, IsFirstDue}
 use Rattle.slot_assembly.specs.Healths.{IsChosen}
 use Rattle.slot_assembly.specs.SlotStanding.{SlotsState, SlotsStandFor, AreSlots, IsRemembered, item_to_keep, known_for}
 use Rattle.slot_assembly.proofs.Changes.{left_open}
 use Rattle.slot_assembly.proofs.RankOrder.{at_is, is_at_own}
+use Rattle.slot_assembly.proofs.TakeLemmas.{one_start}
 use Rattle.slot_assembly.proofs.HealthChanges.{Health}
 use Rattle.slot_assembly.proofs.KeptLemmas.{chosen_best}
 use Rattle.slot_assembly.proofs.KnownLemmas.{IsFirst, compares_kept, are_known_given}
@@ -81,7 +82,7 @@ next_is s at watermark slot health h f c =
     }
 
 -- the number of slots left
-slots_given : (s : SlotsState) (at : Standing) (watermark : ℕ) (slot : Slot) (slots : List (ByEnd × PackedSlot)) → SlotsStandFor s at → IsFirstDue s.slots s.window watermark (Some slot) → IsChanged s.slots (at_of slot) None slots
+slots_given : (s : SlotsState) (at : Standing) (watermark : ℕ) (slot : Slot) (slots : List (ByStart × Held)) → SlotsStandFor s at → IsFirstDue s.slots s.window watermark (Some slot) → IsChanged s.slots (at_of slot) None slots
     → AreSlots s.window (Contains at.parts) (Some (slot_place slot)) slots
 slots_given s at watermark slot slots h f c =
     let values = all_values at.parts h.values in
@@ -93,17 +94,20 @@ slots_given s at watermark slot slots h f c =
           record { period = k.period; after = is_after x l.1 l.0; starts = k.starts; start = k.start; digest = k.digest };
       every = λ q k b.
           let g = h.slots.every q k (after_trans at.last (slot_place slot) q (h.slots.each slot f.0.here).after b) in
-          (g.0, c (at_of g.0) ∙ ap (λ (t : Bool). cond t None (kept_at s.slots (at_of g.0))) (other g.0 g.1 (subst (IsBefore (slot_place slot)) (sym g.2) b) (is_at (end_cmp.it (at_of slot)) (at_of g.0)) refl) ∙ g.1, g.2);
+          (g.0, c (at_of g.0) ∙ ap (λ (t : Bool). cond t None (kept_at s.slots (at_of g.0))) (other g.0 g.1 (subst (IsBefore (slot_place slot)) (sym g.2) b) (is_at (start_cmp.it (at_of slot)) (at_of g.0)) refl) ∙ g.1, g.2);
     }
   where
-    same_place_of : (x : Slot) → IsOpen s.slots x → is_at (end_cmp.it (at_of slot)) (at_of x) ≡ true → slot ≡ x
+    same_place_of : (x : Slot) → IsOpen s.slots x → is_at (start_cmp.it (at_of slot)) (at_of x) ≡ true → slot ≡ x
     same_place_of x i e = some_is slot x (sym f.0.here ∙ ap (kept_at s.slots) (at_is (at_of slot) (at_of x) e) ∙ i)
 
-    other : (x : Slot) → IsOpen s.slots x → IsBefore (slot_place slot) (slot_place x) → (t : Bool) → is_at (end_cmp.it (at_of slot)) (at_of x) ≡ t → is_at (end_cmp.it (at_of slot)) (at_of x) ≡ false
+    other : (x : Slot) → IsOpen s.slots x → IsBefore (slot_place slot) (slot_place x) → (t : Bool) → is_at (start_cmp.it (at_of slot)) (at_of x) ≡ t → is_at (start_cmp.it (at_of slot)) (at_of x) ≡ false
     other x i b true e = absurd (before_irr (slot_place x) (subst (λ (y : Slot). IsBefore (slot_place y) (slot_place x)) (same_place_of x i e) b))
     other x i b false e = e
 
-    is_after : (x : Slot) → IsOpen s.slots x → is_at (end_cmp.it (at_of slot)) (at_of x) ≡ false → IsBefore (slot_place slot) (slot_place x)
+    start_of : (x : Slot) → IsOpen s.slots x → slot_place slot ≡ slot_place x → slot.start ≡ x.start
+    start_of x i e = one_start s.window (Contains at.parts) at.last slot x (h.slots.each slot f.0.here) (h.slots.each x i) e
+
+    is_after : (x : Slot) → IsOpen s.slots x → is_at (start_cmp.it (at_of slot)) (at_of x) ≡ false → IsBefore (slot_place slot) (slot_place x)
     is_after x i e =
         let values = all_values at.parts h.values in
         let v = period_key s.window (Contains at.parts) (slot_place slot) values (h.slots.each slot f.0.here).period in
@@ -111,13 +115,13 @@ slots_given s at watermark slot slots h f c =
         elim (cases_place (slot_place slot) (slot_place x) v u) [
           | inl b ↦ b
           | inr o ↦ elim o [
-            | inl same ↦ absurd (both_ways (is_at (end_cmp.it (at_of slot)) (at_of x)) e
-                (subst (λ (y : ByEnd). is_at (end_cmp.it (at_of slot)) y ≡ true) (ap (λ (z : Place). by_end (rank_of z.key) z.end) same) (is_at_own (at_of slot))))
+            | inl same ↦ absurd (both_ways (is_at (start_cmp.it (at_of slot)) (at_of x)) e
+                (subst (λ (y : ByStart). is_at (start_cmp.it (at_of slot)) y ≡ true) (λ j. by_start (rank_of (same j).key) (start_of x i same j)) (is_at_own (at_of slot))))
             | inr b ↦ absurd (f.0.least x i b)
           ]
         ]
 
-pub stands_given : (s : SlotsState) (at : Standing) (watermark : ℕ) (slot : Slot) (health : Option Health) (finding : Finding) (slots : List (ByEnd × PackedSlot)) (ends : List ByKey) (known : List (Rank × NavItem)) → SlotsStandFor s at
+pub stands_given : (s : SlotsState) (at : Standing) (watermark : ℕ) (slot : Slot) (health : Option Health) (finding : Finding) (slots : List (ByStart × Held)) (ends : List ByEnd) (known : List (Rank × NavItem)) → SlotsStandFor s at
     → at.watermark ≤ watermark → IsFirstDue s.slots s.window watermark (Some slot) → IsChosen s.heard s.window slot.key slot.end health → finding ≡ digest_finding s.reference slot.key slot.digest health
     → IsChanged s.slots (at_of slot) None slots → AreIndexed slots ends → IsRemembered s.known (rank_of slot.key) (item_to_keep slot.key finding) known → IsStrictlySortedBy rank_cmp.it (keys_of known)
     → SlotsStandFor (record { reference = s.reference; window = s.window; slots = slots; ends = ends; heard = s.heard; stamps = s.stamps; watermark = watermark; last = Some (slot_place slot); none_at = s.none_at; known = known })

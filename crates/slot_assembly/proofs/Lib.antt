@@ -3,10 +3,11 @@ mod FlushLemmas
 pub mod Surface
 mod RankOrder
 mod Changes
+mod Lags
 mod SatOrder
 mod HealthChanges
 mod TakeLemmas
-mod EndLemmas
+mod PartLemmas
 mod JoinLemmas
 mod StepLemmas
 mod KeptLemmas

@@ -16,12 +16,11 @@ use Rattle.slot_assembly.specs.Standing.{Standing, NoneDue, taking, reaching}
 use Rattle.slot_assembly.proofs.Surface.{after_low, below_rise, NoneDue-take}
 use Rattle.slot_assembly.specs.declared.order.Rank.{Rank}
 use Rattle.slot_assembly.specs.declared.order.ByEnd.{ByEnd}
-use Rattle.slot_assembly.specs.declared.order.ByKey.{ByKey}
+use Rattle.slot_assembly.specs.declared.order.ByStart.{ByStart}
 use Rattle.slot_assembly.specs.declared.order.ByStamp.{ByStamp}
-use Rattle.slot_assembly.specs.declared.slot.Slot.{Slot}
-use Rattle.slot_assembly.specs.declared.slot.PackedSlot.{PackedSlot}
+use Rattle.slot_assembly.specs.declared.slot.Held.{Held}
 use Rattle.slot_assembly.specs.contracts.order.RankOrd.TheImpl.{cmp-value as rank_cmp}
-use Rattle.slot_assembly.specs.Slots.{at_of, slot_place, AreIndexed, IsOneSlot, IsTaken, AreSameSlots, IsFirstDue}
+use Rattle.slot_assembly.specs.Slots.{at_of, slot_place, AreIndexed, IsTaken, AreSameSlots, IsFirstDue}
 use Rattle.slot_assembly.specs.Healths.{AreStamped, IsSameHealth, IsHeard, IsForgotten, health_in}
 use Rattle.slot_assembly.specs.SlotStanding.{SlotsState, SlotsStandFor, AreSlots, AreKept, AreKnown, AreSameItems}
 use Rattle.slot_assembly.proofs.StepLemmas.{slots_taken}
@@ -30,7 +29,7 @@ use Rattle.slot_assembly.proofs.HealthChanges.{HeardList}
 use Rattle.slot_assembly.proofs.KnownLemmas.{are_known_later, are_known_same}
 
 abbrev SlotList : Type 0
-SlotList = List (ByEnd × PackedSlot)
+SlotList = List (ByStart × Held)
 
 -- where memory runs out
 slots_same : (w : ℕ) (parts : Part → Type 0) (last : Option Place) (old new : SlotList) → AreSameSlots old new → AreSlots w parts last old → AreSlots w parts last new
@@ -47,7 +46,7 @@ kept_same w n parts old new same h = record {
 }
 
 -- the same parts, watermark and last period given, with another store that stands for them
-stands_as : (s : SlotsState) (at : Standing) (slots : SlotList) (ends : List ByKey) (heard : HeardList) (stamps : List ByStamp) (known : List (Rank × NavItem)) → AreSlots s.window (Contains at.parts) at.last slots → AreIndexed slots ends
+stands_as : (s : SlotsState) (at : Standing) (slots : SlotList) (ends : List ByEnd) (heard : HeardList) (stamps : List ByStamp) (known : List (Rank × NavItem)) → AreSlots s.window (Contains at.parts) at.last slots → AreIndexed slots ends
     → AreKept s.window s.none_at (Contains at.parts) heard → AreStamped heard stamps → AreKnown s.reference s.window (Contains at.parts) at.last known → IsStrictlySortedBy rank_cmp.it (keys_of known) → SlotsStandFor s at
     → SlotsStandFor (record { reference = s.reference; window = s.window; slots = slots; ends = ends; heard = heard; stamps = stamps; watermark = s.watermark; last = s.last; none_at = s.none_at; known = known }) at
 stands_as s at slots ends heard stamps known are_slots indexed kept stamped are_known known_ordered h = record {
@@ -65,8 +64,11 @@ stands_as s at slots ends heard stamps known are_slots indexed kept stamped are_
   values = h.values;
 }
 
-pub stands_slots : (s : SlotsState) (at : Standing) (slots : SlotList) (ends : List ByKey) → AreSameSlots s.slots slots → AreIndexed slots ends → SlotsStandFor s at
-    → SlotsStandFor (record { reference = s.reference; window = s.window; slots = slots; ends = ends; heard = s.heard; stamps = s.stamps; watermark = s.watermark; last = s.last; none_at = s.none_at; known = s.known }) at
+-- the same slots, with another list of ends
+abbrev pub with_slots : SlotsState → SlotList → List ByEnd → SlotsState
+with_slots s slots ends = record { reference = s.reference; window = s.window; slots = slots; ends = ends; heard = s.heard; stamps = s.stamps; watermark = s.watermark; last = s.last; none_at = s.none_at; known = s.known }
+
+pub stands_slots : (s : SlotsState) (at : Standing) (slots : SlotList) (ends : List ByEnd) → AreSameSlots s.slots slots → AreIndexed slots ends → SlotsStandFor s at → SlotsStandFor (with_slots s slots ends) at
 stands_slots s at slots ends same i h =
     stands_as s at slots ends s.heard s.stamps s.known (slots_same s.window (Contains at.parts) at.last s.slots slots same h.slots) i h.kept h.stamped h.known h.known_ordered h
 
@@ -81,37 +83,38 @@ stands_known s at known same i h =
     stands_as s at s.slots s.ends s.heard s.stamps known h.slots h.indexed h.kept h.stamped (are_known_same s.reference s.window (Contains at.parts) at.last s.known known same h.known) i h
 
 -- taking a part of a key
-are_taken : (s : SlotsState) (at : Standing) (p : Part) (one : Slot) (slots : SlotList) → SlotsStandFor s at → at.watermark ≤ p.stamp → IsPartValue p → IsOneSlot p one → IsTaken s.slots one s.window slots
+are_taken : (s : SlotsState) (at : Standing) (p : Part) (slots : SlotList) → SlotsStandFor s at → at.watermark ≤ p.stamp → IsPartValue p → IsTaken s.slots p s.window slots
     → AreSlots s.window (Contains (at.parts ++ p ∷ [])) at.last slots
-are_taken s at p one slots h l v k t =
+are_taken s at p slots h l v t =
     let w = s.window in
     let old = Contains at.parts in
     let new = Contains (at.parts ++ p ∷ []) in
     let m = with_part at.parts p in
     let values = all_values at.parts h.values in
-    let j = joined_part w old new p one.key (known_parts w at.parts one.key) (known_parts w (at.parts ++ p ∷ []) one.key) m k.key in
-    slots_taken w old new at.last p one.key s.slots (record {
-      of_key = k.key;
+    let k = t.is_one.key in
+    let key = t.one.key in
+    let j = joined_part w old new p key (known_parts w at.parts key) (known_parts w (at.parts ++ p ∷ []) key) m k in
+    slots_taken w old new at.last p key s.slots (record {
+      of_key = k;
       with = m;
       known = λ key. known_parts w at.parts key;
       knows = λ key. known_parts w (at.parts ++ p ∷ []) key;
       are = h.slots;
       own = h.indexed.own;
-      value = key_value p one.key v k.key;
+      value = key_value p key v k;
       values = λ x i. period_key w old (slot_place x) values (h.slots.each x i).period;
       behind = λ q i g. after_low w at.watermark at.last q h.given (omega arith);
       behind_new = λ q g. after_low w at.watermark at.last q h.given (omega arith);
-    }) one k j.0 j.1 slots t
+    }) j.0 j.1 slots t
 
-pub stands_taken : (s : SlotsState) (at : Standing) (p : Part) (one : Slot) (slots : SlotList) (ends : List ByKey) → SlotsStandFor s at → at.watermark ≤ p.stamp → IsPartValue p → IsOneSlot p one → IsTaken s.slots one s.window slots
-    → AreIndexed slots ends
+pub stands_taken : (s : SlotsState) (at : Standing) (p : Part) (slots : SlotList) (ends : List ByEnd) → SlotsStandFor s at → at.watermark ≤ p.stamp → IsPartValue p → IsTaken s.slots p s.window slots → AreIndexed slots ends
     → SlotsStandFor (record { reference = s.reference; window = s.window; slots = slots; ends = ends; heard = s.heard; stamps = s.stamps; watermark = s.watermark; last = s.last; none_at = s.none_at; known = s.known }) (taking p at)
-stands_taken s at p one slots ends h l v k t i =
+stands_taken s at p slots ends h l v t i =
     let late = later_part at.watermark at.parts p l in
     record {
-      slots = are_taken s at p one slots h l v k t;
+      slots = are_taken s at p slots h l v t;
       indexed = i;
-      kept = kept_keyed s.window s.none_at (Contains at.parts) (Contains (at.parts ++ p ∷ [])) p one.key s.heard (with_part at.parts p) k.key h.kept;
+      kept = kept_keyed s.window s.none_at (Contains at.parts) (Contains (at.parts ++ p ∷ [])) p t.one.key s.heard (with_part at.parts p) t.is_one.key h.kept;
       stamped = h.stamped;
       known = are_known_later s.reference s.window at.watermark (Contains at.parts) (Contains (at.parts ++ p ∷ [])) at.last s.known late h.given h.known;
       known_ordered = h.known_ordered;

@@ -121,14 +121,36 @@ near_touched w parts last p s kn h k l m =
       ]
     ]
 
--- a later slot of a key starts after the end of an earlier one
-pub slots_apart : (w : ℕ) (parts : Part → Type 0) (last : Option Place) (f s : Slot) → IsSlot w parts last f → IsSlot w parts last s → f.key ≡ s.key → f.end < s.end → f.end < s.start
-slots_apart w parts last f s h k e l = elim (cases_lt f.end s.start) [
-  | inl far ↦ far
-  | inr near ↦
-      let p = subst (λ (x : Key). IsPeriod w parts (record { end = f.end; key = x })) e h.period in
-      absurd (omega (arith, k.starts.1.ends.first f.end p (omega (arith, k.starts.2))))
-]
-
 pub starts_by : (w : ℕ) (parts : Part → Type 0) (last : Option Place) (s : Slot) → IsSlot w parts last s → s.start ≤ s.end
 starts_by w parts last s h = omega (arith, h.starts.2, h.starts.1.ends.after)
+
+-- slots of one key with the same start have the same end, and those of one period the same start
+period_at : (w : ℕ) (parts : Part → Type 0) (last : Option Place) (s : Slot) (key : Key) → IsSlot w parts last s → s.key ≡ key → IsPeriod w parts (record { end = s.end; key = key })
+period_at w parts last s key h e = subst (λ (x : Key). IsPeriod w parts (record { end = s.end; key = x })) e h.period
+
+first_end : (w : ℕ) (parts : Part → Type 0) (last : Option Place) (f s : Slot) → IsSlot w parts last f → IsSlot w parts last s → f.key ≡ s.key → f.start ≤ s.end → f.end ≤ s.end
+first_end w parts last f s h k e l = h.starts.1.ends.first s.end (period_at w parts last s f.key k (sym e)) (omega (arith, h.starts.2))
+
+pub one_end : (w : ℕ) (parts : Part → Type 0) (last : Option Place) (f s : Slot) → IsSlot w parts last f → IsSlot w parts last s → f.key ≡ s.key → f.start ≡ s.start → f.end ≡ s.end
+one_end w parts last f s h k e l =
+    omega (arith, first_end w parts last f s h k e (omega (arith, l, starts_by w parts last s k)), first_end w parts last s f k h (sym e) (omega (arith, l, starts_by w parts last f h)))
+
+pub one_start : (w : ℕ) (parts : Part → Type 0) (last : Option Place) (f s : Slot) → IsSlot w parts last f → IsSlot w parts last s → slot_place f ≡ slot_place s → f.start ≡ s.start
+one_start w parts last f s h k e =
+    let low = h.start k.starts.0 (subst (λ (z : Place). IsMember w parts z k.starts.0) (sym e) k.starts.1) in
+    let high = k.start h.starts.0 (subst (λ (z : Place). IsMember w parts z h.starts.0) e h.starts.1) in
+    omega (arith, low, high, h.starts.2, k.starts.2)
+
+-- a later slot of a key starts more than a window after the end of an earlier one
+pub starts_apart : (w : ℕ) (parts : Part → Type 0) (last : Option Place) (f s : Slot) → IsSlot w parts last f → IsSlot w parts last s → f.key ≡ s.key → f.start < s.start → f.end + w < s.start
+starts_apart w parts last f s h k e l = elim (cases_lt f.end s.start) [
+  | inl far ↦
+      let heard = subst (λ (x : Key). IsHeardAt parts x k.starts.0.stamp) (sym e) (heard_member w parts (slot_place s) k.starts.0 k.starts.1) in
+      omega (arith, k.starts.2, h.period.quiet k.starts.0.stamp heard (omega (arith, k.starts.2)))
+  | inr near ↦
+      let up = first_end w parts last s f k h (sym e) (omega arith) in
+      let down = first_end w parts last f s h k e (omega (arith, starts_by w parts last s k)) in
+      let end : f.end ≡ s.end = omega (arith, up, down) in
+      let same : slot_place f ≡ slot_place s = λ i. record { end = end i; key = e i } in
+      absurd (omega (arith, one_start w parts last f s h k same))
+]

@@ -7,8 +7,8 @@ use Rattle.nav_eph.specs.declared.tag.SentTag.{SentTag}
 use Rattle.periods.specs.declared.key.Key.{Key}
 use Rattle.periods.specs.declared.key.Key.TheVariants.{Gps, Gal, GpsIon, GalIon}
 use Rattle.slot_assembly.specs.declared.order.Rank.{Rank}
+use Rattle.slot_assembly.specs.declared.order.ByStart.{ByStart}
 use Rattle.slot_assembly.specs.declared.order.ByEnd.{ByEnd}
-use Rattle.slot_assembly.specs.declared.order.ByKey.{ByKey}
 use Rattle.slot_assembly.specs.declared.order.BySat.{BySat}
 use Rattle.slot_assembly.specs.declared.order.ByStamp.{ByStamp}
 
@@ -19,16 +19,20 @@ rank_of (Gal sat issue) = record { class = 1; system = place_of sat.system; numb
 rank_of (GpsIon content) = record { class = 2; system = 0; number = 0; issue = gps_ion_number content }
 rank_of (GalIon content) = record { class = 3; system = 0; number = 0; issue = gal_ion_number content }
 
--- the place with an end in the order of periods
-abbrev pub by_end : Rank → ℕ → ByEnd
-by_end r e = record { end = e; class = r.class; system = r.system; number = r.number; issue = r.issue }
+-- the place of the slot of a key with a start
+abbrev pub by_start : Rank → ℕ → ByStart
+by_start r a = record { class = r.class; system = r.system; number = r.number; issue = r.issue; start = a }
 
--- the place with an end among those of the key
-abbrev pub by_key : Rank → ℕ → ByKey
-by_key r e = record { class = r.class; system = r.system; number = r.number; issue = r.issue; end = e }
+-- the slot's place in the order of periods by an end
+abbrev pub by_end : ByStart → ℕ → ByEnd
+by_end x e = record { end = e; class = x.class; system = x.system; number = x.number; issue = x.issue; start = x.start }
+
+-- the place by key and start
+abbrev pub start_place : ByEnd → ByStart
+start_place y = record { class = y.class; system = y.system; number = y.number; issue = y.issue; start = y.start }
 
 -- the place is one of the key with that rank
-abbrev pub is_of_rank : Rank → ByKey → Bool
+abbrev pub is_of_rank : Rank → ByStart → Bool
 is_of_rank r x = (x.class == r.class) && ((x.system == r.system) && ((x.number == r.number) && (x.issue == r.issue)))
 
 -- a place by satellite, stamp and bits

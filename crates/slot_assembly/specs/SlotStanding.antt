@@ -23,11 +23,11 @@ use Rattle.slot_assembly.specs.Given.{GivenBelow}
 use Rattle.slot_assembly.specs.Standing.{Standing, IsAfter, NoneDue}
 use Rattle.slot_assembly.specs.declared.order.Rank.{Rank}
 use Rattle.slot_assembly.specs.declared.order.ByEnd.{ByEnd}
-use Rattle.slot_assembly.specs.declared.order.ByKey.{ByKey}
+use Rattle.slot_assembly.specs.declared.order.ByStart.{ByStart}
 use Rattle.slot_assembly.specs.declared.order.BySat.{BySat}
 use Rattle.slot_assembly.specs.declared.order.ByStamp.{ByStamp}
 use Rattle.slot_assembly.specs.declared.slot.Slot.{Slot}
-use Rattle.slot_assembly.specs.declared.slot.PackedSlot.{PackedSlot}
+use Rattle.slot_assembly.specs.declared.slot.Held.{Held}
 use Rattle.slot_assembly.specs.contracts.order.RankOrd.TheImpl.{cmp-value as rank_cmp}
 use Rattle.slot_assembly.specs.Order.{rank_of, place_of_health}
 use Rattle.slot_assembly.specs.Slots.{IsOpen, slot_place, AreIndexed}
@@ -46,10 +46,10 @@ pub record SlotsState : Type 0 where
   pub reference : ℕ
   -- how long after a part another one of its key may belong to the same period
   pub window : ℕ
-  -- the slots, each at its place in the order of periods
-  pub slots : List (ByEnd × PackedSlot)
-  -- the places of the slots, by key
-  pub ends : List ByKey
+  -- the slots, each at its place by key and start
+  pub slots : List (ByStart × Held)
+  -- an end of each slot, which may lag behind its own
+  pub ends : List ByEnd
   -- the health, each at its place by satellite
   pub heard : List (BySat × (ℕ × GalHealth × SentTag))
   -- the places of the health, by stamp
@@ -72,7 +72,7 @@ pub record IsSlot (window : ℕ) (parts : Part → Type 0) (last : Option Place)
   pub digest : IsDigest slot.key (IsMember window parts (slot_place slot)) slot.digest
 
 -- exactly one slot for each period after the last one given
-pub record AreSlots (window : ℕ) (parts : Part → Type 0) (last : Option Place) (slots : List (ByEnd × PackedSlot)) : Type 0 where
+pub record AreSlots (window : ℕ) (parts : Part → Type 0) (last : Option Place) (slots : List (ByStart × Held)) : Type 0 where
   pub each : (s : Slot) → IsOpen slots s → IsSlot window parts last s
   pub every : (q : Place) → IsPeriod window parts q → IsAfter last q → (s : Slot) × IsOpen slots s × (slot_place s ≡ q)
 

@@ -2,8 +2,9 @@
 
 ghost use Rattle.std.specs.Prelude.{◌≡◌, ◌==◌, ◌&&◌};
 ghost use Rattle.nav_eph.specs.Numbers.{health_number};
-ghost use Rattle.slot_assembly.specs.Order.{by_end, by_key, by_sat, by_stamp, is_of_rank};
+ghost use Rattle.slot_assembly.specs.Order.{by_end, by_sat, by_stamp, by_start, is_of_rank};
 ghost use Rattle.slot_assembly.specs.Order.{is_of_sat, place_of_health, rank_of, sat_place};
+ghost use Rattle.slot_assembly.specs.Order.{start_place};
 
 use nav_eph::{GalHealth, Sat, SentTag};
 use periods::{Key, system_number};
@@ -17,7 +18,17 @@ pub struct Rank {
     pub issue: u64,
 }
 
-/// The place of a slot in the order of periods: by end, then by key.
+/// The place of a slot: by key, then by start.
+#[derive(Clone, Copy, PartialEq, Eq, PartialOrd, Ord)]
+pub struct ByStart {
+    pub class: u8,
+    pub system: u8,
+    pub number: u8,
+    pub issue: u64,
+    pub start: u64,
+}
+
+/// A place of a slot in the order of periods: by an end that it had, then by key and start.
 #[derive(Clone, Copy, PartialEq, Eq, PartialOrd, Ord)]
 pub struct ByEnd {
     pub end: u64,
@@ -25,16 +36,7 @@ pub struct ByEnd {
     pub system: u8,
     pub number: u8,
     pub issue: u64,
-}
-
-/// The place of a slot among those of its key: by key, then by end.
-#[derive(Clone, Copy, PartialEq, Eq, PartialOrd, Ord)]
-pub struct ByKey {
-    pub class: u8,
-    pub system: u8,
-    pub number: u8,
-    pub issue: u64,
-    pub end: u64,
+    pub start: u64,
 }
 
 /// The place of a health among those of its satellite: by stamp, then by its bits.
@@ -56,9 +58,9 @@ pub struct ByStamp {
 }
 
 // Bytes of a place in the map, and in the index.
-const _: () = prove!(size_of::<ByEnd>() <= 24);
+const _: () = prove!(size_of::<ByStart>() <= 24);
 
-const _: () = prove!(size_of::<ByKey>() <= 24);
+const _: () = prove!(size_of::<ByEnd>() <= 32);
 
 // The rank of a key.
 pub(crate) fn rank_of_key(key: &Key) -> Rank
@@ -93,7 +95,31 @@ pub(crate) fn rank_of_key(key: &Key) -> Rank
 }
 
 impl Rank {
-    // The place with an end in the order of periods.
+    // The place of the slot of the key with a start.
+    pub(crate) fn at_start(self, start: u64) -> ByStart
+        ensures { result ≡ by_start self start }
+    {
+        ByStart {
+            class: self.class,
+            system: self.system,
+            number: self.number,
+            issue: self.issue,
+            start,
+        }
+    }
+}
+
+impl ByStart {
+    // The place is one of the key with that rank.
+    pub(crate) fn is_of(self, rank: Rank) -> bool
+        ensures { result ≡ is_of_rank rank self }
+    {
+        self.class == rank.class
+            && (self.system == rank.system
+                && (self.number == rank.number && self.issue == rank.issue))
+    }
+
+    // The slot's place in the order of periods by an end.
     pub(crate) fn at_end(self, end: u64) -> ByEnd
         ensures { result ≡ by_end self end }
     {
@@ -103,31 +129,23 @@ impl Rank {
             system: self.system,
             number: self.number,
             issue: self.issue,
-        }
-    }
-
-    // The place with an end among those of the key.
-    pub(crate) fn with_end(self, end: u64) -> ByKey
-        ensures { result ≡ by_key self end }
-    {
-        ByKey {
-            class: self.class,
-            system: self.system,
-            number: self.number,
-            issue: self.issue,
-            end,
+            start: self.start,
         }
     }
 }
 
-impl ByKey {
-    // The place is one of the key with that rank.
-    pub(crate) fn is_of(self, rank: Rank) -> bool
-        ensures { result ≡ is_of_rank rank self }
+impl ByEnd {
+    // The place by key and start.
+    pub(crate) fn by_key(self) -> ByStart
+        ensures { result ≡ start_place self }
     {
-        self.class == rank.class
-            && (self.system == rank.system
-                && (self.number == rank.number && self.issue == rank.issue))
+        ByStart {
+            class: self.class,
+            system: self.system,
+            number: self.number,
+            issue: self.issue,
+            start: self.start,
+        }
     }
 }
 

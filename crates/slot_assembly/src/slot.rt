@@ -3,8 +3,9 @@
 ghost use Rattle.std.specs.Prelude.{◌≡◌, IfOk, Some};
 ghost use Rattle.periods.specs.DigestsOf.{digest_join};
 ghost use Rattle.periods.specs.declared.digest.Digest.TheVariants.{Ion};
-ghost use Rattle.slot_assembly.specs.Slots.{IsOne, slot_of, slot_with};
+ghost use Rattle.slot_assembly.specs.Slots.{IsOne, IsOneSlot, slot_of, slot_with};
 ghost use Rattle.slot_assembly.specs.declared.slot.PackedSlot.TheVariants.{Ionosphere};
+ghost use Rattle.slot_assembly.specs.declared.slot.Slot.{Slot};
 
 use nav_bits::U;
 use nav_eph::{
@@ -51,8 +52,17 @@ pub enum PackedSlot {
     Ionosphere(IonSlot),
 }
 
+/// A slot as it stands in the map, with the end by which it is listed.
+#[derive(Drop)]
+pub struct Held {
+    /// An end that the slot had: that of its place in the list.
+    pub listed: u32,
+    /// The slot.
+    pub packed: PackedSlot,
+}
+
 // Bytes of a slot in the map, and of an ephemeris' slot in its box.
-const _: () = prove!(size_of::<PackedSlot>() <= 112);
+const _: () = prove!(size_of::<Held>() <= 120);
 
 const _: () = prove!(size_of::<Slot>() <= 456);
 
@@ -69,6 +79,16 @@ fn earlier(transmission: &Transmission, other: &PackedSlot) -> Transmission
 }
 
 impl Slot {
+    // Merges a part of its key into it.
+    fn add_part(&mut self, part: &Part)
+        ensures { (one : Slot) → IsOneSlot part.now one
+            → self.new ≡ slot_with self.old (Some one) }
+    {
+        self.start = self.start.min(part.stamp);
+        self.end = self.end.max(part.stamp);
+        self.digest.add(part);
+    }
+
     // Merges another slot of its key into it.
     fn add(&mut self, other: &Slot)
         ensures { self.new ≡ slot_with self.old (Some other.now) }
@@ -80,6 +100,17 @@ impl Slot {
 }
 
 impl IonSlot {
+    // Merges a part of its key into it.
+    fn add_part(&mut self, part: &Part)
+        ensures { (one : Slot) → IsOneSlot part.now one
+            → slot_of (Ionosphere self.new) ≡ slot_with (slot_of (Ionosphere self.old))
+            (Some one) }
+    {
+        self.start = self.start.min(part.stamp);
+        self.end = self.end.max(part.stamp);
+        self.transmission.add(part);
+    }
+
     // Merges another slot of its key into it.
     fn add(&mut self, other: &PackedSlot)
         ensures { slot_of (Ionosphere self.new) ≡ slot_with (slot_of (Ionosphere self.old))
@@ -149,6 +180,17 @@ impl PackedSlot {
         match self {
             PackedSlot::Ephemeris(boxed) => boxed.digest,
             PackedSlot::Ionosphere(slot) => Digest::Ion(slot.transmission),
+        }
+    }
+
+    // Merges a part of its key into it, in place.
+    pub(crate) fn add_part(&mut self, part: &Part)
+        ensures { (one : Slot) → IsOneSlot part.now one
+            → slot_of self.new ≡ slot_with (slot_of self.old) (Some one) }
+    {
+        match self {
+            PackedSlot::Ephemeris(boxed) => boxed.add_part(part),
+            PackedSlot::Ionosphere(slot) => slot.add_part(part),
         }
     }
 

@@ -6,11 +6,10 @@ use crate::assembly::Assembly;
 use crate::healths::Healths;
 use crate::known::{item_before, remember};
 use crate::order::Rank;
-use crate::slot::one_of;
 use crate::slots::OpenSlots;
 use gnss_week::RefWeek;
 use nav_eph::{NavItem, Part};
-use periods::{Closed, Place, judge, note_value};
+use periods::{Closed, Place, judge, key_of_part, note_value};
 use std::alloc::{AllocError, Global};
 use std::collections::{BTreeMap, BTreeSet};
 use std::marker::Model;
@@ -18,10 +17,10 @@ use std::marker::Model;
 /// An assembly that stores a slot for each open period.
 ///
 /// A contract sees all its state: the reference week `reference`, the `window` in seconds, the `slots`
-/// of the open periods and their index `ends`, the health `heard` that a period may still take and its
-/// index `stamps`, the greatest `watermark` given, the `last` period given, the greatest watermark
-/// `none_at` at which no period was due, and in `known` for each ephemeris the item of the last
-/// complete period given.
+/// of the open periods and a list `ends` of their ends, the health `heard` that a period may still take
+/// and its index `stamps`, the greatest `watermark` given, the `last` period given, the greatest
+/// watermark `none_at` at which no period was due, and in `known` for each ephemeris the item of the
+/// last complete period given.
 #[derive(Drop)]
 pub struct SlotAssembly {
     held: OpenSlots,
@@ -102,8 +101,8 @@ impl Assembly for SlotAssembly {
 
     fn take(&mut self, part: &Part) -> Result<(), AllocError> {
         note_value(part);
-        match one_of(part) {
-            Some(one) => match self.held.take(one, self.window) {
+        match key_of_part(part) {
+            Some(key) => match self.held.take(&key, part, self.window) {
                 Ok(()) => return Ok(()),
                 Err(none) => return Err(none),
             },
@@ -116,13 +115,14 @@ impl Assembly for SlotAssembly {
 
     fn next_closed(&mut self, watermark: u64) -> Result<Option<Closed>, AllocError> {
         match self.held.first_due(self.window, watermark) {
-            None => {
+            Ok(None) => {
                 self.healths.forget(self.window, watermark);
                 self.watermark = watermark;
                 self.none_at = watermark;
                 Ok(None)
             }
-            Some(slot) => {
+            Err(none) => Err(none),
+            Ok(Some(slot)) => {
                 let health = self.healths.choose(self.window, slot.key, slot.end);
                 let finding = slot.digest.finding(self.reference, slot.key, health);
                 let before = item_before(&self.known, &slot.key);

@@ -14,7 +14,7 @@ use crate::line::{FrameLine, frame_line};
 use arrayvec::ArrayVec;
 use nav_io::{Failed, MOST_TAKEN, Sink, Source, read_piece};
 use one_run::BridgeFault;
-use rtcm_frame::Deframer;
+use rtcm_frame::{Deframer, Frame};
 
 // The number of bytes that one read asks for.
 const PIECE: usize = 16_384;
@@ -172,7 +172,8 @@ fn process_frames<T: Sink>(
     ensures cause { HasCause (T.faults output.old) (T.faults output.new) result }
 {
     let mut lines = Gathered::new();
-    while let Some(frame) = deframer.next_frame() {
+    let mut frame = Frame::without_payload();
+    'giving: while deframer.next_into(&mut frame) {
         gather(&frame_line(&frame), &mut lines, output)?;
         *frames += 1;
     }

@@ -206,7 +206,8 @@ pub(crate) fn process_frames<T: Sink, U: Sink>(
     ensures room { OnOk result (counts.new.frames + length deframer.new.rest
         ≤ counts.old.frames + length deframer.old.rest) }
 {
-    while let Some(frame) = deframer.next_frame() {
+    let mut frame = Frame::without_payload();
+    'giving: while deframer.next_into(&mut frame) {
         convert_frame(to, r, &frame, given, output, report, counts)?;
     }
     Ok(())

@@ -1,5 +1,5 @@
 use Rattle.std.proofs.Common.{arith, ap, ◌∙◌}
-use Rattle.inav_page.specs.Mirrors.{keys_held}
+use Rattle.inav_page.specs.Kept.{keys_held}
 use Rattle.inav_page.proofs.Holding.{held_empty}
 use Rattle.inav_page.proofs.Placing.{adds_empty}
 use Rattle.inav_page.proofs.seconds.make_places.Goals as goal
@@ -13,6 +13,6 @@ returns-in_err-push-clause-held c = rw c.in_err-push.ensures.items c.loop.invari
 pub loop-preserved : goal.loop-preserved
 loop-preserved c = (
   grind arith,
-  adds_empty c.args.places.now.items c.loop.places.items c.push.new.self.items _ c.new.ensures.empty c.loop.invariant.1 c.in_ok-push.ensures.items,
-  ap keys_held c.in_ok-push.ensures.items ∙ held_empty c.loop.places.items _ c.new.ensures.empty ∙ c.loop.invariant.2,
+  adds_empty c.args.places.now.items c.loop.places.items c.push.new.self.items _ c.new.ensures c.loop.invariant.1 c.in_ok-push.ensures.items,
+  ap keys_held c.in_ok-push.ensures.items ∙ held_empty c.loop.places.items _ c.new.ensures ∙ c.loop.invariant.2,
 )

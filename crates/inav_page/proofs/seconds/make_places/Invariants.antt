@@ -1,5 +1,5 @@
 use Rattle.std.proofs.Common.{◌≡◌, length}
-use Rattle.inav_page.specs.Mirrors.{keys_held, KeepsKeys}
+use Rattle.inav_page.specs.Kept.{keys_held, KeepsKeys}
 use Rattle.inav_page.proofs.seconds.make_places.Given as goal
 
 abbrev pub invariant-loop : goal.invariant-loop

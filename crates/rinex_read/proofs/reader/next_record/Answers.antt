@@ -37,18 +37,32 @@ pub returns-in-Some-clause-read : goal.returns-in-Some-clause-read
 returns-in-Some-clause-read g c = λ header.
     let line = line_given c.in-Ok.kind _ _ _ _ (λ (e : c.in-Ok.kind ≡ End). let end : c.is_end.result ≡ true = c.is_end.ensures.1 e in absurd (cc c.if-is_end.false)) c.in-Ok.ensures.answer in
     line_gives g.F.FileForm.form _ _ _ (state_of header c.args.kept.now c.args.first.now c.args.lines.now) (state_of header c.records.kept c.records.first c.records.lines)
-    (state_of header c.process_line.new.kept c.process_line.new.first c.next.new.self) c.in-Some.read (c.records.invariant.steps header) c.records.invariant.near line
-    (takes_at g.F.FileForm.form _ _ _ _ _ _ _ _ _ c.text.ensures c.number.ensures c.in-Some.ensures.some.1) c.in-Some.ensures.some.0 refl
+    (state_of header c.process_title.new.kept c.process_title.new.first c.next.new.self) c.in-Some.read (c.records.invariant.steps header) c.records.invariant.near line
+    (takes_at g.F.FileForm.form _ _ _ _ _ _ _ _ _ c.text-line.ensures c.number.ensures c.in-Some.ensures.some.1) c.in-Some.ensures.some.0 refl
+
+pub records-preserved-then-not-begins : goal.records-preserved-then-not-begins
+records-preserved-then-not-begins g c =
+    let line = line_given c.in-Ok.kind _ _ _ _ (λ (e : c.in-Ok.kind ≡ End). let end : c.is_end.result ≡ true = c.is_end.ensures.1 e in absurd (cc c.if-is_end.false)) c.in-Ok.ensures.answer in
+    let takes = takes_at g.F.FileForm.form _ _ _ _ _ _ _ _ _ c.text-line.ensures refl (c.process_more.ensures c.records.first c.next.new.self.number) in
+    record {
+      steps = λ header. (line_keeps g.F.FileForm.form _ _ _ (state_of header c.args.kept.now c.args.first.now c.args.lines.now) (state_of header c.records.kept c.records.first c.records.lines)
+          (state_of header c.process_more.new.kept c.records.first c.next.new.self) (c.records.invariant.steps header) c.records.invariant.near line takes refl).0;
+      near = (line_keeps g.F.FileForm.form _ _ _ (state_of Passed c.args.kept.now c.args.first.now c.args.lines.now) (state_of Passed c.records.kept c.records.first c.records.lines)
+          (state_of Passed c.process_more.new.kept c.records.first c.next.new.self) (c.records.invariant.steps Passed) c.records.invariant.near line takes refl).1;
+      numbered = line.gives.numbered;
+      faults = c.in-Ok.ensures.quiet ∙ c.records.invariant.faults;
+      never = λ h. (c.in-Ok.ensures.never (c.records.invariant.never h)).1;
+    }
 
 pub records-preserved : goal.records-preserved
 records-preserved g c =
     let line = line_given c.in-Ok.kind _ _ _ _ (λ (e : c.in-Ok.kind ≡ End). let end : c.is_end.result ≡ true = c.is_end.ensures.1 e in absurd (cc c.if-is_end.false)) c.in-Ok.ensures.answer in
-    let takes = takes_at g.F.FileForm.form _ _ _ _ _ _ _ _ _ c.text.ensures c.number.ensures c.in_default.ensures.none in
+    let takes = takes_at g.F.FileForm.form _ _ _ _ _ _ _ _ _ c.text-line.ensures c.number.ensures c.in_default.ensures.none in
     record {
       steps = λ header. (line_keeps g.F.FileForm.form _ _ _ (state_of header c.args.kept.now c.args.first.now c.args.lines.now) (state_of header c.records.kept c.records.first c.records.lines)
-          (state_of header c.process_line.new.kept c.process_line.new.first c.next.new.self) (c.records.invariant.steps header) c.records.invariant.near line takes refl).0;
+          (state_of header c.process_title.new.kept c.process_title.new.first c.next.new.self) (c.records.invariant.steps header) c.records.invariant.near line takes refl).0;
       near = (line_keeps g.F.FileForm.form _ _ _ (state_of Passed c.args.kept.now c.args.first.now c.args.lines.now) (state_of Passed c.records.kept c.records.first c.records.lines)
-          (state_of Passed c.process_line.new.kept c.process_line.new.first c.next.new.self) (c.records.invariant.steps Passed) c.records.invariant.near line takes refl).1;
+          (state_of Passed c.process_title.new.kept c.process_title.new.first c.next.new.self) (c.records.invariant.steps Passed) c.records.invariant.near line takes refl).1;
       numbered = line.gives.numbered;
       faults = c.in-Ok.ensures.quiet ∙ c.records.invariant.faults;
       never = λ h. (c.in-Ok.ensures.never (c.records.invariant.never h)).1;

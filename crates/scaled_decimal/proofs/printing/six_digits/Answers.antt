@@ -1,5 +1,5 @@
-use Rattle.scaled_decimal.proofs.DigitLemmas.{six_of}
+use Rattle.scaled_decimal.proofs.DigitLemmas.{six_few}
 use Rattle.scaled_decimal.proofs.printing.six_digits.Goals as goal
 
 pub returns : goal.returns
-returns c = six_of c.args.number _ _ _ c.two_digits.ensures c.two_digits-2.ensures c.two_digits-3.ensures
+returns c = six_few c.args.number _ _ _ c.requires c.two_digits.ensures c.two_digits-2.ensures c.two_digits-3.ensures

@@ -10,21 +10,21 @@ use Rattle.streams.proofs.frame_run.process_frames.Goals as goal
 pub returns-in_err-gather-clause-breaks : goal.returns-in_err-gather-clause-breaks
 returns-in_err-gather-clause-breaks g c =
     let p = err_from_is_err_and c.from_residual.result c.from_residual.ensures.1 in
-    rw p.1 (holds_breaks line_of _ _ _ _ _ _ _ _ _ c.loop-frame.invariant.holds c.in_err-gather.ensures.part)
+    rw p.1 (holds_breaks line_of _ _ _ _ _ _ _ _ _ c.giving.invariant.holds c.in_err-gather.ensures.part)
 
-pub loop-frame-preserved : goal.loop-frame-preserved
-loop-frame-preserved g c =
-    let takes = subst (λ (b : Bool). TakesFrame (not b) c.loop-frame.deframer.rest c.in-Some.frame c.next_frame.new.self.rest) c.loop-frame.invariant.finished c.in-Some.ensures.frame in
-    let gathers = subst (λ (l : List ℕ). Gathers (g.T.Sink.written c.loop-frame.output) (g.T.Sink.written c.gather.new.output) c.loop-frame.lines.items c.gather.new.lines.items l) c.frame_line.ensures c.in_ok-gather.ensures.gathers in
+pub giving-preserved : goal.giving-preserved
+giving-preserved g c =
+    let takes = subst (λ (b : Bool). TakesFrame (not b) c.giving.deframer.rest c.next_into.new.frame c.next_into.new.self.rest) c.giving.invariant.finished (c.next_into.ensures.frame c.giving-test.true) in
+    let gathers = subst (λ (l : List ℕ). Gathers (g.T.Sink.written c.giving.output) (g.T.Sink.written c.gather.new.output) c.giving.lines.items c.gather.new.lines.items l) c.frame_line.ensures c.in_ok-gather.ensures.gathers in
     record {
-      holds = holds_frame line_of _ _ _ _ _ _ _ _ _ _ _ _ c.loop-frame.invariant.holds takes gathers;
-      finished = c.in-Some.ensures.finished ∙ c.loop-frame.invariant.finished;
-      faults = c.in_ok-gather.ensures.cause.stays ∙ c.loop-frame.invariant.faults;
-      room = omega (arith, takes.shorter, c.loop-frame.invariant.room);
+      holds = holds_frame line_of _ _ _ _ _ _ _ _ _ _ _ _ c.giving.invariant.holds takes gathers;
+      finished = c.next_into.ensures.finished ∙ c.giving.invariant.finished;
+      faults = c.in_ok-gather.ensures.cause.stays ∙ c.giving.invariant.faults;
+      room = omega (arith, takes.shorter, c.giving.invariant.room);
     }
 
-pub loop-frame-init : goal.loop-frame-init
-loop-frame-init g c = record {
+pub giving-init : goal.giving-init
+giving-init g c = record {
   holds = rw c.new-lines.ensures (holds_nothing line_of _ _ _ _);
   finished = refl;
   faults = refl;
@@ -33,10 +33,10 @@ loop-frame-init g c = record {
 
 pub returns-clause-breaks : goal.returns-clause-breaks
 returns-clause-breaks g c =
-    on_err_weaker c.write_gathered.result (holds_breaks line_of _ _ _ _ _ _ _ _ _ c.loop-frame.invariant.holds) c.write_gathered.ensures.part
+    on_err_weaker c.write_gathered.result (holds_breaks line_of _ _ _ _ _ _ _ _ _ c.giving.invariant.holds) c.write_gathered.ensures.part
 
 pub returns-clause-goes : goal.returns-clause-goes
 returns-clause-goes g c =
-    let none = subst (λ (b : Bool). TakesNone (not b) c.loop-frame.deframer.rest c.next_frame.new.self.rest) c.loop-frame.invariant.finished c.in_default.ensures.none in
-    let held = holds_none line_of _ _ _ _ _ _ _ _ _ c.loop-frame.invariant.holds none in
+    let none = subst (λ (b : Bool). TakesNone (not b) c.giving.deframer.rest c.next_into.new.self.rest) c.giving.invariant.finished (c.next_into.ensures.none c.giving-test.false) in
+    let held = holds_none line_of _ _ _ _ _ _ _ _ _ c.giving.invariant.holds none in
     on_ok2 c.write_gathered.result c.write_gathered.ensures.text c.write_gathered.ensures.text (λ text same. holds_goes line_of _ _ _ _ _ _ _ _ _ held text)

@@ -1,4 +1,5 @@
-use Rattle.std.proofs.Common.{◌∙◌}
+use Rattle.std.proofs.Common.{arith, rules, ◌∙◌}
+use Rattle.std.proofs.lemmas.Grind.{common_steps}
 use Rattle.file_step.proofs.Gathering.{out_seen}
 use Rattle.file_step.proofs.gathered.Gathered.put_out.Goals as goal
 
@@ -8,3 +9,9 @@ loop-self-preserved g c = (
   c.in-Ok.ensures.cause.stays ∙ c.loop-self.invariant.1,
   c.loop-self.invariant.2,
 )
+
+pub returns-clause-none_lost : goal.returns-clause-none_lost
+returns-clause-none_lost g c = grind (arith, common_steps)
+
+pub returns-clause-out : goal.returns-clause-out
+returns-clause-out g c = search rules

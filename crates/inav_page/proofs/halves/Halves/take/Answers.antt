@@ -3,7 +3,8 @@ use Rattle.std.specs.Prelude.{Contains, IfOk, OnOk}
 use Rattle.nav_eph.specs.Satellite.{Satellite}
 use Rattle.inav_page.specs.Heard.{StampedHalf, AreWordsWith}
 use Rattle.inav_page.specs.Keeping.{Keeping, stamped, HoldsOneSecond, IsKeptWith}
-use Rattle.inav_page.specs.Mirrors.{half_of, keys_held, keys_in}
+use Rattle.inav_page.specs.Mirrors.{half_of}
+use Rattle.inav_page.specs.Kept.{keys_held, keys_in}
 use Rattle.inav_page.proofs.Holding.{fewer_halves, held_after, one_second}
 use Rattle.inav_page.proofs.Taking.{if_ok, kept_after, kept_without, not_among, on_ok, on_ok_then, satellite_is}
 use Rattle.inav_page.proofs.halves.Halves.take.Goals as goal

@@ -2,7 +2,7 @@ use Rattle.std.proofs.Common.{◌≡◌, List, Some, None, length, refl, sym, su
 use Rattle.std.proofs.lemmas.Bool.{true≢false}
 use Rattle.std.proofs.lemmas.Option.{slice_get_past, slice_get_read}
 use Rattle.std.specs.List.{slice_get}
-use Rattle.inav_page.specs.declared.seconds.Second.{Second}
+use Rattle.inav_page.specs.declared.second.Second.{Second}
 use Rattle.inav_page.proofs.Placing.{found, none_of_another, none_outside, none_too_old}
 use Rattle.inav_page.proofs.seconds.Seconds.find.Goals as goal
 
@@ -16,8 +16,8 @@ returns-in_default-clause-none c =
     none_outside c.args.self.now c.args.stamp place c.requires
     (subst P c.deref.ensures.value (slice_get_past c.deref.result.now place c.in_default.ensures.lookup.3)) c.place.ensures.same
 
-pub returns-then-second-stamp-clause-none : goal.returns-then-second-stamp-clause-none
-returns-then-second-stamp-clause-none c =
+pub returns-then-stamp-clause-none : goal.returns-then-stamp-clause-none
+returns-then-stamp-clause-none c =
     let place = c.place.result in
     let all = c.deref.result.now in
     let second = c.in-Some.second.now in
@@ -25,7 +25,7 @@ returns-then-second-stamp-clause-none c =
     let P : List Second → Type 0 = λ seconds. slice_get seconds place ≡ Some second in
     none_of_another c.args.self.now c.args.stamp place second c.requires
     (subst P c.deref.ensures.value (slice_get_read all (length all) place second refl lookup.3.0 lookup.1)) c.place.ensures.same
-    c.if-second-stamp.true
+    (λ same. c.if-stamp.true (c.stamp.ensures ∙ same))
 
 pub returns-clause-there : goal.returns-clause-there
 returns-clause-there c =
@@ -36,4 +36,4 @@ returns-clause-there c =
     let P : List Second → Type 0 = λ seconds. slice_get seconds place ≡ Some second in
     found c.args.self.now c.args.stamp place second c.requires
     (subst P c.deref.ensures.value (slice_get_read all (length all) place second refl lookup.3.0 lookup.1)) c.place.ensures.same
-    (λ old. true≢false (sym (c.is_too_old.ensures.1 old) ∙ c.if-is_too_old.false)) c.if-second-stamp.false
+    (λ old. true≢false (sym (c.is_too_old.ensures.1 old) ∙ c.if-is_too_old.false)) (sym c.stamp.ensures ∙ c.if-stamp.false)

@@ -3,11 +3,13 @@ use Rattle.std.proofs.lemmas.List.{set-get_or}
 use Rattle.std.proofs.lemmas.Option.{slice_get_read}
 use Rattle.std.specs.Prelude.{Contains, IsTrue}
 use Rattle.std.specs.List.{slice_get, slice_set}
-use Rattle.inav_page.specs.declared.seconds.Second.{Second}
+use Rattle.inav_page.specs.declared.second.Second.{Second}
 use Rattle.inav_page.specs.declared.seconds.Seconds.{Seconds}
 use Rattle.inav_page.specs.Keeping.{IsRecent}
-use Rattle.inav_page.specs.Mirrors.{half_of, keys_among, keys_held, ArePlaced, AreSeconds}
+use Rattle.inav_page.specs.Mirrors.{half_of, key_at}
+use Rattle.inav_page.specs.Kept.{keys_among, keys_held, ArePlaced, AreSeconds}
 use Rattle.inav_page.proofs.Holding.{on_err, put_held}
+use Rattle.inav_page.proofs.Shown.{is_key, stamp_of_key}
 use Rattle.inav_page.proofs.Placing.{HasPut, put_kept, put_placed, put_room, stored_where_there}
 use Rattle.inav_page.proofs.seconds.Seconds.put.Goals as goal
 
@@ -36,7 +38,7 @@ returns-clause-kept c =
     let window = c.args.self.now.window in
     let greatest = c.args.self.now.greatest in
     let stamp = c.args.stamp in
-    let key = c.args.key in
+    let key = key_at c.args.stamp c.args.number in
     let all = c.make_places.new.places.items in
     let place = c.place-place.result in
     let was = c.index_mut.result.now in
@@ -56,8 +58,8 @@ returns-clause-kept c =
     ↔ ((Contains (keys_among window greatest c.args.self.now.places.items) q ⊎ (key ≡ q)) × IsRecent window raised (half_of q)))
     × (length (keys_among window raised (slice_set all place second)) ≤ length (keys_among window greatest c.args.self.now.places.items) + 1) in
     subst Q (sym c.max-self.ensures) (subst P kept.0 (
-      put_kept window greatest stamp place all was second key (kept.1 c.requires.seconds.placed) at c.place-place.ensures.same put c.requires.stamp c.requires.recent,
-      put_room window greatest stamp place all was second key (kept.1 c.requires.seconds.placed) at c.place-place.ensures.same put c.requires.stamp c.requires.recent,
+      put_kept window greatest stamp place all was second key (kept.1 c.requires.seconds.placed) at c.place-place.ensures.same put (stamp_of_key c.args.stamp c.args.number c.requires.fits) c.requires.recent,
+      put_room window greatest stamp place all was second key (kept.1 c.requires.seconds.placed) at c.place-place.ensures.same put (stamp_of_key c.args.stamp c.args.number c.requires.fits) c.requires.recent,
     ))
 
 pub returns-clause-seconds : goal.returns-clause-seconds
@@ -65,7 +67,7 @@ returns-clause-seconds c =
     let window = c.args.self.now.window in
     let greatest = c.args.self.now.greatest in
     let stamp = c.args.stamp in
-    let key = c.args.key in
+    let key = key_at c.args.stamp c.args.number in
     let all = c.make_places.new.places.items in
     let place = c.place-place.result in
     let was = c.index_mut.result.now in
@@ -80,14 +82,14 @@ returns-clause-seconds c =
     record {
       small = c.requires.seconds.small;
       placed = subst P (sym c.max-self.ensures)
-          (put_placed window greatest stamp place all was second key (kept.1 c.requires.seconds.placed) at c.place-place.ensures.same put c.requires.stamp
-          c.requires.recent c.requires.key);
+          (put_placed window greatest stamp place all was second key (kept.1 c.requires.seconds.placed) at c.place-place.ensures.same put (stamp_of_key c.args.stamp c.args.number c.requires.fits)
+          c.requires.recent (is_key c.args.stamp c.args.number (omega arith) c.requires.fits));
     }
 
 pub returns-clause-held : goal.returns-clause-held
 returns-clause-held c =
     let stamp = c.args.stamp in
-    let key = c.args.key in
+    let key = key_at c.args.stamp c.args.number in
     let all = c.make_places.new.places.items in
     let place = c.place-place.result in
     let was = c.index_mut.result.now in
@@ -123,6 +125,6 @@ returns-clause-there c =
     let at : slice_get all place ≡ Some was = slice_get_read all (length all) place was refl (omega (arith, enough, fits)) c.index_mut.ensures.value in
     let mid : Seconds = record { window = window; greatest = greatest; places = c.make_places.new.places } in
     let are : AreSeconds mid = record { small = c.requires.seconds.small; placed = kept.1 c.requires.seconds.placed } in
-    let is = stored_where_there mid place was c.args.key c.args.stamp are at c.place-place.ensures.same c.requires.stamp c.requires.recent in
-    let P : List (ℕ × ℕ) → Type 0 = λ keys. IsTrue c.in_ok-there.there ↔ Contains keys c.args.key in
+    let is = stored_where_there mid place was (key_at c.args.stamp c.args.number) c.args.stamp are at c.place-place.ensures.same (stamp_of_key c.args.stamp c.args.number c.requires.fits) c.requires.recent in
+    let P : List (ℕ × ℕ) → Type 0 = λ keys. IsTrue c.in_ok-there.there ↔ Contains keys (key_at c.args.stamp c.args.number) in
     subst P kept.0 (λ h. is.0 (c.in_ok-there.ensures.there.0 h), λ h. c.in_ok-there.ensures.there.1 (is.1 h))

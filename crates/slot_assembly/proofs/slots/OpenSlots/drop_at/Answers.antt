@@ -1,16 +1,20 @@
-use Rattle.std.proofs.Common.{◌≡◌, false, cond, None, subst}
-use Rattle.std.specs.List.{list_any}
-use Rattle.std.specs.BTreeMap.{is_at}
-use Rattle.slot_assembly.specs.declared.order.ByEnd.{ByEnd}
-use Rattle.slot_assembly.specs.declared.order.ByKey.{ByKey}
-use Rattle.slot_assembly.specs.contracts.order.ByKeyOrd.TheImpl.{cmp-value as key_cmp}
-use Rattle.slot_assembly.specs.Slots.{IsChanged}
-use Rattle.slot_assembly.proofs.Changes.{packed_changed, indexed_drop}
+use Rattle.std.proofs.Common.{◌≡◌, ℕ, List, Option, None, ap, sym, subst, ◌∙◌}
+use Rattle.std.specs.Option.{option_map}
+use Rattle.slot_assembly.specs.declared.order.ByStart.{ByStart}
+use Rattle.slot_assembly.specs.declared.slot.Held.{Held}
+use Rattle.slot_assembly.specs.Joins.{IsUnlisted}
+use Rattle.slot_assembly.specs.Slots.{AreIndexed, listed_at}
+use Rattle.slot_assembly.proofs.Changes.{indexed_drop, packed_changed, relisted}
 use Rattle.slot_assembly.proofs.slots.OpenSlots.drop_at.Goals as goal
 
 pub returns-clause-indexed : goal.returns-clause-indexed
 returns-clause-indexed c =
-    indexed_drop _ _ _ _ c.args.rank c.args.end c.requires.indexed c.remove-2.ensures.ordered c.remove.ensures.ordered
-    (subst (λ (x : ByEnd). IsChanged c.args.self.now.slots.entries x None c.remove-2.new.self.entries) c.at_end.ensures
-    (packed_changed c.args.self.now.slots.entries c.remove-2.new.self.entries c.at_end.result None c.remove-2.ensures.updates.0))
-    (subst (λ (x : ByKey). (k : ByKey) → list_any (is_at (key_cmp.it k)) c.remove.new.self.keys ≡ cond (is_at (key_cmp.it x) k) false (list_any (is_at (key_cmp.it k)) c.args.self.now.ends.keys)) c.with_end.ensures c.remove.ensures.updates.0)
+    let old = c.args.self.now.slots.entries in
+    let new = c.remove-old.new.self.entries in
+    let ends = c.args.self.now.ends.keys in
+    let left = c.unlist.new.self.ends.keys in
+    let place = c.args.place in
+    let was : c.listed_in.result ≡ listed_at old place = c.listed_in.ensures ∙ ap (option_map (λ (h : Held). h.listed)) c.remove-old.ensures.value in
+    subst (λ (xs : List (ByStart × Held)). AreIndexed xs left) (sym c.unlist.ensures.same)
+    (indexed_drop old new ends left place c.requires.indexed (packed_changed old new place None c.remove-old.ensures.updates.0) (relisted old new place None c.remove-old.ensures.updates.0)
+    (subst (λ (o : Option ℕ). IsUnlisted ends place o None left) was c.unlist.ensures.ends))

@@ -1,24 +1,21 @@
-use Rattle.std.proofs.Common.{◌≡◌, Some, arith, sym, ap, ◌∙◌}
-use Rattle.std.specs.Option.{option_map}
-use Rattle.slot_assembly.specs.declared.order.ByEnd.{ByEnd}
-use Rattle.slot_assembly.specs.Slots.{slot_of, kept_at}
-use Rattle.slot_assembly.proofs.Changes.{lead, packed_some}
+use Rattle.std.proofs.Common.{Some, arith, ap, sym, subst, ◌∙◌}
+use Rattle.slot_assembly.specs.declared.slot.Slot.{Slot}
+use Rattle.slot_assembly.specs.Slots.{IsFirstEnd, kept_at}
+use Rattle.slot_assembly.proofs.PartLemmas.{due_none, due_some}
 use Rattle.slot_assembly.proofs.slots.OpenSlots.first_due.Goals as goal
 
-pub returns-then-at-before : goal.returns-then-at-before
-returns-then-at-before c =
-    let x = c.in_ok-at.at.now in
+pub returns-then-end-place-clause-first : goal.returns-then-end-place-clause-first
+returns-then-end-place-clause-first c =
+    let slots = c.moving.self.slots.entries in
+    let place = c.in-Some.place in
     let s = c.slot.result in
-    let k : kept_at c.args.self.now.slots.entries x ≡ Some s = ap (option_map slot_of) c.in_ok-at.ensures.value ∙ ap Some (sym c.slot.ensures) in
-    let e : x.end ≡ s.end = ap (λ (y : ByEnd). y.end) (c.requires.indexed.own x s k) in
-    let first = lead _ _ x s c.requires.indexed k (λ q i. c.in_ok-at.ensures.least q (packed_some _ i)) in
-    (first.0, omega (arith, e, c.if-at-before.true, c.saturating_sub-before.ensures))
+    let low = ap (λ (t : Slot). t.end) c.slot.ensures in
+    due_some slots c.moving.self.ends.keys c.args.window c.args.watermark c.saturating_sub-limit.result place s c.moving.invariant.indexed c.saturating_sub-limit.ensures c.in-Some.ensures
+    (ap (kept_at slots) (sym c.by_key.ensures) ∙ sym c.in-Some-slot_at.ensures ∙ ap Some (sym c.slot.ensures)) (omega (arith, c.if-end-place.true, c.end-end.ensures, low))
 
-pub returns-else-at-before : goal.returns-else-at-before
-returns-else-at-before c = λ t i.
-    let x = c.in_ok-at.at.now in
-    let s = slot_of c.in_ok-at.packed.now in
-    let k : kept_at c.args.self.now.slots.entries x ≡ Some s = ap (option_map slot_of) c.in_ok-at.ensures.value in
-    let e : x.end ≡ s.end = ap (λ (y : ByEnd). y.end) (c.requires.indexed.own x s k) in
-    let first = lead _ _ x s c.requires.indexed k (λ q j. c.in_ok-at.ensures.least q (packed_some _ j)) in
-    omega (arith, e, first.1 t i, c.if-at-before.false, c.saturating_sub-before.ensures)
+pub returns-clause-first : goal.returns-clause-first
+returns-clause-first c =
+    let ends = c.moving.self.ends.keys in
+    let limit = c.saturating_sub-limit.result in
+    due_none c.moving.self.slots.entries ends c.args.window c.args.watermark limit c.moving.invariant.indexed c.saturating_sub-limit.ensures
+    (subst (IsFirstEnd ends limit) c.in_default.is c.first_end.ensures)

@@ -1,21 +1,28 @@
-use Rattle.std.proofs.Common.{◌+◌, subst}
-use Rattle.slot_assembly.specs.declared.slot.Slot.{Slot}
-use Rattle.slot_assembly.specs.Joins.{IsJoinedWithFirst, IsPutForEnds}
-use Rattle.slot_assembly.specs.Slots.{slot_of, IsTaken}
-use Rattle.slot_assembly.proofs.EndLemmas.{on_ok, taken}
+use Rattle.std.proofs.Common.{ℕ, ◌+◌, List, Option, arith, ap, sym, subst, ◌∙◌}
+use Rattle.slot_assembly.specs.declared.order.ByStart.{ByStart}
+use Rattle.slot_assembly.specs.declared.order.ByEnd.{ByEnd}
+use Rattle.slot_assembly.specs.Joins.{IsMergedAt, IsTouchedFrom}
+use Rattle.slot_assembly.specs.Order.{rank_of}
+use Rattle.slot_assembly.specs.Slots.{AreIndexed}
+use Rattle.slot_assembly.proofs.PartLemmas.{added, indexed_merged, one_slot_of}
 use Rattle.slot_assembly.proofs.slots.OpenSlots.take.Goals as goal
 
-pub returns-clause-ok : goal.returns-clause-ok
-returns-clause-ok c =
+pub returns-then-start-part-clause-indexed : goal.returns-then-start-part-clause-indexed
+returns-then-start-part-clause-indexed c =
     let old = c.args.self.now.slots.entries in
-    let new = c.replace.new.self.slots.entries in
-    let one = c.args.one in
+    let new = c.merge_at.new.self.slots.entries in
+    let ends = c.args.self.now.ends.keys in
+    let one = one_slot_of c.args.part.now c.args.key.now c.requires.key in
+    subst (λ (ys : List ByEnd). AreIndexed new ys) (sym c.merge_at.ensures.ends)
+    (indexed_merged old new ends c.at_start.result one.0 c.requires.indexed (omega (arith, ap (λ (x : ByStart). x.start) c.at_start.ensures, c.if-start-part.true, one.1.start)) (c.merge_at.ensures.merged one.0 one.1) c.merge_at.ensures.alike)
+
+pub returns-then-start-part-clause-ok : goal.returns-then-start-part-clause-ok
+returns-then-start-part-clause-ok c =
+    let old = c.args.self.now.slots.entries in
+    let new = c.merge_at.new.self.slots.entries in
+    let p = c.args.part.now in
     let rank = c.rank_of_key-rank.result in
-    let first = c.join_first-first.result in
-    let second = c.join_second-second.result in
-    let joined = slot_of c.join_first-first.new.packed in
-    let both = slot_of c.join_second-second.new.packed in
-    on_ok c.replace.result (IsPutForEnds old rank both first second new) (IsTaken old one c.args.window new)
-    (taken old new c.args.self.now.ends.keys one joined both c.args.window c.saturating_sub-from.result rank first second c.requires.indexed c.rank_of_key-rank.ensures c.saturating_sub-from.ensures
-    (subst (λ (s : Slot). IsJoinedWithFirst old rank c.saturating_sub-from.result (one.end + c.args.window) s joined first) c.in_ok-packed.ensures c.join_first-first.ensures)
-    c.join_second-second.ensures) c.replace.ensures.ok
+    let one = one_slot_of p c.args.key.now c.requires.key in
+    added old new c.args.self.now.ends.keys p one.0 c.args.window rank c.in-Some.start c.requires.indexed (c.rank_of_key-rank.ensures ∙ ap rank_of (sym one.2)) one.1
+    (subst (λ (o : Option ℕ). IsTouchedFrom old rank (p.stamp + c.args.window + 1) p.stamp c.args.window o) c.in-Some.is c.touched_from-first.ensures) c.if-start-part.true
+    (subst (λ (x : ByStart). IsMergedAt old x one.0 new) c.at_start.ensures (c.merge_at.ensures.merged one.0 one.1))

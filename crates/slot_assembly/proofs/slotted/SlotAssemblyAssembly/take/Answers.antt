@@ -11,7 +11,7 @@ returns-in-Err-clause-err c = λ at h.
 pub returns-in-Ok-clause-ok : goal.returns-in-Ok-clause-ok
 returns-in-Ok-clause-ok c = λ at h.
     let l = subst (λ (m : ℕ). m ≤ c.args.part.now.stamp) (sym c.requires.1.at_watermark ∙ h.at_watermark) c.requires.2 in
-    stands_taken (the_view c.self.inside) at c.args.part.now c.in-Some.one c.take.new.self.slots.entries c.take.new.self.ends.keys (subst (λ (s : SlotsState). SlotsStandFor s at) (sym c.self.view_is) h) l c.note_value.ensures c.in-Some.ensures
+    stands_taken (the_view c.self.inside) at c.args.part.now c.take.new.self.slots.entries c.take.new.self.ends.keys (subst (λ (s : SlotsState). SlotsStandFor s at) (sym c.self.view_is) h) l c.note_value.ensures
     c.in-Ok.ensures.ok c.in-Ok.ensures.indexed
 
 pub returns-in-Err-take-clause-err : goal.returns-in-Err-take-clause-err
@@ -21,5 +21,5 @@ returns-in-Err-take-clause-err c = λ at h.
 pub returns-in-Ok-take-clause-ok : goal.returns-in-Ok-take-clause-ok
 returns-in-Ok-take-clause-ok c = λ at h.
     let l = subst (λ (m : ℕ). m ≤ c.args.part.now.stamp) (sym c.requires.1.at_watermark ∙ h.at_watermark) c.requires.2 in
-    stands_heard (the_view c.self.inside) at c.args.part.now c.take-in-None.new.self.heard.entries c.take-in-None.new.self.stamps.keys (subst (λ (s : SlotsState). SlotsStandFor s at) (sym c.self.view_is) h) l c.note_value.ensures c.in-None.ensures
+    stands_heard (the_view c.self.inside) at c.args.part.now c.take-in-None.new.self.heard.entries c.take-in-None.new.self.stamps.keys (subst (λ (s : SlotsState). SlotsStandFor s at) (sym c.self.view_is) h) l c.note_value.ensures (sym c.in-None.ensures)
     c.in-Ok-take.ensures.ok c.in-Ok-take.ensures.stamped

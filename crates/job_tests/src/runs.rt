@@ -1,0 +1,272 @@
+//! Whole conversions over a folder in memory.
+
+ghost use Rattle.std.specs.Prelude.{◌≡◌};
+
+use file_form::{Kind, Target};
+use file_texts::Refusal;
+use front_plan::Values;
+use front_run::{
+    MemFolder, Outcome, Plan, Sourced, Stop, Teller, Told, convert_one, convert_source, finish,
+};
+use nav_io::{Failed, MemSink, MemSource};
+use peek_io::Untold;
+use receiver_log::Unheard;
+use std::alloc::{AllocError, Global};
+use std::test::Fail;
+
+// How a conversion ended, with the form under which the file was read.
+#[derive(Clone, Copy, PartialEq, Eq)]
+enum End {
+    Done,
+    NotOpened,
+    NotRead,
+    NoConversion(Kind),
+    NoJob(Kind),
+    NotAccepted(Kind),
+    Other,
+}
+
+// How a conversion ended.
+fn end_of(done: Result<(), Stop>) -> End {
+    match done {
+        Ok(()) => End::Done,
+        Err(Stop::Open(_)) => End::NotOpened,
+        Err(Stop::Look(None)) => End::NotRead,
+        Err(Stop::NoConversion(kind)) => End::NoConversion(kind),
+        Err(Stop::NoJob(kind)) => End::NoJob(kind),
+        Err(Stop::Run(kind, 5, _, _, _)) => End::NotAccepted(kind),
+        Err(_) => End::Other,
+    }
+}
+
+// A file of these bytes, where it is there, and what is asked of it; the output's bytes before and
+// afterwards, how it ends, and its status where the report can be ended, or cannot.
+struct Case {
+    bytes: Option<&'static [u8]>,
+    target: Target,
+    week: Option<&'static str>,
+    old: Option<&'static [u8]>,
+    new: Option<&'static [u8]>,
+    end: End,
+    fails: bool,
+    status: u8,
+}
+
+const CAPTURE: &[u8] = b"NAVCAP 2 2295 300\n";
+
+static CASES: [Case; 8] = [
+    Case {
+        bytes: Some(CAPTURE),
+        target: Target::List,
+        week: None,
+        old: None,
+        new: Some(b""),
+        end: End::Done,
+        fails: false,
+        status: 0,
+    },
+    // the report cannot be ended
+    Case {
+        bytes: Some(CAPTURE),
+        target: Target::List,
+        week: None,
+        old: None,
+        new: Some(b""),
+        end: End::Done,
+        fails: true,
+        status: 7,
+    },
+    // another week than that of the capture
+    Case {
+        bytes: Some(CAPTURE),
+        target: Target::List,
+        week: Some("2294"),
+        old: Some(b"old"),
+        new: Some(b"old"),
+        end: End::NotAccepted(Kind::Capture2),
+        fails: false,
+        status: 5,
+    },
+    // a log is copied as its capture
+    Case {
+        bytes: Some(b"\xb5\x62 and no message"),
+        target: Target::Capture,
+        week: None,
+        old: None,
+        new: Some(b""),
+        end: End::Done,
+        fails: false,
+        status: 0,
+    },
+    Case {
+        bytes: Some(b"\xb5\x62 and no message"),
+        target: Target::List,
+        week: None,
+        old: None,
+        new: None,
+        end: End::NotAccepted(Kind::Ubx),
+        fails: false,
+        status: 5,
+    },
+    Case {
+        bytes: Some(b"NAVCAP 1 300\n"),
+        target: Target::Frames,
+        week: None,
+        old: None,
+        new: None,
+        end: End::NoConversion(Kind::Capture1),
+        fails: false,
+        status: 2,
+    },
+    Case {
+        bytes: Some(b"NAVCAP 1 300\n"),
+        target: Target::List,
+        week: Some("99999"),
+        old: None,
+        new: None,
+        end: End::NoJob(Kind::Capture1),
+        fails: false,
+        status: 2,
+    },
+    Case {
+        bytes: None,
+        target: Target::List,
+        week: None,
+        old: None,
+        new: None,
+        end: End::NotOpened,
+        fails: false,
+        status: 3,
+    },
+];
+
+// What is asked: this target, with the week where one is named.
+fn plan_of<'a>(target: Target, week: Option<&'a str>) -> Plan<'a> {
+    Plan {
+        form: None,
+        target,
+        values: Values {
+            week,
+            clock_week: "2400",
+            leap: "18",
+            date: "20260101 000000 UTC",
+        },
+    }
+}
+
+// Nobody but a report is told.
+fn listeners(alloc: Global) -> Result<Told<MemSink, Unheard, Untold>, AllocError> {
+    Ok(Told {
+        report: MemSink::new(alloc, 1000, Vec::new(alloc))?,
+        refusals: Unheard,
+        progress: Untold,
+    })
+}
+
+// Who hears what became of a file, and can end its report, or cannot.
+#[derive(Drop)]
+struct Hearer {
+    fails: bool,
+    faults: u64,
+}
+
+impl Teller<MemSink> for Hearer {
+    ghost faults = { λ s. s.faults };
+
+    ghost told = { λ _ _. Unit {0} };
+
+    fn refused(&mut self, _refusal: &Refusal) {}
+
+    fn done(&mut self, _outcome: &Outcome<MemSink>) -> Result<(), Failed> {
+        if !self.fails {
+            return Ok(());
+        }
+        self.faults = self.faults.saturating_add(1);
+        Err(Failed)
+    }
+}
+
+// The folder of a case.
+fn folder_of(alloc: Global, case: &Case) -> Result<MemFolder, AllocError> {
+    let mut folder = MemFolder::new(alloc);
+    if let Some(bytes) = case.bytes {
+        folder.put("in", bytes)?;
+    }
+    if let Some(bytes) = case.old {
+        folder.put("out", bytes)?;
+    }
+    Ok(folder)
+}
+
+// Whether the file of this name has these bytes, or none is there.
+fn has(folder: &MemFolder, name: &str, bytes: Option<&[u8]>) -> bool {
+    match (folder.get(name), bytes) {
+        (Some(there), Some(wanted)) => there == wanted,
+        (None, None) => true,
+        _ => false,
+    }
+}
+
+// Whether the conversion of a case ends so, and leaves these files.
+fn ends_so(alloc: Global, case: &Case) -> Result<bool, AllocError> {
+    let mut folder = folder_of(alloc, case)?;
+    let told = listeners(alloc)?;
+    let plan = plan_of(case.target, case.week);
+    let outcome = convert_one(alloc, &plan, &mut folder, told, "in", "part", "out");
+    let is_end = end_of(outcome.done) == case.end;
+    let mut hearer = Hearer {
+        fails: case.fails,
+        faults: 0,
+    };
+    let status = finish(&plan, outcome, "out", "part", &mut hearer);
+    Ok(
+        is_end
+            && status == case.status
+            && has(&folder, "out", case.new)
+            && has(&folder, "part", None),
+    )
+}
+
+#[test]
+fn files_are_converted_as_the_table_says(rt: HostRuntime) -> Result<(), Fail> {
+    for case in &CASES {
+        assert!(rt; ends_so(rt.alloc(), case)?);
+    }
+    Ok(())
+}
+
+// A source of a capture of which this call fails.
+fn source_of(alloc: Global, fails: u32) -> Result<MemSource, AllocError> {
+    let calls = [fails].to_vec(alloc)?;
+    Ok(MemSource::new(CAPTURE.to_vec(alloc)?, Vec::new(alloc), calls))
+}
+
+// Whether its conversion to a list ends so, with this output.
+fn source_ends_so(
+    alloc: Global,
+    fails: u32,
+    end: End,
+    output: Option<&[u8]>,
+) -> Result<bool, AllocError> {
+    let told = listeners(alloc)?;
+    let source = source_of(alloc, fails)?;
+    let mut folder = MemFolder::new(alloc);
+    let plan = plan_of(Target::List, None);
+    let Sourced { outcome, source: _ } = convert_source(
+        alloc,
+        &plan,
+        &mut folder,
+        source,
+        told,
+        "part",
+        "out",
+    );
+    Ok(end_of(outcome.done) == end && has(&folder, "out", output))
+}
+
+#[test]
+fn source_is_converted_unless_a_read_fails(rt: HostRuntime) -> Result<(), Fail> {
+    assert!(rt; source_ends_so(rt.alloc(), 0, End::NotRead, None)?);
+    assert!(rt; source_ends_so(rt.alloc(), 99, End::Done, Some(b""))?);
+    Ok(())
+}
