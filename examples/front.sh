@@ -149,7 +149,7 @@ run "a wrong week" 2 "1024" --week 5 -o d.rnx station.navcap
 run "another week" 5 "another week" --week 2294 -o d.rnx station.navcap
 run "a misspelt option" 2 "--overwrite" --overwrit station.navcap
 run "a misspelt form" 2 "rinex" -t rinx station.navcap
-run "no file" 2 "FILE" -q
+run "no file" 2 "no file is named" -q
 run "several files to one" 2 "name a folder" -o one.rnx station.navcap log.ubx
 is_gone "what was refused" d.rnx
 run "several, of which one is missing" 3 "none: there is no such file" -t list -o out.d station.navcap none log.ubx

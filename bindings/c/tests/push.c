@@ -1,7 +1,7 @@
 /* A conversion whose input is pushed, in pieces of every size from 1 to 80 and of some larger ones, with rooms of many sizes, in
- * four threads: the output, the report and the status are what nb_convert gives of the whole. Then the same with each request for
- * memory refused from there on: the answer is NB_NO_MEMORY, each further call's too, what was taken is a prefix, and nothing
- * leaks.
+ * four threads, each with the 256 KB of stack that docs/LIBRARY.md asks for: the output, the report and the status are what
+ * nb_convert gives of the whole. Then the same with each request for memory refused from there on: the answer is NB_NO_MEMORY,
+ * each further call's too, what was taken is a prefix, and nothing leaks.
  *
  *   push INPUT WORD..    the words name a job whose input can be pushed
  */
@@ -122,6 +122,7 @@ static void opens_nothing(void) {
 
 int main(int argc, char **argv) {
     pthread_t threads[4];
+    pthread_attr_t small;
     int here[4] = {0}, i;
     uint32_t status;
     FILE *from;
@@ -142,8 +143,9 @@ int main(int argc, char **argv) {
     want(status == NB_OK && n_input > 0, 0, "the whole is converted");
     want(nb_push_size() <= NB_PUSH_MOST, 0, "the header's size");
     if (wrong > 0) return 1;
+    if (pthread_attr_init(&small) != 0 || pthread_attr_setstacksize(&small, 256 << 10) != 0) return 2;
     for (i = 0; i < 4; i++)
-        if (pthread_create(&threads[i], NULL, sizes, &here[i]) != 0) return 2;
+        if (pthread_create(&threads[i], &small, sizes, &here[i]) != 0) return 2;
     for (i = 0; i < 4; i++) {
         pthread_join(threads[i], NULL);
         want(here[i] == 0, i, "pieces of every size");

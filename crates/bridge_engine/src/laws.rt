@@ -15,8 +15,8 @@ pub fn words_give_one_job()
         → IsJob words job → IsJob words other → job ≡ other }
 {}
 
-/// `capture_of` finds a capture exactly where the bytes are one, and each line is read as the item that it
-/// stands for: bytes are at most one capture, and its lines stand for one list of items.
+/// `capture_of` finds a capture exactly where the bytes are one, and each line is read as the item
+/// that it stands for: bytes are at most one capture, and its lines stand for one list of items.
 pub fn captures_are_told()
     ensures capture { (week : Option ℕ) (bytes : List ℕ) (c : Capture)
         → (capture_of week bytes ≡ Some c) ↔ IsCapture week bytes c }

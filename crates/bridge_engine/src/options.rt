@@ -32,7 +32,8 @@ pub struct Found<'a> {
     pub sats: Option<&'a str>,
 }
 
-/// The values of the options that the words spell; `None` where they spell no options or repeat a name.
+/// The values of the options that the words spell; `None` where they spell no options or repeat a
+/// name.
 ///
 /// # Errors
 ///

@@ -40,15 +40,17 @@ use std::alloc::{AllocError, Global};
 /// | 7 | only when a write to the report failed: its fault count rose, or is at its maximum |
 /// | 8 | only when 4,294,967,295 bytes of input were read and there was one more |
 ///
-/// The first line of a capture is accepted for the reference week of the command line, where it names one. The header of a
-/// navigation file must be that of the RINEX version that `--from` names.
+/// The first line of a capture is accepted for the reference week of the command line, where it
+/// names one. The header of a navigation file must be that of the RINEX version that `--from`
+/// names.
 ///
-/// Parsing the words takes memory: where they ask for no job, the status is 2, or 6 when that memory is missing. Jobs that convert
-/// or send a navigation file, and from a stream to frames, allocate no more: when one ends with 6, nothing was read or written.
+/// Parsing the words takes memory: where they ask for no job, the status is 2, or 6 when that
+/// memory is missing. Jobs that convert or send a navigation file, and from a stream to frames,
+/// allocate no more: when one ends with 6, nothing was read or written.
 ///
-/// After 3, 4, 6, 7 and 8 the output is a prefix of what the bytes read would give; after 3 in a capture it is exactly what the
-/// complete lines close. The jobs `--from stream --to frames` and `--from seed --to capture` write nothing to the report. Jobs
-/// from a seed read nothing.
+/// After 3, 4, 6, 7 and 8 the output is a prefix of what the bytes read would give; after 3 in a
+/// capture it is exactly what the complete lines close. The jobs `--from stream --to frames` and
+/// `--from seed --to capture` write nothing to the report. Jobs from a seed read nothing.
 pub fn bridge<S: Source, T: Sink, U: Sink>(
     alloc: Global,
     words: &[String],
@@ -56,16 +58,16 @@ pub fn bridge<S: Source, T: Sink, U: Sink>(
     output: &mut T,
     report: &mut U,
 ) -> u8
-    // The job that the words ask for ended with this status. Otherwise nothing was touched: the words ask for no job, or there
-    // was no memory to parse them.
+    // The job that the words ask for ended with this status. Otherwise nothing was touched: the
+    // words ask for no job, or there was no memory to parse them.
     ensures ended { ((job : Job) × IsJob (map string_bytes words.now) job × RanBy (meaning_of job)
         S.left S.never_fails S.faults T.written T.faults U.written U.faults
         input.old input.new output.old output.new report.old report.new result)
         ⊎ ((((result ≡ 2) × ¬ GivesJob (map string_bytes words.now)) ⊎ (result ≡ 6))
         × (input.new ≡ input.old) × (output.new ≡ output.old) × (report.new ≡ report.old)) }
 
-    // However the reads split a capture, a run with status 0 has written the RINEX text of the items of exactly the periods
-    // of the parts received in it, each once and in order.
+    // However the reads split a capture, a run with status 0 has written the RINEX text of the
+    // items of exactly the periods of the parts received in it, each once and in order.
     ensures headline { (week : Option ℕ) (header : HeaderWords)
         → IsJob (map string_bytes words.now)
         (Job.Capture (record { week = week; to = Rinex header }))
@@ -77,8 +79,9 @@ pub fn bridge<S: Source, T: Sink, U: Sink>(
         (rinex_text header (items_in periods))
         × IsAtEnd (S.left input.new)) }
 
-    // After any fault of a run over a capture, the output and the report are prefixes of what the whole input gives, unread bytes
-    // included; and counts are written only after the whole input was read.
+    // After any fault of a run over a capture, the output and the report are prefixes of what the
+    // whole input gives, unread bytes included; and counts are written only after the whole input
+    // was read.
     ensures also { (job : CaptureJob) → IsJob (map string_bytes words.now) (Job.Capture job)
         → ¬ (result ≡ 0) → CaptureAhead (target_of job.to) job.week
         (S.left input.old) (S.left input.new) (T.written output.old) (T.written output.new)

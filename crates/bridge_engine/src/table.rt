@@ -4,7 +4,8 @@
 ghost use Rattle.std.specs.Prelude.{◌≡◌, ◌↔◌, None, Some, MatchOption, IsFalse, codes};
 ghost use Rattle.rinex_write.specs.declared.words.HeaderWords.{HeaderWords};
 ghost use Rattle.captures.specs.declared.seed_target.SeedTo.{SeedTo};
-ghost use Rattle.bridge_engine.specs.Job.{capture_target, file_target, row_of, seed_word, stream_target};
+ghost use Rattle.bridge_engine.specs.Job.{capture_target, file_target};
+ghost use Rattle.bridge_engine.specs.Job.{row_of, seed_word, stream_target};
 ghost use Rattle.bridge_engine.specs.Found.{IsRow, IsTarget};
 ghost use Rattle.bridge_engine.specs.declared.job.Job.{Job};
 

@@ -1,10 +1,12 @@
 //! The values of options: numbers of one to ten decimal digits, and the date of a header.
 
-ghost use Rattle.std.specs.Prelude.{◌≡◌, ◌<◌, ◌≤◌, ◌^◌, ℕ, List, Option, MatchOption, IsTrue, ◌↔◌, option_map, length};
+ghost use Rattle.std.specs.Prelude.{◌≡◌, ◌<◌, ◌≤◌, ◌^◌, ℕ, List, Option};
+ghost use Rattle.std.specs.Prelude.{MatchOption, IsTrue, ◌↔◌, option_map, length};
 ghost use Rattle.std.specs.List.{list_all};
 ghost use Rattle.std.specs.Char.{is_ascii_digit};
 ghost use Rattle.std.specs.Str.Parse.{digits_value};
-ghost use Rattle.bridge_engine.specs.Job.{Writes, IsWeekText, IsLeapText, IsDateText, IsSeedText, IsSatsText, Reads, ReadsAs};
+ghost use Rattle.bridge_engine.specs.Job.{Writes, IsWeekText, IsLeapText, IsDateText};
+ghost use Rattle.bridge_engine.specs.Job.{IsSeedText, IsSatsText, Reads, ReadsAs};
 ghost use Rattle.bridge_engine.specs.WordsFound.{given_of};
 
 use crate::Found;

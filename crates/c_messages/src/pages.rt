@@ -3,7 +3,8 @@
 ghost use Rattle.std.specs.Prelude.{◌≡◌, ◌↔◌, IsTrue};
 ghost use Rattle.nav_eph.specs.Satellite.{IsSat};
 ghost use Rattle.nav_eph.specs.declared.sat.System.TheVariants.{Gal};
-ghost use Rattle.inav_page.specs.Pages.{HasRightCrc, bytes_of_half, even_of, kind_of, odd_of, word_of};
+ghost use Rattle.inav_page.specs.Pages.{HasRightCrc, bytes_of_half};
+ghost use Rattle.inav_page.specs.Pages.{even_of, kind_of, odd_of, word_of};
 ghost use Rattle.inav_page.specs.declared.half.HalfKind.TheVariants.{Even, Odd};
 ghost use Rattle.inav_word.specs.Reading.{reading_of};
 ghost use Rattle.c_messages.specs.Pages.{ArePair, BelongTogether, IsAlert, IsContent, IsPageOf};

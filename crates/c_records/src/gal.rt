@@ -4,7 +4,8 @@ ghost use Rattle.std.specs.Prelude.{◌≡◌, ◌↔◌, IsSome, IfSome};
 ghost use Rattle.nav_eph.specs.Bodies.{IsGalHealth};
 ghost use Rattle.nav_eph.specs.Ranges.{IsGalItem, IsGalWord1, IsGalWord2, IsGalWord3, IsGalWord4};
 ghost use Rattle.c_records.specs.Gal.{word1_in, word2_in, word3_in, word4_in, health_in, gal_in};
-ghost use Rattle.c_records.specs.Gal.{raw_word1, raw_word2, raw_word3, raw_word4, raw_health, raw_gal};
+ghost use Rattle.c_records.specs.Gal.{raw_word1, raw_word2, raw_word3};
+ghost use Rattle.c_records.specs.Gal.{raw_word4, raw_health, raw_gal};
 
 use crate::gal_raw::{GalHealthRaw, GalRaw, GalWord1Raw, GalWord2Raw, GalWord3Raw, GalWord4Raw};
 use crate::numbers::{

@@ -2,7 +2,8 @@
 //! function, so that its range is a number in the contract; a signed number is taken by reference,
 //! so that a contract names it as it stands in its struct.
 
-ghost use Rattle.std.specs.Prelude.{◌≡◌, ◌^◌, ◌<◌, ◌≤◌, ◌↔◌, IsSome, IfSome};
+ghost use Rattle.std.specs.Prelude.{◌≡◌, ◌^◌, ◌<◌};
+ghost use Rattle.std.specs.Prelude.{◌≤◌, ◌↔◌, IsSome, IfSome};
 ghost use Rattle.nav_bits.specs.Signed.{IsSigned};
 ghost use Rattle.nav_eph.specs.Steps.{IsSisa, IsStep16, IsStep60};
 

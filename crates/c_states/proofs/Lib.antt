@@ -1,6 +1,6 @@
 mod CallLemmas
-mod CapturePushes
 mod GrowLemmas
 mod PageLemmas
 mod PushLemmas
+mod RunLemmas
 mod TextWords

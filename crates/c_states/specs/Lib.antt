@@ -1,5 +1,6 @@
 pub mod Calls
 pub mod Deframers
+pub mod Mirrors
 pub mod PagePairs
 pub mod Places
 pub mod Pushes

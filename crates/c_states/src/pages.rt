@@ -64,8 +64,8 @@ impl Model for PagePairs {
     } };
 }
 
-/// No page part was taken. A part is kept while its stamp is at most the window and one second below
-/// the greatest; a window below 60 seconds is taken as 60, and above 14,400 as 14,400.
+/// No page part was taken. A part is kept while its stamp is at most the window and one second
+/// below the greatest; a window below 60 seconds is taken as 60, and above 14,400 as 14,400.
 pub fn new(alloc: Global, window: u32) -> PagePairs
     ensures { IsEmpty result window }
 {

@@ -1,22 +1,26 @@
-//! A conversion whose input is pushed in pieces, and whose output and report are taken as they come.
+//! A conversion whose input is pushed in pieces, and whose output and report are taken as they
+//! come.
 
-ghost use Rattle.std.specs.Prelude.{◌≡◌, ◌≢◌, ◌⊎◌, ◌↔◌, All, IfErr, IfOk, IsUtf8, map};
+ghost use Rattle.std.specs.Prelude.{◌≡◌, ◌≢◌, ◌⊎◌, ◌↔◌};
+ghost use Rattle.std.specs.Prelude.{All, IfErr, IfOk, IsUtf8, OnOk, map};
 ghost use Rattle.std.specs.String.{string_bytes};
-ghost use Rattle.one_run.specs.declared.fault.BridgeFault.TheVariants.{NotThisForm, ReadFault, TooLong};
+ghost use Rattle.one_run.specs.declared.fault.BridgeFault.TheVariants.{NotThisForm};
+ghost use Rattle.one_run.specs.declared.fault.BridgeFault.TheVariants.{ReadFault, TooLong};
 ghost use Rattle.streams.specs.Mirrors.{IsStreamFault};
 ghost use Rattle.bridge_engine.specs.Job.{GivesJob, IsJob};
-ghost use Rattle.c_states.specs.Pushes.{Begins, Finishes, Opens, Pushes, Takes, closed, taken_more, told_more, without_job};
+ghost use Rattle.c_states.specs.Mirrors.{BreaksOff, Ends, EndsShort, GoesOn};
+ghost use Rattle.c_states.specs.Pushes.{Begins, Finishes, Opens, Pushes};
+ghost use Rattle.c_states.specs.Pushes.{Takes, closed, taken_more, told_more};
 
 use crate::kept::Kept;
 use crate::words::{are_texts, texts_of};
 use bridge_engine::{BridgeFault, Job, job_of};
 use c_records::put;
-use capture_log::what_is_closed_stays;
-use captures::CaptureRun;
+use captures::{CaptureRun, what_is_written_of_a_capture_stays};
 use nav_io::Failed;
 use std::alloc::{AllocError, Global};
 use std::marker::Model;
-use streams::StreamRun;
+use streams::{StreamRun, what_is_written_of_a_stream_stays};
 
 // The words give no job.
 const NO_JOB: u32 = 2;
@@ -43,6 +47,51 @@ enum Run {
     Idle,
     Capture(CaptureRun),
     Stream(StreamRun),
+}
+
+impl Run {
+    // Pushes a piece of the input, where there is a run.
+    fn push(
+        &mut self,
+        piece: &[u8],
+        output: &mut Kept,
+        report: &mut Kept,
+    ) -> Result<(), BridgeFault>
+        ensures goes { OnOk result (GoesOn self.old self.new piece.now
+            output.old.bytes.items output.new.bytes.items
+            report.old.bytes.items report.new.bytes.items) }
+        ensures breaks { IfErr result (BreaksOff self.old piece.now
+            output.old.bytes.items output.new.bytes.items
+            report.old.bytes.items report.new.bytes.items) }
+    {
+        match self {
+            Run::Idle => Ok(()),
+            Run::Capture(run) => run.push(piece, output, report),
+            Run::Stream(run) => run.push(piece, output, report),
+        }
+    }
+
+    // Ends the input, where there is a run.
+    fn finish(self, output: &mut Kept, report: &mut Kept) -> Result<(), BridgeFault>
+        ensures ends { OnOk result (Ends self
+            output.old.bytes.items output.new.bytes.items
+            report.old.bytes.items report.new.bytes.items) }
+        ensures short { IfErr result (EndsShort self
+            output.old.bytes.items output.new.bytes.items
+            report.old.bytes.items report.new.bytes.items) }
+    {
+        match self {
+            Run::Idle => Ok(()),
+            Run::Capture(run) => match run.finish(output, report) {
+                Ok(_) => Ok(()),
+                Err(fault) => Err(fault),
+            },
+            Run::Stream(run) => match run.finish(output, report) {
+                Ok(_) => Ok(()),
+                Err(fault) => Err(fault),
+            },
+        }
+    }
 }
 
 /// A conversion whose input comes in pieces.
@@ -74,9 +123,9 @@ impl Model for Conversion {
     } };
 }
 
-// A conversion that does no job, and answers so.
-fn without_job(alloc: Global, status: u32) -> Conversion
-    ensures { result ≡ without_job status }
+/// A conversion that does no job yet.
+pub fn new(alloc: Global) -> Conversion
+    ensures { result ≡ closed }
 {
     Conversion {
         alloc,
@@ -85,15 +134,8 @@ fn without_job(alloc: Global, status: u32) -> Conversion
         taken: 0,
         report: Kept::new(alloc),
         told: 0,
-        status,
+        status: CLOSED,
     }
-}
-
-/// A conversion that does no job yet.
-pub fn new(alloc: Global) -> Conversion
-    ensures { result ≡ closed }
-{
-    without_job(alloc, CLOSED)
 }
 
 // The job that the words give, or the answer where there is none.
@@ -120,46 +162,28 @@ fn job_in(alloc: Global, words: &[&[u8]]) -> Result<Job, u32>
     }
 }
 
-// The conversion that begins with a job.
-fn begun(alloc: Global, job: &Job) -> Conversion
-    ensures { Begins job.now result }
+// Begins a job in a closed conversion, in its place: a run is large.
+fn begin(state: &mut Conversion, job: &Job)
+    requires { state.old ≡ closed }
+    ensures { Begins job.now state.new }
 {
+    let alloc = state.alloc;
     match job {
-        Job::Capture(job) => Conversion {
-            alloc,
-            run: Run::Capture(CaptureRun::new(alloc, job.week, &job.to)),
-            output: Kept::new(alloc),
-            taken: 0,
-            report: Kept::new(alloc),
-            told: 0,
-            status: 0,
-        },
-        Job::Stream(job) => {
-            let mut output = Kept::new(alloc);
-            match StreamRun::new(alloc, job.week, &job.to, &mut output) {
-                Ok(run) => Conversion {
-                    alloc,
-                    run: Run::Stream(run),
-                    output,
-                    taken: 0,
-                    report: Kept::new(alloc),
-                    told: 0,
-                    status: 0,
-                },
-                Err(Failed) => without_job(alloc, NO_MEMORY),
-            }
+        Job::Capture(job) => {
+            state.run = Run::Capture(CaptureRun::new(alloc, job.week, &job.to));
+            state.status = 0;
         }
-        _ => without_job(alloc, NOT_PUSHED),
-    }
-}
-
-// The conversion that the words open.
-fn opened(alloc: Global, words: &[&[u8]]) -> Conversion
-    ensures { Opens (map (λ word. word.now) words.now) result result.status }
-{
-    match job_in(alloc, words) {
-        Ok(job) => begun(alloc, &job),
-        Err(answer) => without_job(alloc, answer),
+        Job::Stream(job) => match StreamRun::new(alloc, job.week, &job.to, &mut state.output) {
+            Ok(run) => {
+                state.run = Run::Stream(run);
+                state.status = 0;
+            }
+            Err(Failed) => {
+                state.output = Kept::new(alloc);
+                state.status = NO_MEMORY;
+            }
+        },
+        _ => state.status = NOT_PUSHED,
     }
 }
 
@@ -169,9 +193,17 @@ fn opened(alloc: Global, words: &[&[u8]]) -> Conversion
 pub fn open(state: &mut Conversion, words: &[&[u8]]) -> u32
     ensures { Opens (map (λ word. word.now) words.now) state.new result }
 {
-    let alloc = state.alloc;
-    *state = opened(alloc, words);
-    state.status
+    close(state);
+    match job_in(state.alloc, words) {
+        Ok(job) => {
+            begin(state, &job);
+            state.status
+        }
+        Err(answer) => {
+            state.status = answer;
+            answer
+        }
+    }
 }
 
 // The answer where a run ended for this fault: its sinks fail for want of memory alone.
@@ -200,25 +232,15 @@ pub fn push(state: &mut Conversion, piece: &[u8]) -> u32
     if state.status != 0 {
         return state.status;
     }
-    what_is_closed_stays();
-    match &mut state.run {
-        Run::Idle => 0,
-        Run::Capture(run) => match run.push(piece, &mut state.output, &mut state.report) {
-            Ok(()) => 0,
-            Err(fault) => {
-                let answer = answer_of(fault);
-                state.status = answer;
-                answer
-            }
-        },
-        Run::Stream(run) => match run.push(piece, &mut state.output, &mut state.report) {
-            Ok(()) => 0,
-            Err(fault) => {
-                let answer = answer_of(fault);
-                state.status = answer;
-                answer
-            }
-        },
+    what_is_written_of_a_stream_stays();
+    what_is_written_of_a_capture_stays();
+    match state.run.push(piece, &mut state.output, &mut state.report) {
+        Ok(()) => 0,
+        Err(fault) => {
+            let answer = answer_of(fault);
+            state.status = answer;
+            answer
+        }
     }
 }
 
@@ -230,34 +252,19 @@ pub fn finish(state: &mut Conversion) -> u32
     if state.status != 0 {
         return state.status;
     }
-    what_is_closed_stays();
-    match std::mem::replace(&mut state.run, Run::Idle) {
-        Run::Idle => {
+    what_is_written_of_a_stream_stays();
+    what_is_written_of_a_capture_stays();
+    let run = std::mem::replace(&mut state.run, Run::Idle);
+    match run.finish(&mut state.output, &mut state.report) {
+        Ok(()) => {
             state.status = ENDED;
             0
         }
-        Run::Capture(run) => match run.finish(&mut state.output, &mut state.report) {
-            Ok(_) => {
-                state.status = ENDED;
-                0
-            }
-            Err(fault) => {
-                let answer = answer_of(fault);
-                state.status = answer;
-                answer
-            }
-        },
-        Run::Stream(run) => match run.finish(&mut state.output, &mut state.report) {
-            Ok(_) => {
-                state.status = ENDED;
-                0
-            }
-            Err(fault) => {
-                let answer = answer_of(fault);
-                state.status = answer;
-                answer
-            }
-        },
+        Err(fault) => {
+            let answer = answer_of(fault);
+            state.status = answer;
+            answer
+        }
     }
 }
 

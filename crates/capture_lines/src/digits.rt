@@ -1,5 +1,5 @@
-//! Decoding of hexadecimal digits by a table: digits of random data are unpredictable, and branches on
-//! them slow.
+//! Decoding of hexadecimal digits by a table: digits of random data are unpredictable, and branches
+//! on them slow.
 
 ghost use Rattle.std.specs.Prelude.{◌≡◌, ℕ, length, nat_lt, true, false, Some, MatchResult};
 ghost use Rattle.hex.specs.Hex.{decode_sized, hex_digit_value, is_hex_digit};
@@ -12,8 +12,8 @@ fn value_of(digit: u8) -> u8
     VALUES[digit as usize]
 }
 
-// Decodes hexadecimal digits, two for each byte of `into`; `false` where their number does not fit or
-// one is not a digit, and then the bytes have no meaning.
+// Decodes hexadecimal digits, two for each byte of `into`; `false` where their number does not fit
+// or one is not a digit, and then the bytes have no meaning.
 pub(crate) fn decode(digits: &[u8], into: &mut [u8]) -> bool
     ensures { MatchResult (decode_sized digits.now (length into.old))
         (λ bytes. (result ≡ true) × (into.new ≡ bytes)) (λ error. result ≡ false) }

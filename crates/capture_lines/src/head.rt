@@ -12,17 +12,17 @@ use gnss_week::RefWeek;
 /// The content of the first line of a capture.
 #[derive(Clone, Copy, PartialEq, Eq)]
 pub struct CaptureHead {
-    /// The window in seconds: how far a line's stamp may be below a later one's, and the longest gap
-    /// between parts of one period.
+    /// The window in seconds: how far a line's stamp may be below a later one's, and the longest
+    /// gap between parts of one period.
     pub window: u32,
     /// The reference week, counted from 1980-01-06; `None` where the line has none.
     pub week: Option<RefWeek>,
 }
 
-/// Reads the first line, without its line end: `NAVCAP 1`, with a window of 7,200 seconds and no week,
-/// or `NAVCAP 2 <week> <window>`, with a week of 1024 to 8191 and a window of 60 to 14,400 seconds, each
-/// in one to ten decimal digits. Words are separated by one space; there is no space at either end.
-/// `None` for every other line.
+/// Reads the first line, without its line end: `NAVCAP 1`, with a window of 7,200 seconds and no
+/// week, or `NAVCAP 2 <week> <window>`, with a week of 1024 to 8191 and a window of 60 to 14,400
+/// seconds, each in one to ten decimal digits. Words are separated by one space; there is no space
+/// at either end. `None` for every other line.
 #[tactic(auto, unfolding(crate::specs::Heads::head_of))]
 pub fn read_first(line: &[u8]) -> Option<CaptureHead>
     ensures head { result ≡ head_of line.now }

@@ -1,6 +1,7 @@
 //! Laws of lines; each function does nothing, and its contract is the law.
 
-ghost use Rattle.std.specs.Prelude.{◌≡◌, ◌+◌, ◌^◌, ◌<◌, ◌≤◌, ◌↔◌, ℕ, List, Some, All, length};
+ghost use Rattle.std.specs.Prelude.{◌≡◌, ◌+◌, ◌^◌, ◌<◌, ◌≤◌};
+ghost use Rattle.std.specs.Prelude.{◌↔◌, ℕ, List, Some, All, length};
 ghost use Rattle.hex.specs.Hex.{IsBytes};
 ghost use Rattle.nav_eph.specs.Satellite.{IsSat, Satellite};
 ghost use Rattle.nav_eph.specs.declared.sat.System.TheVariants.{Gal, Gps};
@@ -38,8 +39,8 @@ pub fn late_is_behind_the_greatest_stamp()
         → IsLate window before stamp ↔ (stamp + window < greatest_stamp before) }
 {}
 
-/// A spelling of an item has only printable ASCII characters and spaces, so no line end, and at most
-/// 2,200 of them.
+/// A spelling of an item has only printable ASCII characters and spaces, so no line end, and at
+/// most 2,200 of them.
 pub fn spellings_are_lines()
     ensures printed { (item : LineItem) (line : List ℕ) → IsSpelling item line
         → All IsPrinted line }

@@ -1,12 +1,13 @@
-//! Lines of a capture: a text file of a receiver's logger with the received message bits and frames,
-//! each with the second of its reception. The format is this project's own; the bits are those of
-//! IS-GPS-200 (20.3.2) and the Galileo OS SIS ICD (4.3.2), the frames those of RTCM 10403.3.
+//! Lines of a capture: a text file of a receiver's logger with the received message bits and
+//! frames, each with the second of its reception. The format is this project's own; the bits are
+//! those of IS-GPS-200 (20.3.2) and the Galileo OS SIS ICD (4.3.2), the frames those of RTCM
+//! 10403.3.
 //!
 //! - [`read_first`] reads the first line, which names the format version;
 //! - [`read_line`] and [`read_line_into`] read any further line ([`LineItem`]): a subframe, a page
 //!   part, a frame, a comment, or malformed;
-//! - [`write_lnav`], [`write_half_line`] and [`write_rtcm`] write a line into a text buffer of fixed
-//!   size ([`LineText`]).
+//! - [`write_lnav`], [`write_half_line`] and [`write_rtcm`] write a line into a text buffer of
+//!   fixed size ([`LineText`]).
 //!
 //! ```rust
 //! use capture_lines::{LineItem, LineText, read_first, read_line, write_rtcm};

@@ -1,6 +1,7 @@
 //! Reading a line.
 
-ghost use Rattle.std.specs.Prelude.{◌≡◌, ◌≤◌, ◌==◌, ◌&&◌, length, nat_eq, slice_index};
+ghost use Rattle.std.specs.Prelude.{◌≡◌, ◌≤◌, ◌==◌};
+ghost use Rattle.std.specs.Prelude.{◌&&◌, length, nat_eq, slice_index};
 ghost use Rattle.std.specs.List.{list_all, starts_with};
 ghost use Rattle.capture_lines.specs.Reading.{form_in, frame_in, half_in, is_passed, item_of};
 ghost use Rattle.capture_lines.specs.Reading.{lnav_in, satellite_in, signal_in};
@@ -25,10 +26,10 @@ const LONGEST_COMMENT: usize = 2200;
 /// Reads a line of a capture, without its line end.
 ///
 /// A line is `stamp L G05 hex` (LNAV subframe, 76 digits), `stamp P E11 B hex` (I/NAV page part, 30
-/// digits; `B` for E1-B, `5` for E5b) or `stamp R hex` (RTCM frame, 12 to 2,058 digits, an even number),
-/// its words separated by one space. The stamp has one to ten decimal digits and is at most
-/// 4,294,967,295; hexadecimal digits are of either case. A line of at most 2,200 bytes that begins with
-/// `#`, is empty or has only spaces is `Pass`; every other line is `Malformed`.
+/// digits; `B` for E1-B, `5` for E5b) or `stamp R hex` (RTCM frame, 12 to 2,058 digits, an even
+/// number), its words separated by one space. The stamp has one to ten decimal digits and is at
+/// most 4,294,967,295; hexadecimal digits are of either case. A line of at most 2,200 bytes that
+/// begins with `#`, is empty or has only spaces is `Pass`; every other line is `Malformed`.
 pub fn read_line(line: &[u8]) -> LineItem
     ensures item { result ≡ item_of line.now }
     ensures stands { StandsFor result line.now }
@@ -163,8 +164,8 @@ fn read_lnav(stamp: u32, rest: &[u8], item: &mut LineItem)
     put_lnav(stamp, sat, Bits::from_bytes(bytes), item);
 }
 
-// Stores a subframe. A newly written item is cleared to its full size, so where the item is a subframe
-// already only its fields are changed.
+// Stores a subframe. A newly written item is cleared to its full size, so where the item is a
+// subframe already only its fields are changed.
 fn put_lnav(stamp: u32, sat: Sat, bits: Bits<38>, item: &mut LineItem)
     ensures { item.new ≡ Lnav stamp sat bits }
 {

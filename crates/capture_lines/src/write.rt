@@ -1,6 +1,7 @@
 //! Writing a line.
 
-ghost use Rattle.std.specs.Prelude.{◌≡◌, ◌+◌, ◌*◌, ◌<◌, ◌≤◌, [], ◌++◌, length, decimal};
+ghost use Rattle.std.specs.Prelude.{◌≡◌, ◌+◌, ◌*◌, ◌<◌};
+ghost use Rattle.std.specs.Prelude.{◌≤◌, [], ◌++◌, length, decimal};
 ghost use Rattle.arrayvec.specs.ArrayVec.{array_vec_len};
 ghost use Rattle.hex.specs.Hex.{IsBytes, encode_lower};
 ghost use Rattle.nav_eph.specs.declared.sat.System.TheVariants.{Gps, Gal};
@@ -34,9 +35,9 @@ pub fn write_lnav(stamp: u32, sat: Sat, bits: &Bits<38>, into: &mut LineText)
     into.push(b'\n');
 }
 
-/// Writes the line of a page part of a Galileo satellite into an empty buffer: `stamp P E11 B hex` and
-/// LF, with `B` for E1-B and `5` for E5b. The stamp has no leading zeros, the 30 hexadecimal digits are
-/// in lower case.
+/// Writes the line of a page part of a Galileo satellite into an empty buffer: `stamp P E11 B hex`
+/// and LF, with `B` for E1-B and `5` for E5b. The stamp has no leading zeros, the 30 hexadecimal
+/// digits are in lower case.
 pub fn write_half_line(stamp: u32, sat: Sat, signal: Signal, bits: &Bits<15>, into: &mut LineText)
     requires empty { into.old.items ≡ [] }
     requires system { sat.system ≡ Gal }
@@ -53,8 +54,8 @@ pub fn write_half_line(stamp: u32, sat: Sat, signal: Signal, bits: &Bits<15>, in
     into.push(b'\n');
 }
 
-/// Writes the line of a frame of 6 to 1,029 bytes into an empty buffer: `stamp R hex` and LF. The stamp
-/// has no leading zeros, the hexadecimal digits, two for each byte, are in lower case.
+/// Writes the line of a frame of 6 to 1,029 bytes into an empty buffer: `stamp R hex` and LF. The
+/// stamp has no leading zeros, the hexadecimal digits, two for each byte, are in lower case.
 pub fn write_rtcm(stamp: u32, frame: &[u8], into: &mut LineText)
     requires empty { into.old.items ≡ [] }
     requires shortest { 6 ≤ length frame.now }

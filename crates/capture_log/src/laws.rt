@@ -1,6 +1,7 @@
 //! Laws of what is received. Each function does nothing; its contract is the law.
 
-ghost use Rattle.std.specs.Prelude.{◌≡◌, ℕ, ◌+◌, ◌^◌, ◌<◌, ◌≤◌, ◌++◌, ◌↔◌, List, length, Some, All};
+ghost use Rattle.std.specs.Prelude.{◌≡◌, ℕ, ◌+◌, ◌^◌, ◌<◌, ◌≤◌};
+ghost use Rattle.std.specs.Prelude.{◌++◌, ◌↔◌, List, length, Some, All};
 ghost use Rattle.std.specs.Prelude.{Contains};
 ghost use Rattle.nav_eph.specs.declared.part.Part.{Part};
 ghost use Rattle.nav_eph.specs.Conditions.{IsPart};
@@ -12,7 +13,8 @@ ghost use Rattle.nav_io.specs.Lines.{Line};
 ghost use Rattle.capture_lines.specs.Late.{stamp_of};
 ghost use Rattle.capture_lines.specs.declared.item.LineItem.{LineItem};
 ghost use Rattle.capture_log.specs.Events.{nothing_known};
-ghost use Rattle.capture_log.specs.Log.{line_items_of, known_from, log_from, log_of, watermark_after};
+ghost use Rattle.capture_log.specs.Log.{line_items_of, known_from};
+ghost use Rattle.capture_log.specs.Log.{log_from, log_of, watermark_after};
 ghost use Rattle.capture_log.specs.Log.{parts_in, parts_of};
 ghost use Rattle.capture_log.specs.Heard.{IsPartHeard, NoneLate, SameItems};
 

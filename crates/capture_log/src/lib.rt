@@ -8,8 +8,8 @@
 //!
 //! - `specs/Events.antt`: the events of one more line, given the state after those before it;
 //! - `specs/Log.antt`: the log of all lines, and the parts in it;
-//! - `specs/Heard.antt`: the received parts, stated over all lines at once. The laws say that these are
-//!   the same, a set of values, and that order and repetition of lines do not matter.
+//! - `specs/Heard.antt`: the received parts, stated over all lines at once. The laws say that these
+//!   are the same, a set of values, and that order and repetition of lines do not matter.
 //!
 //! ```rust
 //! use capture_log::{Event, Refusal, subframe_event};

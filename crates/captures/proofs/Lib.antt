@@ -3,6 +3,7 @@ mod SeedEnds
 mod CountEnds
 mod CaptureEnds
 mod CapturePrefixes
+mod CaptureStays
 mod Ears
 mod Converting
 mod FrameEvents

@@ -14,7 +14,8 @@ pub(crate) struct Accepted {
     pub(crate) week: RefWeek,
 }
 
-// The reference week: that of the command line or of the first line; `None` where neither names one or they differ.
+// The reference week: that of the command line or of the first line; `None` where neither names one
+// or they differ.
 fn week_of(words: Option<RefWeek>, named: Option<RefWeek>) -> Option<RefWeek>
     ensures { result ≡ week_for words named }
 {

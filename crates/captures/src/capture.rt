@@ -17,17 +17,17 @@ use std::alloc::Global;
 
 /// Reads a capture to its end, and writes what it is converted to while it reads.
 ///
-/// The first line is `NAVCAP 1`, or `NAVCAP 2 <week> <window>`. The reference week is that of `week`
-/// or of this line; one of them must name it, and if both do they must agree. Then the text before
-/// the items is written, such as a RINEX header, and after each line what it closes: a RINEX record
-/// or an RTCM frame for each item, or a line for each period. Each refusal gives a line of the
-/// report, which ends with the counts.
+/// The first line is `NAVCAP 1`, or `NAVCAP 2 <week> <window>`. The reference week is that of
+/// `week` or of this line; one of them must name it, and if both do they must agree. Then the text
+/// before the items is written, such as a RINEX header, and after each line what it closes: a RINEX
+/// record or an RTCM frame for each item, or a line for each period. Each refusal gives a line of
+/// the report, which ends with the counts.
 ///
 /// # Errors
 ///
 /// - `NotThisForm` exactly where the first line is not accepted; nothing is written then.
-/// - `ReadFault`, `WriteFault`, `ReportFault` only where the fault count of the input, the output or
-///   the report rose, or is at its maximum. After a failed read exactly what the complete lines
+/// - `ReadFault`, `WriteFault`, `ReportFault` only where the fault count of the input, the output
+///   or the report rose, or is at its maximum. After a failed read exactly what the complete lines
 ///   close was written, and exactly their refusals reported.
 /// - `TooLong` only where 4,294,967,295 bytes were read and there was one more.
 /// - `NoMemory` when memory is missing.

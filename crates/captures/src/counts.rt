@@ -1,6 +1,7 @@
 //! What a run over a capture counts.
 
-ghost use Rattle.std.specs.Prelude.{◌≡◌, [], ◌+◌, ◌<◌, ◌≤◌, ◌^◌, ◌++◌, codes, length};
+ghost use Rattle.std.specs.Prelude.{◌≡◌, [], ◌+◌, ◌<◌, ◌≤◌};
+ghost use Rattle.std.specs.Prelude.{◌^◌, ◌++◌, codes, length};
 ghost use Rattle.captures.specs.Captures.{counts_text};
 ghost use Rattle.captures.specs.Converts.{no_tally};
 ghost use Rattle.captures.specs.Flushed.{said, said_of, total_said, with_counts};
@@ -114,7 +115,8 @@ pub(crate) fn counts_with(lines: u32, tally: &Tally, said: &Said) -> CaptureCoun
     }
 }
 
-/// The text of the counts of a capture: a line for each, its name, a space and the number, in the order of the fields.
+/// The text of the counts of a capture: a line for each, its name, a space and the number, in the
+/// order of the fields.
 #[tactic(auto, unfolding(crate::specs::Captures::counts_text))]
 pub(crate) fn capture_counts_text(counts: &CaptureCounts) -> Text
     ensures { result.items ≡ counts_text counts.now }

@@ -13,10 +13,11 @@ use crate::counts::Said;
 use nav_io::{Failed, Sink};
 use one_run::BridgeFault;
 use outlets::Target;
-use slot_assembly::{Assembly, SlotAssembly};
+use periods::Closed;
+use slot_assembly::SlotAssembly;
 
-// Writes what is closed at the watermark, if it rose: at an unchanged watermark the parts added since
-// close nothing more.
+// Writes what is closed at the watermark, if it rose: at an unchanged watermark the parts added
+// since close nothing more.
 pub(crate) fn write_risen<T: Sink>(
     to: &Target,
     assembly: &mut SlotAssembly,
@@ -53,7 +54,8 @@ pub(crate) fn write_risen<T: Sink>(
     }
 }
 
-// Writes each period that is closed at the watermark and was not written yet, and counts its verdict.
+// Writes each period that is closed at the watermark and was not written yet, and counts its
+// verdict.
 pub(crate) fn write_closed<T: Sink>(
     to: &Target,
     assembly: &mut SlotAssembly,
@@ -83,13 +85,17 @@ pub(crate) fn write_closed<T: Sink>(
         (closed_of assembly.old.reference assembly.old.window watermark parts))) }
     ensures cause { IsWriting (T.faults output.old) (T.faults output.new) result }
 {
+    let mut room: Option<Closed> = None;
     'giving: loop {
-        match assembly.next_closed(watermark) {
-            Ok(Some(closed)) => match to.list(&closed, output) {
-                Ok(()) => said.count(&closed.verdict),
-                Err(Failed) => return Err(BridgeFault::WriteFault),
+        match assembly.close_next(watermark, &mut room) {
+            Ok(true) => match &room {
+                Some(closed) => match to.list(closed, output) {
+                    Ok(()) => said.count(&closed.verdict),
+                    Err(Failed) => return Err(BridgeFault::WriteFault),
+                },
+                None => unreachable!(),
             },
-            Ok(None) => return Ok(()),
+            Ok(false) => return Ok(()),
             Err(_) => return Err(BridgeFault::NoMemory),
         }
     }

@@ -1,6 +1,7 @@
 //! The state of a run over a capture between two lines, and its step for the next line.
 
-ghost use Rattle.std.specs.Prelude.{◌≡◌, ℕ, ◌+◌, ◌-◌, ◌^◌, ◌<◌, ◌≤◌, length, max, nat_lt};
+ghost use Rattle.std.specs.Prelude.{◌≡◌, ℕ, ◌+◌, ◌-◌, ◌^◌};
+ghost use Rattle.std.specs.Prelude.{◌<◌, ◌≤◌, length, max, nat_lt};
 ghost use Rattle.nav_eph.specs.declared.sat.System.TheVariants.{Gal};
 ghost use Rattle.capture_log.specs.Events.{Known, events_of, known_with, of_half};
 ghost use Rattle.capture_log.specs.Log.{noted};

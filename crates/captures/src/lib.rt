@@ -1,13 +1,14 @@
 //! The runs over captures: one that is read, and one that is generated from a seed.
 //!
-//! - [`run_capture`], over a capture of subframes, page parts and frames: to RINEX 4 and RINEX 3, to
-//!   RTCM, to a list, to counts;
+//! - [`run_capture`], over a capture of subframes, page parts and frames: to RINEX 4 and RINEX 3,
+//!   to RTCM, to a list, to counts;
 //! - [`CaptureRun`], over a capture that is pushed in pieces: the same, whatever the pieces;
-//! - [`run_seed`], which makes the capture of a seed, a number of satellites and a week, and writes it
-//!   or counts it. It reads nothing.
+//! - [`run_seed`], which makes the capture of a seed, a number of satellites and a week, and writes
+//!   it or counts it. It reads nothing.
 //!
 //! The output and the report of a run are functions of the bytes that it took, or of the three
-//! numbers: `specs/Captures.antt` and `specs/Seeds.antt` state them. A fault leaves a prefix of each.
+//! numbers: `specs/Captures.antt` and `specs/Seeds.antt` state them. A fault leaves a prefix of
+//! each.
 //!
 //! ```rust
 //! use captures::{CaptureTo, run_capture};
@@ -42,7 +43,7 @@ mod target;
 
 pub use crate::capture::run_capture;
 pub use crate::counts::CaptureCounts;
-pub use crate::laws::generated_captures_are_accepted;
+pub use crate::laws::{generated_captures_are_accepted, what_is_written_of_a_capture_stays};
 pub use crate::push::CaptureRun;
 pub use crate::seed::run_seed;
 pub use crate::seed_target::{SeedCounts, SeedTo};

@@ -1,6 +1,7 @@
 //! A run over a capture whose bytes are pushed in pieces, as they come.
 
-ghost use Rattle.std.specs.Prelude.{◌≡◌, ◌<◌, ◌≤◌, ℕ, List, [], ◌++◌, length, take, Option, None};
+ghost use Rattle.std.specs.Prelude.{◌≡◌, ◌<◌, ◌≤◌, ℕ, List};
+ghost use Rattle.std.specs.Prelude.{[], ◌++◌, length, take, Option, None};
 ghost use Rattle.std.specs.Prelude.{Some, Err, IsTrue, IsErrOf, IfErr, IfOk, IfSome, OnErr, OnOk};
 ghost use Rattle.one_run.specs.Causes.{HasItsCause, faults_of};
 ghost use Rattle.captures.specs.Captures.{target_of};
@@ -85,8 +86,8 @@ impl Source for End {
 /// A run over a capture that comes in pieces: of any pieces it writes and reports what
 /// [`crate::run_capture`] does of the whole.
 ///
-/// After the first line the text before the items is written, such as a RINEX header, and after each
-/// line what it closes. After a fault each further call gives the same fault.
+/// After the first line the text before the items is written, such as a RINEX header, and after
+/// each line what it closes. After a fault each further call gives the same fault.
 #[derive(Drop)]
 pub struct CaptureRun {
     alloc: Global,
@@ -185,10 +186,10 @@ impl CaptureRun {
     ///
     /// # Errors
     ///
-    /// - `NotThisForm` exactly where the first line is not accepted, as soon as it has ended; nothing
-    ///   is written then.
-    /// - `WriteFault`, `ReportFault` only where the fault count of the output or the report rose, or
-    ///   is at its maximum.
+    /// - `NotThisForm` exactly where the first line is not accepted, as soon as it has ended;
+    ///   nothing is written then.
+    /// - `WriteFault`, `ReportFault` only where the fault count of the output or the report rose,
+    ///   or is at its maximum.
     /// - `TooLong` only where 4,294,967,296 bytes were pushed.
     /// - `NoMemory` when memory is missing.
     ///

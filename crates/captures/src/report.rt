@@ -1,6 +1,7 @@
 //! The lines of a report: what is refused, and why.
 
-ghost use Rattle.std.specs.Prelude.{◌≡◌, ◌+◌, ◌<◌, ◌≤◌, ◌++◌, codes, length};
+ghost use Rattle.std.specs.Prelude.{◌≡◌, ◌+◌, ◌<◌};
+ghost use Rattle.std.specs.Prelude.{◌≤◌, ◌++◌, codes, length};
 ghost use Rattle.arrayvec.specs.ArrayVec.{array_vec_len};
 ghost use Rattle.one_run.specs.Reports.{report_prefix as prefix_of, report_line};
 ghost use Rattle.captures.specs.Reports.{refusal_text};

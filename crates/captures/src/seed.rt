@@ -13,12 +13,12 @@ use nav_vectors::{captures_are_short, make_capture};
 use one_run::BridgeFault;
 use std::alloc::Global;
 
-/// Makes the capture of a seed, for `sats` satellites of each system in this week, and writes it, or
-/// counts it as a run over that capture does.
+/// Makes the capture of a seed, for `sats` satellites of each system in this week, and writes it,
+/// or counts it as a run over that capture does.
 ///
 /// The capture is written by one write, and nothing is reported of it. With the counts, the report
-/// has a line for each refusal in the capture, and then the counts. The result is the number of bytes
-/// of the capture, or its counts.
+/// has a line for each refusal in the capture, and then the counts. The result is the number of
+/// bytes of the capture, or its counts.
 ///
 /// # Errors
 ///
@@ -37,8 +37,8 @@ pub fn run_seed<T: Sink, U: Sink>(
     requires low { 1 ≤ sats }
     requires high { sats ≤ 32 }
 
-    // The run ends as its meaning states: it reads nothing, so `ReadFault`, `NotThisForm` and `TooLong`
-    // do not occur; and writing the capture itself reports nothing.
+    // The run ends as its meaning states: it reads nothing, so `ReadFault`, `NotThisForm` and
+    // `TooLong` do not occur; and writing the capture itself reports nothing.
     ensures { Ran (seed_meaning to seed sats week)
         (λ _. None) (λ _. true) (λ _. 0) T.written T.faults U.written U.faults
         (tt {0}) (tt {0}) output.old output.new report.old report.new result }

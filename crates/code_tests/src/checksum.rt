@@ -53,7 +53,8 @@ static BYTES: [BytesRow; 8] = [
     },
 ];
 
-// The bytes of a page of I/NAV, the bit from which its 196 bits stand, and what stands in its CRC field.
+// The bytes of a page of I/NAV, the bit from which its 196 bits stand, and what stands in its CRC
+// field.
 struct PageRow {
     bytes: &'static [u8; 25],
     from: usize,
@@ -100,7 +101,8 @@ fn bytes_and_pages_have_their_crc(rt: HostRuntime) {
     assert!(rt; all);
 }
 
-// The register moves past zeros. The empty frame of RTCM, and the check value by its first bytes and its last ones.
+// The register moves past zeros. The empty frame of RTCM, and the check value by its first bytes
+// and its last ones.
 #[test]
 fn a_mover_moves_past_its_zeros(rt: HostRuntime) {
     let state = with_byte(0, 0xd3);

@@ -5,8 +5,9 @@ use nav_io::{LineFault, LineKind, Lines, MemSource};
 use std::alloc::{AllocError, Global};
 use std::test::Fail;
 
-// An input, and the texts of its lines, which are all of one kind. Where it is full, the 2,200 bytes of the longest line
-// stand in front of it, and are its first line, which the row leaves empty.
+// An input, and the texts of its lines, which are all of one kind. Where it is full, the 2,200
+// bytes of the longest line stand in front of it, and are its first line, which the row leaves
+// empty.
 struct InputRow {
     is_full: bool,
     bytes: &'static [u8],

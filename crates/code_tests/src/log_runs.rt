@@ -45,8 +45,8 @@ pub(crate) struct Log<'a> {
     pub(crate) report: &'a str,
 }
 
-/// A log of UBX with no byte, of which the first read gives at most 40 bytes, and of which nothing is
-/// written.
+/// A log of UBX with no byte, of which the first read gives at most 40 bytes, and of which nothing
+/// is written.
 pub(crate) const IN_TWO: Log<'static> = Log {
     form: Form::Ubx,
     bytes: b"",

@@ -223,7 +223,8 @@ fn memory(rt: HostRuntime) -> Result<(), Fail> {
     Ok(())
 }
 
-// At the edge: bytes that are read and written whole, and a reader and a writer that fail in mid-stream.
+// At the edge: bytes that are read and written whole, and a reader and a writer that fail in
+// mid-stream.
 #[test]
 fn edge(rt: HostRuntime) {
     let mut source = ReadSource::new(b"abcde".as_slice());

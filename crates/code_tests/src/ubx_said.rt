@@ -181,7 +181,8 @@ static TIMES: [TimeCase; 24] = [
     },
 ];
 
-// Whether the message with this payload, whose sums are not looked at, gives the second of the table.
+// Whether the message with this payload, whose sums are not looked at, gives the second of the
+// table.
 fn gives(case: &TimeCase) -> bool {
     let mut message = [0; 24];
     message[2] = case.class;

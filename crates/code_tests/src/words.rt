@@ -530,8 +530,8 @@ fn is_sent(part: &Part, satellite: u8) -> bool {
     part.stamp == 9 && part.sat.system() == System::Gal && part.sat.number() == satellite
 }
 
-// Whether the parts of word 5 have the numbers of the row, with one transmission time, and are written
-// with its digits.
+// Whether the parts of word 5 have the numbers of the row, with one transmission time, and are
+// written with its digits.
 fn is_word5(parts: &WordParts, row: &WordRow) -> bool {
     match (&row.read, &parts.first.body, &parts.second) {
         (

@@ -1,6 +1,7 @@
 //! The CRC of bytes and of any run of bits.
 
-ghost use Rattle.std.specs.Prelude.{◌≡◌, ℕ, ◌+◌, ◌*◌, ◌^◌, ◌<◌, ◌≤◌, length};
+ghost use Rattle.std.specs.Prelude.{◌≡◌, ℕ, ◌+◌, ◌*◌};
+ghost use Rattle.std.specs.Prelude.{◌^◌, ◌<◌, ◌≤◌, length};
 ghost use Rattle.nav_bits.specs.Bits.{number_at};
 ghost use Rattle.crc24q.specs.BitLists.{bits_at, crc_of_bits};
 ghost use Rattle.crc24q.specs.Division.{IsCrc};

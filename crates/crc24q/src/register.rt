@@ -1,6 +1,7 @@
 //! The 24-bit register, one byte or four bytes at a time.
 
-ghost use Rattle.std.specs.Prelude.{◌≡◌, ℕ, ◌*◌, ◌/◌, ◌^◌, ◌<◌, [], ◌∷◌, drop, length};
+ghost use Rattle.std.specs.Prelude.{◌≡◌, ℕ, ◌*◌, ◌/◌, ◌^◌};
+ghost use Rattle.std.specs.Prelude.{◌<◌, [], ◌∷◌, drop, length};
 ghost use Rattle.crc24q.specs.Register.{with_byte_of, crc_from};
 
 use crate::tables::{moved_8, moved_16, moved_24, moved_32};

@@ -1,6 +1,7 @@
 //! Advancing a register over zero bytes, in constant time.
 
-ghost use Rattle.std.specs.Prelude.{◌≡◌, ℕ, ◌+◌, ◌*◌, ◌^◌, ◌<◌, slice_index};
+ghost use Rattle.std.specs.Prelude.{◌≡◌, ℕ, ◌+◌, ◌*◌};
+ghost use Rattle.std.specs.Prelude.{◌^◌, ◌<◌, slice_index};
 ghost use Rattle.crc24q.specs.Division.{IsCrc};
 ghost use Rattle.crc24q.specs.Register.{stepped, shift};
 

@@ -1,8 +1,12 @@
 //! The form of a file, told by its first bytes, and what a file of a form converts to.
 //!
-//! [`kind_of`] looks at no more than 80 bytes, so the first 80 bytes of a file tell the same form as
-//! the whole file ([`first_bytes_decide`]). [`row_of`] is the table of conversions: which options of
-//! `navbridge` that of a form to a target takes.
+//! [`kind_of`] looks at no more than 80 bytes, so the first 80 bytes of a file tell the same form
+//! as the whole file ([`first_bytes_decide`]). [`row_of`] is the table of conversions: which
+//! options of `navbridge` that of a form to a target takes. [`form_of`] is the form under which a
+//! file is read, and [`words_for`] gives the words of `navbridge` for its conversion.
+//!
+//! [`from_word`] and [`to_word`] have the words of forms and targets, [`ending_of`] the endings of
+//! names.
 //!
 //! ```rust
 //! assert!(rt; kind_of(b"NAVCAP 1\n") == Kind::Capture1);
@@ -15,10 +19,14 @@ ghost use Rattle.file_form.specs.Kinds.{kind_of, prefix_kind, binary_kind, text_
 ghost use Rattle.file_form.specs.Kinds.{rinex_kind, version_of, first_char};
 
 mod laws;
+mod plan;
 mod table;
+mod words;
 
 pub use crate::laws::first_bytes_decide;
+pub use crate::plan::{Values, form_of, is_copied, words_for};
 pub use crate::table::{Row, Target, WeekRule, row_of};
+pub use crate::words::{ending_of, from_word, kind_named, target_named, to_word};
 
 /// How many bytes tell a file's form: the first line of a RINEX file.
 pub const LOOKED_AT: usize = 80;

@@ -1,1 +1,1 @@
-mod Gathering
+mod Known

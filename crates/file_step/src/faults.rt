@@ -1,7 +1,5 @@
 //! Why a call on a file failed, as far as a message tells it.
 
-use std::io::ErrorKind;
-
 /// Why a call on a file failed.
 #[derive(Clone, Copy)]
 pub enum FileFault {
@@ -29,22 +27,4 @@ pub enum FileFault {
     NoMemory,
     /// Anything else.
     Other,
-}
-
-/// What an error of this kind says.
-pub fn fault_of(kind: ErrorKind) -> FileFault {
-    match kind {
-        ErrorKind::NotFound => FileFault::NotFound,
-        ErrorKind::AlreadyExists => FileFault::AlreadyThere,
-        ErrorKind::PermissionDenied => FileFault::NotAllowed,
-        ErrorKind::IsADirectory => FileFault::IsFolder,
-        ErrorKind::NotADirectory => FileFault::NoFolder,
-        ErrorKind::StorageFull => FileFault::DiskFull,
-        ErrorKind::QuotaExceeded => FileFault::QuotaFull,
-        ErrorKind::FileTooLarge => FileFault::TooLarge,
-        ErrorKind::ReadOnlyFilesystem => FileFault::ReadOnly,
-        ErrorKind::BrokenPipe => FileFault::ReaderGone,
-        ErrorKind::OutOfMemory => FileFault::NoMemory,
-        _ => FileFault::Other,
-    }
 }

@@ -43,8 +43,8 @@ pub trait Folder {
         ensures fresh { IfOk result (λ draft. Self.Draft.faults draft ≡ 0) }
         ensures cause { HasCause (faults self.old) (faults self.new) result };
 
-    /// Gives the draft this name, and removes that of its part. A draft in which a write has failed gets
-    /// no name.
+    /// Gives the draft this name, and removes that of its part. A draft in which a write has failed
+    /// gets no name.
     fn publish(&mut self, draft: Self::Draft, part: &str, name: &str) -> Result<(), FileFault>
         requires { part.now ≢ name.now }
         ensures put { OnOk result (Publishes (files self.old) (files self.new) part.now name.now

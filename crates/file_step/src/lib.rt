@@ -1,10 +1,13 @@
 //! The step from one file to another: afterwards the output name has the whole output for the bytes
 //! of the input, or is as it was before.
 //!
-//! - [`Folder`], where files are read and written; [`Gathered`], what a file that is written can be;
+//! - [`Folder`], where files are read and written, and [`FileFault`], why a call of it failed;
 //! - [`Conversion`], a conversion from the bytes of one file to those of another;
 //! - [`put_output`], which writes an output beside its name, as a part, and gives it the name once
-//!   it is complete; [`convert_file`], which opens the input too.
+//!   it is complete; [`convert_file`], which opens the input too;
+//! - [`peek`], which reads the first bytes of a source and returns one that gives them again, and
+//!   then what follows, so that a pipe can be looked at like a file; and [`Counted`], which counts
+//!   the bytes that are read and tells a [`Progress`].
 //!
 //! ```rust
 //! let part = part_of(rt.alloc(), "station.rnx")?;
@@ -12,16 +15,16 @@
 //! ```
 #![tactic(auto)]
 
+mod counted;
 mod faults;
 mod folder;
-mod gathered;
 mod names;
-mod output;
+mod peeked;
 mod step;
 
-pub use crate::faults::{FileFault, fault_of};
+pub use crate::counted::{Counted, Progress, Untold};
+pub use crate::faults::FileFault;
 pub use crate::folder::Folder;
-pub use crate::gathered::Gathered;
 pub use crate::names::part_of;
-pub use crate::output::FileOutput;
+pub use crate::peeked::{PeekFault, Peeked, peek};
 pub use crate::step::{Conversion, StepFault, convert_file, put_output};

@@ -1,6 +1,7 @@
 //! Names of navigation files by the convention of RINEX 3 and 4.
 
-ghost use Rattle.std.specs.Prelude.{◌≡◌, ◌==◌, ◌++◌, ◌<◌, ◌≤◌, ◌||◌, IfOk, OnOk};
+ghost use Rattle.std.specs.Prelude.{◌≡◌, ◌==◌, ◌++◌, ◌<◌};
+ghost use Rattle.std.specs.Prelude.{◌≤◌, ◌||◌, IfOk, OnOk};
 ghost use Rattle.std.specs.List.{list_all};
 ghost use Rattle.std.specs.String.{string_bytes};
 ghost use Rattle.file_texts.specs.Long.{long_name, is_site, is_capital, is_digit, is_leap};

@@ -1,6 +1,7 @@
 //! Names of outputs.
 
-ghost use Rattle.std.specs.Prelude.{◌≡◌, ◌++◌, None, Some, Option, ℕ, List, IfOk, MatchOption};
+ghost use Rattle.std.specs.Prelude.{◌≡◌, ◌++◌, None, Some};
+ghost use Rattle.std.specs.Prelude.{Option, ℕ, List, IfOk, MatchOption};
 ghost use Rattle.std.specs.Option.{option_map};
 ghost use Rattle.std.specs.String.{string_bytes};
 ghost use Rattle.std.specs.Path.{path_buf_bytes, path_file_stem};
@@ -9,8 +10,8 @@ ghost use Rattle.file_texts.specs.Names.{with_ending, placed};
 use std::alloc::{AllocError, Global};
 use std::path::{Path, PathBuf};
 
-/// The name of the output for a file: the name of the file with its last ending replaced by this one,
-/// beside it or in this folder. `None` where the input has no file name, such as `..`.
+/// The name of the output for a file: the name of the file with its last ending replaced by this
+/// one, beside it or in this folder. `None` where the input has no file name, such as `..`.
 pub fn output_name(
     alloc: Global,
     input: &str,

@@ -21,6 +21,8 @@ pub enum Refusal<'a> {
     Week(&'a str),
     /// The input has no file name, so that its output has none.
     NoName,
+    /// No file is named.
+    NoFiles,
     /// Several files would go to one.
     SeveralFiles(&'a str),
     /// The value of `--long-name` names no site.
@@ -64,6 +66,7 @@ impl Refusal<'_> {
             | Refusal::Date(_)
             | Refusal::Week(_)
             | Refusal::NoName
+            | Refusal::NoFiles
             | Refusal::SeveralFiles(_)
             | Refusal::Site(_)
             | Refusal::NoLongName => 2,
@@ -203,6 +206,10 @@ impl Refusal<'_> {
                 (targets_of(kind), "")
             }
             Refusal::NoName => ("it has no name of a file; name the output by -o", ""),
+            Refusal::NoFiles => (
+                "no file is named; - is standard input, --help says more",
+                "",
+            ),
             Refusal::NoLongName => (
                 "--long-name names navigation files that are made of files, beside them or in a folder",
                 "",

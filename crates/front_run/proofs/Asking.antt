@@ -1,32 +1,26 @@
 -- The job for a file, and what is made by it.
-use Rattle.std.proofs.Common.{◌≡◌, ℕ, Bool, true, false, List, Option, None, Some, refl, sym, ap, subst, ◌∙◌}
+use Rattle.std.proofs.Common.{◌≡◌, ℕ, Bool, true, false, List, Option, Some, refl, sym, ap, subst, ◌∙◌}
 use Rattle.std.specs.Prelude.{MatchOption}
 use Rattle.file_form.specs.declared.Kind.{Kind}
 use Rattle.file_form.specs.declared.table.Row.{Row}
-use Rattle.bridge_engine.specs.Job.{GivesJob, IsJob}
+use Rattle.bridge_engine.specs.Job.{IsJob}
 use Rattle.bridge_engine.specs.Meanings.{meaning_of}
 use Rattle.bridge_engine.specs.declared.job.Job.{Job}
-use Rattle.front_run.specs.Forms.{AreWords, HasRow, is_copied, words_with}
+use Rattle.file_form.specs.Plans.{is_copied}
+use Rattle.front_run.specs.Forms.{AreWords, words_with}
 use Rattle.front_run.specs.Asked.{AcceptsAs, AcceptsBy, AskBy, CanAsk, GivesReadJob, IsAsked, MadeBy, MakesAs}
 use Rattle.front_run.specs.Tasks.{IsTask, TaskBy, accepts, accepts_job, makes_by}
 use Rattle.front_run.specs.declared.plans.Plan.{Plan}
 use Rattle.front_run.specs.declared.tasks.Task.{Task}
 use Rattle.front_run.specs.declared.tasks.Task.TheVariants.{Asked, Copied}
 use Rattle.front_run.proofs.Ended.{OneJob}
-use Rattle.front_run.proofs.Reading.{job_reads}
+use Rattle.front_run.proofs.JobReads.{job_reads}
 
 -- ---- the job of words
 
 -- what is so of that which was found
 pub at_found : {A : Type 0} (found : Option A) (x : A) (P : A → Type 0) (Q : Type 0) → found ≡ Some x → MatchOption found Q P → P x
 at_found {A = A} found x P Q is all = subst (λ (o : Option A). MatchOption o Q P) is all
-
-pub at_none : {A : Type 0} (found : Option A) (P : A → Type 0) (Q : Type 0) → found ≡ None → MatchOption found Q P → Q
-at_none {A = A} found P Q is all = subst (λ (o : Option A). MatchOption o Q P) is all
-
--- words that give no job give none that reads an input
-pub none_reads : (words : List (List ℕ)) → (GivesJob words → ⊥) → GivesReadJob words → ⊥
-none_reads words none (job, is, reads) = none (job, is)
 
 -- nor do those whose job reads none
 pub other_reads : (one : OneJob) (words : List (List ℕ)) (job : Job) → IsJob words job → (meaning_of job).reads ≡ false → GivesReadJob words → ⊥
@@ -47,10 +41,6 @@ pub same_asked : (one : OneJob) (plan : Plan) (kind : Kind) (job other : Job) �
 same_asked one plan kind job other (words, are, is) (words_2, are_2, is_2) =
     one words job other is (subst (λ (w : List (List ℕ)). IsJob w other) (same_words plan kind words_2 words are_2 are) is_2)
 
-pub asked_row : (b : Bool) (plan : Plan) (kind : Kind) → b ≡ false → AskBy b plan kind → HasRow plan kind
-asked_row true plan kind e asked = absurd (let no : true ≡ false = e in cc)
-asked_row false plan kind e (job, (words, (row, there, is), gives)) = (row, there)
-
 -- words for a file for which there is a job give one that reads an input
 pub asked_reads : (b : Bool) (plan : Plan) (kind : Kind) (words : List (List ℕ)) → b ≡ false → AreWords plan kind words → AskBy b plan kind → GivesReadJob words
 asked_reads true plan kind words e are asked = absurd (let no : true ≡ false = e in cc)
@@ -58,12 +48,6 @@ asked_reads false plan kind words e are (job, (others, are_2, gives)) =
     (job, subst (λ (w : List (List ℕ)). IsJob w job) (same_words plan kind others words are_2 are) gives, job_reads plan kind others job are_2 gives)
 
 -- ---- what is done with a file
-
-pub task_asked : (b : Bool) (plan : Plan) (kind : Kind) (task : Task) → b ≡ false → TaskBy false plan kind task → TaskBy b plan kind task
-task_asked b plan kind task e is = subst (λ (x : Bool). TaskBy x plan kind task) (sym e) is
-
-pub task_copied : (b : Bool) (plan : Plan) (kind : Kind) → b ≡ true → TaskBy b plan kind Copied
-task_copied b plan kind e = subst (λ (x : Bool). TaskBy x plan kind Copied) (sym e) tt
 
 makes_as_by : (b : Bool) (plan : Plan) (kind : Kind) (task : Task) (bytes : List ℕ) → TaskBy b plan kind task → MadeBy b plan kind bytes (makes_by task bytes)
 makes_as_by true plan kind (Asked asked) bytes is = absurd is

@@ -1,10 +1,8 @@
 pub mod Seen
 pub mod Ended
 pub mod Asking
-mod Reading
-pub mod Stepping
-pub mod Opening
+mod JobReads
+pub mod Beginning
+pub mod Closing
 pub mod Copying
-pub mod FirstLines
-pub mod FormsTold
 mod Refusing

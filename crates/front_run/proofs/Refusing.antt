@@ -9,8 +9,8 @@ use Rattle.file_texts.specs.declared.says.Refusal.{Refusal}
 use Rattle.file_texts.specs.declared.says.Refusal.TheVariants.{NoMemory, ReportFault, TooLong}
 use Rattle.front_run.specs.Statuses.{IsRefusalFor, part_refusal, status_for}
 use Rattle.front_run.specs.declared.plans.Plan.{Plan}
-use Rattle.front_run.specs.declared.puts.Stop.{Stop}
-use Rattle.front_run.specs.declared.puts.Stop.TheVariants as stops
+use Rattle.front_run.specs.declared.stops.Stop.{Stop}
+use Rattle.front_run.specs.declared.stops.Stop.TheVariants as stops
 
 part_told : (fault : FileFault) (name part : Bor (List ℕ)) → status_of (part_refusal fault name part) ≡ 4
 part_told faults.NotFound name part = refl

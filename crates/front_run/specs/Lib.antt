@@ -4,4 +4,3 @@ pub mod Asked
 pub mod Tasks
 pub mod Steps
 pub mod Statuses
-pub mod Told

@@ -1,17 +1,16 @@
 -- What is told of a file that is not converted, and the exit status for it.
-use Rattle.std.specs.Prelude.{◌≡◌, ◌⊎◌, ◌==◌, ℕ, List, Option, unwrap_or, if◌then◌else◌}
+use Rattle.std.specs.Prelude.{◌≡◌, ◌⊎◌, ◌==◌, ℕ, List, unwrap_or, if◌then◌else◌}
 use Rattle.std.specs.Borrow.{Bor}
 use Rattle.nav_io.specs.Causes.{Rose}
 use Rattle.bridge_engine.specs.Job.{IsDateText}
-use Rattle.file_form.specs.declared.Kind.{Kind}
-use Rattle.file_form.specs.declared.Kind.TheVariants as kinds
 use Rattle.file_step.specs.declared.faults.FileFault.{FileFault}
 use Rattle.file_step.specs.declared.faults.FileFault.TheVariants.{AlreadyThere, Other}
+use Rattle.file_texts.specs.Says.{run_refusal}
 use Rattle.file_texts.specs.declared.says.Refusal.{Refusal}
-use Rattle.file_texts.specs.declared.says.Refusal.TheVariants.{Date, NoMemory, NoSuchConversion, NotAccepted, NotOpened, PartThere, ReadFault, ReportFault, TooLong, Week, WriteFault}
+use Rattle.file_texts.specs.declared.says.Refusal.TheVariants.{Date, NoMemory, NoSuchConversion, NotOpened, PartThere, ReadFault, Week, WriteFault}
 use Rattle.front_run.specs.declared.plans.Plan.{Plan}
-use Rattle.front_run.specs.declared.puts.Stop.{Stop}
-use Rattle.front_run.specs.declared.puts.Stop.TheVariants as stops
+use Rattle.front_run.specs.declared.stops.Stop.{Stop}
+use Rattle.front_run.specs.declared.stops.Stop.TheVariants as stops
 
 -- the status of `navbridge` for a run that read, wrote, reported or refused; and 6 for any other
 abbrev pub run_status : ℕ → ℕ
@@ -27,21 +26,6 @@ status_for (stops.Begin fault) = 4
 status_for (stops.Run kind status count read put) = run_status status
 status_for (stops.Publish fault) = 4
 status_for stops.NoMemory = 6
-
--- the form whose first line is not accepted; none for a capture that names no week, since with it a week is always given
-abbrev pub refused_form : Kind → Kind
-refused_form kinds.Capture1 = kinds.Unknown
-refused_form kind = kind
-
--- a run broke off with this status of `navbridge`, after so many bytes; what the input and the output said, and its name
-abbrev pub run_refusal : Kind → ℕ → ℕ → Option FileFault → Option FileFault → Bor (List ℕ) → Refusal
-run_refusal kind status count read put name =
-    if status == 3 then ReadFault count (unwrap_or read Other)
-    else if status == 4 then WriteFault name (unwrap_or put Other)
-    else if status == 5 then NotAccepted (refused_form kind)
-    else if status == 7 then ReportFault
-    else if status == 8 then TooLong
-    else NoMemory
 
 -- the part was not made: a file has its name, or else the output could not be written
 abbrev pub part_refusal : FileFault → Bor (List ℕ) → Bor (List ℕ) → Refusal

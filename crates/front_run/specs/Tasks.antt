@@ -1,13 +1,12 @@
 -- What a task makes of the bytes that it reads.
-use Rattle.std.specs.Prelude.{◌≡◌, ◌<◌, ◌^◌, ℕ, List, length, Bool, true, false, Option, IfSome, IsSome}
+use Rattle.std.specs.Prelude.{◌≡◌, ℕ, List, Bool, true, false, Option, IfSome, IsSome}
 use Rattle.file_form.specs.Kinds.{kind_of}
 use Rattle.file_form.specs.declared.Kind.{Kind}
 use Rattle.bridge_engine.specs.Meanings.{meaning_of}
 use Rattle.bridge_engine.specs.declared.job.Job.{Job}
 use Rattle.front_run.specs.Asked.{IsAsked}
-use Rattle.front_run.specs.Forms.{form_of, is_copied}
-use Rattle.front_run.specs.Logs.{read_as}
-use Rattle.front_run.specs.declared.convert.Ready.{Ready}
+use Rattle.file_form.specs.Plans.{form_of, is_copied}
+use Rattle.front_run.specs.declared.begun.Ready.{Ready}
 use Rattle.front_run.specs.declared.plans.Plan.{Plan}
 use Rattle.front_run.specs.declared.tasks.Task.{Task}
 use Rattle.front_run.specs.declared.tasks.Task.TheVariants.{Asked, Copied}
@@ -25,10 +24,6 @@ accepts_job job bytes = IsSome ((meaning_of job).counts bytes)
 abbrev pub accepts : Task → List ℕ → Type 0
 accepts (Asked asked) bytes = accepts_job asked.job bytes
 accepts Copied bytes = Unit {0}
-
--- the task takes what is read of these bytes of a file of this form, and it is not too much
-abbrev pub can_be : Task → Kind → List ℕ → Type 0
-can_be task kind bytes = accepts task (read_as kind bytes) × (length (read_as kind bytes) < 2 ^ 32)
 
 -- what is done with a file that is read under this form
 abbrev pub TaskBy : Bool → Plan → Kind → Task → Type 0

@@ -10,8 +10,8 @@ use nav_io::{Failed, MOST_TAKEN, Sink, Source, read_piece};
 ///
 /// # Errors
 ///
-/// As the statuses of `navbridge`: 3 where a read failed, 4 where a write did, and 8 where there are
-/// more than 4,294,967,295 bytes. A part is written then.
+/// As the statuses of `navbridge`: 3 where a read failed, 4 where a write did, and 8 where there
+/// are more than 4,294,967,295 bytes. A part is written then.
 pub fn copy<S: Source, T: Sink>(input: &mut S, output: &mut T) -> Result<(), u8>
     ensures text { OnOk result (IfSome (S.left input.old) (λ bytes.
         Appends (T.written output.old) (T.written output.new) bytes)) }

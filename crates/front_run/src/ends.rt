@@ -1,13 +1,16 @@
 //! How conversions end.
 
-ghost use Rattle.std.specs.Prelude.{◌≡◌, Err};
-ghost use Rattle.front_run.specs.Steps.{EndsSo, IsSix, WritesSo};
+ghost use Rattle.std.specs.Prelude.{◌≡◌, ◌<◌, Err};
+ghost use Rattle.receiver_log.specs.LogRuns.{too_many};
+ghost use Rattle.front_run.specs.Steps.{EndsSo, IsLack, LacksMore};
 
-use crate::puts::Stop;
+use crate::begun::Begun;
+use crate::reading::{Input, Taken, taken_of};
+use crate::stops::Stop;
+use crate::tasks::TaskRun;
 use file_form::Kind;
-use file_step::{FileFault, StepFault};
+use file_step::{FileFault, Progress, StepFault};
 use nav_io::{Sink, Source};
-use peek_io::Progress;
 use receiver_log::{Counts, Refusals};
 
 /// Who is told of a conversion.
@@ -61,14 +64,42 @@ impl<U: Sink> Outcome<U> {
     }
 }
 
-/// How a file's conversion ended, after so many bytes, by what the step and the input said.
-pub(crate) fn ended(
-    kind: Kind,
+/// How a conversion that was begun has ended, by what the step and what was read say.
+pub(crate) fn ended<S: Source, U: Sink, N: Refusals, P: Progress>(
+    begun: Begun<U, Input<S, N, P>>,
     done: Result<(), StepFault<u8>>,
-    count: u64,
-    closed: Result<(), FileFault>,
-) -> Result<(), Stop>
-    ensures { EndsSo IsSix count done result }
+) -> Sourced<U, S>
+    ensures done { EndsSo (LacksMore result.outcome.count) done result.outcome.done }
+    ensures report { result.outcome.report ≡ begun.run.report }
+    ensures faults { result.outcome.count < too_many
+        → ⟦<Input<S, N, P> as Source>⟧.faults begun.input ≡ S.faults result.source }
+{
+    let Begun { kind, run, input } = begun;
+    let Taken {
+        source,
+        count,
+        counts,
+    } = taken_of(input);
+    let TaskRun {
+        alloc: _,
+        task: _,
+        report,
+    } = run;
+    Sourced {
+        outcome: Outcome {
+            done: stopped_by(kind, done, count),
+            report,
+            kind: Some(kind),
+            count,
+            counts,
+        },
+        source,
+    }
+}
+
+// How a conversion ended, after so many bytes, by what the step says.
+fn stopped_by(kind: Kind, done: Result<(), StepFault<u8>>, count: u64) -> Result<(), Stop>
+    ensures { EndsSo (LacksMore count) done result }
 {
     match done {
         Ok(()) => Ok(()),
@@ -76,17 +107,20 @@ pub(crate) fn ended(
         Err(StepFault::Begin(fault)) => Err(Stop::Begin(fault)),
         Err(StepFault::Publish(fault)) => Err(Stop::Publish(fault)),
         Err(StepFault::Run(status, told)) => {
-            Err(Stop::Run(kind, status, count, closed.err(), told.err()))
+            Err(Stop::Run(kind, status, count, None, told.err()))
         }
     }
 }
 
-/// How a conversion to a sink ended.
-pub(crate) fn written(kind: Kind, done: Result<(), u8>, count: u64) -> Result<(), Stop>
-    ensures { WritesSo count done result }
+/// How a file's conversion ended, with what its input said when it was closed.
+pub(crate) fn closed_by(done: Result<(), Stop>, closed: Result<(), FileFault>) -> Result<(), Stop>
+    ensures { EndsSo IsLack done result }
 {
     match done {
-        Ok(()) => Ok(()),
-        Err(status) => Err(Stop::Run(kind, status, count, None, None)),
+        Err(Stop::Look(_)) => Err(Stop::Look(closed.err())),
+        Err(Stop::Run(kind, status, count, _, put)) => {
+            Err(Stop::Run(kind, status, count, closed.err(), put))
+        }
+        _ => done,
     }
 }

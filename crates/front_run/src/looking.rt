@@ -4,12 +4,11 @@ ghost use Rattle.std.specs.Prelude.{◌≡◌, ◌⊎◌, [], IfErr, IfOk, IfSom
 ghost use Rattle.std.specs.Io.KnownBytes.{Keeps};
 ghost use Rattle.nav_io.specs.Causes.{Rose};
 ghost use Rattle.file_form.specs.Kinds.{kind_of};
-ghost use Rattle.front_run.specs.Forms.{form_of};
+ghost use Rattle.file_form.specs.Plans.{form_of};
 
-use crate::plans::form_of;
-use file_form::{Kind, LOOKED_AT, first_bytes_decide, kind_of};
+use file_form::{Kind, LOOKED_AT, first_bytes_decide, form_of, kind_of};
+use file_step::{PeekFault, Peeked};
 use nav_io::Source;
-use peek_io::{PeekFault, Peeked};
 
 /// Looks at an input that was not looked at, and tells the form under which it is read.
 pub fn look<S: Source>(named: Option<Kind>, input: &mut Peeked<S>) -> Result<Kind, PeekFault>

@@ -2,11 +2,10 @@
 
 ghost use Rattle.std.specs.Prelude.{◌≡◌, IfErr, IfOk, map};
 ghost use Rattle.std.specs.String.{string_bytes};
-ghost use Rattle.front_run.specs.Forms.{AreWords, HasRow, form_of, is_copied};
+ghost use Rattle.front_run.specs.Forms.{AreWords, HasRow};
 
-use crate::puts::Stop;
-use file_form::{Kind, Target, row_of};
-use front_plan::{Values, words_for};
+use crate::stops::Stop;
+use file_form::{Kind, Target, Values, row_of, words_for};
 use std::alloc::Global;
 
 /// What is asked of each file.
@@ -18,28 +17,6 @@ pub struct Plan<'a> {
     pub target: Target,
     /// The values of the conversion.
     pub values: Values<'a>,
-}
-
-/// The form under which a file is read: that which is named, or else the one that it tells. A
-/// capture that names its week is read as one that does.
-pub fn form_of(named: Option<Kind>, told: Kind) -> Kind
-    ensures { result ≡ form_of named told }
-{
-    match (named, told) {
-        (None, _) => told,
-        (Some(Kind::Capture1), Kind::Capture2) => Kind::Capture2,
-        (Some(named), _) => named,
-    }
-}
-
-/// Whether what is made is what is read: of a log its capture.
-pub fn is_copied(kind: Kind, target: Target) -> bool
-    ensures { result ≡ is_copied kind target }
-{
-    match (kind, target) {
-        (Kind::Ubx | Kind::Sbf, Target::Capture) => true,
-        _ => false,
-    }
 }
 
 /// The words of `navbridge` for a file that is read under this form.

@@ -1,15 +1,13 @@
 //! Why a file is not converted, as a message tells it.
 
 ghost use Rattle.std.specs.Prelude.{◌≡◌};
-ghost use Rattle.front_run.specs.Statuses.{IsRefusalFor, IsValueRefusal, refused_form};
-ghost use Rattle.front_run.specs.Statuses.{run_refusal};
+ghost use Rattle.front_run.specs.Statuses.{IsRefusalFor, IsValueRefusal};
 
 use crate::plans::Plan;
-use crate::puts::Stop;
+use crate::stops::Stop;
 use bridge_engine::is_date;
-use file_form::Kind;
 use file_step::FileFault;
-use file_texts::Refusal;
+use file_texts::{Refusal, run_refusal};
 
 /// Why a file is not converted, as a message tells it: the names are those of the output and of its
 /// part.
@@ -24,7 +22,7 @@ pub fn refusal_of<'a>(plan: &Plan<'a>, stop: Stop, name: &'a str, part: &'a str)
         Stop::Begin(FileFault::AlreadyThere) => Refusal::PartThere(part),
         Stop::Begin(fault) | Stop::Publish(fault) => Refusal::WriteFault(name, fault),
         Stop::Run(kind, status, count, read, put) => {
-            run_refused(kind, status, count, read, put, name)
+            run_refusal(kind, status, count, read, put, name)
         }
         Stop::NoMemory => Refusal::NoMemory,
     }
@@ -38,36 +36,4 @@ fn value_refused<'a>(plan: &Plan<'a>) -> Refusal<'a>
         return Refusal::Week(plan.values.week.unwrap_or(plan.values.clock_week));
     }
     Refusal::Date(plan.values.date)
-}
-
-// Why a run broke off with this status.
-fn run_refused<'a>(
-    kind: Kind,
-    status: u8,
-    count: u64,
-    read: Option<FileFault>,
-    put: Option<FileFault>,
-    name: &'a str,
-) -> Refusal<'a>
-    ensures { result ≡ run_refusal kind status count read put name.entry }
-{
-    match status {
-        3 => Refusal::ReadFault(count, read.unwrap_or(FileFault::Other)),
-        4 => Refusal::WriteFault(name, put.unwrap_or(FileFault::Other)),
-        5 => Refusal::NotAccepted(refused_form(kind)),
-        7 => Refusal::ReportFault,
-        8 => Refusal::TooLong,
-        _ => Refusal::NoMemory,
-    }
-}
-
-// The form of which a message tells. A week is always given with a capture that names none, so that
-// it is none.
-fn refused_form(kind: Kind) -> Kind
-    ensures { result ≡ refused_form kind }
-{
-    match kind {
-        Kind::Capture1 => Kind::Unknown,
-        _ => kind,
-    }
 }

@@ -9,10 +9,10 @@ ghost use Rattle.front_run.specs.Tasks.{IsTask, accepts_job};
 
 use crate::asked::AskedJob;
 use crate::copies::copy;
-use crate::plans::{Plan, is_copied, words_under};
-use crate::puts::Stop;
+use crate::plans::{Plan, words_under};
+use crate::stops::Stop;
 use bridge_engine::{bridge, words_give_one_job};
-use file_form::Kind;
+use file_form::{Kind, is_copied};
 use file_step::Conversion;
 use nav_io::{Sink, Source};
 use std::alloc::{AllocError, Global};
@@ -43,37 +43,10 @@ pub fn ask(alloc: Global, plan: &Plan, kind: Kind) -> Result<Task, Stop>
 }
 
 /// A task that is done with a report.
-#[derive(Drop)]
-pub struct TaskRun<U: Sink> {
-    alloc: Global,
-    task: Task,
-    report: U,
-}
-
-impl<U: Sink> TaskRun<U> {
-    /// The run of a task, with this report.
-    pub fn new(alloc: Global, task: Task, report: U) -> TaskRun<U>
-        ensures task { result.task ≡ task }
-        ensures report { result.report ≡ report }
-    {
-        TaskRun {
-            alloc,
-            task,
-            report,
-        }
-    }
-
-    /// The report.
-    pub fn into_report(self) -> U
-        ensures { result ≡ self.report }
-    {
-        let TaskRun {
-            alloc: _,
-            task: _,
-            report,
-        } = self;
-        report
-    }
+pub(crate) struct TaskRun<U: Sink> {
+    pub alloc: Global,
+    pub task: Task,
+    pub report: U,
 }
 
 impl<U: Sink> Conversion for TaskRun<U> {

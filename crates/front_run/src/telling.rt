@@ -44,25 +44,25 @@ fn refuse<U: Sink, T: Teller<U>>(teller: &mut T, refusal: &Refusal) -> u8
     refusal.status()
 }
 
-/// Says what became of a file whose conversion has ended so; the exit status. The names are those of
-/// the output and of its part.
-pub fn finish<U: Sink + Drop, T: Teller<U>>(
+/// Says what became of a file whose conversion has ended so; the exit status. The names are those
+/// of the output and of its part.
+pub fn finish<U: Sink, T: Teller<U>>(
     plan: &Plan,
-    outcome: Outcome<U>,
+    outcome: &Outcome<U>,
     name: &str,
     part: &str,
     teller: &mut T,
 ) -> u8
-    ensures refused { IfErr outcome.done (λ stop. result ≡ status_for stop) }
-    ensures told { IfErr outcome.done (λ stop. (refusal : Refusal)
+    ensures refused { IfErr outcome.now.done (λ stop. result ≡ status_for stop) }
+    ensures told { IfErr outcome.now.done (λ stop. (refusal : Refusal)
         × IsRefusalFor plan.now stop name.entry part.entry refusal × T.told teller.new refusal) }
 
     // 0 where the report was ended, and 7 where it could not be.
-    ensures done { OnOk outcome.done
+    ensures done { OnOk outcome.now.done
         (EndsReport (T.faults teller.old) (T.faults teller.new) result) }
 {
     match outcome.done {
-        Ok(()) => match teller.done(&outcome) {
+        Ok(()) => match teller.done(outcome) {
             Ok(()) => 0,
             Err(Failed) => refuse::<U, T>(teller, &Refusal::ReportFault),
         },

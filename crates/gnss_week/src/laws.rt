@@ -1,4 +1,5 @@
-ghost use Rattle.std.specs.Prelude.{◌≡◌, ℕ, ◌+◌, ◌%◌, ◌<◌, ◌≤◌, ◌↔◌, Result, Ok, true};
+ghost use Rattle.std.specs.Prelude.{◌≡◌, ℕ, ◌+◌, ◌%◌, ◌<◌};
+ghost use Rattle.std.specs.Prelude.{◌≤◌, ◌↔◌, Result, Ok, true};
 ghost use Rattle.gnss_week.specs.Weeks.{IsGalileoWeek, IsGpsWeek, IsNearGalileo, IsNearGps};
 ghost use Rattle.gnss_week.specs.Weeks.{IsMoment, IsNearestMoment, IsReference, IsSecond};
 ghost use Rattle.gnss_week.specs.Dates.{GivesMoment, IsCivilOf};

@@ -1,6 +1,7 @@
 //! Single page parts.
 
-ghost use Rattle.std.specs.Prelude.{◌≡◌, ℕ, ◌^◌, ◌*◌, ◌<◌, ◌↔◌, IfOk, IsErr};
+ghost use Rattle.std.specs.Prelude.{◌≡◌, ℕ, ◌^◌, ◌*◌};
+ghost use Rattle.std.specs.Prelude.{◌<◌, ◌↔◌, IfOk, IsErr};
 ghost use Rattle.nav_bits.specs.Bits.{number_at};
 ghost use Rattle.inav_page.specs.Pages.{bytes_of_half, kept_of, kind_of, IsHalf};
 

@@ -1,4 +1,5 @@
-ghost use Rattle.std.specs.Prelude.{◌≡◌, ℕ, ◌+◌, ◌≤◌, ◌⊎◌, ◌↔◌, List, [], IfOk, OnOk, OnErr};
+ghost use Rattle.std.specs.Prelude.{◌≡◌, ℕ, ◌+◌, ◌≤◌, ◌⊎◌};
+ghost use Rattle.std.specs.Prelude.{◌↔◌, List, [], IfOk, OnOk, OnErr};
 ghost use Rattle.std.specs.Prelude.{length};
 ghost use Rattle.std.specs.Prelude.{max};
 ghost use Rattle.std.specs.Prelude.{Contains};
@@ -17,8 +18,8 @@ use std::marker::Model;
 
 /// The page parts received, stored as long as a partner may come.
 ///
-/// The partners of a page part are those of the same satellite and signal and the other kind, the odd
-/// part one second after the even one, with which the CRC is right.
+/// The partners of a page part are those of the same satellite and signal and the other kind, the
+/// odd part one second after the even one, with which the CRC is right.
 #[derive(Drop)]
 pub struct Halves {
     alloc: Global,
@@ -44,8 +45,8 @@ impl Model for Halves {
 }
 
 impl Halves {
-    /// An empty store. `window` is in seconds: a page part is stored while its stamp is at most the window
-    /// plus one second below the greatest stamp.
+    /// An empty store. `window` is in seconds: a page part is stored while its stamp is at most the
+    /// window plus one second below the greatest stamp.
     pub fn new(alloc: Global, window: u32) -> Halves
         requires least { 60 ≤ window }
         requires most { window ≤ 14400 }
@@ -60,17 +61,17 @@ impl Halves {
         }
     }
 
-    /// Takes a page part received at a stamp in seconds of the logger's clock, and gives the words that it
-    /// makes with its stored partners, ascending by the partners' bits; none where the same page part is
-    /// stored already. Then the part is stored, unless it is itself too old, and parts whose stamp is more
-    /// than the window plus one second below the greatest stamp are removed.
+    /// Takes a page part received at a stamp in seconds of the logger's clock, and gives the words
+    /// that it makes with its stored partners, ascending by the partners' bits; none where the same
+    /// page part is stored already. Then the part is stored, unless it is itself too old, and parts
+    /// whose stamp is more than the window plus one second below the greatest stamp are removed.
     ///
-    /// Costs one search among the stored parts of its own second, one for its partners among those of theirs,
-    /// and the words. Of up to 72 parts of a second those of the satellite, signal and other kind are tried,
-    /// a CRC each; of more the partners alone are found, by the remainder of one CRC. The parts are in a ring
-    /// buffer of `window + 2` seconds, allocated with the first part, so a second is found without a search.
-    /// Removed parts leave when another second takes their slot, which uses their room again: a stamp far
-    /// above the others costs no more.
+    /// Costs one search among the stored parts of its own second, one for its partners among those
+    /// of theirs, and the words. Of up to 72 parts of a second those of the satellite, signal and
+    /// other kind are tried, a CRC each; of more the partners alone are found, by the remainder of
+    /// one CRC. The parts are in a ring buffer of `window + 2` seconds, allocated with the first
+    /// part, so a second is found without a search. Removed parts leave when another second takes
+    /// their slot, which uses their room again: a stamp far above the others costs no more.
     ///
     /// `AllocError` where memory runs out; nothing is changed then.
     pub fn take(
@@ -97,8 +98,8 @@ impl Halves {
         ensures window { self.new.window ≡ self.old.window }
         ensures err { OnErr result (self.new ≡ self.old) }
 
-        // The allocated parts are at most those allocated before and this one, one more than before, and
-        // in each of the `window + 2` slots of one second only.
+        // The allocated parts are at most those allocated before and this one, one more than
+        // before, and in each of the `window + 2` slots of one second only.
         ensures held { OnOk result ((other : StampedHalf) → Contains self.new.held other →
             Contains self.old.held other ⊎ (stamped stamp sat signal half.now ≡ other)) }
         ensures held_room { OnOk result (length self.new.held ≤ length self.old.held + 1) }

@@ -1,6 +1,7 @@
 //! The words that a page part makes with its stored partners.
 
-ghost use Rattle.std.specs.Prelude.{◌≡◌, ℕ, ◌+◌, ◌<◌, ◌≤◌, IfOk, OnErr, OnOk, [], length, map, max, Contains};
+ghost use Rattle.std.specs.Prelude.{◌≡◌, ℕ, ◌+◌, ◌<◌, ◌≤◌, IfOk};
+ghost use Rattle.std.specs.Prelude.{OnErr, OnOk, [], length, map, max, Contains};
 ghost use Rattle.nav_eph.specs.declared.sat.System.TheVariants.{Gal};
 ghost use Rattle.inav_page.specs.Pages.{kind_of};
 ghost use Rattle.inav_page.specs.Heard.{AreWordsWith, stamp_by};
@@ -63,8 +64,8 @@ pub(crate) fn join_with_kept(
     Ok(Joined::new(words, heard))
 }
 
-// Stores a page part that is not too old, and gives the words that it makes with those stored before;
-// none where it was stored already.
+// Stores a page part that is not too old, and gives the words that it makes with those stored
+// before; none where it was stored already.
 pub(crate) fn keep(
     alloc: Global,
     kept: &mut Seconds,

@@ -1,7 +1,8 @@
-//! Page parts as keys of a tree, by stamp, satellite, signal, CRC remainder (equal for partners), kind, and
-//! bits. So the partners of a page part are adjacent.
+//! Page parts as keys of a tree, by stamp, satellite, signal, CRC remainder (equal for partners),
+//! kind, and bits. So the partners of a page part are adjacent.
 
-ghost use Rattle.std.specs.Prelude.{◌≡◌, ℕ, ◌+◌, ◌*◌, ◌^◌, ◌<◌, ◌≤◌, ◌⊎◌, ◌↔◌, length, map, Contains};
+ghost use Rattle.std.specs.Prelude.{◌≡◌, ℕ, ◌+◌, ◌*◌, ◌^◌, ◌<◌};
+ghost use Rattle.std.specs.Prelude.{◌≤◌, ◌⊎◌, ◌↔◌, length, map, Contains};
 ghost use Rattle.std.specs.Prelude.{IfOk, IsTrue, OnErr, OnOk};
 ghost use Rattle.std.specs.List.Sorted.{IsStrictlySortedBy};
 ghost use Rattle.inav_page.specs.Mirrors.{bucket_of, end_of_partners, first_partner, key_at};

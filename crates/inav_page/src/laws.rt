@@ -1,6 +1,7 @@
 //! Laws of the definitions; each is the contract of a function that does nothing.
 
-ghost use Rattle.std.specs.Prelude.{◌≡◌, ℕ, ◌+◌, List, ◌∷◌, ◌⊎◌, ◌↔◌, Contains, true};
+ghost use Rattle.std.specs.Prelude.{◌≡◌, ℕ, ◌+◌, List, ◌∷◌};
+ghost use Rattle.std.specs.Prelude.{◌⊎◌, ◌↔◌, Contains, true};
 ghost use Rattle.nav_bits.specs.Bits.{number_at};
 ghost use Rattle.nav_bits.specs.Packed.{AreBytes};
 ghost use Rattle.inav_page.specs.declared.half.HalfKind.TheVariants.{Even, Odd};
@@ -42,8 +43,8 @@ pub fn halves_are_read_again()
     ensures { (half : ℕ) → IsHalf half → kept_of (number_at (bytes_of_half half) 0 120) ≡ half }
 {}
 
-/// The tests decide whether a page part is in a list, whether two make a word, and whether one is the
-/// partner of the other.
+/// The tests decide whether a page part is in a list, whether two make a word, and whether one is
+/// the partner of the other.
 pub fn halves_are_decided()
     ensures among { (halves : List StampedHalf) (half : StampedHalf) →
         (has_half halves half ≡ true) ↔ Contains halves half }

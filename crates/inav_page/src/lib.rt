@@ -1,7 +1,7 @@
 //! Pages of the Galileo I/NAV message, as even and odd page parts (Galileo OS SIS ICD, 4.3.2).
 //!
-//! A nominal page is sent in two parts of 120 bits, the even part and one second later the odd part.
-//! Together they carry a word of 128 bits, protected by a CRC-24Q in the odd part.
+//! A nominal page is sent in two parts of 120 bits, the even part and one second later the odd
+//! part. Together they carry a word of 128 bits, protected by a CRC-24Q in the odd part.
 //!
 //! - [`read_half`] and [`write_half`] read and write a page part ([`Half`]);
 //! - [`join`] gives the word of two page parts, [`split`] the page parts of a word;

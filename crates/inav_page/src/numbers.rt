@@ -1,7 +1,8 @@
-//! Page parts of one second as ascending numbers: satellite and signal, followed by the bits. So those of a
-//! satellite and signal are adjacent, its even parts before its odd ones.
+//! Page parts of one second as ascending numbers: satellite and signal, followed by the bits. So
+//! those of a satellite and signal are adjacent, its even parts before its odd ones.
 
-ghost use Rattle.std.specs.Prelude.{◌≡◌, ℕ, ◌+◌, ◌^◌, ◌<◌, ◌≤◌, ◌⊎◌, ◌↔◌, [], ◌∷◌, length, Contains};
+ghost use Rattle.std.specs.Prelude.{◌≡◌, ℕ, ◌+◌, ◌^◌, ◌<◌, ◌≤◌};
+ghost use Rattle.std.specs.Prelude.{◌⊎◌, ◌↔◌, [], ◌∷◌, length, Contains};
 ghost use Rattle.std.specs.Prelude.{slice_index, IfOk, IsTrue, OnErr, OnOk};
 ghost use Rattle.nav_eph.specs.declared.sat.System.TheVariants.{Gal};
 ghost use Rattle.inav_page.specs.Pages.{kind_of};

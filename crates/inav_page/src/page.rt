@@ -1,6 +1,7 @@
 //! The word of two page parts, and the page parts of a word.
 
-ghost use Rattle.std.specs.Prelude.{◌≡◌, ℕ, ◌+◌, ◌*◌, ◌^◌, ◌<◌, ◌↔◌, IsSome, IfSome, slice_index};
+ghost use Rattle.std.specs.Prelude.{◌≡◌, ℕ, ◌+◌, ◌*◌, ◌^◌};
+ghost use Rattle.std.specs.Prelude.{◌<◌, ◌↔◌, IsSome, IfSome, slice_index};
 ghost use Rattle.nav_bits.specs.Bits.{number_at};
 ghost use Rattle.inav_page.specs.declared.half.HalfKind.TheVariants.{Even, Odd};
 ghost use Rattle.inav_page.specs.Pages.{bits_at, even_of, has_right_crc, kind_of, odd_of};
@@ -33,8 +34,8 @@ fn crc_of(even: u128, odd: u128) -> u64
     crc_bytes(&bytes).value()
 }
 
-// The same of an odd part alone, as with an even part of zeros: zeros before its 82 bits leave the CRC as
-// it is, so it takes 11 bytes in place of 25.
+// The same of an odd part alone, as with an even part of zeros: zeros before its 82 bits leave the
+// CRC as it is, so it takes 11 bytes in place of 25.
 fn crc_of_odd(odd: u128) -> u64
     ensures same { result ≡ page_crc 0 odd }
     ensures fits { result < 2 ^ 24 }
@@ -63,8 +64,8 @@ pub(crate) fn belong_by(kind: HalfKind, one: u128, other: u128) -> bool
     }
 }
 
-// The CRC remainder, equal for partners: the contribution of an even part to the CRC of its page, or
-// the contribution that an odd part's CRC demands of the even part.
+// The CRC remainder, equal for partners: the contribution of an even part to the CRC of its page,
+// or the contribution that an odd part's CRC demands of the even part.
 pub(crate) fn remainder(half: u128) -> u64
     ensures same { result ≡ remainder_of half }
     ensures fits { result < 2 ^ 24 }
@@ -95,8 +96,8 @@ pub(crate) fn word_of_two(kind: HalfKind, one: u128, other: u128) -> Bits<16>
     }
 }
 
-/// The word of a page: the 112 data bits of the even part followed by the 16 of the odd part (Galileo OS
-/// SIS ICD, 4.3.2.3).
+/// The word of a page: the 112 data bits of the even part followed by the 16 of the odd part
+/// (Galileo OS SIS ICD, 4.3.2.3).
 ///
 /// `None` exactly where the CRC-24Q of the first 114 bits of the even part and the first 82 of the
 /// odd one is not the CRC in the odd part (5.1.9.4).

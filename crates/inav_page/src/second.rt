@@ -1,7 +1,8 @@
-//! The page parts of one second: ascending numbers in a `Vec` while they are at most [`FEW`], keys of a tree
-//! once there were more.
+//! The page parts of one second: ascending numbers in a `Vec` while they are at most [`FEW`], keys
+//! of a tree once there were more.
 
-ghost use Rattle.std.specs.Prelude.{◌≡◌, ℕ, ◌+◌, ◌<◌, ◌≤◌, ◌⊎◌, ◌↔◌, [], length, Contains, IfOk, IsTrue};
+ghost use Rattle.std.specs.Prelude.{◌≡◌, ℕ, ◌+◌, ◌<◌, ◌≤◌, ◌⊎◌};
+ghost use Rattle.std.specs.Prelude.{◌↔◌, [], length, Contains, IfOk, IsTrue};
 ghost use Rattle.std.specs.Prelude.{OnErr, OnOk};
 ghost use Rattle.inav_page.specs.Mirrors.{key_at, place_of, AreKeys, AreWordsIn};
 ghost use Rattle.inav_page.specs.Kept.{keys_of};
@@ -82,8 +83,8 @@ impl Second {
         Ok(there)
     }
 
-    // Inserts a page part of that stamp, and says whether it was there; those of another stamp are removed
-    // first.
+    // Inserts a page part of that stamp, and says whether it was there; those of another stamp are
+    // removed first.
     pub(crate) fn put(
         &mut self,
         alloc: Global,

@@ -1,8 +1,9 @@
-//! The page parts in a ring buffer of seconds: a stamp has the slot at its remainder modulo `window + 2`, so
-//! a second is found without a search. A second that is too old counts as removed; its room is used again
-//! when another takes its slot.
+//! The page parts in a ring buffer of seconds: a stamp has the slot at its remainder modulo `window
+//! + 2`, so a second is found without a search. A second that is too old counts as removed; its
+//! room is used again when another takes its slot.
 
-ghost use Rattle.std.specs.Prelude.{◌≡◌, ℕ, ◌+◌, ◌%◌, ◌^◌, ◌<◌, ◌≤◌, ◌↔◌, IfSome, IfNone, IsTrue, IfOk};
+ghost use Rattle.std.specs.Prelude.{◌≡◌, ℕ, ◌+◌, ◌%◌, ◌^◌, ◌<◌};
+ghost use Rattle.std.specs.Prelude.{◌≤◌, ◌↔◌, IfSome, IfNone, IsTrue, IfOk};
 ghost use Rattle.std.specs.Prelude.{OnOk, OnErr, [], length, max, Contains};
 ghost use Rattle.inav_page.specs.Mirrors.{key_at};
 ghost use Rattle.inav_page.specs.Kept.{keys_held, keys_in, AreSeconds, HoldsKey, IsSecondOf};
@@ -85,8 +86,8 @@ impl Seconds {
         Some(second)
     }
 
-    // Inserts the page part with this number in its second, which is not too old, says whether it was stored
-    // already, and raises the greatest stamp to its stamp.
+    // Inserts the page part with this number in its second, which is not too old, says whether it
+    // was stored already, and raises the greatest stamp to its stamp.
     pub(crate) fn put(
         &mut self,
         alloc: Global,

@@ -1,4 +1,5 @@
-ghost use Rattle.std.specs.Prelude.{◌≡◌, ℕ, ◌<◌, ◌^◌, ◌↔◌, List, All, Ok, Err};
+ghost use Rattle.std.specs.Prelude.{◌≡◌, ℕ, ◌<◌, ◌^◌};
+ghost use Rattle.std.specs.Prelude.{◌↔◌, List, All, Ok, Err};
 ghost use Rattle.gnss_week.specs.Weeks.{IsSecond};
 ghost use Rattle.nav_bits.specs.Fields.{StandFrom};
 ghost use Rattle.nav_bits.specs.Packed.{AreBytes, ZerosFrom};
@@ -86,8 +87,8 @@ pub fn read_word3_is_written()
         IsSisa w.sisa × StandFrom bits 0 0 (fields_word3 (written_word3 w)) }
 {}
 
-/// Bits read as word type 4 hold these fields and the SVID of the sending satellite, apart from spare
-/// bits, and toc is within the week.
+/// Bits read as word type 4 hold these fields and the SVID of the sending satellite, apart from
+/// spare bits, and toc is within the week.
 pub fn read_word4_is_written()
     ensures { (w : GalWord4) (bits : List ℕ) (sat : Satellite) (stamp : ℕ) →
         reading_of bits sat stamp ≡ Ok (one_part sat stamp (GalW4 w)) →
@@ -162,8 +163,8 @@ pub fn words_are_the_functions()
         bits ≡ word5_bytes h i wn second }
 {}
 
-/// The parts of a word have the stamp and satellite given, have bodies that a Galileo satellite sends,
-/// and have their fields within their widths in bits.
+/// The parts of a word have the stamp and satellite given, have bodies that a Galileo satellite
+/// sends, and have their fields within their widths in bits.
 pub fn word_parts()
     ensures stamps { (bits : List ℕ) (sat : Satellite) (stamp : ℕ) (parts : WordParts) →
         reading_of bits sat stamp ≡ Ok parts → All (λ part. part.stamp ≡ stamp) (all_parts parts) }

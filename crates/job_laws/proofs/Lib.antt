@@ -17,3 +17,5 @@ mod LogTexts
 mod LogBegins
 mod LogLines
 mod TakenLogs
+mod FirstLines
+mod FormsTold

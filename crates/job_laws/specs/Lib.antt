@@ -7,3 +7,4 @@ pub mod Written
 pub mod LogItems
 pub mod LogHeard
 pub mod LogTaken
+pub mod Told

@@ -1,6 +1,7 @@
 //! Laws of the log of a capture: each is the contract of an empty function.
 
-ghost use Rattle.std.specs.Prelude.{◌≡◌, ◌↔◌, ℕ, ◌+◌, List, [], Contains, length, map, sum};
+ghost use Rattle.std.specs.Prelude.{◌≡◌, ◌↔◌, ℕ, ◌+◌};
+ghost use Rattle.std.specs.Prelude.{List, [], Contains, length, map, sum};
 ghost use Rattle.capture_lines.specs.declared.item.LineItem.{LineItem};
 ghost use Rattle.capture_log.specs.Events.{nothing_known};
 ghost use Rattle.capture_log.specs.Log.{log_from};
@@ -10,8 +11,8 @@ ghost use Rattle.job_laws.specs.Places.{IsLateLine, IsMalformedLine};
 ghost use Rattle.job_laws.specs.Counted.{ArePairsHeard, Pair};
 ghost use Rattle.job_laws.specs.Counted.{own_weight, pairs_weight, weight_in};
 
-/// The log has a line as late exactly where a line before it, late or not, has a stamp that is later
-/// by more than the window, and as malformed exactly where it is malformed.
+/// The log has a line as late exactly where a line before it, late or not, has a stamp that is
+/// later by more than the window, and as malformed exactly where it is malformed.
 pub fn late_lines_are_told()
     ensures late { (window first : ℕ) (items : List LineItem) (number : ℕ)
         → Contains (log_from window nothing_known first items)

@@ -16,8 +16,8 @@ ghost use Rattle.job_laws.specs.CountedLines.{CountLines};
 ghost use Rattle.job_laws.specs.SayTheSame.{IsOfPeriods, SayTheSame};
 ghost use Rattle.job_laws.specs.Written.{ConvertCapture, IsWritten};
 
-/// Two captures of one week and one window with the same lines, in any order and repeated or not, none
-/// of them late, give the same output in every form but the counts.
+/// Two captures of one week and one window with the same lines, in any order and repeated or not,
+/// none of them late, give the same output in every form but the counts.
 pub fn order_of_lines_changes_no_text()
     ensures captures { (to : CaptureTo) (week named : Option ℕ) (bytes other : List ℕ)
         (c d : Capture) → IsOfPeriods to → capture_of week bytes ≡ Some c
@@ -34,8 +34,8 @@ pub fn order_of_lines_changes_no_text()
     bridge_engine::words_give_one_job();
 }
 
-/// Each count of a capture's report is a number of events: those of each line alone, and those of each
-/// word received, once, in whatever order the pairs of page parts are listed.
+/// Each count of a capture's report is a number of events: those of each line alone, and those of
+/// each word received, once, in whatever order the pairs of page parts are listed.
 pub fn counts_are_of_lines_and_words()
     ensures { (c : Capture) (pairs : List Pair) → ArePairsHeard c.window (line_items_of c.lines) pairs
         → CountLines c pairs (counts_of c) }
@@ -43,9 +43,9 @@ pub fn counts_are_of_lines_and_words()
     crate::counted::events_are_counted();
 }
 
-/// The output for a capture is the text of the items of the periods of the parts received, and reads
-/// back as these items; the message of each ephemeris reads back as it, without its transmission time,
-/// for a reference week near its own.
+/// The output for a capture is the text of the items of the periods of the parts received, and
+/// reads back as these items; the message of each ephemeris reads back as it, without its
+/// transmission time, for a reference week near its own.
 pub fn converted_captures_come_back()
     ensures rinex { (week : Option ℕ) (header : HeaderWords) (bytes : List ℕ) (c : Capture)
         → IfSome week IsReference → IsHeader header → capture_of week bytes ≡ Some c

@@ -1,23 +1,30 @@
 //! What runs write, stated by all of their input at once: all lines of a capture, the messages of a
 //! receiver's log, the words of the command line.
 //!
-//! The crates of the runs say what each writes line by line, and `bridge_engine` that a job writes the
-//! meaning of the bytes of its input; the laws here say what that is. The crate has no other functions.
+//! The crates of the runs say what each writes line by line, and `bridge_engine` that a job writes
+//! the meaning of the bytes of its input; the laws here say what that is. The crate has no other
+//! functions.
+//!
+//! Of the form of a file (`file_form`):
+//!
+//! - [`accepted_bytes_tell_their_form`]: what a job accepts is told as its form by its first bytes.
 //!
 //! Of the log of a capture (`capture_log`):
 //!
-//! - [`late_lines_are_told`]: a line is late exactly where one before it has a stamp that is later by
-//!   more than the window;
-//! - [`events_are_counted`]: a count is the sum over each line alone and over each word received, once;
+//! - [`late_lines_are_told`]: a line is late exactly where one before it has a stamp that is later
+//!   by more than the window;
+//! - [`events_are_counted`]: a count is the sum over each line alone and over each word received,
+//!   once;
 //! - [`pairs_are_counted_once`]: the order in which the words received are listed does not matter.
 //!
 //! Of a conversion of a capture:
 //!
 //! - [`converted_captures_come_back`]: the text is that of the items of the periods of the parts
-//!   received, and reads back as these items; [`what_is_converted_comes_back`] says so of the words of
-//!   a command line;
+//!   received, and reads back as these items; [`what_is_converted_comes_back`] says so of the words
+//!   of a command line;
 //! - [`order_of_lines_changes_no_text`]: the same lines in another order give the same output;
-//! - [`counts_are_of_lines_and_words`]: each count is a number of events of lines and words received.
+//! - [`counts_are_of_lines_and_words`]: each count is a number of events of lines and words
+//!   received.
 //!
 //! Of the log of a receiver (`receiver_log`) and its capture:
 //!
@@ -28,10 +35,12 @@
 #![tactic(auto)]
 
 mod counted;
+mod forms;
 mod laws;
 mod logs;
 
 pub use crate::counted::{events_are_counted, late_lines_are_told, pairs_are_counted_once};
+pub use crate::forms::accepted_bytes_tell_their_form;
 pub use crate::laws::{
     converted_captures_come_back, counts_are_of_lines_and_words, order_of_lines_changes_no_text,
     what_is_converted_comes_back,

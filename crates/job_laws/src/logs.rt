@@ -12,9 +12,9 @@ ghost use Rattle.job_laws.specs.LogHeard.{IsHeardAs, IsHeardThrough};
 ghost use Rattle.job_laws.specs.LogItems.{Timed, yielded_by};
 ghost use Rattle.job_laws.specs.LogTaken.{IsTaken, IsTakenThrough};
 
-/// The capture of a log's bytes has an accepted first line, and its further lines stand, one by one,
-/// for the subframes and the page parts of the log's messages; so its periods are those of what these
-/// yield. Where the log yields none with a time, the capture is empty.
+/// The capture of a log's bytes has an accepted first line, and its further lines stand, one by
+/// one, for the subframes and the page parts of the log's messages; so its periods are those of
+/// what these yield. Where the log yields none with a time, the capture is empty.
 pub fn a_log_is_heard_through_its_capture()
     ensures ubx { (bytes : List ℕ) → IsHeardThrough
         (yielded_by ubx_said None (messages (format_of ubx) bytes))
@@ -30,16 +30,17 @@ pub fn a_log_is_heard_through_its_capture()
     capture_lines::texts_stand_for_their_items();
 }
 
-/// A text that is the capture of a log of a week is a capture for the runs, whatever it is converted
-/// to: with this week, a window of 7,200 s, and lines that stand for the log's items. Its periods are
-/// those of the parts received from these.
+/// A text that is the capture of a log of a week is a capture for the runs, whatever it is
+/// converted to: with this week, a window of 7,200 s, and lines that stand for the log's items. Its
+/// periods are those of the parts received from these.
 pub fn a_heard_log_is_a_capture()
     ensures { (week : ℕ) (log : List Timed) (text : List ℕ) → IsHeardAs week log text
         → IsTaken week log text }
 {}
 
-/// The capture of a log's bytes is such a capture with the log's week; so it is converted to what the
-/// log's messages yield. Where the log has no subframe and no page with a time, it is not a capture.
+/// The capture of a log's bytes is such a capture with the log's week; so it is converted to what
+/// the log's messages yield. Where the log has no subframe and no page with a time, it is not a
+/// capture.
 pub fn a_log_is_converted_through_its_capture()
     ensures ubx { (bytes : List ℕ) → IsTakenThrough
         (yielded_by ubx_said None (messages (format_of ubx) bytes))

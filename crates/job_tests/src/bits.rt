@@ -148,8 +148,8 @@ static BITS: [Bits; 35] = [
             \xd3\0\x3d\x3f\xb1\x4f\x70\0\0\0\0\0\0\0\0\0\0\0\0\0\0\0\0\0\0\0\0\0\0\0\0\0\0\0\0\0\
             \0\0\0\0\0\0\0\0\0\0\0\0\0\0\0\0\0\0\0\0\0\0\0\0\0\0\0\0\xd1\xac\x12",
     },
-    // Message 1046 of an ephemeris of E11 in week 2295 with issue 5 and SISA 107, whose other fields are
-    // 0, as a frame.
+    // Message 1046 of an ephemeris of E11 in week 2295 with issue 5 and SISA 107, whose other
+    // fields are 0, as a frame.
     Bits {
         name: "GALILEO_FRAME",
         bits: b"\
@@ -230,8 +230,8 @@ fn changed(alloc: Global, bytes: &[u8], old: &str, new: &str) -> Result<Vec<u8>,
     bytes.to_vec(alloc)
 }
 
-/// The concatenated texts, in which `{NAME}` stands for what has that name, and then `new` in the first
-/// place of `old`.
+/// The concatenated texts, in which `{NAME}` stands for what has that name, and then `new` in the
+/// first place of `old`.
 pub(crate) fn expand(
     alloc: Global,
     texts: &[&str],

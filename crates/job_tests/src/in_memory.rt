@@ -1,8 +1,8 @@
 //! Steps over a folder in memory.
 
 use crate::steps::{Broken, Seven};
+use file_folders::MemFolder;
 use file_step::{FileFault, StepFault, convert_file, part_of};
-use front_run::MemFolder;
 use std::alloc::{AllocError, Global};
 use std::test::Fail;
 

@@ -7,8 +7,8 @@ use one_run::{Text, append_decimal};
 use std::alloc::{AllocError, Global};
 use std::test::Fail;
 
-// Words of a capture of two satellites of each system, and its counts, as an independent program has
-// them.
+// Words of a capture of two satellites of each system, and its counts, as an independent program
+// has them.
 const TWO_TO_COUNT: &str = "--from=seed;--to=count;--seed=7;--sats=2;--week=2295";
 
 const COUNTS: &str = concat!(

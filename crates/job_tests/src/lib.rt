@@ -1,6 +1,6 @@
-//! Tests of the jobs: whole runs of `navbridge` over memory, with the outputs, reports and statuses that
-//! were worked by hand; and of the step from one file to another, which `navconvert` takes, over folders
-//! in memory and files that are played.
+//! Tests of the jobs: whole runs of `navbridge` over memory, with the outputs, reports and statuses
+//! that were worked by hand; and of the step from one file to another, which `navconvert` takes,
+//! over folders in memory and files that are played.
 #![tactic(auto)]
 
 #[cfg(test)]
@@ -9,8 +9,6 @@ mod archive_rows;
 mod bits;
 #[cfg(test)]
 mod capture_rows;
-#[cfg(test)]
-mod commands;
 #[cfg(test)]
 mod failures;
 #[cfg(test)]

@@ -1,7 +1,7 @@
 //! Sources that are looked at, and counted.
 
+use file_step::{Counted, PeekFault, Peeked, Progress, peek};
 use nav_io::{MemSource, Source};
-use peek_io::{Counted, PeekFault, Peeked, Progress, peek};
 use std::alloc::{AllocError, Global};
 use std::test::Fail;
 

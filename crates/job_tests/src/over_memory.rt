@@ -121,8 +121,8 @@ pub(crate) struct Run<'a> {
     // the parts of the input, and how many of its bytes stand
     pub(crate) input: &'a [&'a str],
     pub(crate) length: usize,
-    // words of the input and of the output, what stands in their first place in the input, and in the
-    // output
+    // words of the input and of the output, what stands in their first place in the input, and in
+    // the output
     pub(crate) old: &'a str,
     pub(crate) new: &'a str,
     pub(crate) printed: &'a str,

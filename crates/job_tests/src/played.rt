@@ -1,8 +1,8 @@
 //! Steps over files that a test plays, with each call failing in turn.
 
 use crate::steps::Seven;
+use file_folders::HostFolder;
 use file_step::convert_file;
-use front_run::HostFolder;
 use std::alloc::{Allocator, Global};
 use std::cell::Cell;
 use std::fs::{Metadata, OpenFile, OpenOptions};

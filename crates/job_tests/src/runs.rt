@@ -2,14 +2,12 @@
 
 ghost use Rattle.std.specs.Prelude.{◌≡◌};
 
-use file_form::{Kind, Target};
+use file_folders::MemFolder;
+use file_form::{Kind, Target, Values};
+use file_step::Untold;
 use file_texts::Refusal;
-use front_plan::Values;
-use front_run::{
-    MemFolder, Outcome, Plan, Sourced, Stop, Teller, Told, convert_one, convert_source, finish,
-};
+use front_run::{Outcome, Plan, Sourced, Stop, Teller, Told, convert_one, convert_source, finish};
 use nav_io::{Failed, MemSink, MemSource};
-use peek_io::Untold;
 use receiver_log::Unheard;
 use std::alloc::{AllocError, Global};
 use std::test::Fail;
@@ -218,7 +216,7 @@ fn ends_so(alloc: Global, case: &Case) -> Result<bool, AllocError> {
         fails: case.fails,
         faults: 0,
     };
-    let status = finish(&plan, outcome, "out", "part", &mut hearer);
+    let status = finish(&plan, &outcome, "out", "part", &mut hearer);
     Ok(
         is_end
             && status == case.status

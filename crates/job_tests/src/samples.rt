@@ -211,8 +211,8 @@ pub(crate) static TEXTS: [Text; 11] = [
             "     1.974410205000D+04 1.713361740000D+00-2.793967724000D-09 0.000000000000D+00\n",
         ),
     },
-    // A file as other programs write it: version 4.00, the exponent letter e, lines that end with CR LF,
-    // no fit interval, a transmission time that is not known, and records of other kinds.
+    // A file as other programs write it: version 4.00, the exponent letter e, lines that end with
+    // CR LF, no fit interval, a transmission time that is not known, and records of other kinds.
     Text {
         name: "FOREIGN",
         text: concat!(

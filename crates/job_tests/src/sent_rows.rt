@@ -114,8 +114,9 @@ static SENT: [Run; 12] = [
         output: &["7 EPH E11 5 whole\n9 ION E 00000000000 whole\n"],
         ..RUN
     },
-    // The lines in three orders, each at least once: backwards and again backwards, and by the digits of
-    // two numbers. The transmission time and the epoch of the ionosphere are those of word 5, at toe.
+    // The lines in three orders, each at least once: backwards and again backwards, and by the
+    // digits of two numbers. The transmission time and the epoch of the ionosphere are those of
+    // word 5, at toe.
     Run {
         words: TO_RINEX,
         input: &[

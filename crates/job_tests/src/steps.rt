@@ -1,6 +1,7 @@
 //! A conversion for tests.
 
-ghost use Rattle.std.specs.Prelude.{◌≡◌, ◌≢◌, ◌⊎◌, ℕ, List, Option, IfSome, IfErr, OnOk, codes};
+ghost use Rattle.std.specs.Prelude.{◌≡◌, ◌≢◌, ◌⊎◌, ℕ};
+ghost use Rattle.std.specs.Prelude.{List, Option, IfSome, IfErr, OnOk, codes};
 
 use file_step::Conversion;
 use nav_io::{Sink, Source};

@@ -122,8 +122,8 @@ fn counts_frames(rt: HostRuntime) -> Result<(), Fail> {
 // How many bytes the frame of the ephemeris of GPS has.
 const LENGTH: usize = 67;
 
-// Whether no frame is found where that frame is cut at this place, or where some bits of the byte at
-// this place are turned.
+// Whether no frame is found where that frame is cut at this place, or where some bits of the byte
+// at this place are turned.
 fn finds_none(alloc: Global, place: usize, mask: u8) -> Result<bool, AllocError> {
     let mut frame = expand(alloc, &["{GPS_FRAME}"], "", "")?;
     if mask == 0 {

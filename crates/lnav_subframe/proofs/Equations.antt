@@ -67,7 +67,7 @@ good_from_parity word last bits parity source_bits is same =
     }
 
 -- six facts, one for each bit
-six : (P : ℕ → Type 0) → P 0 → P 1 → P 2 → P 3 → P 4 → P 5 → (k : ℕ) → k < 6 → P k
+pub six : (P : ℕ → Type 0) → P 0 → P 1 → P 2 → P 3 → P 4 → P 5 → (k : ℕ) → k < 6 → P k
 six P a b c d e f zero h = a
 six P a b c d e f (suc zero) h = b
 six P a b c d e f (suc (suc zero)) h = c

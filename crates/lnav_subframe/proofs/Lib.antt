@@ -1,6 +1,7 @@
 pub mod Sums
 pub mod WordBits
 pub mod Equations
+pub mod Lookups
 pub mod ParityWords
 pub mod Choice
 pub mod ParityFunctions

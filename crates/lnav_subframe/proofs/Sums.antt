@@ -1,43 +1,7 @@
--- Sums of bits under a mask, and over the rows of the table.
-use Rattle.std.proofs.Common.{◌≡◌, ℕ, zero, suc, ◌+◌, ◌-◌, ◌*◌, ◌%◌, ◌^◌, ◌<◌, ◌≤◌, min, map, sum, bit_and, refl, sym, ap, ◌∙◌, arith}
-use Rattle.std.specs.Int.{bit_at}
-use lib.Count.{ones as count_ones}
-use Rattle.std.proofs.Math.Nat.{mod-one, mod-eq_of_lt}
-use Rattle.std.proofs.lemmas.Nat.{mod-pow-add, ones_cat, mod_below, pow_pos, and_le_l}
-use Rattle.std.proofs.lemmas.Nat.Bits.{bit_at_and, bit_at-lt}
+-- Sums of bits under the masks of the rows of the table, and over the rows.
+use Rattle.std.proofs.Common.{◌≡◌, ℕ, ◌+◌, ◌-◌, ◌≤◌, map, sum, arith}
 use Rattle.lnav_subframe.specs.ParityMirrors.{masked_sum}
 use Rattle.lnav_subframe.specs.Parity.{row_25, row_26, row_27, row_28, row_29, row_30}
-
--- the number of ones of a single bit is its value
-ones_bit : (b : ℕ) → b < 2 → count_ones b ≡ b
-unfolding count_ones
-ones_bit zero h = refl
-ones_bit (suc zero) h = refl
-ones_bit (suc (suc n)) h = absurd (omega arith)
-
-min_bits : (a b : ℕ) → a < 2 → b < 2 → min a b ≡ b * a
-min_bits zero b p q = omega arith
-min_bits (suc zero) b p q = omega arith
-min_bits (suc (suc a)) b p q = absurd (omega arith)
-
--- the ones of a number under a mask are the sum of its bits there
-ones_masked : (n mask k : ℕ) → count_ones (bit_and n mask % 2 ^ k) ≡ masked_sum k mask (bit_at n)
-unfolding masked_sum
-ones_masked n mask zero = ap count_ones (mod-one (bit_and n mask)) ∙ ones_bit 0 (omega arith)
-ones_masked n mask (suc k) =
-    let x = bit_and n mask in
-    let e : suc k ≡ 1 + k = omega arith in
-    let digit : bit_at x k ≡ bit_at mask k * bit_at n k =
-    bit_at_and n mask k ∙ min_bits (bit_at n k) (bit_at mask k) (bit_at-lt n k) (bit_at-lt mask k) in
-    let parts : count_ones (x % 2 ^ suc k) ≡ count_ones (bit_at x k) + count_ones (x % 2 ^ k) =
-    ap (λ m. count_ones (x % 2 ^ m)) e ∙ ap count_ones (mod-pow-add x 1 k)
-    ∙ ones_cat k (bit_at x k) (x % 2 ^ k) (mod_below x (2 ^ k) (pow_pos k)) in
-    omega (arith, parts, ones_bit (bit_at x k) (bit_at-lt x k), digit, ones_masked n mask k)
-
--- the same for a number of k bits
-pub ones_masked_all : (n mask k : ℕ) → n < 2 ^ k → count_ones (bit_and n mask) ≡ masked_sum k mask (bit_at n)
-ones_masked_all n mask k fits =
-    ap count_ones (sym (mod-eq_of_lt (omega (arith, and_le_l n mask)))) ∙ ones_masked n mask k
 
 -- the masks are the rows of the table
 pub masked_sum-row_25 : (f : ℕ → ℕ) → masked_sum 26 0x2EC7CD2 f ≡ f 25 + sum (map (λ n. f (24 - n)) row_25)

@@ -3,7 +3,8 @@ use nav_bits::{Layout, S, U, put_numbers};
 /// The fields of subframe 1 in its 300 bits (IS-GPS-200, figure 20-1, sheet 1).
 #[derive(Clone, Copy)]
 pub struct Subframe1 {
-    /// TOW count of the HOW: the start of the next subframe, in units of 6 s from the start of the week.
+    /// TOW count of the HOW: the start of the next subframe, in units of 6 s from the start of the
+    /// week.
     pub tow_count: U<17>,
     /// The week number, modulo 1024.
     pub wn: U<10>,

@@ -4,7 +4,8 @@ use nav_bits::{Layout, U, put_numbers};
 /// Written, it is a page of subframe 4 or 5 whose other data bits are 0.
 #[derive(Clone, Copy)]
 pub struct Head {
-    /// TOW count of the HOW: the start of the next subframe, in units of 6 s from the start of the week.
+    /// TOW count of the HOW: the start of the next subframe, in units of 6 s from the start of the
+    /// week.
     pub tow_count: U<17>,
     /// The subframe ID.
     pub number: U<3>,

@@ -33,8 +33,8 @@ pub fn refused_by_the_first_fault()
         (subframe_of bits sat stamp ≡ Err fault) ↔ IsFirstFault bits fault }
 {}
 
-/// A part that is read has the stamp and satellite given, has a body that a GPS satellite sends, and
-/// has its fields within their widths in bits.
+/// A part that is read has the stamp and satellite given, has a body that a GPS satellite sends,
+/// and has its fields within their widths in bits.
 pub fn subframe_parts()
     ensures stamp { (bits : List ℕ) (sat : Satellite) (stamp : ℕ) (part : Part) →
         subframe_of bits sat stamp ≡ Ok part → part.stamp ≡ stamp }
@@ -54,8 +54,8 @@ pub fn subframes_are_the_function()
         AreBytes 38 bits → IsWritten body tow_count bits → bits ≡ subframe_bytes body tow_count }
 {}
 
-/// The bytes of `subframe_bytes` are a subframe with these fields and this TOW count, and reading them
-/// gives these fields.
+/// The bytes of `subframe_bytes` are a subframe with these fields and this TOW count, and reading
+/// them gives these fields.
 pub fn subframe_bytes_are_written()
     ensures written { (body : SubframeOut) (tow_count : ℕ) → HasBits body → tow_count < 100800 →
         IsWritten body tow_count (subframe_bytes body tow_count) }

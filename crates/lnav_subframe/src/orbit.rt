@@ -3,7 +3,8 @@ use nav_bits::{Layout, S, U, put_numbers};
 /// The fields of subframe 2 in its 300 bits (IS-GPS-200, figure 20-1, sheet 2).
 #[derive(Clone, Copy)]
 pub struct Subframe2 {
-    /// TOW count of the HOW: the start of the next subframe, in units of 6 s from the start of the week.
+    /// TOW count of the HOW: the start of the next subframe, in units of 6 s from the start of the
+    /// week.
     pub tow_count: U<17>,
     /// Issue of data, ephemeris (IODE).
     pub iode: U<8>,
@@ -112,7 +113,8 @@ impl Layout for Subframe2 {
 /// The fields of subframe 3 in its 300 bits (IS-GPS-200, figure 20-1, sheet 3).
 #[derive(Clone, Copy)]
 pub struct Subframe3 {
-    /// TOW count of the HOW: the start of the next subframe, in units of 6 s from the start of the week.
+    /// TOW count of the HOW: the start of the next subframe, in units of 6 s from the start of the
+    /// week.
     pub tow_count: U<17>,
     /// Amplitude of the cosine harmonic correction to the inclination, in 2^-29 rad.
     pub cic: S<16>,

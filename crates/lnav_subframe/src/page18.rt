@@ -3,7 +3,8 @@ use nav_bits::{Layout, S, U, put_numbers};
 /// The fields of page 18 of subframe 4 in its 300 bits (IS-GPS-200, figure 20-1, sheet 8).
 #[derive(Clone, Copy)]
 pub struct Page18 {
-    /// TOW count of the HOW: the start of the next subframe, in units of 6 s from the start of the week.
+    /// TOW count of the HOW: the start of the next subframe, in units of 6 s from the start of the
+    /// week.
     pub tow_count: U<17>,
     /// In 2^-30 s.
     pub alpha0: S<8>,

@@ -165,10 +165,10 @@ fn digits(body: &SubframeOut)
     }
 }
 
-/// The 300 bits of a subframe of the LNAV message (IS-GPS-200, figure 20-1), followed by four 0 bits.
-/// `tow_count` is the TOW count of the HOW: the start of the next subframe in units of 6 s from the
-/// start of the week. TLM message, alert and anti-spoof flags, AODO and reserved bits are 0, the data ID
-/// of subframes 4 and 5 is 1, and words 2 and 10 end in two 0 bits.
+/// The 300 bits of a subframe of the LNAV message (IS-GPS-200, figure 20-1), followed by four 0
+/// bits. `tow_count` is the TOW count of the HOW: the start of the next subframe in units of 6 s
+/// from the start of the week. TLM message, alert and anti-spoof flags, AODO and reserved bits are
+/// 0, the data ID of subframes 4 and 5 is 1, and words 2 and 10 end in two 0 bits.
 pub fn write_subframe(body: &SubframeOut, tow_count: U<17>) -> Bits<38>
     requires week { tow_count < 100800 }
     requires page { IsWritable body.now }

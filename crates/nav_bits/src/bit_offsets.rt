@@ -1,4 +1,5 @@
-ghost use Rattle.std.specs.Prelude.{◌≡◌, ℕ, ◌+◌, ◌*◌, ◌^◌, ◌<◌, ◌≤◌, length};
+ghost use Rattle.std.specs.Prelude.{◌≡◌, ℕ, ◌+◌, ◌*◌};
+ghost use Rattle.std.specs.Prelude.{◌^◌, ◌<◌, ◌≤◌, length};
 ghost use Rattle.nav_bits.specs.Bits.{number_at, Puts};
 
 // The unsigned value of `width` bits of one byte, after its first `skip` bits.
@@ -117,8 +118,8 @@ fn put_in_eight(bytes: &mut [u8], first: usize, skip: usize, width: usize, value
     put_eight(bytes, first, word);
 }
 
-/// Writes a value of `width` bits from bit offset `at`, by one shift and mask where eight bytes hold
-/// them; all other bits stay.
+/// Writes a value of `width` bits from bit offset `at`, by one shift and mask where eight bytes
+/// hold them; all other bits stay.
 pub(crate) fn put_number(bytes: &mut [u8], at: usize, width: usize, value: u64)
     requires most { width ≤ 64 }
     requires inside { at + width ≤ 8 * length bytes.old }

@@ -1,4 +1,5 @@
-ghost use Rattle.std.specs.Prelude.{◌≡◌, ℕ, ◌+◌, ◌*◌, ◌^◌, ◌%◌, ◌<◌, ◌≤◌, List, slice_index, ℤ};
+ghost use Rattle.std.specs.Prelude.{◌≡◌, ℕ, ◌+◌, ◌*◌, ◌^◌, ◌%◌};
+ghost use Rattle.std.specs.Prelude.{◌<◌, ◌≤◌, List, slice_index, ℤ};
 ghost use Rattle.std.specs.Int.{bytes_high_first};
 ghost use Rattle.nav_bits.specs.Bits.{number_at, Puts};
 ghost use Rattle.nav_bits.specs.Fields.{Field, StandFrom, table_width};

@@ -4,7 +4,8 @@ ghost use Rattle.nav_eph.specs.Bodies.{IsGalHealth, IsGalIon, IsGpsIon, IsGpsSid
 ghost use Rattle.nav_eph.specs.Conditions.{same_part};
 ghost use Rattle.nav_eph.specs.Items.{IsAlike, is_alike, same_item};
 ghost use Rattle.nav_eph.specs.Ranks.{rank};
-ghost use Rattle.nav_eph.specs.Numbers.{gal_ion_number, gal_transmission, gps_ion_number, gps_transmission};
+ghost use Rattle.nav_eph.specs.Numbers.{gal_ion_number, gal_transmission};
+ghost use Rattle.nav_eph.specs.Numbers.{gps_ion_number, gps_transmission};
 ghost use Rattle.nav_eph.specs.Numbers.{health_number, side_number, tag_number};
 ghost use Rattle.nav_eph.specs.declared.items.NavItem.{NavItem};
 ghost use Rattle.nav_eph.specs.declared.part.Part.{Part};

@@ -1,9 +1,10 @@
 -- Items that are kept while records are read, and written at the end.
-use Rattle.std.proofs.Common.{◌≡◌, ◌⊎◌, inl, inr, ◌↔◌, ℕ, List, [], ◌∷◌, ◌++◌, Contains, refl, sym, ap, subst, ◌∙◌, arith, append_assoc, append-nil}
+use Rattle.std.proofs.Common.{◌≡◌, ◌⊎◌, inl, inr, ◌↔◌, ℕ, List, [], ◌∷◌, ◌++◌, Contains, refl, sym, ap, subst, ◌∙◌, arith, append_assoc, append-nil, ◌+◌, ◌<◌, get_or, drop, length, add-one, drop-cons}
 use Rattle.std.specs.Prelude.{Option, Result, Ok, Err, MatchResult}
 use Rattle.std.specs.List.{flat_map}
 use Rattle.std.specs.Io.KnownBytes.{Appends}
 use Rattle.std.proofs.KnownBytes.{Appends-nil, Appends-trans}
+use Rattle.std.proofs.lemmas.Grind.{flat_map-append}
 use Rattle.std.proofs.lemmas.List.Elements.{Contains-append_left, Contains-push, Contains-push_cases}
 use Rattle.nav_io.specs.Causes.{HasCause}
 use Rattle.nav_io.specs.Prefix.{AppendsPrefix}
@@ -43,6 +44,24 @@ pub wrote_prefix : {X : Type 0} (text : X → List ℕ) (all left rest : List X)
 wrote_prefix text all left rest x w w1 w2 e h (prefix, (more, is), grew) =
     subst (AppendsPrefix w w2) (sym (h.is ∙ ap (λ l. h.done ++ flat_map text l) e))
     (prefix_behind w w1 w2 h.done (text x ++ flat_map text rest) h.grew
+    (prefix, (more ++ flat_map text rest, ap (λ l. l ++ flat_map text rest) is ∙ append_assoc prefix more (flat_map text rest)), grew))
+
+-- the next of a slice
+pub next_of : {X : Type 0} (xs : List X) (i : ℕ) (x : X) → i < length xs → x ≡ get_or xs i x → drop i xs ≡ x ∷ drop (i + 1) xs
+next_of xs i x h e = drop-cons xs i x h ∙ (λ j. sym e j ∷ drop (sym (add-one i) j) xs)
+
+-- several at once
+pub wrote_few : {X : Type 0} (text : X → List ℕ) (all left few rest : List X) (w w1 w2 : Option (List ℕ)) → left ≡ few ++ rest → WroteSome text all left w w1 → Appends w1 w2 (flat_map text few) → WroteSome text all rest w w2
+wrote_few text all left few rest w w1 w2 e h more = record {
+  done = h.done ++ flat_map text few;
+  grew = Appends-trans w w1 w2 h.done (flat_map text few) h.grew more;
+  is = h.is ∙ ap (λ l. h.done ++ flat_map text l) e ∙ ap (λ l. h.done ++ l) (flat_map-append text few rest) ∙ sym (append_assoc h.done (flat_map text few) (flat_map text rest));
+}
+
+pub wrote_few_prefix : {X : Type 0} (text : X → List ℕ) (all left few rest : List X) (w w1 w2 : Option (List ℕ)) → left ≡ few ++ rest → WroteSome text all left w w1 → AppendsPrefix w1 w2 (flat_map text few) → AppendsPrefix w w2 (flat_map text all)
+wrote_few_prefix text all left few rest w w1 w2 e h (prefix, (more, is), grew) =
+    subst (AppendsPrefix w w2) (sym (h.is ∙ ap (λ l. h.done ++ flat_map text l) e ∙ ap (λ l. h.done ++ l) (flat_map-append text few rest)))
+    (prefix_behind w w1 w2 h.done (flat_map text few ++ flat_map text rest) h.grew
     (prefix, (more ++ flat_map text rest, ap (λ l. l ++ flat_map text rest) is ∙ append_assoc prefix more (flat_map text rest)), grew))
 
 -- a write that failed after others that did not

@@ -6,7 +6,8 @@ ghost use Rattle.std.specs.Io.KnownBytes.{Appends};
 ghost use Rattle.nav_io.specs.Prefix.{AppendsPrefix};
 ghost use Rattle.outlets.specs.Targets.{item_text};
 ghost use Rattle.one_run.specs.Causes.{HasItsCause, faults_of};
-ghost use Rattle.nav_files.specs.Files.{convert_report, convert_text, counts_of_reads, read_report, read_text};
+ghost use Rattle.nav_files.specs.Files.{convert_report, convert_text};
+ghost use Rattle.nav_files.specs.Files.{counts_of_reads, read_report, read_text};
 ghost use Rattle.nav_files.specs.Mirrors.{AreCounted};
 
 use crate::counts::{RinexCounts, file_counts_text};

@@ -32,8 +32,8 @@ impl RinexCounts {
     }
 }
 
-/// The text of the counts of a navigation file: a line for each, its name, a space and the number, in the order of the
-/// fields.
+/// The text of the counts of a navigation file: a line for each, its name, a space and the number,
+/// in the order of the fields.
 #[tactic(auto, unfolding(crate::specs::Files::file_counts_text))]
 pub fn file_counts_text(counts: &RinexCounts) -> Text
     ensures { result.items ≡ file_counts_text counts.now }

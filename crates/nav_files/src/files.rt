@@ -14,19 +14,22 @@ use one_run::BridgeFault;
 use outlets::Target;
 use rinex_read::{Rinex3, Rinex4};
 
-/// Reads a navigation file of RINEX 4 to its end, and writes what it is converted to while it reads.
+/// Reads a navigation file of RINEX 4 to its end, and writes what it is converted to while it
+/// reads.
 ///
-/// First the header is checked. Then the leading text is written, and after each record the conversion of its item, repeats
-/// included: a RINEX record, an RTCM frame or a line of a list. A refused record gives a line of the report, with the number
-/// of its first line, and the report ends with the counts.
+/// First the header is checked. Then the leading text is written, and after each record the
+/// conversion of its item, repeats included: a RINEX record, an RTCM frame or a line of a list. A
+/// refused record gives a line of the report, with the number of its first line, and the report
+/// ends with the counts.
 ///
 /// # Errors
 ///
 /// - `NotThisForm` exactly where the header is refused; nothing is written then.
-/// - `ReadFault`, `WriteFault`, `ReportFault` only where the fault count of the input, the output or the report rose, or is at
-///   its maximum. After a failed read exactly what the records give that are complete in the bytes read was written and
-///   reported: those that are followed by the complete first line of another. After any other fault at least what is written
-///   before the last of the records that are complete in all bytes read but the last 4,096.
+/// - `ReadFault`, `WriteFault`, `ReportFault` only where the fault count of the input, the output
+///   or the report rose, or is at its maximum. After a failed read exactly what the records give
+///   that are complete in the bytes read was written and reported: those that are followed by the
+///   complete first line of another. After any other fault at least what is written before the last
+///   of the records that are complete in all bytes read but the last 4,096.
 /// - `TooLong` only where 4,294,967,295 bytes were read and there was one more.
 ///
 /// It allocates no memory.
@@ -44,8 +47,9 @@ pub fn run_rinex<S: Source, T: Sink, U: Sink>(
     run_file::<Rinex4, Target, S, T, U>(&to.target(), &mut counts, input, output, report)
 }
 
-/// Reads a navigation file of RINEX 3 to its end, and writes what it is converted to while it reads, as [`run_rinex`]
-/// does: the ephemerides of GPS and those of Galileo from I/NAV (RINEX 3.05).
+/// Reads a navigation file of RINEX 3 to its end, and writes what it is converted to while it
+/// reads, as [`run_rinex`] does: the ephemerides of GPS and those of Galileo from I/NAV (RINEX
+/// 3.05).
 ///
 /// # Errors
 ///

@@ -23,8 +23,9 @@ pub fn what_is_written_is_the_sent_text()
         ≡ text_of_items (slots_items slot (sendable r slot (items_of reads))) }
 {}
 
-/// What a run writes of files is the text of a list: of the items of the file, of the merged list, or of the times that the items
-/// cover. A header stands before it where that of the file is accepted.
+/// What a run writes of files is the text of a list: of the items of the file, of the merged list,
+/// or of the times that the items cover. A header stands before it where that of the file is
+/// accepted.
 pub fn what_is_written_is_the_text_of_a_list()
     ensures rinex { (f : Form) (words : HeaderWords) (bytes : List ℕ) → IsOk (file_reads f bytes)
         → (convert_meaning f (targets.Rinex words)).whole.output bytes

@@ -1,11 +1,13 @@
-//! The runs over RINEX navigation files: converted, transmitted, merged, and the times that they cover.
+//! The runs over RINEX navigation files: converted, transmitted, merged, and the times that they
+//! cover.
 //!
-//! - [`run_rinex`] and [`run_rinex3`], over the records of a file (RINEX 4.01 and 3.05): each item, in
-//!   the order of the file;
-//! - [`send_rinex`] and [`send_rinex3`]: the bits that satellites would send of the ephemerides of a
-//!   file (IS-GPS-200, 20.3.2; Galileo OS SIS ICD, 4.3.2), as a capture with a slot of six hours each;
-//! - [`run_merge`], one file with the merged list of the items of several files that are concatenated,
-//!   and [`run_cover`], a line for each range of time that their ephemerides cover.
+//! - [`run_rinex`] and [`run_rinex3`], over the records of a file (RINEX 4.01 and 3.05): each item,
+//!   in the order of the file;
+//! - [`send_rinex`] and [`send_rinex3`]: the bits that satellites would send of the ephemerides of
+//!   a file (IS-GPS-200, 20.3.2; Galileo OS SIS ICD, 4.3.2), as a capture with a slot of six hours
+//!   each;
+//! - [`run_merge`], one file with the merged list of the items of several files that are
+//!   concatenated, and [`run_cover`], a line for each range of time that their ephemerides cover.
 //!
 //! The output and the report of a run are functions of the bytes that it took: `specs/Files.antt`,
 //! `specs/Sends.antt` and `specs/Archives.antt` state them. A fault leaves a prefix of each.

@@ -39,13 +39,25 @@ pub(crate) struct Merging {
     pub(crate) words: HeaderWords,
 }
 
-// Writes the items of a list.
-fn write_items<T: Sink>(merge: &mut Merge, out: &mut T) -> Result<(), Failed>
+// Writes some items.
+fn write_few<T: Sink>(items: &[NavItem], out: &mut T) -> Result<(), Failed>
     ensures { Writes (T.written out.old) (T.written out.new) (T.faults out.old) (T.faults out.new)
-        result (flat_map rinex_item merge.old) }
+        result (flat_map rinex_item items.now) }
 {
-    'items: while let Some(item) = merge.take_first() {
-        write_item(&item, out)?;
+    'items: for item in items {
+        write_item(item, out)?;
+    }
+    Ok(())
+}
+
+// Writes the items of a list.
+fn write_items<T: Sink>(merge: &Merge, out: &mut T) -> Result<(), Failed>
+    ensures { Writes (T.written out.old) (T.written out.new) (T.faults out.old) (T.faults out.new)
+        result (flat_map rinex_item merge.now) }
+{
+    let mut left = merge.items();
+    'items: while let Some(few) = left.next_few() {
+        write_few(few.as_slice(), out)?;
     }
     Ok(())
 }
@@ -141,7 +153,7 @@ impl Taker for Merging {
     }
 
     fn finish<T: Sink>(&self, state: &mut Merged, output: &mut T) -> Result<(), Failed> {
-        write_items(&mut state.merge, output)
+        write_items(&state.merge, output)
     }
 
     fn counts_text(&self, counts: &MergeCounts) -> Text {

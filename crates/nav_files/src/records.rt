@@ -1,6 +1,7 @@
 //! The records of a navigation file, one after another.
 
-ghost use Rattle.std.specs.Prelude.{◌≡◌, ◌+◌, ◌^◌, ◌<◌, ◌≤◌, length, IsTrue, IsErrOf, IfOk, IfErr, IfSome, IfNone};
+ghost use Rattle.std.specs.Prelude.{◌≡◌, ◌+◌, ◌^◌, ◌<◌, ◌≤◌};
+ghost use Rattle.std.specs.Prelude.{length, IsTrue, IsErrOf, IfOk, IfErr, IfSome, IfNone};
 ghost use Rattle.rinex_read.specs.States.{GivesNone, GivesRead};
 ghost use Rattle.rinex_read.specs.RoundTrip.{IsWholeRead};
 ghost use Rattle.rinex_read.specs.declared.judged.HeaderState.TheVariants.{Passed};
@@ -59,13 +60,13 @@ pub fn count_read(read: &ItemRead, counts: &mut RinexCounts)
     counts.records += 1;
 }
 
-/// The next record; `None` at the end of the file. An item that is read is whole: its fields fit their widths in bits, and
-/// its parts fit together.
+/// The next record; `None` at the end of the file. An item that is read is whole: its fields fit
+/// their widths in bits, and its parts fit together.
 ///
 /// # Errors
 ///
-/// `ReadFault` only where the input's fault count rose or is at its maximum; `TooLong` only where 4,294,967,295 bytes were
-/// read and there was one more.
+/// `ReadFault` only where the input's fault count rose or is at its maximum; `TooLong` only where
+/// 4,294,967,295 bytes were read and there was one more.
 pub fn next_read<F: FileForm, S: Source>(
     records: &mut RecordReader<F>,
     input: &mut S,

@@ -15,20 +15,22 @@ use rinex_read::Rinex4;
 use rinex_write::HeaderWords;
 use std::alloc::Global;
 
-/// Reads navigation files of RINEX 4, concatenated, to their end, and writes one file with the merged list of
-/// their items.
+/// Reads navigation files of RINEX 4, concatenated, to their end, and writes one file with the
+/// merged list of their items.
 ///
-/// The header is checked first, and that of the merged file is written. A refused record gives a line of the report, with
-/// the number of its first line. At the end of the input the items are written in order of rank, of alike items the one
-/// with the earliest transmission time, and the counts are reported.
+/// The header is checked first, and that of the merged file is written. A refused record gives a
+/// line of the report, with the number of its first line. At the end of the input the items are
+/// written in order of rank, of alike items the one with the earliest transmission time, and the
+/// counts are reported.
 ///
 /// # Errors
 ///
 /// - `NotThisForm` exactly where the header is refused; nothing is written then.
-/// - `ReadFault`, `WriteFault`, `ReportFault` only where the fault count of the input, the output or the report rose, or is
-///   at its maximum. After a failed read only the header was written, and exactly the refusals of the records that are
-///   complete in the bytes read were reported. After any other fault the header was written where a record is complete in
-///   all bytes read but the last 4,096.
+/// - `ReadFault`, `WriteFault`, `ReportFault` only where the fault count of the input, the output
+///   or the report rose, or is at its maximum. After a failed read only the header was written, and
+///   exactly the refusals of the records that are complete in the bytes read were reported. After
+///   any other fault the header was written where a record is complete in all bytes read but the
+///   last 4,096.
 /// - `TooLong` only where 4,294,967,295 bytes were read and there was one more.
 /// - `NoMemory` when memory for the items is missing.
 pub fn run_merge<S: Source, T: Sink, U: Sink>(
@@ -50,8 +52,9 @@ pub fn run_merge<S: Source, T: Sink, U: Sink>(
     run_file::<Rinex4, Merging, S, T, U>(&merging, &mut state, input, output, report)
 }
 
-/// Reads navigation files of RINEX 4, concatenated, to their end, and writes the times for which they have an
-/// ephemeris: a line for each range, with the satellite, the first second and the second after the last, in GPS time.
+/// Reads navigation files of RINEX 4, concatenated, to their end, and writes the times for which
+/// they have an ephemeris: a line for each range, with the satellite, the first second and the
+/// second after the last, in GPS time.
 ///
 /// Refusals and counts are reported as by [`run_merge`].
 ///

@@ -1,6 +1,7 @@
 //! The run over a navigation file, whatever is done with its records.
 
-ghost use Rattle.std.specs.Prelude.{◌≡◌, ◌⊎◌, ◌+◌, ◌^◌, ◌<◌, ◌++◌, ◌∷◌, ℕ, Bool, true, List, [], Option, length};
+ghost use Rattle.std.specs.Prelude.{◌≡◌, ◌⊎◌, ◌+◌, ◌^◌, ◌<◌, ◌++◌};
+ghost use Rattle.std.specs.Prelude.{◌∷◌, ℕ, Bool, true, List, [], Option, length};
 ghost use Rattle.std.specs.Prelude.{IsTrue, IsErrOf, IfErr, MatchResult, OnOk};
 ghost use Rattle.std.specs.Io.KnownBytes.{Appends};
 ghost use Rattle.nav_io.specs.Causes.{HasCause};
@@ -24,7 +25,8 @@ use rinex_read::{
     steps_compose, whole_records_are_given,
 };
 
-/// What a run does with the records of a file, in order. Its settings do not change; what it holds of the records is its state.
+/// What a run does with the records of a file, in order. Its settings do not change; what it holds
+/// of the records is its state.
 pub trait Taker {
     type State;
 
@@ -48,8 +50,8 @@ pub trait Taker {
     // The state is that after these records.
     ghost holds: { Self → Self.State → List ItemRead → Type 0 };
 
-    // What was written and reported is a prefix of the whole, and of what is written of more records; at first nothing is
-    // reported.
+    // What was written and reported is a prefix of the whole, and of what is written of more
+    // records; at first nothing is reported.
     fn begins(&self)
         ensures grows { (some more : List ItemRead)
             → IsPrefix (text self.now some) (text self.now (some ++ more)) }
@@ -103,7 +105,8 @@ pub trait Taker {
         ensures { (reads : List ItemRead) → holds self.now state.now reads
             → result ≡ count self.now reads };
 
-    // Writes the text at the end of a file. Where that fails, all that belongs to its records was written before.
+    // Writes the text at the end of a file. Where that fails, all that belongs to its records was
+    // written before.
     fn finish<T: Sink>(&self, state: &mut Self::State, output: &mut T) -> Result<(), Failed>
         ensures output { (reads : List ItemRead) (start : Option (List ℕ))
             → holds self.now state.old reads
@@ -158,7 +161,8 @@ fn process_records<F: FileForm, K: Taker, S: Source, T: Sink, U: Sink>(
 
 /// Reads a navigation file of a form to its end.
 ///
-/// The header is checked first; then the records are processed in order, and at the end the counts are reported.
+/// The header is checked first; then the records are processed in order, and at the end the counts
+/// are reported.
 pub fn run_file<F: FileForm, K: Taker, S: Source, T: Sink, U: Sink>(
     taker: &K,
     state: &mut K::State,

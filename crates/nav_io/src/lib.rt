@@ -25,7 +25,8 @@
 //! ```
 #![tactic(auto)]
 
-ghost use Rattle.std.specs.Prelude.{ℕ, ◌≤◌, List, length, Option, Bool, IsTrue, IsOk, MatchResult};
+ghost use Rattle.std.specs.Prelude.{ℕ, ◌≤◌, List, length, Option};
+ghost use Rattle.std.specs.Prelude.{Bool, IsTrue, IsOk, MatchResult};
 ghost use Rattle.std.specs.Io.{ReadsAtMost};
 ghost use Rattle.std.specs.Io.KnownBytes.{Appends, ReadConsumes};
 ghost use Rattle.nav_io.specs.Causes.{HasCause};

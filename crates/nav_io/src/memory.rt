@@ -1,6 +1,7 @@
 //! A source and a sink over memory, with cuts and failing calls.
 
-ghost use Rattle.std.specs.Prelude.{◌≡◌, ◌+◌, ◌-◌, ◌^◌, ◌<◌, ◌≤◌, ◌↔◌, ◌⊎◌, []};
+ghost use Rattle.std.specs.Prelude.{◌≡◌, ◌+◌, ◌-◌, ◌^◌};
+ghost use Rattle.std.specs.Prelude.{◌<◌, ◌≤◌, ◌↔◌, ◌⊎◌, []};
 ghost use Rattle.std.specs.Prelude.{min, length, take, drop, IsTrue, IsOk, IsErr};
 ghost use Rattle.std.specs.Prelude.{IfOk, OnErr, MatchResult, Contains, None, Some};
 ghost use Rattle.std.specs.Io.{ReadsAtMost};

@@ -1,6 +1,7 @@
 //! The laws: each is the contract of an empty function.
 
-ghost use Rattle.std.specs.Prelude.{◌≡◌, ◌∷◌, ◌↔◌, ℕ, List, None, Some, All, Contains, codes};
+ghost use Rattle.std.specs.Prelude.{◌≡◌, ◌∷◌, ◌↔◌, ℕ};
+ghost use Rattle.std.specs.Prelude.{List, None, Some, All, Contains, codes};
 ghost use Rattle.std.specs.Prelude.{false};
 ghost use Rattle.nav_io.specs.Lines.{Line, lines_by};
 ghost use Rattle.nav_eph.specs.Ranges.{IsItem};
@@ -16,14 +17,16 @@ ghost use Rattle.page_send.specs.SentItems.{sent_items};
 ghost use Rattle.nav_laws.specs.SentCapture.{IsOfLines, IsStillHeard, sent_capture};
 ghost use Rattle.nav_laws.specs.SlotParts.{slots_parts};
 
-/// The items of the periods of the parts of all slots are those that come back of a transmitted list.
+/// The items of the periods of the parts of all slots are those that come back of a transmitted
+/// list.
 pub fn parts_of_slots_come_back()
     ensures { (r : ℕ) (items : List NavItem) → All IsItem items
         → items_in (periods_of r 7200 (slots_parts 0 (sendable r 0 items))) ≡ sent_items r items }
 {}
 
-/// The capture that transmits items begins with a head that names no week and a window of 7,200 s, its
-/// further lines are those of the slots, and exactly the parts of the slots are received from them.
+/// The capture that transmits items begins with a head that names no week and a window of 7,200 s,
+/// its further lines are those of the slots, and exactly the parts of the slots are received from
+/// them.
 pub fn what_is_sent_is_heard()
     ensures head { (r : ℕ) (items : List NavItem) → lines_by false (sent_text r items)
         ≡ record { text = plain_head; long = false } ∷ sent_capture r items }
@@ -54,8 +57,8 @@ pub fn what_is_sent_is_heard()
 /// What is transmitted comes back. Take a capture with a window of 7,200 s from whose further lines
 /// the same parts are received as from the transmission of a list of items. Its items are each
 /// ephemeris that may be transmitted, with the transmission time of its slot, unless it repeats the
-/// last one of its key in every field but that time; after each of Galileo the ionosphere of its slot;
-/// and no others.
+/// last one of its key in every field but that time; after each of Galileo the ionosphere of its
+/// slot; and no others.
 ///
 /// This holds for a capture whose lines with a stamp are lines of the transmission, late or not, as
 /// long as each part is still received; and for one that has the same lines in another order or

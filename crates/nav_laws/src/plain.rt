@@ -14,9 +14,9 @@ use std::marker::Model;
 /// An assembly that keeps every part, and searches them all for what is closed, as the definition
 /// says.
 ///
-/// A contract sees the reference week `reference`, the `window` in seconds, the `parts` that it keeps,
-/// the greatest `watermark` given, the `last` period given, and the greatest watermark `none_at` at
-/// which no period was due.
+/// A contract sees the reference week `reference`, the `window` in seconds, the `parts` that it
+/// keeps, the greatest `watermark` given, the `last` period given, and the greatest watermark
+/// `none_at` at which no period was due.
 #[derive(Drop)]
 pub struct PlainAssembly {
     parts: Vec<Part>,
@@ -50,7 +50,8 @@ impl PlainAssembly {
     ghost use Rattle.nav_laws.specs.Plain.{PlainStandsFor};
     ghost use Rattle.slot_assembly.specs.Standing.{nothing_yet};
 
-    /// An assembly without parts, for the reference week `r`, with a window of 60 to 14,400 seconds.
+    /// An assembly without parts, for the reference week `r`, with a window of 60 to 14,400
+    /// seconds.
     pub fn new(alloc: Global, r: RefWeek, window: u32) -> PlainAssembly
         requires least { 60 ≤ window }
         requires most { window ≤ 14400 }
@@ -93,8 +94,8 @@ impl Assembly for PlainAssembly {
     }
 
     fn next_closed(&mut self, watermark: u64) -> Result<Option<Closed>, AllocError> {
-        // No period was due at this watermark, and parts added since do not end before it; or no kept part
-        // is old enough.
+        // No period was due at this watermark, and parts added since do not end before it; or no
+        // kept part is old enough.
         if watermark <= self.none_at || watermark <= self.least as u64 + self.window as u64 {
             self.watermark = watermark;
             self.none_at = watermark;

@@ -1,5 +1,5 @@
 -- The ranges that a set of items covers: existence and uniqueness of their list.
-use Rattle.std.proofs.Common.{◌≡◌, ℕ, ◌+◌, ◌-◌, ◌<◌, ◌≤◌, ◌==◌, Bool, true, false, cond, List, [], ◌∷◌, ◌⊎◌, ◌↔◌, inl, inr, zero, suc, Option, Some, None, Contains, refl, sym, ap, subst, ◌∙◌, arith}
+use Rattle.std.proofs.Common.{◌≡◌, ℕ, ◌-◌, ◌<◌, ◌≤◌, ◌==◌, Bool, true, false, cond, List, [], ◌∷◌, ◌⊎◌, ◌↔◌, inl, inr, zero, suc, Option, Some, None, Contains, refl, sym, ap, subst, ◌∙◌, arith}
 use Rattle.std.specs.List.{filter_map, fold}
 use Rattle.std.specs.List.Sorted.{IsStrictlySortedBy}
 use Rattle.std.specs.BTreeSet.{insert_key}
@@ -13,7 +13,7 @@ use Rattle.nav_eph.specs.declared.items.NavItem.TheVariants.{Gps, Gal, Ion}
 use Rattle.nav_lists.specs.declared.range.CoverRange.{CoverRange}
 use Rattle.nav_lists.specs.Ranges.{InRange, around, by_place, span_of, half_of, joined_from, joined, AreFilled}
 use Rattle.nav_lists.specs.Covering.{CoversSecond, AreCovering, Precedes, Ascend, AreRanges, IsIn, AreCovers, covers_of, spans_of}
-use Rattle.nav_lists.proofs.SweepLemmas.{In, Ends, Apart, Formed, Upto, Rises, Rising, Lies, less_upto, rising_insert, lies_put, lies_back, lies_to, lies_from, formed, not_before_itself, before_through}
+use Rattle.nav_lists.proofs.SweepLemmas.{In, Ends, Apart, Rises, Rising, Lies, less_upto, rising_insert, lies_put, lies_back, lies_to, lies_from, formed, not_before_itself, before_through}
 
 -- membership by recursion and by place
 in_list : (xs : List CoverRange) (m : CoverRange) → Contains xs m → In m xs

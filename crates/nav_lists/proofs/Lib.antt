@@ -1,6 +1,7 @@
 mod SweepLemmas
 mod CoverLemmas
 mod Orders
+mod FrontLemmas
 mod InsertLemmas
 mod MergeLemmas
 mod HeldLemmas

@@ -1,10 +1,9 @@
 -- The merged list of a set of items: existence, uniqueness and laws.
-use Rattle.std.proofs.Common.{◌≡◌, ℕ, ◌<◌, ℤ, Bool, true, false, cond, int_lt, List, [], ◌∷◌, ◌++◌, length, ◌⊎◌, inl, inr, ◌↔◌, Contains, slice_index_or, suc, zero, refl, sym, ap, subst, ◌∙◌, arith, append_assoc, append-nil}
+use Rattle.std.proofs.Common.{◌≡◌, ℤ, Bool, true, false, cond, int_lt, List, [], ◌∷◌, ◌++◌, ◌⊎◌, inl, inr, ◌↔◌, Contains, suc, zero, refl, sym, ap, subst, ◌∙◌, arith, append_assoc, append-nil}
 use Rattle.std.specs.List.{fold}
-use Rattle.std.specs.declared.cmp.Ordering.{Ordering}
 use Rattle.std.specs.declared.cmp.Ordering.TheVariants.{Less, Equal, Greater}
 use Rattle.std.specs.Ordering.{int_cmp}
-use Rattle.std.proofs.lemmas.Cmp.{int_cmp_total, tied_itself, tied_back}
+use Rattle.std.proofs.lemmas.Cmp.{int_cmp_total, tied_itself}
 use Rattle.std.proofs.lemmas.Map.Lookups.{exact_signed}
 use Rattle.std.proofs.lemmas.List.Elements.{Contains-append_left, Contains-append_right, Contains-append_cases, Contains-push, Contains-push_cases}
 use Rattle.nav_eph.specs.Items.{IsAlike, unsent}
@@ -13,9 +12,8 @@ use Rattle.nav_eph.specs.declared.items.NavItem.{NavItem}
 use Rattle.nav_eph.specs.declared.items.NavItem.TheVariants.{Gps, Gal, Ion}
 use Rattle.nav_eph.specs.declared.items.SentSecond.{SentSecond}
 use Rattle.nav_eph.specs.declared.items.SentSecond.TheVariants.{Unknown, At}
-use Rattle.nav_lists.specs.Held.{resent}
 use Rattle.nav_lists.specs.Merging.{by_rank, with_item, earlier_of, is_sooner, IsEarliest, IsMerged, merged_of}
-use Rattle.nav_lists.proofs.Orders.{order, tied_alike, alike_tied}
+use Rattle.nav_lists.proofs.Orders.{tied_alike, alike_tied}
 use Rattle.nav_lists.proofs.InsertLemmas.{In, Ascends, ascends, sorted, Stood, as_before, chosen, new, stood, still, there, ascends_more, one_list, one_tied}
 
 -- membership by recursion and by place
@@ -83,15 +81,16 @@ same_second (At s) (At t) h k = ap At (exact_signed s t (λ i. cond (h i) Less (
 
 -- ---- items by their fields and their transmission time
 
-pub resent_own : (x : NavItem) → resent (unsent x) (sent_of x) ≡ x
+-- the item with its transmission time replaced; an ionosphere is unchanged
+abbrev resent : NavItem → SentSecond → NavItem
+resent (Gps e) second = Gps (record e { sent = second })
+resent (Gal e) second = Gal (record e { sent = second })
+resent (Ion e) second = Ion e
+
+resent_own : (x : NavItem) → resent (unsent x) (sent_of x) ≡ x
 resent_own (Gps e) = refl
 resent_own (Gal e) = refl
 resent_own (Ion e) = refl
-
-pub resent_unsent : (x : NavItem) (s : SentSecond) → resent (unsent x) s ≡ resent x s
-resent_unsent (Gps e) s = refl
-resent_unsent (Gal e) s = refl
-resent_unsent (Ion e) s = refl
 
 pub alike_same : (a b : NavItem) → IsAlike a b → is_sooner (sent_of a) (sent_of b) ≡ false → is_sooner (sent_of b) (sent_of a) ≡ false → a ≡ b
 alike_same a b e h k =

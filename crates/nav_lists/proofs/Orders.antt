@@ -1,18 +1,17 @@
 -- The order of items by rank is total, and items that compare equal are alike.
-use Rattle.std.proofs.Common.{◌≡◌, ℕ, ℤ, pos, Bool, true, false, List, [], ◌∷◌, ◌++◌, length, drop, suc, refl, sym, ap, subst, ◌∙◌, arith}
+use Rattle.std.proofs.Common.{◌≡◌, ℤ, List, [], ◌∷◌, ◌++◌, length, drop, suc, refl, sym, ap, ◌∙◌, arith}
 use Rattle.std.specs.Cmp.{IsTotalOrder}
 use Rattle.std.specs.Cmp.Lexicographic.{slice_cmp}
-use Rattle.std.specs.Ordering.{is_eq, int_cmp, ordering_then, eq_by_cmp}
+use Rattle.std.specs.Ordering.{int_cmp, ordering_then}
 use Rattle.std.specs.declared.cmp.Ordering.{Ordering}
 use Rattle.std.specs.declared.cmp.Ordering.TheVariants.{Less, Equal, Greater}
-use Rattle.std.proofs.lemmas.Cmp.{on_total, lists_total, int_cmp_total, eq_by_cmp_equiv, tied_itself}
+use Rattle.std.proofs.lemmas.Cmp.{on_total, lists_total, int_cmp_total, tied_itself}
 use Rattle.std.proofs.lemmas.Map.Lookups.{exact_signed}
 use Rattle.nav_eph.specs.Items.{IsAlike, unsent}
-use Rattle.nav_eph.specs.Ranks.{rank}
 use Rattle.nav_eph.specs.declared.items.NavItem.{NavItem}
 use Rattle.nav_eph.specs.declared.items.NavItem.TheVariants.{Gps, Gal, Ion}
 use Rattle.nav_eph.proofs.Surface.{ranks_alike}
-use Rattle.nav_lists.specs.Merging.{place, by_rank, moment_of, class_of}
+use Rattle.nav_lists.specs.Merging.{place, by_rank}
 
 pub order : IsTotalOrder by_rank
 order = on_total place (lists_total int_cmp_total)

@@ -1,5 +1,5 @@
 -- Sorted spans and the ranges that they are joined to.
-use Rattle.std.proofs.Common.{◌≡◌, ℕ, ◌+◌, ◌-◌, ◌<◌, ◌≤◌, ◌==◌, ◌&&◌, Bool, true, false, cond, leb, max, List, [], ◌∷◌, ◌⊎◌, inl, inr, refl, sym, ap, subst, ◌∙◌, arith}
+use Rattle.std.proofs.Common.{◌≡◌, ℕ, ◌<◌, ◌≤◌, ◌==◌, ◌&&◌, Bool, true, false, cond, leb, List, [], ◌∷◌, ◌⊎◌, inl, inr, refl, sym, ap, subst, ◌∙◌, arith}
 use Rattle.std.specs.BTreeSet.{insert_key}
 use Rattle.std.specs.Ordering.{match_ordering, nat_cmp, ordering_reverse, ordering_then}
 use Rattle.std.specs.declared.cmp.Ordering.{Ordering}
@@ -9,7 +9,7 @@ use Rattle.nav_eph.specs.Satellite.{Satellite, IsBefore, place_of}
 use Rattle.nav_eph.specs.declared.sat.System.{System}
 use Rattle.nav_eph.specs.declared.sat.System.TheVariants.{Gps, Gal}
 use Rattle.nav_lists.specs.declared.range.CoverRange.{CoverRange}
-use Rattle.nav_lists.specs.Ranges.{InRange, by_place, by_place_total, is_of_one, touches, drawn_out, joined_from, joined, AreFilled}
+use Rattle.nav_lists.specs.Ranges.{InRange, by_place, by_place_total, is_of_one, touches, drawn_out, joined_from}
 
 -- ---- satellites
 

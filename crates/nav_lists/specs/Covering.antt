@@ -1,5 +1,5 @@
 -- The times for which there is an ephemeris, as a list of ranges.
-use Rattle.std.specs.Prelude.{◌≡◌, ℕ, ◌<◌, ◌≤◌, ◌⊎◌, List, [], ◌∷◌}
+use Rattle.std.specs.Prelude.{◌≡◌, ℕ, ◌<◌, ◌⊎◌, List, [], ◌∷◌}
 use Rattle.std.specs.List.{Contains, filter_map, fold}
 use Rattle.std.specs.BTreeSet.{insert_key}
 use Rattle.nav_eph.specs.Items.{galileo_toe_moment, gps_toe_moment}

@@ -1,4 +1,4 @@
 pub mod Covering
 pub mod Ranges
-pub mod Held
 pub mod Merging
+pub mod Fronts

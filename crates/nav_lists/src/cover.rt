@@ -1,6 +1,7 @@
 //! The times that items cover, collected item by item.
 
-ghost use Rattle.std.specs.Prelude.{◌≡◌, ◌↔◌, ◌⊎◌, ℕ, [], ◌∷◌, IfSome, IfNone, OnOk, OnErr};
+ghost use Rattle.std.specs.Prelude.{◌≡◌, ◌↔◌, ◌⊎◌, ℕ, []};
+ghost use Rattle.std.specs.Prelude.{◌∷◌, IfSome, IfNone, OnOk, OnErr};
 ghost use Rattle.nav_eph.specs.Satellite.{Satellite};
 ghost use Rattle.nav_lists.specs.Covering.{AreRanges, CoversSecond, IsIn};
 
@@ -14,7 +15,8 @@ use std::marker::Model;
 /// The ranges of time that the added items cover.
 #[derive(Drop)]
 pub struct Cover {
-    // The range of each ephemeris, without duplicates; overlapping ranges are joined as they are taken.
+    // The range of each ephemeris, without duplicates; overlapping ranges are joined as they are
+    // taken.
     spans: BTreeSet<CoverRange>,
 }
 
@@ -40,7 +42,8 @@ impl Cover {
         }
     }
 
-    /// Adds the range that an item covers; an ionosphere item covers none. Costs one search in an ordered set.
+    /// Adds the range that an item covers; an ionosphere item covers none. Costs one search in an
+    /// ordered set.
     ///
     /// # Errors
     ///

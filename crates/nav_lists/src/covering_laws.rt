@@ -4,8 +4,8 @@ ghost use Rattle.nav_eph.specs.declared.items.NavItem.{NavItem};
 ghost use Rattle.nav_lists.specs.Covering.{AreCovering, AreCovers, CoversSecond, IsIn, covers_of};
 ghost use Rattle.nav_lists.specs.declared.range.CoverRange.{CoverRange};
 
-/// `covers_of` is the only list of the ranges that the items cover, and it depends on the set of the
-/// items alone.
+/// `covers_of` is the only list of the ranges that the items cover, and it depends on the set of
+/// the items alone.
 pub fn covering()
     ensures are { (items : List NavItem) →
         AreCovers (AreCovering (Contains items)) (covers_of items) }

@@ -3,8 +3,8 @@ ghost use Rattle.std.specs.List.{Contains};
 ghost use Rattle.nav_eph.specs.declared.items.NavItem.{NavItem};
 ghost use Rattle.nav_lists.specs.Merging.{IsMerged, merged_of};
 
-/// `merged_of` is the only merged list of the items. It depends on the set of the items alone: their
-/// order and repetition do not matter, and items may be merged in several steps.
+/// `merged_of` is the only merged list of the items. It depends on the set of the items alone:
+/// their order and repetition do not matter, and items may be merged in several steps.
 pub fn merging()
     ensures are { (items : List NavItem) → IsMerged (Contains items) (merged_of items) }
     ensures only { (items xs : List NavItem) →

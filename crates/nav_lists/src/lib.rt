@@ -15,8 +15,8 @@
 //! ```rust
 //! use nav_lists::{Cover, Merge};
 //!
-//! let mut merge = Merge::new(rt.alloc());
-//! assert!(rt; merge.take_first().is_none());
+//! let merge = Merge::new(rt.alloc());
+//! assert!(rt; merge.items().next().is_none());
 //! let mut cover = Cover::new(rt.alloc());
 //! assert!(rt; cover.take_first().is_none());
 //! ```
@@ -24,6 +24,8 @@
 
 mod cover;
 mod covering_laws;
+mod few;
+mod items;
 mod laws;
 mod merge;
 mod numbers;
@@ -33,6 +35,8 @@ mod sweep;
 
 pub use crate::cover::Cover;
 pub use crate::covering_laws::{covering, one_cover};
+pub use crate::few::Few;
+pub use crate::items::Items;
 pub use crate::laws::merging;
 pub use crate::merge::Merge;
 pub use crate::range::CoverRange;

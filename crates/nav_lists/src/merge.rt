@@ -1,29 +1,30 @@
 //! The merged list of items, built item by item.
 
-ghost use Rattle.std.specs.Prelude.{◌≡◌, [], ◌∷◌, ◌++◌, IfSome, IfNone, OnOk, OnErr, length};
+ghost use Rattle.std.specs.Prelude.{◌≡◌, [], ◌∷◌, ◌++◌, OnOk, OnErr, length};
 ghost use Rattle.nav_lists.specs.Merging.{merged_of};
 
-use crate::ranked::{Ranked, is_new, sent_at, transmission};
-use nav_eph::{NavItem, SentSecond};
+use crate::items::Items;
+use crate::ranked::{Ranked, is_earlier};
+use nav_eph::NavItem;
 use std::alloc::{AllocError, Global};
-use std::collections::BTreeMap;
+use std::collections::BTreeSet;
 use std::marker::Model;
 
 /// The merged list of the added items.
 #[derive(Drop)]
 pub struct Merge {
-    // By rank, the first added of alike items, with the earliest transmission time of them.
-    held: BTreeMap<Ranked, SentSecond>,
+    // Of alike items the one that was sent first.
+    held: BTreeSet<Ranked>,
+    alloc: Global,
 }
 
 impl Model for Merge {
     ghost use Rattle.std.specs.Prelude.{List};
     ghost use Rattle.nav_eph.specs.declared.items.NavItem.{NavItem};
-    ghost use Rattle.nav_lists.specs.Held.{held_items};
 
     ghost Value = { List NavItem };
 
-    ghost view = { λ m. held_items m.held.entries };
+    ghost view = { λ m. m.held.keys };
 }
 
 impl Merge {
@@ -32,12 +33,14 @@ impl Merge {
         ensures { result ≡ [] }
     {
         Merge {
-            held: BTreeMap::new(alloc),
+            held: BTreeSet::new(alloc),
+            alloc,
         }
     }
 
-    /// Adds an item at its place in the order of rank. Where the list has an item that is alike to it,
-    /// the one of the two that was sent first stays. Costs two searches in an ordered map.
+    /// Adds an item at its place in the order of rank. Where the list has an item that is alike to
+    /// it, the one of the two that was sent first stays. Costs a search in an ordered set, and one
+    /// more where the list changes.
     ///
     /// # Errors
     ///
@@ -47,14 +50,19 @@ impl Merge {
         ensures err { OnErr result (self.new ≡ self.old) }
     {
         let _count = self.held.len();
-        let key = Ranked { item: *item };
-        let sent = transmission(item);
-        let known = self.held.get(&key).copied();
-        if !is_new(&known, &sent) {
-            return Ok(());
+        let key = Ranked::new(self.alloc, item)?;
+        match self.held.get(&key) {
+            None => {
+                self.held.insert(key)?;
+                Ok(())
+            }
+            Some(known) => {
+                if is_earlier(item, known.item()) {
+                    self.held.replace(key)?;
+                }
+                Ok(())
+            }
         }
-        self.held.insert(key, sent)?;
-        Ok(())
     }
 
     /// The number of items.
@@ -64,12 +72,12 @@ impl Merge {
         self.held.len()
     }
 
-    /// Removes and returns the first item of the list; `None` where the list is empty.
-    pub fn take_first(&mut self) -> Option<NavItem>
-        ensures first { IfSome result (λ item. self.old ≡ item ∷ self.new) }
-        ensures none { IfNone result ((self.old ≡ []) × (self.new ≡ [])) }
+    /// The items, in order.
+    pub fn items(&self) -> Items<'_>
+        ensures { result ≡ self.now }
     {
-        let (key, sent) = self.held.pop_first()?;
-        Some(sent_at(&key.item, sent))
+        Items {
+            left: self.held.iter(),
+        }
     }
 }

@@ -6,7 +6,8 @@ ghost use Rattle.std.specs.Cmp.{eq_by_cmp_equiv};
 ghost use Rattle.std.specs.Cmp.{partial_equiv_from_equiv, partial_order_from_agreeing_total};
 ghost use Rattle.std.specs.Ordering.{is_eq};
 ghost use Rattle.nav_eph.specs.Satellite.{place_of};
-ghost use Rattle.nav_lists.specs.Ranges.{by_place, by_place_total, drawn_out, is_of_one, span_of, touches};
+ghost use Rattle.nav_lists.specs.Ranges.{by_place, by_place_total, drawn_out};
+ghost use Rattle.nav_lists.specs.Ranges.{is_of_one, span_of, touches};
 
 use nav_eph::{NavItem, Sat, System};
 use std::cmp::Ordering;
@@ -26,7 +27,7 @@ pub struct CoverRange {
 }
 
 // The order of systems: GPS before Galileo.
-fn place(system: System) -> u8
+pub(crate) fn place(system: System) -> u8
     ensures { result ≡ place_of system }
 {
     match system {

@@ -1,15 +1,17 @@
-//! The order of items by rank.
+//! Items in memory of their own, in the order of rank.
 
-ghost use Rattle.std.specs.Prelude.{◌≡◌, Some};
+ghost use Rattle.std.specs.Prelude.{◌≡◌, IfOk, Some};
 ghost use Rattle.std.proofs.Common.{refl};
 ghost use Rattle.std.specs.Cmp.Lexicographic.{slice_cmp};
 ghost use Rattle.std.specs.Ordering.{is_eq, int_cmp};
 ghost use Rattle.nav_eph.specs.Ranks.{content_rank, rank, sent_of};
+ghost use Rattle.gnss_week.specs.Weeks.{IsMoment};
 ghost use Rattle.nav_eph.specs.declared.items.NavItem.TheVariants.{Gps as GpsItem};
 ghost use Rattle.nav_eph.specs.declared.items.NavItem.TheVariants.{Gal as GalItem};
 ghost use Rattle.nav_eph.specs.declared.items.NavItem.TheVariants.{Ion as IonItem};
-ghost use Rattle.nav_lists.specs.Held.{is_news, resent};
-ghost use Rattle.nav_lists.specs.Merging.{by_rank, class_of, is_sooner, moment_of, place};
+ghost use Rattle.nav_lists.specs.Fronts.{front_of, satellite_of};
+ghost use Rattle.nav_lists.specs.Merging.{by_rank, class_of, is_sooner, moment_of};
+ghost use Rattle.nav_lists.specs.Merging.{place as place_in_rank};
 ghost use Rattle.std.specs.Cmp.{partial_equiv_from_equiv, partial_order_from_agreeing_total};
 ghost use Rattle.std.specs.Cmp.{eq_by_cmp_equiv, int_cmp_total, on_total};
 ghost use Rattle.std.specs.Cmp.Lexicographic.{lists_total};
@@ -19,18 +21,54 @@ use crate::numbers::{
     orbit_b_numbers, sat_numbers, side_numbers, week_number, word1_numbers, word2_numbers,
     word3_numbers, word4_numbers,
 };
-use nav_eph::{GalEph, GpsEph, IonContent, IonEph, NavItem, SentSecond};
+use crate::range::place;
+use nav_eph::{GalEph, GpsEph, IonContent, IonEph, NavItem, Sat, SentSecond};
+use std::alloc::{AllocError, Global};
 use std::cmp::Ordering;
+use std::marker::Model;
 
-// An item, compared by its rank.
-#[derive(Clone, Copy)]
+// An item, compared by its rank. It lies in memory of its own, so that an ordered set moves and
+// compares no more than two words of it.
+#[derive(Drop)]
 pub(crate) struct Ranked {
-    pub(crate) item: NavItem,
+    // What comes first in its rank: most comparisons read no more.
+    front: u64,
+    item: Box<NavItem>,
+}
+
+impl Model for Ranked {
+    ghost use Rattle.std.specs.Prelude.{◌≡◌};
+    ghost use Rattle.nav_eph.specs.declared.items.NavItem.{NavItem};
+    ghost use Rattle.nav_lists.specs.Fronts.{front_of};
+
+    ghost Value = { NavItem };
+
+    ghost view = { λ r. r.item.value };
+
+    ghost invariant = { λ r. r.front ≡ front_of r.item.value };
+}
+
+impl Ranked {
+    pub(crate) fn new(alloc: Global, item: &NavItem) -> Result<Ranked, AllocError>
+        ensures { IfOk result (λ ranked. ranked ≡ item.now) }
+    {
+        Ok(Ranked {
+            front: front(item),
+            item: Box::new(alloc, *item)?,
+        })
+    }
+
+    pub(crate) fn item(&self) -> &NavItem
+        ensures { result.now ≡ self.now }
+    {
+        &self.item
+    }
 }
 
 // The time of ephemeris or, for the ionosphere, the transmission time, as GPS time in seconds.
 fn moment(item: &NavItem) -> u64
-    ensures { result ≡ moment_of item.now }
+    ensures same { result ≡ moment_of item.now }
+    ensures fits { IsMoment result }
 {
     match item {
         NavItem::Gps(e) => e.toe().value(),
@@ -51,6 +89,26 @@ fn class(item: &NavItem) -> u8
             IonContent::Gal(_) => 3,
         },
     }
+}
+
+// The satellite of an item.
+fn satellite(item: &NavItem) -> Sat
+    ensures { result ≡ satellite_of item.now }
+{
+    match item {
+        NavItem::Gps(e) => e.sat,
+        NavItem::Gal(e) => e.sat,
+        NavItem::Ion(e) => e.sat,
+    }
+}
+
+// What comes first in the rank of an item, as one number.
+fn front(item: &NavItem) -> u64
+    ensures { result ≡ front_of item.now }
+{
+    let sat = satellite(item);
+    let kind = moment(item) * 4 + class(item) as u64;
+    (kind * 2 + place(sat.system()) as u64) * 64 + sat.number().min(63) as u64
 }
 
 // Compares GPS ephemerides by their fields, without the transmission time.
@@ -119,14 +177,15 @@ fn compare_fields(a: &NavItem, b: &NavItem) -> Ordering
     }
 }
 
-// Compares items by rank; fields are compared only where time and class are equal.
-fn compare(a: &NavItem, b: &NavItem) -> Ordering
+// Compares items by rank; fields are compared only where what comes first is equal.
+fn compare(a: &Ranked, b: &Ranked) -> Ordering
     ensures { result ≡ by_rank a.now b.now }
 {
-    let order = moment(a).cmp(&moment(b)).then(class(a).cmp(&class(b)));
+    let order = a.front.cmp(&b.front);
     match order {
-        Ordering::Equal => compare_fields(a, b),
-        _ => order,
+        Ordering::Less => order,
+        Ordering::Equal => compare_fields(&a.item, &b.item),
+        Ordering::Greater => order,
     }
 }
 
@@ -141,18 +200,9 @@ fn is_sent_sooner(a: &SentSecond, b: &SentSecond) -> bool
     }
 }
 
-// No transmission time is known yet, or `sent` is earlier than the known one.
-pub(crate) fn is_new(known: &Option<SentSecond>, sent: &SentSecond) -> bool
-    ensures { result ≡ is_news known.now sent.now }
-{
-    match known {
-        None => true,
-        Some(second) => is_sent_sooner(sent, second),
-    }
-}
-
-// The transmission time of an ephemeris; `Unknown` for an ionosphere, whose time is part of its rank.
-pub(crate) fn transmission(item: &NavItem) -> SentSecond
+// The transmission time of an ephemeris; `Unknown` for an ionosphere, whose time is part of its
+// rank.
+fn transmission(item: &NavItem) -> SentSecond
     ensures { result ≡ sent_of item.now }
 {
     match item {
@@ -162,52 +212,48 @@ pub(crate) fn transmission(item: &NavItem) -> SentSecond
     }
 }
 
-// The item with its transmission time replaced; an ionosphere is unchanged.
-pub(crate) fn sent_at(item: &NavItem, sent: SentSecond) -> NavItem
-    ensures { result ≡ resent item.now sent }
+// The first item was sent earlier than the second.
+pub(crate) fn is_earlier(a: &NavItem, b: &NavItem) -> bool
+    ensures { result ≡ is_sooner (sent_of a.now) (sent_of b.now) }
 {
-    match item {
-        NavItem::Gps(e) => NavItem::Gps(GpsEph { sent, ..*e }),
-        NavItem::Gal(e) => NavItem::Gal(GalEph { sent, ..*e }),
-        NavItem::Ion(e) => NavItem::Ion(*e),
-    }
+    is_sent_sooner(&transmission(a), &transmission(b))
 }
 
 impl PartialEq for Ranked {
-    ghost eq = { λ a b. is_eq (by_rank a.item b.item) };
+    ghost eq = { λ a b. is_eq (by_rank a b) };
 
-    ghost laws = { partial_equiv_from_equiv (eq_by_cmp_equiv (on_total (λ r. place r.item) (lists_total int_cmp_total))) };
+    ghost laws = { partial_equiv_from_equiv (eq_by_cmp_equiv (on_total place_in_rank (lists_total int_cmp_total))) };
 
     fn eq(&self, other: &Ranked) -> bool {
-        compare(&self.item, &other.item).is_eq()
+        compare(self, other).is_eq()
     }
 }
 
 impl Eq for Ranked {
-    ghost laws = { eq_by_cmp_equiv (on_total (λ r. place r.item) (lists_total int_cmp_total)) };
+    ghost laws = { eq_by_cmp_equiv (on_total place_in_rank (lists_total int_cmp_total)) };
 }
 
 impl PartialOrd for Ranked {
-    ghost partial_cmp = { λ a b. Some (by_rank a.item b.item) };
+    ghost partial_cmp = { λ a b. Some (by_rank a b) };
 
-    ghost laws = { partial_order_from_agreeing_total (λ a b. by_rank a.item b.item)
-        (on_total (λ r. place r.item) (lists_total int_cmp_total)) (λ a b. refl) (λ a b. refl) };
+    ghost laws = { partial_order_from_agreeing_total (λ a b. by_rank a b)
+        (on_total place_in_rank (lists_total int_cmp_total)) (λ a b. refl) (λ a b. refl) };
 
     fn partial_cmp(&self, other: &Ranked) -> Option<Ordering> {
-        Some(compare(&self.item, &other.item))
+        Some(compare(self, other))
     }
 }
 
 impl Ord for Ranked {
-    ghost cmp = { λ a b. by_rank a.item b.item };
+    ghost cmp = { λ a b. by_rank a b };
 
-    ghost total = { on_total (λ r. place r.item) (lists_total int_cmp_total) };
+    ghost total = { on_total place_in_rank (lists_total int_cmp_total) };
 
     ghost matches_partial_cmp = { λ a b. refl };
 
     ghost matches_eq = { λ a b. refl };
 
     fn cmp(&self, other: &Ranked) -> Ordering {
-        compare(&self.item, &other.item)
+        compare(self, other)
     }
 }

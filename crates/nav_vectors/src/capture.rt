@@ -12,13 +12,14 @@ use std::alloc::{AllocError, Global};
 // bytes and 7,260 of 44.
 const ROOM: usize = 605 * 88 + 7260 * 44;
 
-/// Generates a capture of one hour in the week `r`: the subframes of GPS satellites 1 to `sats` and the
-/// page parts of Galileo satellites 1 to `sats` on E1-B and E5b, with values drawn from the seed.
+/// Generates a capture of one hour in the week `r`: the subframes of GPS satellites 1 to `sats` and
+/// the page parts of Galileo satellites 1 to `sats` on E1-B and E5b, with values drawn from the
+/// seed.
 ///
 /// It has `NAVCAP 1` and then `7,865 sats` lines, about 370,000 bytes for each of `sats`. Each
-/// satellite sends one ephemeris of one issue, and all those of a system the same ionosphere. The lines
-/// come in blocks of 16, each in reversed order of time; at the end those of the first 30 seconds are
-/// repeated in order.
+/// satellite sends one ephemeris of one issue, and all those of a system the same ionosphere. The
+/// lines come in blocks of 16, each in reversed order of time; at the end those of the first 30
+/// seconds are repeated in order.
 ///
 /// `AllocError` where memory runs out.
 pub fn make_capture(alloc: Global, seed: u32, sats: u8, r: RefWeek) -> Result<Vec<u8>, AllocError>

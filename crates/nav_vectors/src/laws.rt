@@ -1,6 +1,7 @@
 //! Laws of the definitions; each is the contract of a function that does nothing.
 
-ghost use Rattle.std.specs.Prelude.{◌≡◌, ℕ, ◌*◌, ◌^◌, ◌<◌, ◌≤◌, List, length};
+ghost use Rattle.std.specs.Prelude.{◌≡◌, ℕ, ◌*◌, ◌^◌};
+ghost use Rattle.std.specs.Prelude.{◌<◌, ◌≤◌, List, length};
 ghost use Rattle.nav_vectors.specs.Capture.{lines_of, IsCapture};
 ghost use Rattle.nav_vectors.specs.Text.{capture_text};
 

@@ -1,6 +1,7 @@
 //! The lines of the capture.
 
-ghost use Rattle.std.specs.Prelude.{◌≡◌, ◌+◌, ◌*◌, ◌-◌, ◌/◌, ◌%◌, ◌<◌, ◌≤◌, [], All, OnOk, min};
+ghost use Rattle.std.specs.Prelude.{◌≡◌, ◌+◌, ◌*◌, ◌-◌, ◌/◌};
+ghost use Rattle.std.specs.Prelude.{◌%◌, ◌<◌, ◌≤◌, [], All, OnOk, min};
 ghost use Rattle.nav_eph.specs.declared.sat.System.TheVariants.{Gps};
 ghost use Rattle.lnav_subframe.specs.declared.out.SubframeOut.TheVariants.{Other};
 ghost use Rattle.lnav_subframe.specs.Writing.{IsWritable};

@@ -1,6 +1,7 @@
 //! Tables of the values and pages that the satellites send.
 
-ghost use Rattle.std.specs.Prelude.{◌≡◌, ℕ, ◌+◌, ◌*◌, ◌<◌, ◌≤◌, IfOk, OnOk, length};
+ghost use Rattle.std.specs.Prelude.{◌≡◌, ℕ, ◌+◌, ◌*◌};
+ghost use Rattle.std.specs.Prelude.{◌<◌, ◌≤◌, IfOk, OnOk, length};
 ghost use Rattle.std.specs.List.{HoldsAt};
 ghost use Rattle.nav_vectors.specs.Draws.{state_after};
 ghost use Rattle.nav_vectors.specs.Values.{gal_values, gps_values};

@@ -1,6 +1,7 @@
 //! The transmissions of each second, in order, and the order of the lines.
 
-ghost use Rattle.std.specs.Prelude.{◌≡◌, ◌+◌, ◌<◌, ◌++◌, IfOk, OnOk, length, reverse};
+ghost use Rattle.std.specs.Prelude.{◌≡◌, ◌+◌, ◌<◌, ◌++◌};
+ghost use Rattle.std.specs.Prelude.{IfOk, OnOk, length, reverse};
 ghost use Rattle.nav_vectors.specs.Lines.{halves_at, sent_at, sent_before, subframes_at};
 ghost use Rattle.nav_vectors.specs.Capture.{lines_of, reversed};
 

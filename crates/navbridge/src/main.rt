@@ -1,9 +1,9 @@
 //! `navbridge` converts GNSS broadcast ephemerides between their forms.
 //!
-//! The program reads standard input and writes standard output. Its command line names a job, such as
-//! `navbridge --from stream --to frames`, which writes a line for each RTCM 3 frame of a stream
-//! (RTCM 10403.3, section 4): its message number and the length of its payload. The exit status says
-//! how it ended; [`bridge_engine::bridge`] lists them.
+//! The program reads standard input and writes standard output. Its command line names a job, such
+//! as `navbridge --from stream --to frames`, which writes a line for each RTCM 3 frame of a stream
+//! (RTCM 10403.3, section 4): its message number and the length of its payload. The exit status
+//! says how it ended; [`bridge_engine::bridge`] lists them.
 #![tactic(auto)]
 
 use bridge_engine::bridge;

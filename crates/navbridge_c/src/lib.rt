@@ -1,8 +1,8 @@
 //! `navbridge` for C: a static library, whose header is `bindings/c/navbridge.h`.
 //!
 //! - [`nb_message_read`] and [`nb_message_write`], [`nb_subframe_read`] and [`nb_subframe_write`],
-//!   [`nb_page_read`] and [`nb_page_write`], [`nb_record_read`] and [`nb_record_write`] read and write
-//!   a message, a subframe, a page and a record, from and to structs of raw integers;
+//!   [`nb_page_read`] and [`nb_page_write`], [`nb_record_read`] and [`nb_record_write`] read and
+//!   write a message, a subframe, a page and a record, from and to structs of raw integers;
 //! - [`nb_is_frame`] and [`nb_frame_make`] judge and make a frame;
 //! - [`nb_convert`] does a conversion over memory, as the program does it over its streams.
 //!
@@ -41,8 +41,8 @@ use std::alloc::Global;
 /// Does the job that the words give, as the program `navbridge` does it, from an input in memory to
 /// an output and a report in memory.
 ///
-/// The prefix of the output that there is room for is put into `output`, and the length of the whole
-/// of it into `output_used`; the same of the report. What stands behind stays.
+/// The prefix of the output that there is room for is put into `output`, and the length of the
+/// whole of it into `output_used`; the same of the report. What stands behind stays.
 ///
 /// | Status | Comes |
 /// |---|---|
@@ -87,8 +87,8 @@ pub extern "C" fn nb_is_frame(bytes: &[u8]) -> bool
     c_messages::is_frame(bytes)
 }
 
-/// Puts the prefix that fits of the frame of a payload of at most 1,023 bytes, and tells its size; 0
-/// exactly where the payload is longer.
+/// Puts the prefix that fits of the frame of a payload of at most 1,023 bytes, and tells its size;
+/// 0 exactly where the payload is longer.
 #[unsafe(no_mangle)]
 pub extern "C" fn nb_frame_make(payload: &[u8], frame: &mut [u8]) -> usize
     ensures frame { length payload.now ≤ 1023 →
@@ -174,8 +174,8 @@ pub extern "C" fn nb_page_read(page: &PageBits, satellite: u32, word: &mut WordR
     c_messages::read_page(page, satellite, word)
 }
 
-/// Puts the I/NAV page of the word with this content, sent by that Galileo satellite; 62 where there
-/// is no such satellite, 23 where the numbers stand for no word.
+/// Puts the I/NAV page of the word with this content, sent by that Galileo satellite; 62 where
+/// there is no such satellite, 23 where the numbers stand for no word.
 #[unsafe(no_mangle)]
 pub extern "C" fn nb_page_write(word: &WordRaw, satellite: u32, page: &mut PageBits) -> u32
     ensures satellite { (IsSat Gal satellite → ⊥) → (result ≡ 62) × (page.new ≡ page.old) }
@@ -187,8 +187,9 @@ pub extern "C" fn nb_page_write(word: &WordRaw, satellite: u32, page: &mut PageB
     c_messages::write_page(word, satellite, page)
 }
 
-/// Puts the item that the text of one record of a navigation file gives, of version 4 with its title
-/// line, of version 3 without; 32 to 42 where there is none, 24 where there is no such version.
+/// Puts the item that the text of one record of a navigation file gives, of version 4 with its
+/// title line, of version 3 without; 32 to 42 where there is none, 24 where there is no such
+/// version.
 #[unsafe(no_mangle)]
 pub extern "C" fn nb_record_read(text: &[u8], version: u32, item: &mut ItemRaw) -> u32
     ensures read { IsVersion version →

@@ -18,9 +18,9 @@ pub extern "C" fn nb_pages_size() -> usize
     std::mem::size_of::<PagePairs>()
 }
 
-/// Makes page parts of this memory, whatever it held: none was taken. A part is kept while its stamp
-/// is at most the window and one second below the greatest; a window below 60 seconds is taken as
-/// 60, and above 14,400 as 14,400.
+/// Makes page parts of this memory, whatever it held: none was taken. A part is kept while its
+/// stamp is at most the window and one second below the greatest; a window below 60 seconds is
+/// taken as 60, and above 14,400 as 14,400.
 #[unsafe(no_mangle)]
 pub unsafe extern "C" fn nb_pages_init(at: *mut u8, alloc: Global, window: u32)
     requires* { sem 𝓛 (HasPagesRoom at) }

@@ -22,8 +22,8 @@ pub extern "C" fn nb_push_size() -> usize
 }
 
 /// Makes a conversion of this memory, whatever it held, and opens the job that the words give: 0; 2
-/// where they give none, 6 for want of memory, 9 where a word is not UTF-8, and 10 where the input of
-/// their job cannot be pushed.
+/// where they give none, 6 for want of memory, 9 where a word is not UTF-8, and 10 where the input
+/// of their job cannot be pushed.
 #[unsafe(no_mangle)]
 pub unsafe extern "C" fn nb_push_open(at: *mut u8, alloc: Global, words: &[&[u8]]) -> u32
     requires* { sem 𝓛 (HasPushRoom at) }

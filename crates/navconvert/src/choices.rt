@@ -1,13 +1,14 @@
 //! What is done, by what was asked.
 
 use crate::clock::ClockWords;
+use crate::command::Asked;
 use crate::files::{Task, convert_file, convert_joined};
 use crate::outputs::{Output, output_of};
 use crate::telling::tell_program;
-use file_form::Target;
-use file_step::{FileFault, fault_of};
+use file_folders::fault_of;
+use file_form::{Target, Values};
+use file_step::FileFault;
 use file_texts::{Refusal, is_site};
-use front_plan::{Asked, Values};
 use front_run::{Plan, is_date};
 use std::fs::{File, OpenOptions};
 use std::io::IsTerminal;
@@ -21,12 +22,15 @@ ubx       a log of a u-blox receiver
 sbf       a log of a Septentrio receiver";
 
 /// The file for reports, where one is named, or the status where no file is to be converted.
-pub fn begin(rt: &HostRuntime, asked: &Asked) -> Result<Option<File>, u8> {
+pub(crate) fn begin(rt: &HostRuntime, asked: &Asked) -> Result<Option<File>, u8> {
     if asked.lists_forms() {
         return match println!(rt; "{FORMS}") {
             Ok(()) => Err(0),
             Err(_) => Err(4),
         };
+    }
+    if asked.files().is_none() {
+        return Err(tell_program(rt, &Refusal::NoFiles));
     }
     if let Some(site) = asked.long_name() {
         if !is_site(site) {
@@ -66,7 +70,7 @@ fn report_of<'a>(rt: &HostRuntime, asked: &Asked<'a>) -> Result<Option<File>, Re
 }
 
 /// Converts each file, with reports to this one; the status.
-pub fn convert_asked<'x, 'a>(
+pub(crate) fn convert_asked<'x, 'a>(
     rt: &'x HostRuntime,
     asked: &'x Asked<'a>,
     clock: &'x ClockWords,

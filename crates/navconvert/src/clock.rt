@@ -9,7 +9,7 @@ const FIRST_SECOND: u64 = 315_964_800;
 
 /// The week and the date of the clock, as words of `navbridge`.
 #[derive(Drop)]
-pub struct ClockWords {
+pub(crate) struct ClockWords {
     /// The GPS week.
     pub week: String,
     /// The date, as `20240101 000000 UTC`.
@@ -21,7 +21,7 @@ pub struct ClockWords {
 /// # Errors
 ///
 /// There was no memory for the words.
-pub fn clock_of(rt: &HostRuntime) -> Result<ClockWords, AllocError> {
+pub(crate) fn clock_of(rt: &HostRuntime) -> Result<ClockWords, AllocError> {
     let moment = now(rt);
     let week = moment.week().clamp(1024, 8191);
     Ok(ClockWords {

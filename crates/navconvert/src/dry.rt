@@ -4,13 +4,14 @@ use crate::files::Task;
 use crate::forms::{file_kind, input_kind};
 use crate::outputs::name_of;
 use crate::telling::tell_file;
-use file_form::Kind;
+use file_folders::FileInput;
+use file_form::{Kind, ending_of, is_copied};
 use file_texts::Refusal;
-use front_plan::ending_of;
-use front_run::{FileInput, is_copied, refusal_of, words_under};
+use front_run::{refusal_of, words_under};
 
-/// Prints the command that does what is asked of files, the first of which has this name; the status.
-pub fn show_files(task: &Task, first: &str, files: &[&str]) -> u8 {
+/// Prints the command that does what is asked of files, the first of which has this name; the
+/// status.
+pub(crate) fn show_files(task: &Task, first: &str, files: &[&str]) -> u8 {
     match kind_of_files(task, first, files) {
         Ok(kind) => show_kind(task, first, files, kind),
         Err(refusal) => tell_file(task.rt, first, &refusal),

@@ -8,17 +8,16 @@ use crate::standard::to_standard;
 use crate::steps::put;
 use crate::telling::tell_file;
 use crate::times::long_name_from;
-use file_form::{Kind, Target, row_of};
+use file_form::{Kind, Target, ending_of, is_copied, row_of};
 use file_step::FileFault;
 use file_texts::Refusal;
-use front_plan::ending_of;
-use front_run::{Plan, is_copied};
+use front_run::Plan;
 use std::fs::File;
 use std::slice::from_ref;
 
 /// What is done with each file.
 #[derive(Clone, Copy)]
-pub struct Task<'a> {
+pub(crate) struct Task<'a> {
     /// The runtime.
     pub rt: &'a HostRuntime,
     /// What is asked of each file.
@@ -40,7 +39,7 @@ pub struct Task<'a> {
 }
 
 /// Converts a file, `-` for standard input, and says what became of it; the status.
-pub fn convert_file<'a>(task: &Task<'a>, file: &'a &'a str) -> u8 {
+pub(crate) fn convert_file<'a>(task: &Task<'a>, file: &'a &'a str) -> u8 {
     if *file != "-" && is_folder(task.rt, file) {
         return tell_file(task.rt, file, &Refusal::NotOpened(FileFault::IsFolder));
     }
@@ -48,7 +47,7 @@ pub fn convert_file<'a>(task: &Task<'a>, file: &'a &'a str) -> u8 {
 }
 
 /// Makes one output of files, which has the name of the first where none is named; the status.
-pub fn convert_joined<'a>(task: &Task<'a>, files: &'a [&'a str]) -> u8 {
+pub(crate) fn convert_joined<'a>(task: &Task<'a>, files: &'a [&'a str]) -> u8 {
     for file in files {
         if let Some(status) = refused_form(task, file) {
             return status;

@@ -1,16 +1,16 @@
 //! Files that are opened, and their forms.
 
 use crate::files::Task;
+use file_folders::{FileInput, HostFolder};
 use file_form::Kind;
-use file_step::{FileFault, Folder};
+use file_step::{FileFault, Folder, PeekFault, Peeked};
 use file_texts::Refusal;
-use front_run::{FileInput, HostFolder, look};
-use peek_io::{PeekFault, Peeked};
+use front_run::look;
 use std::fs::File;
 use std::io::Read;
 
 /// A file that is opened to read it.
-pub fn opened(task: &Task, file: &str) -> Result<FileInput<File>, Refusal<'static>> {
+pub(crate) fn opened(task: &Task, file: &str) -> Result<FileInput<File>, Refusal<'static>> {
     let mut folder = HostFolder::new(task.rt.alloc(), task.rt);
     match folder.open(file) {
         Ok(input) => Ok(input),
@@ -19,7 +19,7 @@ pub fn opened(task: &Task, file: &str) -> Result<FileInput<File>, Refusal<'stati
 }
 
 /// The form under which a file is read.
-pub fn file_kind(task: &Task, file: &str) -> Result<Kind, Refusal<'static>> {
+pub(crate) fn file_kind(task: &Task, file: &str) -> Result<Kind, Refusal<'static>> {
     match opened(task, file) {
         Ok(input) => input_kind(task, input),
         Err(refusal) => Err(refusal),
@@ -27,7 +27,7 @@ pub fn file_kind(task: &Task, file: &str) -> Result<Kind, Refusal<'static>> {
 }
 
 /// The form under which an input is read.
-pub fn input_kind<R: Read + Drop>(
+pub(crate) fn input_kind<R: Read + Drop>(
     task: &Task,
     input: FileInput<R>,
 ) -> Result<Kind, Refusal<'static>> {

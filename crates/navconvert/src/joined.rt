@@ -3,8 +3,8 @@
 ghost use Rattle.std.specs.Prelude.{◌≤◌, length};
 ghost use Rattle.std.specs.Io.{ReadsAtMost};
 
+use file_folders::{FileInput, HostFolder};
 use file_step::Folder;
-use front_run::{FileInput, HostFolder};
 use nav_io::{Failed, Source};
 use std::alloc::Global;
 use std::fs::File;
@@ -63,14 +63,14 @@ impl<'a> Rest<'a> {
 
 /// A source that gives the bytes of files, concatenated.
 #[derive(Drop)]
-pub struct Joined<'a> {
+pub(crate) struct Joined<'a> {
     rest: Rest<'a>,
     faults: u64,
 }
 
 impl<'a> Joined<'a> {
     /// Of the files of these names.
-    pub fn new(alloc: Global, rt: &'a HostRuntime, names: &'a [&'a str]) -> Joined<'a> {
+    pub(crate) fn new(alloc: Global, rt: &'a HostRuntime, names: &'a [&'a str]) -> Joined<'a> {
         Joined {
             rest: Rest {
                 folder: HostFolder::new(alloc, rt),
@@ -92,8 +92,8 @@ impl Source for Joined<'_> {
 
     ghost never_fails = { λ _. false };
 
-    /// One `read` of the first file that has bytes left. A file that cannot be opened or read counts
-    /// one fault.
+    /// One `read` of the first file that has bytes left. A file that cannot be opened or read
+    /// counts one fault.
     fn read(&mut self, into: &mut [u8]) -> Result<usize, Failed> {
         if into.is_empty() {
             return Ok(0);

@@ -9,6 +9,7 @@
 
 mod choices;
 mod clock;
+mod command;
 mod dry;
 mod files;
 mod forms;
@@ -24,9 +25,9 @@ mod times;
 
 use crate::choices::{begin, convert_asked};
 use crate::clock::clock_of;
+use crate::command::{Asked, read_words};
 use crate::telling::tell_program;
 use file_texts::Refusal;
-use front_plan::{Asked, read_words};
 use std::env;
 use std::io::ErrorKind;
 use std::process::ExitCode;

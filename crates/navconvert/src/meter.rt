@@ -1,6 +1,6 @@
 //! How far a conversion has come, on a terminal.
 
-use peek_io::Progress;
+use file_step::Progress;
 use std::rt::Clock;
 
 // So long nothing is shown, and so long one line stands, in milliseconds.
@@ -8,7 +8,7 @@ const PAUSE: u64 = 500;
 
 /// A line on standard error that says how far a file has come, or none.
 #[derive(Drop)]
-pub enum Meter<'a> {
+pub(crate) enum Meter<'a> {
     /// Nothing is shown.
     Off,
     /// It is, after half a second.
@@ -17,7 +17,7 @@ pub enum Meter<'a> {
 
 /// A line that is shown.
 #[derive(Drop)]
-pub struct Shown<'a> {
+pub(crate) struct Shown<'a> {
     rt: &'a HostRuntime,
     file: &'a str,
     // the size of the file, where it has one
@@ -28,7 +28,7 @@ pub struct Shown<'a> {
 
 impl<'a> Meter<'a> {
     /// For a file of this size, 0 where it has none.
-    pub fn of(rt: &'a HostRuntime, file: &'a str, size: u64) -> Meter<'a> {
+    pub(crate) fn of(rt: &'a HostRuntime, file: &'a str, size: u64) -> Meter<'a> {
         let begun = now(rt);
         Meter::On(Shown {
             rt,

@@ -7,13 +7,13 @@ use std::io::Write;
 
 /// Who writes the messages of a log that are refused to the report.
 #[derive(Drop)]
-pub struct Notes<'a> {
+pub(crate) struct Notes<'a> {
     file: Option<&'a File>,
 }
 
 impl<'a> Notes<'a> {
     /// To this file, or nowhere.
-    pub fn new(file: Option<&'a File>) -> Notes<'a> {
+    pub(crate) fn new(file: Option<&'a File>) -> Notes<'a> {
         Notes { file }
     }
 }
@@ -41,7 +41,7 @@ fn word_of(reason: Reason) -> &'static str {
 }
 
 /// Writes the counts of a log of so many bytes to the report; whether that was done.
-pub fn put_counts(file: Option<&File>, counts: &Counts, taken: u64) -> bool {
+pub(crate) fn put_counts(file: Option<&File>, counts: &Counts, taken: u64) -> bool {
     let Some(file) = file else {
         return true;
     };

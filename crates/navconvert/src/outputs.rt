@@ -1,8 +1,8 @@
 //! Where outputs go, and what their names are.
 
+use crate::command::Asked;
 use file_step::FileFault;
 use file_texts::{Refusal, output_name};
-use front_plan::Asked;
 use std::alloc::{AllocError, Global};
 use std::fs;
 use std::fs::Metadata;
@@ -11,7 +11,7 @@ use std::path::{AsPath, Path};
 
 /// Where outputs go.
 #[derive(Clone, Copy)]
-pub enum Output<'a> {
+pub(crate) enum Output<'a> {
     /// Beside their inputs.
     Beside,
     /// Into a folder.
@@ -23,7 +23,7 @@ pub enum Output<'a> {
 }
 
 /// Where the words want outputs.
-pub fn output_of<'a>(rt: &HostRuntime, asked: &Asked<'a>) -> Output<'a> {
+pub(crate) fn output_of<'a>(rt: &HostRuntime, asked: &Asked<'a>) -> Output<'a> {
     match asked.output() {
         None => Output::Beside,
         Some(name) => {
@@ -39,7 +39,7 @@ pub fn output_of<'a>(rt: &HostRuntime, asked: &Asked<'a>) -> Output<'a> {
 }
 
 /// Whether the name is that of a folder.
-pub fn is_folder(rt: &HostRuntime, name: &str) -> bool {
+pub(crate) fn is_folder(rt: &HostRuntime, name: &str) -> bool {
     match fs::metadata(rt, name) {
         Ok(there) => there.is_dir(),
         Err(_) => false,
@@ -47,7 +47,7 @@ pub fn is_folder(rt: &HostRuntime, name: &str) -> bool {
 }
 
 /// Whether the name is that of a file with bytes of its own, which can be read again.
-pub fn is_file(rt: &HostRuntime, name: &str) -> bool {
+pub(crate) fn is_file(rt: &HostRuntime, name: &str) -> bool {
     match fs::metadata(rt, name) {
         Ok(there) => there.is_file(),
         Err(_) => false,
@@ -55,7 +55,7 @@ pub fn is_file(rt: &HostRuntime, name: &str) -> bool {
 }
 
 /// The size of a file of this name, 0 where it has none.
-pub fn size_of(rt: &HostRuntime, name: &str) -> u64 {
+pub(crate) fn size_of(rt: &HostRuntime, name: &str) -> u64 {
     match fs::metadata(rt, name) {
         Ok(there) => there.len(),
         Err(_) => 0,
@@ -63,7 +63,7 @@ pub fn size_of(rt: &HostRuntime, name: &str) -> u64 {
 }
 
 /// The name of the output of a file.
-pub fn name_of(
+pub(crate) fn name_of(
     alloc: Global,
     output: Output,
     file: &str,
@@ -103,7 +103,7 @@ fn owned(alloc: Global, name: &str) -> Result<String, Refusal<'static>> {
 }
 
 /// A name beside a file, or in the folder of outputs.
-pub fn placed(
+pub(crate) fn placed(
     alloc: Global,
     output: Output,
     file: &str,
@@ -121,7 +121,7 @@ pub fn placed(
 }
 
 /// Why an output may not have this name, if it may not.
-pub fn taken<'a>(
+pub(crate) fn taken<'a>(
     rt: &HostRuntime,
     file: &str,
     name: &'a str,

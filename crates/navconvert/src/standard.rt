@@ -6,13 +6,13 @@ use crate::joined::Joined;
 use crate::meter::Meter;
 use crate::steps::{told_of, with_faults};
 use crate::telling::{Saying, tell_file};
-use file_step::FileOutput;
-use front_run::{FileInput, Sourced, finish, write_source};
+use file_folders::{FileInput, FileOutput};
+use front_run::{Sourced, finish, write_source};
 use nav_io::Source;
 
-/// Converts files, the first of which has this name, to standard output, and says what became of them;
-/// the status.
-pub fn to_standard<'a>(task: &Task<'a>, first: &'a str, files: &'a [&'a str]) -> u8 {
+/// Converts files, the first of which has this name, to standard output, and says what became of
+/// them; the status.
+pub(crate) fn to_standard<'a>(task: &Task<'a>, first: &'a str, files: &'a [&'a str]) -> u8 {
     if files.len() > 1 {
         let source = Joined::new(task.rt.alloc(), task.rt, files);
         return write_from(task, first, source);
@@ -45,5 +45,5 @@ fn write_from<S: Source + Drop>(task: &Task, file: &str, source: S) -> u8 {
         name: file,
         faults: 0,
     };
-    finish(&task.plan, outcome, "standard output", "-", &mut teller)
+    finish(&task.plan, &outcome, "standard output", "-", &mut teller)
 }

@@ -9,16 +9,15 @@ use crate::notes::Notes;
 use crate::outputs::size_of;
 use crate::tally::Tally;
 use crate::telling::{Saying, tell_file};
+use file_folders::{FileInput, HostFolder};
 use file_step::{FileFault, part_of};
 use file_texts::Refusal;
-use front_run::{
-    FileInput, HostFolder, Outcome, Sourced, Stop, Told, convert_one, convert_source, finish,
-};
+use front_run::{Outcome, Sourced, Stop, Told, convert_one, convert_source, finish};
 use nav_io::Source;
 
-/// Converts files, the first of which has this name, to that of a name, and says what became of them;
-/// the status.
-pub fn put<'a>(task: &Task<'a>, first: &'a str, files: &'a [&'a str], name: &str) -> u8 {
+/// Converts files, the first of which has this name, to that of a name, and says what became of
+/// them; the status.
+pub(crate) fn put<'a>(task: &Task<'a>, first: &'a str, files: &'a [&'a str], name: &str) -> u8 {
     match part_of(task.rt.alloc(), name) {
         Ok(part) => put_part(task, first, files, part.as_str(), name),
         Err(_) => tell_file(task.rt, first, &Refusal::NoMemory),
@@ -42,11 +41,14 @@ fn put_part<'a>(task: &Task<'a>, first: &'a str, files: &'a [&'a str], part: &st
         name,
         faults: 0,
     };
-    finish(&task.plan, outcome, name, part, &mut teller)
+    finish(&task.plan, &outcome, name, part, &mut teller)
 }
 
 /// Who is told of the conversion of a file.
-pub fn told_of<'a>(task: &Task<'a>, meter: Meter<'a>) -> Told<Tally<'a>, Notes<'a>, Meter<'a>> {
+pub(crate) fn told_of<'a>(
+    task: &Task<'a>,
+    meter: Meter<'a>,
+) -> Told<Tally<'a>, Notes<'a>, Meter<'a>> {
     Told {
         report: Tally::new(task.report),
         refusals: Notes::new(task.report),
@@ -120,7 +122,7 @@ fn put_source<'a, S: Source + Drop>(
 }
 
 /// How it ended, with what the source and the output say of a read and of a write that failed.
-pub fn with_faults(
+pub(crate) fn with_faults(
     done: Result<(), Stop>,
     read: Option<FileFault>,
     put: Option<FileFault>,

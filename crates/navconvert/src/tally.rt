@@ -12,7 +12,7 @@ const ROOM: usize = 64;
 
 /// What a report says in all: the line that is under way, and the numbers of its counts.
 #[derive(Drop)]
-pub struct Said {
+pub(crate) struct Said {
     line: ArrayVec<u8, ROOM>,
     /// The items or periods that were written.
     pub written: Option<u64>,
@@ -53,7 +53,8 @@ impl Said {
     }
 }
 
-// The number of what was written, where the line counts that; what is kept stands behind what was read.
+// The number of what was written, where the line counts that; what is kept stands behind what was
+// read.
 fn written_in(line: &[u8]) -> Option<u64> {
     if let Some(count) = count_in(line, b"whole ") {
         return Some(count);
@@ -81,7 +82,7 @@ fn count_in(line: &[u8], name: &[u8]) -> Option<u64> {
 
 /// A sink for a report, which is written to a file where one is there.
 #[derive(Drop)]
-pub struct Tally<'a> {
+pub(crate) struct Tally<'a> {
     file: Option<&'a File>,
     said: Said,
     faults: u64,
@@ -89,7 +90,7 @@ pub struct Tally<'a> {
 
 impl<'a> Tally<'a> {
     /// With a count of 0.
-    pub fn new(file: Option<&'a File>) -> Tally<'a> {
+    pub(crate) fn new(file: Option<&'a File>) -> Tally<'a> {
         Tally {
             file,
             said: Said::new(),
@@ -98,7 +99,7 @@ impl<'a> Tally<'a> {
     }
 
     /// What it said in all.
-    pub fn said(&self) -> &Said {
+    pub(crate) fn said(&self) -> &Said {
         &self.said
     }
 }

@@ -18,7 +18,7 @@ const BLANKS: &str =
     "\r                                                                               ";
 
 /// Says why nothing is done; the status.
-pub fn tell_program(rt: &HostRuntime, refusal: &Refusal) -> u8
+pub(crate) fn tell_program(rt: &HostRuntime, refusal: &Refusal) -> u8
     ensures { result ≡ status_of refusal.now }
 {
     let _ = eprintln!(rt; "navconvert: {refusal}");
@@ -26,7 +26,7 @@ pub fn tell_program(rt: &HostRuntime, refusal: &Refusal) -> u8
 }
 
 /// Says why a file is not converted; the status.
-pub fn tell_file(rt: &HostRuntime, file: &str, refusal: &Refusal) -> u8
+pub(crate) fn tell_file(rt: &HostRuntime, file: &str, refusal: &Refusal) -> u8
     ensures { result ≡ status_of refusal.now }
 {
     clear(rt);
@@ -36,7 +36,7 @@ pub fn tell_file(rt: &HostRuntime, file: &str, refusal: &Refusal) -> u8
 
 /// Who says what became of a file, under its name and that of its output.
 #[derive(Drop)]
-pub struct Saying<'x, 'a> {
+pub(crate) struct Saying<'x, 'a> {
     /// What is done with each file.
     pub task: &'x Task<'a>,
     /// The file.

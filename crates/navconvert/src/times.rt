@@ -19,7 +19,7 @@ const ROOM: usize = 23;
 
 /// A sink that writes nothing, and keeps the first and the last of the times of ephemerides.
 #[derive(Drop)]
-pub struct Times {
+pub(crate) struct Times {
     line: ArrayVec<u8, ROOM>,
     /// The first and the last of the times.
     pub range: Option<(Moment, Moment)>,
@@ -27,7 +27,7 @@ pub struct Times {
 
 impl Times {
     /// No time yet.
-    pub fn new() -> Times {
+    pub(crate) fn new() -> Times {
         Times {
             line: ArrayVec::new(),
             range: None,
@@ -79,8 +79,8 @@ fn with(range: Option<(Moment, Moment)>, time: Moment) -> (Moment, Moment) {
     }
 }
 
-// How a line of an ephemeris begins: a capital letter, two characters, and a time whose digits are 0
-// here.
+// How a line of an ephemeris begins: a capital letter, two characters, and a time whose digits are
+// 0 here.
 static FORM: &[u8; ROOM] = b"A?? 0000 00 00 00 00 00";
 
 // The time of an ephemeris, where the line begins with a satellite and a time, as
@@ -133,8 +133,9 @@ fn number(digits: &[u8]) -> u16 {
     number
 }
 
-/// The name by the convention of RINEX of what is made of a source, which is converted for its times.
-pub fn long_name_from<'a, S: Source + Drop>(
+/// The name by the convention of RINEX of what is made of a source, which is converted for its
+/// times.
+pub(crate) fn long_name_from<'a, S: Source + Drop>(
     task: &Task<'a>,
     source: S,
     file: &'a str,

@@ -2,9 +2,9 @@
 //! does so for u-blox's UBX, and `navlog --from sbf` for Septentrio's SBF.
 //!
 //! The report is on standard error: a line for each message that is refused, and nine of counts.
-//! The exit status is 0 where all was read and written, 2 where the command line is neither of these,
-//! 3, 4 and 7 where the input, the output or the report failed, 6 for want of memory, and 8 where
-//! there are too many bytes, 2^64 - 16,384 or more.
+//! The exit status is 0 where all was read and written, 2 where the command line is neither of
+//! these, 3, 4 and 7 where the input, the output or the report failed, 6 for want of memory, and 8
+//! where there are too many bytes, 2^64 - 16,384 or more.
 #![tactic(auto)]
 
 use nav_io::{ReadSource, WriteSink};

@@ -11,7 +11,8 @@ struct LineRow {
     line: &'static [u8],
 }
 
-// The capture of so many satellites of each system in a week, how many lines end in it, and some of them.
+// The capture of so many satellites of each system in a week, how many lines end in it, and some of
+// them.
 struct CaptureRow {
     seed: u32,
     satellites: u8,

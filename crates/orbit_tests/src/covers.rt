@@ -11,15 +11,16 @@ struct Range {
     to: u64,
 }
 
-// The toes of the ephemerides that are added, their fit interval flag, and the ranges that they cover.
+// The toes of the ephemerides that are added, their fit interval flag, and the ranges that they
+// cover.
 struct CoverRow {
     toes: [u64; 3],
     fit: u64,
     ranges: &'static [Range],
 }
 
-// One toe; two whose times touch; two with a gap of 16 s; a fit interval of six hours; a range that joins
-// two others. Each with the ionosphere beside it, which covers nothing.
+// One toe; two whose times touch; two with a gap of 16 s; a fit interval of six hours; a range that
+// joins two others. Each with the ionosphere beside it, which covers nothing.
 static COVERS: [CoverRow; 5] = [
     CoverRow {
         toes: [0, 0, 0],

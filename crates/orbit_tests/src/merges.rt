@@ -18,12 +18,12 @@ fn add_file(merge: &mut Merge, file: &[NavItem]) -> Result<(), Fail> {
 }
 
 // The list holds these items in this order, and no more.
-fn is_list(merge: &mut Merge, items: &[NavItem]) -> bool {
+fn is_list(merge: &Merge, items: &[NavItem]) -> bool {
     let mut same = merge.len() == items.len();
-    for item in items {
-        same = same && merge.take_first() == Some(*item);
+    for (item, other) in merge.items().zip(items) {
+        same = same && *item == *other;
     }
-    same && merge.take_first() == None
+    same
 }
 
 // Three files in all six orders: of the three that are alike the one of second 50 stays, a negative
@@ -56,7 +56,7 @@ fn three_files(rt: HostRuntime) -> Result<(), Fail> {
         for file in order {
             add_file(&mut merge, files.get(*file).ok_or("a file")?)?;
         }
-        assert!(rt; is_list(&mut merge, &[negative, first, ion, next]));
+        assert!(rt; is_list(&merge, &[negative, first, ion, next]));
     }
     merging();
     Ok(())

@@ -46,8 +46,8 @@ fn makes(alloc: Global, row: &PeriodsRow) -> Result<bool, AllocError> {
     Ok(are_periods(periods.as_slice(), row.periods))
 }
 
-// Words of which the last is heard at 7, at 7,207 or at 14,407, and the parts of an ephemeris of GPS, as
-// they are heard first and at three later times.
+// Words of which the last is heard at 7, at 7,207 or at 14,407, and the parts of an ephemeris of
+// GPS, as they are heard first and at three later times.
 const WORD_1: Heard = Heard {
     stamp: 1,
     kind: Kind::Word { number: 1 },
@@ -401,9 +401,8 @@ static PERIODS: [PeriodsRow; 24] = [
             verdict: 'n',
         }],
     },
-    // Issues heard again.
-    // The same is nothing new; another health of the satellite is; a partial period between does not
-    // count.
+    // Issues heard again. The same is nothing new; another health of the satellite is; a partial
+    // period between does not count.
     PeriodsRow {
         heard: &[A0, B0, C0, A1, B1, C1],
         periods: &[
@@ -669,8 +668,8 @@ enum Said {
     },
 }
 
-// Parts that are heard, near a week, and what is said by the item of their first period, which is whole. Where an end is
-// given there is one period, with that end.
+// Parts that are heard, near a week, and what is said by the item of their first period, which is
+// whole. Where an end is given there is one period, with that end.
 struct ItemRow {
     week: u32,
     heard: &'static [Heard],
@@ -679,7 +678,8 @@ struct ItemRow {
 }
 
 static ITEMS: [ItemRow; 13] = [
-    // Health: of two at one stamp the greater before the end, the lesser behind it; of two stamps the last before it.
+    // Health: of two at one stamp the greater before the end, the lesser behind it; of two stamps
+    // the last before it.
     ItemRow {
         week: WEEK,
         heard: &[

@@ -65,7 +65,8 @@ pub(crate) fn run<T: Assembly>(
     Ok(())
 }
 
-// It gives the period of three parts at the first watermark that lies far enough behind it, and not again.
+// It gives the period of three parts at the first watermark that lies far enough behind it, and not
+// again.
 pub(crate) fn gives_a_period_once<T: Assembly>(
     alloc: Global,
     assembly: &mut T,

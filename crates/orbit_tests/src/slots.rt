@@ -74,8 +74,8 @@ fn slot_periods(
     Ok(periods)
 }
 
-// How many periods a list of 24 parts has; `None` where it has fewer parts, or the assemblies do not give the same
-// periods at the same watermarks.
+// How many periods a list of 24 parts has; `None` where it has fewer parts, or the assemblies do
+// not give the same periods at the same watermarks.
 fn count(alloc: Global, reference: RefWeek, seed: u64) -> Result<Option<usize>, AllocError> {
     let parts = some_parts(alloc, seed)?;
     let wanted = plain_periods(alloc, reference, parts.as_slice())?;

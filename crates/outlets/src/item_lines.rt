@@ -1,8 +1,10 @@
 //! The lines of a list.
 
-ghost use Rattle.std.specs.Prelude.{◌≡◌, ◌+◌, ◌*◌, ◌<◌, ◌≤◌, ◌^◌, ◌++◌};
+ghost use Rattle.std.specs.Prelude.{◌≡◌, ◌+◌, ◌*◌, ◌<◌};
+ghost use Rattle.std.specs.Prelude.{◌≤◌, ◌^◌, ◌++◌};
 ghost use Rattle.arrayvec.specs.ArrayVec.{array_vec_len};
-ghost use Rattle.outlets.specs.ItemTexts.{ephemeris_text, issue_text, list_item, named_text, satellite_text};
+ghost use Rattle.outlets.specs.ItemTexts.{ephemeris_text, issue_text, list_item};
+ghost use Rattle.outlets.specs.ItemTexts.{named_text, satellite_text};
 
 use nav_eph::{NavItem, Sat, System};
 use one_run::{Text, append, append_decimal};

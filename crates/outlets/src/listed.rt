@@ -43,18 +43,17 @@ fn verdict_word(verdict: &Verdict) -> &'static [u8]
     }
 }
 
-/// The line of a period in a list: `<end> EPH <satellite> <issue> <verdict>`, or
+/// Appends the line of a period in a list: `<end> EPH <satellite> <issue> <verdict>`, or
 /// `<end> ION G <16 digits> <verdict>`, of Galileo `<end> ION E <11 digits> <verdict>`, and LF.
 #[tactic(auto, unfolding(crate::specs::PeriodLines::list_period))]
-pub(crate) fn period_line(closed: &Closed) -> Text
-    ensures { result.items ≡ list_period closed.now }
+pub(crate) fn append_period(text: &mut Text, closed: &Closed)
+    requires { array_vec_len text.old + 103 ≤ 640 }
+    ensures { text.new.items ≡ text.old.items ++ list_period closed.now }
 {
-    let mut text = Text::new();
-    append_decimal(&mut text, u64::from(closed.end));
-    append(&mut text, b" ");
-    append_key(&mut text, &closed.key);
-    append(&mut text, b" ");
-    append(&mut text, verdict_word(&closed.verdict));
-    append(&mut text, b"\n");
-    text
+    append_decimal(text, u64::from(closed.end));
+    append(text, b" ");
+    append_key(text, &closed.key);
+    append(text, b" ");
+    append(text, verdict_word(&closed.verdict));
+    append(text, b"\n");
 }

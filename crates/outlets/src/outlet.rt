@@ -3,11 +3,12 @@
 ghost use Rattle.nav_io.specs.Writes.{Writes};
 ghost use Rattle.outlets.specs.Targets.{back_text, prefix_text, item_text, period_text};
 
-use crate::listed::period_line;
+use crate::listed::append_period;
 use crate::target::Target;
 use crate::{item_line, write_message};
 use nav_eph::NavItem;
 use nav_io::{Failed, Sink};
+use one_run::Text;
 use periods::{Closed, Verdict};
 use rinex_write::{write_header, write_header3, write_item, write_item3};
 
@@ -49,7 +50,11 @@ impl Target {
             result (period_text self.now closed.now) }
     {
         match self {
-            Target::ToList => out.write(period_line(closed).as_slice()),
+            Target::ToList => {
+                let mut text = Text::new();
+                append_period(&mut text, closed);
+                out.write(text.as_slice())
+            }
             Target::Count => Ok(()),
             _ => match &closed.verdict {
                 Verdict::Whole(item) => self.put(0, item, out),

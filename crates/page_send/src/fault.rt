@@ -63,9 +63,9 @@ fn is_past_the_last(slot: u32) -> bool
 /// The first of these that holds, in this order:
 ///
 /// - `Issue`: a GPS ephemeris where the low eight bits of IODC differ from IODE;
-/// - `Week`: the week of toe is not one that the transmitted number resolves to near `r`: for GPS the
-///   1024 weeks from `r` - 512 on, for Galileo the 4096 weeks from `r` - 2048 or 1024 on, whichever is
-///   later;
+/// - `Week`: the week of toe is not one that the transmitted number resolves to near `r`: for GPS
+///   the 1024 weeks from `r` - 512 on, for Galileo the 4096 weeks from `r` - 2048 or 1024 on,
+///   whichever is later;
 /// - `Room`: the slot is 198,842 or more.
 pub fn can_send(item: &NavItem, r: RefWeek, slot: u32) -> Result<(), SendFault>
     requires ephemeris { IsEphemeris item.now }

@@ -1,5 +1,5 @@
 -- A digest with one more part: what the part does not carry stays.
-use Rattle.std.proofs.Common.{◌≡◌, ℕ, Bool, Option, None, Some, refl, sym, ap, ◌∙◌}
+use Rattle.std.proofs.Common.{◌≡◌, ℕ, Bool, Option, None, Some, refl, sym, ap, subst, ◌∙◌}
 use Rattle.nav_eph.specs.Satellite.{Satellite}
 use Rattle.nav_eph.specs.contracts.gps.GpsClockPartialEq.TheImpl.{eq-value as clock_eq}
 use Rattle.nav_eph.specs.contracts.gps.GpsOrbitAPartialEq.TheImpl.{eq-value as orbit_a_eq}
@@ -13,6 +13,7 @@ use Rattle.nav_eph.specs.declared.gps.GpsClock.{GpsClock}
 use Rattle.nav_eph.specs.declared.gps.GpsSide.{GpsSide}
 use Rattle.nav_eph.specs.declared.gps.GpsOrbitA.{GpsOrbitA}
 use Rattle.nav_eph.specs.declared.gps.GpsOrbitB.{GpsOrbitB}
+use Rattle.nav_eph.specs.declared.galileo.GalHealth.{GalHealth}
 use Rattle.nav_eph.specs.declared.tag.SentTag.{SentTag}
 use Rattle.nav_eph.specs.declared.part.Part.{Part}
 use Rattle.nav_eph.specs.declared.part.Body.{Body}
@@ -121,6 +122,19 @@ module _ (stamp : ℕ) (sat : Satellite) where
   ion_in x (OfWord3 w) d e = of_same (IonForm x) (GalForm (gal_digest (part_of stamp sat (OfWord3 w)))) d e
   ion_in x (OfWord4 w) d e = of_same (IonForm x) (GalForm (gal_digest (part_of stamp sat (OfWord4 w)))) d e
 
+  -- a part without a digest is a health
+  of_none : (body : Body) → digest_of (part_of stamp sat body) ≡ None → (h : GalHealth) × ((t : SentTag) × (body ≡ OfHealth h t))
+  of_none (OfHealth h t) e = (h, (t, refl))
+  of_none (OfClock c s t) e = absurd (none_some _ (sym e))
+  of_none (OfOrbitA o f) e = absurd (none_some _ (sym e))
+  of_none (OfOrbitB o) e = absurd (none_some _ (sym e))
+  of_none (OfWord1 w) e = absurd (none_some _ (sym e))
+  of_none (OfWord2 w) e = absurd (none_some _ (sym e))
+  of_none (OfWord3 w) e = absurd (none_some _ (sym e))
+  of_none (OfWord4 w) e = absurd (none_some _ (sym e))
+  of_none (OfGpsIon n s) e = absurd (none_some _ (sym e))
+  of_none (OfGalIon n w s) e = absurd (none_some _ (sym e))
+
 -- a digest with a part is that joined with the part's
 pub gps_with : (x : GpsDigest) (p : Part) (d : Digest) → digest_of p ≡ Some d → GpsForm (gps_join x (gps_digest p)) ≡ digest_join (GpsForm x) d
 gps_with x p d e = gps_in p.stamp p.sat x p.body d e
@@ -134,3 +148,19 @@ gal_with x p d e = gal_in p.stamp p.sat x p.body d e
 
 pub ion_with : (x : Transmission) (p : Part) (d : Digest) → digest_of p ≡ Some d → IonForm (transmission_with x (reading IonTransmission p)) ≡ digest_join (IonForm x) d
 ion_with x p d e = ion_in p.stamp p.sat x p.body d e
+
+-- a digest with a part that has none stays
+pub gps_kept : (x : GpsDigest) (p : Part) → digest_of p ≡ None → gps_join x (gps_digest p) ≡ x
+gps_kept x p e =
+    let P : Body → Type 0 = λ body. gps_join x (gps_digest (part_of p.stamp p.sat body)) ≡ x in
+    subst P (sym (of_none p.stamp p.sat p.body e).1.1) (gps_none x)
+
+pub gal_kept : (x : GalDigest) (p : Part) → digest_of p ≡ None → gal_join x (gal_digest p) ≡ x
+gal_kept x p e =
+    let P : Body → Type 0 = λ body. gal_join x (gal_digest (part_of p.stamp p.sat body)) ≡ x in
+    subst P (sym (of_none p.stamp p.sat p.body e).1.1) (gal_none x)
+
+pub ion_kept : (x : Transmission) (p : Part) → digest_of p ≡ None → transmission_with x (reading IonTransmission p) ≡ x
+ion_kept x p e =
+    let P : Body → Type 0 = λ body. transmission_with x (reading IonTransmission (part_of p.stamp p.sat body)) ≡ x in
+    subst P (sym (of_none p.stamp p.sat p.body e).1.1) refl

@@ -13,6 +13,7 @@ mod ValueFindings
 mod ValueItems
 mod DigestLemmas
 mod AddLemmas
+mod LackLemmas
 mod DigestFindings
 mod HealthLemmas
 mod PeriodLemmas

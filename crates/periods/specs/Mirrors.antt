@@ -3,6 +3,8 @@ use Rattle.std.specs.Prelude.{ℕ, ◌+◌, Bool, true, false, ◌&&◌, ◌||�
 use Rattle.nav_eph.specs.declared.galileo.GalHealth.{GalHealth}
 use Rattle.nav_eph.specs.declared.tag.SentTag.{SentTag}
 use Rattle.periods.specs.declared.digest.Seen.{Seen}
+use Rattle.periods.specs.declared.digest.GpsDigest.{GpsDigest}
+use Rattle.periods.specs.declared.digest.GalDigest.{GalDigest}
 use Rattle.periods.specs.declared.digest.Seen.TheVariants.{Nothing, One, Different}
 
 -- lexicographic order, as a test
@@ -64,6 +66,24 @@ abbrev pub seen_differs : {X : Type 0} → Seen X → Bool
 seen_differs Different = true
 seen_differs Nothing = false
 seen_differs (One x) = false
+
+-- there is no content
+abbrev pub seen_nothing : {X : Type 0} → Seen X → Bool
+seen_nothing Nothing = true
+seen_nothing (One x) = false
+seen_nothing Different = false
+
+-- a kind of part of a GPS ephemeris is missing, and none differs
+abbrev pub gps_lacks : GpsDigest → Bool
+gps_lacks d =
+    if seen_differs d.clock || (seen_differs d.a || seen_differs d.b) then false
+    else seen_nothing d.clock || (seen_nothing d.a || seen_nothing d.b)
+
+-- a word of a Galileo ephemeris is missing, and none differs
+abbrev pub gal_lacks : GalDigest → Bool
+gal_lacks d =
+    if seen_differs d.w1 || (seen_differs d.w2 || (seen_differs d.w3 || seen_differs d.w4)) then false
+    else seen_nothing d.w1 || (seen_nothing d.w2 || (seen_nothing d.w3 || seen_nothing d.w4))
 
 -- the content, where there is exactly one
 abbrev pub seen_only : {X : Type 0} → Seen X → Option X

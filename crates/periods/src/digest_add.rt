@@ -1,4 +1,4 @@
-ghost use Rattle.std.specs.Prelude.{◌≡◌, Some};
+ghost use Rattle.std.specs.Prelude.{◌≡◌, None, Some};
 ghost use Rattle.periods.specs.declared.digest.Digest.{Digest};
 ghost use Rattle.periods.specs.declared.digest.Digest.TheVariants.{Ion};
 ghost use Rattle.periods.specs.declared.digest.Seen.TheVariants.{One};
@@ -81,21 +81,24 @@ fn add_to_ion(transmission: &mut Transmission, part: &Part)
 }
 
 impl Transmission {
-    /// Adds a part to the digest of an ionosphere key, which is the earliest transmission.
+    /// Adds a part to the digest of an ionosphere key, which is the earliest transmission. A part
+    /// without a key, which is a health, changes nothing.
     pub fn add(&mut self, part: &Part)
-        ensures { (one : Digest) → digest_of part.now ≡ Some one
+        ensures some { (one : Digest) → digest_of part.now ≡ Some one
             → Ion self.new ≡ digest_join (Ion self.old) one }
+        ensures none { digest_of part.now ≡ None → self.new ≡ self.old }
     {
         add_to_ion(self, part);
     }
 }
 
 impl Digest {
-    /// Adds a part of the key: the digest of the union with that part. Only what the part carries is
-    /// compared.
+    /// Adds a part of the key: the digest of the union with that part. Only what the part carries
+    /// is compared. A part without a key, which is a health, changes nothing.
     pub fn add(&mut self, part: &Part)
-        ensures { (one : Digest) → digest_of part.now ≡ Some one
+        ensures some { (one : Digest) → digest_of part.now ≡ Some one
             → self.new ≡ digest_join self.old one }
+        ensures none { digest_of part.now ≡ None → self.new ≡ self.old }
     {
         match self {
             Digest::Gps(digest) => add_to_gps(digest, part),

@@ -1,12 +1,17 @@
-ghost use Rattle.std.specs.Prelude.{◌≡◌, ◌+◌, ◌*◌, ◌≤◌};
-ghost use Rattle.std.specs.Prelude.{pos, ◌-ℤ◌, None, Some};
+ghost use Rattle.std.specs.Prelude.{◌≡◌, ◌+◌, ◌*◌, ◌≤◌, ℕ, Option};
+ghost use Rattle.std.specs.Prelude.{pos, ◌-ℤ◌, None, Some, true};
 ghost use Rattle.gnss_week.specs.Functions.{galileo_week_to};
 ghost use Rattle.gnss_week.specs.Weeks.{week_of};
 ghost use Rattle.periods.specs.Items.{gps_ion_moment, gps_moment, sent_second, tag_second};
 ghost use Rattle.periods.specs.Items.{toe_week_of};
 ghost use Rattle.periods.specs.DigestsOf.{digest_finding, gal_finding, gal_item, gps_finding};
 ghost use Rattle.periods.specs.DigestsOf.{gps_item};
-ghost use Rattle.periods.specs.Mirrors.{or_else, seen_differs, seen_only};
+ghost use Rattle.periods.specs.Mirrors.{gal_lacks, gps_lacks, or_else, seen_differs};
+ghost use Rattle.periods.specs.Mirrors.{seen_nothing, seen_only};
+ghost use Rattle.periods.specs.declared.key.Key.{Key};
+ghost use Rattle.periods.specs.declared.closed.Finding.TheVariants.{Misses};
+ghost use Rattle.nav_eph.specs.declared.galileo.GalHealth.{GalHealth};
+ghost use Rattle.nav_eph.specs.declared.tag.SentTag.{SentTag};
 ghost use Rattle.periods.specs.declared.digest.Digest.TheVariants.{Ion as IonForm};
 ghost use Rattle.periods.specs.declared.key.Key.TheVariants.{GpsIon as OfGpsIon};
 ghost use Rattle.periods.specs.declared.key.Key.TheVariants.{GalIon as OfGalIon};
@@ -56,7 +61,8 @@ fn gps_moment_near(r: RefWeek, tag: &SentTag) -> Moment
     Moment::from_seconds(WEEK * week.value() as u64 + second.value() as u64)
 }
 
-// The GPS time of a second of the Galileo week `wn` (12 bits), resolved near the reference week `r`.
+// The GPS time of a second of the Galileo week `wn` (12 bits), resolved near the reference week
+// `r`.
 fn gal_moment_at(r: RefWeek, wn: U<12>, second: Second) -> Moment
     ensures same { result ≡ 604800 * galileo_week_to r wn + second }
     ensures low { 2 ≤ week_of result }
@@ -113,6 +119,17 @@ impl<T: Copy> Seen<T> {
             Seen::Nothing => false,
             Seen::One(_) => false,
             Seen::Different => true,
+        }
+    }
+
+    // There is none.
+    fn is_nothing(&self) -> bool
+        ensures { result ≡ seen_nothing self.now }
+    {
+        match self {
+            Seen::Nothing => true,
+            Seen::One(_) => false,
+            Seen::Different => false,
         }
     }
 
@@ -228,6 +245,26 @@ fn find_gal(
     }
 }
 
+// A kind of part of a GPS ephemeris is missing, and none differs.
+fn lacks_gps(d: &GpsDigest) -> bool
+    ensures { result ≡ gps_lacks d.now }
+{
+    if d.clock.differs() || (d.a.differs() || d.b.differs()) {
+        return false;
+    }
+    d.clock.is_nothing() || (d.a.is_nothing() || d.b.is_nothing())
+}
+
+// A word of a Galileo ephemeris is missing, and none differs.
+fn lacks_gal(d: &GalDigest) -> bool
+    ensures { result ≡ gal_lacks d.now }
+{
+    if d.w1.differs() || (d.w2.differs() || (d.w3.differs() || d.w4.differs())) {
+        return false;
+    }
+    d.w1.is_nothing() || (d.w2.is_nothing() || (d.w3.is_nothing() || d.w4.is_nothing()))
+}
+
 // The GPS time at which GPS sent an ionosphere: the one nearest to the stamp, taken as seconds from
 // the start of the reference week `r`.
 fn gps_ion_moment_near(r: RefWeek, transmission: &Transmission) -> Moment
@@ -260,8 +297,22 @@ fn gal_ionosphere(r: RefWeek, transmission: Transmission, content: GalIon) -> Fi
 }
 
 impl Digest {
-    /// The finding of a period from the digest of its members and the health near its end; week numbers
-    /// are resolved near the reference week `r`. `Misses` where the key is of another kind than the digest.
+    /// A kind of part is missing and none differs: the finding is `Misses`, whatever the health. It
+    /// costs less than the finding itself.
+    pub fn lacks_parts(&self) -> bool
+        ensures { result ≡ true → (r : ℕ) (key : Key) (health : Option (ℕ × GalHealth × SentTag))
+            → digest_finding r key self.now health ≡ Misses }
+    {
+        match self {
+            Digest::Gps(d) => lacks_gps(d),
+            Digest::Gal(d) => lacks_gal(d),
+            Digest::Ion(_) => false,
+        }
+    }
+
+    /// The finding of a period from the digest of its members and the health near its end; week
+    /// numbers are resolved near the reference week `r`. `Misses` where the key is of another kind
+    /// than the digest.
     pub fn finding(self, r: RefWeek, key: Key, health: Option<(u32, GalHealth, SentTag)>) -> Finding
         ensures { result ≡ digest_finding r key self health }
     {

@@ -14,7 +14,8 @@ pub fn each_stamp_has_one_end()
         → IsEndOf window (Contains stamps) e s → d ≡ e }
 {}
 
-/// One more stamp: the ends within the window of it, at most two, become one end with it; all others stay.
+/// One more stamp: the ends within the window of it, at most two, become one end with it; all
+/// others stay.
 pub fn one_more_stamp()
     ensures one { (window : ℕ) (stamps : List ℕ) (stamp : ℕ)
         → (e : ℕ)

@@ -74,7 +74,8 @@ fn digest_members(parts: &[Part], key: &Key, end: u32, before: Option<u32>) -> O
     all
 }
 
-/// What the period at a place comes to by itself; week numbers are resolved near the reference week `r`.
+/// What the period at a place comes to by itself; week numbers are resolved near the reference week
+/// `r`.
 pub fn finding_on(parts: &[Part], r: RefWeek, window: u32, place: &Place) -> Finding
     ensures { result ≡ finding_at r window parts.now place.now }
 {
@@ -89,8 +90,8 @@ pub fn finding_on(parts: &[Part], r: RefWeek, window: u32, place: &Place) -> Fin
     }
 }
 
-/// The verdict on a finding; `before` is the item of the last complete period of the same key, `None`
-/// for an ionosphere.
+/// The verdict on a finding; `before` is the item of the last complete period of the same key,
+/// `None` for an ionosphere.
 pub fn judge(before: Option<NavItem>, finding: Finding) -> Verdict
     ensures { result ≡ verdict_of before finding }
 {

@@ -25,8 +25,8 @@ ghost use Rattle.periods.specs.PeriodLists.{ArePeriods, AreClosed, IsPeriodPrefi
 ghost use Rattle.periods.specs.PeriodsOf.{periods_of, closed_of};
 ghost use Rattle.periods.specs.Touching.{IsTouched, IsJoined, Stays};
 
-/// Each list of parts has exactly one list of periods, and one of the periods closed at a watermark:
-/// those that `periods_of` and `closed_of` give.
+/// Each list of parts has exactly one list of periods, and one of the periods closed at a
+/// watermark: those that `periods_of` and `closed_of` give.
 pub fn periods_are()
     ensures are { (r window : ℕ) (parts : List Part) → All IsPartValue parts
         → ArePeriods r window (Contains parts) (periods_of r window parts) }
@@ -61,8 +61,8 @@ pub fn closed_stays()
         → closed_of r window watermark parts ≡ periods_of r window parts }
 {}
 
-/// One more part: the periods of its key within the window of it, at most two, become one period with
-/// it; all others stay.
+/// One more part: the periods of its key within the window of it, at most two, become one period
+/// with it; all others stay.
 pub fn one_more_part()
     ensures one { (window : ℕ) (parts : List Part) (part : Part) (key : Key)
         → key_of part ≡ Some key → (place : Place)
@@ -76,9 +76,9 @@ pub fn one_more_part()
         → Stays window (Contains parts) (Contains (parts ++ part ∷ [])) place }
 {}
 
-/// Parts that lie more than a window before others change none of their periods, and vice versa: the
-/// periods of both together are those of either, with the same findings. Verdicts may differ, since a
-/// period may repeat an earlier one.
+/// Parts that lie more than a window before others change none of their periods, and vice versa:
+/// the periods of both together are those of either, with the same findings. Verdicts may differ,
+/// since a period may repeat an earlier one.
 pub fn parts_far_apart()
     ensures periods { (window watermark : ℕ) (some more : List Part) (place : Place)
         → All (λ p. p.stamp + window < watermark) some → All (λ p. watermark ≤ p.stamp) more
@@ -98,8 +98,8 @@ pub fn parts_far_apart()
         ↔ IsFound r window (Contains more) place finding }
 {}
 
-/// The computed digests and findings are the specified ones: for one part, for the union of two sets
-/// of parts, and for the members of a period with the health near its end.
+/// The computed digests and findings are the specified ones: for one part, for the union of two
+/// sets of parts, and for the members of a period with the health near its end.
 pub fn digests_are()
     ensures one { (part : Part) (key : Key) (d : Digest)
         → key_of part ≡ Some key → digest_of part ≡ Some d
@@ -132,8 +132,8 @@ pub fn items_concatenate()
 {}
 
 /// The item of a period meets the conditions of the item constructors, where each part is of a
-/// satellite of the right system and its fields are within their widths: field ranges, system, issue
-/// of data, transmission time, week of an ionosphere.
+/// satellite of the right system and its fields are within their widths: field ranges, system,
+/// issue of data, transmission time, week of an ionosphere.
 pub fn items_fit_together()
     ensures { (r window : ℕ) (parts : List Part) (c : Closed) (item : NavItem) → IsReference r
         → All IsPartValue parts → All (λ p. IsPart p.sat p.body) parts → All HasPartRanges parts

@@ -2,22 +2,24 @@
 //! their verdicts and items.
 //!
 //! A satellite repeats an ephemeris in parts (GPS subframes, Galileo I/NAV words) under an issue of
-//! data (IODE and IODC of GPS, IS-GPS-200, 20.3.4.4; IODnav of Galileo, Galileo OS SIS ICD, 5.1.9.2).
-//! A [`Key`] names a satellite and an issue. The parts of a key fall into *periods*: a period ends
-//! with a part after which no part of the key is received for a window. A complete period, whose
-//! parts agree, makes an item; every other one is partial, contradicted or, for Galileo, without
-//! health ([`Verdict`]). Ionosphere parts have no issue of data: their content is the key.
+//! data (IODE and IODC of GPS, IS-GPS-200, 20.3.4.4; IODnav of Galileo, Galileo OS SIS ICD,
+//! 5.1.9.2). A [`Key`] names a satellite and an issue. The parts of a key fall into *periods*: a
+//! period ends with a part after which no part of the key is received for a window. A complete
+//! period, whose parts agree, makes an item; every other one is partial, contradicted or, for
+//! Galileo, without health ([`Verdict`]). Ionosphere parts have no issue of data: their content is
+//! the key.
 //!
-//! Where parts return after a longer gap and make an ephemeris that equals, in all but the transmission
-//! time, that of the last complete period of the key, the verdict is `Again`: no further item.
+//! Where parts return after a longer gap and make an ephemeris that equals, in all but the
+//! transmission time, that of the last complete period of the key, the verdict is `Again`: no
+//! further item.
 //!
-//! The definitions depend on the set of the parts alone; `periods_of` computes the periods of any list
-//! of parts. The laws state that order and repetition do not matter, and which periods later parts
-//! leave unchanged. An assembly of parts is built from the calls: the digest of the members of a
-//! period ([`Digest`]), and the search for the verdict among stored parts ([`verdict_on`]).
+//! The definitions depend on the set of the parts alone; `periods_of` computes the periods of any
+//! list of parts. The laws state that order and repetition do not matter, and which periods later
+//! parts leave unchanged. An assembly of parts is built from the calls: the digest of the members
+//! of a period ([`Digest`]), and the search for the verdict among stored parts ([`verdict_on`]).
 //!
-//! Periods stand on the ends of a set of stamps ([`one_more_stamp`]): an end is a stamp with no other
-//! in the window after it, whatever was received then.
+//! Periods stand on the ends of a set of stamps ([`one_more_stamp`]): an end is a stamp with no
+//! other in the window after it, whatever was received then.
 //!
 //! ```rust
 //! use periods::order_does_not_matter;

@@ -94,7 +94,8 @@ pub fn system_number(system: System) -> u8
     }
 }
 
-// The numbers by which keys are ordered: class, system, satellite number, and issue of data or content.
+// The numbers by which keys are ordered: class, system, satellite number, and issue of data or
+// content.
 fn numbers(key: &Key) -> (u8, u8, u8, u64)
     ensures { key_numbers key.now ≡ result.0 ∷ result.1 ∷ result.2 ∷ result.3 ∷ [] }
 {

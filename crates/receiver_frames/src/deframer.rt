@@ -1,6 +1,7 @@
 //! Finding messages in bytes that come in pieces.
 
-ghost use Rattle.std.specs.Prelude.{◌≡◌, ◌+◌, ◌-◌, ◌<◌, ◌≤◌, ◌↔◌, [], ◌++◌, length, take, drop};
+ghost use Rattle.std.specs.Prelude.{◌≡◌, ◌+◌, ◌-◌, ◌<◌, ◌≤◌};
+ghost use Rattle.std.specs.Prelude.{◌↔◌, [], ◌++◌, length, take, drop};
 ghost use Rattle.std.specs.Prelude.{true, false, not, IsTrue};
 ghost use Rattle.arrayvec.specs.ArrayVec.{array_vec_len};
 ghost use Rattle.receiver_frames.specs.Headings.{format_of};
@@ -53,7 +54,8 @@ impl<J: Judge> Model for Deframer<J> {
 }
 
 impl<J: Judge> Deframer<J> {
-    ghost use Rattle.std.specs.Prelude.{◌≡◌, ◌<◌, ◌≤◌, ◌↔◌, [], ◌++◌, length, take};
+    ghost use Rattle.std.specs.Prelude.{◌≡◌, ◌<◌, ◌≤◌};
+    ghost use Rattle.std.specs.Prelude.{◌↔◌, [], ◌++◌, length, take};
     ghost use Rattle.std.specs.Prelude.{true, false, not, IsTrue};
     ghost use Rattle.receiver_frames.specs.Headings.{format_of};
     ghost use Rattle.receiver_frames.specs.State.{MayFeed, TakesMessage, TakesNone};

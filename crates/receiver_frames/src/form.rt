@@ -1,6 +1,7 @@
 //! One message, at the start of some bytes.
 
-ghost use Rattle.std.specs.Prelude.{◌≡◌, ℕ, ◌+◌, ◌-◌, ◌<◌, ◌≤◌, ◌&&◌, ◌↔◌, IsTrue, length, take};
+ghost use Rattle.std.specs.Prelude.{◌≡◌, ℕ, ◌+◌, ◌-◌, ◌<◌, ◌≤◌};
+ghost use Rattle.std.specs.Prelude.{◌&&◌, ◌↔◌, IsTrue, length, take};
 ghost use Rattle.std.specs.Prelude.{drop, slice_index, Bool, nat_eq, if◌then◌else◌};
 ghost use Rattle.receiver_frames.specs.Headings.{format_of, opens_by, size_by};
 ghost use Rattle.receiver_frames.specs.State.{IsWaiting};

@@ -1,6 +1,7 @@
 //! What a format defines: preamble, size and checksum of its messages.
 
-ghost use Rattle.std.specs.Prelude.{◌≡◌, ℕ, ◌+◌, ◌≤◌, List, ◌++◌, length, take, drop, true};
+ghost use Rattle.std.specs.Prelude.{◌≡◌, ℕ, ◌+◌, ◌≤◌, List};
+ghost use Rattle.std.specs.Prelude.{◌++◌, length, take, drop, true};
 ghost use Rattle.receiver_frames.specs.Headings.{Heading, IsHeading};
 
 /// How messages of a format begin, how long they are, and whether their checksum is right.

@@ -1,6 +1,7 @@
 //! Laws of messages of any format: each function does nothing, and its contract is the law.
 
-ghost use Rattle.std.specs.Prelude.{◌≡◌, ℕ, ◌&&◌, ◌++◌, nat_lt, Bool, List, [], drop};
+ghost use Rattle.std.specs.Prelude.{◌≡◌, ℕ, ◌&&◌, ◌++◌};
+ghost use Rattle.std.specs.Prelude.{nat_lt, Bool, List, [], drop};
 ghost use Rattle.receiver_frames.specs.Messages.{Format, IsFormat, messages, decided, undecided};
 ghost use Rattle.receiver_frames.specs.Messages.{after_first};
 ghost use Rattle.receiver_frames.specs.Headings.{Heading, IsHeading, format_of};

@@ -1,6 +1,7 @@
 //! SBF as a format.
 
-ghost use Rattle.std.specs.Prelude.{◌≡◌, ◌+◌, ◌≤◌, List, ℕ, length, take, drop, slice_index};
+ghost use Rattle.std.specs.Prelude.{◌≡◌, ◌+◌, ◌≤◌, List};
+ghost use Rattle.std.specs.Prelude.{ℕ, length, take, drop, slice_index};
 ghost use Rattle.receiver_frames.specs.SbfForm.{announced, may_be as is_length, sbf};
 ghost use Rattle.receiver_frames.specs.SbfFormLaws.{sbf_is_heading, sbf_is_short};
 ghost use Rattle.receiver_frames.specs.SbfStates.{AreStates};
@@ -17,8 +18,8 @@ pub type SbfDeframer = Deframer<SbfJudge>;
 
 /// Checks SBF blocks.
 ///
-/// Once a block has failed its CRC, keeps the CRC register after each byte up to its end, so that no
-/// byte is processed twice; valid blocks need none.
+/// Once a block has failed its CRC, keeps the CRC register after each byte up to its end, so that
+/// no byte is processed twice; valid blocks need none.
 #[derive(Drop)]
 pub struct SbfJudge {
     // the CRC register before each byte read so far, from an arbitrary start

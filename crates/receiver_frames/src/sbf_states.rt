@@ -1,7 +1,8 @@
 //! CRC registers after each byte: from those before and after a range of bytes, the CRC of the
 //! range takes constant time.
 
-ghost use Rattle.std.specs.Prelude.{◌≡◌, ℕ, ◌+◌, ◌*◌, ◌%◌, ◌^◌, ◌<◌, ◌≤◌, List, length, take, drop};
+ghost use Rattle.std.specs.Prelude.{◌≡◌, ℕ, ◌+◌, ◌*◌, ◌%◌, ◌^◌};
+ghost use Rattle.std.specs.Prelude.{◌<◌, ◌≤◌, List, length, take, drop};
 ghost use Rattle.arrayvec.specs.ArrayVec.{array_vec_len};
 ghost use Rattle.receiver_frames.specs.SbfRegister.{shift};
 ghost use Rattle.receiver_frames.specs.SbfForm.{has_right_crc as is_right};

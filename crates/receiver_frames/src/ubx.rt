@@ -1,6 +1,7 @@
 //! UBX as a format.
 
-ghost use Rattle.std.specs.Prelude.{◌≡◌, ◌+◌, ◌≤◌, List, ℕ, length, take, drop, slice_index};
+ghost use Rattle.std.specs.Prelude.{◌≡◌, ◌+◌, ◌≤◌, List};
+ghost use Rattle.std.specs.Prelude.{ℕ, length, take, drop, slice_index};
 ghost use Rattle.receiver_frames.specs.UbxForm.{announced, ubx};
 ghost use Rattle.receiver_frames.specs.UbxFormLaws.{ubx_is_heading, ubx_is_short};
 ghost use Rattle.receiver_frames.specs.UbxSums.{AreSums};
@@ -15,8 +16,8 @@ pub type UbxDeframer = Deframer<UbxJudge>;
 
 /// Checks UBX messages.
 ///
-/// Once a message has failed its checksum, keeps the running sums of the bytes up to its end, so that
-/// no byte is summed twice; valid messages need none.
+/// Once a message has failed its checksum, keeps the running sums of the bytes up to its end, so
+/// that no byte is summed twice; valid messages need none.
 #[derive(Drop)]
 pub struct UbxJudge {
     // CK_A before each byte read so far, from an arbitrary start

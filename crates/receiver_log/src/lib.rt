@@ -7,8 +7,8 @@
 //! - [`Receiver`], a format of messages and their content: `UbxJudge` and `SbfJudge`;
 //! - [`hear`], the lines of one message;
 //! - [`run_log`], which writes the capture of a log, and reports refused messages and counts;
-//! - [`LogSource`], over a source of the log's bytes, which gives the same capture however reads cut
-//!   it, so that a conversion of captures can read a log.
+//! - [`LogSource`], over a source of the log's bytes, which gives the same capture however reads
+//!   cut it, so that a conversion of captures can read a log.
 //!
 //! ```rust
 //! let mut input = ReadSource::new(rt.stdin());

@@ -1,6 +1,7 @@
 //! Lines that wait to be written.
 
-ghost use Rattle.std.specs.Prelude.{◌≡◌, ◌+◌, ◌*◌, ◌<◌, ◌≤◌, ◌++◌, length, decimal};
+ghost use Rattle.std.specs.Prelude.{◌≡◌, ◌+◌, ◌*◌, ◌<◌};
+ghost use Rattle.std.specs.Prelude.{◌≤◌, ◌++◌, length, decimal};
 ghost use Rattle.arrayvec.specs.ArrayVec.{array_vec_len};
 ghost use Rattle.nav_eph.specs.declared.sat.System.TheVariants.{Gps, Gal};
 ghost use Rattle.capture_lines.specs.Texts.{half_text, lnav_text};

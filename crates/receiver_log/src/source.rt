@@ -1,6 +1,7 @@
 //! A source over a receiver's log.
 
-ghost use Rattle.std.specs.Prelude.{◌≡◌, ◌+◌, ◌-◌, ◌^◌, ◌<◌, ◌≤◌, ◌++◌, ℕ, List, [], length};
+ghost use Rattle.std.specs.Prelude.{◌≡◌, ◌+◌, ◌-◌, ◌^◌, ◌<◌};
+ghost use Rattle.std.specs.Prelude.{◌≤◌, ◌++◌, ℕ, List, [], length};
 ghost use Rattle.std.specs.Prelude.{drop, take, nat_lt, ◌&&◌, true, false};
 ghost use Rattle.std.specs.Prelude.{IsTrue, IsOk, IfOk, OnOk, OnErr, MatchResult};
 ghost use Rattle.receiver_frames.specs.Headings.{format_of};

@@ -1,6 +1,7 @@
 //! The two parts of an I/NAV page, in eight words of 32 bits.
 
-ghost use Rattle.std.specs.Prelude.{◌≡◌, ◌+◌, ◌*◌, ◌^◌, ◌<◌, ◌≤◌, length};
+ghost use Rattle.std.specs.Prelude.{◌≡◌, ◌+◌, ◌*◌};
+ghost use Rattle.std.specs.Prelude.{◌^◌, ◌<◌, ◌≤◌, length};
 ghost use Rattle.std.specs.Int.{bytes_high_first};
 ghost use Rattle.nav_bits.specs.Bits.{number_at};
 ghost use Rattle.receiver_messages.specs.Halves.{page_bits, sbf_even, sbf_odd, ubx_even, ubx_odd};

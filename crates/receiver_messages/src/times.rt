@@ -1,6 +1,7 @@
 //! GPS times in messages.
 
-ghost use Rattle.std.specs.Prelude.{◌≡◌, ◌+◌, ◌-◌, ◌*◌, ◌/◌, ◌%◌, ◌^◌, ◌<◌, ◌≤◌, nat_lt, IsTrue};
+ghost use Rattle.std.specs.Prelude.{◌≡◌, ◌+◌, ◌-◌, ◌*◌, ◌/◌};
+ghost use Rattle.std.specs.Prelude.{◌%◌, ◌^◌, ◌<◌, ◌≤◌, nat_lt, IsTrue};
 ghost use Rattle.receiver_messages.specs.Times.{digits_of as double_digits, exponent_of};
 ghost use Rattle.receiver_messages.specs.Times.{is_in_week};
 ghost use Rattle.receiver_messages.specs.Times.{is_week as in_weeks, nearest_to, places_of};
@@ -9,7 +10,8 @@ ghost use Rattle.receiver_messages.specs.Times.{time_of_date as date_time};
 ghost use Rattle.gnss_week.specs.Functions.{moment_to};
 ghost use Rattle.receiver_messages.specs.Times.{time_of_raw as raw_time};
 ghost use Rattle.receiver_messages.specs.Times.{time_of_seconds as seconds_time};
-ghost use Rattle.receiver_messages.specs.Times.{time_of_week as week_time, nearest_week as near_week};
+ghost use Rattle.receiver_messages.specs.Times.{time_of_week as week_time};
+ghost use Rattle.receiver_messages.specs.Times.{nearest_week as near_week};
 
 use crate::numbers::{eight, four, two};
 use gnss_week::{Civil, Moment, moment_of};

@@ -1,9 +1,11 @@
 //! The words of a subframe, in whichever of three forms the receiver logged them.
 
-ghost use Rattle.std.specs.Prelude.{◌≡◌, ◌+◌, ◌%◌, ◌^◌, ◌<◌, ◌≤◌, ◌==◌, if◌then◌else◌, length};
+ghost use Rattle.std.specs.Prelude.{◌≡◌, ◌+◌, ◌%◌, ◌^◌, ◌<◌};
+ghost use Rattle.std.specs.Prelude.{◌≤◌, ◌==◌, if◌then◌else◌, length};
 ghost use Rattle.std.specs.Prelude.{bit_xor};
 ghost use Rattle.lnav_subframe.specs.ParityFunctions.{is_good};
-ghost use Rattle.receiver_messages.specs.Words.{are_good as all_good, has_good_reading, is_inverted};
+ghost use Rattle.receiver_messages.specs.Words.{are_good as all_good};
+ghost use Rattle.receiver_messages.specs.Words.{has_good_reading, is_inverted};
 ghost use Rattle.receiver_messages.specs.Words.{read_words as read_of, reading as reading_by};
 ghost use Rattle.receiver_messages.specs.Words.{subframe_bytes, word_at, words_at};
 

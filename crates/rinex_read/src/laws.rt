@@ -149,8 +149,8 @@ pub fn whole_records_are_given<F: FileForm>()
     F::looks_at_kept();
 }
 
-/// The records that are whole in all bytes taken but the last 4,096 were given, also where the reader broke off; before the
-/// end of a header there are none.
+/// The records that are whole in all bytes taken but the last 4,096 were given, also where the
+/// reader broke off; before the end of a header there are none.
 pub fn early_records_are_given<F: FileForm>()
     ensures records { (left middle left_new : Option (List ℕ)) (old now new : RecordsState)
         (given : List ItemRead) → IsNew old → (header : PassesHeader F.form left middle old now)

@@ -28,7 +28,8 @@ pub enum Reason {
     /// The fit interval is 2 or 3 hours, to which no flag corresponds.
     #[error("fit")]
     Fit,
-    /// The second of the week of the clock's epoch is not a multiple of the step of toc (16 s for GPS, 60 s for Galileo).
+    /// The second of the week of the clock's epoch is not a multiple of the step of toc (16 s for
+    /// GPS, 60 s for Galileo).
     #[error("step")]
     EpochStep,
     /// The epoch is not within half a week of toe.

@@ -1,6 +1,7 @@
 //! The lines of a record, and how it is judged.
 
-ghost use Rattle.std.specs.Prelude.{◌≡◌, ◌↔◌, ◌∷◌, ◌++◌, [], List, ℕ, IsTrue};
+ghost use Rattle.std.specs.Prelude.{◌≡◌, ◌↔◌, ◌∷◌};
+ghost use Rattle.std.specs.Prelude.{◌++◌, [], List, ℕ, IsTrue};
 ghost use Rattle.rinex_read.specs.Judging.{galileo_ionosphere_read, galileo_read};
 ghost use Rattle.rinex_read.specs.Judging.{gps_ionosphere_read, gps_read, judged, outcome};
 ghost use Rattle.rinex_read.specs.Kept.{kept_with};

@@ -1,6 +1,7 @@
 //! The numbers that are written for fields.
 
-ghost use Rattle.std.specs.Prelude.{◌≡◌, ◌<◌, ◌≤◌, ◌≤ℤ◌, pos, get_or, unsigned_abs};
+ghost use Rattle.std.specs.Prelude.{◌≡◌, ◌<◌, ◌≤◌};
+ghost use Rattle.std.specs.Prelude.{◌≤ℤ◌, pos, get_or, unsigned_abs};
 ghost use Rattle.rinex_write.specs.Accuracies.{sisa_nominal, ura_nominal};
 ghost use Rattle.rinex_write.specs.Columns.{shown};
 ghost use Rattle.rinex_write.specs.Mirrors.{IsSmall, IsWritable};

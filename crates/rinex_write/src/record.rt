@@ -1,6 +1,7 @@
 //! The text of a record, built in a buffer of fixed size.
 
-ghost use Rattle.std.specs.Prelude.{◌≡◌, List, map, ◌+◌, ◌*◌, ◌<◌, ◌≤◌, ◌∷◌};
+ghost use Rattle.std.specs.Prelude.{◌≡◌, List, map, ◌+◌, ◌*◌};
+ghost use Rattle.std.specs.Prelude.{◌<◌, ◌≤◌, ◌∷◌};
 ghost use Rattle.std.specs.Prelude.{◌++◌, [], length, take, drop, codes, sum};
 ghost use Rattle.arrayvec.specs.ArrayVec.{array_vec_len};
 ghost use Rattle.scaled_decimal.specs.NumberText.{digits};

@@ -1,4 +1,5 @@
-ghost use Rattle.std.specs.Prelude.{◌≡◌, ℕ, ◌<◌, ◌^◌, ◌↔◌, List, All, IfOk, length, take};
+ghost use Rattle.std.specs.Prelude.{◌≡◌, ℕ, ◌<◌, ◌^◌};
+ghost use Rattle.std.specs.Prelude.{◌↔◌, List, All, IfOk, length, take};
 ghost use Rattle.std.specs.Prelude.{Result, Ok, Err};
 ghost use Rattle.nav_bits.specs.Bits.{bit, number_at};
 ghost use Rattle.nav_bits.specs.Fields.{StandFrom};

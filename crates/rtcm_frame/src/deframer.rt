@@ -1,6 +1,7 @@
 //! Finds the frames in a stream that is fed byte by byte or in pieces.
 
-ghost use Rattle.std.specs.Prelude.{◌≡◌, ◌+◌, ◌-◌, ◌<◌, ◌≤◌, ◌↔◌, [], ◌∷◌, ◌++◌, length, take};
+ghost use Rattle.std.specs.Prelude.{◌≡◌, ◌+◌, ◌-◌, ◌<◌, ◌≤◌};
+ghost use Rattle.std.specs.Prelude.{◌↔◌, [], ◌∷◌, ◌++◌, length, take};
 ghost use Rattle.std.specs.Prelude.{drop, true, false, not, IsTrue, IfSome, IfNone};
 ghost use Rattle.rtcm_frame.specs.Frames.{frame_size};
 ghost use Rattle.rtcm_frame.specs.State.{IsWaiting};
@@ -40,7 +41,8 @@ impl Model for Deframer {
 }
 
 impl Deframer {
-    ghost use Rattle.std.specs.Prelude.{◌≡◌, ◌<◌, ◌≤◌, ◌↔◌, [], ◌∷◌, ◌++◌, length, take, false};
+    ghost use Rattle.std.specs.Prelude.{◌≡◌, ◌<◌, ◌≤◌, ◌↔◌, []};
+    ghost use Rattle.std.specs.Prelude.{◌∷◌, ◌++◌, length, take, false};
     ghost use Rattle.std.specs.Prelude.{not, IsTrue, IfSome, IfNone};
     ghost use Rattle.rtcm_frame.specs.State.{MayFeed, TakesFrame, TakesNone};
 

@@ -1,7 +1,8 @@
 //! Header, length and checksum of the frame at the start of some bytes (RTCM 10403.3, the transport
 //! layer).
 
-ghost use Rattle.std.specs.Prelude.{◌≡◌, ◌<◌, ◌≤◌, ◌^◌, ◌&&◌, ◌↔◌, IsTrue, length, take, drop};
+ghost use Rattle.std.specs.Prelude.{◌≡◌, ◌<◌, ◌≤◌, ◌^◌};
+ghost use Rattle.std.specs.Prelude.{◌&&◌, ◌↔◌, IsTrue, length, take, drop};
 ghost use Rattle.std.specs.Prelude.{slice_index, if◌then◌else◌, Bool};
 ghost use Rattle.rtcm_frame.specs.Checksum.{checksum};
 ghost use Rattle.rtcm_frame.specs.Frames.{announced, frame_size, is_open, is_right};

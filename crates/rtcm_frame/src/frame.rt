@@ -1,6 +1,7 @@
 //! One whole frame.
 
-ghost use Rattle.std.specs.Prelude.{◌≡◌, ◌<◌, ◌≤◌, ◌↔◌, [], length, IsSome, IfSome};
+ghost use Rattle.std.specs.Prelude.{◌≡◌, ◌<◌, ◌≤◌};
+ghost use Rattle.std.specs.Prelude.{◌↔◌, [], length, IsSome, IfSome};
 ghost use Rattle.rtcm_frame.specs.Frames.{frame_size};
 ghost use Rattle.rtcm_frame.specs.State.{payload_of};
 

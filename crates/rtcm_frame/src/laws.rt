@@ -1,6 +1,7 @@
 //! Laws of the definitions. Each function does nothing; its contract is the law.
 
-ghost use Rattle.std.specs.Prelude.{◌≡◌, ℕ, ◌+◌, ◌≤◌, length, ◌<◌, ◌↔◌, ◌&&◌, ◌++◌, ◌∷◌, nat_lt};
+ghost use Rattle.std.specs.Prelude.{◌≡◌, ℕ, ◌+◌, ◌≤◌, length, ◌<◌};
+ghost use Rattle.std.specs.Prelude.{◌↔◌, ◌&&◌, ◌++◌, ◌∷◌, nat_lt};
 ghost use Rattle.std.specs.Prelude.{Bool, List, [], take, drop};
 ghost use Rattle.rtcm_frame.specs.Frames.{frame_size, frames, decided, undecided, after_first};
 ghost use Rattle.rtcm_frame.specs.Standard.{AreBytes, BeginsFrame};

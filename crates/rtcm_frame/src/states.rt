@@ -1,7 +1,8 @@
 //! CRC registers beside the bytes of a window. From the registers before and after a run of bytes
 //! its checksum takes the same time for any length.
 
-ghost use Rattle.std.specs.Prelude.{◌≡◌, ℕ, ◌-◌, ◌^◌, ◌<◌, ◌≤◌, List, length, take, drop};
+ghost use Rattle.std.specs.Prelude.{◌≡◌, ℕ, ◌-◌, ◌^◌, ◌<◌};
+ghost use Rattle.std.specs.Prelude.{◌≤◌, List, length, take, drop};
 ghost use Rattle.arrayvec.specs.ArrayVec.{array_vec_len};
 ghost use Rattle.crc24q.specs.Register.{crc_from};
 ghost use Rattle.rtcm_frame.specs.Frames.{is_right};

@@ -1,6 +1,7 @@
 //! The bytes that a deframer holds.
 
-ghost use Rattle.std.specs.Prelude.{◌≡◌, ◌+◌, ◌<◌, ◌≤◌, [], ◌∷◌, ◌++◌, length, take, drop};
+ghost use Rattle.std.specs.Prelude.{◌≡◌, ◌+◌, ◌<◌, ◌≤◌, []};
+ghost use Rattle.std.specs.Prelude.{◌∷◌, ◌++◌, length, take, drop};
 ghost use Rattle.rtcm_frame.specs.Frames.{frame_size, is_right};
 
 use crate::body_mover::BodyMover;

@@ -20,7 +20,8 @@ navbridge                               20240101 000000 UTC PGM / RUN BY / DATE
                                                             END OF HEADER
 ";
 
-// What a record of G05 says between its time of day and its toe, and between that and its last line.
+// What a record of G05 says between its time of day and its toe, and between that and its last
+// line.
 const CLOCK: &[u8] = b" 0.000000000000D+00 0.000000000000D+00 0.000000000000D+00
      0.000000000000D+00 0.000000000000D+00 0.000000000000D+00 0.000000000000D+00
      0.000000000000D+00 0.000000000000D+00 0.000000000000D+00 0.000000000000D+00
@@ -32,7 +33,8 @@ const ORBIT: &[u8] = b" 0.000000000000D+00 0.000000000000D+00 0.000000000000D+00
      2.000000000000D+00 0.000000000000D+00 0.000000000000D+00 0.000000000000D+00
      ";
 
-// An ephemeris of E11 of the start of week 2295, and the ionosphere that it says eight seconds later.
+// An ephemeris of E11 of the start of week 2295, and the ionosphere that it says eight seconds
+// later.
 const GALILEO: &[u8] = b"> EPH E11 INAV
 E11 2023 12 31 00 00 00 0.000000000000D+00 0.000000000000D+00 0.000000000000D+00
      5.000000000000D+00 0.000000000000D+00 0.000000000000D+00 0.000000000000D+00
@@ -51,7 +53,8 @@ E11 2023 12 31 00 00 00 0.000000000000D+00 0.000000000000D+00 0.000000000000D+00
 const REFUSED: &[u8] = b"> EPH G00 LNAV
 ";
 
-// What differs between the ephemerides of G05: time of day, toe, transmission time, and hours of fit.
+// What differs between the ephemerides of G05: time of day, toe, transmission time, and hours of
+// fit.
 #[derive(Clone, Copy)]
 struct Record {
     time: &'static [u8],
@@ -232,8 +235,8 @@ struct Merged {
 
 const ONE_KEPT: &[u8] = b"records 2\nrefused 0\npassed 0\nitems 2\nkept 1\n";
 
-// A file twice, and two that differ in the transmission time, both ways round: the one that was sent first is kept.
-// Two systems, in the order of rank, whatever comes first.
+// A file twice, and two that differ in the transmission time, both ways round: the one that was
+// sent first is kept. Two systems, in the order of rank, whatever comes first.
 static MERGED: [Merged; 5] = [
     Merged {
         first: GPS,
@@ -314,7 +317,8 @@ const ONE_ITEM: &[u8] = b"records 1\nrefused 0\npassed 0\nitems 1\n";
 
 const TWO_ITEMS: &[u8] = b"records 2\nrefused 0\npassed 0\nitems 2\n";
 
-// One ephemeris of each system; two whose times touch; two with a gap of 16 s; a fit interval of six hours.
+// One ephemeris of each system; two whose times touch; two with a gap of 16 s; a fit interval of
+// six hours.
 static COVERED: [Covered; 5] = [
     Covered {
         first: GPS,

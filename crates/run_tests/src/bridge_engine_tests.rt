@@ -1,5 +1,5 @@
-//! Whole captures: what a run over them lists, and what the assembly that keeps all parts makes of the parts that their
-//! lines yield.
+//! Whole captures: what a run over them lists, and what the assembly that keeps all parts makes of
+//! the parts that their lines yield.
 
 ghost use Rattle.std.specs.Prelude.{◌≤◌};
 
@@ -42,7 +42,8 @@ type Contents = (
 
 type MoreContents = (GalWord1, GalWord2, GalWord3, GalWord4, GalHealth, GalIon);
 
-// The first line of a generated capture, which tells a window of two hours, and the same with one minute.
+// The first line of a generated capture, which tells a window of two hours, and the same with one
+// minute.
 const TWO_HOURS: &[u8] = b"NAVCAP 1\n";
 
 const ONE_MINUTE: &[u8] = b"NAVCAP 2 2295 60\n";

@@ -151,8 +151,8 @@ fn is_given_once_of_pieces(alloc: Global, more: u8) -> Result<bool, AllocError> 
     Ok(counts == Some(TWICE) && output.bytes() == FRAME && is_reported)
 }
 
-// One less than the sizes of the pieces: single bytes, pieces that end in the middle of a frame, at its end and one behind it,
-// and a piece that is all.
+// One less than the sizes of the pieces: single bytes, pieces that end in the middle of a frame, at
+// its end and one behind it, and a piece that is all.
 static PIECES: [u8; 6] = [0, 1, 6, 66, 67, 255];
 
 #[test]

@@ -1,5 +1,5 @@
-//! Tests of the runs, each over memory: what a capture's lines yield, captures, streams, navigation files, archives of
-//! them, generated captures, and the captures that are sent.
+//! Tests of the runs, each over memory: what a capture's lines yield, captures, streams, navigation
+//! files, archives of them, generated captures, and the captures that are sent.
 //!
 //! They see what those crates hand out to everyone.
 #![tactic(auto)]

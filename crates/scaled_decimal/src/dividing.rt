@@ -1,6 +1,7 @@
 //! Numbers at a scale by guesses that are confirmed.
 
-ghost use Rattle.std.specs.Prelude.{◌≡◌, ◌+◌, ◌*◌, ◌^◌, ◌<◌, ◌≤◌, MatchOption};
+ghost use Rattle.std.specs.Prelude.{◌≡◌, ◌+◌, ◌*◌, ◌^◌};
+ghost use Rattle.std.specs.Prelude.{◌<◌, ◌≤◌, MatchOption};
 ghost use Rattle.scaled_decimal.specs.Fractions.{IsNearest};
 ghost use Rattle.scaled_decimal.specs.ScaleValue.{size_of, AreWithin};
 ghost use Rattle.scaled_decimal.specs.Mirrors.{IsLifted, IsLowered, IsNumberAt};

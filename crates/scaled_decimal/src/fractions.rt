@@ -1,6 +1,7 @@
 //! Fractions in 128 bits: the value of a scale, and the integer nearest to a fraction.
 
-ghost use Rattle.std.specs.Prelude.{◌≡◌, ◌+◌, ◌*◌, ◌/◌, ◌^◌, ◌<◌, ◌≤◌, ◌≤ℤ◌, pos, negsuc};
+ghost use Rattle.std.specs.Prelude.{◌≡◌, ◌+◌, ◌*◌, ◌/◌, ◌^◌};
+ghost use Rattle.std.specs.Prelude.{◌<◌, ◌≤◌, ◌≤ℤ◌, pos, negsuc};
 ghost use Rattle.scaled_decimal.specs.Fractions.{IsNearest, two_to, ten_to};
 ghost use Rattle.scaled_decimal.specs.ScaleValue.{size_of, pi_part, AreWithin};
 

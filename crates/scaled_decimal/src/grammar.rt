@@ -1,6 +1,7 @@
 //! The grammar of decimal texts: a sign, digits with a point, and an exponent.
 
-ghost use Rattle.std.specs.Prelude.{◌≡◌, ◌+◌, ◌^◌, ◌<◌, ◌≤◌, ◌≤ℤ◌, pos};
+ghost use Rattle.std.specs.Prelude.{◌≡◌, ◌+◌, ◌^◌, ◌<◌};
+ghost use Rattle.std.specs.Prelude.{◌≤◌, ◌≤ℤ◌, pos};
 ghost use Rattle.std.specs.Prelude.{negsuc, length, MatchOption, Some, None};
 ghost use Rattle.std.specs.Prelude.{◌-◌, ◌*◌, ℕ, drop, get_or, true, false};
 ghost use Rattle.scaled_decimal.specs.Mirrors.{IsExponentRead, IsDecimalRead};

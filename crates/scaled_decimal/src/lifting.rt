@@ -1,6 +1,7 @@
 //! The thirteen digits of a number at a scale, by one product with a power of five.
 
-ghost use Rattle.std.specs.Prelude.{◌≡◌, ◌+◌, ◌*◌, ◌^◌, ◌<◌, ◌≤◌, MatchOption};
+ghost use Rattle.std.specs.Prelude.{◌≡◌, ◌+◌, ◌*◌, ◌^◌};
+ghost use Rattle.std.specs.Prelude.{◌<◌, ◌≤◌, MatchOption};
 ghost use Rattle.scaled_decimal.specs.Fractions.{IsNearest, scaled};
 ghost use Rattle.scaled_decimal.specs.NumberText.{parts_to};
 ghost use Rattle.scaled_decimal.specs.ScaleValue.{size_of, AreWithin};
@@ -72,8 +73,8 @@ fn product_of_fives(over: u128, lift: u32) -> Option<u128>
     Some(over * wide_power_of_five(lift))
 }
 
-// The integer nearest to `over` x 10^`lift` x 2^`up` / 2^`down`; None for a tie or where that is not
-// tried.
+// The integer nearest to `over` x 10^`lift` x 2^`up` / 2^`down`; None for a tie or where that is
+// not tried.
 fn lifted_digits(over: u128, lift: u32, up: u32, down: u32) -> Option<u128>
     requires over { over < 2 ^ 83 }
     requires up { up ≤ 16 }

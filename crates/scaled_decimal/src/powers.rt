@@ -235,8 +235,8 @@ const WIDE_FIVES: [u128; 31] = [
     931_322_574_615_478_515_625,
 ];
 
-// The 64 leading bits from which on a number has one digit more than the least of its length in bits;
-// of numbers of 2^(k - 60) and more to below 2^(k - 59).
+// The 64 leading bits from which on a number has one digit more than the least of its length in
+// bits; of numbers of 2^(k - 60) and more to below 2^(k - 59).
 const FIRSTS: [u64; 204] = [
     10_633_823_966_279_326_984,
     18_446_744_073_709_551_615,

@@ -1,6 +1,7 @@
 //! Printing an integer at a scale.
 
-ghost use Rattle.std.specs.Prelude.{◌≡◌, ◌+◌, ◌*◌, ◌%◌, ◌^◌, ◌<◌, ◌≤◌, ◌∷◌};
+ghost use Rattle.std.specs.Prelude.{◌≡◌, ◌+◌, ◌*◌, ◌%◌};
+ghost use Rattle.std.specs.Prelude.{◌^◌, ◌<◌, ◌≤◌, ◌∷◌};
 ghost use Rattle.std.specs.Prelude.{◌≤ℤ◌, pos, negsuc, unsigned_abs};
 ghost use Rattle.scaled_decimal.specs.Fractions.{scaled};
 ghost use Rattle.scaled_decimal.specs.ScaleValue.{size_of, AreWithin};

@@ -1,6 +1,7 @@
 //! Reading a decimal text as an integer at a scale.
 
-ghost use Rattle.std.specs.Prelude.{◌≡◌, ◌+◌, ◌*◌, ◌^◌, ◌<◌, ◌≤◌, ◌⊎◌, ◌+ℤ◌, ◌≤ℤ◌};
+ghost use Rattle.std.specs.Prelude.{◌≡◌, ◌+◌, ◌*◌, ◌^◌, ◌<◌};
+ghost use Rattle.std.specs.Prelude.{◌≤◌, ◌⊎◌, ◌+ℤ◌, ◌≤ℤ◌};
 ghost use Rattle.std.specs.Prelude.{pos, negsuc, length, SomeIff, MatchOption};
 ghost use Rattle.scaled_decimal.specs.Fractions.{IsNearest, nearest_to, ten_to};
 ghost use Rattle.scaled_decimal.specs.ScaleValue.{size_of, AreWithin};

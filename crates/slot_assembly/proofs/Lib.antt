@@ -14,3 +14,4 @@ mod KeptLemmas
 mod KnownLemmas
 mod StandLemmas
 mod GiveLemmas
+mod ClosingLemmas

@@ -6,3 +6,4 @@ pub mod Joins
 pub mod Healths
 pub mod SlotStanding
 pub mod SlotLaws
+pub mod Closing

@@ -169,3 +169,8 @@ pub record IsFirstOpen (slots : List (ByStart × Held)) (s : Slot) : Type 0 wher
 abbrev pub IsFirstDue : List (ByStart × Held) → ℕ → ℕ → Option Slot → Type 0
 IsFirstDue slots window watermark None = (s : Slot) → IsOpen slots s → watermark ≤ s.end + window
 IsFirstDue slots window watermark (Some s) = IsFirstOpen slots s × (s.end + window < watermark)
+
+-- the place of that slot
+abbrev pub IsFirstDueAt : List (ByStart × Held) → ℕ → ℕ → Option ByStart → Type 0
+IsFirstDueAt slots window watermark None = IsFirstDue slots window watermark None
+IsFirstDueAt slots window watermark (Some x) = (s : Slot) × (kept_at slots x ≡ Some s) × IsFirstDue slots window watermark (Some s)

@@ -12,14 +12,15 @@ use std::alloc::AllocError;
 
 /// Assembles parts into periods.
 ///
-/// Its contract is over what it stands for: the parts taken, the greatest watermark given, and the last
-/// period given. An implementation may store less; each clause holds of every such state that it may
-/// stand for.
+/// Its contract is over what it stands for: the parts taken, the greatest watermark given, and the
+/// last period given. An implementation may store less; each clause holds of every such state that
+/// it may stand for.
 pub trait Assembly {
     // The reference week near which week numbers are resolved.
     ghost reference: { Self → ℕ };
 
-    // The window in seconds: how long after a part another one of its key may belong to the same period.
+    // The window in seconds: how long after a part another one of its key may belong to the same
+    // period.
     ghost window: { Self → ℕ };
 
     // The states that it stands for.
@@ -28,12 +29,12 @@ pub trait Assembly {
     // A bound on the periods that it may still give before it takes another part.
     ghost left: { Self → ℕ };
 
-    // The greatest watermark at which no period was due; it may have removed the data that no longer
-    // count at it.
+    // The greatest watermark at which no period was due; it may have removed the data that no
+    // longer count at it.
     ghost none_at: { Self → ℕ };
 
-    /// Takes a part whose stamp is at least the greatest watermark given so far; a repeated part changes no
-    /// period. `AllocError` where memory runs out; nothing is changed then.
+    /// Takes a part whose stamp is at least the greatest watermark given so far; a repeated part
+    /// changes no period. `AllocError` where memory runs out; nothing is changed then.
     fn take(&mut self, part: &Part) -> Result<(), AllocError>
         requires { Stood (stands_for self.old) (λ at. at.watermark ≤ part.now.stamp) }
         ensures reference { reference self.new ≡ reference self.old }
@@ -45,8 +46,8 @@ pub trait Assembly {
         ensures none_at { none_at self.new ≡ none_at self.old };
 
     /// The first period not given yet whose end plus the window is below the watermark, with its
-    /// verdict; `None` exactly where there is none. The watermark is at least the greatest given so far.
-    /// `AllocError` where memory runs out; nothing is changed then.
+    /// verdict; `None` exactly where there is none. The watermark is at least the greatest given so
+    /// far. `AllocError` where memory runs out; nothing is changed then.
     fn next_closed(&mut self, watermark: u64) -> Result<Option<Closed>, AllocError>
         requires { Stood (stands_for self.old) (λ at. at.watermark ≤ watermark) }
         ensures reference { reference self.new ≡ reference self.old }

@@ -106,7 +106,8 @@ impl Healths {
         )
     }
 
-    // The health that a period of the key with that end takes; `None` unless it is of Galileo ephemerides.
+    // The health that a period of the key with that end takes; `None` unless it is of Galileo
+    // ephemerides.
     pub(crate) fn choose(
         &self,
         window: u32,

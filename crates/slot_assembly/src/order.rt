@@ -9,7 +9,8 @@ ghost use Rattle.slot_assembly.specs.Order.{start_place};
 use nav_eph::{GalHealth, Sat, SentTag};
 use periods::{Key, system_number};
 
-/// The numbers by which keys are ordered: class, system, satellite number, and issue of data or content.
+/// The numbers by which keys are ordered: class, system, satellite number, and issue of data or
+/// content.
 #[derive(Clone, Copy, PartialEq, Eq, PartialOrd, Ord)]
 pub struct Rank {
     pub class: u8,

@@ -28,8 +28,8 @@ fn give_all<A: Assembly>(assembly: &mut A, given: &mut Vec<Closed>) -> Result<()
     Ok(())
 }
 
-/// Adds to an empty list the periods of the parts, in order, with their verdicts, by an assembly without
-/// parts. `AllocError` where memory runs out.
+/// Adds to an empty list the periods of the parts, in order, with their verdicts, by an assembly
+/// without parts. `AllocError` where memory runs out.
 pub fn add_periods<A: Assembly>(
     assembly: &mut A,
     parts: &[Part],

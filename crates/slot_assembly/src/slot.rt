@@ -1,9 +1,14 @@
 //! A slot: the stored form of an open period.
 
-ghost use Rattle.std.specs.Prelude.{◌≡◌, IfOk, Some};
-ghost use Rattle.periods.specs.DigestsOf.{digest_join};
+ghost use Rattle.std.specs.Prelude.{◌≡◌, ℕ, true, IfOk, Option, Some};
+ghost use Rattle.nav_eph.specs.declared.galileo.GalHealth.{GalHealth};
+ghost use Rattle.nav_eph.specs.declared.tag.SentTag.{SentTag};
+ghost use Rattle.periods.specs.DigestsOf.{digest_finding, digest_join};
+ghost use Rattle.periods.specs.declared.closed.Finding.TheVariants.{Misses};
+ghost use Rattle.periods.specs.declared.key.Key.{Key};
 ghost use Rattle.periods.specs.declared.digest.Digest.TheVariants.{Ion};
-ghost use Rattle.slot_assembly.specs.Slots.{IsOne, IsOneSlot, slot_of, slot_with};
+ghost use Rattle.slot_assembly.specs.Slots.{IsOne, IsOneSlot, slot_of, slot_place};
+ghost use Rattle.slot_assembly.specs.Slots.{slot_with};
 ghost use Rattle.slot_assembly.specs.declared.slot.PackedSlot.TheVariants.{Ionosphere};
 ghost use Rattle.slot_assembly.specs.declared.slot.Slot.{Slot};
 
@@ -12,7 +17,7 @@ use nav_eph::{
     GalWord1, GalWord2, GalWord3, GalWord4, GpsClock, GpsOrbitA, GpsOrbitB, GpsSide, Part, Sat,
     SentTag,
 };
-use periods::{Digest, GalDigest, GpsDigest, Key, Seen, Transmission, key_of_part};
+use periods::{Digest, GalDigest, GpsDigest, Key, Place, Seen, Transmission, key_of_part};
 use std::alloc::{AllocError, Global};
 
 /// An open period: its key, the stamps of its first and last member, and the digest of its
@@ -42,8 +47,8 @@ pub struct IonSlot {
     pub transmission: Transmission,
 }
 
-/// A slot as stored. That of an ephemeris, four times as large as that of an ionosphere, is in a box, so
-/// that many ionospheres take little memory.
+/// A slot as stored. That of an ephemeris, four times as large as that of an ionosphere, is in a
+/// box, so that many ionospheres take little memory.
 #[derive(Drop)]
 pub enum PackedSlot {
     /// Of an ephemeris.
@@ -170,6 +175,43 @@ impl PackedSlot {
         match self {
             PackedSlot::Ephemeris(boxed) => boxed.end,
             PackedSlot::Ionosphere(slot) => slot.end,
+        }
+    }
+
+    // The key of its parts.
+    pub(crate) fn key(&self) -> &Key
+        ensures { result.now ≡ (slot_of self.now).key }
+    {
+        match self {
+            PackedSlot::Ephemeris(boxed) => &boxed.key,
+            PackedSlot::Ionosphere(slot) => &slot.key,
+        }
+    }
+
+    // The end and key of its period.
+    pub(crate) fn period(&self) -> Place
+        ensures { result ≡ slot_place (slot_of self.now) }
+    {
+        match self {
+            PackedSlot::Ephemeris(boxed) => Place {
+                end: boxed.end,
+                key: boxed.key,
+            },
+            PackedSlot::Ionosphere(slot) => Place {
+                end: slot.end,
+                key: slot.key,
+            },
+        }
+    }
+
+    // A kind of part is missing, and none differs.
+    pub(crate) fn lacks_parts(&self) -> bool
+        ensures { result ≡ true → (r : ℕ) (key : Key) (health : Option (ℕ × GalHealth × SentTag))
+            → digest_finding r key (slot_of self.now).digest health ≡ Misses }
+    {
+        match self {
+            PackedSlot::Ephemeris(boxed) => boxed.digest.lacks_parts(),
+            PackedSlot::Ionosphere(_) => false,
         }
     }
 

@@ -1,7 +1,8 @@
 //! The slots of open periods by key and start, with a list of ends in the order of periods.
 //!
-//! The end by which a slot is listed may lag behind its own, so that a part which repeats what its slot
-//! holds changes no tree. It is moved to the true end when it comes first and its slot is asked for.
+//! The end by which a slot is listed may lag behind its own, so that a part which repeats what its
+//! slot holds changes no tree. It is moved to the true end when it comes first and its slot is
+//! asked for.
 
 ghost use Rattle.std.specs.Prelude.{◌≡◌, ℕ, ◌+◌, ◌<◌, ◌≤◌};
 ghost use Rattle.std.specs.Prelude.{true, false, None, Some, IfOk, IfSome, IsSome, OnOk, OnErr};
@@ -13,7 +14,7 @@ ghost use Rattle.slot_assembly.specs.Joins.{IsTouchedFrom, IsUnlisted, IsWithout
 ghost use Rattle.slot_assembly.specs.Joins.{packed_in};
 ghost use Rattle.slot_assembly.specs.Order.{by_end, by_start, rank_of, start_place};
 ghost use Rattle.slot_assembly.specs.Slots.{AreIndexed, AreListedAlike, AreSameSlots, HasEnd};
-ghost use Rattle.slot_assembly.specs.Slots.{IsChanged, IsFirstDue, IsFirstEnd, IsLastTouched};
+ghost use Rattle.slot_assembly.specs.Slots.{IsChanged, IsFirstDueAt, IsFirstEnd, IsLastTouched};
 ghost use Rattle.slot_assembly.specs.Slots.{IsOneSlot, IsRelisted, IsSlotBelow, IsTaken};
 ghost use Rattle.slot_assembly.specs.Slots.{at_of, kept_at, lag, merged, slot_of, slot_with};
 ghost use Rattle.slot_assembly.specs.declared.slot.Slot.{Slot};
@@ -233,7 +234,7 @@ impl OpenSlots {
     }
 
     // Removes the slot at a place, and its end from the list.
-    fn drop_at(&mut self, place: ByStart)
+    pub(crate) fn drop_at(&mut self, place: ByStart)
         requires indexed { AreIndexed self.old.slots.entries self.old.ends.keys }
         ensures indexed { AreIndexed self.new.slots.entries self.new.ends.keys }
         ensures gone { IsChanged self.old.slots.entries place None self.new.slots.entries }
@@ -243,18 +244,6 @@ impl OpenSlots {
         let _inside: Option<Inside> = None;
         let old = self.slots.remove(&place);
         self.unlist(place, listed_in(&old), None);
-    }
-
-    // Removes a slot.
-    pub(crate) fn drop_slot(&mut self, slot: &Slot)
-        requires indexed { AreIndexed self.old.slots.entries self.old.ends.keys }
-        ensures indexed { AreIndexed self.new.slots.entries self.new.ends.keys }
-        ensures gone { IsChanged self.old.slots.entries (at_of slot.now) None
-            self.new.slots.entries }
-        ensures fewer { IsSome (kept_at self.old.slots.entries (at_of slot.now))
-            → btree_map_len self.new.slots < btree_map_len self.old.slots }
-    {
-        self.drop_at(rank_of_key(&slot.key).at_start(slot.start as u64));
     }
 
     // Removes the slot of a key with the start `other`, if there is one and `other` is not `start`.
@@ -307,8 +296,8 @@ impl OpenSlots {
         }
     }
 
-    // Adds the slot of a new part, merged with the one or two slots of its key that lie within the window;
-    // the last of them is at `first`.
+    // Adds the slot of a new part, merged with the one or two slots of its key that lie within the
+    // window; the last of them is at `first`.
     fn join(
         &mut self,
         key: &Key,
@@ -336,8 +325,8 @@ impl OpenSlots {
         self.replace(rank, packed, first, second)
     }
 
-    // Takes a part of a key. Where it touches a slot that started before it, that slot changes in its
-    // place, and no tree does.
+    // Takes a part of a key. Where it touches a slot that started before it, that slot changes in
+    // its place, and no tree does.
     pub(crate) fn take(&mut self, key: &Key, part: &Part, window: u32) -> Result<(), AllocError>
         requires indexed { AreIndexed self.old.slots.entries self.old.ends.keys }
         requires key { key_of part.now ≡ Some key.now }
@@ -367,7 +356,7 @@ impl OpenSlots {
     }
 
     // The slot at a place.
-    fn slot_at(&self, place: ByStart) -> Option<&PackedSlot>
+    pub(crate) fn slot_at(&self, place: ByStart) -> Option<&PackedSlot>
         ensures { packed_in result ≡ kept_at self.now.slots.entries place }
     {
         match self.slots.get(&place) {
@@ -411,28 +400,29 @@ impl OpenSlots {
         Ok(())
     }
 
-    // The first slot in order, where its end plus the window is below the watermark.
+    // The place of the first slot in order, where its end plus the window is below the watermark.
     pub(crate) fn first_due(
         &mut self,
         window: u32,
         watermark: u64,
-    ) -> Result<Option<Slot>, AllocError>
+    ) -> Result<Option<ByStart>, AllocError>
         requires indexed { AreIndexed self.old.slots.entries self.old.ends.keys }
         ensures indexed { AreIndexed self.new.slots.entries self.new.ends.keys }
         ensures same { AreSameSlots self.old.slots.entries self.new.slots.entries }
         ensures len { btree_map_len self.new.slots ≡ btree_map_len self.old.slots }
-        ensures first { IfOk result (IsFirstDue self.new.slots.entries window watermark) }
+        ensures first { IfOk result (IsFirstDueAt self.new.slots.entries window watermark) }
     {
         let _inside: Option<Inside> = None;
         let limit = watermark.saturating_sub(window as u64);
         'moving: while let Some(place) = self.first_end(limit) {
-            match self.slot_at(place.by_key()) {
+            let by_key = place.by_key();
+            match self.slot_at(by_key) {
                 // (each place in the list has its slot)
                 None => return Ok(None),
                 Some(packed) => {
                     let end = packed.end();
                     if end as u64 <= place.end {
-                        return Ok(Some(packed.slot()));
+                        return Ok(Some(by_key));
                     }
                     self.move_on(place, end)?;
                 }

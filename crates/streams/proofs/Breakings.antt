@@ -1,12 +1,12 @@
 -- Laws of writes that failed.
-use Rattle.std.proofs.Common.{ℕ, Bool, true, false, List, [], ◌++◌, refl, sym, ap, ◌∙◌, subst, append_assoc, append-nil}
+use Rattle.std.proofs.Common.{ℕ, Bool, true, List, ◌++◌, sym, ap, ◌∙◌, subst, append_assoc}
 use Rattle.std.specs.Prelude.{Option}
 use Rattle.std.specs.List.{flat_map}
 use Rattle.std.proofs.KnownBytes.{Appends-trans}
 use Rattle.std.proofs.lemmas.Grind.{flat_map-append}
 use Rattle.nav_io.specs.Prefix.{AppendsPrefix}
 use Rattle.rtcm_frame.specs.Frames.{frames}
-use Rattle.streams.specs.FrameRuns.{output_of, Goes, Breaks}
+use Rattle.streams.specs.FrameRuns.{Goes, Breaks}
 
 -- lines were written, and then a write failed
 pub breaks_on : (line : List ℕ → List ℕ) (more : Bool) (a b : List ℕ) (u v w : Option (List ℕ)) (k n : ℕ)

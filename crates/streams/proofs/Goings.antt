@@ -1,5 +1,5 @@
 -- Laws of the frames found between two rests of bytes.
-use Rattle.std.proofs.Common.{◌+◌, ℕ, Bool, true, List, [], ◌++◌, refl, sym, ap, ◌∙◌, arith, subst, append_assoc, length-append}
+use Rattle.std.proofs.Common.{ℕ, Bool, true, List, [], ◌++◌, refl, sym, ap, ◌∙◌, arith, subst, append_assoc, length-append}
 use Rattle.std.specs.Prelude.{Option}
 use Rattle.std.specs.Io.KnownBytes.{Appends}
 use Rattle.std.proofs.KnownBytes.{Appends-nil, Appends-trans}

@@ -8,7 +8,7 @@ use Rattle.std.proofs.lemmas.Grind.{flat_map-append}
 use Rattle.nav_io.specs.Prefix.{AppendsPrefix}
 use Rattle.rtcm_frame.specs.Frames.{decided, frames}
 use Rattle.rtcm_frame.specs.State.{TakesFrame, TakesNone}
-use Rattle.streams.specs.FrameRuns.{Goes, Breaks, Gathers, Holds, text_of}
+use Rattle.streams.specs.FrameRuns.{Goes, Breaks, Gathers, Holds}
 use Rattle.streams.proofs.DecidedLemmas.{decided_frame, decided_none}
 
 -- nothing was given, and nothing is held

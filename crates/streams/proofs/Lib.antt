@@ -8,6 +8,7 @@ mod MoveLemmas
 mod PieceLemmas
 mod PieceEnds
 mod StreamEnds
+mod StreamStays
 mod Pushing
 mod Breakings
 mod Feeding

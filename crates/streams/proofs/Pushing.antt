@@ -1,21 +1,18 @@
 -- A stream whose bytes are pushed in pieces: the state behind them, and what was written.
-use Rattle.std.proofs.Common.{◌≡◌, ◌+◌, ℕ, Bool, true, false, not, List, [], ◌∷◌, ◌++◌, length, ◌∙◌, refl, sym, ap, subst, inl, append_assoc, append-nil}
+use Rattle.std.proofs.Common.{◌≡◌, ℕ, Bool, true, false, List, [], ◌++◌, ◌∙◌, refl, sym, ap, subst, append_assoc, append-nil}
 use Rattle.std.specs.Prelude.{Option, None, Some}
 use Rattle.std.specs.Io.KnownBytes.{Appends}
 use Rattle.std.proofs.KnownBytes.{Appends-nil, Appends-trans}
 use Rattle.nav_io.specs.Prefix.{AppendsPrefix, IsPrefix}
-use Rattle.nav_eph.specs.declared.items.NavItem.{NavItem}
 use Rattle.rtcm_frame.specs.Frames.{decided, frames, undecided}
 use Rattle.rtcm_frame.specs.State.{DeframerState, IsWaiting}
 use Rattle.outlets.specs.Targets.{prefix_text, item_text}
-use Rattle.one_run.specs.Runs.{AppendsBetween}
 use Rattle.one_run.specs.declared.fault.BridgeFault.{BridgeFault}
 use Rattle.one_run.proofs.Surface.{prefix_behind, prefix_longer, prefix_same, prefix_within, whole_prefix}
 use Rattle.streams.specs.declared.counts.StreamCounts.{StreamCounts}
-use Rattle.streams.specs.Streams.{Reading, counts_of_readings, flushed_output_by, readings, readings_output, readings_report, stream_counts, stream_counts_text, stream_output_by, stream_readings, stream_report}
+use Rattle.streams.specs.Streams.{Reading, counts_of_readings, flushed_output_by, readings, readings_output, readings_report, stream_counts, stream_counts_text, stream_output_by, stream_readings}
 use Rattle.streams.specs.Mirrors.{GivenState, StreamBroke, StreamMoves, StreamSoFar, StreamStops}
 use Rattle.streams.specs.Pushed.{IsBehind, IsCutShort, IsPushed, IsWhole, StreamRunState}
-use Rattle.streams.proofs.DecidedLemmas.{decided_waiting}
 use Rattle.streams.proofs.PieceEnds.{flushed_frames}
 use Rattle.streams.proofs.StreamEnds.{NoneGiven, begins, between_within, output_longer, readings_append, report_longer}
 use Rattle.streams.proofs.StreamLemmas.{between_whole}

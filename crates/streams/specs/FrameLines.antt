@@ -1,5 +1,5 @@
 -- The line of a frame, and what a run makes of a stream of frames.
-use Rattle.std.specs.Prelude.{ℕ, ◌+◌, ◌*◌, ◌/◌, true, false, List, [], ◌∷◌, ◌++◌, length, Option, None, Some, codes, decimal}
+use Rattle.std.specs.Prelude.{ℕ, ◌+◌, ◌*◌, ◌/◌, true, false, List, [], ◌∷◌, ◌++◌, length, Some, codes, decimal}
 use Rattle.rtcm_frame.specs.Frames.{frames}
 use Rattle.rtcm_frame.specs.State.{payload_of}
 use Rattle.one_run.specs.Runs.{Meaning}

@@ -32,7 +32,8 @@ impl StreamCounts {
     }
 }
 
-/// The text of the counts of a stream: a line for each, its name, a space and the number, in the order of the fields.
+/// The text of the counts of a stream: a line for each, its name, a space and the number, in the
+/// order of the fields.
 #[tactic(auto, unfolding(crate::specs::Streams::stream_counts_text))]
 pub(crate) fn stream_counts_text(counts: &StreamCounts) -> Text
     ensures { result.items ≡ stream_counts_text counts.now }

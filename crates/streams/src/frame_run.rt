@@ -1,6 +1,7 @@
 //! The run over a stream: each frame of the input gives a line of the output.
 
-ghost use Rattle.std.specs.Prelude.{◌≡◌, ◌+◌, ◌^◌, ◌<◌, ◌≤◌, [], ◌++◌, true, not};
+ghost use Rattle.std.specs.Prelude.{◌≡◌, ◌+◌, ◌^◌, ◌<◌};
+ghost use Rattle.std.specs.Prelude.{◌≤◌, [], ◌++◌, true, not};
 ghost use Rattle.std.specs.Prelude.{length, take, IfOk, OnOk, OnErr, Some};
 ghost use Rattle.std.specs.Io.KnownBytes.{Appends};
 ghost use Rattle.nav_io.specs.Causes.{HasCause};
@@ -31,11 +32,11 @@ pub struct FrameCounts {
 
 /// Reads a stream to its end, and writes a line for each frame, as [`frame_line`] states.
 ///
-/// The frames are those of RTCM 10403.3, section 4, whatever bytes stand between them. The result is
-/// the number of frames, or one of the faults `ReadFault`, `WriteFault` and `TooLong`. After a fault
-/// the output is a prefix of the lines of the bytes read: after a failed read exactly the lines of
-/// the frames that these bytes decide, whatever bytes follow, and after any fault at least those that
-/// all but the last 16,384 bytes decide.
+/// The frames are those of RTCM 10403.3, section 4, whatever bytes stand between them. The result
+/// is the number of frames, or one of the faults `ReadFault`, `WriteFault` and `TooLong`. After a
+/// fault the output is a prefix of the lines of the bytes read: after a failed read exactly the
+/// lines of the frames that these bytes decide, whatever bytes follow, and after any fault at least
+/// those that all but the last 16,384 bytes decide.
 pub fn run_frames<S: Source, T: Sink>(
     input: &mut S,
     output: &mut T,
@@ -95,7 +96,8 @@ fn process_piece<T: Sink>(
     Ok(())
 }
 
-// Feeds what there is room for, writes the lines of the frames that it decides, and returns how many bytes were fed.
+// Feeds what there is room for, writes the lines of the frames that it decides, and returns how
+// many bytes were fed.
 fn process_some<T: Sink>(
     deframer: &mut Deframer,
     piece: &[u8],

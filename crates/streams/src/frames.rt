@@ -1,6 +1,9 @@
 //! The frames of a stream, in order.
 
-ghost use Rattle.std.specs.Prelude.{◌≡◌, ◌⊎◌, ◌+◌, ◌^◌, ◌<◌, ◌≤◌, ◌∷◌, ◌++◌, ◌||◌, [], ℕ, List, Option, true, not, codes, Err, length, take, IsErrOf, IfOk, IfErr, IfSome, OnOk, OnErr, IsTrue};
+ghost use Rattle.std.specs.Prelude.{◌≡◌, ◌⊎◌, ◌+◌, ◌^◌, ◌<◌};
+ghost use Rattle.std.specs.Prelude.{◌≤◌, ◌∷◌, ◌++◌, ◌||◌, [], ℕ};
+ghost use Rattle.std.specs.Prelude.{List, Option, true, not, codes, Err, length, take};
+ghost use Rattle.std.specs.Prelude.{IsErrOf, IfOk, IfErr, IfSome, OnOk, OnErr, IsTrue};
 ghost use Rattle.std.specs.Io.KnownBytes.{Appends};
 ghost use Rattle.nav_eph.specs.declared.items.NavItem.{NavItem};
 ghost use Rattle.nav_io.specs.Prefix.{AppendsPrefix};
@@ -10,7 +13,10 @@ ghost use Rattle.rtcm_eph.specs.declared.fault.MessageFault.{MessageFault};
 ghost use Rattle.one_run.specs.Causes.{HasItsCause, faults_of};
 ghost use Rattle.one_run.specs.Reports.{report_line};
 ghost use Rattle.streams.specs.Streams.{reading_report};
-ghost use Rattle.streams.specs.Mirrors.{AreFew, HasRoom, IsReadOf, IsStreamFault, KeptPlaces, StreamBreaks, StreamGoes, StreamMoves, StreamStops, is_given, once_text, sent_alike, with_fault, with_item, with_refusal, with_unused};
+ghost use Rattle.streams.specs.Mirrors.{AreFew, HasRoom, IsReadOf, IsStreamFault};
+ghost use Rattle.streams.specs.Mirrors.{KeptPlaces, StreamBreaks, StreamGoes, StreamMoves};
+ghost use Rattle.streams.specs.Mirrors.{StreamStops, is_given, once_text, sent_alike};
+ghost use Rattle.streams.specs.Mirrors.{with_fault, with_item, with_refusal, with_unused};
 
 use crate::counts::StreamCounts;
 use crate::given::ItemsGiven;
@@ -213,7 +219,8 @@ pub(crate) fn process_frames<T: Sink, U: Sink>(
     Ok(())
 }
 
-// Feeds what there is room for, processes the frames that it decides, and returns how many bytes were fed.
+// Feeds what there is room for, processes the frames that it decides, and returns how many bytes
+// were fed.
 fn process_some<T: Sink, U: Sink>(
     to: &Target,
     r: RefWeek,

@@ -1,9 +1,11 @@
 //! The items that a stream gave so far: each is written at its first occurrence only.
 
-ghost use Rattle.std.specs.Prelude.{◌≡◌, ◌||◌, not, false, ℕ, List, None, OnOk, OnErr, IfOk, IsTrue, replicate};
+ghost use Rattle.std.specs.Prelude.{◌≡◌, ◌||◌, not, false, ℕ, List};
+ghost use Rattle.std.specs.Prelude.{None, OnOk, OnErr, IfOk, IsTrue, replicate};
 ghost use Rattle.nav_eph.specs.declared.items.NavItem.{NavItem};
 ghost use Rattle.rtcm_eph.specs.Writing.{bytes_1019, bytes_1046};
-ghost use Rattle.streams.specs.Mirrors.{IsReadOf, KeptMore, KeptPlaces, NothingKept, StandsIn, has_key, is_given, sent_alike};
+ghost use Rattle.streams.specs.Mirrors.{IsReadOf, KeptMore, KeptPlaces, NothingKept};
+ghost use Rattle.streams.specs.Mirrors.{StandsIn, has_key, is_given, sent_alike};
 
 use crate::messages::Messages;
 use crate::seen::{RecentMessages, place_of};
@@ -12,8 +14,9 @@ use nav_eph::NavItem;
 use std::alloc::{AllocError, Global};
 use std::marker::Model;
 
-// The RTCM messages of the ephemerides that were given, each once: two ephemerides of a stream are equal where the same message
-// encodes them. A cache of payloads as they came saves the decoding of most repeats.
+// The RTCM messages of the ephemerides that were given, each once: two ephemerides of a stream are
+// equal where the same message encodes them. A cache of payloads as they came saves the decoding of
+// most repeats.
 #[derive(Drop)]
 pub(crate) struct ItemsGiven {
     gps: Messages<61>,
@@ -70,7 +73,8 @@ impl ItemsGiven {
         }
     }
 
-    // Adds the item that was read from a payload, by the message that encodes it; whether the item is new.
+    // Adds the item that was read from a payload, by the message that encodes it; whether the item
+    // is new.
     fn add_item(&mut self, item: &NavItem, payload: &[u8]) -> Result<bool, AllocError>
         requires read { IsReadOf payload.now item.now }
         ensures added { IfOk result (λ added. added ≡ not (is_given self.old item.now)) }

@@ -1,10 +1,11 @@
-//! The runs over a stream of RTCM frames (10403.3): its frames as lines, and its ephemerides converted.
+//! The runs over a stream of RTCM frames (10403.3): its frames as lines, and its ephemerides
+//! converted.
 //!
 //! - [`run_frames`], a line for each frame;
 //! - [`run_stream`], over the messages 1019 and 1046: each ephemeris at its first occurrence.
 //!
-//! The output and the report of a run are functions of the bytes that it took: `specs/FrameLines.antt`
-//! and `specs/Streams.antt` state them. A fault leaves a prefix of each.
+//! The output and the report of a run are functions of the bytes that it took:
+//! `specs/FrameLines.antt` and `specs/Streams.antt` state them. A fault leaves a prefix of each.
 //!
 //! ```rust
 //! use nav_io::{MemSink, MemSource};
@@ -34,7 +35,9 @@ mod target;
 
 pub use crate::counts::StreamCounts;
 pub use crate::frame_run::{FrameCounts, run_frames};
-pub use crate::laws::what_is_written_of_a_stream_is_the_text_of_its_list;
+pub use crate::laws::{
+    what_is_written_of_a_stream_is_the_text_of_its_list, what_is_written_of_a_stream_stays,
+};
 pub use crate::push::StreamRun;
 pub use crate::streams::run_stream;
 pub use crate::target::StreamTo;

@@ -1,6 +1,7 @@
 //! A set of messages that were given, looked up by a hash.
 
-ghost use Rattle.std.specs.Prelude.{◌≡◌, ℕ, ◌+◌, ◌*◌, ◌^◌, ◌<◌, ◌≤◌, List, Option, None, Some};
+ghost use Rattle.std.specs.Prelude.{◌≡◌, ℕ, ◌+◌, ◌*◌, ◌^◌};
+ghost use Rattle.std.specs.Prelude.{◌<◌, ◌≤◌, List, Option, None, Some};
 ghost use Rattle.std.specs.Prelude.{IfOk, OnOk, false, not};
 ghost use Rattle.streams.specs.Mirrors.{AddsKey, first_of, has_key, hash_of, hash_with};
 
@@ -36,8 +37,9 @@ fn hash<const N: usize>(message: &Bits<N>) -> u64
     hash_with(hash, message, 424)
 }
 
-// A set of messages of `N` bytes. They stand in a list, and an ordered map from the hash of a message to its index
-// in the list finds it quickly. On a hash collision the later message goes to an ordered set.
+// A set of messages of `N` bytes. They stand in a list, and an ordered map from the hash of a
+// message to its index in the list finds it quickly. On a hash collision the later message goes to
+// an ordered set.
 #[derive(Drop)]
 pub(crate) struct Messages<const N: usize> {
     // the index in the list of the first message with a hash

@@ -1,6 +1,7 @@
 //! The bytes of a stream, read piece by piece.
 
-ghost use Rattle.std.specs.Prelude.{◌≡◌, ◌+◌, ◌^◌, ◌<◌, ◌≤◌, [], false, length, IsTrue, IsErrOf, IfErr, OnOk};
+ghost use Rattle.std.specs.Prelude.{◌≡◌, ◌+◌, ◌^◌, ◌<◌, ◌≤◌};
+ghost use Rattle.std.specs.Prelude.{[], false, length, IsTrue, IsErrOf, IfErr, OnOk};
 ghost use Rattle.outlets.specs.Targets.{prefix_text, item_text};
 ghost use Rattle.one_run.specs.Causes.{HasItsCause, faults_of};
 ghost use Rattle.streams.specs.Mirrors.{StreamAll, StreamPart};

@@ -1,6 +1,7 @@
 //! A conversion of a stream whose bytes are pushed in pieces, as they come.
 
-ghost use Rattle.std.specs.Prelude.{◌≡◌, ◌+◌, ℕ, List, [], ◌++◌, length, Option, None, Some, Err};
+ghost use Rattle.std.specs.Prelude.{◌≡◌, ◌+◌, ℕ, List, []};
+ghost use Rattle.std.specs.Prelude.{◌++◌, length, Option, None, Some, Err};
 ghost use Rattle.std.specs.Prelude.{IfErr, IfOk, IfSome, OnErr, OnOk};
 ghost use Rattle.nav_io.specs.Writes.{Writes};
 ghost use Rattle.one_run.specs.Causes.{HasItsCause, faults_of};
@@ -25,8 +26,8 @@ use std::marker::Model;
 /// The conversion of a stream that comes in pieces: of any pieces it writes and reports what
 /// [`crate::run_stream`] does of the whole.
 ///
-/// Each ephemeris is written as soon as its frame is complete. After a fault each further call gives
-/// the same fault.
+/// Each ephemeris is written as soon as its frame is complete. After a fault each further call
+/// gives the same fault.
 #[derive(Drop)]
 pub struct StreamRun {
     to: Target,
@@ -73,8 +74,8 @@ impl StreamRun {
     ///
     /// # Errors
     ///
-    /// `Failed` only where the output's count of faults rose, or is at its maximum; a prefix of that
-    /// text was written then.
+    /// `Failed` only where the output's count of faults rose, or is at its maximum; a prefix of
+    /// that text was written then.
     pub fn new<T: Sink>(
         alloc: Global,
         r: RefWeek,
@@ -110,8 +111,8 @@ impl StreamRun {
     ///
     /// # Errors
     ///
-    /// - `WriteFault`, `ReportFault` only where the fault count of the output or the report rose, or
-    ///   is at its maximum.
+    /// - `WriteFault`, `ReportFault` only where the fault count of the output or the report rose,
+    ///   or is at its maximum.
     /// - `TooLong` only where the stream has 2^64 bytes.
     /// - `NoMemory` when memory is missing.
     ///

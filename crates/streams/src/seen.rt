@@ -1,6 +1,7 @@
 //! A cache of payloads that were read: a repeat is found without decoding it again.
 
-ghost use Rattle.std.specs.Prelude.{◌≡◌, ◌<◌, ◌≤◌, ℕ, List, Option, None, Some, IsTrue, length, replicate, slice_get};
+ghost use Rattle.std.specs.Prelude.{◌≡◌, ◌<◌, ◌≤◌, ℕ, List, Option};
+ghost use Rattle.std.specs.Prelude.{None, Some, IsTrue, length, replicate, slice_get};
 ghost use Rattle.streams.specs.Mirrors.{MaySet};
 
 // The number of places in the cache.
@@ -12,7 +13,8 @@ pub(crate) struct RecentMessages<const N: usize> {
     pub(crate) places: [Option<[u8; N]>; PLACES],
 }
 
-// The place of a payload, from its satellite number and the low three bits of byte `issue`, which holds the issue of data.
+// The place of a payload, from its satellite number and the low three bits of byte `issue`, which
+// holds the issue of data.
 pub(crate) fn place_of(payload: &[u8], issue: usize) -> u8
     requires long { 3 ≤ length payload.now }
     requires inside { issue < length payload.now }

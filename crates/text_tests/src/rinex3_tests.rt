@@ -235,8 +235,8 @@ fn is_wanted(read: &ItemRead, want: &Want) -> bool {
     }
 }
 
-// A file, what is read of it, and its items as they are written in version 4 and in version 3; `None` where that is not
-// looked at.
+// A file, what is read of it, and its items as they are written in version 4 and in version 3;
+// `None` where that is not looked at.
 struct FileRow {
     bytes: &'static [u8],
     reads: &'static [Want],
@@ -245,7 +245,8 @@ struct FileRow {
 }
 
 static FILES: [FileRow; 2] = [
-    // A file of an independent program, with numbers in several spellings, and its items as that program writes them.
+    // A file of an independent program, with numbers in several spellings, and its items as that
+    // program writes them.
     FileRow {
         bytes: FILE,
         reads: &[

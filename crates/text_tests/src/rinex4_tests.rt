@@ -1,5 +1,5 @@
-//! Records, headers and files of version 4, read and written: those of an independent program, records with one fault
-//! each, a read that fails and sinks that fail.
+//! Records, headers and files of version 4, read and written: those of an independent program,
+//! records with one fault each, a read that fails and sinks that fail.
 
 use gnss_week::Moment;
 use nav_bits::{S, U};
@@ -136,8 +136,9 @@ fn is_wanted(read: &Result<ItemRead, LineFault>, want: &Want) -> bool {
     }
 }
 
-// A record behind a header, and the ionosphere of zeroes behind it where the record is followed, in pieces of so many
-// bytes of which one read fails; what is read; and whether the record is written of what is read, as the ionosphere is.
+// A record behind a header, and the ionosphere of zeroes behind it where the record is followed, in
+// pieces of so many bytes of which one read fails; what is read; and whether the record is written
+// of what is read, as the ionosphere is.
 struct FileRow {
     record: &'static [u8],
     is_followed: bool,
@@ -269,8 +270,9 @@ G05 2023 12 31 00 00 00 0.000000000000D+00 0.000000000000D+00 0.000000000000D+00
      0.000000000000D+00 4.000000000000D+00
 ";
 
-// Records of an independent program and of zeroes: accuracies 0, 1 and 15 of GPS, 107 and 255 of Galileo, health numbers
-// 0, 1 and 66, both fit intervals, known and unknown transmission times. Each is written again.
+// Records of an independent program and of zeroes: accuracies 0, 1 and 15 of GPS, 107 and 255 of
+// Galileo, health numbers 0, 1 and 66, both fit intervals, known and unknown transmission times.
+// Each is written again.
 static FILES: [FileRow; 14] = [
     FileRow {
         record: ZEROES,
@@ -594,7 +596,8 @@ static FILES: [FileRow; 14] = [
         ],
         is_written: false,
     },
-    // In pieces of 100 bytes of which the sixth read fails: a header of four lines takes four of them.
+    // In pieces of 100 bytes of which the sixth read fails: a header of four lines takes four of
+    // them.
     FileRow {
         record: ZEROES,
         is_followed: false,
@@ -619,7 +622,8 @@ fn source_of(alloc: Global, row: &FileRow) -> Result<MemSource, AllocError> {
     Ok(MemSource::new(bytes, cuts, [row.fails].to_vec(alloc)?))
 }
 
-// Whether the source gives a header, these answers, and from then on the end; the items are written.
+// Whether the source gives a header, these answers, and from then on the end; the items are
+// written.
 fn gives(source: &mut MemSource, want: &[Want], sink: &mut MemSink) -> bool {
     let mut records = Records::new();
     match records.read_header(source) {
@@ -833,8 +837,9 @@ fn answers_twice(alloc: Global, row: &HeaderRow) -> Result<bool, AllocError> {
     Ok(first == row.answer && second == row.answer)
 }
 
-// The leap seconds of a header, the write to its sink that fails, the answers of the header and of the ionosphere of
-// zeroes behind it, and what the sink has: what is behind a failed write is still written.
+// The leap seconds of a header, the write to its sink that fails, the answers of the header and of
+// the ionosphere of zeroes behind it, and what the sink has: what is behind a failed write is still
+// written.
 struct WrittenRow {
     leap: u8,
     fails: u32,

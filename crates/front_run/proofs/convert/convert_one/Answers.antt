@@ -1,21 +1,23 @@
-use Rattle.front_run.proofs.Opening.{converts_of, not_opened, of_file, stays_same}
-use Rattle.front_run.proofs.Stepping.{on_ok}
+use Rattle.front_run.proofs.Closing.{closed, converts_of, not_opened, on_ended, on_failed, stays_of, stays_still}
 use Rattle.front_run.proofs.convert.convert_one.Goals as goal
 
 pub returns-in-Ok-clause-converts : goal.returns-in-Ok-clause-converts
 returns-in-Ok-clause-converts g c =
-    on_ok _ _ _ c.convert_opened.ensures.puts (λ puts. converts_of c.args.plan.now _ _ (g.F.Folder.files c.convert_opened.new.folder) _ c.args.part.now c.args.name.now _
-    c.in-Ok.ensures.same c.in-Ok.ensures.bytes puts)
+    on_ended _ _ _ _ _ c.closed_by-outcome.ensures
+    (converts_of _ _ _ _ _ _ _ _ _ c.in-Ok.ensures.same c.close-closed.ensures.same c.in-Ok.ensures.bytes) c.convert_source-left.ensures.puts
 
 pub returns-in-Ok-clause-stays : goal.returns-in-Ok-clause-stays
-returns-in-Ok-clause-stays g c = rw (← c.in-Ok.ensures.same) c.convert_opened.ensures.stays
+returns-in-Ok-clause-stays g c =
+    on_failed _ _ _ _ _ c.closed_by-outcome.ensures (stays_of _ _ _ _ _ c.in-Ok.ensures.same c.close-closed.ensures.same)
+    c.convert_source-left.ensures.stays
 
 pub returns-in-Ok-clause-complete : goal.returns-in-Ok-clause-complete
 returns-in-Ok-clause-complete g c =
-    of_file _ _ _ _ c.in-Ok.ensures.bytes (rw c.in-Ok.ensures.cause.stays at c.convert_opened.ensures.complete)
+    closed _ _ _ _ _ _ _ _ _ _ _ _ _ _ c.in-Ok.ensures.bytes c.closed_by-outcome.ensures c.in-Ok.ensures.fresh c.in-Ok.ensures.cause.stays
+    c.convert_source-left.ensures.later c.close-closed.ensures.cause.later c.close-closed.ensures.told c.convert_source-left.ensures.complete
 
 pub returns-in-Err-clause-stays : goal.returns-in-Err-clause-stays
-returns-in-Err-clause-stays g c = rw (c.stopped.ensures.done, c.in-Err.ensures.same) (stays_same _ _)
+returns-in-Err-clause-stays g c = stays_still _ _ _ _ c.in-Err.ensures.same
 
 pub returns-in-Err-clause-complete : goal.returns-in-Err-clause-complete
 returns-in-Err-clause-complete g c = not_opened _ _ _ _ _ _ c.in-Err.ensures.cause.failed

@@ -1,10 +1,32 @@
+use Rattle.std.proofs.Common.{Some, ap, refl}
+use Rattle.file_step.specs.Files.{Publishes}
+use Rattle.front_run.proofs.Closing.{lacks_of, made_of, none_ok, on_ended, on_failed, stays_still, stopped_lack}
 use Rattle.front_run.proofs.convert.convert_source.Goals as goal
 
-pub returns-clause-puts : goal.returns-clause-puts
-returns-clause-puts g c = rw (← c.new-input.ensures.source) c.source_peeked.ensures.puts
+pub returns-in-Ok-clause-puts : goal.returns-in-Ok-clause-puts
+returns-in-Ok-clause-puts g c =
+    on_ended _ _ _ _ _ c.ended.ensures.done
+    (made_of _ _ _ _ (λ made. Publishes (g.F.Folder.files c.args.folder.now) (g.F.Folder.files c.put_output-done.new.folder) c.args.part.now
+    c.args.name.now (Some made)) c.in-Ok.ensures.begun)
+    c.put_output-done.ensures.put
 
-pub returns-clause-stays : goal.returns-clause-stays
-returns-clause-stays g c = c.source_peeked.ensures.stays
+pub returns-in-Ok-clause-stays : goal.returns-in-Ok-clause-stays
+returns-in-Ok-clause-stays g c = on_failed _ _ _ _ _ c.ended.ensures.done (λ stays. stays) c.put_output-done.ensures.stays
 
-pub returns-clause-complete : goal.returns-clause-complete
-returns-clause-complete g c = rw (← c.new-input.ensures.source) c.source_peeked.ensures.complete
+pub returns-in-Ok-clause-later : goal.returns-in-Ok-clause-later
+returns-in-Ok-clause-later g c = c.put_output-done.ensures.later
+
+pub returns-in-Ok-clause-complete : goal.returns-in-Ok-clause-complete
+returns-in-Ok-clause-complete g c =
+    lacks_of _ _ _ _ _ _ _ _ _ _ _ _ _ _ _ _ _ c.in-Ok.ensures.begun c.ended.ensures.done c.in-Ok.ensures.faults c.ended.ensures.faults
+    (ap g.U.Sink.faults c.in-Ok.ensures.report) (ap g.U.Sink.faults c.ended.ensures.report)
+    c.put_output-done.ensures.failed c.put_output-done.ensures.complete
+
+pub returns-in-Err-clause-puts : goal.returns-in-Err-clause-puts
+returns-in-Err-clause-puts g c = none_ok _ _ c.in-Err.ensures.stopped.never
+
+pub returns-in-Err-clause-stays : goal.returns-in-Err-clause-stays
+returns-in-Err-clause-stays g c = stays_still _ _ _ _ refl
+
+pub returns-in-Err-clause-complete : goal.returns-in-Err-clause-complete
+returns-in-Err-clause-complete g c = stopped_lack _ _ _ _ _ _ _ c.in-Err.ensures.stopped

@@ -2,7 +2,7 @@ use Rattle.std.proofs.Common.{◌≡◌, ◌+◌, ◌-◌, ◌*◌, ◌%◌, ref
 use Rattle.nav_bits.specs.Laws.{number_at-lt}
 use Rattle.lnav_subframe.specs.Parity.{IsGood}
 use Rattle.lnav_subframe.specs.Words.{last_before, word_of}
-use Rattle.lnav_subframe.proofs.Places.{goods_more, last_more, sources_more}
+use Rattle.lnav_subframe.proofs.Places.{goods_more, last_more, sources_more, stands_already, stay_more}
 use Rattle.lnav_subframe.proofs.words.source_of.Goals as goal
 
 pub loop-k-init : goal.loop-k-init
@@ -10,6 +10,7 @@ unfolding last_before
 loop-k-init c = record {
   good = λ k h. absurd (omega arith);
   source = λ k h. absurd (omega arith);
+  stay = record { same = λ i h. refl };
   last = refl;
   fits = omega arith;
 }
@@ -31,13 +32,20 @@ returns-in-None-clause-fault c =
       bad = rw e bad;
     }
 
+pub put_source-requires-clause-upright : goal.put_source-requires-clause-upright
+put_source-requires-clause-upright c = λ even.
+    let word : c.from_bits.result ≡ word_of c.args.bits.now c.loop-k.k = c.from_bits.ensures ∙ c.get-word.ensures in
+    let last : c.from_bits-in-loop-k.result ≡ last_before c.args.bits.now c.loop-k.k = c.from_bits-in-loop-k.ensures ∙ c.loop-k.invariant.last in
+    stands_already c.args.bits.now c.loop-k.source c.loop-k.k c.value.result c.loop-k.invariant.stay (rw (← word, ← last, c.value.ensures.same) c.in-Some.ensures.bits) (ap (λ n. n % 2) (sym c.loop-k.invariant.last) ∙ even)
+
 pub loop-k-preserved : goal.loop-k-preserved
 loop-k-preserved c =
     let word : c.from_bits.result ≡ word_of c.args.bits.now c.loop-k.k = c.from_bits.ensures ∙ c.get-word.ensures in
     let last : c.from_bits-in-loop-k.result ≡ last_before c.args.bits.now c.loop-k.k = c.from_bits-in-loop-k.ensures ∙ c.loop-k.invariant.last in
     record {
       good = goods_more c.args.bits.now c.loop-k.k c.loop-k.invariant.good (rw (← word, ← last) (c.in-Some.ensures.good.0 refl));
-      source = sources_more c.args.bits.now c.loop-k.source c.put.new.self c.loop-k.k c.value.result c.loop-k.invariant.source c.put.ensures (rw (← word, ← last, c.value.ensures.same) c.in-Some.ensures.bits);
+      source = sources_more c.args.bits.now c.loop-k.source c.put_source.new.source c.loop-k.k c.value.result c.loop-k.invariant.source c.put_source.ensures (rw (← word, ← last, c.value.ensures.same) c.in-Some.ensures.bits);
+      stay = stay_more c.args.bits.now c.loop-k.source c.put_source.new.source c.loop-k.k c.value.result c.loop-k.invariant.stay c.put_source.ensures;
       last = ap (λ w. w % 4) c.get-word.ensures ∙ sym (last_more c.args.bits.now c.loop-k.k);
       fits = omega arith;
     }

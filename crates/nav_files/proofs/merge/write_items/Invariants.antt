@@ -5,9 +5,9 @@ use Rattle.nav_files.proofs.merge.write_items.Given as goal
 
 abbrev pub invariant-items : goal.invariant-items
 invariant-items g l = record {
-  wrote : WroteSome rinex_item l.fn.merge l.merge (g.T.Sink.written l.fn.out) (g.T.Sink.written l.out);
+  wrote : WroteSome rinex_item l.merge l.left (g.T.Sink.written l.fn.out) (g.T.Sink.written l.out);
   faults : g.T.Sink.faults l.out ≡ g.T.Sink.faults l.fn.out;
 }
 
 abbrev pub decreases-items : goal.decreases-items
-decreases-items g l = length l.merge
+decreases-items g l = length l.left

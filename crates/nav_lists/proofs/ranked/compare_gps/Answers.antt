@@ -1,4 +1,4 @@
-use Rattle.std.proofs.Common.{pos, List, [], ◌∷◌, ◌++◌, refl, sym, ap, ◌∙◌}
+use Rattle.std.proofs.Common.{pos, [], ◌∷◌, ◌++◌, refl, ◌∙◌}
 use Rattle.std.specs.Cmp.Lexicographic.{slice_cmp}
 use Rattle.std.specs.Ordering.{int_cmp}
 use Rattle.nav_eph.specs.Ranks.{sat_rank, clock_rank, side_rank, orbit_a_rank, orbit_b_rank}

@@ -1,7 +1,7 @@
 use Rattle.std.proofs.Common.{◌≡◌, ◌∙◌, ℕ, false, true, refl, subst, arith}
 use Rattle.nav_io.specs.Causes.{Rose}
 use Rattle.streams.specs.FrameLines.{line_of}
-use Rattle.streams.proofs.SoFar.{IsSilent, broke_last, broke_long, broke_piece, broke_read, done_frames, so_far_piece, so_far_start}
+use Rattle.streams.proofs.SoFar.{broke_last, broke_long, broke_piece, broke_read, done_frames, so_far_piece, so_far_start}
 use Rattle.streams.proofs.frame_run.run_frames.Goals as goal
 
 pub loop-taken-init : goal.loop-taken-init

@@ -1,9 +1,6 @@
-use Rattle.std.proofs.Common.{◌≡◌, ℕ, List, Some, sym, subst, ap, ◌∙◌}
-use Rattle.std.specs.BTreeSet.{insert_key}
-use Rattle.nav_eph.specs.Satellite.{Satellite}
-use Rattle.nav_lists.specs.declared.range.CoverRange.{CoverRange}
+use Rattle.std.proofs.Common.{sym, subst, ◌∙◌}
 use Rattle.nav_lists.specs.Covering.{AreRanges}
-use Rattle.nav_lists.specs.Ranges.{AreFilled, by_place, joined}
+use Rattle.nav_lists.specs.Ranges.{AreFilled}
 use Rattle.nav_lists.proofs.CoverLemmas.{covers_item, filled_put, full_span, item_ranges, joined_ranges, rising}
 use Rattle.nav_lists.proofs.cover.Cover.add.Goals as goal
 

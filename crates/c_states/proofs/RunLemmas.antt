@@ -1,0 +1,205 @@
+-- What a run says of a piece and of the end, as its job says it.
+use Rattle.std.proofs.Common.{◌≡◌, ◌≢◌, inl, inr, ℕ, ◌+◌, ◌^◌, ◌≤◌, List, [], ◌++◌, length, sym, ap, ◌∙◌, subst, arith, length-append}
+use Rattle.std.specs.Prelude.{Option, None, Some, IfSome, Result, Ok, Err, IfErr, OnErr, OnOk}
+use Rattle.nav_io.specs.Prefix.{IsPrefix}
+use Rattle.one_run.specs.Ends.{any_count}
+use Rattle.one_run.specs.declared.fault.BridgeFault.{BridgeFault}
+use Rattle.one_run.specs.declared.fault.BridgeFault.TheVariants.{NotThisForm, ReadFault, TooLong}
+use Rattle.outlets.specs.Targets.{prefix_text, item_text}
+use Rattle.outlets.specs.declared.target.Target.{Target}
+use Rattle.captures.specs.Captures.{capture_of, counts_in, flushed_output, flushed_report, output_of, report_of_capture, target_of}
+use Rattle.captures.specs.Pushed.{CaptureRunState, CutSays, IsCutShort as IsCaptureCut, IsPushed as IsCapturePushed, IsWhole as IsCaptureWhole}
+use Rattle.captures.specs.declared.counts.CaptureCounts.{CaptureCounts}
+use Rattle.streams.specs.Mirrors.{IsStreamFault}
+use Rattle.streams.specs.Pushed.{IsCutShort, IsPushFault, IsPushed, IsWhole, StreamRunState}
+use Rattle.streams.specs.Streams.{flushed_output_by, flushed_readings, readings_report, stream_output_by, stream_report}
+use Rattle.streams.specs.Targets.{target_of_stream}
+use Rattle.bridge_engine.specs.Meanings.{meaning_of}
+use Rattle.bridge_engine.specs.declared.job.CaptureJob.{CaptureJob}
+use Rattle.bridge_engine.specs.declared.job.Job.{Job}
+use Rattle.bridge_engine.specs.declared.job.Job.TheVariants as jobs
+use Rattle.bridge_engine.specs.declared.job.StreamJob.{StreamJob}
+use Rattle.c_states.specs.Mirrors.{BreaksOff, Ends, EndsShort, GoesOn, IsCut}
+use Rattle.c_states.specs.Pushes.{IsRunOf}
+use Rattle.c_states.specs.declared.push.Run.{Run}
+use Rattle.c_states.specs.declared.push.Run.TheVariants.{Capture, Stream}
+
+-- ---- what an answer says
+
+pub on_ok : {T E P Q : Type 0} (r : Result T E) → OnOk r P → (P → Q) → OnOk r Q
+on_ok (Ok x) p f = f p
+on_ok (Err e) p f = tt
+
+pub on_ok3 : {T E P Q R S : Type 0} (r : Result T E) → OnOk r P → OnOk r Q → OnOk r R → (P → Q → R → S) → OnOk r S
+on_ok3 (Ok x) p q s f = f p q s
+on_ok3 (Err e) p q s f = tt
+
+pub if_err : {T : Type 0} {P Q : BridgeFault → Type 0} (r : Result T BridgeFault) → IfErr r P → ((fault : BridgeFault) → P fault → Q fault) → IfErr r Q
+if_err (Ok x) p f = tt
+if_err (Err e) p f = f e p
+
+pub on_err : {T A P : Type 0} {K Q : BridgeFault → Type 0} (r : Result T BridgeFault) → OnErr r P → (A → IfErr r K) → ((fault : BridgeFault) → P → (A → K fault) → Q fault) → IfErr r Q
+on_err (Ok x) p k f = tt
+on_err (Err e) p k f = f e p k
+
+-- ---- texts by a target and a week, as another one names them
+
+named : {W : Type 0} (t t' : Target) (w w' : W) → t ≡ t' → w ≡ w' → (text : Target → W → List ℕ) → text t w ≡ text t' w'
+named t t' w w' to week text = ap (λ (x : Target). text x w) to ∙ ap (text t') week
+
+abbrev flushed_text : List ℕ → Target → ℕ → List ℕ
+flushed_text bytes t r = flushed_output_by (prefix_text t) (item_text t 0) r bytes
+
+abbrev flushed_told : List ℕ → Target → ℕ → List ℕ
+flushed_told bytes t r = readings_report 1 (flushed_readings r bytes)
+
+abbrev whole_text : List ℕ → Target → ℕ → List ℕ
+whole_text bytes t r = stream_output_by (prefix_text t) (item_text t 0) r bytes
+
+abbrev whole_told : List ℕ → Target → ℕ → List ℕ
+whole_told bytes t r = stream_report r bytes
+
+-- what the bytes pushed decide was made
+abbrev pub HasFlushed : Job → List ℕ → List ℕ → List ℕ → Type 0
+HasFlushed job bytes output report = IfSome (meaning_of job).flushed (λ texts. (output ≡ texts.output bytes) × (report ≡ texts.report bytes))
+
+pub flushed_by : (run : Run) (job : Job) (bytes output report : List ℕ) → IsRunOf run job bytes output report → HasFlushed job bytes output report
+flushed_by (Capture run) (jobs.Capture job) bytes output report is =
+    let of_job = named run.to (target_of job.to) run.week job.week is.0 is.1 in
+    (is.2.output ∙ of_job (λ t w. flushed_output t w bytes), is.2.report ∙ of_job (λ t w. flushed_report w bytes))
+flushed_by (Stream run) (jobs.Stream job) bytes output report is =
+    let of_job = named run.to (target_of_stream job.to) run.week job.week is.2 is.3 in
+    (is.4.output ∙ of_job (flushed_text bytes), is.4.report ∙ of_job (flushed_told bytes))
+flushed_by run job bytes output report is = absurd is
+
+-- ---- a capture's run
+
+cut_capture : (run : CaptureRunState) (job : CaptureJob) (bytes whole output report : List ℕ) (fault : BridgeFault) → run.to ≡ target_of job.to → run.week ≡ job.week
+    → IsCaptureCut run.to run.week bytes whole (Some []) (Some output) (Some []) (Some report) fault → IsCut (jobs.Capture job) bytes whole output report fault
+cut_capture run job bytes whole output report fault to week cut =
+    let of_job = named run.to (target_of job.to) run.week job.week to week in
+    let out : cut.output.prefix ≡ output = sym cut.output.grew in
+    let rep : cut.report.0 ≡ report = sym cut.report.2 in
+    record {
+      read = λ e. subst (CutSays run.week whole) e cut.says;
+      form = λ e. ap (λ (w : Option ℕ). any_count (counts_in (capture_of w whole))) (sym week)
+          ∙ ap (λ c. any_count (counts_in c)) (subst (CutSays run.week whole) e cut.says);
+      long = λ e. subst (CutSays run.week whole) e cut.says;
+      least = subst (λ (l : List ℕ). IsPrefix l output) (of_job (λ t w. flushed_output t w bytes))
+          (subst (λ (l : List ℕ). IsPrefix (flushed_output run.to run.week bytes) l) out cut.output.no_less);
+      output = subst (λ (l : List ℕ). IsPrefix output l) (of_job (λ t w. output_of t w whole))
+          (subst (λ (l : List ℕ). IsPrefix l (output_of run.to run.week whole)) out cut.output.within);
+      report = subst (λ (l : List ℕ). IsPrefix report l) (of_job (λ t w. report_of_capture w whole))
+          (subst (λ (l : List ℕ). IsPrefix l (report_of_capture run.week whole)) rep cut.report.1);
+    }
+
+pub capture_goes : (run run' : CaptureRunState) (piece output output' report report' : List ℕ) → (run'.to ≡ run.to) × (run'.week ≡ run.week)
+    → ((bytes : List ℕ) (start begun : Option (List ℕ)) → IsCapturePushed run bytes start (Some output) begun (Some report)
+    → IsCapturePushed run' (bytes ++ piece) start (Some output') begun (Some report'))
+    → GoesOn (Capture run) (Capture run') piece output output' report report'
+capture_goes run run' piece output output' report report' same goes (jobs.Capture job) bytes is =
+    (same.0 ∙ is.0, same.1 ∙ is.1, goes bytes (Some []) (Some []) is.2)
+capture_goes run run' piece output output' report report' same goes job bytes is = absurd is
+
+pub capture_breaks : (run : CaptureRunState) (piece output output' report report' : List ℕ) (fault : BridgeFault)
+    → ((bytes more : List ℕ) (start begun : Option (List ℕ)) → IsCapturePushed run bytes start (Some output) begun (Some report)
+    → IsCaptureCut run.to run.week bytes ((bytes ++ piece) ++ more) start (Some output') begun (Some report') fault)
+    → BreaksOff (Capture run) piece output output' report report' fault
+capture_breaks run piece output output' report report' fault short (jobs.Capture job) bytes more is =
+    cut_capture run job bytes ((bytes ++ piece) ++ more) output' report' fault is.0 is.1 (short bytes more (Some []) (Some []) is.2)
+capture_breaks run piece output output' report report' fault short job bytes more is = absurd is
+
+pub capture_ends : (run : CaptureRunState) (output output' report report' : List ℕ) (counts : CaptureCounts)
+    → ((bytes : List ℕ) (start begun : Option (List ℕ)) → IsCapturePushed run bytes start (Some output) begun (Some report)
+    → IsCaptureWhole run.to run.week bytes start (Some output') begun (Some report') counts)
+    → Ends (Capture run) output output' report report'
+capture_ends run output output' report report' counts ends (jobs.Capture job) bytes is =
+    let of_job = named run.to (target_of job.to) run.week job.week is.0 is.1 in
+    let whole = ends bytes (Some []) (Some []) is.2 in
+    (whole.output ∙ of_job (λ t w. output_of t w bytes), whole.report ∙ of_job (λ t w. report_of_capture w bytes))
+capture_ends run output output' report report' counts ends job bytes is = absurd is
+
+-- fewer than 2^32 bytes were pushed
+pub capture_ends_short : (run : CaptureRunState) (output output' report report' : List ℕ) (fault : BridgeFault)
+    → ((bytes : List ℕ) (start begun : Option (List ℕ)) → IsCapturePushed run bytes start (Some output) begun (Some report)
+    → IsCaptureCut run.to run.week bytes bytes start (Some output') begun (Some report') fault)
+    → EndsShort (Capture run) output output' report report' fault
+capture_ends_short run output output' report report' fault short (jobs.Capture job) bytes is =
+    let cut = short bytes (Some []) (Some []) is.2 in (
+      cut_capture run job bytes bytes output' report' fault is.0 is.1 cut,
+      λ e. let many : 2 ^ 32 ≤ length bytes = subst (CutSays run.week bytes) e cut.says in
+          absurd (omega (arith, is.2.few, many)),
+    )
+capture_ends_short run output output' report report' fault short job bytes is = absurd is
+
+-- ---- a stream's run
+
+not_read : (size : ℕ) (fault : BridgeFault) → IsPushFault size fault → fault ≢ ReadFault
+not_read size fault (inl stream) e = subst IsStreamFault e stream
+not_read size fault (inr (is, long)) e = cc
+
+not_form : (size : ℕ) (fault : BridgeFault) → IsPushFault size fault → fault ≢ NotThisForm
+not_form size fault (inl stream) e = subst IsStreamFault e stream
+not_form size fault (inr (is, long)) e = cc
+
+how_long : (size : ℕ) (fault : BridgeFault) → IsPushFault size fault → fault ≡ TooLong → 2 ^ 64 ≤ size
+how_long size fault (inl stream) e = absurd (subst IsStreamFault e stream)
+how_long size fault (inr (is, long)) e = long
+
+cut_stream : (run : StreamRunState) (job : StreamJob) (size : ℕ) (bytes whole output report : List ℕ) (fault : BridgeFault) → run.to ≡ target_of_stream job.to → run.week ≡ job.week
+    → IsPushFault size fault → size ≤ length whole → IsCutShort run bytes whole (Some []) (Some output) (Some []) (Some report) → IsCut (jobs.Stream job) bytes whole output report fault
+cut_stream run job size bytes whole output report fault to week kind within cut =
+    let of_job = named run.to (target_of_stream job.to) run.week job.week to week in
+    let out : cut.output.prefix ≡ output = sym cut.output.grew in
+    let rep : cut.report.0 ≡ report = sym cut.report.2 in
+    record {
+      read = not_read size fault kind;
+      form = λ e. absurd (not_form size fault kind e);
+      long = λ e. omega (arith, how_long size fault kind e, within);
+      least = subst (λ (l : List ℕ). IsPrefix l output) (of_job (flushed_text bytes))
+          (subst (λ (l : List ℕ). IsPrefix (flushed_text bytes run.to run.week) l) out cut.output.no_less);
+      output = subst (λ (l : List ℕ). IsPrefix output l) (of_job (whole_text whole))
+          (subst (λ (l : List ℕ). IsPrefix l (whole_text whole run.to run.week)) out cut.output.within);
+      report = subst (λ (l : List ℕ). IsPrefix report l) (of_job (whole_told whole))
+          (subst (λ (l : List ℕ). IsPrefix l (whole_told whole run.to run.week)) rep cut.report.1);
+    }
+
+pub stream_goes : (run run' : StreamRunState) (piece output output' report report' : List ℕ) → (run'.to ≡ run.to) × (run'.week ≡ run.week)
+    → ((bytes : List ℕ) (start begun : Option (List ℕ)) → IsPushed run bytes start (Some output) begun (Some report)
+    → IsPushed run' (bytes ++ piece) start (Some output') begun (Some report'))
+    → run'.taken ≡ run.taken + length piece → run'.fault ≡ None
+    → GoesOn (Stream run) (Stream run') piece output output' report report'
+stream_goes run run' piece output output' report report' same goes taken going (jobs.Stream job) bytes is =
+    (going, omega (arith, taken, is.1, length-append bytes piece), same.0 ∙ is.2, same.1 ∙ is.3, goes bytes (Some []) (Some []) is.4)
+stream_goes run run' piece output output' report report' same goes taken going job bytes is = absurd is
+
+pub stream_breaks : (run : StreamRunState) (piece output output' report report' : List ℕ) (fault : BridgeFault)
+    → ((bytes more : List ℕ) (start begun : Option (List ℕ)) → IsPushed run bytes start (Some output) begun (Some report)
+    → IsCutShort run bytes ((bytes ++ piece) ++ more) start (Some output') begun (Some report'))
+    → (run.fault ≡ None → IsPushFault (run.taken + length piece) fault)
+    → BreaksOff (Stream run) piece output output' report report' fault
+stream_breaks run piece output output' report report' fault short kind (jobs.Stream job) bytes more is =
+    cut_stream run job (run.taken + length piece) bytes ((bytes ++ piece) ++ more) output' report' fault is.2 is.3 (kind is.0)
+    (omega (arith, is.1, length-append (bytes ++ piece) more, length-append bytes piece)) (short bytes more (Some []) (Some []) is.4)
+stream_breaks run piece output output' report report' fault short kind job bytes more is = absurd is
+
+pub stream_ends : (run : StreamRunState) (output output' report report' : List ℕ)
+    → ((bytes : List ℕ) (start begun : Option (List ℕ)) → IsPushed run bytes start (Some output) begun (Some report)
+    → IsWhole run bytes start (Some output') begun (Some report'))
+    → Ends (Stream run) output output' report report'
+stream_ends run output output' report report' ends (jobs.Stream job) bytes is =
+    let of_job = named run.to (target_of_stream job.to) run.week job.week is.2 is.3 in
+    let whole = ends bytes (Some []) (Some []) is.4 in
+    (whole.output ∙ of_job (whole_text bytes), whole.report ∙ of_job (whole_told bytes))
+stream_ends run output output' report report' ends job bytes is = absurd is
+
+pub stream_ends_short : (run : StreamRunState) (output output' report report' : List ℕ) (fault : BridgeFault)
+    → ((bytes : List ℕ) (start begun : Option (List ℕ)) → IsPushed run bytes start (Some output) begun (Some report)
+    → IsCutShort run bytes bytes start (Some output') begun (Some report'))
+    → (run.fault ≡ None → IsStreamFault fault)
+    → EndsShort (Stream run) output output' report report' fault
+stream_ends_short run output output' report report' fault short kind (jobs.Stream job) bytes is = (
+  cut_stream run job 0 bytes bytes output' report' fault is.2 is.3 (inl (kind is.0)) (omega arith) (short bytes (Some []) (Some []) is.4),
+  λ e. subst IsStreamFault e (kind is.0),
+)
+stream_ends_short run output output' report report' fault short kind job bytes is = absurd is

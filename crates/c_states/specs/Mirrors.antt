@@ -1,0 +1,42 @@
+-- What a run makes of the bytes that a conversion hands to it, whatever its job. Private functions cite these.
+use Rattle.std.specs.Prelude.{◌≡◌, ◌≢◌, ◌≤◌, ℕ, List, ◌++◌, length, None, IfSome}
+use Rattle.nav_io.specs.Prefix.{IsPrefix}
+use Rattle.one_run.specs.declared.fault.BridgeFault.{BridgeFault}
+use Rattle.one_run.specs.declared.fault.BridgeFault.TheVariants.{NotThisForm, ReadFault, TooLong}
+use Rattle.bridge_engine.specs.Meanings.{meaning_of}
+use Rattle.bridge_engine.specs.declared.job.Job.{Job}
+use Rattle.c_states.specs.Pushes.{IsRunOf, too_many}
+use Rattle.c_states.specs.declared.push.Run.{Run}
+
+-- a piece was taken, with the output and the report before and after
+abbrev pub GoesOn : Run → Run → List ℕ → List ℕ → List ℕ → List ℕ → List ℕ → Type 0
+GoesOn run run_new piece output output_new report report_new =
+    (job : Job) (bytes : List ℕ) → IsRunOf run job bytes output report → IsRunOf run_new job (bytes ++ piece) output_new report_new
+
+-- A run of this job was cut short by a fault, which is none of a read: what `bytes` decide was written, and of what the whole gives
+-- no more than a prefix was written and reported.
+pub record IsCut (job : Job) (bytes whole written reported : List ℕ) (fault : BridgeFault) : Type 0 where
+  pub read : fault ≢ ReadFault
+  pub form : fault ≡ NotThisForm → (meaning_of job).counts whole ≡ None
+  pub long : fault ≡ TooLong → too_many job ≤ length whole
+  pub least : IfSome (meaning_of job).flushed (λ texts. IsPrefix (texts.output bytes) written)
+  pub output : IsPrefix written ((meaning_of job).whole.output whole)
+  pub report : IsPrefix reported ((meaning_of job).whole.report whole)
+
+-- a piece was not taken whole
+abbrev pub BreaksOff : Run → List ℕ → List ℕ → List ℕ → List ℕ → List ℕ → BridgeFault → Type 0
+BreaksOff run piece output output_new report report_new fault =
+    (job : Job) (bytes more : List ℕ) → IsRunOf run job bytes output report
+    → IsCut job bytes ((bytes ++ piece) ++ more) output_new report_new fault
+
+-- the input has ended, and all was written and reported
+abbrev pub Ends : Run → List ℕ → List ℕ → List ℕ → List ℕ → Type 0
+Ends run output output_new report report_new =
+    (job : Job) (bytes : List ℕ) → IsRunOf run job bytes output report
+    → (output_new ≡ (meaning_of job).whole.output bytes) × (report_new ≡ (meaning_of job).whole.report bytes)
+
+-- it has ended, and not all was; there were not too many bytes
+abbrev pub EndsShort : Run → List ℕ → List ℕ → List ℕ → List ℕ → BridgeFault → Type 0
+EndsShort run output output_new report report_new fault =
+    (job : Job) (bytes : List ℕ) → IsRunOf run job bytes output report
+    → IsCut job bytes bytes output_new report_new fault × (fault ≢ TooLong)

@@ -1,0 +1,84 @@
+//! The files of a folder in memory, as changes of names.
+
+ghost use Rattle.std.specs.Prelude.{◌≡◌, Some, OnOk, OnErr, ◌≢◌};
+ghost use Rattle.std.specs.Option.{option_map};
+ghost use Rattle.file_step.specs.Files.{Publishes, Stays};
+ghost use Rattle.file_folders.specs.Entries.{Sets, bytes_at, contents_of};
+
+use crate::draft::MemDraft;
+use file_step::FileFault;
+use nav_io::Sink;
+use std::alloc::{AllocError, Global};
+
+/// A change of a name: now a file with these bytes, or none.
+#[derive(Drop)]
+pub struct Entry {
+    name: String,
+    bytes: Option<Vec<u8>>,
+}
+
+/// Adds a change of a name, as the newest.
+pub fn set(
+    alloc: Global,
+    entries: &mut Vec<Entry>,
+    name: &str,
+    bytes: Option<Vec<u8>>,
+) -> Result<(), AllocError>
+    ensures sets { OnOk result (Sets (bytes_at entries.old.items) (bytes_at entries.new.items)
+        name.now (contents_of bytes)) }
+    ensures same { OnErr result (entries.new.items ≡ entries.old.items) }
+{
+    let name = String::from_str(alloc, name)?;
+    entries.insert(0, Entry { name, bytes })?;
+    Ok(())
+}
+
+// The bytes of an entry.
+fn bytes_in(entry: &Entry) -> Option<&[u8]>
+    ensures { option_map (λ bytes. bytes.now) result ≡ contents_of entry.now.bytes }
+{
+    match &entry.bytes {
+        Some(bytes) => Some(bytes.as_slice()),
+        None => None,
+    }
+}
+
+/// The bytes of the file of this name, by changes of which the newest is the first.
+pub fn found<'a>(entries: &'a [Entry], name: &str) -> Option<&'a [u8]>
+    ensures { option_map (λ bytes. bytes.now) result ≡ bytes_at entries.now name.now }
+{
+    for entry in entries {
+        if entry.name.as_str() == name {
+            return bytes_in(entry);
+        }
+    }
+    None
+}
+
+/// Gives the name the bytes, and removes the part.
+pub fn published(
+    alloc: Global,
+    entries: &mut Vec<Entry>,
+    draft: MemDraft,
+    part: &str,
+    name: &str,
+) -> Result<(), FileFault>
+    requires { part.now ≢ name.now }
+    ensures put { OnOk result (Publishes (Some (bytes_at entries.old.items))
+        (Some (bytes_at entries.new.items)) part.now name.now
+        (⟦<MemDraft as Sink>⟧.written draft)) }
+    ensures whole { OnOk result (⟦<MemDraft as Sink>⟧.faults draft ≡ 0) }
+    ensures stays { OnErr result (Stays (Some (bytes_at entries.old.items))
+        (Some (bytes_at entries.new.items)) part.now) }
+{
+    if draft.faults() != 0 {
+        return Err(FileFault::NoMemory);
+    }
+    if set(alloc, entries, part, None).is_err() {
+        return Err(FileFault::NoMemory);
+    }
+    match set(alloc, entries, name, Some(draft.into_bytes())) {
+        Ok(()) => Ok(()),
+        Err(_) => Err(FileFault::NoMemory),
+    }
+}

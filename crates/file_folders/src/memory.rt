@@ -1,0 +1,155 @@
+//! A folder in memory.
+
+ghost use Rattle.std.specs.Prelude.{◌≡◌, ◌≤◌, Some, None};
+ghost use Rattle.std.specs.Prelude.{OnOk, IfOk, ℕ, List, [], ◌≢◌};
+ghost use Rattle.std.specs.Option.{option_map};
+ghost use Rattle.nav_io.specs.Causes.{Rose};
+ghost use Rattle.file_step.specs.Files.{Opens};
+ghost use Rattle.file_folders.specs.Entries.{Sets, bytes_at};
+
+use crate::draft::MemDraft;
+use crate::entries::{Entry, found, published, set};
+use crate::input::FileInput;
+use file_step::{FileFault, Folder};
+use nav_io::{Sink, Source};
+use std::alloc::{AllocError, Global};
+use std::io::Cursor;
+
+/// A file in memory that is read.
+pub type MemInput = FileInput<Cursor<Vec<u8>>>;
+
+/// A folder in memory. Its calls fail only for want of memory, or where `Folder` requires it.
+#[derive(Drop)]
+pub struct MemFolder {
+    alloc: Global,
+    // the newest first
+    entries: Vec<Entry>,
+    faults: u64,
+}
+
+impl MemFolder {
+    /// An empty folder, with a fault count of 0.
+    pub fn new(alloc: Global) -> MemFolder
+        ensures files { result.entries.items ≡ [] }
+        ensures faults { ⟦<MemFolder as Folder>⟧.faults result ≡ 0 }
+    {
+        MemFolder {
+            alloc,
+            entries: Vec::new(alloc),
+            faults: 0,
+        }
+    }
+
+    /// Gives the name these bytes.
+    pub fn put(&mut self, name: &str, bytes: &[u8]) -> Result<(), AllocError>
+        ensures sets { OnOk result (Sets (bytes_at self.old.entries.items)
+            (bytes_at self.new.entries.items) name.now (Some bytes.now)) }
+        ensures faults { self.new.faults ≡ self.old.faults }
+    {
+        let copy = bytes.to_vec(self.alloc)?;
+        set(self.alloc, &mut self.entries, name, Some(copy))
+    }
+
+    /// The bytes of the file of this name.
+    pub fn get(&self, name: &str) -> Option<&[u8]>
+        ensures { option_map (λ bytes. bytes.now) result
+            ≡ bytes_at self.now.entries.items name.now }
+    {
+        found(&self.entries, name)
+    }
+
+    // Counts a fault.
+    fn failed(&mut self, fault: FileFault) -> FileFault
+        ensures entries { self.new.entries ≡ self.old.entries }
+        ensures later { self.old.faults ≤ self.new.faults }
+        ensures rose { Rose self.old.faults self.new.faults }
+    {
+        self.faults = self.faults.saturating_add(1);
+        fault
+    }
+}
+
+impl Folder for MemFolder {
+    ghost use Rattle.std.specs.Prelude.{Some};
+    ghost use Rattle.file_folders.specs.Entries.{bytes_at};
+
+    type Input = MemInput;
+
+    type Draft = MemDraft;
+
+    ghost files = { λ s. Some (bytes_at s.entries.items) };
+
+    ghost faults = { λ s. s.faults };
+
+    /// Returns a source over the bytes.
+    fn open(&mut self, name: &str) -> Result<MemInput, FileFault> {
+        let alloc = self.alloc;
+        match opened(alloc, &self.entries, name) {
+            Ok(input) => Ok(input),
+            Err(fault) => Err(self.failed(fault)),
+        }
+    }
+
+    /// Returns the last fault of a read, if any.
+    fn close(&mut self, input: MemInput) -> Result<(), FileFault> {
+        match input.fault() {
+            None => Ok(()),
+            Some(fault) => Err(self.failed(fault)),
+        }
+    }
+
+    /// Creates an empty file with this name, which no file has.
+    fn draft(&mut self, part: &str) -> Result<MemDraft, FileFault> {
+        match begun(self.alloc, &mut self.entries, part) {
+            Ok(draft) => Ok(draft),
+            Err(fault) => Err(self.failed(fault)),
+        }
+    }
+
+    /// Gives the name the bytes, and removes the part.
+    fn publish(&mut self, draft: MemDraft, part: &str, name: &str) -> Result<(), FileFault> {
+        match published(self.alloc, &mut self.entries, draft, part, name) {
+            Ok(()) => Ok(()),
+            Err(fault) => Err(self.failed(fault)),
+        }
+    }
+
+    /// Removes the part.
+    fn discard(&mut self, draft: MemDraft, part: &str) -> Result<(), FileFault> {
+        if set(self.alloc, &mut self.entries, part, None).is_err() || draft.faults() != 0 {
+            return Err(self.failed(FileFault::NoMemory));
+        }
+        Ok(())
+    }
+}
+
+// A source over the bytes of the file of this name.
+fn opened(alloc: Global, entries: &[Entry], name: &str) -> Result<MemInput, FileFault>
+    ensures bytes { IfOk result (λ input. Opens (Some (bytes_at entries.now)) name.now
+        (⟦<FileInput<Cursor<Vec<u8>>> as Source>⟧.left input)) }
+    ensures faults { IfOk result (λ input.
+        ⟦<FileInput<Cursor<Vec<u8>>> as Source>⟧.faults input ≡ 0) }
+{
+    let bytes = found(entries, name).ok_or(FileFault::NotFound)?;
+    match bytes.to_vec(alloc) {
+        Ok(copy) => Ok(FileInput::new(Cursor::new(copy))),
+        Err(_) => Err(FileFault::NoMemory),
+    }
+}
+
+// Creates an empty file with this name, which no file has.
+fn begun(alloc: Global, entries: &mut Vec<Entry>, part: &str) -> Result<MemDraft, FileFault>
+    ensures none { OnOk result (bytes_at entries.old.items part.now ≡ None) }
+    ensures empty { IfOk result (λ draft. ⟦<MemDraft as Sink>⟧.written draft ≡ Some []) }
+    ensures faults { IfOk result (λ draft. ⟦<MemDraft as Sink>⟧.faults draft ≡ 0) }
+    ensures others { (other : List ℕ) → other ≢ part.now
+        → bytes_at entries.new.items other ≡ bytes_at entries.old.items other }
+{
+    if found(entries, part).is_some() {
+        return Err(FileFault::AlreadyThere);
+    }
+    match set(alloc, entries, part, Some(Vec::new(alloc))) {
+        Ok(()) => Ok(MemDraft::new(alloc)),
+        Err(_) => Err(FileFault::NoMemory),
+    }
+}

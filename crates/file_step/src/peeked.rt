@@ -1,0 +1,202 @@
+//! A source whose first bytes were peeked at.
+
+ghost use Rattle.std.specs.Prelude.{◌≡◌, ◌<◌, ◌≤◌};
+ghost use Rattle.std.specs.Prelude.{◌⊎◌, [], length, take, drop};
+ghost use Rattle.std.specs.Prelude.{IsTrue, IsOk, IfOk, IfErr, OnOk, IfSome, MatchResult};
+ghost use Rattle.std.specs.Io.KnownBytes.{Consumes, IsAtEnd, Keeps};
+ghost use Rattle.nav_io.specs.Causes.{HasCause, Rose};
+
+use nav_io::{Failed, Source};
+use std::alloc::{AllocError, Global};
+
+/// Why a source could not be peeked at.
+#[derive(Clone, Copy)]
+pub enum PeekFault {
+    /// There was no memory.
+    NoMemory,
+    /// A read failed.
+    ReadFault,
+}
+
+impl From<AllocError> for PeekFault {
+    ghost use Rattle.file_step.specs.declared.peeked.PeekFault.TheVariants.{NoMemory};
+
+    ghost from_gives = { λ _ fault. fault ≡ NoMemory };
+
+    fn from(_error: AllocError) -> PeekFault {
+        PeekFault::NoMemory
+    }
+}
+
+/// A source whose first bytes were peeked at. It gives them again, and then what follows.
+#[derive(Drop)]
+pub struct Peeked<S: Source> {
+    prefix: Vec<u8>,
+    // offset in the prefix: how many of its bytes were given again
+    place: usize,
+    source: S,
+    ghost within: { place ≤ length prefix.items },
+}
+
+impl<S: Source> Peeked<S> {
+    /// A source that was not looked at yet.
+    pub fn new(alloc: Global, source: S) -> Peeked<S>
+        ensures source { result.source ≡ source }
+        ensures unseen { result.prefix.items ≡ [] }
+        ensures left { ⟦<Peeked<S> as Source>⟧.left result ≡ S.left source }
+    {
+        Peeked {
+            prefix: Vec::new(alloc),
+            place: 0,
+            source,
+        }
+    }
+
+    /// Looks at the first bytes, so many at most: fewer only where there are no more.
+    ///
+    /// # Errors
+    ///
+    /// The source inside has failed, or there was no memory: bytes may be lost then.
+    pub fn look(&mut self, most: usize) -> Result<(), PeekFault>
+        requires { self.old.prefix.items ≡ [] }
+
+        // No byte is lost.
+        ensures left { OnOk result (Keeps (⟦<Peeked<S> as Source>⟧.left self.old)
+            (⟦<Peeked<S> as Source>⟧.left self.new)) }
+        ensures prefix { OnOk result (IfSome (S.left self.old.source)
+            (λ bytes. self.new.prefix.items ≡ take most bytes)) }
+
+        // It has failed as often, and a look fails only where a read of the source does.
+        ensures faults { OnOk result
+            (S.faults self.new.source ≡ S.faults self.old.source) }
+        ensures cause { IfErr result (λ fault. (fault ≡ PeekFault.NoMemory)
+            ⊎ Rose (S.faults self.old.source) (S.faults self.new.source)) }
+        ensures never { IsTrue (S.never_fails self.old.source) → MatchResult result
+            (λ _. IsTrue (S.never_fails self.new.source))
+            (λ fault. fault ≡ PeekFault.NoMemory) }
+    {
+        fill(&mut self.source, &mut self.prefix, most)
+    }
+
+    /// The bytes that were looked at.
+    pub fn prefix(&self) -> &[u8]
+        ensures { result.now ≡ self.now.prefix.items }
+    {
+        &self.prefix
+    }
+
+    /// The inner source. Bytes of the prefix that were not given again are dropped.
+    pub fn into_source(self) -> S
+        ensures { result ≡ self.source }
+    {
+        let Peeked {
+            prefix: _,
+            place: _,
+            source,
+        } = self;
+        source
+    }
+
+    // The bytes of the prefix that were not given again.
+    fn kept(&self) -> &[u8]
+        ensures { result.now ≡ drop self.now.place self.now.prefix.items }
+    {
+        &self.prefix[self.place..]
+    }
+}
+
+impl<S: Source> Source for Peeked<S> {
+    ghost use Rattle.std.specs.Prelude.{drop};
+    ghost use Rattle.std.specs.Io.KnownBytes.{prepend_known};
+
+    ghost left = { λ s. prepend_known (drop s.place s.prefix.items) (S.left s.source) };
+
+    ghost faults = { λ s. S.faults s.source };
+
+    ghost never_fails = { λ s. S.never_fails s.source };
+
+    /// Gives the bytes left in the prefix, and after them one `read` of the inner source.
+    fn read(&mut self, into: &mut [u8]) -> Result<usize, Failed> {
+        if self.place == self.prefix.len() {
+            return self.source.read(into);
+        }
+        let count = give(self.kept(), into);
+        self.place += count;
+        Ok(count)
+    }
+}
+
+/// Peeks at the first `most` bytes of a source, or at all where it has fewer.
+pub fn peek<S: Source + Drop>(alloc: Global, source: S, most: usize) -> Result<Peeked<S>, PeekFault>
+    // The source returned has the bytes of this one.
+    ensures left { IfOk result (λ peeked.
+        Keeps (S.left source) (⟦<Peeked<S> as Source>⟧.left peeked)) }
+    ensures prefix { IfOk result (λ peeked.
+        IfSome (S.left source) (λ bytes. peeked.prefix.items ≡ take most bytes)) }
+
+    // Its fault count is that of the source, and a read fails only where one of the source does.
+    ensures faults { IfOk result (λ peeked.
+        ⟦<Peeked<S> as Source>⟧.faults peeked ≡ S.faults source) }
+    ensures never { IsTrue (S.never_fails source) → MatchResult result
+        (λ peeked. IsTrue (⟦<Peeked<S> as Source>⟧.never_fails peeked))
+        (λ fault. fault ≡ PeekFault.NoMemory) }
+{
+    let mut peeked = Peeked::new(alloc, source);
+    peeked.look(most)?;
+    Ok(peeked)
+}
+
+// Reads until `most` bytes are there, or the source is at its end.
+fn fill<S: Source>(source: &mut S, prefix: &mut Vec<u8>, most: usize) -> Result<(), PeekFault>
+    requires { prefix.old.items ≡ [] }
+    ensures bytes { OnOk result (Consumes (S.left source.old) (S.left source.new)
+        prefix.new.items) }
+    ensures prefix { OnOk result (IfSome (S.left source.old) (λ bytes.
+        prefix.new.items ≡ take most bytes)) }
+    ensures faults { OnOk result (S.faults source.new ≡ S.faults source.old) }
+    ensures cause { IfErr result (λ fault. (fault ≡ PeekFault.NoMemory)
+        ⊎ Rose (S.faults source.old) (S.faults source.new)) }
+    ensures never { IsTrue (S.never_fails source.old) → MatchResult result
+        (λ _. IsTrue (S.never_fails source.new)) (λ fault. fault ≡ PeekFault.NoMemory) }
+{
+    let mut piece = [0; 80];
+    while prefix.len() < most {
+        match read_part(source, &mut piece, most - prefix.len()) {
+            Ok(0) => return Ok(()),
+            Ok(count) => prefix.extend_from_slice(&piece[..count])?,
+            Err(Failed) => return Err(PeekFault::ReadFault),
+        }
+    }
+    Ok(())
+}
+
+// Reads at most `most` bytes into the start of the piece.
+fn read_part<S: Source>(source: &mut S, piece: &mut [u8], most: usize) -> Result<usize, Failed>
+    requires some { 0 < most }
+    requires room { 0 < length piece.old }
+    requires asks { length piece.old ≤ 16384 }
+    ensures within { IfOk result (λ count. count ≤ length piece.old) }
+    ensures most { IfOk result (λ count. count ≤ most) }
+    ensures bytes { MatchResult result
+        (λ count. Consumes (S.left source.old) (S.left source.new) (take count piece.new)
+        × (count ≡ 0 → IsAtEnd (S.left source.new)))
+        (λ _. Keeps (S.left source.old) (S.left source.new)) }
+    ensures cause { HasCause (S.faults source.old) (S.faults source.new) result }
+    ensures never { IsTrue (S.never_fails source.old)
+        → IsOk result × IsTrue (S.never_fails source.new) }
+{
+    let len = most.min(piece.len());
+    source.read(&mut piece[..len])
+}
+
+// Copies the first of the bytes left in the prefix.
+fn give(kept: &[u8], into: &mut [u8]) -> usize
+    ensures kept { result ≤ length kept.now }
+    ensures fits { result ≤ length into.new }
+    ensures bytes { take result into.new ≡ take result kept.now }
+    ensures end { result ≡ 0 → 0 < length into.new → kept.now ≡ [] }
+{
+    let count = into.len().min(kept.len());
+    into[..count].copy_from_slice(&kept[..count]);
+    count
+}

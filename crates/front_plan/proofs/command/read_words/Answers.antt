@@ -1,5 +1,0 @@
-use Rattle.front_plan.proofs.Commanded.{no_memory}
-use Rattle.front_plan.proofs.command.read_words.Goals as goal
-
-pub returns-in-Err : goal.returns-in-Err
-returns-in-Err c = no_memory _ _ c.from.ensures

@@ -1,8 +1,0 @@
-use Rattle.std.proofs.Common.{◌≡◌, map, take}
-use Rattle.clap.specs.Words.{app_of}
-use Rattle.front_plan.specs.Commands.{row_rule, with_rules}
-use Rattle.front_plan.proofs.command.with_rows.Given as goal
-
--- one option more for each row
-abbrev pub invariant-loop-row : goal.invariant-loop-row
-invariant-loop-row l = app_of l.command ≡ with_rules (app_of l.initial.command) (map row_rule (take l.row-index l.rows))

@@ -1,0 +1,176 @@
+-- From a step to the conversion that it ends.
+use Rattle.std.proofs.Common.{◌≡◌, ◌⊎◌, inl, inr, ◌<◌, ◌≤◌, ◌^◌, ℕ, length, List, Option, None, Some, Result, Ok, Err, refl, sym, subst, ◌∙◌, arith}
+use Rattle.std.proofs.lemmas.Bool.{cases_lt}
+use Rattle.std.specs.Prelude.{IfErr, IfSome, OnErr, OnOk}
+use Rattle.nav_io.specs.Causes.{Rose}
+use Rattle.file_step.specs.Files.{Opens, Stays}
+use Rattle.file_step.specs.Steps.{BrokeOff, Lacks, bytes_of}
+use Rattle.file_step.specs.declared.step.StepFault.{StepFault}
+use Rattle.receiver_log.specs.LogRuns.{too_many}
+use Rattle.front_run.specs.Asked.{CanConvert, ConvertsAs, Makes, PutsAs}
+use Rattle.front_run.specs.Steps.{EndsSo, IsBegun, IsLack, IsStopped, LacksMore}
+use Rattle.front_run.specs.Tasks.{accepts, makes_by}
+use Rattle.front_run.specs.declared.plans.Plan.{Plan}
+use Rattle.front_run.specs.declared.stops.Stop.{Stop}
+use Rattle.front_run.specs.declared.tasks.Task.{Task}
+use Rattle.front_run.proofs.Ended.{always}
+
+abbrev pub Folders : Type 0
+Folders = Option (List ℕ → Option (List ℕ))
+
+mapped : (left : Option (List ℕ)) (P Q : List ℕ → Type 0) → ((bytes : List ℕ) → P bytes → Q bytes) → IfSome left P → IfSome left Q
+mapped None P Q f all = tt
+mapped (Some bytes) P Q f all = f bytes all
+
+rose_same : (a b c d : ℕ) → a ≡ b → c ≡ d → Rose a c → Rose b d
+rose_same a b c d e f rose = omega arith
+
+-- ---- how the conversion has ended, by how the step has
+
+pub on_ended : {E : Type 0} (lacks : E → Type 0) (done : Result (Unit {0}) E) (result : Result (Unit {0}) Stop) (A B : Type 0) → EndsSo lacks done result
+    → (A → B) → OnOk done A → OnOk result B
+on_ended lacks (Ok x) (Ok y) A B so f a = f a
+on_ended lacks (Ok x) (Err stop) A B so f a = tt
+on_ended lacks (Err fault) (Ok y) A B so f a = absurd so
+on_ended lacks (Err fault) (Err stop) A B so f a = tt
+
+pub on_failed : {E : Type 0} (lacks : E → Type 0) (done : Result (Unit {0}) E) (result : Result (Unit {0}) Stop) (A B : Type 0) → EndsSo lacks done result
+    → (A → B) → OnErr done A → OnErr result B
+on_failed lacks (Ok x) (Ok y) A B so f a = tt
+on_failed lacks (Ok x) (Err stop) A B so f a = absurd so
+on_failed lacks (Err fault) (Ok y) A B so f a = tt
+on_failed lacks (Err fault) (Err stop) A B so f a = f a
+
+pub lack_of : {E : Type 0} (lacks : E → Type 0) (done : Result (Unit {0}) E) (result : Result (Unit {0}) Stop) → EndsSo lacks done result → IfErr done lacks
+    → IfErr result IsLack
+lack_of lacks (Ok x) (Ok y) so lack = tt
+lack_of lacks (Ok x) (Err stop) so lack = absurd so
+lack_of lacks (Err fault) (Ok y) so lack = tt
+lack_of lacks (Err fault) (Err stop) so lack = so lack
+
+-- ---- a conversion that was begun
+
+-- what was made of what was read is what the plan asks
+pub made_of : (plan : Plan) (source left : Option (List ℕ)) (task : Task) (P : List ℕ → Type 0) → IsBegun plan source left task
+    → IfSome left (λ read. P (makes_by task read)) → IfSome source (λ bytes. (made : List ℕ) × Makes plan bytes made × P made)
+made_of plan None left task P is all = tt
+made_of plan (Some bytes) left task P is all = (
+  makes_by task is.reads.0,
+  is.reads.2,
+  subst (λ (o : Option (List ℕ)). IfSome o (λ read. P (makes_by task read))) is.reads.1 all,
+)
+
+-- where so many bytes are too many, it is that which is wanting
+by_count : (count files files_new : ℕ) (done : Result (Unit {0}) (StepFault ℕ)) → (count < too_many) ⊎ (too_many ≤ count)
+    → IfErr done (λ fault. BrokeOff fault ⊎ Rose files files_new) → (Rose files files_new → ⊥)
+    → (count < too_many → IfErr done (Lacks (λ status. status ≡ 6))) → IfErr done (LacksMore count)
+by_count count files files_new (Ok x) either why none few = tt
+by_count count files files_new (Err fault) (inl short) why none few = inl (few short)
+by_count count files files_new (Err fault) (inr many) (inl broke) none few = inr (broke, many)
+by_count count files files_new (Err fault) (inr many) (inr rose) none few = absurd (none rose)
+
+-- It is done, or something is wanting, where the bytes are accepted and nothing fails. What is read of a log fails as the source
+-- does only while its bytes are not too many.
+pub lacks_of : (plan : Plan) (source left : Option (List ℕ)) (task : Task)
+    (reads reads_new inner inner_new reports reports_new told told_new files files_new count : ℕ)
+    (done : Result (Unit {0}) (StepFault ℕ)) (result : Result (Unit {0}) Stop)
+    → IsBegun plan source left task → EndsSo (LacksMore count) done result
+    → inner ≡ reads → (count < too_many → inner_new ≡ reads_new) → told ≡ reports → reports_new ≡ told_new
+    → IfErr done (λ fault. BrokeOff fault ⊎ Rose files files_new)
+    → IfSome left (λ read. accepts task read × (length read < 2 ^ 32) → (Rose inner inner_new → ⊥) → (Rose told told_new → ⊥)
+    → (Rose files files_new → ⊥) → IfErr done (Lacks (λ status. status ≡ 6)))
+    → IfSome source (λ bytes. CanConvert plan bytes → (Rose reads reads_new → ⊥) → (Rose reports reports_new → ⊥)
+    → (Rose files files_new → ⊥) → IfErr result IsLack)
+lacks_of plan None left task reads reads_new inner inner_new reports reports_new told told_new files files_new count done result
+    is so same same_new report report_new failed complete = tt
+lacks_of plan (Some bytes) left task reads reads_new inner inner_new reports reports_new told told_new files files_new count done result
+    is so same same_new report report_new failed complete = λ can no_read no_report no_file.
+    let each = subst (λ (o : Option (List ℕ)). IfSome o (λ read. accepts task read × (length read < 2 ^ 32) → (Rose inner inner_new → ⊥)
+    → (Rose told told_new → ⊥) → (Rose files files_new → ⊥) → IfErr done (Lacks (λ status. status ≡ 6)))) is.reads.1 complete in
+    lack_of (LacksMore count) done result so
+    (by_count count files files_new done (cases_lt count too_many) failed no_file (λ few.
+    each (is.reads.3 can)
+    (λ rose. no_read (rose_same inner reads inner_new reads_new same (same_new few) rose))
+    (λ rose. no_report (rose_same told reports told_new reports_new report (sym report_new) rose))
+    no_file))
+
+-- the same, said in another order
+pub swapped : (left : Option (List ℕ)) (Can : List ℕ → Type 0) (A B C D : Type 0) → IfSome left (λ read. Can read → A → B → C → D)
+    → IfSome left (λ read. Can read → A → C → B → D)
+swapped left Can A B C D all = mapped left _ _ (λ read each can a c b. each can a b c) all
+
+-- ---- one that was not
+
+pub none_ok : (done : Result (Unit {0}) Stop) (A : Type 0) → OnOk done ⊥ → OnOk done A
+none_ok (Ok x) A never = absurd never
+none_ok (Err stop) A never = tt
+
+stays_same : (files : Folders) (part : List ℕ) → Stays files files part
+stays_same None part = tt
+stays_same (Some files) part = λ name other. refl
+
+pub stays_still : (done : Result (Unit {0}) Stop) (old new : Folders) (part : List ℕ) → new ≡ old → OnErr done (Stays old new part)
+stays_still (Ok x) old new part same = tt
+stays_still (Err stop) old new part same = subst (λ (f : Folders). Stays old f part) (sym same) (stays_same old part)
+
+pub stopped_lack : (plan : Plan) (source : Option (List ℕ)) (reads reads_new : ℕ) (done : Result (Unit {0}) Stop) (A B : Type 0)
+    → IsStopped plan source reads reads_new done
+    → IfSome source (λ bytes. CanConvert plan bytes → (Rose reads reads_new → ⊥) → A → B → IfErr done IsLack)
+stopped_lack plan source reads reads_new done A B is = mapped source _ _ (λ bytes each can no_read a b. each can no_read) is.lack
+
+-- ---- a file that is opened, and closed then
+
+pub converts_of : (plan : Plan) (old opened put new : Folders) (from part name : List ℕ) (source : Option (List ℕ))
+    → opened ≡ old → new ≡ put → Opens old from source → IfSome source (λ bytes. PutsAs plan bytes opened put part name)
+    → ConvertsAs plan old new from part name
+converts_of plan old opened put new from part name source same same_new opens puts =
+    by_files old new opens (subst (λ (f : Folders). IfSome source (λ bytes. PutsAs plan bytes f new part name)) same
+    (subst (λ (f : Folders). IfSome source (λ bytes. PutsAs plan bytes opened f part name)) (sym same_new) puts)) where
+      named : (old : List ℕ → Option (List ℕ)) (new : Folders) (bytes : List ℕ) → old from ≡ Some bytes
+          → PutsAs plan bytes (Some old) new part name → ConvertsAs plan (Some old) new from part name
+      named old None bytes there (text, makes, never) = absurd never
+      named old (Some new) bytes there (text, makes, puts) = (bytes, there, (text, makes, puts))
+
+      by_files : (old new : Folders) → Opens old from source → IfSome source (λ bytes. PutsAs plan bytes old new part name)
+          → ConvertsAs plan old new from part name
+      by_files None new opens puts = tt
+      by_files (Some old) new (bytes, there, has) puts =
+          named old new bytes there (subst (λ (o : Option (List ℕ)). IfSome o (λ l. PutsAs plan l (Some old) new part name)) has puts)
+
+pub stays_of : (old opened put new : Folders) (part : List ℕ) → opened ≡ old → new ≡ put → Stays opened put part → Stays old new part
+stays_of old opened put new part same same_new stays =
+    subst (λ (f : Folders). Stays f new part) same (subst (λ (f : Folders). Stays opened f part) (sym same_new) stays)
+
+-- what is so of the bytes of the source is so of those of the file
+of_file : (files : Folders) (from : List ℕ) (source : Option (List ℕ)) (P : List ℕ → Type 0) → Opens files from source → IfSome source P
+    → IfSome (bytes_of files from) P
+of_file None from source P opens all = tt
+of_file (Some files) from source P (bytes, there, has) all = subst (λ (o : Option (List ℕ)). IfSome o P) (has ∙ sym there) all
+
+rose_later : (a b c d : ℕ) → a ≡ b → Rose b c → c ≤ d → Rose a d
+rose_later a b c d same rose later = omega arith
+
+rose_before : (a b c d : ℕ) → a ≡ b → b ≤ c → Rose c d → Rose a d
+rose_before a b c d same before rose = omega arith
+
+-- a read that failed fails the close
+pub closed : (plan : Plan) (files : Folders) (from : List ℕ) (source : Option (List ℕ)) (reads reads_new reports reports_new : ℕ)
+    (faults faults_open faults_mid faults_new : ℕ) (done result : Result (Unit {0}) Stop)
+    → Opens files from source → EndsSo IsLack done result → reads ≡ 0 → faults_open ≡ faults → faults_open ≤ faults_mid → faults_mid ≤ faults_new
+    → (Rose 0 reads_new → Rose faults_mid faults_new)
+    → IfSome source (λ bytes. CanConvert plan bytes → (Rose reads reads_new → ⊥) → (Rose reports reports_new → ⊥)
+    → (Rose faults_open faults_mid → ⊥) → IfErr done IsLack)
+    → IfSome (bytes_of files from) (λ bytes. CanConvert plan bytes → (Rose reports reports_new → ⊥) → (Rose faults faults_new → ⊥)
+    → IfErr result IsLack)
+closed plan files from source reads reads_new reports reports_new faults faults_open faults_mid faults_new done result
+    opens so zero same before later told complete =
+    of_file files from source _ opens (mapped source _ _ (λ bytes each can no_report no_fault.
+    lack_of IsLack done result so (each can
+    (λ rose. no_fault (rose_before faults faults_open faults_mid faults_new (sym same) before (told (rose_same reads 0 reads_new reads_new zero refl rose))))
+    no_report
+    (λ rose. no_fault (rose_later faults faults_open faults_mid faults_new (sym same) rose later)))) complete)
+
+-- a file that was not opened
+pub not_opened : (left : Option (List ℕ)) (Can : List ℕ → Type 0) (A B : Type 0) (files files_new : ℕ) → Rose files files_new
+    → IfSome left (λ bytes. Can bytes → A → (Rose files files_new → ⊥) → B)
+not_opened left Can A B files files_new rose = always left _ (λ bytes can a none. absurd (none rose))

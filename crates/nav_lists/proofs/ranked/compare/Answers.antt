@@ -1,0 +1,27 @@
+use Rattle.std.proofs.Common.{ap, sym, ◌∙◌}
+use Rattle.std.specs.Cmp.Lexicographic.{slice_cmp}
+use Rattle.std.specs.Ordering.{int_cmp}
+use Rattle.std.specs.declared.cmp.Ordering.TheVariants.{Less, Equal, Greater}
+use Rattle.nav_eph.specs.Ranks.{rank}
+use Rattle.nav_lists.specs.Fronts.{front_of}
+use Rattle.nav_lists.proofs.FrontLemmas.{fronts}
+use Rattle.nav_lists.proofs.ranked.compare.Goals as goal
+
+pub returns-in-Less : goal.returns-in-Less
+returns-in-Less c =
+    c.in-Less.is
+    ∙ sym (fronts c.args.a.now c.args.b.now c.a.inside.front c.b.inside.front Less
+    (c.a.invariant ∙ ap front_of c.a.view_is) (c.b.invariant ∙ ap front_of c.b.view_is) (sym c.in-Less.is ∙ c.cmp-order.ensures))
+
+pub returns-in-Equal : goal.returns-in-Equal
+returns-in-Equal c =
+    c.compare_fields.ensures
+    ∙ (λ i. slice_cmp int_cmp (rank ((c.deref.ensures ∙ c.a.view_is) i)) (rank ((c.deref-in-Equal.ensures ∙ c.b.view_is) i)))
+    ∙ sym (fronts c.args.a.now c.args.b.now c.a.inside.front c.b.inside.front Equal
+    (c.a.invariant ∙ ap front_of c.a.view_is) (c.b.invariant ∙ ap front_of c.b.view_is) (sym c.in-Equal.is ∙ c.cmp-order.ensures))
+
+pub returns-in-Greater : goal.returns-in-Greater
+returns-in-Greater c =
+    c.in-Greater.is
+    ∙ sym (fronts c.args.a.now c.args.b.now c.a.inside.front c.b.inside.front Greater
+    (c.a.invariant ∙ ap front_of c.a.view_is) (c.b.invariant ∙ ap front_of c.b.view_is) (sym c.in-Greater.is ∙ c.cmp-order.ensures))

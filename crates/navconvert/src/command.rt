@@ -1,0 +1,361 @@
+//! Parsing of the command line.
+
+ghost use Rattle.std.specs.Prelude.{◌≡◌, IfOk, map, codes};
+ghost use Rattle.std.specs.Prelude.{option_map, option_and_then, unwrap_or};
+ghost use Rattle.std.specs.Prelude.{[], false};
+ghost use Rattle.std.specs.String.{string_bytes};
+ghost use Rattle.clap.specs.Words.{all_of, app_of, found_of, rows_of, rule_of};
+ghost use Rattle.navconvert.specs.Commands.{IsCommand, ReadsWords, command_with};
+ghost use Rattle.navconvert.specs.Commands.{files_rule, has_flag, row_rule};
+ghost use Rattle.navconvert.specs.Commands.{value_in, with_rules, with_short};
+ghost use Rattle.file_form.specs.Table.{kind_named, target_named};
+
+use clap::builder::ValueParser;
+use clap::{Arg, ArgAction, ArgMatches, Command, Error};
+use file_form::{Kind, Target, kind_named, target_named};
+use std::alloc::{AllocError, Global};
+
+/// What the command line asks for.
+#[derive(Drop)]
+pub(crate) struct Asked<'a> {
+    /// What the parser found.
+    pub matches: ArgMatches<'a>,
+}
+
+impl<'a> Asked<'a> {
+    /// The files, `-` for standard input.
+    pub(crate) fn files(&self) -> Option<&[&'a str]>
+        ensures { option_map (λ files. map (λ file. file.now) files.now) result
+            ≡ all_of (codes "files") (rows_of (found_of self.now.matches)) }
+    {
+        self.matches.get_strs("files")
+    }
+
+    /// The form that `--from` names; `None` where each file tells its own.
+    pub(crate) fn from(&self) -> Option<Kind>
+        ensures { result ≡ option_and_then kind_named (value_in self.now (codes "from")) }
+    {
+        kind_named(self.value("from")?)
+    }
+
+    /// The target.
+    pub(crate) fn to(&self) -> Target
+        ensures { result ≡ unwrap_or (option_and_then target_named
+            (value_in self.now (codes "to"))) Target.Rinex }
+    {
+        match self.value("to") {
+            None => Target::Rinex,
+            Some(word) => target_named(word).unwrap_or(Target::Rinex),
+        }
+    }
+
+    /// The output: a file, a folder, or `-`.
+    pub(crate) fn output(&self) -> Option<&'a str>
+        ensures { option_map (λ text. text.now) result ≡ value_in self.now (codes "output") }
+    {
+        self.value("output")
+    }
+
+    /// The reference week, where one is named.
+    pub(crate) fn week(&self) -> Option<&'a str>
+        ensures { option_map (λ text. text.now) result ≡ value_in self.now (codes "week") }
+    {
+        self.value("week")
+    }
+
+    /// The leap seconds of a header.
+    pub(crate) fn leap(&self) -> &'a str
+        ensures { result.now ≡ unwrap_or (value_in self.now (codes "leap")) (codes "18") }
+    {
+        self.value("leap").unwrap_or("18")
+    }
+
+    /// The date of a header, where one is named.
+    pub(crate) fn date(&self) -> Option<&'a str>
+        ensures { option_map (λ text. text.now) result ≡ value_in self.now (codes "date") }
+    {
+        self.value("date")
+    }
+
+    /// The site of a long name by the convention of RINEX.
+    pub(crate) fn long_name(&self) -> Option<&'a str>
+        ensures { option_map (λ text. text.now) result ≡ value_in self.now (codes "long-name") }
+    {
+        self.value("long-name")
+    }
+
+    /// The file for the reports.
+    pub(crate) fn report(&self) -> Option<&'a str>
+        ensures { option_map (λ text. text.now) result ≡ value_in self.now (codes "report") }
+    {
+        self.value("report")
+    }
+
+    /// Whether a file that has the name of an output is replaced.
+    pub(crate) fn overwrites(&self) -> bool
+        ensures { result ≡ has_flag self.now (codes "overwrite") }
+    {
+        self.has("overwrite")
+    }
+
+    /// Whether messages of success are suppressed.
+    pub(crate) fn is_quiet(&self) -> bool
+        ensures { result ≡ has_flag self.now (codes "quiet") }
+    {
+        self.has("quiet")
+    }
+
+    /// Whether the words of `navbridge` are only printed.
+    pub(crate) fn is_dry(&self) -> bool
+        ensures { result ≡ has_flag self.now (codes "dry-run") }
+    {
+        self.has("dry-run")
+    }
+
+    /// Whether the forms are only listed.
+    pub(crate) fn lists_forms(&self) -> bool
+        ensures { result ≡ has_flag self.now (codes "list-forms") }
+    {
+        self.has("list-forms")
+    }
+
+    // The value of an option.
+    fn value(&self, name: &str) -> Option<&'a str>
+        ensures { option_map (λ text. text.now) result ≡ value_in self.now name.now }
+    {
+        self.matches.get_str(name)
+    }
+
+    // Whether a flag is given.
+    fn has(&self, name: &str) -> bool
+        ensures { result ≡ has_flag self.now name.now }
+    {
+        match self.value(name) {
+            None => false,
+            Some(text) => text == "true",
+        }
+    }
+}
+
+/// What the words ask for; they do not include the program's name.
+///
+/// # Errors
+///
+/// Help or the version was asked for, or the words are not a valid command line: `print` writes the
+/// text to standard output or standard error.
+pub(crate) fn read_words<'a>(alloc: Global, words: &'a [String]) -> Result<Asked<'a>, Error>
+    ensures { ReadsWords (map string_bytes words.now) result }
+{
+    match command_of(alloc) {
+        Ok(command) => parsed(command, words),
+        Err(AllocError) => Err(Error::from(AllocError)),
+    }
+}
+
+// What this command finds in the words.
+fn parsed<'a>(command: Command<'a>, words: &'a [String]) -> Result<Asked<'a>, Error>
+    requires { IsCommand (app_of command) }
+    ensures { ReadsWords (map string_bytes words.now) result }
+{
+    match command.try_get_matches_from(words) {
+        Ok(matches) => Ok(Asked { matches }),
+        Err(error) => Err(error),
+    }
+}
+
+// An option: what a use of it does, what its value has to be, its defaults, and the names of its
+// value.
+struct Row {
+    name: &'static str,
+    short: Option<char>,
+    action: ArgAction,
+    parser: ValueParser<'static>,
+    defaults: &'static [&'static str],
+    values: &'static [&'static str],
+    help: &'static str,
+}
+
+static OPTIONS: [Row; 12] = [
+    Row {
+        name: "from",
+        short: Some('f'),
+        action: ArgAction::Set,
+        parser: ValueParser::Names(&["auto", "capture", "stream", "rinex", "rinex3", "ubx", "sbf"]),
+        defaults: &["auto"],
+        values: &["FORM"],
+        help: "The form of the files; auto looks at their first bytes",
+    },
+    Row {
+        name: "to",
+        short: Some('t'),
+        action: ArgAction::Set,
+        parser: ValueParser::Names(&[
+            "rinex", "rinex3", "rtcm", "list", "count", "frames", "merged", "cover", "capture",
+        ]),
+        defaults: &["rinex"],
+        values: &["FORM"],
+        help: "What is made of them",
+    },
+    Row {
+        name: "output",
+        short: Some('o'),
+        action: ArgAction::Set,
+        parser: ValueParser::String,
+        defaults: &[],
+        values: &["OUT"],
+        help: "The output: a file, a folder, or - for standard output",
+    },
+    Row {
+        name: "week",
+        short: None,
+        action: ArgAction::Set,
+        parser: ValueParser::Signed(1024, 8191),
+        defaults: &[],
+        values: &["WEEK"],
+        help: "A GPS week near which a file is read; else that of today",
+    },
+    Row {
+        name: "leap",
+        short: None,
+        action: ArgAction::Set,
+        parser: ValueParser::Signed(0, 99),
+        defaults: &["18"],
+        values: &["SECONDS"],
+        help: "The leap seconds of a header",
+    },
+    Row {
+        name: "date",
+        short: None,
+        action: ArgAction::Set,
+        parser: ValueParser::String,
+        defaults: &[],
+        values: &["DATE"],
+        help: "The date of a header, as \"20240101 000000 UTC\"",
+    },
+    Row {
+        name: "long-name",
+        short: None,
+        action: ArgAction::Set,
+        parser: ValueParser::String,
+        defaults: &[],
+        values: &["SITE"],
+        help: "Name outputs by the convention of RINEX 3, with the times in the data, as BRDC00XXX",
+    },
+    Row {
+        name: "report",
+        short: None,
+        action: ArgAction::Set,
+        parser: ValueParser::String,
+        defaults: &[],
+        values: &["FILE"],
+        help: "A file for the reports of navbridge: what was refused, and counts",
+    },
+    Row {
+        name: "overwrite",
+        short: None,
+        action: ArgAction::SetTrue,
+        parser: ValueParser::Bool,
+        defaults: &[],
+        values: &[],
+        help: "Replace a file that has the name of the output",
+    },
+    Row {
+        name: "quiet",
+        short: Some('q'),
+        action: ArgAction::SetTrue,
+        parser: ValueParser::Bool,
+        defaults: &[],
+        values: &[],
+        help: "Say nothing of what was done",
+    },
+    Row {
+        name: "dry-run",
+        short: Some('n'),
+        action: ArgAction::SetTrue,
+        parser: ValueParser::Bool,
+        defaults: &[],
+        values: &[],
+        help: "Print the words of navbridge, and do nothing",
+    },
+    Row {
+        name: "list-forms",
+        short: None,
+        action: ArgAction::SetTrue,
+        parser: ValueParser::Bool,
+        defaults: &[],
+        values: &[],
+        help: "List the forms, and do nothing",
+    },
+];
+
+// The command.
+fn command_of<'a>(alloc: Global) -> Result<Command<'a>, AllocError>
+    ensures { IfOk result (λ command. IsCommand (app_of command)) }
+{
+    let command = bare_command(alloc)?;
+    with_rows(alloc, command, OPTIONS.as_slice())
+}
+
+// The command without its options.
+fn bare_command<'a>(alloc: Global) -> Result<Command<'a>, AllocError>
+    ensures { IfOk result (λ command. app_of command ≡ command_with []) }
+{
+    Command::new(alloc, "navconvert")
+        .no_binary_name(true)
+        .version("1.0.0")
+        .about("Converts files of GNSS broadcast orbits")
+        .arg(files_of(alloc))
+}
+
+// The files.
+fn files_of<'a>(alloc: Global) -> Arg<'a>
+    ensures rule { rule_of result ≡ files_rule }
+    ensures local { result.global ≡ false }
+{
+    Arg::new(alloc, "files")
+        .value_name("FILE")
+        .help("Files that are converted, each to one of its own; - is standard input")
+        .num_args(1..)
+}
+
+// A command with options of these rows.
+fn with_rows<'a>(
+    alloc: Global,
+    command: Command<'a>,
+    rows: &[Row],
+) -> Result<Command<'a>, AllocError>
+    ensures { IfOk result (λ more. app_of more
+        ≡ with_rules (app_of command.entry) (map row_rule rows.now)) }
+{
+    let mut command = command;
+    for row in rows {
+        command = command.arg(option_of(alloc, row))?;
+    }
+    Ok(command)
+}
+
+// An option.
+fn option_of<'a>(alloc: Global, row: &Row) -> Arg<'a>
+    ensures rule { rule_of result ≡ row_rule row.now }
+    ensures local { result.global ≡ false }
+{
+    let arg = Arg::new(alloc, row.name)
+        .long(row.name)
+        .action(row.action)
+        .value_names(row.values)
+        .value_parser(row.parser)
+        .default_values(row.defaults)
+        .help(row.help);
+    with_short(arg, row.short)
+}
+
+// With a short name.
+fn with_short<'a>(arg: Arg<'a>, short: Option<char>) -> Arg<'a>
+    ensures rule { rule_of result ≡ with_short short (rule_of arg.entry) }
+    ensures global { result.global ≡ arg.entry.global }
+{
+    match short {
+        None => arg,
+        Some(short) => arg.short(short),
+    }
+}

@@ -1,5 +1,0 @@
-use Rattle.peek_io.proofs.Known.{looked}
-use Rattle.peek_io.proofs.peeked.Peeked.look.Goals as goal
-
-pub returns-clause-left : goal.returns-clause-left
-returns-clause-left g c = looked _ _ _ _ _ _ c.args.self.now.within c.requires c.fill.ensures.bytes
