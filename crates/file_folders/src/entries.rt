@@ -1,6 +1,6 @@
 //! The files of a folder in memory, as changes of names.
 
-ghost use Rattle.std.specs.Prelude.{◌≡◌, Some, OnOk, OnErr, ◌≢◌};
+ghost use Rattle.std.specs.Prelude.{◌≡◌, Some, OnOk, OnErr, ◌≢◌, IfErr};
 ghost use Rattle.std.specs.Option.{option_map};
 ghost use Rattle.file_step.specs.Files.{Publishes, Stays};
 ghost use Rattle.file_folders.specs.Entries.{Sets, bytes_at, contents_of};
@@ -55,7 +55,8 @@ pub fn found<'a>(entries: &'a [Entry], name: &str) -> Option<&'a [u8]>
     None
 }
 
-/// Gives the name the bytes, and removes the part.
+/// Gives the name the bytes, and removes the part. It fails only for want of memory, in this call or
+/// in a write of the draft.
 pub fn published(
     alloc: Global,
     entries: &mut Vec<Entry>,
@@ -70,6 +71,7 @@ pub fn published(
     ensures whole { OnOk result (⟦<MemDraft as Sink>⟧.faults draft ≡ 0) }
     ensures stays { OnErr result (Stays (Some (bytes_at entries.old.items))
         (Some (bytes_at entries.new.items)) part.now) }
+    ensures cause { IfErr result (λ fault. fault ≡ FileFault.NoMemory) }
 {
     if draft.faults() != 0 {
         return Err(FileFault::NoMemory);

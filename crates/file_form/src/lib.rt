@@ -9,7 +9,7 @@
 //! names.
 //!
 //! ```rust
-//! assert!(rt; kind_of(b"NAVCAP 1\n") == Kind::Capture1);
+//! assert!(rt; matches!(kind_of(b"NAVCAP 1\n"), Kind::Capture1));
 //! ```
 #![tactic(auto)]
 
@@ -32,7 +32,7 @@ pub use crate::words::{ending_of, from_word, kind_named, target_named, to_word};
 pub const LOOKED_AT: usize = 80;
 
 /// The form of a file.
-#[derive(Clone, Copy, PartialEq, Eq)]
+#[derive(Clone, Copy)]
 pub enum Kind {
     /// No byte.
     Empty,

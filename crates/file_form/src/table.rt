@@ -6,7 +6,7 @@ ghost use Rattle.file_form.specs.Table.{row_of, capture_row, stream_row, file_ro
 use crate::Kind;
 
 /// The form that is written.
-#[derive(Clone, Copy, PartialEq, Eq)]
+#[derive(Clone, Copy)]
 pub enum Target {
     /// A navigation file of RINEX 4.
     Rinex,

@@ -159,11 +159,6 @@ fn header_text(kind: Kind) -> &'static str {
     }
 }
 
-// Writes the sentence of a read that failed after so many bytes.
-fn say_read<W: fmt::Write>(f: &mut fmt::Formatter<W>, count: u64, reason: &str) -> fmt::Result {
-    write!(f, "reading it failed after {count} bytes: {reason}")
-}
-
 impl Refusal<'_> {
     // How its sentence begins: a name or a value, with what stands before it and behind.
     fn front(&self) -> (&str, &str, &str) {

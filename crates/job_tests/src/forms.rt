@@ -1,6 +1,7 @@
 //! Forms of files by their first bytes.
 
 use file_form::{Kind, kind_of};
+use file_texts::kind_text;
 
 // The first bytes of a file, and what they say.
 struct Prefix {
@@ -113,6 +114,6 @@ static PREFIXES: [Prefix; 24] = [
 #[test]
 fn prefixes_tell_forms(rt: HostRuntime) {
     for prefix in &PREFIXES {
-        assert!(rt; kind_of(prefix.bytes) == prefix.kind);
+        assert!(rt; kind_text(kind_of(prefix.bytes)) == kind_text(prefix.kind));
     }
 }

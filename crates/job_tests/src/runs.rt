@@ -3,24 +3,24 @@
 ghost use Rattle.std.specs.Prelude.{◌≡◌};
 
 use file_folders::MemFolder;
-use file_form::{Kind, Target, Values};
+use file_form::{Target, Values};
 use file_step::Untold;
-use file_texts::Refusal;
+use file_texts::{Refusal, kind_text};
 use front_run::{Outcome, Plan, Sourced, Stop, Teller, Told, convert_one, convert_source, finish};
 use nav_io::{Failed, MemSink, MemSource};
 use receiver_log::Unheard;
 use std::alloc::{AllocError, Global};
 use std::test::Fail;
 
-// How a conversion ended, with the form under which the file was read.
+// How a conversion ended, with what is said of the form under which the file was read.
 #[derive(Clone, Copy, PartialEq, Eq)]
 enum End {
     Done,
     NotOpened,
     NotRead,
-    NoConversion(Kind),
-    NoJob(Kind),
-    NotAccepted(Kind),
+    NoConversion(&'static str),
+    NoJob(&'static str),
+    NotAccepted(&'static str),
     Other,
 }
 
@@ -30,9 +30,9 @@ fn end_of(done: Result<(), Stop>) -> End {
         Ok(()) => End::Done,
         Err(Stop::Open(_)) => End::NotOpened,
         Err(Stop::Look(None)) => End::NotRead,
-        Err(Stop::NoConversion(kind)) => End::NoConversion(kind),
-        Err(Stop::NoJob(kind)) => End::NoJob(kind),
-        Err(Stop::Run(kind, 5, _, _, _)) => End::NotAccepted(kind),
+        Err(Stop::NoConversion(kind)) => End::NoConversion(kind_text(kind)),
+        Err(Stop::NoJob(kind)) => End::NoJob(kind_text(kind)),
+        Err(Stop::Run(kind, 5, _, _, _)) => End::NotAccepted(kind_text(kind)),
         Err(_) => End::Other,
     }
 }
@@ -81,7 +81,7 @@ static CASES: [Case; 8] = [
         week: Some("2294"),
         old: Some(b"old"),
         new: Some(b"old"),
-        end: End::NotAccepted(Kind::Capture2),
+        end: End::NotAccepted("a capture with a week"),
         fails: false,
         status: 5,
     },
@@ -102,7 +102,7 @@ static CASES: [Case; 8] = [
         week: None,
         old: None,
         new: None,
-        end: End::NotAccepted(Kind::Ubx),
+        end: End::NotAccepted("a receiver's log of UBX messages"),
         fails: false,
         status: 5,
     },
@@ -112,7 +112,7 @@ static CASES: [Case; 8] = [
         week: None,
         old: None,
         new: None,
-        end: End::NoConversion(Kind::Capture1),
+        end: End::NoConversion("a capture without a week"),
         fails: false,
         status: 2,
     },
@@ -122,7 +122,7 @@ static CASES: [Case; 8] = [
         week: Some("99999"),
         old: None,
         new: None,
-        end: End::NoJob(Kind::Capture1),
+        end: End::NoJob("a capture without a week"),
         fails: false,
         status: 2,
     },

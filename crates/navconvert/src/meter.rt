@@ -64,16 +64,12 @@ impl Shown<'_> {
     fn show(&self, count: u64, time: u64) {
         let rate = count / time.max(1) / 1000;
         let done = count / 1_000_000;
-        if count >= self.size {
-            let _ = eprint!(self.rt; "\r{}: {done} MB, {rate} MB/s ", self.file);
-            return;
+        let _ = eprint!(self.rt; "\r{}: {done} MB, {rate} MB/s ", self.file);
+        if count < self.size {
+            let percents = count / (self.size / 100).max(1);
+            let left = time_left(count, self.size, time);
+            let _ = eprint!(self.rt; "{percents} %, {left} s left ");
         }
-        let percents = count / (self.size / 100).max(1);
-        let left = time_left(count, self.size, time);
-        let _ = eprint!(self.rt;
-            "\r{}: {done} MB, {percents} %, {rate} MB/s, {left} s left ",
-            self.file
-        );
     }
 }
 
