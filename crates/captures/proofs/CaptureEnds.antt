@@ -9,7 +9,7 @@ use Rattle.nav_io.specs.Causes.{Rose}
 use Rattle.nav_io.specs.Prefix.{AppendsPrefix, IsPrefix}
 use Rattle.nav_io.specs.Lines.{Line, lines_by}
 use Rattle.nav_io.specs.LinesState.{LinesState, Reads, GivesLine, GivesEnd}
-use Rattle.nav_io.proofs.Surface.{reads_more}
+use Rattle.nav_io.proofs.Surface.{ended_before, lines_length, no_pieces, reads_more, recent_ended, recent_lines, recent_within, sum_pieces}
 use Rattle.periods.specs.PeriodsOf.{closed_of, periods_of}
 use Rattle.capture_log.specs.Log.{log_of, watermark_after, parts_of}
 use Rattle.captures.specs.declared.accept.Accepted.{Accepted}
@@ -33,7 +33,6 @@ use Rattle.captures.specs.Flushed.{said_of, with_counts}
 use Rattle.captures.proofs.CapturePrefixes.{Follow, accepts_first, capture_by, capture_lines, prefix_all, prefix_head, prefixes_of, known_lines, last_all, last_prefix, last_texts, least_prefix, least_none, lines_follow, nothing_part, output_is, refuses_first, refuses_none, report_prefix, report_is, flushed_is, flushed_report_is}
 use Rattle.captures.proofs.Converting.{all_lines, ended_lines}
 use Rattle.captures.proofs.Prefixes.{LogLaws, appends_behind, appends_longer, prefix_behind, prefix_more, prefix_nil, prefix_trans}
-use Rattle.captures.proofs.LineCounts.{ended_before, lines_length, no_pieces, sum_pieces, recent_ended, recent_lines, recent_within}
 use Rattle.captures.proofs.Writing.{texts_prefix}
 
 -- lines of which none was read

@@ -8,6 +8,7 @@ use Rattle.std.proofs.KnownBytes.{Appends-nil, Appends-trans}
 use Rattle.nav_io.specs.Prefix.{AppendsPrefix, IsPrefix}
 use Rattle.nav_io.specs.Lines.{Line, lines_by}
 use Rattle.nav_io.specs.LinesState.{LinesState, Reads}
+use Rattle.nav_io.proofs.Surface.{IsPrefixOf, prefix_within, lines_prefix}
 use Rattle.periods.specs.PeriodsOf.{closed_of}
 use Rattle.periods.specs.declared.closed.Closed.{Closed}
 use Rattle.capture_log.specs.Log.{line_items_of, log_from, log_of, watermark_after, parts_of}
@@ -20,7 +21,6 @@ use Rattle.captures.specs.Captures.{Capture, accepted_line, capture_in, capture_
 use Rattle.captures.specs.Converts.{AcceptsHead, CapturePrefix, CountsLast, Refuses, Stop, StopSays}
 use Rattle.captures.specs.Notes.{line_report}
 use Rattle.captures.proofs.Prefixes.{LogLaws, appends_behind, appends_longer, prefix_behind, prefix_more, prefix_nil, prefix_trans}
-use Rattle.captures.proofs.LineCounts.{IsPrefixOf, prefix_within, lines_prefix}
 use Rattle.captures.proofs.Logs.{known_of, log_more, report_append}
 use Rattle.captures.proofs.Writing.{texts_prefix}
 

@@ -3,6 +3,7 @@ use Rattle.std.proofs.Common.{ℕ, true, false, List, [], ◌∷◌, ◌++◌, s
 use Rattle.std.specs.Prelude.{Option, None, Some}
 use Rattle.nav_io.specs.Lines.{Line, lines_by}
 use Rattle.nav_io.specs.Prefix.{IsPrefix}
+use Rattle.nav_io.proofs.Surface.{lines_prefix}
 use Rattle.periods.specs.PeriodLists.{IsPeriodPrefix}
 use Rattle.periods.specs.PeriodsOf.{closed_of, periods_of}
 use Rattle.capture_log.specs.Log.{log_of, parts_of, watermark_after}
@@ -11,7 +12,6 @@ use Rattle.outlets.specs.declared.target.Target.{Target}
 use Rattle.captures.specs.Captures.{accepted_line, capture_in, capture_with, counts_of, counts_text, flushed_output, flushed_report, flushed_text, output_of, refusals_text, report_of_capture, texts_of, whole_report, whole_text}
 use Rattle.captures.specs.Notes.{line_report}
 use Rattle.captures.proofs.CapturePrefixes.{capture_by, report_prefix}
-use Rattle.captures.proofs.LineCounts.{lines_prefix}
 use Rattle.captures.proofs.Prefixes.{prefix_behind, prefix_more, prefix_nil, prefix_trans}
 use Rattle.captures.proofs.Writing.{texts_prefix}
 

@@ -11,7 +11,7 @@ use Rattle.nav_io.specs.LinesState.{LinesState, Reads, GivesEnd}
 use Rattle.nav_io.specs.LineAnswers.{Breaks}
 use Rattle.nav_io.specs.declared.lines.LineFault.{LineFault}
 use Rattle.nav_io.specs.declared.lines.LineFault.TheVariants as lines
-use Rattle.nav_io.proofs.Surface.{reads_none, reads_more}
+use Rattle.nav_io.proofs.Surface.{ended_before, no_lines, no_pieces, reads_more, reads_none, recent_ended, recent_lines, recent_within, sum_pieces}
 use Rattle.inav_page.specs.Heard.{StampedHalf}
 use Rattle.inav_page.specs.Keeping.{Keeping}
 use Rattle.capture_lines.specs.declared.item.LineItem.{LineItem}
@@ -36,7 +36,6 @@ use Rattle.captures.specs.Hearings.{Finished, IsNew, IsStepFault, Stands, StepBr
 use Rattle.captures.specs.Notes.{GivesItem, KeepsHalves, line_report, tallied, total}
 use Rattle.captures.specs.Flushed.{IsWriting, said_of}
 use Rattle.captures.proofs.Prefixes.{LogLaws, appends_whole, written_closed}
-use Rattle.captures.proofs.LineCounts.{ended_before, no_lines, no_pieces, recent_ended, recent_lines, recent_within, sum_pieces}
 
 -- ---- the lines of what was held and taken
 

@@ -3,7 +3,6 @@ use Rattle.std.proofs.Common.{◌≡◌, ◌<◌, ◌^◌, ℕ, List, length, le
 use Rattle.std.specs.Prelude.{Option, None, Some, IfSome, IsSome, IsTrue, Ok}
 use Rattle.std.proofs.lemmas.Bool.{true≢false}
 use Rattle.std.specs.Io.KnownBytes.{Appends, Consumes}
-use Rattle.nav_io.specs.Prefix.{AppendsPrefix}
 use Rattle.one_run.specs.Causes.{faults_of}
 use Rattle.one_run.specs.Runs.{Broke, Done, World}
 use Rattle.one_run.specs.declared.fault.BridgeFault.{BridgeFault}

@@ -11,7 +11,6 @@ mod Prefixes
 mod Pushing
 mod ItemEvents
 mod Keeping
-mod LineCounts
 mod Logs
 mod Noting
 mod Steps

@@ -9,7 +9,7 @@ use Rattle.nav_io.specs.Causes.{Rose}
 use Rattle.nav_io.specs.Prefix.{AppendsPrefix, IsPrefix}
 use Rattle.nav_io.specs.Lines.{Line, ends, lines_by}
 use Rattle.nav_io.specs.LinesState.{LinesState, GivesEnd, GivesLine, MayFollow, Reads}
-use Rattle.nav_io.proofs.Surface.{reads_more}
+use Rattle.nav_io.proofs.Surface.{lines_prefix, no_lines, reads_more}
 use Rattle.periods.specs.PeriodsOf.{closed_of, periods_of}
 use Rattle.capture_log.specs.Log.{log_of, watermark_after, parts_of}
 use Rattle.one_run.specs.Causes.{HasItsCause, faults_of}
@@ -31,7 +31,6 @@ use Rattle.captures.specs.Pushed.{CaptureRunState, CutSays, HasRead, IsBehind, I
 use Rattle.captures.proofs.CaptureEnds.{IsFresh, converted_form, counts_are}
 use Rattle.captures.proofs.CapturePrefixes.{capture_by, capture_lines, flushed_is, flushed_report_is, output_is, report_is, report_prefix}
 use Rattle.captures.proofs.Converting.{stands_start}
-use Rattle.captures.proofs.LineCounts.{lines_prefix, no_lines}
 use Rattle.captures.proofs.Prefixes.{LogLaws, appends_behind, appends_longer, prefix_behind, prefix_more, prefix_nil, prefix_same, prefix_trans}
 use Rattle.captures.proofs.Writing.{texts_prefix}
 
@@ -358,7 +357,6 @@ began_all to week left left1 left_new middle new h h_new bytes start written wri
     record {
       taken = g.first ++ t;
       consumes = Consumes-trans left left1 left_new g.first t g.consumes p.reads.consumes;
-      ended = p.ended;
       end = end_more left left1 left_new middle new p.given g.end p.reads p.ended;
       few = omega (arith, p.low, p.reads.count, count_read middle all (g.line ∷ g.past) g.read, length-append bytes (g.first ++ t), length-append g.first t, length-append bytes g.first);
       h = h_new;

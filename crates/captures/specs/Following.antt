@@ -26,7 +26,6 @@ piece_faults true (x ∷ xs) = 0
 pub record FollowsAll (to : Target) (week : Option ℕ) (left left_new : Option (List ℕ)) (bytes : List ℕ) (lines : LinesState) (hearing : Option Hearing) (start written begun reported : Option (List ℕ)) : Type 0 where
   pub taken : List ℕ
   pub consumes : Consumes left left_new taken
-  pub ended : lines.ended ≡ true
   pub end : IsAtEnd left_new
   pub few : length (bytes ++ taken) < 2 ^ 32
   pub h : Hearing

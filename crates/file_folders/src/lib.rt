@@ -8,7 +8,8 @@
 //!
 //! ```rust
 //! let mut folder = HostFolder::new(rt.alloc(), &rt);
-//! convert_file(&mut folder, &mut run, "station.navcap", "station.rnx.part", "station.rnx")?;
+//! let mut input = folder.open("station.navcap")?;
+//! put_output(&mut folder, &mut run, &mut input, "station.rnx.part", "station.rnx")?;
 //! ```
 #![tactic(auto)]
 

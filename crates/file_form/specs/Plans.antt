@@ -21,13 +21,17 @@ is_copied kinds.Ubx targets.Capture = true
 is_copied kinds.Sbf targets.Capture = true
 is_copied kind target = false
 
--- the `--week` words: the week that is named or, where one is required and none named, that of the clock
-abbrev pub week_words : WeekRule → Option (List ℕ) → List ℕ → List (List ℕ)
-week_words Never named clock = []
-week_words IfNamed None clock = []
-week_words IfNamed (Some week) clock = (codes "--week=" ++ week) ∷ []
-week_words Always None clock = (codes "--week=" ++ clock) ∷ []
-week_words Always (Some week) clock = (codes "--week=" ++ week) ∷ []
+-- the week that is given: that which is named or, where one is required and none named, that of the clock
+abbrev pub week_given : WeekRule → Option (List ℕ) → List ℕ → Option (List ℕ)
+week_given Never named clock = None
+week_given IfNamed named clock = named
+week_given Always None clock = Some clock
+week_given Always (Some week) clock = Some week
+
+-- the `--week` words: none, where none is given
+abbrev pub week_words : Option (List ℕ) → List (List ℕ)
+week_words None = []
+week_words (Some week) = (codes "--week=" ++ week) ∷ []
 
 -- the `--leap` and `--date` words, where the conversion writes a header
 abbrev pub header_words : Bool → List ℕ → List ℕ → List (List ℕ)
@@ -37,5 +41,5 @@ header_words true leap date = (codes "--leap=" ++ leap) ∷ (codes "--date=" ++ 
 -- all words of the conversion
 abbrev pub words_of : Kind → Target → Row → Option (List ℕ) → List ℕ → List ℕ → List ℕ → List (List ℕ)
 words_of kind target row named clock leap date =
-    ((codes "--from=" ++ from_word kind) ∷ (codes "--to=" ++ to_word target) ∷ [] ++ week_words row.week named clock)
+    ((codes "--from=" ++ from_word kind) ∷ (codes "--to=" ++ to_word target) ∷ [] ++ week_words (week_given row.week named clock))
     ++ header_words row.header leap date

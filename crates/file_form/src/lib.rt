@@ -1,30 +1,49 @@
-//! The form of a file, told by its first bytes, and what a file of a form converts to.
+//! The form of a file, told by its first bytes, what a file of a form converts to, and the texts
+//! about it: names of outputs, and a sentence for each reason why it is not converted.
 //!
 //! [`kind_of`] looks at no more than 80 bytes, so the first 80 bytes of a file tell the same form
 //! as the whole file ([`first_bytes_decide`]). [`row_of`] is the table of conversions: which
 //! options of `navbridge` that of a form to a target takes. [`form_of`] is the form under which a
 //! file is read, and [`words_for`] gives the words of `navbridge` for its conversion.
 //!
-//! [`from_word`] and [`to_word`] have the words of forms and targets, [`ending_of`] the endings of
-//! names.
+//! - [`from_word`] and [`to_word`], the words of forms and targets, [`ending_of`], the endings of
+//!   names;
+//! - [`output_name`], the name of an output beside its input, and [`long_name`], that of a
+//!   navigation file by the convention of RINEX 3 and 4 (RINEX 4.02, 5.2); [`fits`], whether a text
+//!   is of a form;
+//! - [`Refusal`], a reason, its sentence and the status of the program, and [`run_refusal`], that
+//!   of a run which broke off.
 //!
 //! ```rust
 //! assert!(rt; matches!(kind_of(b"NAVCAP 1\n"), Kind::Capture1));
+//! let name = output_name(rt.alloc(), "data/station.navcap", None, "rnx")?;
+//! assert!(rt; name.ok_or("a name")?.as_str() == "data/station.rnx");
 //! ```
 #![tactic(auto)]
 
-ghost use Rattle.std.specs.Prelude.{◌≡◌, ◌≤◌, ℕ, List, take, drop, nat_eq};
+ghost use Rattle.std.specs.Prelude.{◌≡◌, ◌≤◌, ℕ, List, take, drop, nat_eq, nat_lt};
 ghost use Rattle.std.specs.List.{starts_with};
 ghost use Rattle.file_form.specs.Kinds.{kind_of, prefix_kind, binary_kind, text_kind};
-ghost use Rattle.file_form.specs.Kinds.{rinex_kind, version_of, first_char};
+ghost use Rattle.file_form.specs.Kinds.{rinex_kind, version_of, first_char, stands_at};
 
+mod digits;
+mod form;
 mod laws;
+mod long;
+mod names;
 mod plan;
+mod runs;
+mod says;
 mod table;
 mod words;
 
+pub use crate::form::fits;
 pub use crate::laws::first_bytes_decide;
+pub use crate::long::{is_site, long_name};
+pub use crate::names::output_name;
 pub use crate::plan::{Values, form_of, is_copied, words_for};
+pub use crate::runs::run_refusal;
+pub use crate::says::{Refusal, kind_text, targets_of};
 pub use crate::table::{Row, Target, WeekRule, row_of};
 pub use crate::words::{ending_of, from_word, kind_named, target_named, to_word};
 
@@ -100,7 +119,7 @@ fn binary_kind(prefix: &[u8]) -> Kind
     ensures { result ≡ binary_kind prefix.now }
 {
     if begins(prefix, b"\xd3") {
-        if prefix.len() > 1 && prefix[1] < 4 {
+        if prefix.len() > 1 && begins_length(prefix[1]) {
             return Kind::Stream;
         }
         return Kind::Unknown;
@@ -118,6 +137,14 @@ fn binary_kind(prefix: &[u8]) -> Kind
     }
 }
 
+// Whether a byte behind the preamble of a frame of RTCM 3 is that of a frame: six reserved bits of
+// 0, and two of the ten of its length.
+fn begins_length(byte: u8) -> bool
+    ensures { result ≡ nat_lt byte 4 }
+{
+    byte < 4
+}
+
 // The form of a file that begins as a text.
 #[tactic(auto, unfolding(crate::specs::Kinds::text_kind))]
 fn text_kind(prefix: &[u8]) -> Kind
@@ -133,13 +160,20 @@ fn text_kind(prefix: &[u8]) -> Kind
         Kind::Nmea
     } else if begins(prefix, b"\xef\xbb\xbf") {
         Kind::Marked
-    } else if stands_at(prefix, 60, b"CRINEX VERS   / TYPE") {
+    } else if is_labelled(prefix, b"CRINEX VERS   / TYPE") {
         Kind::Hatanaka
-    } else if stands_at(prefix, 60, b"RINEX VERSION / TYPE") {
+    } else if is_labelled(prefix, b"RINEX VERSION / TYPE") {
         rinex_kind(prefix)
     } else {
         Kind::Unknown
     }
+}
+
+// Whether the first line has this label in columns 61-80.
+fn is_labelled(prefix: &[u8], label: &[u8]) -> bool
+    ensures { result ≡ stands_at 60 label.now prefix.now }
+{
+    stands_at(prefix, 60, label)
 }
 
 // The form of a file of RINEX, by its version and its type in column 21.

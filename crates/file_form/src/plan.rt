@@ -3,7 +3,8 @@
 ghost use Rattle.std.specs.Prelude.{◌≡◌, ◌++◌, ◌∷◌};
 ghost use Rattle.std.specs.Prelude.{[], IfOk, OnOk, map, option_map};
 ghost use Rattle.std.specs.String.{string_bytes};
-ghost use Rattle.file_form.specs.Plans.{form_of, header_words, is_copied, week_words, words_of};
+ghost use Rattle.file_form.specs.Plans.{form_of, header_words, is_copied, week_given};
+ghost use Rattle.file_form.specs.Plans.{week_words, words_of};
 
 use crate::Kind;
 use crate::table::{Row, Target, WeekRule};
@@ -91,12 +92,24 @@ fn push_week(
     clock_week: &str,
 ) -> Result<(), AllocError>
     ensures { OnOk result (map string_bytes words.new.items ≡ map string_bytes words.old.items
-        ++ week_words rule (option_map (λ week. week.now) named.entry) clock_week.now) }
+        ++ week_words (week_given rule (option_map (λ week. week.now) named.entry)
+        clock_week.now)) }
+{
+    match week_given(rule, named, clock_week) {
+        None => Ok(()),
+        Some(week) => push_option(alloc, words, "--week=", week),
+    }
+}
+
+// The week that is given by this rule.
+fn week_given<'a>(rule: WeekRule, named: Option<&'a str>, clock_week: &'a str) -> Option<&'a str>
+    ensures { option_map (λ week. week.now) result
+        ≡ week_given rule (option_map (λ week. week.now) named.entry) clock_week.now }
 {
     match (rule, named) {
-        (WeekRule::Never, _) | (WeekRule::IfNamed, None) => Ok(()),
-        (WeekRule::Always, None) => push_option(alloc, words, "--week=", clock_week),
-        (_, Some(week)) => push_option(alloc, words, "--week=", week),
+        (WeekRule::Never, _) | (WeekRule::IfNamed, None) => None,
+        (WeekRule::Always, None) => Some(clock_week),
+        (_, Some(week)) => Some(week),
     }
 }
 

@@ -4,14 +4,15 @@
 //! - [`Folder`], where files are read and written, and [`FileFault`], why a call of it failed;
 //! - [`Conversion`], a conversion from the bytes of one file to those of another;
 //! - [`put_output`], which writes an output beside its name, as a part, and gives it the name once
-//!   it is complete; [`convert_file`], which opens the input too;
-//! - [`peek`], which reads the first bytes of a source and returns one that gives them again, and
-//!   then what follows, so that a pipe can be looked at like a file; and [`Counted`], which counts
-//!   the bytes that are read and tells a [`Progress`].
+//!   it is complete;
+//! - [`Peeked`], a source whose first bytes can be looked at, which gives them again, and then what
+//!   follows, so that a pipe can be looked at like a file; and [`Counted`], which counts the bytes
+//!   that are read and tells a [`Progress`].
 //!
 //! ```rust
 //! let part = part_of(rt.alloc(), "station.rnx")?;
-//! convert_file(&mut folder, &mut run, "station.navcap", part.as_str(), "station.rnx")?;
+//! let mut input = folder.open("station.navcap")?;
+//! put_output(&mut folder, &mut run, &mut input, part.as_str(), "station.rnx")?;
 //! ```
 #![tactic(auto)]
 
@@ -26,5 +27,5 @@ pub use crate::counted::{Counted, Progress, Untold};
 pub use crate::faults::FileFault;
 pub use crate::folder::Folder;
 pub use crate::names::part_of;
-pub use crate::peeked::{PeekFault, Peeked, peek};
-pub use crate::step::{Conversion, StepFault, convert_file, put_output};
+pub use crate::peeked::{PeekFault, Peeked};
+pub use crate::step::{Conversion, StepFault, put_output};

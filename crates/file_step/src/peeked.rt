@@ -126,26 +126,6 @@ impl<S: Source> Source for Peeked<S> {
     }
 }
 
-/// Peeks at the first `most` bytes of a source, or at all where it has fewer.
-pub fn peek<S: Source + Drop>(alloc: Global, source: S, most: usize) -> Result<Peeked<S>, PeekFault>
-    // The source returned has the bytes of this one.
-    ensures left { IfOk result (λ peeked.
-        Keeps (S.left source) (⟦<Peeked<S> as Source>⟧.left peeked)) }
-    ensures prefix { IfOk result (λ peeked.
-        IfSome (S.left source) (λ bytes. peeked.prefix.items ≡ take most bytes)) }
-
-    // Its fault count is that of the source, and a read fails only where one of the source does.
-    ensures faults { IfOk result (λ peeked.
-        ⟦<Peeked<S> as Source>⟧.faults peeked ≡ S.faults source) }
-    ensures never { IsTrue (S.never_fails source) → MatchResult result
-        (λ peeked. IsTrue (⟦<Peeked<S> as Source>⟧.never_fails peeked))
-        (λ fault. fault ≡ PeekFault.NoMemory) }
-{
-    let mut peeked = Peeked::new(alloc, source);
-    peeked.look(most)?;
-    Ok(peeked)
-}
-
 // Reads until `most` bytes are there, or the source is at its end.
 fn fill<S: Source>(source: &mut S, prefix: &mut Vec<u8>, most: usize) -> Result<(), PeekFault>
     requires { prefix.old.items ≡ [] }

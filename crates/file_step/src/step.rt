@@ -6,7 +6,7 @@ ghost use Rattle.std.specs.Prelude.{OnOk, OnErr};
 ghost use Rattle.std.specs.Io.KnownBytes.{Appends};
 ghost use Rattle.nav_io.specs.Causes.{Rose};
 ghost use Rattle.file_step.specs.Files.{Publishes, Stays};
-ghost use Rattle.file_step.specs.Steps.{BrokeOff, Converts, Lacks, bytes_of};
+ghost use Rattle.file_step.specs.Steps.{BrokeOff, Lacks};
 
 use crate::faults::FileFault;
 use crate::folder::Folder;
@@ -43,8 +43,6 @@ pub trait Conversion {
 /// Why an output did not get its name.
 #[derive(Drop)]
 pub enum StepFault<E> {
-    /// The input was not opened.
-    Open(FileFault),
     /// The part could not be created.
     Begin(FileFault),
     /// The conversion broke off, and the part was given up: the folder's result of that.
@@ -94,39 +92,4 @@ pub fn put_output<F: Folder, S: Source, C: Conversion>(
         Ok(()) => Ok(()),
         Err(fault) => Err(StepFault::Publish(fault)),
     }
-}
-
-/// Converts the file of one name to a file of another.
-///
-/// # Errors
-///
-/// The name is as it was, and the part is removed where the folder can remove it.
-pub fn convert_file<F: Folder, C: Conversion>(
-    folder: &mut F,
-    conversion: &mut C,
-    from: &str,
-    part: &str,
-    name: &str,
-) -> Result<(), StepFault<C::Fault>>
-    requires { part.now ≢ name.now }
-    ensures converts { OnOk result (Converts (C.makes conversion.old) (F.files folder.old)
-        (F.files folder.new) from.now part.now name.now) }
-    ensures stays { OnErr result (Stays (F.files folder.old) (F.files folder.new) part.now) }
-    ensures failed { IfErr result (λ fault. BrokeOff fault
-        ⊎ Rose (F.faults folder.old) (F.faults folder.new)) }
-
-    // It succeeds where the file exists, its bytes are accepted and nothing fails.
-    ensures complete { IfSome (bytes_of (F.files folder.old) from.now) (λ bytes.
-        C.can conversion.old bytes
-        → ¬ Rose (C.faults conversion.old) (C.faults conversion.new)
-        → ¬ Rose (F.faults folder.old) (F.faults folder.new)
-        → IfErr result (Lacks C.lacks)) }
-{
-    let mut input = match folder.open(from) {
-        Ok(input) => input,
-        Err(fault) => return Err(StepFault::Open(fault)),
-    };
-    let done = put_output(folder, conversion, &mut input, part, name);
-    let _ = folder.close(input);
-    done
 }

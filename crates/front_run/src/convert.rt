@@ -8,7 +8,7 @@ ghost use Rattle.front_run.specs.Asked.{CanConvert, ConvertsAs, PutsAs, WritesAs
 ghost use Rattle.front_run.specs.Steps.{IsLack};
 
 use crate::begun::begin;
-use crate::ends::{Outcome, Sourced, Told, closed_by, ended};
+use crate::ends::{Outcome, Sourced, Told, ended, told_by};
 use crate::plans::Plan;
 use crate::stops::Stop;
 use file_step::{Conversion, Folder, Progress, StepFault, put_output};
@@ -51,7 +51,7 @@ pub fn convert_one<F: Folder, U: Sink, N: Refusals, P: Progress>(
             let Sourced { outcome, source } = left;
             let closed = folder.close(source);
             let mut outcome = outcome;
-            outcome.done = closed_by(outcome.done, closed);
+            outcome.done = told_by(outcome.done, closed.err(), None);
             outcome
         }
         Err(fault) => Outcome::stopped(Stop::Open(fault), told.report),

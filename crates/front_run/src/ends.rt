@@ -103,7 +103,6 @@ fn stopped_by(kind: Kind, done: Result<(), StepFault<u8>>, count: u64) -> Result
 {
     match done {
         Ok(()) => Ok(()),
-        Err(StepFault::Open(fault)) => Err(Stop::Open(fault)),
         Err(StepFault::Begin(fault)) => Err(Stop::Begin(fault)),
         Err(StepFault::Publish(fault)) => Err(Stop::Publish(fault)),
         Err(StepFault::Run(status, told)) => {
@@ -112,15 +111,23 @@ fn stopped_by(kind: Kind, done: Result<(), StepFault<u8>>, count: u64) -> Result
     }
 }
 
-/// How a file's conversion ended, with what its input said when it was closed.
-pub(crate) fn closed_by(done: Result<(), Stop>, closed: Result<(), FileFault>) -> Result<(), Stop>
+/// How a conversion ended, with what its input and its output say of a call that failed.
+pub fn told_by(
+    done: Result<(), Stop>,
+    read: Option<FileFault>,
+    put: Option<FileFault>,
+) -> Result<(), Stop>
     ensures { EndsSo IsLack done result }
 {
     match done {
-        Err(Stop::Look(_)) => Err(Stop::Look(closed.err())),
-        Err(Stop::Run(kind, status, count, _, put)) => {
-            Err(Stop::Run(kind, status, count, closed.err(), put))
-        }
+        Err(Stop::Look(told)) => Err(Stop::Look(told.or(read))),
+        Err(Stop::Run(kind, status, count, told_read, told_put)) => Err(Stop::Run(
+            kind,
+            status,
+            count,
+            told_read.or(read),
+            told_put.or(put),
+        )),
         _ => done,
     }
 }

@@ -35,7 +35,7 @@ mod telling;
 pub use crate::asked::AskedJob;
 pub use crate::convert::{convert_one, convert_source, write_source};
 pub use crate::copies::copy;
-pub use crate::ends::{Outcome, Sourced, Told};
+pub use crate::ends::{Outcome, Sourced, Told, told_by};
 pub use crate::laws::stops_have_one_refusal;
 pub use crate::looking::look;
 pub use crate::plans::{Plan, words_under};

@@ -2,7 +2,7 @@
 
 use crate::steps::{Broken, Seven};
 use file_folders::MemFolder;
-use file_step::{FileFault, StepFault, convert_file, part_of};
+use file_step::{FileFault, Folder, StepFault, part_of, put_output};
 use std::alloc::{AllocError, Global};
 use std::test::Fail;
 
@@ -20,7 +20,6 @@ enum End {
 fn end_of(done: Result<(), StepFault<Broken>>) -> End {
     match done {
         Ok(()) => End::Done,
-        Err(StepFault::Open(FileFault::NotFound)) => End::NoInput,
         Err(StepFault::Begin(FileFault::AlreadyThere)) => End::PartThere,
         Err(StepFault::Run(Broken::Refused, _)) => End::Refused,
         Err(_) => End::Other,
@@ -138,13 +137,23 @@ static CASES: [Case; 4] = [
     },
 ];
 
+// The end of a step over a folder.
+fn end_in(alloc: Global, folder: &mut MemFolder, step: &Step) -> Result<End, AllocError> {
+    let mut input = match folder.open(step.from) {
+        Ok(input) => input,
+        Err(FileFault::NotFound) => return Ok(End::NoInput),
+        Err(_) => return Ok(End::Other),
+    };
+    let part = part_of(alloc, step.name)?;
+    let done = put_output(folder, &mut Seven, &mut input, part.as_str(), step.name);
+    Ok(end_of(done))
+}
+
 // Whether the steps over a folder end so.
 fn end_so(alloc: Global, folder: &mut MemFolder, steps: &[Step]) -> Result<bool, AllocError> {
     let mut holds = true;
     for step in steps {
-        let part = part_of(alloc, step.name)?;
-        let done = convert_file(folder, &mut Seven, step.from, part.as_str(), step.name);
-        holds = holds && end_of(done) == step.end;
+        holds = holds && end_in(alloc, folder, step)? == step.end;
     }
     Ok(holds)
 }

@@ -1,6 +1,6 @@
 //! Sources that are looked at, and counted.
 
-use file_step::{Counted, PeekFault, Peeked, Progress, peek};
+use file_step::{Counted, PeekFault, Peeked, Progress};
 use nav_io::{MemSource, Source};
 use std::alloc::{AllocError, Global};
 use std::test::Fail;
@@ -48,13 +48,9 @@ fn come_again(alloc: Global, peeked: Peeked<MemSource>) -> Result<bool, AllocErr
 
 // Whether that is so where at most so many bytes were looked at, which are the first ones.
 fn are_given_again(alloc: Global, most: usize) -> Result<bool, AllocError> {
-    match peek(alloc, source_of(alloc, TEXT, 99)?, most) {
-        Err(_) => Ok(false),
-        Ok(peeked) => {
-            let is_prefix = peeked.prefix() == &TEXT[..most.min(TEXT.len())];
-            Ok(is_prefix && come_again(alloc, peeked)?)
-        }
-    }
+    let mut peeked = Peeked::new(alloc, source_of(alloc, TEXT, 99)?);
+    let is_seen = peeked.look(most).is_ok() && peeked.prefix() == &TEXT[..most.min(TEXT.len())];
+    Ok(is_seen && come_again(alloc, peeked)?)
 }
 
 #[test]
@@ -67,12 +63,7 @@ fn bytes_that_were_looked_at_come_again(rt: HostRuntime) -> Result<(), Fail> {
 
 #[test]
 fn read_that_fails_is_told(rt: HostRuntime) -> Result<(), Fail> {
-    let source = source_of(rt.alloc(), TEXT, 1)?;
-    assert!(rt;
-        matches!(
-            peek(rt.alloc(), source, 7).err(),
-            Some(PeekFault::ReadFault)
-        )
-    );
+    let mut peeked = Peeked::new(rt.alloc(), source_of(rt.alloc(), TEXT, 1)?);
+    assert!(rt; matches!(peeked.look(7), Err(PeekFault::ReadFault)));
     Ok(())
 }

@@ -2,7 +2,7 @@
 
 use crate::steps::Seven;
 use file_folders::HostFolder;
-use file_step::convert_file;
+use file_step::{Folder, put_output};
 use std::alloc::{Allocator, Global};
 use std::cell::Cell;
 use std::fs::{Metadata, OpenFile, OpenOptions};
@@ -169,6 +169,15 @@ struct Outcome {
     has_part: bool,
 }
 
+// Whether a file was converted to another.
+fn is_converted(alloc: Global, play: &Play) -> bool {
+    let mut folder = HostFolder::new(alloc, play);
+    let Ok(mut input) = folder.open("a.nav") else {
+        return false;
+    };
+    put_output(&mut folder, &mut Seven, &mut input, "a.rnx.part", "a.rnx").is_ok()
+}
+
 // A step whose call of this number fails.
 fn step(alloc: Global, fails: u32) -> Result<Outcome, Fail> {
     let played = Rc::new(
@@ -183,10 +192,9 @@ fn step(alloc: Global, fails: u32) -> Result<Outcome, Fail> {
         },
     )?;
     let play = Play(played.clone()?);
-    let mut folder = HostFolder::new(alloc, &play);
-    let done = convert_file(&mut folder, &mut Seven, "a.nav", "a.rnx.part", "a.rnx");
+    let is_done = is_converted(alloc, &play);
     Ok(Outcome {
-        is_done: done.is_ok(),
+        is_done,
         calls: played.calls.get(),
         named: played.named.get(),
         has_part: played.has_part.get(),

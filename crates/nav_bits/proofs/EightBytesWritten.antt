@@ -5,7 +5,7 @@ use Rattle.std.proofs.lemmas.Nat.{shl_whole, pow_pos, from_be_bytes-to_be_bytes_
 use Rattle.std.proofs.lemmas.Nat.Bits.{ones_shr, bit_at_or, bit_at_and, bit_at_not, bit_at_ones, bit_at_ones_above, bit_at_cat_low, bit_at_cat_high, bit_at-zero, bit_at_above, bit_at-lt}
 use Rattle.std.proofs.lemmas.Bool.{cases_lt}
 use Rattle.std.specs.Int.{bit_at, from_be_bytes, to_be_bytes}
-use Rattle.nav_bits.specs.Bits.{bit, number_at, SameOutside, Puts}
+use Rattle.nav_bits.specs.Bits.{bit, number_at, Puts}
 use Rattle.nav_bits.specs.Laws.{number_at-byte}
 use Rattle.nav_bits.proofs.BitPatterns.{number_at-bit_pattern}
 use Rattle.nav_bits.proofs.EightBytes.{byte_more, number_at-of_run}

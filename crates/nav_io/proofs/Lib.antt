@@ -1,6 +1,7 @@
 mod Cuts
 mod Prefixes
 mod LaterCalls
+pub mod LineCounts
 mod LineEnds
 pub mod LineLaws
 mod PieceLaws

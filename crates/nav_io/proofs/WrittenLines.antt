@@ -1,8 +1,8 @@
 -- A line that was written is read back unchanged.
-use Rattle.std.proofs.Common.{◌≡◌, ◌≤◌, ◌++◌, ℕ, Bool, false, List, [], ◌∷◌, length, take, map, nat_lt, refl, ap, ◌∙◌}
+use Rattle.std.proofs.Common.{◌≡◌, ◌++◌, ℕ, Bool, false, List, ◌∷◌, length, map, refl, ap, ◌∙◌}
 use Rattle.std.proofs.lemmas.List.{take_all}
 use Rattle.std.proofs.lemmas.Bool.{le-ltb}
-use Rattle.nav_io.specs.Lines.{Line, IsOneLine, ends, pieces, without_cr, line_of, lines_by}
+use Rattle.nav_io.specs.Lines.{Line, IsOneLine, pieces, line_of, lines_by}
 use Rattle.nav_io.proofs.LineLaws.{pieces-line}
 
 line_of-one : (line : List ℕ) → IsOneLine line → line_of line ≡ record { text = line; long = false }

@@ -6,9 +6,8 @@ use crate::files::{Task, convert_file, convert_joined};
 use crate::outputs::{Output, output_of};
 use crate::telling::tell_program;
 use file_folders::fault_of;
-use file_form::{Target, Values};
+use file_form::{Refusal, Target, Values, is_site};
 use file_step::FileFault;
-use file_texts::{Refusal, is_site};
 use front_run::{Plan, is_date};
 use std::fs::{File, OpenOptions};
 use std::io::IsTerminal;
@@ -29,27 +28,30 @@ pub(crate) fn begin(rt: &HostRuntime, asked: &Asked) -> Result<Option<File>, u8>
             Err(_) => Err(4),
         };
     }
-    if asked.files().is_none() {
-        return Err(tell_program(rt, &Refusal::NoFiles));
-    }
-    if let Some(site) = asked.long_name() {
-        if !is_site(site) {
-            return Err(tell_program(rt, &Refusal::Site(site)));
-        }
-    }
-    if let Some(date) = asked.date() {
-        if !is_date(date.as_bytes()) {
-            return Err(tell_program(rt, &Refusal::Date(date)));
-        }
-    }
     match report_of(rt, asked) {
         Ok(report) => Ok(report),
         Err(refusal) => Err(tell_program(rt, &refusal)),
     }
 }
 
-// The file for reports, where one is named; it is not replaced without leave.
+// Why nothing is done, where no file is named or a value is none.
+fn refused<'a>(asked: &Asked<'a>) -> Option<Refusal<'a>> {
+    if asked.files().is_none() {
+        return Some(Refusal::NoFiles);
+    }
+    match (asked.long_name(), asked.date()) {
+        (Some(site), _) if !is_site(site) => Some(Refusal::Site(site)),
+        (_, Some(date)) if !is_date(date.as_bytes()) => Some(Refusal::Date(date)),
+        _ => None,
+    }
+}
+
+// The file for reports, where one is named and what is asked can be done; it is not replaced without
+// leave.
 fn report_of<'a>(rt: &HostRuntime, asked: &Asked<'a>) -> Result<Option<File>, Refusal<'a>> {
+    if let Some(refusal) = refused(asked) {
+        return Err(refusal);
+    }
     let Some(name) = asked.report() else {
         return Ok(None);
     };

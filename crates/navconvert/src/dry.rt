@@ -1,31 +1,18 @@
 //! The commands of `navbridge` that do the same.
 
 use crate::files::Task;
-use crate::forms::{file_kind, input_kind};
+use crate::forms::files_kind;
 use crate::outputs::name_of;
 use crate::telling::tell_file;
-use file_folders::FileInput;
 use file_form::{Kind, ending_of, is_copied};
-use file_texts::Refusal;
 use front_run::{refusal_of, words_under};
 
 /// Prints the command that does what is asked of files, the first of which has this name; the
 /// status.
 pub(crate) fn show_files(task: &Task, first: &str, files: &[&str]) -> u8 {
-    match kind_of_files(task, first, files) {
+    match files_kind(task, files) {
         Ok(kind) => show_kind(task, first, files, kind),
         Err(refusal) => tell_file(task.rt, first, &refusal),
-    }
-}
-
-// The form under which files are read.
-fn kind_of_files(task: &Task, first: &str, files: &[&str]) -> Result<Kind, Refusal<'static>> {
-    if files.len() > 1 {
-        Ok(Kind::Rinex4)
-    } else if first == "-" {
-        input_kind(task, FileInput::new(task.rt.stdin()))
-    } else {
-        file_kind(task, first)
     }
 }
 

@@ -1,16 +1,15 @@
 //! The conversion of one file, or of several to one output.
 
 use crate::dry::show_files;
-use crate::forms::{file_kind, opened};
-use crate::joined::Joined;
+use crate::forms::file_kind;
+use crate::inputs::opened;
 use crate::outputs::{Output, is_file, is_folder, name_of, placed, taken};
 use crate::standard::to_standard;
 use crate::steps::put;
 use crate::telling::tell_file;
 use crate::times::long_name_from;
-use file_form::{Kind, Target, ending_of, is_copied, row_of};
+use file_form::{Kind, Refusal, Target, ending_of, is_copied, row_of};
 use file_step::FileFault;
-use file_texts::Refusal;
 use front_run::Plan;
 use std::fs::File;
 use std::slice::from_ref;
@@ -105,14 +104,10 @@ fn times_name<'a>(
     files: &'a [&'a str],
     site: &'a str,
 ) -> Result<String, Refusal<'a>> {
-    if files.len() > 1 {
-        let source = Joined::new(task.rt.alloc(), task.rt, files);
-        return long_name_from(task, source, first, site);
-    }
     if first == "-" {
         return Err(Refusal::NoLongName);
     }
-    match opened(task, first) {
+    match opened(task.rt, files) {
         Ok(input) => long_name_from(task, input, first, site),
         Err(refusal) => Err(refusal),
     }

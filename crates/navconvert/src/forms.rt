@@ -1,36 +1,23 @@
-//! Files that are opened, and their forms.
+//! The forms of files.
 
 use crate::files::Task;
-use file_folders::{FileInput, HostFolder};
-use file_form::Kind;
-use file_step::{FileFault, Folder, PeekFault, Peeked};
-use file_texts::Refusal;
+use crate::inputs::{Input, opened, opened_first};
+use file_form::{Kind, Refusal};
+use file_step::{FileFault, PeekFault, Peeked};
 use front_run::look;
-use std::fs::File;
-use std::io::Read;
-
-/// A file that is opened to read it.
-pub(crate) fn opened(task: &Task, file: &str) -> Result<FileInput<File>, Refusal<'static>> {
-    let mut folder = HostFolder::new(task.rt.alloc(), task.rt);
-    match folder.open(file) {
-        Ok(input) => Ok(input),
-        Err(fault) => Err(Refusal::NotOpened(fault)),
-    }
-}
 
 /// The form under which a file is read.
 pub(crate) fn file_kind(task: &Task, file: &str) -> Result<Kind, Refusal<'static>> {
-    match opened(task, file) {
-        Ok(input) => input_kind(task, input),
-        Err(refusal) => Err(refusal),
-    }
+    input_kind(task, opened_first(task.rt, file, &[])?)
 }
 
-/// The form under which an input is read.
-pub(crate) fn input_kind<R: Read + Drop>(
-    task: &Task,
-    input: FileInput<R>,
-) -> Result<Kind, Refusal<'static>> {
+/// The form under which files are read, `-` alone for standard input.
+pub(crate) fn files_kind(task: &Task, files: &[&str]) -> Result<Kind, Refusal<'static>> {
+    input_kind(task, opened(task.rt, files)?)
+}
+
+// The form under which an input is read.
+fn input_kind(task: &Task, input: Input) -> Result<Kind, Refusal<'static>> {
     let mut input = Peeked::new(task.rt.alloc(), input);
     match look(task.plan.form, &mut input) {
         Ok(kind) => Ok(kind),

@@ -13,7 +13,7 @@ mod command;
 mod dry;
 mod files;
 mod forms;
-mod joined;
+mod inputs;
 mod meter;
 mod notes;
 mod outputs;
@@ -27,7 +27,7 @@ use crate::choices::{begin, convert_asked};
 use crate::clock::clock_of;
 use crate::command::{Asked, read_words};
 use crate::telling::tell_program;
-use file_texts::Refusal;
+use file_form::Refusal;
 use std::env;
 use std::io::ErrorKind;
 use std::process::ExitCode;
@@ -61,13 +61,14 @@ fn run_asked(rt: &HostRuntime, asked: &Asked) -> u8 {
 
 // The words of the command line, without the program's name.
 fn words_of(rt: &HostRuntime) -> Result<Vec<String>, Refusal<'static>> {
-    let args = match env::args(rt) {
+    let mut args = match env::args(rt) {
         Ok(args) => args,
         Err(error) if error.kind() == ErrorKind::OutOfMemory => return Err(Refusal::NoMemory),
         Err(_) => return Err(Refusal::Word),
     };
     let mut words = Vec::new(rt.alloc());
-    for word in args.skip(1) {
+    let _program = args.next();
+    for word in args {
         if words.push(word).is_err() {
             return Err(Refusal::NoMemory);
         }

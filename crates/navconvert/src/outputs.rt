@@ -1,8 +1,8 @@
 //! Where outputs go, and what their names are.
 
 use crate::command::Asked;
+use file_form::{Refusal, output_name};
 use file_step::FileFault;
-use file_texts::{Refusal, output_name};
 use std::alloc::{AllocError, Global};
 use std::fs;
 use std::fs::Metadata;

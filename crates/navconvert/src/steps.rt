@@ -3,17 +3,16 @@
 ghost use Rattle.std.specs.Prelude.{◌≢◌};
 
 use crate::files::Task;
-use crate::joined::Joined;
+use crate::inputs::{Input, opened};
 use crate::meter::Meter;
 use crate::notes::Notes;
 use crate::outputs::size_of;
 use crate::tally::Tally;
 use crate::telling::{Saying, tell_file};
-use file_folders::{FileInput, HostFolder};
-use file_step::{FileFault, part_of};
-use file_texts::Refusal;
-use front_run::{Outcome, Sourced, Stop, Told, convert_one, convert_source, finish};
-use nav_io::Source;
+use file_folders::HostFolder;
+use file_form::Refusal;
+use file_step::part_of;
+use front_run::{Outcome, Sourced, Told, convert_one, convert_source, finish, told_by};
 
 /// Converts files, the first of which has this name, to that of a name, and says what became of
 /// them; the status.
@@ -28,20 +27,34 @@ pub(crate) fn put<'a>(task: &Task<'a>, first: &'a str, files: &'a [&'a str], nam
 fn put_part<'a>(task: &Task<'a>, first: &'a str, files: &'a [&'a str], part: &str, name: &str) -> u8
     requires { part.now ≢ name.now }
 {
-    let outcome = if files.len() > 1 {
-        put_joined(task, files, part, name)
-    } else if first == "-" {
-        put_standard(task, part, name)
-    } else {
-        put_file(task, first, part, name)
-    };
+    if files.len() == 1 && first != "-" {
+        let outcome = put_file(task, first, part, name);
+        return finished(task, first, &outcome, part, name);
+    }
+    match opened(task.rt, files) {
+        Ok(input) => {
+            let outcome = put_input(task, first, input, part, name);
+            finished(task, first, &outcome, part, name)
+        }
+        Err(refusal) => tell_file(task.rt, first, &refusal),
+    }
+}
+
+// Says what became of a conversion; the status.
+fn finished<'a>(
+    task: &Task<'a>,
+    file: &str,
+    outcome: &Outcome<Tally<'a>>,
+    part: &str,
+    name: &str,
+) -> u8 {
     let mut teller = Saying {
         task,
-        file: first,
+        file,
         name,
         faults: 0,
     };
-    finish(&task.plan, &outcome, name, part, &mut teller)
+    finish(&task.plan, outcome, name, part, &mut teller)
 }
 
 /// Who is told of the conversion of a file.
@@ -61,7 +74,7 @@ fn put_file<'a>(task: &Task<'a>, file: &'a str, part: &str, name: &str) -> Outco
     requires { part.now ≢ name.now }
 {
     let mut folder = HostFolder::new(task.rt.alloc(), task.rt);
-    let told = told_of(task, meter_of(task, file));
+    let told = told_of(task, meter_of(task, file, size_of(task.rt, file)));
     convert_one(
         task.rt.alloc(),
         &task.plan,
@@ -73,77 +86,35 @@ fn put_file<'a>(task: &Task<'a>, file: &'a str, part: &str, name: &str) -> Outco
     )
 }
 
-// The step of standard input.
-fn put_standard<'a>(task: &Task<'a>, part: &str, name: &str) -> Outcome<Tally<'a>>
-    requires { part.now ≢ name.now }
-{
-    let input = FileInput::new(task.rt.stdin());
-    let Sourced { outcome, source } = put_source(task, input, meter_of(task, "-"), part, name);
-    let mut outcome = outcome;
-    outcome.done = with_faults(outcome.done, source.fault(), None);
-    outcome
-}
-
-// The step of several files.
-fn put_joined<'a>(
+// The step of standard input, or of several files.
+fn put_input<'a>(
     task: &Task<'a>,
-    files: &'a [&'a str],
+    first: &'a str,
+    input: Input,
     part: &str,
     name: &str,
 ) -> Outcome<Tally<'a>>
     requires { part.now ≢ name.now }
 {
-    let source = Joined::new(task.rt.alloc(), task.rt, files);
-    let Sourced { outcome, source: _ } = put_source(task, source, Meter::Off, part, name);
-    outcome
-}
-
-// The step of a source.
-fn put_source<'a, S: Source + Drop>(
-    task: &Task<'a>,
-    source: S,
-    meter: Meter<'a>,
-    part: &str,
-    name: &str,
-) -> Sourced<Tally<'a>, S>
-    requires { part.now ≢ name.now }
-{
     let mut folder = HostFolder::new(task.rt.alloc(), task.rt);
-    let told = told_of(task, meter);
-    convert_source(
+    let Sourced { outcome, source } = convert_source(
         task.rt.alloc(),
         &task.plan,
         &mut folder,
-        source,
-        told,
+        input,
+        told_of(task, meter_of(task, first, 0)),
         part,
         name,
-    )
+    );
+    let mut outcome = outcome;
+    outcome.done = told_by(outcome.done, source.fault(), None);
+    outcome
 }
 
-/// How it ended, with what the source and the output say of a read and of a write that failed.
-pub(crate) fn with_faults(
-    done: Result<(), Stop>,
-    read: Option<FileFault>,
-    put: Option<FileFault>,
-) -> Result<(), Stop> {
-    match done {
-        Err(Stop::Look(None)) => Err(Stop::Look(read)),
-        Err(Stop::Run(kind, status, count, told_read, told_put)) => Err(Stop::Run(
-            kind,
-            status,
-            count,
-            told_read.or(read),
-            told_put.or(put),
-        )),
-        _ => done,
-    }
-}
-
-// How far a file has come, where that is shown.
-fn meter_of<'a>(task: &Task<'a>, file: &'a str) -> Meter<'a> {
+// How far a file of this size has come, where that is shown.
+fn meter_of<'a>(task: &Task<'a>, file: &'a str, size: u64) -> Meter<'a> {
     if task.metered && !task.quiet {
-        Meter::of(task.rt, file, size_of(task.rt, file))
+        Meter::of(task.rt, file, size)
     } else {
         Meter::Off
     }

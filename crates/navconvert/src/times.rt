@@ -3,15 +3,15 @@
 ghost use Rattle.std.specs.Prelude.{◌+◌, ◌≤◌, length};
 
 use crate::files::Task;
+use crate::inputs::Input;
 use crate::meter::Meter;
 use crate::notes::Notes;
 use crate::tally::Tally;
 use arrayvec::ArrayVec;
-use file_form::Target;
-use file_texts::{Refusal, long_name};
+use file_form::{Refusal, Target, fits, long_name};
 use front_run::{Sourced, Told, refusal_of, write_source};
 use gnss_week::{Civil, Moment, moment_of};
-use nav_io::{Failed, Sink, Source};
+use nav_io::{Failed, Sink};
 use std::alloc::{AllocError, Global};
 
 // So many bytes of a line are looked at: those of a satellite and a time.
@@ -86,13 +86,8 @@ static FORM: &[u8; ROOM] = b"A?? 0000 00 00 00 00 00";
 // The time of an ephemeris, where the line begins with a satellite and a time, as
 // `G01 2023 12 31 02 00 00`.
 fn time_in(line: &[u8]) -> Option<Moment> {
-    if line.len() != ROOM {
+    if line.len() != ROOM || !fits(FORM, line) {
         return None;
-    }
-    for (byte, form) in line.iter().zip(FORM) {
-        if !has_form(*byte, *form) {
-            return None;
-        }
     }
     let date = Civil {
         year: number(&line[4..8]),
@@ -103,16 +98,6 @@ fn time_in(line: &[u8]) -> Option<Moment> {
         second: pair(line, 21),
     };
     moment_of(&date).ok()
-}
-
-// Whether a character is of this form.
-fn has_form(byte: u8, form: u8) -> bool {
-    match form {
-        b'?' => true,
-        b'A' => byte.is_ascii_uppercase(),
-        b'0' => byte.is_ascii_digit(),
-        _ => byte == form,
-    }
 }
 
 // The number of the two digits at this place.
@@ -133,35 +118,35 @@ fn number(digits: &[u8]) -> u16 {
     number
 }
 
-/// The name by the convention of RINEX of what is made of a source, which is converted for its
+/// The name by the convention of RINEX of what is made of an input, which is converted for its
 /// times.
-pub(crate) fn long_name_from<'a, S: Source + Drop>(
+pub(crate) fn long_name_from<'a>(
     task: &Task<'a>,
-    source: S,
+    input: Input<'a>,
     file: &'a str,
     site: &'a str,
 ) -> Result<String, Refusal<'a>> {
     if !is_navigation(task.plan.target) {
         return Err(Refusal::NoLongName);
     }
-    match range_of(task, source, file) {
+    match range_of(task, input, file) {
         Ok(Some((first, last))) => named(task.rt.alloc(), site, first, last),
         Ok(None) => Err(Refusal::NoTimes),
         Err(refusal) => Err(refusal),
     }
 }
 
-// The first and the last of the times in what is made of a source.
-fn range_of<'a, S: Source + Drop>(
+// The first and the last of the times in what is made of an input.
+fn range_of<'a>(
     task: &Task<'a>,
-    source: S,
+    input: Input<'a>,
     file: &'a str,
 ) -> Result<Option<(Moment, Moment)>, Refusal<'a>> {
     let mut times = Times::new();
     let Sourced { outcome, source: _ } = write_source(
         task.rt.alloc(),
         &task.plan,
-        source,
+        input,
         &mut times,
         untold(),
     );

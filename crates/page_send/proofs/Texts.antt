@@ -1,5 +1,5 @@
 -- The lines of what is sent, and of two lists of it concatenated.
-use Rattle.std.proofs.Common.{◌≡◌, ℕ, suc, ◌+◌, Bool, true, false, if◌then◌else◌, List, [], ◌∷◌, ◌++◌, length, refl, ap, sym, ◌∙◌, append_assoc, append-nil, arith}
+use Rattle.std.proofs.Common.{◌≡◌, ℕ, suc, ◌+◌, Bool, true, false, if◌then◌else◌, List, [], ◌∷◌, ◌++◌, length, refl, ap, sym, ◌∙◌, append_assoc, arith}
 use Rattle.nav_eph.specs.declared.items.NavItem.{NavItem}
 use Rattle.capture_lines.specs.declared.item.LineItem.{LineItem}
 use Rattle.page_send.specs.Slots.{slot_items, text_of_item, text_of_items}

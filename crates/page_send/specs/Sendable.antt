@@ -7,7 +7,7 @@ use Rattle.nav_eph.specs.declared.items.NavItem.TheVariants.{Gps, Gal, Ion}
 use Rattle.capture_lines.specs.declared.item.LineItem.{LineItem}
 use Rattle.page_send.specs.declared.fault.SendFault.{SendFault}
 use Rattle.page_send.specs.declared.fault.SendFault.TheVariants.{Issue, Week, Room}
-use Rattle.page_send.specs.Slots.{slot_items, slot_text, text_of_items}
+use Rattle.page_send.specs.Slots.{slot_items, text_of_items}
 
 -- the item is an ephemeris
 abbrev pub IsEphemeris : NavItem → Type 0

@@ -1,12 +1,10 @@
 -- The items that are received from those that are sent.
-use Rattle.std.specs.Prelude.{ℕ, ◌+◌, ◌*◌, pos, Bool, true, false, if◌then◌else◌, List, [], ◌∷◌, ◌++◌}
+use Rattle.std.specs.Prelude.{ℕ, ◌+◌, pos, Bool, false, if◌then◌else◌, List, [], ◌∷◌, ◌++◌}
 use Rattle.nav_eph.specs.Items.{galileo_toe_moment, is_alike}
 use Rattle.nav_eph.specs.declared.ion.IonContent.TheVariants.{Gal as OfGal}
 use Rattle.nav_eph.specs.declared.items.SentSecond.TheVariants.{At}
-use Rattle.nav_eph.specs.declared.items.GalEph.{GalEph}
 use Rattle.nav_eph.specs.declared.items.NavItem.{NavItem}
 use Rattle.nav_eph.specs.declared.items.NavItem.TheVariants.{Gps as GpsItem, Gal as GalItem, Ion as IonItem}
-use Rattle.periods.specs.declared.key.Key.{Key}
 use Rattle.periods.specs.declared.key.Key.TheVariants.{Gps, Gal}
 use Rattle.periods.specs.KeyTests.{same_key}
 use Rattle.page_send.specs.Slots.{galileo_second, gps_transmission, no_ionosphere}

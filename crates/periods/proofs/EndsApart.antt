@@ -1,5 +1,5 @@
 -- Two sets of stamps, the second more than a window after the first: the ends of the union are those of either.
-use Rattle.std.proofs.Common.{◌≡◌, ℕ, ◌+◌, ◌<◌, ◌≤◌, ◌⊎◌, inl, inr, arith}
+use Rattle.std.proofs.Common.{ℕ, ◌+◌, ◌<◌, ◌≤◌, ◌⊎◌, inl, inr, arith}
 use Rattle.periods.specs.Ends.{IsEnd, IsEndOf}
 
 -- the stamps of the first set lie more than a window below the watermark, and each has an end there; those of the second lie from

@@ -10,7 +10,7 @@ use Rattle.periods.specs.declared.key.Key.TheVariants.{Gal}
 use Rattle.periods.specs.declared.key.Place.{Place}
 use Rattle.periods.specs.declared.closed.Finding.{Finding}
 use Rattle.nav_eph.specs.Values.{IsPartValue}
-use Rattle.periods.specs.Parts.{HealthOf, Says, HasValue}
+use Rattle.periods.specs.Parts.{HealthOf, Says}
 use Rattle.periods.specs.Periods.{IsHeardAt, IsPeriod, IsMember}
 use Rattle.periods.specs.Verdicts.{HasHealth, IsFound, IsUpToEnd, IsBehindEnd}
 use Rattle.periods.proofs.ValueFindings.{IsHealthValue, IsFoundIn-one, IsFoundIn-same, health_value}

@@ -3,7 +3,7 @@ use Rattle.std.proofs.Common.{◌≡◌, ◌⊎◌, inl, inr, ℕ, ◌+◌, ◌-
 use Rattle.std.specs.Prelude.{Option, Result}
 use Rattle.std.proofs.lemmas.List.{map-append}
 use Rattle.nav_io.specs.Lines.{Line, lines_by}
-use Rattle.nav_io.proofs.Surface.{reads_more}
+use Rattle.nav_io.proofs.Surface.{IsPrefixOf, reads_more}
 use Rattle.rinex_read.specs.declared.judged.ItemRead.{ItemRead}
 use Rattle.rinex_read.specs.declared.judged.HeaderState.{HeaderState}
 use Rattle.rinex_read.specs.declared.judged.HeaderState.TheVariants.{New, Open, Passed, NotRinexNav, OtherVersion}
@@ -14,7 +14,7 @@ use Rattle.rinex_read.specs.Forms.{Form, LooksAtKept, begins, is_version}
 use Rattle.rinex_read.specs.Files.{BeginWith, Body, but_last, early_reads, ends_header, header_of, header_passed, is_navigation, read_at, reads, reads_behind, records_in, up_to_next, whole_behind}
 use Rattle.rinex_read.specs.States.{AreEarly, HeaderSteps, IsNew, IsOver, MayStand, PassesHeader, RecordsState, Steps, file_by, held_reads}
 use Rattle.rinex_read.proofs.FormLemmas.{ended_told}
-use Rattle.rinex_read.proofs.NearLemmas.{IsPrefixOf, early_behind, early_prefix}
+use Rattle.rinex_read.proofs.NearLemmas.{early_behind, early_prefix}
 use Rattle.rinex_read.proofs.StepLemmas.{none_behind}
 use Rattle.rinex_read.proofs.TakeLemmas.{none_whole}
 

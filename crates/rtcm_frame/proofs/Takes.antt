@@ -1,11 +1,11 @@
 -- The step of a deframer: it takes a frame, or none.
-use Rattle.std.proofs.Common.{get_or, ◌≡◌, ℕ, zero, suc, ◌+◌, ◌-◌, ◌<◌, ◌≤◌, ◌&&◌, ◌⊎◌, nat_lt, Bool, true, false, if◌then◌else◌, List, [], ◌∷◌, ◌++◌, length, take, drop, refl, sym, ap, ◌∙◌, inl, inr, arith, length-drop, length-take}
+use Rattle.std.proofs.Common.{get_or, ◌≡◌, ℕ, ◌+◌, ◌-◌, ◌<◌, ◌&&◌, nat_lt, Bool, true, false, if◌then◌else◌, List, [], ◌∷◌, ◌++◌, length, take, drop, refl, sym, ◌∙◌, inl, inr, arith, length-drop, length-take}
 use Rattle.std.proofs.lemmas.Bool.{lt-ltb, le-ltb, false_from_ne_true, and_right, and_parts, false≢true}
 use Rattle.std.proofs.lemmas.List.{take-append-le, drop-append-le, drop_more, take_rest}
 use Rattle.rtcm_frame.specs.Frames.{frame_size, is_open, frames_past, frames, undecided, after_first}
 use Rattle.rtcm_frame.specs.State.{IsWaiting, TakesFrame, TakesNone}
 use Rattle.rtcm_frame.specs.Mirrors.{from_first}
-use Rattle.rtcm_frame.proofs.FormLaws.{size-append, size_le, size_least, size_most, size_of_open, none_open}
+use Rattle.rtcm_frame.proofs.FormLaws.{size-append, size_le, size_least, size_most, size_of_open}
 use Rattle.rtcm_frame.proofs.FrameLaws.{frames_past-drop, drop_first}
 use Rattle.rtcm_frame.proofs.FirstPlace.{IsHeld, first_is_held, length-from_first, frames_from_first, past_from_first, after_from_first, open_from_first}
 

@@ -1,7 +1,6 @@
 use Rattle.std.proofs.Common.{refl}
 use Rattle.one_run.proofs.Surface.{ended_as}
 use Rattle.streams.specs.FrameLines.{frames_meaning}
-use Rattle.captures.specs.Seeds.{seed_meaning}
 use Rattle.bridge_engine.proofs.Beside.{beside_input, beside_report}
 use Rattle.bridge_engine.proofs.Ends.{ahead_as, none_ahead}
 use Rattle.bridge_engine.proofs.run.run_job.Goals as goal

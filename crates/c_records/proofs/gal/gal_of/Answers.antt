@@ -1,4 +1,4 @@
-use Rattle.std.proofs.Common.{◌≡◌, refl}
+use Rattle.std.proofs.Common.{refl}
 use Rattle.c_records.proofs.Whole.{gal_whole}
 use Rattle.c_records.proofs.gal.gal_of.Goals as goal
 

@@ -1,4 +1,4 @@
-use Rattle.std.proofs.Common.{◌≡◌, refl}
+use Rattle.std.proofs.Common.{refl}
 use Rattle.c_records.proofs.gal.word2_of.Goals as goal
 
 pub returns-clause-exactly : goal.returns-clause-exactly

@@ -1,4 +1,4 @@
-use Rattle.std.proofs.Common.{◌≡◌, refl}
+use Rattle.std.proofs.Common.{refl}
 use Rattle.c_records.proofs.Whole.{gps_whole}
 use Rattle.c_records.proofs.gps.gps_of.Goals as goal
 

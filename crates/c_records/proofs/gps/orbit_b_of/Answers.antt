@@ -1,4 +1,4 @@
-use Rattle.std.proofs.Common.{◌≡◌, refl}
+use Rattle.std.proofs.Common.{refl}
 use Rattle.c_records.proofs.gps.orbit_b_of.Goals as goal
 
 pub returns-in_err-crc-clause-exactly : goal.returns-in_err-crc-clause-exactly

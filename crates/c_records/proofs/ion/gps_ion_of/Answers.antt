@@ -1,4 +1,4 @@
-use Rattle.std.proofs.Common.{◌≡◌, refl}
+use Rattle.std.proofs.Common.{refl}
 use Rattle.c_records.proofs.ion.gps_ion_of.Goals as goal
 
 pub returns-in_err-beta0-clause-exactly : goal.returns-in_err-beta0-clause-exactly

@@ -1,5 +1,4 @@
-use Rattle.std.proofs.Common.{◌≡◌, ℕ, ◌+◌, ◌≤◌, ◌++◌, length, ap, sym, ◌∙◌, arith}
-use Rattle.inav_page.specs.Pages.{bytes_of_half}
+use Rattle.std.proofs.Common.{◌+◌, ◌++◌, length, ap, ◌∙◌, arith}
 use Rattle.nav_eph.specs.declared.signal.Signal.TheVariants.{E1b}
 use Rattle.capture_lines.specs.Texts.{half_text}
 use Rattle.page_send.specs.Slots.{half_item}

@@ -1,4 +1,4 @@
-use Rattle.std.proofs.Common.{◌≡◌, refl, ◌∙◌, pos}
+use Rattle.std.proofs.Common.{◌≡◌, pos}
 use Rattle.nav_bits.specs.Signed.{signed_of}
 use Rattle.page_send.proofs.slot.nothing_said.Goals as goal
 

@@ -1,4 +1,4 @@
-use Rattle.std.proofs.Common.{◌≡◌, ap, sym, ◌∙◌}
+use Rattle.std.proofs.Common.{ap, sym, ◌∙◌}
 use Rattle.page_send.specs.Slots.{items_at, text_of_items}
 use Rattle.page_send.proofs.slot.slot_lines.Goals as goal
 

@@ -1,9 +1,9 @@
 -- Names of navigation files by the convention of RINEX 3 and 4: the nine characters of the site, `R` for data of a receiver, the
 -- start as year, day of year, hour and minute, the period, and `MN` for mixed navigation data.
-use Rattle.std.specs.Prelude.{◌==◌, ◌+◌, ◌-◌, ◌/◌, ◌%◌, ◌&&◌, ◌||◌, not, nat_lt, nat_le, ℕ, Bool, if◌then◌else◌, List, [], ◌∷◌, ◌++◌, length, take, drop, slice_index, codes}
-use Rattle.std.specs.List.{list_all}
+use Rattle.std.specs.Prelude.{◌==◌, ◌+◌, ◌-◌, ◌/◌, ◌%◌, ◌&&◌, ◌||◌, not, nat_lt, ℕ, Bool, if◌then◌else◌, List, [], ◌∷◌, ◌++◌, slice_index, codes}
 use Rattle.gnss_week.specs.Functions.{civil_to}
 use Rattle.gnss_week.specs.declared.calendar.Civil.{Civil}
+use Rattle.file_form.specs.Fits.{fits}
 
 -- the last two digits of a number
 abbrev pub two : ℕ → List ℕ
@@ -57,16 +57,6 @@ unfoldable pub long_name : List ℕ → ℕ → ℕ → List ℕ
 long_name site first last =
     (((((site ++ codes "_R_") ++ start_date (civil_to first)) ++ start_time first last) ++ codes "_") ++ period_of first last) ++ codes "_MN.rnx"
 
--- a capital letter
-abbrev pub is_capital : ℕ → Bool
-is_capital b = nat_le 65 b && nat_le b 90
-
--- a decimal digit
-abbrev pub is_digit : ℕ → Bool
-is_digit b = nat_le 48 b && nat_le b 57
-
 -- A site: four capital letters or digits, a digit for the monument, one for the receiver, and the three letters of the country.
 unfoldable pub is_site : List ℕ → Bool
-is_site site =
-    length site == 9 && list_all (λ b. is_capital b || is_digit b) (take 4 site) && list_all is_digit (take 2 (drop 4 site))
-    && list_all is_capital (drop 6 site)
+is_site site = fits (codes "NNNN00AAA") site

@@ -5,7 +5,7 @@ ghost use Rattle.std.specs.Prelude.{Option, ℕ, List, IfOk, MatchOption};
 ghost use Rattle.std.specs.Option.{option_map};
 ghost use Rattle.std.specs.String.{string_bytes};
 ghost use Rattle.std.specs.Path.{path_buf_bytes, path_file_stem};
-ghost use Rattle.file_texts.specs.Names.{with_ending, placed};
+ghost use Rattle.file_form.specs.Names.{with_ending, placed};
 
 use std::alloc::{AllocError, Global};
 use std::path::{Path, PathBuf};

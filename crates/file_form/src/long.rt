@@ -1,14 +1,14 @@
 //! Names of navigation files by the convention of RINEX 3 and 4.
 
 ghost use Rattle.std.specs.Prelude.{◌≡◌, ◌==◌, ◌++◌, ◌<◌};
-ghost use Rattle.std.specs.Prelude.{◌≤◌, ◌||◌, IfOk, OnOk};
-ghost use Rattle.std.specs.List.{list_all};
+ghost use Rattle.std.specs.Prelude.{◌≤◌, IfOk, OnOk, nat_lt};
 ghost use Rattle.std.specs.String.{string_bytes};
-ghost use Rattle.file_texts.specs.Long.{long_name, is_site, is_capital, is_digit, is_leap};
-ghost use Rattle.file_texts.specs.Long.{day_of_year, is_one_hour, period_of, start_time};
-ghost use Rattle.file_texts.specs.Long.{start_date};
+ghost use Rattle.file_form.specs.Long.{long_name, is_site, is_leap};
+ghost use Rattle.file_form.specs.Long.{day_of_year, is_one_hour, period_of, start_time};
+ghost use Rattle.file_form.specs.Long.{start_date};
 
 use crate::digits::{push_four, push_three, push_two};
+use crate::form::fits;
 use gnss_week::{Civil, Moment, civil};
 use std::alloc::{AllocError, Global};
 
@@ -20,46 +20,7 @@ static DAYS_BEFORE: [u32; 12] = [0, 31, 59, 90, 120, 151, 181, 212, 243, 273, 30
 pub fn is_site(text: &str) -> bool
     ensures { result ≡ is_site text.now }
 {
-    let site = text.as_bytes();
-    if site.len() != 9 {
-        return false;
-    }
-    has_letters_or_digits(&site[..4]) && has_digits(&site[4..6]) && has_letters(&site[6..])
-}
-
-// Whether each byte is a capital letter or a digit.
-fn has_letters_or_digits(text: &[u8]) -> bool
-    ensures { result ≡ list_all (λ b. is_capital b || is_digit b) text.now }
-{
-    text.iter().all(|byte| is_capital(*byte) || is_digit(*byte))
-}
-
-// Whether each byte is a digit.
-fn has_digits(text: &[u8]) -> bool
-    ensures { result ≡ list_all is_digit text.now }
-{
-    text.iter().all(|byte| is_digit(*byte))
-}
-
-// Whether each byte is a capital letter.
-fn has_letters(text: &[u8]) -> bool
-    ensures { result ≡ list_all is_capital text.now }
-{
-    text.iter().all(|byte| is_capital(*byte))
-}
-
-// Whether the byte is a capital letter.
-fn is_capital(byte: u8) -> bool
-    ensures { result ≡ is_capital byte }
-{
-    b'A' <= byte && byte <= b'Z'
-}
-
-// Whether the byte is a decimal digit.
-fn is_digit(byte: u8) -> bool
-    ensures { result ≡ is_digit byte }
-{
-    b'0' <= byte && byte <= b'9'
+    fits(b"NNNN00AAA", text.as_bytes())
 }
 
 /// The name of a navigation file with data of this site from the first time to the last, such as
@@ -144,6 +105,13 @@ fn push_time(name: &mut String, first: Moment, last: Moment) -> Result<(), Alloc
     name.push_str("00")
 }
 
+// Whether a period from one day to that so many days later has its days as a number: 1 to 99.
+fn is_numbered(days: u64) -> bool
+    ensures { result ≡ nat_lt days 99 }
+{
+    days < 99
+}
+
 // Appends the period.
 #[tactic(auto, unfolding(crate::specs::Long::period_of))]
 fn push_period(name: &mut String, first: Moment, last: Moment) -> Result<(), AllocError>
@@ -154,7 +122,7 @@ fn push_period(name: &mut String, first: Moment, last: Moment) -> Result<(), All
         return name.push_str("01H");
     }
     let days = (last.value() / 86_400).saturating_sub(first.value() / 86_400);
-    if days >= 99 {
+    if !is_numbered(days) {
         return name.push_str("00U");
     }
     push_two(name, days as u32 + 1)?;

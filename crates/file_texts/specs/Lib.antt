@@ -1,4 +1,0 @@
-pub mod Long
-pub mod Names
-pub mod Says
-pub mod Kinds

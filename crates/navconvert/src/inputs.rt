@@ -1,0 +1,94 @@
+//! What is read: standard input, or files, concatenated.
+
+ghost use Rattle.std.specs.Io.{ReadsAtMost};
+
+use file_folders::{FileInput, fault_of};
+use file_form::Refusal;
+use std::fs::File;
+use std::io::{Read, Stdin};
+use std::{fs, io};
+
+/// An input that is opened.
+pub(crate) type Input<'a> = FileInput<Bytes<'a>>;
+
+/// The bytes of standard input, or of files.
+#[derive(Drop)]
+pub(crate) enum Bytes<'a> {
+    /// Of standard input.
+    Standard(Stdin),
+    /// Of files, concatenated.
+    Files(Files<'a>),
+}
+
+/// The file that is open, and the names of those after it, of which some were opened.
+#[derive(Drop)]
+pub(crate) struct Files<'a> {
+    rt: &'a HostRuntime,
+    open: File,
+    rest: &'a [&'a str],
+    place: usize,
+}
+
+impl Files<'_> {
+    // Opens the next file; whether there is one.
+    fn open_next(&mut self) -> io::Result<bool> {
+        let Some(name) = self.rest.get(self.place) else {
+            return Ok(false);
+        };
+        self.open = fs::open(self.rt, name)?;
+        self.place = self.place.saturating_add(1);
+        Ok(true)
+    }
+
+    // Reads of the first file that has bytes left.
+    fn read_some(&mut self, buf: &mut [u8]) -> io::Result<usize>
+        ensures { ReadsAtMost result buf.new }
+    {
+        for _ in 0..self.rest.len() {
+            let count = self.open.read(buf)?;
+            if count > 0 || !self.open_next()? {
+                return Ok(count);
+            }
+        }
+        self.open.read(buf)
+    }
+}
+
+impl Read for Bytes<'_> {
+    /// One `read` of standard input, or of the first file that has bytes left.
+    fn read(&mut self, buf: &mut [u8]) -> io::Result<usize> {
+        match self {
+            Bytes::Standard(input) => input.read(buf),
+            Bytes::Files(files) => files.read_some(buf),
+        }
+    }
+}
+
+/// Opens the first of files, `-` alone for standard input.
+pub(crate) fn opened<'a>(
+    rt: &'a HostRuntime,
+    files: &'a [&'a str],
+) -> Result<Input<'a>, Refusal<'static>> {
+    match files {
+        [file] if *file == "-" => Ok(FileInput::new(Bytes::Standard(rt.stdin()))),
+        [first, rest @ ..] => opened_first(rt, first, rest),
+        [] => Err(Refusal::NoFiles),
+    }
+}
+
+/// Opens a file, behind which others are read.
+pub(crate) fn opened_first<'a>(
+    rt: &'a HostRuntime,
+    first: &str,
+    rest: &'a [&'a str],
+) -> Result<Input<'a>, Refusal<'static>> {
+    match fs::open(rt, first) {
+        Ok(open) => Ok(FileInput::new(Bytes::Files(Files {
+            rt,
+            open,
+            rest,
+            place: 0,
+        }))),
+        Err(error) => Err(Refusal::NotOpened(fault_of(error.kind()))),
+    }
+}
