@@ -2,7 +2,7 @@
 
 ghost use Rattle.std.specs.Prelude.{◌≡◌, ◌<◌, Err};
 ghost use Rattle.receiver_log.specs.LogRuns.{too_many};
-ghost use Rattle.front_run.specs.Steps.{EndsSo, IsLack, LacksMore};
+ghost use Rattle.front_run.specs.Steps.{EndsSo, IsLack, LacksMore, told_by};
 
 use crate::begun::Begun;
 use crate::reading::{Input, Taken, taken_of};
@@ -117,7 +117,8 @@ pub fn told_by(
     read: Option<FileFault>,
     put: Option<FileFault>,
 ) -> Result<(), Stop>
-    ensures { EndsSo IsLack done result }
+    ensures ends { EndsSo IsLack done result }
+    ensures told { result ≡ told_by done read put }
 {
     match done {
         Err(Stop::Look(told)) => Err(Stop::Look(told.or(read))),
