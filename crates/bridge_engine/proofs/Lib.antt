@@ -5,7 +5,7 @@ pub mod Lexed
 pub mod Readings
 pub mod Listings
 pub mod Outcomes
-pub mod Surface
+pub mod Given
 mod Beside
 mod Dates
 mod DigitTexts

@@ -3,7 +3,7 @@ use Rattle.std.proofs.Common.{◌≡◌, ℕ, List, Option, Some, None, refl, sy
 use Rattle.bridge_engine.specs.declared.job.Job.{Job}
 use Rattle.bridge_engine.specs.declared.values.Values.{Values}
 use Rattle.bridge_engine.specs.Options.{OptionsGiven}
-use Rattle.bridge_engine.proofs.Surface.{same_given}
+use Rattle.bridge_engine.proofs.Given.{same_given}
 use Rattle.bridge_engine.specs.Job.{IsWeekText, IsLeapText, IsDateText, IsSeedText, IsSatsText, Reads, ReadsAs, Row, Asks, IsJob, row_of}
 use Rattle.bridge_engine.proofs.RowJobs.{same_job}
 

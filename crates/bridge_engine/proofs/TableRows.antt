@@ -6,7 +6,7 @@ use Rattle.bridge_engine.specs.declared.values.Values.{Values}
 use Rattle.bridge_engine.specs.Options.{OptionsGiven, GiveValues}
 use Rattle.bridge_engine.specs.Found.{IsRow}
 use Rattle.bridge_engine.specs.Job.{ReadsAs, row_of, Asks, IsJob, GivesJob}
-use Rattle.bridge_engine.proofs.Surface.{same_given}
+use Rattle.bridge_engine.proofs.Given.{same_given}
 use Rattle.bridge_engine.proofs.OneJob.{reads_same, same_values}
 
 asks_in : (g : OptionsGiven) (v : Values) (from to : List ℕ) (job : Job) → g.from ≡ Some from → g.to ≡ Some to → ReadsAs g v → IsRow (row_of job) from to v → Asks g job

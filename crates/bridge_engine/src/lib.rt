@@ -39,7 +39,9 @@ pub use crate::laws::{captures_are_told, words_give_one_job};
 pub use crate::options::{Found, options_of};
 pub use crate::statuses::bridge;
 pub use crate::values::is_date;
-pub use crate::word_laws::{words_give_values_in_one_way, words_spell_options_in_one_way};
+pub use crate::word_laws::{
+    words_give_values_in_one_way, words_of_inputs_ask_for_no_seed, words_spell_options_in_one_way,
+};
 pub use captures::{CaptureCounts, CaptureTo, SeedCounts, SeedTo, run_capture, run_seed};
 pub use nav_files::{
     MergeCounts, RinexCounts, RinexTo, run_cover, run_merge, run_rinex, run_rinex3, send_rinex,

@@ -1,7 +1,10 @@
 //! Laws of the definitions, each on a function with an empty body.
 
-ghost use Rattle.std.specs.Prelude.{◌≡◌, ℕ, List};
+ghost use Rattle.std.specs.Prelude.{◌≡◌, ◌∷◌, ◌++◌, ℕ, List, codes};
+ghost use Rattle.bridge_engine.specs.Job.{IsJob};
 ghost use Rattle.bridge_engine.specs.Options.{Choice, OptionsGiven, GiveValues, Spells};
+ghost use Rattle.bridge_engine.specs.declared.job.Job.TheVariants.{Seed};
+ghost use Rattle.bridge_engine.specs.declared.job.SeedJob.{SeedJob};
 
 /// Words spell at most one list of options.
 pub fn words_spell_options_in_one_way()
@@ -13,4 +16,10 @@ pub fn words_spell_options_in_one_way()
 pub fn words_give_values_in_one_way()
     ensures { (words : List (List ℕ)) (given other : OptionsGiven)
         → GiveValues words given → GiveValues words other → given ≡ other }
+{}
+
+/// Words that begin with a value of `--from` ask for a generated capture only where it is `seed`.
+pub fn words_of_inputs_ask_for_no_seed()
+    ensures { (from : List ℕ) (more : List (List ℕ)) (job : SeedJob)
+        → IsJob ((codes "--from=" ++ from) ∷ more) (Seed job) → from ≡ codes "seed" }
 {}

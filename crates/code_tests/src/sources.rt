@@ -237,5 +237,8 @@ fn edge(rt: HostRuntime) {
     let reads_on = reads(&mut source, &FALTERING_READINGS);
     let mut sink = WriteSink::new(Faltering { calls: 0 });
     let writes_on = writes(&mut sink, &FALTERING_WRITINGS);
-    assert!(rt; read && written && out.as_slice() == b"abcd".as_slice() && reads_on && writes_on);
+    let kinds = [source.fault(), sink.fault()] == [Some(ErrorKind::Interrupted); 2];
+    assert!(rt;
+        read && written && out.as_slice() == b"abcd".as_slice() && reads_on && writes_on && kinds
+    );
 }

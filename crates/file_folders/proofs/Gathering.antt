@@ -1,8 +1,7 @@
--- The bytes of a buffer, or of a piece, that are written, and the rest of them.
+-- The bytes of a buffer that are written, and the rest of them.
 use Rattle.std.proofs.Common.{◌≡◌, ◌+◌, ◌-◌, ℕ, List, ◌++◌, length, take, drop, Option, None, Some, sym, ap, ◌∙◌, append_assoc}
 use Rattle.std.proofs.lemmas.List.{drop-drop, take-append-drop, take_rest}
 use Rattle.std.specs.Io.KnownBytes.{Appends, Keeps, append_known}
-use Rattle.std.proofs.KnownBytes.{Appends-trans}
 
 -- this many more bytes are written
 pub out_more : (whole old new : Option (List ℕ)) (kept : List ℕ) (out n : ℕ) → Keeps whole (append_known old (drop out kept))
@@ -20,13 +19,3 @@ pub out_seen : (whole old new : Option (List ℕ)) (kept seen : List ℕ) (out n
     → Appends old new (take n (take (length seen - out) (drop out seen))) → Keeps whole (append_known new (drop (out + n) kept))
 out_seen whole old new kept seen out n e h k =
     out_more whole old new kept out n h (rw (take_rest seen out, e) at k)
-
--- the same of a piece, of which a front is written
-pub front_more : (a b c : Option (List ℕ)) (piece front rest : List ℕ) (n : ℕ) → piece ≡ front ++ rest → Appends a b front
-    → Appends b c (take n rest) → (more : List ℕ) × (piece ≡ more ++ take (length rest - n) (drop n rest)) × Appends a c more
-front_more a b c piece front rest n whole out write = (
-  front ++ take n rest,
-  whole ∙ ap (λ (r : List ℕ). front ++ r) (sym (take-append-drop n rest) ∙ ap (λ (r : List ℕ). take n rest ++ r) (sym (take_rest rest n)))
-      ∙ sym (append_assoc front (take n rest) (take (length rest - n) (drop n rest))),
-  Appends-trans a b c front (take n rest) out write,
-)

@@ -1,4 +1,7 @@
-//! Why a call of the system failed.
+//! Why calls of the system failed, and how many did.
+
+ghost use Rattle.std.specs.Prelude.{◌≡◌, ◌≤◌, ◌↔◌, IsNone, IsOk};
+ghost use Rattle.nav_io.specs.Causes.{HasCause, Rose};
 
 use file_step::FileFault;
 use std::io::ErrorKind;
@@ -18,5 +21,33 @@ pub fn fault_of(kind: ErrorKind) -> FileFault {
         ErrorKind::BrokenPipe => FileFault::ReaderGone,
         ErrorKind::OutOfMemory => FileFault::NoMemory,
         _ => FileFault::Other,
+    }
+}
+
+/// How often a call of a folder failed: at most 2^64 - 1.
+#[derive(Drop)]
+pub(crate) struct Faults {
+    pub count: u64,
+}
+
+impl Faults {
+    /// Counts a fault.
+    pub(crate) fn failed(&mut self, fault: FileFault) -> FileFault
+        ensures later { self.old.count ≤ self.new.count }
+        ensures rose { Rose self.old.count self.new.count }
+    {
+        self.count = self.count.saturating_add(1);
+        fault
+    }
+
+    /// Counts a fault of this kind, where there was one.
+    pub(crate) fn told(&mut self, kind: Option<ErrorKind>) -> Result<(), FileFault>
+        ensures some { IsOk result ↔ IsNone kind }
+        ensures cause { HasCause self.old.count self.new.count result }
+    {
+        match kind {
+            None => Ok(()),
+            Some(kind) => Err(self.failed(fault_of(kind))),
+        }
     }
 }

@@ -6,20 +6,17 @@ ghost use Rattle.std.specs.Prelude.{OnOk, vec_capacity};
 ghost use Rattle.std.specs.Io.KnownBytes.{Appends, Keeps};
 ghost use Rattle.nav_io.specs.Causes.{HasCause, Rose};
 
-use crate::output::FileOutput;
-use file_step::FileFault;
-use nav_io::{Failed, Sink};
-use std::alloc::{AllocError, Global};
-use std::io::Write;
+use nav_io::{Failed, Sink, WriteSink};
+use std::io::{ErrorKind, Write};
 
-// The size of the buffer in bytes.
-const ROOM: usize = 65_536;
+/// The size of the buffer in bytes.
+pub(crate) const ROOM: usize = 65_536;
 
 /// A buffered sink over a writer, which writes 65,536 bytes at a time. Its known bytes are those
 /// that the writer tells, and then those in the buffer.
 #[derive(Drop)]
 pub struct Gathered<W: Write> {
-    output: FileOutput<W>,
+    output: WriteSink<W>,
     kept: Vec<u8>,
     // how many of the buffered bytes are written
     out: usize,
@@ -29,20 +26,19 @@ pub struct Gathered<W: Write> {
 }
 
 impl<W: Write> Gathered<W> {
-    /// A sink over this writer, with a fault count of 0. It fails only for want of memory.
-    pub fn new(alloc: Global, writer: W) -> Result<Gathered<W>, AllocError>
-    where
-        W: Drop,
-        ensures written { IfOk result (λ sink.
-            Keeps (W.contents writer) (⟦<Gathered<W> as Sink>⟧.written sink)) }
-        ensures faults { IfOk result (λ sink. ⟦<Gathered<W> as Sink>⟧.faults sink ≡ 0) }
+    /// A sink over this writer with this buffer, which is empty and has room for 65,536 bytes. Its
+    /// fault count is 0.
+    pub fn new(kept: Vec<u8>, writer: W) -> Gathered<W>
+        requires empty { kept.items ≡ [] }
+        requires room { 65536 ≤ vec_capacity kept }
+        ensures written { Keeps (W.contents writer) (⟦<Gathered<W> as Sink>⟧.written result) }
+        ensures faults { ⟦<Gathered<W> as Sink>⟧.faults result ≡ 0 }
     {
-        let kept = Vec::with_capacity(alloc, ROOM)?;
-        Ok(Gathered {
-            output: FileOutput::new(writer),
+        Gathered {
+            output: WriteSink::new(writer),
             kept,
             out: 0,
-        })
+        }
     }
 
     /// The writer, after the buffer was written; the sink itself where a write of it has failed, or
@@ -72,8 +68,8 @@ impl<W: Write> Gathered<W> {
         Ok(output.into_writer())
     }
 
-    /// The last fault, if any.
-    pub fn fault(&self) -> Option<FileFault>
+    /// The kind of the last fault, if any.
+    pub fn fault(&self) -> Option<ErrorKind>
         ensures { IsNone result ↔ (⟦<Gathered<W> as Sink>⟧.faults self.now ≡ 0) }
     {
         self.output.fault()
@@ -118,10 +114,10 @@ impl<W: Write> Sink for Gathered<W> {
     ghost use Rattle.std.specs.Prelude.{drop};
     ghost use Rattle.std.specs.Io.KnownBytes.{append_known};
 
-    ghost written = { λ s. append_known (⟦<FileOutput<W> as Sink>⟧.written s.output)
+    ghost written = { λ s. append_known (⟦<WriteSink<W> as Sink>⟧.written s.output)
         (drop s.out s.kept.items) };
 
-    ghost faults = { λ s. ⟦<FileOutput<W> as Sink>⟧.faults s.output };
+    ghost faults = { λ s. ⟦<WriteSink<W> as Sink>⟧.faults s.output };
 
     /// Buffers the piece, and first writes the buffer where there is no room for both. A piece
     /// longer than the buffer is written at once.

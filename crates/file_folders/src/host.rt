@@ -1,15 +1,14 @@
 //! The files of the system.
 
-ghost use Rattle.std.specs.Prelude.{◌≡◌, ◌≤◌, OnOk};
-ghost use Rattle.nav_io.specs.Causes.{Rose};
+ghost use Rattle.std.specs.Prelude.{◌≡◌, IfOk, IsNone};
 
-use crate::faults::fault_of;
-use crate::gathered::Gathered;
-use crate::input::FileInput;
+use crate::faults::{Faults, fault_of};
+use crate::gathered::{Gathered, ROOM};
 use file_step::{FileFault, Folder};
-use nav_io::Sink;
-use std::alloc::{AllocError, Global};
+use nav_io::{ReadSource, Sink};
+use std::alloc::Global;
 use std::fs::{OpenFile, OpenOptions};
+use std::io::ErrorKind;
 use std::rt::Files;
 use std::{fs, io};
 
@@ -18,7 +17,7 @@ use std::{fs, io};
 pub struct HostFolder<'a, R: Files> {
     alloc: Global,
     files: &'a R,
-    faults: u64,
+    faults: Faults,
 }
 
 impl<'a, R: Files> HostFolder<'a, R> {
@@ -27,60 +26,40 @@ impl<'a, R: Files> HostFolder<'a, R> {
         HostFolder {
             alloc,
             files,
-            faults: 0,
+            faults: Faults { count: 0 },
         }
-    }
-
-    // Counts a fault.
-    fn failed(&mut self, fault: FileFault) -> FileFault
-        ensures later { self.old.faults ≤ self.new.faults }
-        ensures rose { Rose self.old.faults self.new.faults }
-    {
-        self.faults = self.faults.saturating_add(1);
-        fault
     }
 }
 
 impl<R: Files> Folder for HostFolder<'_, R> {
     ghost use Rattle.std.specs.Prelude.{None};
 
-    type Input = FileInput<R::File>;
+    type Input = ReadSource<R::File>;
 
     type Draft = Gathered<R::File>;
 
     ghost files = { λ _. None };
 
-    ghost faults = { λ s. s.faults };
+    ghost faults = { λ s. s.faults.count };
 
     /// Opens the file to read it.
-    fn open(&mut self, name: &str) -> Result<FileInput<R::File>, FileFault> {
+    fn open(&mut self, name: &str) -> Result<ReadSource<R::File>, FileFault> {
         match fs::open(self.files, name) {
-            Ok(file) => Ok(FileInput::new(file)),
-            Err(error) => Err(self.failed(fault_of(error.kind()))),
+            Ok(file) => Ok(ReadSource::new(file)),
+            Err(error) => Err(self.faults.failed(fault_of(error.kind()))),
         }
     }
 
     /// Returns the last fault of a read, if any.
-    fn close(&mut self, input: FileInput<R::File>) -> Result<(), FileFault> {
-        match input.fault() {
-            None => Ok(()),
-            Some(fault) => Err(self.failed(fault)),
-        }
+    fn close(&mut self, input: ReadSource<R::File>) -> Result<(), FileFault> {
+        self.faults.told(input.fault())
     }
 
     /// Creates a file that must not exist (`O_EXCL`).
     fn draft(&mut self, part: &str) -> Result<Gathered<R::File>, FileFault> {
-        let mut options = OpenOptions::new();
-        options.write(true).create_new(true);
-        match options.open(self.files, part) {
-            Ok(file) => match Gathered::new(self.alloc, file) {
-                Ok(draft) => Ok(draft),
-                Err(AllocError) => {
-                    let _ = fs::remove_file(self.files, part);
-                    Err(self.failed(FileFault::NoMemory))
-                }
-            },
-            Err(error) => Err(self.failed(fault_of(error.kind()))),
+        match begun(self.alloc, self.files, part) {
+            Ok(draft) => Ok(draft),
+            Err(kind) => Err(self.faults.failed(fault_of(kind))),
         }
     }
 
@@ -92,44 +71,59 @@ impl<R: Files> Folder for HostFolder<'_, R> {
         part: &str,
         name: &str,
     ) -> Result<(), FileFault> {
-        match named(self.files, draft, part, name) {
-            Ok(()) => Ok(()),
-            Err(fault) => {
-                let _ = fs::remove_file(self.files, part);
-                Err(self.failed(fault))
-            }
+        let fault = unnamed(self.files, draft, part, name);
+        if fault.is_some() {
+            let _ = fs::remove_file(self.files, part);
         }
+        self.faults.told(fault)
     }
 
     /// Removes the part, and returns the last fault of a write, if any, or why the part could not
     /// be removed.
     fn discard(&mut self, draft: Gathered<R::File>, part: &str) -> Result<(), FileFault> {
-        let removed = fs::remove_file(self.files, part);
-        match draft.fault() {
-            Some(fault) => Err(self.failed(fault)),
-            None => match removed {
-                Ok(()) => Ok(()),
-                Err(error) => Err(self.failed(fault_of(error.kind()))),
-            },
-        }
+        let removed = removed(self.files, part);
+        self.faults.told(draft.fault().or(removed))
     }
 }
 
-// Writes the buffer, syncs the file, and renames it.
-fn named<R: Files>(
+// Creates a file that must not exist, with a buffer.
+fn begun<R: Files>(alloc: Global, files: &R, part: &str) -> Result<Gathered<R::File>, ErrorKind>
+    ensures { IfOk result (λ draft. ⟦<Gathered<R::File> as Sink>⟧.faults draft ≡ 0) }
+{
+    let Ok(buffer) = Vec::with_capacity(alloc, ROOM) else {
+        return Err(ErrorKind::OutOfMemory);
+    };
+    let mut options = OpenOptions::new();
+    options.write(true).create_new(true);
+    match options.open(files, part) {
+        Ok(file) => Ok(Gathered::new(buffer, file)),
+        Err(error) => Err(error.kind()),
+    }
+}
+
+// Removes a file, and returns why that failed, if it did.
+fn removed<R: Files>(files: &R, name: &str) -> Option<ErrorKind> {
+    match fs::remove_file(files, name) {
+        Ok(()) => None,
+        Err(error) => Some(error.kind()),
+    }
+}
+
+// Writes the buffer, syncs the file, and renames it; returns why one of these failed, if it did.
+fn unnamed<R: Files>(
     files: &R,
     draft: Gathered<R::File>,
     part: &str,
     name: &str,
-) -> Result<(), FileFault>
-    ensures { OnOk result (⟦<Gathered<R::File> as Sink>⟧.faults draft ≡ 0) }
+) -> Option<ErrorKind>
+    ensures { IsNone result → ⟦<Gathered<R::File> as Sink>⟧.faults draft ≡ 0 }
 {
     match draft.finish() {
         Ok(file) => match synced(files, file, part, name) {
-            Ok(()) => Ok(()),
-            Err(error) => Err(fault_of(error.kind())),
+            Ok(()) => None,
+            Err(error) => Some(error.kind()),
         },
-        Err(draft) => Err(draft.fault().unwrap_or(FileFault::Other)),
+        Err(draft) => Some(draft.fault().unwrap_or(ErrorKind::Other)),
     }
 }
 

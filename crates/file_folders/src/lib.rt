@@ -1,7 +1,7 @@
 //! Folders: the files of the system, and files in memory.
 //!
-//! - [`HostFolder`], the files of the system as a folder; [`FileInput`], a file that is read,
-//!   [`FileOutput`] and [`Gathered`], one that is written, and [`fault_of`], why a call failed;
+//! - [`HostFolder`], the files of the system as a folder; [`Gathered`], a file that is written, and
+//!   [`fault_of`], why a call failed;
 //! - [`MemFolder`], a folder in memory, which tells the bytes of each of its files: a list of
 //!   changes of names, the newest first ([`Entry`], [`set`], [`found`]), with [`MemDraft`], a file
 //!   that is being written, to which [`published`] gives its name.
@@ -18,15 +18,11 @@ mod entries;
 mod faults;
 mod gathered;
 mod host;
-mod input;
 mod memory;
-mod output;
 
 pub use crate::draft::MemDraft;
 pub use crate::entries::{Entry, found, published, set};
 pub use crate::faults::fault_of;
 pub use crate::gathered::Gathered;
 pub use crate::host::HostFolder;
-pub use crate::input::FileInput;
 pub use crate::memory::{MemFolder, MemInput};
-pub use crate::output::FileOutput;

@@ -1,22 +1,21 @@
 //! A folder in memory.
 
-ghost use Rattle.std.specs.Prelude.{◌≡◌, ◌≤◌, Some, None};
+ghost use Rattle.std.specs.Prelude.{◌≡◌, Some, None};
 ghost use Rattle.std.specs.Prelude.{OnOk, IfOk, ℕ, List, [], ◌≢◌};
 ghost use Rattle.std.specs.Option.{option_map};
-ghost use Rattle.nav_io.specs.Causes.{Rose};
 ghost use Rattle.file_step.specs.Files.{Opens};
 ghost use Rattle.file_folders.specs.Entries.{Sets, bytes_at};
 
 use crate::draft::MemDraft;
 use crate::entries::{Entry, found, published, set};
-use crate::input::FileInput;
+use crate::faults::Faults;
 use file_step::{FileFault, Folder};
-use nav_io::{Sink, Source};
+use nav_io::{ReadSource, Sink, Source};
 use std::alloc::{AllocError, Global};
 use std::io::Cursor;
 
 /// A file in memory that is read.
-pub type MemInput = FileInput<Cursor<Vec<u8>>>;
+pub type MemInput = ReadSource<Cursor<Vec<u8>>>;
 
 /// A folder in memory. Its calls fail only for want of memory, or where `Folder` requires it.
 #[derive(Drop)]
@@ -24,7 +23,7 @@ pub struct MemFolder {
     alloc: Global,
     // the newest first
     entries: Vec<Entry>,
-    faults: u64,
+    faults: Faults,
 }
 
 impl MemFolder {
@@ -36,7 +35,7 @@ impl MemFolder {
         MemFolder {
             alloc,
             entries: Vec::new(alloc),
-            faults: 0,
+            faults: Faults { count: 0 },
         }
     }
 
@@ -57,16 +56,6 @@ impl MemFolder {
     {
         found(&self.entries, name)
     }
-
-    // Counts a fault.
-    fn failed(&mut self, fault: FileFault) -> FileFault
-        ensures entries { self.new.entries ≡ self.old.entries }
-        ensures later { self.old.faults ≤ self.new.faults }
-        ensures rose { Rose self.old.faults self.new.faults }
-    {
-        self.faults = self.faults.saturating_add(1);
-        fault
-    }
 }
 
 impl Folder for MemFolder {
@@ -79,30 +68,27 @@ impl Folder for MemFolder {
 
     ghost files = { λ s. Some (bytes_at s.entries.items) };
 
-    ghost faults = { λ s. s.faults };
+    ghost faults = { λ s. s.faults.count };
 
     /// Returns a source over the bytes.
     fn open(&mut self, name: &str) -> Result<MemInput, FileFault> {
         let alloc = self.alloc;
         match opened(alloc, &self.entries, name) {
             Ok(input) => Ok(input),
-            Err(fault) => Err(self.failed(fault)),
+            Err(fault) => Err(self.faults.failed(fault)),
         }
     }
 
     /// Returns the last fault of a read, if any.
     fn close(&mut self, input: MemInput) -> Result<(), FileFault> {
-        match input.fault() {
-            None => Ok(()),
-            Some(fault) => Err(self.failed(fault)),
-        }
+        self.faults.told(input.fault())
     }
 
     /// Creates an empty file with this name, which no file has.
     fn draft(&mut self, part: &str) -> Result<MemDraft, FileFault> {
         match begun(self.alloc, &mut self.entries, part) {
             Ok(draft) => Ok(draft),
-            Err(fault) => Err(self.failed(fault)),
+            Err(fault) => Err(self.faults.failed(fault)),
         }
     }
 
@@ -110,14 +96,14 @@ impl Folder for MemFolder {
     fn publish(&mut self, draft: MemDraft, part: &str, name: &str) -> Result<(), FileFault> {
         match published(self.alloc, &mut self.entries, draft, part, name) {
             Ok(()) => Ok(()),
-            Err(fault) => Err(self.failed(fault)),
+            Err(fault) => Err(self.faults.failed(fault)),
         }
     }
 
     /// Removes the part.
     fn discard(&mut self, draft: MemDraft, part: &str) -> Result<(), FileFault> {
         if set(self.alloc, &mut self.entries, part, None).is_err() || draft.faults() != 0 {
-            return Err(self.failed(FileFault::NoMemory));
+            return Err(self.faults.failed(FileFault::NoMemory));
         }
         Ok(())
     }
@@ -126,13 +112,13 @@ impl Folder for MemFolder {
 // A source over the bytes of the file of this name.
 fn opened(alloc: Global, entries: &[Entry], name: &str) -> Result<MemInput, FileFault>
     ensures bytes { IfOk result (λ input. Opens (Some (bytes_at entries.now)) name.now
-        (⟦<FileInput<Cursor<Vec<u8>>> as Source>⟧.left input)) }
+        (⟦<ReadSource<Cursor<Vec<u8>>> as Source>⟧.left input)) }
     ensures faults { IfOk result (λ input.
-        ⟦<FileInput<Cursor<Vec<u8>>> as Source>⟧.faults input ≡ 0) }
+        ⟦<ReadSource<Cursor<Vec<u8>>> as Source>⟧.faults input ≡ 0) }
 {
     let bytes = found(entries, name).ok_or(FileFault::NotFound)?;
     match bytes.to_vec(alloc) {
-        Ok(copy) => Ok(FileInput::new(Cursor::new(copy))),
+        Ok(copy) => Ok(ReadSource::new(Cursor::new(copy))),
         Err(_) => Err(FileFault::NoMemory),
     }
 }

@@ -8,7 +8,7 @@
 //!
 //! - [`from_word`] and [`to_word`], the words of forms and targets, [`ending_of`], the endings of
 //!   names;
-//! - [`output_name`], the name of an output beside its input, and [`long_name`], that of a
+//! - [`output_name`], the name of an output by that of its input, and [`long_name`], that of a
 //!   navigation file by the convention of RINEX 3 and 4 (RINEX 4.02, 5.2); [`fits`], whether a text
 //!   is of a form;
 //! - [`Refusal`], a reason, its sentence and the status of the program, and [`run_refusal`], that
@@ -16,8 +16,8 @@
 //!
 //! ```rust
 //! assert!(rt; matches!(kind_of(b"NAVCAP 1\n"), Kind::Capture1));
-//! let name = output_name(rt.alloc(), "data/station.navcap", None, "rnx")?;
-//! assert!(rt; name.ok_or("a name")?.as_str() == "data/station.rnx");
+//! let name = output_name(rt.alloc(), "data/station.navcap", "rnx")?;
+//! assert!(rt; name.ok_or("a name")?.as_str() == "station.rnx");
 //! ```
 #![tactic(auto)]
 

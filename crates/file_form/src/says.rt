@@ -160,78 +160,100 @@ fn header_text(kind: Kind) -> &'static str {
 }
 
 impl Refusal<'_> {
-    // How its sentence begins: a name or a value, with what stands before it and behind.
-    fn front(&self) -> (&str, &str, &str) {
-        match *self {
-            Refusal::NoSuchConversion(kind) | Refusal::NoConversion(kind) => {
-                ("it is ", kind_text(kind), "; ")
-            }
-            Refusal::Date(date) => ("--date ", date, ": write it as \"20240101 000000 UTC\""),
-            Refusal::Week(week) => ("--week ", week, ": 1024 to 8191"),
-            Refusal::SeveralFiles(name) => {
-                (
-                    "",
-                    name,
-                    " is one file; for several name a folder that is there",
-                )
-            }
-            Refusal::Site(site) => (
-                "--long-name ",
-                site,
-                ": four capital letters or digits, two digits and a country, as BRDC00XXX",
-            ),
-            Refusal::OutputThere(name) => {
-                ("", name, " is there already; --overwrite replaces it")
-            }
-            Refusal::PartThere(part) => (
-                "",
-                part,
-                " is there: another run is writing it, or one was cut off; remove it",
-            ),
-            Refusal::SameFile(name) => ("", name, " is the input itself; name the output by -o"),
-            Refusal::WriteFault(name, _) => ("writing ", name, " failed: "),
-            _ => ("", "", ""),
+    // What is said before its name or its value.
+    fn before(&self) -> &str {
+        match self {
+            Refusal::NoSuchConversion(_) | Refusal::NoConversion(_) => "it is ",
+            Refusal::Date(_) => "--date ",
+            Refusal::Week(_) => "--week ",
+            Refusal::Site(_) => "--long-name ",
+            Refusal::WriteFault(_, _) => "writing ",
+            _ => "",
         }
     }
 
-    // How its sentence ends.
-    fn end(&self) -> (&str, &str) {
+    // Its name or its value, where it has one.
+    fn name(&self) -> &str {
         match *self {
-            Refusal::NoSuchConversion(kind) | Refusal::NoConversion(kind) => {
-                (targets_of(kind), "")
+            Refusal::NoSuchConversion(kind) | Refusal::NoConversion(kind) => kind_text(kind),
+            Refusal::Date(name)
+            | Refusal::Week(name)
+            | Refusal::SeveralFiles(name)
+            | Refusal::Site(name)
+            | Refusal::OutputThere(name)
+            | Refusal::PartThere(name)
+            | Refusal::SameFile(name)
+            | Refusal::WriteFault(name, _) => name,
+            _ => "",
+        }
+    }
+
+    // What is said behind it.
+    fn after(&self) -> &str {
+        match self {
+            Refusal::NoSuchConversion(_) | Refusal::NoConversion(_) => "; ",
+            Refusal::Date(_) => ": write it as \"20240101 000000 UTC\"",
+            Refusal::Week(_) => ": 1024 to 8191",
+            Refusal::SeveralFiles(_) => " is one file; for several name a folder that is there",
+            Refusal::Site(_) => {
+                ": four capital letters or digits, two digits and a country, as BRDC00XXX"
             }
-            Refusal::NoName => ("it has no name of a file; name the output by -o", ""),
-            Refusal::NoFiles => (
-                "no file is named; - is standard input, --help says more",
-                "",
-            ),
-            Refusal::NoLongName => (
-                "--long-name names navigation files that are made of files, beside them or in a folder",
-                "",
-            ),
-            Refusal::NoTimes => ("it has no ephemeris, by whose time it would be named", ""),
-            Refusal::NotOpened(fault) | Refusal::ReadFault(_, fault) => (fault_text(fault), ""),
-            Refusal::WriteFault(_, FileFault::NotFound) => ("its folder is not there", ""),
-            Refusal::WriteFault(_, fault) => (fault_text(fault), "; it is as it was"),
-            Refusal::NotAccepted(kind) => (header_text(kind), ""),
-            Refusal::NoMemory => ("there was no memory", ""),
-            Refusal::ReportFault => ("the report was not written", ""),
-            Refusal::TooLong => ("it has more than 4,294,967,295 bytes; cut it in parts", ""),
-            Refusal::Word => ("a word of the command line is not UTF-8", ""),
-            _ => ("", ""),
+            Refusal::OutputThere(_) => " is there already; --overwrite replaces it",
+            Refusal::PartThere(_) => {
+                " is there: another run is writing it, or one was cut off; remove it"
+            }
+            Refusal::SameFile(_) => " is the input itself; name the output by -o",
+            Refusal::WriteFault(_, _) => " failed: ",
+            _ => "",
+        }
+    }
+
+    // The reason, where it is not said yet.
+    fn reason(&self) -> &str {
+        match *self {
+            Refusal::NoSuchConversion(kind) | Refusal::NoConversion(kind) => targets_of(kind),
+            Refusal::NoName => "it has no name of a file; name the output by -o",
+            Refusal::NoFiles => "no file is named; - is standard input, --help says more",
+            Refusal::NoLongName => {
+                "--long-name names navigation files that are made of files, beside them or in a folder"
+            }
+            Refusal::NoTimes => "it has no ephemeris, by whose time it would be named",
+            Refusal::WriteFault(_, FileFault::NotFound) => "its folder is not there",
+            Refusal::NotOpened(fault)
+            | Refusal::ReadFault(_, fault)
+            | Refusal::WriteFault(_, fault) => fault_text(fault),
+            Refusal::NotAccepted(kind) => header_text(kind),
+            Refusal::NoMemory => "there was no memory",
+            Refusal::ReportFault => "the report was not written",
+            Refusal::TooLong => "it has more than 4,294,967,295 bytes; cut it in parts",
+            Refusal::Word => "a word of the command line is not UTF-8",
+            _ => "",
+        }
+    }
+
+    // What is said behind the reason.
+    fn state(&self) -> &str {
+        match self {
+            Refusal::WriteFault(_, FileFault::NotFound) => "",
+            Refusal::WriteFault(_, _) => "; it is as it was",
+            _ => "",
         }
     }
 }
 
 impl fmt::Display for Refusal<'_> {
     fn fmt<W: fmt::Write>(&self, f: &mut fmt::Formatter<W>) -> fmt::Result {
-        if let Refusal::ReadFault(count, _) = *self {
+        if let Refusal::ReadFault(count, _) = self {
             write!(f, "reading it failed after {count} bytes: ")?;
         }
-        let (before, name, after) = self.front();
-        let (reason, state) = self.end();
-        for part in &[before, name, after, reason, state] {
-            f.write_str(part)?;
+        for text in &[
+            self.before(),
+            self.name(),
+            self.after(),
+            self.reason(),
+            self.state(),
+        ] {
+            f.write_str(text)?;
         }
         Ok(())
     }

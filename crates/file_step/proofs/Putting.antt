@@ -1,7 +1,8 @@
 -- What a step leaves under the names of a folder, by what its calls do.
-use Rattle.std.proofs.Common.{◌≡◌, ◌∙◌, ℕ, List, [], Option, None, Some, ap, subst}
+use Rattle.std.proofs.Common.{◌≡◌, ◌≤◌, ◌∙◌, ℕ, List, [], Option, None, Some, ap, arith, subst}
 use Rattle.std.specs.Prelude.{IfSome}
 use Rattle.std.specs.Io.KnownBytes.{Appends}
+use Rattle.nav_io.specs.Causes.{Rose}
 use Rattle.file_step.specs.Files.{Begins, Publishes, Stays}
 
 abbrev pub Folders : Type 0
@@ -35,3 +36,16 @@ put_made None mid new part name (Some bytes) makes before after h begins wrote p
 put_made (Some old) mid new part name (Some bytes) makes before after h begins wrote puts =
     put_more (Some old) mid new part name (makes bytes) h
     (subst (Publishes mid new part name) (all_written after (makes bytes) (subst (λ (o : Option (List ℕ)). Appends o after (makes bytes)) begins.1 wrote)) puts)
+
+-- where something failed, or nothing is asked, nothing is to be shown of the known bytes
+pub refuted : (left : Option (List ℕ)) (can : List ℕ → Type 0) (A B R X : Type 0) → R → IfSome left (λ bytes. can bytes → ¬ A → ¬ B → ¬ R → X)
+refuted None can A B R X rose = tt
+refuted (Some bytes) can A B R X rose = λ accepted read told none. absurd (none rose)
+
+pub granted : (left : Option (List ℕ)) (can : List ℕ → Type 0) (A B R : Type 0) → IfSome left (λ bytes. can bytes → ¬ A → ¬ B → ¬ R → Unit {0})
+granted None can A B R = tt
+granted (Some bytes) can A B R = λ accepted read told none. tt
+
+-- a count that rises from a later one rises
+pub rose_more : (a b c : ℕ) → a ≤ b → Rose b c → Rose a c
+rose_more a b c h rose = grind (arith)

@@ -14,7 +14,7 @@ use Rattle.front_run.specs.declared.plans.Plan.{Plan}
 use Rattle.front_run.specs.declared.tasks.Task.{Task}
 use Rattle.front_run.specs.declared.tasks.Task.TheVariants.{Asked, Copied}
 use Rattle.front_run.proofs.Ended.{OneJob}
-use Rattle.front_run.proofs.JobReads.{job_reads}
+use Rattle.front_run.proofs.JobReads.{NoSeed, job_reads}
 
 -- ---- the job of words
 
@@ -42,10 +42,10 @@ same_asked one plan kind job other (words, are, is) (words_2, are_2, is_2) =
     one words job other is (subst (λ (w : List (List ℕ)). IsJob w other) (same_words plan kind words_2 words are_2 are) is_2)
 
 -- words for a file for which there is a job give one that reads an input
-pub asked_reads : (b : Bool) (plan : Plan) (kind : Kind) (words : List (List ℕ)) → b ≡ false → AreWords plan kind words → AskBy b plan kind → GivesReadJob words
-asked_reads true plan kind words e are asked = absurd (let no : true ≡ false = e in cc)
-asked_reads false plan kind words e are (job, (others, are_2, gives)) =
-    (job, subst (λ (w : List (List ℕ)). IsJob w job) (same_words plan kind others words are_2 are) gives, job_reads plan kind others job are_2 gives)
+pub asked_reads : (law : NoSeed) (b : Bool) (plan : Plan) (kind : Kind) (words : List (List ℕ)) → b ≡ false → AreWords plan kind words → AskBy b plan kind → GivesReadJob words
+asked_reads law true plan kind words e are asked = absurd (let no : true ≡ false = e in cc)
+asked_reads law false plan kind words e are (job, (others, are_2, gives)) =
+    (job, subst (λ (w : List (List ℕ)). IsJob w job) (same_words plan kind others words are_2 are) gives, job_reads law plan kind others job are_2 gives)
 
 -- ---- what is done with a file
 

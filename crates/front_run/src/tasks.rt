@@ -11,7 +11,7 @@ use crate::asked::AskedJob;
 use crate::copies::copy;
 use crate::plans::{Plan, words_under};
 use crate::stops::Stop;
-use bridge_engine::{bridge, words_give_one_job};
+use bridge_engine::{bridge, words_give_one_job, words_of_inputs_ask_for_no_seed};
 use file_form::{Kind, is_copied};
 use file_step::Conversion;
 use nav_io::{Sink, Source};
@@ -34,6 +34,7 @@ pub fn ask(alloc: Global, plan: &Plan, kind: Kind) -> Result<Task, Stop>
     if is_copied(kind, plan.target) {
         return Ok(Task::Copied);
     }
+    words_of_inputs_ask_for_no_seed();
     let words = words_under(alloc, plan, kind)?;
     match AskedJob::new(alloc, words) {
         Ok(Some(asked)) => Ok(Task::Asked(asked)),

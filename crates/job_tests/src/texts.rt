@@ -75,48 +75,36 @@ fn sites_have_nine_characters(rt: HostRuntime) {
     }
 }
 
-// An input, a folder, an ending, and the name of the output.
+// An input, an ending, and the name of the output.
 struct NameCase {
     input: &'static str,
-    folder: Option<&'static str>,
     ending: &'static str,
     name: Option<&'static str>,
 }
 
-static NAMES: [NameCase; 6] = [
+static NAMES: [NameCase; 5] = [
     NameCase {
         input: "data/station.navcap",
-        folder: None,
         ending: "rnx",
-        name: Some("data/station.rnx"),
-    },
-    NameCase {
-        input: "station.navcap",
-        folder: Some("out"),
-        ending: "rnx",
-        name: Some("out/station.rnx"),
+        name: Some("station.rnx"),
     },
     NameCase {
         input: "station",
-        folder: None,
         ending: "rtcm3",
         name: Some("station.rtcm3"),
     },
     NameCase {
         input: "brdc0010.24n",
-        folder: None,
         ending: "rnx",
         name: Some("brdc0010.rnx"),
     },
     NameCase {
         input: ".hidden",
-        folder: None,
         ending: "rnx",
         name: Some(".hidden.rnx"),
     },
     NameCase {
         input: "..",
-        folder: None,
         ending: "rnx",
         name: None,
     },
@@ -124,9 +112,9 @@ static NAMES: [NameCase; 6] = [
 
 // Whether the output has the name of the case, or none.
 fn has_name(alloc: Global, case: &NameCase) -> Result<bool, AllocError> {
-    let path = output_name(alloc, case.input, case.folder, case.ending)?;
-    Ok(match &path {
-        Some(path) => case.name == Some(path.as_path().as_str()),
+    let name = output_name(alloc, case.input, case.ending)?;
+    Ok(match &name {
+        Some(name) => case.name == Some(name.as_str()),
         None => case.name.is_none(),
     })
 }

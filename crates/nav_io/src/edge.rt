@@ -1,11 +1,13 @@
 //! A source over a `Read`, and a sink over a `Write`.
 
-ghost use Rattle.std.specs.Prelude.{◌≡◌, MatchBool, false};
-ghost use Rattle.std.specs.Io.KnownBytes.{Appends};
-ghost use Rattle.nav_io.specs.Prefix.{AppendsPrefix};
+ghost use Rattle.std.specs.Prelude.{◌≡◌, ◌<◌, ◌↔◌, false};
+ghost use Rattle.std.specs.Prelude.{IfOk, IsNone, MatchResult, length, take};
+ghost use Rattle.std.specs.Io.{WritesAtMost};
+ghost use Rattle.std.specs.Io.KnownBytes.{Appends, Keeps};
+ghost use Rattle.nav_io.specs.Causes.{HasCause};
 
 use crate::{Failed, Sink, Source};
-use std::io::{Read, Write};
+use std::io::{ErrorKind, Read, Write};
 
 /// A source over a reader. Contracts know its bytes where they know those of the reader: over
 /// memory, not of a file, a pipe or a terminal.
@@ -13,6 +15,8 @@ use std::io::{Read, Write};
 pub struct ReadSource<R: Read> {
     reader: R,
     faults: u64,
+    // of the last fault
+    kind: ErrorKind,
 }
 
 impl<R: Read> ReadSource<R> {
@@ -21,7 +25,22 @@ impl<R: Read> ReadSource<R> {
         ensures left { ⟦<ReadSource<R> as Source>⟧.left result ≡ R.remaining reader }
         ensures faults { ⟦<ReadSource<R> as Source>⟧.faults result ≡ 0 }
     {
-        ReadSource { reader, faults: 0 }
+        ReadSource {
+            reader,
+            faults: 0,
+            kind: ErrorKind::Other,
+        }
+    }
+
+    /// The kind of the last fault, if any.
+    pub fn fault(&self) -> Option<ErrorKind>
+        ensures { IsNone result ↔ (⟦<ReadSource<R> as Source>⟧.faults self.now ≡ 0) }
+    {
+        if self.faults == 0 {
+            None
+        } else {
+            Some(self.kind)
+        }
     }
 }
 
@@ -36,8 +55,9 @@ impl<R: Read> Source for ReadSource<R> {
     fn read(&mut self, into: &mut [u8]) -> Result<usize, Failed> {
         match self.reader.read(into) {
             Ok(count) => Ok(count),
-            Err(_) => {
+            Err(error) => {
                 self.faults = self.faults.saturating_add(1);
+                self.kind = error.kind();
                 Err(Failed)
             }
         }
@@ -50,6 +70,8 @@ impl<R: Read> Source for ReadSource<R> {
 pub struct WriteSink<W: Write> {
     writer: W,
     faults: u64,
+    // of the last fault
+    kind: ErrorKind,
 }
 
 impl<W: Write> WriteSink<W> {
@@ -58,7 +80,58 @@ impl<W: Write> WriteSink<W> {
         ensures written { ⟦<WriteSink<W> as Sink>⟧.written result ≡ W.contents writer }
         ensures faults { ⟦<WriteSink<W> as Sink>⟧.faults result ≡ 0 }
     {
-        WriteSink { writer, faults: 0 }
+        WriteSink {
+            writer,
+            faults: 0,
+            kind: ErrorKind::Other,
+        }
+    }
+
+    /// The kind of the last fault, if any: `WriteZero` for a `write` that took no byte.
+    pub fn fault(&self) -> Option<ErrorKind>
+        ensures { IsNone result ↔ (⟦<WriteSink<W> as Sink>⟧.faults self.now ≡ 0) }
+    {
+        if self.faults == 0 {
+            None
+        } else {
+            Some(self.kind)
+        }
+    }
+
+    /// The writer.
+    pub fn into_writer(self) -> W
+        ensures { W.contents result ≡ ⟦<WriteSink<W> as Sink>⟧.written self }
+    {
+        let WriteSink {
+            writer,
+            faults: _,
+            kind: _,
+        } = self;
+        writer
+    }
+
+    /// One `write` of the writer, of a piece that isn't empty. An `Err`, and a `write` that takes no
+    /// byte, counts one fault.
+    pub fn put(&mut self, piece: &[u8]) -> Result<usize, Failed>
+        requires { 0 < length piece.now }
+        ensures bound { WritesAtMost result piece.now }
+        ensures some { IfOk result (λ count. 0 < count) }
+        ensures bytes { MatchResult result
+            (λ count. Appends (⟦<WriteSink<W> as Sink>⟧.written self.old)
+            (⟦<WriteSink<W> as Sink>⟧.written self.new) (take count piece.now))
+            (λ _. Keeps (⟦<WriteSink<W> as Sink>⟧.written self.old)
+            (⟦<WriteSink<W> as Sink>⟧.written self.new)) }
+        ensures cause { HasCause (⟦<WriteSink<W> as Sink>⟧.faults self.old)
+            (⟦<WriteSink<W> as Sink>⟧.faults self.new) result }
+    {
+        let kind = match self.writer.write(piece) {
+            Ok(0) => ErrorKind::WriteZero,
+            Ok(count) => return Ok(count),
+            Err(error) => error.kind(),
+        };
+        self.faults = self.faults.saturating_add(1);
+        self.kind = kind;
+        Err(Failed)
     }
 }
 
@@ -71,26 +144,20 @@ impl<W: Write> Sink for WriteSink<W> {
     /// either, and a `write` that takes no byte of a piece that isn't empty, counts one fault and
     /// fails.
     fn write(&mut self, piece: &[u8]) -> Result<(), Failed> {
-        if put_all(&mut self.writer, piece) {
-            return Ok(());
+        let mut rest = piece;
+        while !rest.is_empty() {
+            match self.put(rest) {
+                Ok(count) => rest = &rest[count..],
+                Err(Failed) => return Err(Failed),
+            }
         }
-        self.faults = self.faults.saturating_add(1);
-        Err(Failed)
-    }
-}
-
-// Writes the piece and flushes; false where either failed.
-fn put_all<W: Write>(writer: &mut W, piece: &[u8]) -> bool
-    ensures bytes { MatchBool result
-        (Appends (W.contents writer.old) (W.contents writer.new) piece.now)
-        (AppendsPrefix (W.contents writer.old) (W.contents writer.new) piece.now) }
-{
-    let mut rest = piece;
-    while !rest.is_empty() {
-        match writer.write(rest) {
-            Ok(0) | Err(_) => return false,
-            Ok(count) => rest = &rest[count..],
+        match self.writer.flush() {
+            Ok(()) => Ok(()),
+            Err(error) => {
+                self.faults = self.faults.saturating_add(1);
+                self.kind = error.kind();
+                Err(Failed)
+            }
         }
     }
-    writer.flush().is_ok()
 }

@@ -1,5 +1,5 @@
 -- The command, and what a parse of words by it gives.
-use Rattle.std.proofs.Common.{◌≡◌, inl, ◌∙◌, ◌+◌, ◌<◌, ℕ, true, refl, sym, ap, subst, List, [], ◌∷◌, ◌++◌, map, take, length, slice_index_or, append_assoc, Result, Ok, Err}
+use Rattle.std.proofs.Common.{◌≡◌, inl, ◌∙◌, ◌+◌, ◌<◌, ℕ, true, refl, sym, ap, subst, List, [], ◌∷◌, ◌++◌, map, take, length, slice_index_or, Result, Ok, Err}
 use Rattle.std.specs.Prelude.{IfOk}
 use Rattle.std.specs.Borrow.{Bor}
 use Rattle.std.proofs.lemmas.List.{map-append, take_more}
@@ -7,24 +7,23 @@ use Rattle.clap.specs.Words.{App, HasKind, Row, Rule, Text, app_of, fault_of, fo
 use Rattle.clap.specs.declared.builder.command.Command.{Command}
 use Rattle.clap.specs.declared.error.Error.{Error}
 use Rattle.clap.specs.declared.error.kind.ErrorKind.TheVariants.{OutOfMemory}
-use Rattle.navconvert.specs.Commands.{IsCommand, ReadsWords, command_with, form_words, option_rules, row_rule, target_words, with_rules}
+use Rattle.navconvert.specs.Commands.{IsCommand, ReadsWords, command_with, form_words, option_rules, row_rule, target_words}
 use Rattle.navconvert.specs.declared.command.Asked.{Asked}
 use Rattle.navconvert.specs.declared.command.Row.{Row as OptionRow}
 
 -- ---- the command
 
-with_one : (a : App) (rules : List Rule) (r : Rule) → with_rule (with_rules a rules) r ≡ with_rules a (rules ++ r ∷ [])
-with_one a rules r =
-    ap (λ (all : List Rule). record a { top = record a.top { rules = all } }) (append_assoc a.top.rules rules (r ∷ []))
+with_one : (rules : List Rule) (r : Rule) → with_rule (command_with rules) r ≡ command_with (rules ++ r ∷ [])
+with_one rules r = refl
 
 -- one row more is one option more
-pub rows_grown : (a now : App) (r : Rule) (rows : List OptionRow) (i : ℕ) (d : OptionRow) (row : OptionRow) → now ≡ with_rules a (map row_rule (take i rows))
-    → r ≡ row_rule row → i < length rows → row ≡ slice_index_or rows i d → with_rule now r ≡ with_rules a (map row_rule (take (i + 1) rows))
-rows_grown a now r rows i d row now_is rule below at =
+pub rows_grown : (now : App) (r : Rule) (rows : List OptionRow) (i : ℕ) (d : OptionRow) (row : OptionRow) → now ≡ command_with (map row_rule (take i rows))
+    → r ≡ row_rule row → i < length rows → row ≡ slice_index_or rows i d → with_rule now r ≡ command_with (map row_rule (take (i + 1) rows))
+rows_grown now r rows i d row now_is rule below at =
     let more : take (i + 1) rows ≡ take i rows ++ slice_index_or rows i d ∷ [] = take_more rows i d below in
-    (λ k. with_rule (now_is k) (rule k)) ∙ with_one a (map row_rule (take i rows)) (row_rule row)
-    ∙ ap (λ (x : OptionRow). with_rules a (map row_rule (take i rows) ++ row_rule x ∷ [])) at
-    ∙ ap (with_rules a) (sym (map-append row_rule (take i rows) (slice_index_or rows i d ∷ [])) ∙ ap (map row_rule) (sym more))
+    (λ k. with_rule (now_is k) (rule k)) ∙ with_one (map row_rule (take i rows)) (row_rule row)
+    ∙ ap (λ (x : OptionRow). command_with (map row_rule (take i rows) ++ row_rule x ∷ [])) at
+    ∙ ap command_with (sym (map-append row_rule (take i rows) (slice_index_or rows i d ∷ [])) ∙ ap (map row_rule) (sym more))
 
 -- the rules of these rows are all options
 abbrev pub AreOptions : List Rule → Type 0
@@ -33,17 +32,17 @@ AreOptions rules =
     × (map (λ (w : Bor Text). w.now) forms.now ≡ form_words) × (map (λ (w : Bor Text). w.now) targets.now ≡ target_words)
     × (rules ≡ option_rules forms targets)
 
-pub all_rows : {E : Type 0} (base : Command) (seen rows : List OptionRow) (result : Result Command E) → app_of base ≡ command_with [] → seen ≡ rows
-    → IfOk result (λ more. app_of more ≡ with_rules (app_of base) (map row_rule seen)) → AreOptions (map row_rule rows)
+pub all_rows : {E : Type 0} (seen rows : List OptionRow) (result : Result Command E) → seen ≡ rows
+    → IfOk result (λ command. app_of command ≡ command_with (map row_rule seen)) → AreOptions (map row_rule rows)
     → IfOk result (λ command. IsCommand (app_of command))
-all_rows base seen rows (Ok command) bare same is (forms, targets, are_forms, are_targets, are) = (
+all_rows seen rows (Ok command) same is (forms, targets, are_forms, are_targets, are) = (
   forms,
   targets,
   are_forms,
   are_targets,
-  is ∙ ap (λ (a : App). with_rules a (map row_rule seen)) bare ∙ ap (λ (rs : List OptionRow). command_with (map row_rule rs)) same ∙ ap command_with are,
+  is ∙ ap (λ (rs : List OptionRow). command_with (map row_rule rs)) same ∙ ap command_with are,
 )
-all_rows base seen rows (Err e) bare same is are = tt
+all_rows seen rows (Err e) same is are = tt
 
 -- ---- its parse
 

@@ -106,10 +106,6 @@ row_rule row = with_short row.short (record (new_rule row.name.now) {
   defaults = map (λ text. text.now) row.defaults.now;
 })
 
--- the command with these options more
-abbrev pub with_rules : App → List Rule → App
-with_rules command rules = record command { top = record command.top { rules = command.top.rules ++ rules } }
-
 -- the command has all options
 abbrev pub IsCommand : App → Type 0
 IsCommand command =

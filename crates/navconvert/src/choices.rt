@@ -22,7 +22,7 @@ sbf       a log of a Septentrio receiver";
 
 /// The file for reports, where one is named, or the status where no file is to be converted.
 pub(crate) fn begin(rt: &HostRuntime, asked: &Asked) -> Result<Option<File>, u8> {
-    if asked.lists_forms() {
+    if asked.has("list-forms") {
         return match println!(rt; "{FORMS}") {
             Ok(()) => Err(0),
             Err(_) => Err(4),
@@ -39,7 +39,7 @@ fn refused<'a>(asked: &Asked<'a>) -> Option<Refusal<'a>> {
     if asked.files().is_none() {
         return Some(Refusal::NoFiles);
     }
-    match (asked.long_name(), asked.date()) {
+    match (asked.value("long-name"), asked.value("date")) {
         (Some(site), _) if !is_site(site) => Some(Refusal::Site(site)),
         (_, Some(date)) if !is_date(date.as_bytes()) => Some(Refusal::Date(date)),
         _ => None,
@@ -52,16 +52,12 @@ fn report_of<'a>(rt: &HostRuntime, asked: &Asked<'a>) -> Result<Option<File>, Re
     if let Some(refusal) = refused(asked) {
         return Err(refusal);
     }
-    let Some(name) = asked.report() else {
+    let Some(name) = asked.value("report") else {
         return Ok(None);
     };
     let mut options = OpenOptions::new();
-    options.write(true).truncate(true);
-    if asked.overwrites() {
-        options.create(true);
-    } else {
-        options.create_new(true);
-    }
+    options.write(true).truncate(true).create(true);
+    options.create_new(!asked.has("overwrite"));
     match options.open(rt, name) {
         Ok(file) => Ok(Some(file)),
         Err(error) => match fault_of(error.kind()) {
@@ -83,10 +79,10 @@ pub(crate) fn convert_asked<'x, 'a>(
         plan: plan_of(asked, clock),
         output: output_of(rt, asked),
         report,
-        site: asked.long_name(),
-        overwrites: asked.overwrites(),
-        quiet: asked.is_quiet(),
-        dry: asked.is_dry(),
+        site: asked.value("long-name"),
+        overwrites: asked.has("overwrite"),
+        quiet: asked.has("quiet"),
+        dry: asked.has("dry-run"),
         metered: rt.stderr().is_terminal(),
     };
     match asked.files() {
@@ -98,10 +94,10 @@ pub(crate) fn convert_asked<'x, 'a>(
 // What is asked of each file.
 fn plan_of<'x, 'a>(asked: &'x Asked<'a>, clock: &'x ClockWords) -> Plan<'x> {
     let values = Values {
-        week: asked.week(),
+        week: asked.value("week"),
         clock_week: clock.week.as_str(),
         leap: asked.leap(),
-        date: asked.date().unwrap_or(clock.date.as_str()),
+        date: asked.value("date").unwrap_or(clock.date.as_str()),
     };
     Plan {
         form: asked.from(),

@@ -2,12 +2,12 @@
 
 ghost use Rattle.std.specs.Prelude.{◌≡◌, IfOk, map, codes};
 ghost use Rattle.std.specs.Prelude.{option_map, option_and_then, unwrap_or};
-ghost use Rattle.std.specs.Prelude.{[], false};
+ghost use Rattle.std.specs.Prelude.{false};
 ghost use Rattle.std.specs.String.{string_bytes};
 ghost use Rattle.clap.specs.Words.{all_of, app_of, found_of, rows_of, rule_of};
 ghost use Rattle.navconvert.specs.Commands.{IsCommand, ReadsWords, command_with};
 ghost use Rattle.navconvert.specs.Commands.{files_rule, has_flag, row_rule};
-ghost use Rattle.navconvert.specs.Commands.{value_in, with_rules, with_short};
+ghost use Rattle.navconvert.specs.Commands.{value_in, with_short};
 ghost use Rattle.file_form.specs.Table.{kind_named, target_named};
 
 use clap::builder::ValueParser;
@@ -49,20 +49,6 @@ impl<'a> Asked<'a> {
         }
     }
 
-    /// The output: a file, a folder, or `-`.
-    pub(crate) fn output(&self) -> Option<&'a str>
-        ensures { option_map (λ text. text.now) result ≡ value_in self.now (codes "output") }
-    {
-        self.value("output")
-    }
-
-    /// The reference week, where one is named.
-    pub(crate) fn week(&self) -> Option<&'a str>
-        ensures { option_map (λ text. text.now) result ≡ value_in self.now (codes "week") }
-    {
-        self.value("week")
-    }
-
     /// The leap seconds of a header.
     pub(crate) fn leap(&self) -> &'a str
         ensures { result.now ≡ unwrap_or (value_in self.now (codes "leap")) (codes "18") }
@@ -70,64 +56,15 @@ impl<'a> Asked<'a> {
         self.value("leap").unwrap_or("18")
     }
 
-    /// The date of a header, where one is named.
-    pub(crate) fn date(&self) -> Option<&'a str>
-        ensures { option_map (λ text. text.now) result ≡ value_in self.now (codes "date") }
-    {
-        self.value("date")
-    }
-
-    /// The site of a long name by the convention of RINEX.
-    pub(crate) fn long_name(&self) -> Option<&'a str>
-        ensures { option_map (λ text. text.now) result ≡ value_in self.now (codes "long-name") }
-    {
-        self.value("long-name")
-    }
-
-    /// The file for the reports.
-    pub(crate) fn report(&self) -> Option<&'a str>
-        ensures { option_map (λ text. text.now) result ≡ value_in self.now (codes "report") }
-    {
-        self.value("report")
-    }
-
-    /// Whether a file that has the name of an output is replaced.
-    pub(crate) fn overwrites(&self) -> bool
-        ensures { result ≡ has_flag self.now (codes "overwrite") }
-    {
-        self.has("overwrite")
-    }
-
-    /// Whether messages of success are suppressed.
-    pub(crate) fn is_quiet(&self) -> bool
-        ensures { result ≡ has_flag self.now (codes "quiet") }
-    {
-        self.has("quiet")
-    }
-
-    /// Whether the words of `navbridge` are only printed.
-    pub(crate) fn is_dry(&self) -> bool
-        ensures { result ≡ has_flag self.now (codes "dry-run") }
-    {
-        self.has("dry-run")
-    }
-
-    /// Whether the forms are only listed.
-    pub(crate) fn lists_forms(&self) -> bool
-        ensures { result ≡ has_flag self.now (codes "list-forms") }
-    {
-        self.has("list-forms")
-    }
-
-    // The value of an option.
-    fn value(&self, name: &str) -> Option<&'a str>
+    /// The value of an option.
+    pub(crate) fn value(&self, name: &str) -> Option<&'a str>
         ensures { option_map (λ text. text.now) result ≡ value_in self.now name.now }
     {
         self.matches.get_str(name)
     }
 
-    // Whether a flag is given.
-    fn has(&self, name: &str) -> bool
+    /// Whether a flag is given.
+    pub(crate) fn has(&self, name: &str) -> bool
         ensures { result ≡ has_flag self.now name.now }
     {
         match self.value(name) {
@@ -292,19 +229,7 @@ static OPTIONS: [Row; 12] = [
 fn command_of<'a>(alloc: Global) -> Result<Command<'a>, AllocError>
     ensures { IfOk result (λ command. IsCommand (app_of command)) }
 {
-    let command = bare_command(alloc)?;
-    with_rows(alloc, command, OPTIONS.as_slice())
-}
-
-// The command without its options.
-fn bare_command<'a>(alloc: Global) -> Result<Command<'a>, AllocError>
-    ensures { IfOk result (λ command. app_of command ≡ command_with []) }
-{
-    Command::new(alloc, "navconvert")
-        .no_binary_name(true)
-        .version("1.0.0")
-        .about("Converts files of GNSS broadcast orbits")
-        .arg(files_of(alloc))
+    with_rows(alloc, OPTIONS.as_slice())
 }
 
 // The files.
@@ -318,16 +243,16 @@ fn files_of<'a>(alloc: Global) -> Arg<'a>
         .num_args(1..)
 }
 
-// A command with options of these rows.
-fn with_rows<'a>(
-    alloc: Global,
-    command: Command<'a>,
-    rows: &[Row],
-) -> Result<Command<'a>, AllocError>
-    ensures { IfOk result (λ more. app_of more
-        ≡ with_rules (app_of command.entry) (map row_rule rows.now)) }
+// The command with options of these rows.
+fn with_rows<'a>(alloc: Global, rows: &[Row]) -> Result<Command<'a>, AllocError>
+    ensures { IfOk result (λ command. app_of command ≡ command_with (map row_rule rows.now)) }
 {
-    let mut command = command;
+    let bare = Command::new(alloc, "navconvert")
+        .no_binary_name(true)
+        .version("1.0.0")
+        .about("Converts files of GNSS broadcast orbits")
+        .arg(files_of(alloc))?;
+    let mut command = bare;
     for row in rows {
         command = command.arg(option_of(alloc, row))?;
     }

@@ -1,7 +1,8 @@
 //! The commands of `navbridge` that do the same.
 
 use crate::files::Task;
-use crate::forms::files_kind;
+use crate::forms::input_kind;
+use crate::inputs::opened;
 use crate::outputs::name_of;
 use crate::telling::tell_file;
 use file_form::{Kind, ending_of, is_copied};
@@ -10,7 +11,7 @@ use front_run::{refusal_of, words_under};
 /// Prints the command that does what is asked of files, the first of which has this name; the
 /// status.
 pub(crate) fn show_files(task: &Task, first: &str, files: &[&str]) -> u8 {
-    match files_kind(task, files) {
+    match input_kind(task, opened(task.rt, files)) {
         Ok(kind) => show_kind(task, first, files, kind),
         Err(refusal) => tell_file(task.rt, first, &refusal),
     }

@@ -104,12 +104,20 @@ fn times_name<'a>(
     files: &'a [&'a str],
     site: &'a str,
 ) -> Result<String, Refusal<'a>> {
-    if first == "-" {
+    if first == "-" || !is_navigation(task.plan.target) {
         return Err(Refusal::NoLongName);
     }
     match opened(task.rt, files) {
         Ok(input) => long_name_from(task, input, first, site),
         Err(refusal) => Err(refusal),
+    }
+}
+
+// Whether a navigation file is made.
+fn is_navigation(target: Target) -> bool {
+    match target {
+        Target::Rinex | Target::Rinex3 | Target::Merged => true,
+        _ => false,
     }
 }
 

@@ -2,14 +2,24 @@
 
 ghost use Rattle.std.specs.Io.{ReadsAtMost};
 
-use file_folders::{FileInput, fault_of};
+use file_folders::fault_of;
 use file_form::Refusal;
+use file_step::FileFault;
+use nav_io::ReadSource;
 use std::fs::File;
-use std::io::{Read, Stdin};
+use std::io::{ErrorKind, Read, Stdin};
 use std::{fs, io};
 
 /// An input that is opened.
-pub(crate) type Input<'a> = FileInput<Bytes<'a>>;
+pub(crate) type Input<'a> = ReadSource<Bytes<'a>>;
+
+/// What an error of a kind says, where there was one.
+pub(crate) fn fault_told(kind: Option<ErrorKind>) -> Option<FileFault> {
+    match kind {
+        None => None,
+        Some(kind) => Some(fault_of(kind)),
+    }
+}
 
 /// The bytes of standard input, or of files.
 #[derive(Drop)]
@@ -70,7 +80,7 @@ pub(crate) fn opened<'a>(
     files: &'a [&'a str],
 ) -> Result<Input<'a>, Refusal<'static>> {
     match files {
-        [file] if *file == "-" => Ok(FileInput::new(Bytes::Standard(rt.stdin()))),
+        [file] if *file == "-" => Ok(ReadSource::new(Bytes::Standard(rt.stdin()))),
         [first, rest @ ..] => opened_first(rt, first, rest),
         [] => Err(Refusal::NoFiles),
     }
@@ -83,7 +93,7 @@ pub(crate) fn opened_first<'a>(
     rest: &'a [&'a str],
 ) -> Result<Input<'a>, Refusal<'static>> {
     match fs::open(rt, first) {
-        Ok(open) => Ok(FileInput::new(Bytes::Files(Files {
+        Ok(open) => Ok(ReadSource::new(Bytes::Files(Files {
             rt,
             open,
             rest,

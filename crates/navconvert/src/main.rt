@@ -61,14 +61,13 @@ fn run_asked(rt: &HostRuntime, asked: &Asked) -> u8 {
 
 // The words of the command line, without the program's name.
 fn words_of(rt: &HostRuntime) -> Result<Vec<String>, Refusal<'static>> {
-    let mut args = match env::args(rt) {
+    let args = match env::args(rt) {
         Ok(args) => args,
         Err(error) if error.kind() == ErrorKind::OutOfMemory => return Err(Refusal::NoMemory),
         Err(_) => return Err(Refusal::Word),
     };
     let mut words = Vec::new(rt.alloc());
-    let _program = args.next();
-    for word in args {
+    for word in args.skip(1) {
         if words.push(word).is_err() {
             return Err(Refusal::NoMemory);
         }

@@ -1,5 +1,10 @@
 //! Where outputs go, and what their names are.
 
+ghost use Rattle.std.specs.Prelude.{◌≡◌, IfOk};
+ghost use Rattle.std.specs.Option.{option_map};
+ghost use Rattle.std.specs.Path.{path_buf_bytes};
+ghost use Rattle.navconvert.specs.Outputs.{placed};
+
 use crate::command::Asked;
 use file_form::{Refusal, output_name};
 use file_step::FileFault;
@@ -7,7 +12,7 @@ use std::alloc::{AllocError, Global};
 use std::fs;
 use std::fs::Metadata;
 use std::os::unix::fs::MetadataExt;
-use std::path::{AsPath, Path};
+use std::path::{AsPath, Path, PathBuf};
 
 /// Where outputs go.
 #[derive(Clone, Copy)]
@@ -24,7 +29,7 @@ pub(crate) enum Output<'a> {
 
 /// Where the words want outputs.
 pub(crate) fn output_of<'a>(rt: &HostRuntime, asked: &Asked<'a>) -> Output<'a> {
-    match asked.output() {
+    match asked.value("output") {
         None => Output::Beside,
         Some(name) => {
             if name == "-" {
@@ -62,33 +67,21 @@ pub(crate) fn size_of(rt: &HostRuntime, name: &str) -> u64 {
     }
 }
 
-/// The name of the output of a file.
+/// The name of the output of a file, with this ending.
 pub(crate) fn name_of(
     alloc: Global,
     output: Output,
     file: &str,
     ending: &str,
 ) -> Result<String, Refusal<'static>> {
-    match output {
-        Output::File(name) => owned(alloc, name),
-        Output::Standard => Err(Refusal::NoName),
-        Output::Folder(folder) => made_name(alloc, file, Some(folder), ending),
-        Output::Beside => made_name(alloc, file, None, ending),
+    if let Output::File(name) = output {
+        return owned(alloc, name);
     }
-}
-
-// The same in this folder, or beside the file.
-fn made_name(
-    alloc: Global,
-    file: &str,
-    folder: Option<&str>,
-    ending: &str,
-) -> Result<String, Refusal<'static>> {
     if file == "-" {
         return Err(Refusal::NoName);
     }
-    match output_name(alloc, file, folder, ending) {
-        Ok(Some(path)) => owned(alloc, path.path_text()),
+    match output_name(alloc, file, ending) {
+        Ok(Some(name)) => placed(alloc, output, file, name.as_str()),
         Ok(None) => Err(Refusal::NoName),
         Err(AllocError) => Err(Refusal::NoMemory),
     }
@@ -109,14 +102,30 @@ pub(crate) fn placed(
     file: &str,
     name: &str,
 ) -> Result<String, Refusal<'static>> {
-    let path = match output {
-        Output::Beside => Path::new(file).with_file_name(alloc, name),
-        Output::Folder(folder) => Path::new(folder).join(alloc, name),
+    let folder = match output {
+        Output::Beside => None,
+        Output::Folder(folder) => Some(folder),
         Output::File(_) | Output::Standard => return Err(Refusal::NoLongName),
     };
-    match path {
+    match path_of(alloc, file, folder, name) {
         Ok(path) => owned(alloc, path.path_text()),
         Err(AllocError) => Err(Refusal::NoMemory),
+    }
+}
+
+// The path of a name in a folder, or beside a file where none is named.
+fn path_of(
+    alloc: Global,
+    file: &str,
+    folder: Option<&str>,
+    name: &str,
+) -> Result<PathBuf, AllocError>
+    ensures { IfOk result (λ path. path_buf_bytes path
+        ≡ placed file.now (option_map (λ text. text.now) folder.entry) name.now) }
+{
+    match folder {
+        Some(folder) => Path::new(folder).join(alloc, name),
+        None => Path::new(file).with_file_name(alloc, name),
     }
 }
 

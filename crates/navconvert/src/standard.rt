@@ -1,12 +1,12 @@
 //! Conversion to standard output.
 
 use crate::files::Task;
-use crate::inputs::{Input, opened};
+use crate::inputs::{Input, fault_told, opened};
 use crate::meter::Meter;
 use crate::steps::told_of;
 use crate::telling::{Saying, tell_file};
-use file_folders::FileOutput;
 use front_run::{Sourced, finish, told_by, write_source};
+use nav_io::WriteSink;
 
 /// Converts files, the first of which has this name, to standard output, and says what became of
 /// them; the status.
@@ -19,7 +19,7 @@ pub(crate) fn to_standard<'a>(task: &Task<'a>, first: &'a str, files: &'a [&'a s
 
 // Writes what is made of an input to standard output. Where its reader has gone nothing is said.
 fn write_from(task: &Task, file: &str, input: Input) -> u8 {
-    let mut output = FileOutput::new(task.rt.stdout());
+    let mut output = WriteSink::new(task.rt.stdout());
     let told = told_of(task, Meter::Off);
     let Sourced { outcome, source } = write_source(
         task.rt.alloc(),
@@ -29,7 +29,11 @@ fn write_from(task: &Task, file: &str, input: Input) -> u8 {
         told,
     );
     let mut outcome = outcome;
-    outcome.done = told_by(outcome.done, source.fault(), output.fault());
+    outcome.done = told_by(
+        outcome.done,
+        fault_told(source.fault()),
+        fault_told(output.fault()),
+    );
     let mut teller = Saying {
         task,
         file,

@@ -3,7 +3,7 @@
 ghost use Rattle.std.specs.Prelude.{◌≢◌};
 
 use crate::files::Task;
-use crate::inputs::{Input, opened};
+use crate::inputs::{Input, fault_told, opened};
 use crate::meter::Meter;
 use crate::notes::Notes;
 use crate::outputs::size_of;
@@ -27,34 +27,21 @@ pub(crate) fn put<'a>(task: &Task<'a>, first: &'a str, files: &'a [&'a str], nam
 fn put_part<'a>(task: &Task<'a>, first: &'a str, files: &'a [&'a str], part: &str, name: &str) -> u8
     requires { part.now ≢ name.now }
 {
-    if files.len() == 1 && first != "-" {
-        let outcome = put_file(task, first, part, name);
-        return finished(task, first, &outcome, part, name);
-    }
-    match opened(task.rt, files) {
-        Ok(input) => {
-            let outcome = put_input(task, first, input, part, name);
-            finished(task, first, &outcome, part, name)
+    let outcome = if files.len() == 1 && first != "-" {
+        put_file(task, first, part, name)
+    } else {
+        match opened(task.rt, files) {
+            Ok(input) => put_input(task, first, input, part, name),
+            Err(refusal) => return tell_file(task.rt, first, &refusal),
         }
-        Err(refusal) => tell_file(task.rt, first, &refusal),
-    }
-}
-
-// Says what became of a conversion; the status.
-fn finished<'a>(
-    task: &Task<'a>,
-    file: &str,
-    outcome: &Outcome<Tally<'a>>,
-    part: &str,
-    name: &str,
-) -> u8 {
+    };
     let mut teller = Saying {
         task,
-        file,
+        file: first,
         name,
         faults: 0,
     };
-    finish(&task.plan, outcome, name, part, &mut teller)
+    finish(&task.plan, &outcome, name, part, &mut teller)
 }
 
 /// Who is told of the conversion of a file.
@@ -107,7 +94,7 @@ fn put_input<'a>(
         name,
     );
     let mut outcome = outcome;
-    outcome.done = told_by(outcome.done, source.fault(), None);
+    outcome.done = told_by(outcome.done, fault_told(source.fault()), None);
     outcome
 }
 

@@ -122,8 +122,8 @@ impl Sink for Tally<'_> {
     }
 }
 
-// Writes a piece, where a file is there; whether that was done.
-fn is_put(file: Option<&File>, piece: &[u8]) -> bool {
+/// Writes a piece, where a file is there; whether that was done.
+pub(crate) fn is_put(file: Option<&File>, piece: &[u8]) -> bool {
     match file {
         None => true,
         Some(file) => {

@@ -8,11 +8,11 @@ use crate::meter::Meter;
 use crate::notes::Notes;
 use crate::tally::Tally;
 use arrayvec::ArrayVec;
-use file_form::{Refusal, Target, fits, long_name};
+use file_form::{Refusal, fits, long_name};
 use front_run::{Sourced, Told, refusal_of, write_source};
 use gnss_week::{Civil, Moment, moment_of};
 use nav_io::{Failed, Sink};
-use std::alloc::{AllocError, Global};
+use std::alloc::AllocError;
 
 // So many bytes of a line are looked at: those of a satellite and a time.
 const ROOM: usize = 23;
@@ -126,13 +126,10 @@ pub(crate) fn long_name_from<'a>(
     file: &'a str,
     site: &'a str,
 ) -> Result<String, Refusal<'a>> {
-    if !is_navigation(task.plan.target) {
-        return Err(Refusal::NoLongName);
-    }
-    match range_of(task, input, file) {
-        Ok(Some((first, last))) => named(task.rt.alloc(), site, first, last),
-        Ok(None) => Err(Refusal::NoTimes),
-        Err(refusal) => Err(refusal),
+    let (first, last) = range_of(task, input, file)?;
+    match long_name(task.rt.alloc(), site, first, last) {
+        Ok(name) => Ok(name),
+        Err(AllocError) => Err(Refusal::NoMemory),
     }
 }
 
@@ -141,7 +138,7 @@ fn range_of<'a>(
     task: &Task<'a>,
     input: Input<'a>,
     file: &'a str,
-) -> Result<Option<(Moment, Moment)>, Refusal<'a>> {
+) -> Result<(Moment, Moment), Refusal<'a>> {
     let mut times = Times::new();
     let Sourced { outcome, source: _ } = write_source(
         task.rt.alloc(),
@@ -151,29 +148,8 @@ fn range_of<'a>(
         untold(),
     );
     match outcome.done {
-        Ok(()) => Ok(times.range),
+        Ok(()) => times.range.ok_or(Refusal::NoTimes),
         Err(stop) => Err(refusal_of(&task.plan, stop, file, file)),
-    }
-}
-
-// The name by a site and two times.
-fn named(
-    alloc: Global,
-    site: &str,
-    first: Moment,
-    last: Moment,
-) -> Result<String, Refusal<'static>> {
-    match long_name(alloc, site, first, last) {
-        Ok(name) => Ok(name),
-        Err(AllocError) => Err(Refusal::NoMemory),
-    }
-}
-
-// Whether a navigation file is made.
-fn is_navigation(target: Target) -> bool {
-    match target {
-        Target::Rinex | Target::Rinex3 | Target::Merged => true,
-        _ => false,
     }
 }
 

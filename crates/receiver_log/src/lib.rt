@@ -8,7 +8,8 @@
 //! - [`hear`], the lines of one message;
 //! - [`run_log`], which writes the capture of a log, and reports refused messages and counts;
 //! - [`LogSource`], over a source of the log's bytes, which gives the same capture however reads
-//!   cut it, so that a conversion of captures can read a log.
+//!   cut it, so that a conversion of captures can read a log; [`refusal`] and [`counts_text`], what
+//!   the report says of one.
 //!
 //! ```rust
 //! let mut input = ReadSource::new(rt.stdin());
@@ -30,6 +31,7 @@ mod taking;
 pub use crate::hearing::hear;
 pub use crate::lines::Lines;
 pub use crate::receiver::Receiver;
+pub use crate::report::{counts_text, refusal};
 pub use crate::run::run_log;
 pub use crate::source::{LogParts, LogSource, Refusals, Unheard};
 pub use crate::state::{Counts, LogState};

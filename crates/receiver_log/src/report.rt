@@ -8,7 +8,7 @@ use crate::state::Counts;
 use one_run::{Text, append_count, report_text};
 use receiver_messages::Reason;
 
-// The report line of a refused message.
+/// The report line of a refused message.
 pub fn refusal(number: u64, reason: Reason) -> Text
     ensures { result.items ≡ report_line (codes "message") number (reason_word reason) }
 {
@@ -29,7 +29,7 @@ fn word_of(reason: Reason) -> &'static [u8]
     }
 }
 
-// The report lines of the counts, for a log of `taken` bytes.
+/// The report lines of the counts, for a log of `taken` bytes.
 pub fn counts_text(counts: &Counts, taken: u64) -> Text
     ensures { result.items ≡ counts_report counts.now taken }
 {

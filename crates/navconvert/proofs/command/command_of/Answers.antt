@@ -3,4 +3,4 @@ use Rattle.navconvert.proofs.Commanded.{all_rows}
 use Rattle.navconvert.proofs.command.command_of.Goals as goal
 
 pub returns : goal.returns
-returns c = all_rows _ _ _ _ c.in_ok-command.ensures c.as_slice.ensures c.with_rows.ensures (_, _, refl, refl, refl)
+returns c = all_rows _ _ _ c.as_slice.ensures c.with_rows.ensures (_, _, refl, refl, refl)

@@ -1,7 +1,10 @@
--- What other crates cite of the words: they give one list of values, and a value in their first word is that of its option.
-use Rattle.std.proofs.Common.{◌≡◌, ◌∙◌, ℕ, suc, zero, List, [], ◌∷◌, ◌++◌, Option, refl, sym, ap, subst, arith}
-use Rattle.std.specs.Prelude.{Contains}
-use Rattle.bridge_engine.specs.Options.{AreOnce, Begins, Choice, OptionsGiven, GiveValues, HaveValues, Spells, choice}
+-- The words give one list of values, and a value in their first word is that of its option.
+use Rattle.std.proofs.Common.{◌≡◌, ◌∙◌, ℕ, suc, zero, List, [], ◌∷◌, ◌++◌, Option, Some, refl, sym, ap, subst, arith}
+use Rattle.std.specs.Prelude.{Contains, codes}
+use Rattle.bridge_engine.specs.Job.{IsJob}
+use Rattle.bridge_engine.specs.Options.{AreOnce, Begins, Choice, Holds, OptionsGiven, GiveValues, HaveValues, Spells, choice}
+use Rattle.bridge_engine.specs.declared.job.Job.TheVariants.{Seed}
+use Rattle.bridge_engine.specs.declared.job.SeedJob.{SeedJob}
 use Rattle.bridge_engine.proofs.Spellings.{begins_once, begins_one, spells_once}
 use Rattle.bridge_engine.proofs.Listings.{holds_once}
 
@@ -35,7 +38,7 @@ in_turn : (option other : Choice) (options : List Choice) (A : Type 0) → (opti
 in_turn option other options A first later (zero, below, is) = first is
 in_turn option other options A first later (suc k, below, is) = later (k, omega (arith, below), is)
 
-pub first_value : (name value held : List ℕ) (more : List (List ℕ)) (options : List Choice) → ¬ Contains name 61
+first_value : (name value held : List ℕ) (more : List (List ℕ)) (options : List Choice) → ¬ Contains name 61
     → Spells ((45 ∷ 45 ∷ ((name ++ 61 ∷ []) ++ value)) ∷ more) options → AreOnce options → Contains options (choice name held) → value ≡ held
 first_value name value held more [] free spells once has =
     absurd (let no : (45 ∷ 45 ∷ ((name ++ 61 ∷ []) ++ value)) ∷ more ≡ [] = spells in cc)
@@ -46,3 +49,21 @@ first_value name value held more (option ∷ options) free (rest, begins, others
     (λ is. ap (λ (c : Choice). c.value) (sym same ∙ is))
     (λ later. absurd (alone held (subst (λ (n : List ℕ). Contains options (choice n held)) (sym (ap (λ (c : Choice). c.name) same)) later)))
     has
+
+-- ---- the value of `--from`, where a capture is generated
+
+-- its name has no `=` in it
+from_free : ¬ Contains (codes "from") 61
+from_free (zero, below, e) = absurd (omega (arith, e))
+from_free (suc zero, below, e) = absurd (omega (arith, e))
+from_free (suc (suc zero), below, e) = absurd (omega (arith, e))
+from_free (suc (suc (suc zero)), below, e) = absurd (omega (arith, e))
+from_free (suc (suc (suc (suc k))), below, e) = absurd (omega (arith, below))
+
+pub seed_is_first : (from : List ℕ) (more : List (List ℕ)) (job : SeedJob) → IsJob ((codes "--from=" ++ from) ∷ more) (Seed job)
+    → from ≡ codes "seed"
+seed_is_first from more job gives =
+    let spelling = gives.options.0 in
+    let has : Holds spelling.options (codes "from") (Some (codes "seed")) =
+    subst (λ (o : Option (List ℕ)). Holds spelling.options (codes "from") o) gives.asks.from gives.options.1.from in
+    first_value (codes "from") from (codes "seed") more spelling.options from_free spelling.spelled spelling.once has

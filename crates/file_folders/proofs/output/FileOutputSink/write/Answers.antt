@@ -1,9 +1,0 @@
-use Rattle.std.proofs.Common.{◌∙◌}
-use Rattle.file_folders.proofs.Gathering.{front_more}
-use Rattle.file_folders.proofs.output.FileOutputSink.write.Goals as goal
-
-pub loop-rest-preserved : goal.loop-rest-preserved
-loop-rest-preserved g c = (
-  front_more _ _ _ _ _ _ _ c.loop-rest.invariant.0.1 c.loop-rest.invariant.0.2 c.in-Ok.ensures.bytes,
-  c.in-Ok.ensures.cause.stays ∙ c.loop-rest.invariant.1,
-)
