@@ -9,8 +9,9 @@ usage: bench/gate.sh                       prints the table of the last run
                                            the table; PROCESSORS as taskset has them, such as 0,1
 
 For each crate the processor seconds of its proof, of its tests, of the checks that its wrong bodies begin and end with
-(seed), of its wrong bodies, and of what is compiled of a program; how many checks of wrong bodies there were, and the
-longest single check by the clock. The last line has the whole: minutes by the clock and of processor time.
+(seed; with an older kit among the wrong bodies), of its wrong bodies, and of what is compiled of a program; how many
+checks of wrong bodies there were, and the longest single check by the clock. The last line has the whole: minutes by
+the clock and of processor time, and by what a fixed loop took the pace of the machine meanwhile.
 END
 }
 
@@ -36,8 +37,13 @@ run)
         with=(taskset -c "$lanes")
         count=$("${with[@]}" nproc)
     fi
+    # a kit whose `rt ci` keeps what has passed has a flag for all from nothing; in an older one it does that anyway
+    gate=(rt ci)
+    if grep -qe --anew "$(readlink -f "$(command -v rt)")"; then
+        gate+=(--anew)
+    fi
     status=0
-    RT_JOBS=$count "${with[@]}" python3 "$top/bench/gate_times.py" run "$record" -- rt ci --anew || status=$?
+    RT_JOBS=$count "${with[@]}" python3 "$top/bench/gate_times.py" run "$record" -- "${gate[@]}" || status=$?
     python3 "$top/bench/gate_times.py" show "$record"
     exit "$status"
     ;;

@@ -1,7 +1,8 @@
 """Runs a whole gate and adds up, for each crate, the processor seconds of what it does.
 
 It looks at the running checks twice a second and takes for each process the last figure that it saw, so a check's last half
-second is lost; what all processes took together is told by the system, exactly.
+second is lost; what all processes took together is told by the system, exactly. Each ten seconds it times a fixed loop of its
+own, by which runs on machines of other speeds, or with other neighbours, can be compared.
 
     gate_times.py run RECORD -- COMMAND ..     runs the command and writes the record
     gate_times.py show RECORD                  prints the table
@@ -11,6 +12,7 @@ import json
 import os
 import re
 import resource
+import statistics
 import subprocess
 import sys
 import time
@@ -67,11 +69,21 @@ def look(seen, below):
         seen[key][3] = time.time()
 
 
+def pace():
+    """The processor time of a fixed loop, in milliseconds."""
+    began, total = time.process_time(), 0
+    for it in range(100_000):
+        total += it * it
+    return 1000 * (time.process_time() - began)
+
+
 def run(record, command):
     """Runs the command, prints what it prints, and writes what was seen."""
-    seen, began = {}, time.time()
+    seen, paces, began = {}, [], time.time()
     child = subprocess.Popen(command)
     while child.poll() is None:
+        if time.time() >= began + 10 * len(paces):
+            paces.append(pace())
         look(seen, child.pid)
         time.sleep(0.5)
     used = resource.getrusage(resource.RUSAGE_CHILDREN)
@@ -88,6 +100,7 @@ def run(record, command):
         "wall": time.time() - began,
         "processor": used.ru_utime + used.ru_stime,
         "processors": len(os.sched_getaffinity(0)),
+        "pace": statistics.mean(paces),
         "date": time.strftime("%Y-%m-%d"),
     }
     os.makedirs(os.path.dirname(record) or ".", exist_ok=True)
@@ -114,6 +127,8 @@ def show(record):
     print(f"{'all':<16}" + "".join(f"{sums[it]:8.0f}" for it in PARTS) + f"{every:8.0f}{sum(it[3] for it in rows):7d}")
     wall, processor = said["wall"] / 60, said["processor"] / 60
     print(f"{said['date']}, {said['processors']} processors: {wall:.1f} minutes, {processor:.1f} of processor time; status {said['status']}")
+    if "pace" in said:
+        print(f"a fixed loop took {said['pace']:.1f} ms of processor time meanwhile, on average")
 
 
 if __name__ == "__main__":

@@ -104,6 +104,15 @@ is_gone "several files to one, of which one is none" n.rnx
 run "what would be done" 0 - -n "${date[@]}" -o d.rnx log.ubx
 grep -qF "navlog --from ubx < 'log.ubx' | navbridge '--from=capture' '--to=rinex'" out || differs "what would be done" "$(cat out)"
 is_gone "what would be done" d.rnx
+mkdir path
+ln -s "$program" path/navbridge
+cp station.navcap "it's.navcap"
+run "the command for a name with a quote" 0 - -n "${date[@]}" -o "it's.rnx" "it's.navcap"
+PATH=$PWD/path:$PATH sh ./out 2> said || differs "the command for a name with a quote" "it fails"
+is_same "the command for a name with a quote" "it's.rnx" "$examples/station.rnx"
+input=station.navcap run "the command for standard input" 0 - -n "${date[@]}" -
+PATH=$PWD/path:$PATH sh ./out < station.navcap > made 2> said || differs "the command for standard input" "it fails"
+is_same "the command for standard input" made "$examples/station.rnx"
 run "the week of the clock" 0 "of the clock" -t rtcm -o w.rtcm3 ephemerides.rtcm3
 cp station.navcap "a name with blanks.navcap"
 run "a name with blanks" 0 "a name with blanks.list" -t list "a name with blanks.navcap"

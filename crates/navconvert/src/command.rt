@@ -7,7 +7,7 @@ ghost use Rattle.std.specs.String.{string_bytes};
 ghost use Rattle.clap.specs.Words.{all_of, app_of, found_of, rows_of, rule_of};
 ghost use Rattle.navconvert.specs.Commands.{IsCommand, ReadsWords, command_with};
 ghost use Rattle.navconvert.specs.Commands.{files_rule, has_flag, row_rule};
-ghost use Rattle.navconvert.specs.Commands.{value_in, with_short};
+ghost use Rattle.navconvert.specs.Commands.{value_in};
 ghost use Rattle.file_form.specs.Table.{kind_named, target_named};
 
 use clap::builder::ValueParser;
@@ -271,15 +271,7 @@ fn option_of<'a>(alloc: Global, row: &Row) -> Arg<'a>
         .value_parser(row.parser)
         .default_values(row.defaults)
         .help(row.help);
-    with_short(arg, row.short)
-}
-
-// With a short name.
-fn with_short<'a>(arg: Arg<'a>, short: Option<char>) -> Arg<'a>
-    ensures rule { rule_of result ≡ with_short short (rule_of arg.entry) }
-    ensures global { result.global ≡ arg.entry.global }
-{
-    match short {
+    match row.short {
         None => arg,
         Some(short) => arg.short(short),
     }

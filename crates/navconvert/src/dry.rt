@@ -49,7 +49,7 @@ fn show(task: &Task, first: &str, files: &[&str], kind: Kind, words: Option<&[St
         None => {
             line.text("navbridge");
             line.words(words);
-            line.files("< ", files);
+            line.files(" < ", files);
         }
     }
     line.end(task, first)
@@ -59,9 +59,9 @@ fn show(task: &Task, first: &str, files: &[&str], kind: Kind, words: Option<&[St
 // not navbridge.
 fn reader_of(kind: Kind, count: usize) -> Option<(&'static str, &'static str)> {
     match kind {
-        Kind::Ubx => Some(("navlog --from ubx", "< ")),
-        Kind::Sbf => Some(("navlog --from sbf", "< ")),
-        _ if count > 1 => Some(("cat", "")),
+        Kind::Ubx => Some(("navlog --from ubx", " < ")),
+        Kind::Sbf => Some(("navlog --from sbf", " < ")),
+        _ if count > 1 => Some(("cat", " ")),
         _ => None,
     }
 }
@@ -79,24 +79,36 @@ impl Line<'_> {
         self.whole = self.whole && print!(self.rt; "{text}").is_ok();
     }
 
-    // Prints a word in quotes, behind this mark.
+    // Prints a word in quotes, as a shell takes it, behind this mark.
     fn word(&mut self, mark: &str, word: &str) {
-        self.whole = self.whole && print!(self.rt; " {mark}'{word}'").is_ok();
+        self.text(mark);
+        let mut is_first = true;
+        for part in word.split('\'') {
+            if !is_first {
+                self.text("\\'");
+            }
+            self.text("'");
+            self.text(part);
+            self.text("'");
+            is_first = false;
+        }
     }
 
     // Prints words, where there are any.
     fn words(&mut self, words: Option<&[String]>) {
         if let Some(words) = words {
             for word in words {
-                self.word("", word.as_str());
+                self.word(" ", word.as_str());
             }
         }
     }
 
-    // Prints the names of files, each behind this mark.
+    // Prints the names of files, each behind this mark; none for standard input.
     fn files(&mut self, mark: &str, files: &[&str]) {
         for file in files {
-            self.word(mark, file);
+            if *file != "-" {
+                self.word(mark, file);
+            }
         }
     }
 
@@ -104,7 +116,7 @@ impl Line<'_> {
     fn end(&mut self, task: &Task, file: &str) -> u8 {
         let ending = ending_of(task.plan.target);
         if let Ok(name) = name_of(task.rt.alloc(), task.output, file, ending) {
-            self.word("> ", name.as_str());
+            self.word(" > ", name.as_str());
         }
         self.text("\n");
         if self.whole { 0 } else { 4 }

@@ -16,12 +16,25 @@ pub(crate) fn input_kind(
     task: &Task,
     opened: Result<Input, Refusal<'static>>,
 ) -> Result<Kind, Refusal<'static>> {
-    let mut input = Peeked::new(task.rt.alloc(), opened?);
-    match look(task.plan.form, &mut input) {
+    match opened {
+        Ok(input) => looked(task, input),
+        Err(refusal) => Err(refusal),
+    }
+}
+
+// The form under which an input is read.
+fn looked(task: &Task, input: Input) -> Result<Kind, Refusal<'static>> {
+    let mut input = Peeked::new(task.rt.alloc(), input);
+    let kind = look(task.plan.form, &mut input);
+    told(kind, fault_told(input.into_source().fault()))
+}
+
+// The form, or why there is none: what the input said of it.
+fn told(kind: Result<Kind, PeekFault>, fault: Option<FileFault>) -> Result<Kind, Refusal<'static>> {
+    match kind {
         Ok(kind) => Ok(kind),
         Err(PeekFault::NoMemory) => Err(Refusal::NoMemory),
         Err(PeekFault::ReadFault) => {
-            let fault = fault_told(input.into_source().fault());
             Err(Refusal::ReadFault(0, fault.unwrap_or(FileFault::Other)))
         }
     }

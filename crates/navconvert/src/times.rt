@@ -3,13 +3,13 @@
 ghost use Rattle.std.specs.Prelude.{◌+◌, ◌≤◌, length};
 
 use crate::files::Task;
-use crate::inputs::Input;
+use crate::inputs::{Input, fault_told};
 use crate::meter::Meter;
 use crate::notes::Notes;
 use crate::tally::Tally;
 use arrayvec::ArrayVec;
 use file_form::{Refusal, fits, long_name};
-use front_run::{Sourced, Told, refusal_of, write_source};
+use front_run::{Sourced, Told, refusal_of, told_by, write_source};
 use gnss_week::{Civil, Moment, moment_of};
 use nav_io::{Failed, Sink};
 use std::alloc::AllocError;
@@ -140,14 +140,14 @@ fn range_of<'a>(
     file: &'a str,
 ) -> Result<(Moment, Moment), Refusal<'a>> {
     let mut times = Times::new();
-    let Sourced { outcome, source: _ } = write_source(
+    let Sourced { outcome, source } = write_source(
         task.rt.alloc(),
         &task.plan,
         input,
         &mut times,
         untold(),
     );
-    match outcome.done {
+    match told_by(outcome.done, fault_told(source.fault()), None) {
         Ok(()) => times.range.ok_or(Refusal::NoTimes),
         Err(stop) => Err(refusal_of(&task.plan, stop, file, file)),
     }
