@@ -113,11 +113,17 @@ is_same "the command for a name with a quote" "it's.rnx" "$examples/station.rnx"
 input=station.navcap run "the command for standard input" 0 - -n "${date[@]}" -
 PATH=$PWD/path:$PATH sh ./out < station.navcap > made 2> said || differs "the command for standard input" "it fails"
 is_same "the command for standard input" made "$examples/station.rnx"
+run "the command for a long name" 0 - -n "${date[@]}" --long-name STAT00CCC -o in --report d.report station.navcap
+grep -qF "> 'in/STAT00CCC_R_20233650200_01H_MN.rnx'" out || differs "the command for a long name" "$(cat out)"
+is_gone "the command for a long name" d.report
 run "the week of the clock" 0 "of the clock" -t rtcm -o w.rtcm3 ephemerides.rtcm3
 cp station.navcap "a name with blanks.navcap"
 run "a name with blanks" 0 "a name with blanks.list" -t list "a name with blanks.navcap"
 run "a report" 0 "r.list" -t list --report r.report -o r.list station.navcap
 is_same "a report" r.report "$examples/station.report"
+cp station.navcap kept.navcap
+run "a report that is the input" 4 "kept.navcap is the input itself" -t list --overwrite --report kept.navcap kept.navcap
+is_same "a report that is the input" kept.navcap station.navcap
 run "help" 0 - --help
 grep -q -- --overwrite out || differs "help" "no option"
 run "version" 0 - --version

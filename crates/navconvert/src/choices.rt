@@ -3,7 +3,7 @@
 use crate::clock::ClockWords;
 use crate::command::Asked;
 use crate::files::{Task, convert_file, convert_joined};
-use crate::outputs::{Output, output_of};
+use crate::outputs::{Output, is_same_file, output_of};
 use crate::telling::tell_program;
 use file_folders::fault_of;
 use file_form::{Refusal, Target, Values, is_site};
@@ -46,15 +46,28 @@ fn refused<'a>(asked: &Asked<'a>) -> Option<Refusal<'a>> {
     }
 }
 
-// The file for reports, where one is named and what is asked can be done; it is not replaced without
-// leave.
+// The file for reports, where one is named and what is asked is to be done and can be.
 fn report_of<'a>(rt: &HostRuntime, asked: &Asked<'a>) -> Result<Option<File>, Refusal<'a>> {
     if let Some(refusal) = refused(asked) {
         return Err(refusal);
     }
-    let Some(name) = asked.value("report") else {
-        return Ok(None);
-    };
+    match asked.value("report") {
+        Some(name) if !asked.has("dry-run") => opened_report(rt, asked, name),
+        _ => Ok(None),
+    }
+}
+
+// The file of this name, for reports: it is no input, and is not replaced without leave.
+fn opened_report<'a>(
+    rt: &HostRuntime,
+    asked: &Asked<'a>,
+    name: &'a str,
+) -> Result<Option<File>, Refusal<'a>> {
+    for file in asked.files().unwrap_or(&[]) {
+        if is_same_file(rt, file, name) {
+            return Err(Refusal::SameFile(name));
+        }
+    }
     let mut options = OpenOptions::new();
     options.write(true).truncate(true).create(true);
     options.create_new(!asked.has("overwrite"));

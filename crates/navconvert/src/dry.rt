@@ -1,16 +1,15 @@
 //! The commands of `navbridge` that do the same.
 
-use crate::files::Task;
+use crate::files::{Task, named};
 use crate::forms::input_kind;
 use crate::inputs::opened;
-use crate::outputs::name_of;
 use crate::telling::tell_file;
-use file_form::{Kind, ending_of, is_copied};
+use file_form::{Kind, is_copied};
 use front_run::{refusal_of, words_under};
 
 /// Prints the command that does what is asked of files, the first of which has this name; the
 /// status.
-pub(crate) fn show_files(task: &Task, first: &str, files: &[&str]) -> u8 {
+pub(crate) fn show_files<'a>(task: &Task<'a>, first: &'a str, files: &'a [&'a str]) -> u8 {
     match input_kind(task, opened(task.rt, files)) {
         Ok(kind) => show_kind(task, first, files, kind),
         Err(refusal) => tell_file(task.rt, first, &refusal),
@@ -18,7 +17,7 @@ pub(crate) fn show_files(task: &Task, first: &str, files: &[&str]) -> u8 {
 }
 
 // Prints the command for files of this form.
-fn show_kind(task: &Task, first: &str, files: &[&str], kind: Kind) -> u8 {
+fn show_kind<'a>(task: &Task<'a>, first: &'a str, files: &'a [&'a str], kind: Kind) -> u8 {
     if is_copied(kind, task.plan.target) {
         return show(task, first, files, kind, None);
     }
@@ -32,7 +31,13 @@ fn show_kind(task: &Task, first: &str, files: &[&str], kind: Kind) -> u8 {
 }
 
 // Prints the command in which navbridge has these words, where it has a part in it.
-fn show(task: &Task, first: &str, files: &[&str], kind: Kind, words: Option<&[String]>) -> u8 {
+fn show<'a>(
+    task: &Task<'a>,
+    first: &'a str,
+    files: &'a [&'a str],
+    kind: Kind,
+    words: Option<&[String]>,
+) -> u8 {
     let mut line = Line {
         rt: task.rt,
         whole: true,
@@ -52,7 +57,7 @@ fn show(task: &Task, first: &str, files: &[&str], kind: Kind, words: Option<&[St
             line.files(" < ", files);
         }
     }
-    line.end(task, first)
+    line.end(task, first, files)
 }
 
 // The program that reads so many files of this form, and the mark before their names, where that is
@@ -113,9 +118,8 @@ impl Line<'_> {
     }
 
     // Prints where the command writes, and ends the line; the status.
-    fn end(&mut self, task: &Task, file: &str) -> u8 {
-        let ending = ending_of(task.plan.target);
-        if let Ok(name) = name_of(task.rt.alloc(), task.output, file, ending) {
+    fn end<'a>(&mut self, task: &Task<'a>, first: &'a str, files: &'a [&'a str]) -> u8 {
+        if let Ok(name) = named(task, first, files) {
             self.word(" > ", name.as_str());
         }
         self.text("\n");

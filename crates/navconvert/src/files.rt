@@ -85,8 +85,12 @@ fn convert<'a>(task: &Task<'a>, first: &'a str, files: &'a [&'a str]) -> u8 {
     }
 }
 
-// The name of the output.
-fn named<'a>(task: &Task<'a>, first: &'a str, files: &'a [&'a str]) -> Result<String, Refusal<'a>> {
+/// The name of the output.
+pub(crate) fn named<'a>(
+    task: &Task<'a>,
+    first: &'a str,
+    files: &'a [&'a str],
+) -> Result<String, Refusal<'a>> {
     let alloc = task.rt.alloc();
     let Some(site) = task.site else {
         return name_of(alloc, task.output, first, ending_of(task.plan.target));

@@ -152,6 +152,14 @@ pub(crate) fn taken<'a>(
     }
 }
 
+/// Whether both names are those of one file.
+pub(crate) fn is_same_file(rt: &HostRuntime, name: &str, other: &str) -> bool {
+    match fs::metadata(rt, other) {
+        Ok(there) => is_same(rt, name, &there),
+        Err(_) => false,
+    }
+}
+
 // Whether the name is that of a file with this metadata.
 fn is_same(rt: &HostRuntime, name: &str, other: &Metadata) -> bool {
     match fs::metadata(rt, name) {
