@@ -1,4 +1,4 @@
-use Rattle.std.proofs.Common.{inl, inr}
+use Rattle.std.proofs.Common.{inl, inr, rules}
 use Rattle.file_step.proofs.Putting.{granted, put_made, refuted, rose_more, stays_more}
 use Rattle.file_step.proofs.step.put_output.Goals as goal
 
@@ -6,7 +6,7 @@ pub returns-in-Err-clause-put : goal.returns-in-Err-clause-put
 returns-in-Err-clause-put g c = tt
 
 pub returns-in-Err-run-clause-stays : goal.returns-in-Err-run-clause-stays
-returns-in-Err-run-clause-stays g c = stays_more _ _ _ _ c.draft.ensures.others c.discard-told.ensures.stays
+returns-in-Err-run-clause-stays g c = stays_more _ _ _ _ c.draft.ensures.others (search rules)
 
 pub returns-in-Ok-publish-clause-put : goal.returns-in-Ok-publish-clause-put
 returns-in-Ok-publish-clause-put g c =
