@@ -116,6 +116,10 @@ is_same "the command for standard input" made "$examples/station.rnx"
 run "the command for a long name" 0 - -n "${date[@]}" --long-name STAT00CCC -o in --report d.report station.navcap
 grep -qF "> 'in/STAT00CCC_R_20233650200_01H_MN.rnx'" out || differs "the command for a long name" "$(cat out)"
 is_gone "the command for a long name" d.report
+head -n 1 station.navcap > bare.navcap
+for it in "" -n; do
+  run "a long name without a time${it:+, and the command}" 5 "bare.navcap: it has no ephemeris" ${it:+"$it"} --long-name STAT00CCC bare.navcap
+done
 run "the week of the clock" 0 "of the clock" -t rtcm -o w.rtcm3 ephemerides.rtcm3
 cp station.navcap "a name with blanks.navcap"
 run "a name with blanks" 0 "a name with blanks.list" -t list "a name with blanks.navcap"

@@ -1,28 +1,28 @@
 //! The commands of `navbridge` that do the same.
 
-use crate::files::{Task, named};
+use crate::files::Task;
 use crate::forms::input_kind;
 use crate::inputs::opened;
 use crate::telling::tell_file;
 use file_form::{Kind, is_copied};
 use front_run::{refusal_of, words_under};
 
-/// Prints the command that does what is asked of files, the first of which has this name; the
-/// status.
-pub(crate) fn show_files<'a>(task: &Task<'a>, first: &'a str, files: &'a [&'a str]) -> u8 {
+/// Prints the command that does what is asked of files, the first of which has this name, and where
+/// its output goes; the status.
+pub(crate) fn show_files(task: &Task, first: &str, files: &[&str], name: Option<&str>) -> u8 {
     match input_kind(task, opened(task.rt, files)) {
-        Ok(kind) => show_kind(task, first, files, kind),
+        Ok(kind) => show_kind(task, first, files, name, kind),
         Err(refusal) => tell_file(task.rt, first, &refusal),
     }
 }
 
 // Prints the command for files of this form.
-fn show_kind<'a>(task: &Task<'a>, first: &'a str, files: &'a [&'a str], kind: Kind) -> u8 {
+fn show_kind(task: &Task, first: &str, files: &[&str], name: Option<&str>, kind: Kind) -> u8 {
     if is_copied(kind, task.plan.target) {
-        return show(task, first, files, kind, None);
+        return show(task.rt, files, name, kind, None);
     }
     match words_under(task.rt.alloc(), &task.plan, kind) {
-        Ok(words) => show(task, first, files, kind, Some(words.as_slice())),
+        Ok(words) => show(task.rt, files, name, kind, Some(words.as_slice())),
         Err(stop) => {
             let refusal = refusal_of(&task.plan, stop, first, first);
             tell_file(task.rt, first, &refusal)
@@ -31,17 +31,14 @@ fn show_kind<'a>(task: &Task<'a>, first: &'a str, files: &'a [&'a str], kind: Ki
 }
 
 // Prints the command in which navbridge has these words, where it has a part in it.
-fn show<'a>(
-    task: &Task<'a>,
-    first: &'a str,
-    files: &'a [&'a str],
+fn show(
+    rt: &HostRuntime,
+    files: &[&str],
+    name: Option<&str>,
     kind: Kind,
     words: Option<&[String]>,
 ) -> u8 {
-    let mut line = Line {
-        rt: task.rt,
-        whole: true,
-    };
+    let mut line = Line { rt, whole: true };
     match reader_of(kind, files.len()) {
         Some((program, mark)) => {
             line.text(program);
@@ -57,7 +54,7 @@ fn show<'a>(
             line.files(" < ", files);
         }
     }
-    line.end(task, first, files)
+    line.end(name)
 }
 
 // The program that reads so many files of this form, and the mark before their names, where that is
@@ -118,9 +115,9 @@ impl Line<'_> {
     }
 
     // Prints where the command writes, and ends the line; the status.
-    fn end<'a>(&mut self, task: &Task<'a>, first: &'a str, files: &'a [&'a str]) -> u8 {
-        if let Ok(name) = named(task, first, files) {
-            self.word(" > ", name.as_str());
+    fn end(&mut self, name: Option<&str>) -> u8 {
+        if let Some(name) = name {
+            self.word(" > ", name);
         }
         self.text("\n");
         if self.whole { 0 } else { 4 }

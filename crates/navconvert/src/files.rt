@@ -72,25 +72,29 @@ fn refused_form<'a>(task: &Task<'a>, file: &'a str) -> Option<u8> {
 
 // Makes one output of files, the first of which has this name, `-` for standard input; the status.
 fn convert<'a>(task: &Task<'a>, first: &'a str, files: &'a [&'a str]) -> u8 {
-    if task.dry {
-        return show_files(task, first, files);
-    }
     match task.output {
-        Output::Standard => to_standard(task, first, files),
-        Output::Beside if first == "-" && files.len() == 1 => to_standard(task, first, files),
+        Output::Standard => convert_to(task, first, files, None),
+        Output::Beside if first == "-" && files.len() == 1 => convert_to(task, first, files, None),
         _ => match named(task, first, files) {
-            Ok(name) => put_free(task, first, files, name.as_str()),
+            Ok(name) => convert_to(task, first, files, Some(name.as_str())),
             Err(refusal) => tell_file(task.rt, first, &refusal),
         },
     }
 }
 
-/// The name of the output.
-pub(crate) fn named<'a>(
-    task: &Task<'a>,
-    first: &'a str,
-    files: &'a [&'a str],
-) -> Result<String, Refusal<'a>> {
+// Makes the output of this name, or that on standard output, or shows the command for it.
+fn convert_to<'a>(task: &Task<'a>, first: &'a str, files: &'a [&'a str], name: Option<&str>) -> u8 {
+    if task.dry {
+        return show_files(task, first, files, name);
+    }
+    match name {
+        Some(name) => put_free(task, first, files, name),
+        None => to_standard(task, first, files),
+    }
+}
+
+// The name of the output.
+fn named<'a>(task: &Task<'a>, first: &'a str, files: &'a [&'a str]) -> Result<String, Refusal<'a>> {
     let alloc = task.rt.alloc();
     let Some(site) = task.site else {
         return name_of(alloc, task.output, first, ending_of(task.plan.target));
