@@ -5,10 +5,12 @@ ghost use Rattle.std.specs.Option.{option_map};
 ghost use Rattle.file_step.specs.Files.{Publishes, Stays};
 ghost use Rattle.file_folders.specs.Entries.{Sets, bytes_at, contents_of};
 
-use crate::draft::MemDraft;
 use file_step::FileFault;
-use nav_io::Sink;
+use nav_io::{Sink, WriteSink};
 use std::alloc::{AllocError, Global};
+
+/// A file in memory that is written.
+pub type MemDraft = WriteSink<Vec<u8>>;
 
 /// A change of a name: now a file with these bytes, or none.
 #[derive(Drop)]
@@ -67,19 +69,19 @@ pub fn published(
     requires { part.now ≢ name.now }
     ensures put { OnOk result (Publishes (Some (bytes_at entries.old.items))
         (Some (bytes_at entries.new.items)) part.now name.now
-        (⟦<MemDraft as Sink>⟧.written draft)) }
-    ensures whole { OnOk result (⟦<MemDraft as Sink>⟧.faults draft ≡ 0) }
+        (⟦<WriteSink<Vec<u8>> as Sink>⟧.written draft)) }
+    ensures whole { OnOk result (⟦<WriteSink<Vec<u8>> as Sink>⟧.faults draft ≡ 0) }
     ensures stays { OnErr result (Stays (Some (bytes_at entries.old.items))
         (Some (bytes_at entries.new.items)) part.now) }
     ensures cause { IfErr result (λ fault. fault ≡ FileFault.NoMemory) }
 {
-    if draft.faults() != 0 {
+    if draft.fault().is_some() {
         return Err(FileFault::NoMemory);
     }
     if set(alloc, entries, part, None).is_err() {
         return Err(FileFault::NoMemory);
     }
-    match set(alloc, entries, name, Some(draft.into_bytes())) {
+    match set(alloc, entries, name, Some(draft.into_writer())) {
         Ok(()) => Ok(()),
         Err(_) => Err(FileFault::NoMemory),
     }

@@ -1,6 +1,7 @@
 //! The files of the system.
 
-ghost use Rattle.std.specs.Prelude.{◌≡◌, IfOk, IsNone};
+ghost use Rattle.std.specs.Prelude.{◌≡◌, ◌≤◌, IfOk, IsNone};
+ghost use Rattle.nav_io.specs.Causes.{Rose};
 
 use crate::faults::{Faults, fault_of};
 use crate::gathered::{Gathered, ROOM};
@@ -28,6 +29,16 @@ impl<'a, R: Files> HostFolder<'a, R> {
             files,
             faults: Faults { count: 0 },
         }
+    }
+
+    /// Counts a fault of a call that was made beside it.
+    pub fn failed(&mut self, fault: FileFault) -> FileFault
+        ensures later { ⟦<HostFolder<'a, R> as Folder>⟧.faults self.old
+            ≤ ⟦<HostFolder<'a, R> as Folder>⟧.faults self.new }
+        ensures rose { Rose (⟦<HostFolder<'a, R> as Folder>⟧.faults self.old)
+            (⟦<HostFolder<'a, R> as Folder>⟧.faults self.new) }
+    {
+        self.faults.failed(fault)
     }
 }
 

@@ -3,8 +3,8 @@
 //! - [`HostFolder`], the files of the system as a folder; [`Gathered`], a file that is written, and
 //!   [`fault_of`], why a call failed;
 //! - [`MemFolder`], a folder in memory, which tells the bytes of each of its files: a list of
-//!   changes of names, the newest first ([`Entry`], [`set`], [`found`]), with [`MemDraft`], a file
-//!   that is being written, to which [`published`] gives its name.
+//!   changes of names, the newest first ([`Entry`], [`set`], [`found`]), and [`published`], which
+//!   gives a file that was written its name.
 //!
 //! ```rust
 //! let mut folder = HostFolder::new(rt.alloc(), &rt);
@@ -13,15 +13,13 @@
 //! ```
 #![tactic(auto)]
 
-mod draft;
 mod entries;
 mod faults;
 mod gathered;
 mod host;
 mod memory;
 
-pub use crate::draft::MemDraft;
-pub use crate::entries::{Entry, found, published, set};
+pub use crate::entries::{Entry, MemDraft, found, published, set};
 pub use crate::faults::fault_of;
 pub use crate::gathered::Gathered;
 pub use crate::host::HostFolder;

@@ -6,11 +6,10 @@ ghost use Rattle.std.specs.Option.{option_map};
 ghost use Rattle.file_step.specs.Files.{Opens};
 ghost use Rattle.file_folders.specs.Entries.{Sets, bytes_at};
 
-use crate::draft::MemDraft;
-use crate::entries::{Entry, found, published, set};
+use crate::entries::{Entry, MemDraft, found, published, set};
 use crate::faults::Faults;
 use file_step::{FileFault, Folder};
-use nav_io::{ReadSource, Sink, Source};
+use nav_io::{ReadSource, Sink, Source, WriteSink};
 use std::alloc::{AllocError, Global};
 use std::io::Cursor;
 
@@ -102,7 +101,7 @@ impl Folder for MemFolder {
 
     /// Removes the part.
     fn discard(&mut self, draft: MemDraft, part: &str) -> Result<(), FileFault> {
-        if set(self.alloc, &mut self.entries, part, None).is_err() || draft.faults() != 0 {
+        if set(self.alloc, &mut self.entries, part, None).is_err() || draft.fault().is_some() {
             return Err(self.faults.failed(FileFault::NoMemory));
         }
         Ok(())
@@ -126,8 +125,8 @@ fn opened(alloc: Global, entries: &[Entry], name: &str) -> Result<MemInput, File
 // Creates an empty file with this name, which no file has.
 fn begun(alloc: Global, entries: &mut Vec<Entry>, part: &str) -> Result<MemDraft, FileFault>
     ensures none { OnOk result (bytes_at entries.old.items part.now ≡ None) }
-    ensures empty { IfOk result (λ draft. ⟦<MemDraft as Sink>⟧.written draft ≡ Some []) }
-    ensures faults { IfOk result (λ draft. ⟦<MemDraft as Sink>⟧.faults draft ≡ 0) }
+    ensures empty { IfOk result (λ draft. ⟦<WriteSink<Vec<u8>> as Sink>⟧.written draft ≡ Some []) }
+    ensures faults { IfOk result (λ draft. ⟦<WriteSink<Vec<u8>> as Sink>⟧.faults draft ≡ 0) }
     ensures others { (other : List ℕ) → other ≢ part.now
         → bytes_at entries.new.items other ≡ bytes_at entries.old.items other }
 {
@@ -135,7 +134,7 @@ fn begun(alloc: Global, entries: &mut Vec<Entry>, part: &str) -> Result<MemDraft
         return Err(FileFault::AlreadyThere);
     }
     match set(alloc, entries, part, Some(Vec::new(alloc))) {
-        Ok(()) => Ok(MemDraft::new(alloc)),
+        Ok(()) => Ok(WriteSink::new(Vec::new(alloc))),
         Err(_) => Err(FileFault::NoMemory),
     }
 }

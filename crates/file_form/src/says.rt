@@ -246,15 +246,10 @@ impl fmt::Display for Refusal<'_> {
         if let Refusal::ReadFault(count, _) = self {
             write!(f, "reading it failed after {count} bytes: ")?;
         }
-        for text in &[
-            self.before(),
-            self.name(),
-            self.after(),
-            self.reason(),
-            self.state(),
-        ] {
-            f.write_str(text)?;
-        }
-        Ok(())
+        f.write_str(self.before())?;
+        f.write_str(self.name())?;
+        f.write_str(self.after())?;
+        f.write_str(self.reason())?;
+        f.write_str(self.state())
     }
 }

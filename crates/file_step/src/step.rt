@@ -6,7 +6,7 @@ ghost use Rattle.std.specs.Prelude.{OnOk, OnErr};
 ghost use Rattle.std.specs.Io.KnownBytes.{Appends};
 ghost use Rattle.nav_io.specs.Causes.{Rose};
 ghost use Rattle.file_step.specs.Files.{Publishes, Stays};
-ghost use Rattle.file_step.specs.Steps.{BrokeOff, Lacks};
+ghost use Rattle.file_step.specs.Steps.{BrokeOff, Finishes, Lacks};
 
 use crate::faults::FileFault;
 use crate::folder::Folder;
@@ -84,12 +84,29 @@ pub fn put_output<F: Folder, S: Source, C: Conversion>(
         Ok(draft) => draft,
         Err(fault) => return Err(StepFault::Begin(fault)),
     };
-    if let Err(fault) = conversion.run(input, &mut draft) {
-        let told = folder.discard(draft, part);
-        return Err(StepFault::Run(fault, told));
-    }
-    match folder.publish(draft, part, name) {
-        Ok(()) => Ok(()),
-        Err(fault) => Err(StepFault::Publish(fault)),
+    let ran = conversion.run(input, &mut draft);
+    finished(folder, draft, ran, part, name)
+}
+
+// Gives the draft its name where the conversion ran to its end, or gives it up.
+fn finished<F: Folder, E: Drop>(
+    folder: &mut F,
+    draft: F::Draft,
+    ran: Result<(), E>,
+    part: &str,
+    name: &str,
+) -> Result<(), StepFault<E>>
+    requires { part.now ≢ name.now }
+    ensures later { F.faults folder.old ≤ F.faults folder.new }
+    ensures ends { Finishes (Publishes (F.files folder.old) (F.files folder.new) part.now name.now
+        (F.Draft.written draft)) (Stays (F.files folder.old) (F.files folder.new) part.now)
+        (F.Draft.faults draft) (F.faults folder.old) (F.faults folder.new) ran result }
+{
+    match ran {
+        Ok(()) => match folder.publish(draft, part, name) {
+            Ok(()) => Ok(()),
+            Err(fault) => Err(StepFault::Publish(fault)),
+        },
+        Err(fault) => Err(StepFault::Run(fault, folder.discard(draft, part))),
     }
 }

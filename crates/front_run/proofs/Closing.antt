@@ -94,11 +94,6 @@ lacks_of plan (Some bytes) left task reads reads_new inner inner_new reports rep
     (λ rose. no_report (rose_same told reports told_new reports_new report (sym report_new) rose))
     no_file))
 
--- the same, said in another order
-pub swapped : (left : Option (List ℕ)) (Can : List ℕ → Type 0) (A B C D : Type 0) → IfSome left (λ read. Can read → A → B → C → D)
-    → IfSome left (λ read. Can read → A → C → B → D)
-swapped left Can A B C D all = mapped left _ _ (λ read each can a c b. each can a b c) all
-
 -- ---- one that was not
 
 pub none_ok : (done : Result (Unit {0}) Stop) (A : Type 0) → OnOk done ⊥ → OnOk done A

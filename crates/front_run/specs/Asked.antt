@@ -2,7 +2,6 @@
 use Rattle.std.specs.Prelude.{◌≡◌, ◌<◌, ◌^◌, ℕ, List, length, Bool, true, false, Option, None, Some, IsSome}
 use Rattle.file_form.specs.Kinds.{kind_of}
 use Rattle.file_form.specs.declared.Kind.{Kind}
-use Rattle.std.specs.Io.KnownBytes.{Appends}
 use Rattle.file_step.specs.Files.{Publishes, Puts}
 use Rattle.bridge_engine.specs.Job.{IsJob}
 use Rattle.bridge_engine.specs.Meanings.{meaning_of}
@@ -66,7 +65,3 @@ ConvertsAs plan (Some old) (Some new) from part name =
 -- the same of a source with these bytes
 abbrev pub PutsAs : Plan → List ℕ → Option (List ℕ → Option (List ℕ)) → Option (List ℕ → Option (List ℕ)) → List ℕ → List ℕ → Type 0
 PutsAs plan bytes old new part name = (made : List ℕ) × Makes plan bytes made × Publishes old new part name (Some made)
-
--- what is made of these bytes was written
-abbrev pub WritesAs : Plan → List ℕ → Option (List ℕ) → Option (List ℕ) → Type 0
-WritesAs plan bytes old new = (made : List ℕ) × Makes plan bytes made × Appends old new made

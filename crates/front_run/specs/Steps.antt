@@ -1,6 +1,5 @@
 -- How a conversion begins and ends.
 use Rattle.std.specs.Prelude.{◌≡◌, ◌⊎◌, ◌<◌, ◌≤◌, ◌^◌, ℕ, List, length, Option, Some, Result, Ok, Err, IfErr, IfSome, OnOk}
-use Rattle.std.specs.Option.{option_or}
 use Rattle.nav_io.specs.Causes.{Rose}
 use Rattle.file_step.specs.Steps.{BrokeOff, Lacks}
 use Rattle.file_step.specs.declared.faults.FileFault.{FileFault}
@@ -35,12 +34,11 @@ EndsSo lacks (Ok x) (Err stop) = ⊥
 EndsSo lacks (Err fault) (Ok y) = ⊥
 EndsSo lacks (Err fault) (Err stop) = lacks fault → IsLack stop
 
--- how it ended, with what its input and its output say of a call that failed, where that is not said yet
-abbrev pub told_by : Result (Unit {0}) Stop → Option FileFault → Option FileFault → Result (Unit {0}) Stop
-told_by (Err (stops.Look told)) read put = Err (stops.Look (option_or told read))
-told_by (Err (stops.Run kind status count told_read told_put)) read put =
-    Err (stops.Run kind status count (option_or told_read read) (option_or told_put put))
-told_by done read put = done
+-- how it ended, with what its input says of a read that failed
+abbrev pub told_by : Result (Unit {0}) Stop → Option FileFault → Result (Unit {0}) Stop
+told_by (Err (stops.Look told)) read = Err (stops.Look read)
+told_by (Err (stops.Run kind status count told put)) read = Err (stops.Run kind status count read put)
+told_by done read = done
 
 -- of a source with these bytes this is left to read, of which the task makes what the plan asks; and the task takes that, where they
 -- can be converted

@@ -1,17 +1,17 @@
-//! From the file of one name, or a source, to the file of another, or to a sink.
+//! From the file of one name, or a source, to the file of another.
 
 ghost use Rattle.std.specs.Prelude.{◌≡◌, ◌≢◌, ◌≤◌, IfErr, IfSome, OnErr, OnOk};
 ghost use Rattle.nav_io.specs.Causes.{Rose};
 ghost use Rattle.file_step.specs.Files.{Stays};
 ghost use Rattle.file_step.specs.Steps.{bytes_of};
-ghost use Rattle.front_run.specs.Asked.{CanConvert, ConvertsAs, PutsAs, WritesAs};
+ghost use Rattle.front_run.specs.Asked.{CanConvert, ConvertsAs, PutsAs};
 ghost use Rattle.front_run.specs.Steps.{IsLack};
 
 use crate::begun::begin;
 use crate::ends::{Outcome, Sourced, Told, ended, told_by};
 use crate::plans::Plan;
 use crate::stops::Stop;
-use file_step::{Conversion, Folder, Progress, StepFault, put_output};
+use file_step::{Folder, Progress, put_output};
 use nav_io::{Sink, Source};
 use receiver_log::Refusals;
 use std::alloc::Global;
@@ -51,7 +51,7 @@ pub fn convert_one<F: Folder, U: Sink, N: Refusals, P: Progress>(
             let Sourced { outcome, source } = left;
             let closed = folder.close(source);
             let mut outcome = outcome;
-            outcome.done = told_by(outcome.done, closed.err(), None);
+            outcome.done = told_by(outcome.done, closed.err());
             outcome
         }
         Err(fault) => Outcome::stopped(Stop::Open(fault), told.report),
@@ -93,39 +93,6 @@ pub fn convert_source<F: Folder, S: Source, U: Sink, N: Refusals, P: Progress>(
             let done = put_output(folder, &mut begun.run, &mut begun.input, part, name);
             ended(begun, done)
         }
-        Err(stopped) => stopped,
-    }
-}
-
-/// Writes what is made of what a source gives.
-///
-/// # Errors
-///
-/// A part of it may be written.
-pub fn write_source<S: Source, T: Sink, U: Sink, N: Refusals, P: Progress>(
-    alloc: Global,
-    plan: &Plan,
-    source: S,
-    output: &mut T,
-    told: Told<U, N, P>,
-) -> Sourced<U, S>
-    ensures writes { OnOk result.outcome.done (IfSome (S.left source) (λ bytes.
-        WritesAs plan.now bytes (T.written output.old) (T.written output.new))) }
-
-    // It is done where the bytes of the source are accepted and nothing fails, but for want of
-    // memory or of a log's 2^64 - 16,384 bytes.
-    ensures complete { IfSome (S.left source) (λ bytes.
-        CanConvert plan.now bytes
-        → ¬ Rose (S.faults source) (S.faults result.source)
-        → ¬ Rose (U.faults told.report) (U.faults result.outcome.report)
-        → ¬ Rose (T.faults output.old) (T.faults output.new)
-        → IfErr result.outcome.done IsLack) }
-{
-    match begin(alloc, plan, source, told) {
-        Ok(mut begun) => match begun.run.run(&mut begun.input, output) {
-            Ok(()) => ended(begun, Ok(())),
-            Err(status) => ended(begun, Err(StepFault::Run(status, Ok(())))),
-        },
         Err(stopped) => stopped,
     }
 }

@@ -111,24 +111,16 @@ fn stopped_by(kind: Kind, done: Result<(), StepFault<u8>>, count: u64) -> Result
     }
 }
 
-/// How a conversion ended, with what its input and its output say of a call that failed.
-pub fn told_by(
-    done: Result<(), Stop>,
-    read: Option<FileFault>,
-    put: Option<FileFault>,
-) -> Result<(), Stop>
+/// How a conversion ended, with what its input says of a read that failed.
+pub(crate) fn told_by(done: Result<(), Stop>, read: Option<FileFault>) -> Result<(), Stop>
     ensures ends { EndsSo IsLack done result }
-    ensures told { result ≡ told_by done read put }
+    ensures told { result ≡ told_by done read }
 {
     match done {
-        Err(Stop::Look(told)) => Err(Stop::Look(told.or(read))),
-        Err(Stop::Run(kind, status, count, told_read, told_put)) => Err(Stop::Run(
-            kind,
-            status,
-            count,
-            told_read.or(read),
-            told_put.or(put),
-        )),
+        Err(Stop::Look(_)) => Err(Stop::Look(read)),
+        Err(Stop::Run(kind, status, count, _, put)) => {
+            Err(Stop::Run(kind, status, count, read, put))
+        }
         _ => done,
     }
 }

@@ -4,8 +4,7 @@
 //! - [`Plan`], what is asked of each file, and [`words_under`], its words under a form;
 //! - [`convert_one`], from the file of one name to that of another: the whole of what is made of
 //!   its bytes, or every name as it was; and it is done where nothing fails;
-//! - [`convert_source`] and [`write_source`], the same from a source, which is given back, and to a
-//!   sink;
+//! - [`convert_source`], the same from a source, which is given back;
 //! - [`finish`], which has said what became of a file, and gives its exit status.
 //!
 //! A log of a receiver is converted as its capture, and to a capture it is that capture itself.
@@ -33,9 +32,9 @@ mod tasks;
 mod telling;
 
 pub use crate::asked::AskedJob;
-pub use crate::convert::{convert_one, convert_source, write_source};
+pub use crate::convert::{convert_one, convert_source};
 pub use crate::copies::copy;
-pub use crate::ends::{Outcome, Sourced, Told, told_by};
+pub use crate::ends::{Outcome, Sourced, Told};
 pub use crate::laws::stops_have_one_refusal;
 pub use crate::looking::look;
 pub use crate::plans::{Plan, words_under};

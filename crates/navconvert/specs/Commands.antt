@@ -1,5 +1,5 @@
 -- The command line of `navconvert`, as `clap` reads it.
-use Rattle.std.specs.Prelude.{◌≡◌, ◌^◌, ◌-◌, ℕ, Bool, true, false, pos, List, [], ◌∷◌, ◌++◌, map, codes, bytes_eq, length, Option, None, Some, Result, IfOk}
+use Rattle.std.specs.Prelude.{◌≡◌, ◌^◌, ◌-◌, ℕ, Bool, true, false, pos, List, [], ◌∷◌, map, codes, bytes_eq, length, Option, None, Some, Result, IfOk}
 use Rattle.std.specs.Option.{option_map_or}
 use Rattle.std.specs.Borrow.{Bor}
 use Rattle.clap.specs.Words.{App, FailsBy, Row, Rule, Text, fault_of, first_of, found_of, matches_of, new_rule, rows_of}

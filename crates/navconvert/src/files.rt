@@ -2,12 +2,10 @@
 
 use crate::dry::show_files;
 use crate::forms::file_kind;
-use crate::inputs::opened;
 use crate::outputs::{Output, is_file, is_folder, name_of, placed, taken};
-use crate::standard::to_standard;
-use crate::steps::put;
+use crate::steps::{put, to_standard};
 use crate::telling::tell_file;
-use crate::times::long_name_from;
+use crate::times::long_name_of;
 use file_form::{Kind, Refusal, Target, ending_of, is_copied, row_of};
 use file_step::FileFault;
 use front_run::Plan;
@@ -115,10 +113,7 @@ fn times_name<'a>(
     if first == "-" || !is_navigation(task.plan.target) {
         return Err(Refusal::NoLongName);
     }
-    match opened(task.rt, files) {
-        Ok(input) => long_name_from(task, input, first, site),
-        Err(refusal) => Err(refusal),
-    }
+    long_name_of(task, first, files, site)
 }
 
 // Whether a navigation file is made.

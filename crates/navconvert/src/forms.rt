@@ -1,10 +1,12 @@
 //! The forms of files.
 
 use crate::files::Task;
-use crate::inputs::{Input, fault_told, opened_first};
+use crate::inputs::{Input, opened_first};
+use file_folders::fault_of;
 use file_form::{Kind, Refusal};
 use file_step::{FileFault, PeekFault, Peeked};
 use front_run::look;
+use std::io::ErrorKind;
 
 /// The form under which a file is read.
 pub(crate) fn file_kind(task: &Task, file: &str) -> Result<Kind, Refusal<'static>> {
@@ -14,11 +16,11 @@ pub(crate) fn file_kind(task: &Task, file: &str) -> Result<Kind, Refusal<'static
 /// The form under which an input that was opened is read.
 pub(crate) fn input_kind(
     task: &Task,
-    opened: Result<Input, Refusal<'static>>,
+    opened: Result<Input, FileFault>,
 ) -> Result<Kind, Refusal<'static>> {
     match opened {
         Ok(input) => looked(task, input),
-        Err(refusal) => Err(refusal),
+        Err(fault) => Err(Refusal::NotOpened(fault)),
     }
 }
 
@@ -26,16 +28,16 @@ pub(crate) fn input_kind(
 fn looked(task: &Task, input: Input) -> Result<Kind, Refusal<'static>> {
     let mut input = Peeked::new(task.rt.alloc(), input);
     let kind = look(task.plan.form, &mut input);
-    told(kind, fault_told(input.into_source().fault()))
+    told(kind, input.into_source().fault())
 }
 
 // The form, or why there is none: what the input said of it.
-fn told(kind: Result<Kind, PeekFault>, fault: Option<FileFault>) -> Result<Kind, Refusal<'static>> {
+fn told(kind: Result<Kind, PeekFault>, fault: Option<ErrorKind>) -> Result<Kind, Refusal<'static>> {
     match kind {
         Ok(kind) => Ok(kind),
         Err(PeekFault::NoMemory) => Err(Refusal::NoMemory),
         Err(PeekFault::ReadFault) => {
-            Err(Refusal::ReadFault(0, fault.unwrap_or(FileFault::Other)))
+            Err(Refusal::ReadFault(0, fault_of(fault.unwrap_or(ErrorKind::Other))))
         }
     }
 }

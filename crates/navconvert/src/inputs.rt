@@ -1,25 +1,17 @@
 //! What is read: standard input, or files, concatenated.
 
+ghost use Rattle.std.specs.Prelude.{◌≡◌, IfOk};
 ghost use Rattle.std.specs.Io.{ReadsAtMost};
 
 use file_folders::fault_of;
-use file_form::Refusal;
 use file_step::FileFault;
-use nav_io::ReadSource;
+use nav_io::{ReadSource, Source};
 use std::fs::File;
-use std::io::{ErrorKind, Read, Stdin};
+use std::io::{Read, Stdin};
 use std::{fs, io};
 
 /// An input that is opened.
 pub(crate) type Input<'a> = ReadSource<Bytes<'a>>;
-
-/// What an error of a kind says, where there was one.
-pub(crate) fn fault_told(kind: Option<ErrorKind>) -> Option<FileFault> {
-    match kind {
-        None => None,
-        Some(kind) => Some(fault_of(kind)),
-    }
-}
 
 /// The bytes of standard input, or of files.
 #[derive(Drop)]
@@ -74,15 +66,14 @@ impl Read for Bytes<'_> {
     }
 }
 
-/// Opens the first of files, `-` alone for standard input.
-pub(crate) fn opened<'a>(
-    rt: &'a HostRuntime,
-    files: &'a [&'a str],
-) -> Result<Input<'a>, Refusal<'static>> {
+/// Opens files, `-` alone for standard input. No read of them has failed.
+pub(crate) fn opened<'a>(rt: &'a HostRuntime, files: &'a [&'a str]) -> Result<Input<'a>, FileFault>
+    ensures { IfOk result (λ input. ⟦<ReadSource<Bytes<'a>> as Source>⟧.faults input ≡ 0) }
+{
     match files {
         [file] if *file == "-" => Ok(ReadSource::new(Bytes::Standard(rt.stdin()))),
         [first, rest @ ..] => opened_first(rt, first, rest),
-        [] => Err(Refusal::NoFiles),
+        [] => Err(FileFault::NotFound),
     }
 }
 
@@ -91,7 +82,9 @@ pub(crate) fn opened_first<'a>(
     rt: &'a HostRuntime,
     first: &str,
     rest: &'a [&'a str],
-) -> Result<Input<'a>, Refusal<'static>> {
+) -> Result<Input<'a>, FileFault>
+    ensures { IfOk result (λ input. ⟦<ReadSource<Bytes<'a>> as Source>⟧.faults input ≡ 0) }
+{
     match fs::open(rt, first) {
         Ok(open) => Ok(ReadSource::new(Bytes::Files(Files {
             rt,
@@ -99,6 +92,6 @@ pub(crate) fn opened_first<'a>(
             rest,
             place: 0,
         }))),
-        Err(error) => Err(Refusal::NotOpened(fault_of(error.kind()))),
+        Err(error) => Err(fault_of(error.kind())),
     }
 }

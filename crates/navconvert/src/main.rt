@@ -17,7 +17,7 @@ mod inputs;
 mod meter;
 mod notes;
 mod outputs;
-mod standard;
+mod place;
 mod steps;
 mod tally;
 mod telling;

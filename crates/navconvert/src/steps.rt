@@ -1,54 +1,71 @@
-//! The step to the file of a name.
+//! The step to the file of a name, or to standard output.
 
 ghost use Rattle.std.specs.Prelude.{◌≢◌};
 
 use crate::files::Task;
-use crate::inputs::{Input, fault_told, opened};
 use crate::meter::Meter;
 use crate::notes::Notes;
 use crate::outputs::size_of;
+use crate::place::{Goal, Place};
 use crate::tally::Tally;
 use crate::telling::{Saying, tell_file};
-use file_folders::HostFolder;
 use file_form::Refusal;
 use file_step::part_of;
-use front_run::{Outcome, Sourced, Told, convert_one, convert_source, finish, told_by};
+use front_run::{Outcome, Told, convert_one, finish};
 
 /// Converts files, the first of which has this name, to that of a name, and says what became of
 /// them; the status.
 pub(crate) fn put<'a>(task: &Task<'a>, first: &'a str, files: &'a [&'a str], name: &str) -> u8 {
-    match part_of(task.rt.alloc(), name) {
-        Ok(part) => put_part(task, first, files, part.as_str(), name),
-        Err(_) => tell_file(task.rt, first, &Refusal::NoMemory),
-    }
+    put_to(task, first, files, Goal::File, name, name)
 }
 
-// The same, by a part of this name.
-fn put_part<'a>(task: &Task<'a>, first: &'a str, files: &'a [&'a str], part: &str, name: &str) -> u8
-    requires { part.now ≢ name.now }
-{
-    let outcome = if files.len() == 1 && first != "-" {
-        put_file(task, first, part, name)
-    } else {
-        match opened(task.rt, files) {
-            Ok(input) => put_input(task, first, input, part, name),
-            Err(refusal) => return tell_file(task.rt, first, &refusal),
-        }
+/// Converts files, the first of which has this name, to standard output, and says what became of
+/// them; the status.
+pub(crate) fn to_standard<'a>(task: &Task<'a>, first: &'a str, files: &'a [&'a str]) -> u8 {
+    put_to(task, first, files, Goal::Standard, "standard output", first)
+}
+
+// Converts files to that of a name, or to what is named so; what came of them is said of the shown
+// name.
+fn put_to<'a>(
+    task: &Task<'a>,
+    first: &'a str,
+    files: &'a [&'a str],
+    goal: Goal,
+    name: &str,
+    shown: &str,
+) -> u8 {
+    let Ok(part) = part_of(task.rt.alloc(), name) else {
+        return tell_file(task.rt, first, &Refusal::NoMemory);
     };
+    let mut place = Place::new(task.rt, files, goal);
+    let told = told_of(task, meter_of(task, first, files, goal));
+    let outcome = converted(task, &mut place, told, first, part.as_str(), name);
     let mut teller = Saying {
         task,
         file: first,
-        name,
+        name: shown,
         faults: 0,
     };
-    finish(&task.plan, &outcome, name, part, &mut teller)
+    finish(&task.plan, &outcome, name, part.as_str(), &mut teller)
 }
 
-/// Who is told of the conversion of a file.
-pub(crate) fn told_of<'a>(
+/// Converts files, the first of which has this name, to what has a name, by a part of this one.
+pub(crate) fn converted<'a>(
     task: &Task<'a>,
-    meter: Meter<'a>,
-) -> Told<Tally<'a>, Notes<'a>, Meter<'a>> {
+    place: &mut Place<'a>,
+    told: Told<Tally<'a>, Notes<'a>, Meter<'a>>,
+    first: &str,
+    part: &str,
+    name: &str,
+) -> Outcome<Tally<'a>>
+    requires { part.now ≢ name.now }
+{
+    convert_one(task.rt.alloc(), &task.plan, place, told, first, part, name)
+}
+
+// Who is told of the conversion of a file.
+fn told_of<'a>(task: &Task<'a>, meter: Meter<'a>) -> Told<Tally<'a>, Notes<'a>, Meter<'a>> {
     Told {
         report: Tally::new(task.report),
         refusals: Notes::new(task.report),
@@ -56,53 +73,15 @@ pub(crate) fn told_of<'a>(
     }
 }
 
-// The step of a file.
-fn put_file<'a>(task: &Task<'a>, file: &'a str, part: &str, name: &str) -> Outcome<Tally<'a>>
-    requires { part.now ≢ name.now }
-{
-    let mut folder = HostFolder::new(task.rt.alloc(), task.rt);
-    let told = told_of(task, meter_of(task, file, size_of(task.rt, file)));
-    convert_one(
-        task.rt.alloc(),
-        &task.plan,
-        &mut folder,
-        told,
-        file,
-        part,
-        name,
-    )
-}
-
-// The step of standard input, or of several files.
-fn put_input<'a>(
-    task: &Task<'a>,
-    first: &'a str,
-    input: Input,
-    part: &str,
-    name: &str,
-) -> Outcome<Tally<'a>>
-    requires { part.now ≢ name.now }
-{
-    let mut folder = HostFolder::new(task.rt.alloc(), task.rt);
-    let Sourced { outcome, source } = convert_source(
-        task.rt.alloc(),
-        &task.plan,
-        &mut folder,
-        input,
-        told_of(task, meter_of(task, first, 0)),
-        part,
-        name,
-    );
-    let mut outcome = outcome;
-    outcome.done = told_by(outcome.done, fault_told(source.fault()), None);
-    outcome
-}
-
-// How far a file of this size has come, where that is shown.
-fn meter_of<'a>(task: &Task<'a>, file: &'a str, size: u64) -> Meter<'a> {
-    if task.metered && !task.quiet {
-        Meter::of(task.rt, file, size)
-    } else {
-        Meter::Off
+// How far files, the first of which has this name, have come, where that is shown.
+fn meter_of<'a>(task: &Task<'a>, first: &'a str, files: &[&str], goal: Goal) -> Meter<'a> {
+    if !task.metered || task.quiet || !matches!(goal, Goal::File) {
+        return Meter::Off;
     }
+    let size = if files.len() == 1 && first != "-" {
+        size_of(task.rt, first)
+    } else {
+        0
+    };
+    Meter::of(task.rt, first, size)
 }

@@ -3,13 +3,15 @@
 ghost use Rattle.std.specs.Prelude.{◌+◌, ◌≤◌, length};
 
 use crate::files::Task;
-use crate::inputs::{Input, fault_told};
 use crate::meter::Meter;
 use crate::notes::Notes;
+use crate::place::{Goal, Place};
+use crate::steps::converted;
 use crate::tally::Tally;
 use arrayvec::ArrayVec;
 use file_form::{Refusal, fits, long_name};
-use front_run::{Sourced, Told, refusal_of, told_by, write_source};
+use file_step::part_of;
+use front_run::{Told, refusal_of};
 use gnss_week::{Civil, Moment, moment_of};
 use nav_io::{Failed, Sink};
 use std::alloc::AllocError;
@@ -118,38 +120,35 @@ fn number(digits: &[u8]) -> u16 {
     number
 }
 
-/// The name by the convention of RINEX of what is made of an input, which is converted for its
-/// times.
-pub(crate) fn long_name_from<'a>(
+/// The name by the convention of RINEX of what is made of files, which are converted for its times;
+/// the first of them has this name.
+pub(crate) fn long_name_of<'a>(
     task: &Task<'a>,
-    input: Input<'a>,
-    file: &'a str,
+    first: &'a str,
+    files: &'a [&'a str],
     site: &'a str,
 ) -> Result<String, Refusal<'a>> {
-    let (first, last) = range_of(task, input, file)?;
-    match long_name(task.rt.alloc(), site, first, last) {
+    let (from, to) = range_of(task, first, files)?;
+    match long_name(task.rt.alloc(), site, from, to) {
         Ok(name) => Ok(name),
         Err(AllocError) => Err(Refusal::NoMemory),
     }
 }
 
-// The first and the last of the times in what is made of an input.
+// The first and the last of the times in what is made of files.
 fn range_of<'a>(
     task: &Task<'a>,
-    input: Input<'a>,
-    file: &'a str,
+    first: &'a str,
+    files: &'a [&'a str],
 ) -> Result<(Moment, Moment), Refusal<'a>> {
-    let mut times = Times::new();
-    let Sourced { outcome, source } = write_source(
-        task.rt.alloc(),
-        &task.plan,
-        input,
-        &mut times,
-        untold(),
-    );
-    match told_by(outcome.done, fault_told(source.fault()), None) {
-        Ok(()) => times.range.ok_or(Refusal::NoTimes),
-        Err(stop) => Err(refusal_of(&task.plan, stop, file, file)),
+    let Ok(part) = part_of(task.rt.alloc(), first) else {
+        return Err(Refusal::NoMemory);
+    };
+    let mut place = Place::new(task.rt, files, Goal::Nowhere);
+    let outcome = converted(task, &mut place, untold(), first, part.as_str(), first);
+    match outcome.done {
+        Ok(()) => place.range.ok_or(Refusal::NoTimes),
+        Err(stop) => Err(refusal_of(&task.plan, stop, first, first)),
     }
 }
 
