@@ -1,6 +1,6 @@
 //! Why calls of the system failed, and how many did.
 
-ghost use Rattle.std.specs.Prelude.{◌≡◌, ◌≤◌, ◌↔◌, IsNone, IsOk};
+ghost use Rattle.std.specs.Prelude.{◌≡◌, ◌≤◌, ◌↔◌, ◌+◌, ◌-◌, ◌^◌, min, IsNone, IsOk};
 ghost use Rattle.nav_io.specs.Causes.{HasCause, Rose};
 
 use file_step::FileFault;
@@ -33,6 +33,8 @@ pub(crate) struct Faults {
 impl Faults {
     /// Counts a fault.
     pub(crate) fn failed(&mut self, fault: FileFault) -> FileFault
+        ensures same { result ≡ fault }
+        ensures counts { self.new.count ≡ min (self.old.count + 1) (2 ^ 64 - 1) }
         ensures later { self.old.count ≤ self.new.count }
         ensures rose { Rose self.old.count self.new.count }
     {

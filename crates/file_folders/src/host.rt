@@ -1,6 +1,6 @@
 //! The files of the system.
 
-ghost use Rattle.std.specs.Prelude.{◌≡◌, ◌≤◌, IfOk, IsNone};
+ghost use Rattle.std.specs.Prelude.{◌≡◌, ◌≤◌, ◌+◌, ◌-◌, ◌^◌, min, IfOk, IsNone};
 ghost use Rattle.nav_io.specs.Causes.{Rose};
 
 use crate::faults::{Faults, fault_of};
@@ -33,6 +33,9 @@ impl<'a, R: Files> HostFolder<'a, R> {
 
     /// Counts a fault of a call that was made beside it.
     pub fn failed(&mut self, fault: FileFault) -> FileFault
+        ensures same { result ≡ fault }
+        ensures counts { ⟦<HostFolder<'a, R> as Folder>⟧.faults self.new
+            ≡ min (⟦<HostFolder<'a, R> as Folder>⟧.faults self.old + 1) (2 ^ 64 - 1) }
         ensures later { ⟦<HostFolder<'a, R> as Folder>⟧.faults self.old
             ≤ ⟦<HostFolder<'a, R> as Folder>⟧.faults self.new }
         ensures rose { Rose (⟦<HostFolder<'a, R> as Folder>⟧.faults self.old)
