@@ -96,15 +96,18 @@ abbrev pub with_short : Option ℕ → Rule → Rule
 with_short None rule = rule
 with_short (Some short) rule = record rule { short = Some short }
 
+-- the rule of a row's names
+abbrev pub name_rule : OptionRow → Rule
+name_rule row = with_short row.short (record (new_rule row.name.now) { long = Some row.name.now })
+
 -- the rule of a row
 abbrev pub row_rule : OptionRow → Rule
-row_rule row = with_short row.short (record (new_rule row.name.now) {
-  long = Some row.name.now;
+row_rule row = record (name_rule row) {
   action = Some row.action;
   value_names = length row.values.now;
   parser = Some row.parser;
   defaults = map (λ text. text.now) row.defaults.now;
-})
+}
 
 -- the command has all options
 abbrev pub IsCommand : App → Type 0

@@ -6,10 +6,11 @@ use crate::files::{Task, convert_file, convert_joined};
 use crate::outputs::{Output, is_same_file, output_of};
 use crate::telling::tell_program;
 use file_folders::fault_of;
-use file_form::{Refusal, Target, Values, is_site};
 use file_step::FileFault;
+use file_words::{Refusal, Target, Values, is_site};
 use front_run::{Plan, is_date};
-use std::fs::{File, OpenOptions};
+use std::fs::File;
+use std::io;
 use std::io::IsTerminal;
 
 // The forms, as they are listed.
@@ -68,15 +69,21 @@ fn opened_report<'a>(
             return Err(Refusal::SameFile(name));
         }
     }
-    let mut options = OpenOptions::new();
-    options.write(true).truncate(true).create(true);
-    options.create_new(!asked.has("overwrite"));
-    match options.open(rt, name) {
+    match created(rt, name, asked.has("overwrite")) {
         Ok(file) => Ok(Some(file)),
         Err(error) => match fault_of(error.kind()) {
             FileFault::AlreadyThere => Err(Refusal::OutputThere(name)),
             fault => Err(Refusal::WriteFault(name, fault)),
         },
+    }
+}
+
+// Begins a file of this name, which no file has where it may not be overwritten.
+fn created(rt: &HostRuntime, name: &str, overwrites: bool) -> io::Result<File> {
+    if overwrites {
+        File::create(rt, name)
+    } else {
+        File::create_new(rt, name)
     }
 }
 
@@ -119,17 +126,9 @@ fn plan_of<'x, 'a>(asked: &'x Asked<'a>, clock: &'x ClockWords) -> Plan<'x> {
     }
 }
 
-// Whether one output is made of several files.
-fn joins(target: Target) -> bool {
-    match target {
-        Target::Merged | Target::Cover => true,
-        _ => false,
-    }
-}
-
-// Converts each file; the status of the first that failed.
+// Converts each file, or makes one output of several; the status of the first that failed.
 fn convert_files<'a>(task: &Task<'a>, files: &'a [&'a str]) -> u8 {
-    if files.len() > 1 && joins(task.plan.target) {
+    if files.len() > 1 && matches!(task.plan.target, Target::Merged | Target::Cover) {
         return convert_joined(task, files);
     }
     if let (Output::File(name), true) = (task.output, files.len() > 1) {

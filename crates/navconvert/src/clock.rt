@@ -42,9 +42,14 @@ fn now(rt: &HostRuntime) -> Moment {
     }
 }
 
+// A number with the two digits of two others behind its own.
+fn joined(first: u16, second: u8, third: u8) -> u32 {
+    u32::from(first) * 10_000 + u32::from(second) * 100 + u32::from(third)
+}
+
 // A date as the header of a navigation file has it.
 fn date_text(alloc: Global, date: &Civil) -> Result<String, AllocError> {
-    let (year, month, day) = (date.year, date.month, date.day);
-    let (hour, minute, second) = (date.hour, date.minute, date.second);
-    format!(in alloc; "{year:04}{month:02}{day:02} {hour:02}{minute:02}{second:02} UTC")
+    let day = joined(date.year, date.month, date.day);
+    let time = joined(u16::from(date.hour), date.minute, date.second);
+    format!(in alloc; "{day:08} {time:06} UTC")
 }

@@ -2,17 +2,18 @@
 
 ghost use Rattle.std.specs.Prelude.{◌≡◌, IfOk, map, codes};
 ghost use Rattle.std.specs.Prelude.{option_map, option_and_then, unwrap_or};
-ghost use Rattle.std.specs.Prelude.{false};
+ghost use Rattle.std.specs.Prelude.{false, []};
 ghost use Rattle.std.specs.String.{string_bytes};
 ghost use Rattle.clap.specs.Words.{all_of, app_of, found_of, rows_of, rule_of};
 ghost use Rattle.navconvert.specs.Commands.{IsCommand, ReadsWords, command_with};
-ghost use Rattle.navconvert.specs.Commands.{files_rule, has_flag, row_rule};
+ghost use Rattle.navconvert.specs.Commands.{files_rule, has_flag, name_rule, row_rule};
 ghost use Rattle.navconvert.specs.Commands.{value_in};
-ghost use Rattle.file_form.specs.Table.{kind_named, target_named};
+ghost use Rattle.file_words.specs.Table.{kind_named, target_named};
 
 use clap::builder::ValueParser;
 use clap::{Arg, ArgAction, ArgMatches, Command, Error};
-use file_form::{Kind, Target, kind_named, target_named};
+use file_form::Kind;
+use file_words::{Target, kind_named, target_named};
 use std::alloc::{AllocError, Global};
 
 /// What the command line asks for.
@@ -243,15 +244,22 @@ fn files_of<'a>(alloc: Global) -> Arg<'a>
         .num_args(1..)
 }
 
+// The command without its options.
+fn bare_command<'a>(alloc: Global) -> Result<Command<'a>, AllocError>
+    ensures { IfOk result (λ command. app_of command ≡ command_with []) }
+{
+    Command::new(alloc, "navconvert")
+        .no_binary_name(true)
+        .version("1.0.0")
+        .about("Converts files of GNSS broadcast orbits")
+        .arg(files_of(alloc))
+}
+
 // The command with options of these rows.
 fn with_rows<'a>(alloc: Global, rows: &[Row]) -> Result<Command<'a>, AllocError>
     ensures { IfOk result (λ command. app_of command ≡ command_with (map row_rule rows.now)) }
 {
-    let bare = Command::new(alloc, "navconvert")
-        .no_binary_name(true)
-        .version("1.0.0")
-        .about("Converts files of GNSS broadcast orbits")
-        .arg(files_of(alloc))?;
+    let bare = bare_command(alloc)?;
     let mut command = bare;
     for row in rows {
         command = command.arg(option_of(alloc, row))?;
@@ -264,13 +272,20 @@ fn option_of<'a>(alloc: Global, row: &Row) -> Arg<'a>
     ensures rule { rule_of result ≡ row_rule row.now }
     ensures local { result.global ≡ false }
 {
-    let arg = Arg::new(alloc, row.name)
-        .long(row.name)
+    named_option(alloc, row)
         .action(row.action)
         .value_names(row.values)
         .value_parser(row.parser)
         .default_values(row.defaults)
-        .help(row.help);
+        .help(row.help)
+}
+
+// An option that has its names alone.
+fn named_option<'a>(alloc: Global, row: &Row) -> Arg<'a>
+    ensures rule { rule_of result ≡ name_rule row.now }
+    ensures local { result.global ≡ false }
+{
+    let arg = Arg::new(alloc, row.name).long(row.name);
     match row.short {
         None => arg,
         Some(short) => arg.short(short),

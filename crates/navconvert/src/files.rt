@@ -2,12 +2,14 @@
 
 use crate::dry::show_files;
 use crate::forms::file_kind;
-use crate::outputs::{Output, is_file, is_folder, name_of, placed, taken};
-use crate::steps::{put, to_standard};
+use crate::outputs::{Output, is_file, is_folder, name_of, owned, placed, taken};
+use crate::place::Goal;
+use crate::steps::put;
 use crate::telling::tell_file;
 use crate::times::long_name_of;
-use file_form::{Kind, Refusal, Target, ending_of, is_copied, row_of};
+use file_form::Kind;
 use file_step::FileFault;
+use file_words::{Refusal, Target, ending_of, is_copied, row_of};
 use front_run::Plan;
 use std::fs::File;
 use std::slice::from_ref;
@@ -87,19 +89,30 @@ fn convert_to<'a>(task: &Task<'a>, first: &'a str, files: &'a [&'a str], name: O
     }
     match name {
         Some(name) => put_free(task, first, files, name),
-        None => to_standard(task, first, files),
+        None => put(task, first, files, Goal::Standard, "standard output", first),
     }
 }
 
 // The name of the output.
 fn named<'a>(task: &Task<'a>, first: &'a str, files: &'a [&'a str]) -> Result<String, Refusal<'a>> {
-    let alloc = task.rt.alloc();
-    let Some(site) = task.site else {
-        return name_of(alloc, task.output, first, ending_of(task.plan.target));
-    };
-    match times_name(task, first, files, site) {
-        Ok(name) => placed(alloc, task.output, first, name.as_str()),
+    if let (Output::File(name), None) = (task.output, task.site) {
+        return owned(task.rt.alloc(), name);
+    }
+    match own_name(task, first, files) {
+        Ok(name) => placed(task.rt.alloc(), task.output, first, name.as_str()),
         Err(refusal) => Err(refusal),
+    }
+}
+
+// Its name without that of a folder.
+fn own_name<'a>(
+    task: &Task<'a>,
+    first: &'a str,
+    files: &'a [&'a str],
+) -> Result<String, Refusal<'a>> {
+    match task.site {
+        None => name_of(task.rt.alloc(), first, ending_of(task.plan.target)),
+        Some(site) => times_name(task, first, files, site),
     }
 }
 
@@ -110,17 +123,11 @@ fn times_name<'a>(
     files: &'a [&'a str],
     site: &'a str,
 ) -> Result<String, Refusal<'a>> {
-    if first == "-" || !is_navigation(task.plan.target) {
-        return Err(Refusal::NoLongName);
-    }
-    long_name_of(task, first, files, site)
-}
-
-// Whether a navigation file is made.
-fn is_navigation(target: Target) -> bool {
-    match target {
-        Target::Rinex | Target::Rinex3 | Target::Merged => true,
-        _ => false,
+    match task.plan.target {
+        Target::Rinex | Target::Rinex3 | Target::Merged if first != "-" => {
+            long_name_of(task, first, files, site)
+        }
+        _ => Err(Refusal::NoLongName),
     }
 }
 
@@ -131,7 +138,7 @@ fn put_free<'a>(task: &Task<'a>, first: &'a str, files: &'a [&'a str], name: &st
             return tell_taken(task, file, &refusal);
         }
     }
-    put(task, first, files, name)
+    put(task, first, files, Goal::File, name, name)
 }
 
 // Says why an output may not have its name; or that the file has no conversion, where that is so.
@@ -147,13 +154,9 @@ fn unconverted(task: &Task, file: &str) -> Option<Kind> {
     if !is_file(task.rt, file) {
         return None;
     }
+    let target = task.plan.target;
     match file_kind(task, file) {
-        Ok(kind) if !converts(task.plan.target, kind) => Some(kind),
+        Ok(kind) if !is_copied(kind, target) && row_of(kind, target).is_none() => Some(kind),
         _ => None,
     }
-}
-
-// Whether a file of this form is converted to that.
-fn converts(target: Target, kind: Kind) -> bool {
-    is_copied(kind, target) || row_of(kind, target).is_some()
 }

@@ -27,7 +27,8 @@ use crate::choices::{begin, convert_asked};
 use crate::clock::clock_of;
 use crate::command::{Asked, read_words};
 use crate::telling::tell_program;
-use file_form::Refusal;
+use file_words::Refusal;
+use std::alloc::AllocError;
 use std::env;
 use std::io::ErrorKind;
 use std::process::ExitCode;
@@ -66,13 +67,10 @@ fn words_of(rt: &HostRuntime) -> Result<Vec<String>, Refusal<'static>> {
         Err(error) if error.kind() == ErrorKind::OutOfMemory => return Err(Refusal::NoMemory),
         Err(_) => return Err(Refusal::Word),
     };
-    let mut words = Vec::new(rt.alloc());
-    for word in args.skip(1) {
-        if words.push(word).is_err() {
-            return Err(Refusal::NoMemory);
-        }
+    match args.skip(1).collect(rt.alloc()) {
+        Ok(words) => Ok(words),
+        Err(AllocError) => Err(Refusal::NoMemory),
     }
-    Ok(words)
 }
 
 // Prints what is said of words that are no command line, or that ask for help or the version.

@@ -6,18 +6,12 @@ use std::rt::Clock;
 // So long nothing is shown, and so long one line stands, in milliseconds.
 const PAUSE: u64 = 500;
 
-/// A line on standard error that says how far a file has come, or none.
-#[derive(Drop)]
-pub(crate) enum Meter<'a> {
-    /// Nothing is shown.
-    Off,
-    /// It is, after half a second.
-    On(Shown<'a>),
-}
+// The time at which a line is shown that never is.
+const NEVER: u64 = u64::MAX;
 
-/// A line that is shown.
+/// A line on standard error that says how far a file has come.
 #[derive(Drop)]
-pub(crate) struct Shown<'a> {
+pub(crate) struct Meter<'a> {
     rt: &'a HostRuntime,
     file: &'a str,
     // the size of the file, where it has one
@@ -27,37 +21,27 @@ pub(crate) struct Shown<'a> {
 }
 
 impl<'a> Meter<'a> {
-    /// For a file of this size, 0 where it has none.
-    pub(crate) fn of(rt: &'a HostRuntime, file: &'a str, size: u64) -> Meter<'a> {
+    /// For a file of this size, 0 where it has none. The line is shown after half a second.
+    pub(crate) fn on(rt: &'a HostRuntime, file: &'a str, size: u64) -> Meter<'a> {
         let begun = now(rt);
-        Meter::On(Shown {
+        Meter {
             rt,
             file,
             size,
             begun,
             next: begun.saturating_add(PAUSE),
-        })
-    }
-}
-
-impl Progress for Meter<'_> {
-    fn taken(&mut self, count: u64) {
-        match self {
-            Meter::Off => {}
-            Meter::On(shown) => shown.taken(count),
         }
     }
-}
 
-impl Shown<'_> {
-    // So many bytes were read.
-    fn taken(&mut self, count: u64) {
-        let time = now(self.rt);
-        if time < self.next {
-            return;
+    /// One that never shows its line.
+    pub(crate) fn off(rt: &'a HostRuntime) -> Meter<'a> {
+        Meter {
+            rt,
+            file: "",
+            size: 0,
+            begun: 0,
+            next: NEVER,
         }
-        self.next = time.saturating_add(PAUSE);
-        self.show(count, time.saturating_sub(self.begun));
     }
 
     // Shows the bytes that were read in so many milliseconds.
@@ -69,6 +53,19 @@ impl Shown<'_> {
             let percents = count / (self.size / 100).max(1);
             let left = time_left(count, self.size, time);
             let _ = eprint!(self.rt; "{percents} %, {left} s left ");
+        }
+    }
+}
+
+impl Progress for Meter<'_> {
+    fn taken(&mut self, count: u64) {
+        if self.next == NEVER {
+            return;
+        }
+        let time = now(self.rt);
+        if time >= self.next {
+            self.next = time.saturating_add(PAUSE);
+            self.show(count, time.saturating_sub(self.begun));
         }
     }
 }

@@ -1,7 +1,8 @@
-//! What the report says of a log: the messages that are refused, and counts, as `navlog` has them.
+//! What the report says of a log while it is read: the messages that are refused, as `navlog` has
+//! them.
 
 use crate::tally::is_put;
-use receiver_log::{Counts, Refusals, counts_text, refusal};
+use receiver_log::{Refusals, refusal};
 use receiver_messages::Reason;
 use std::fs::File;
 
@@ -23,9 +24,4 @@ impl Refusals for Notes<'_> {
     fn refused(&mut self, number: u64, reason: Reason) {
         let _ = is_put(self.file, refusal(number, reason).as_slice());
     }
-}
-
-/// Writes the counts of a log of so many bytes to the report; whether that was done.
-pub(crate) fn put_counts(file: Option<&File>, counts: &Counts, taken: u64) -> bool {
-    is_put(file, counts_text(counts, taken).as_slice())
 }

@@ -6,8 +6,8 @@ ghost use Rattle.std.specs.Path.{path_buf_bytes};
 ghost use Rattle.navconvert.specs.Outputs.{placed};
 
 use crate::command::Asked;
-use file_form::{Refusal, output_name};
 use file_step::FileFault;
+use file_words::{Refusal, output_name};
 use std::alloc::{AllocError, Global};
 use std::fs;
 use std::fs::Metadata;
@@ -67,28 +67,20 @@ pub(crate) fn size_of(rt: &HostRuntime, name: &str) -> u64 {
     }
 }
 
-/// The name of the output of a file, with this ending.
-pub(crate) fn name_of(
-    alloc: Global,
-    output: Output,
-    file: &str,
-    ending: &str,
-) -> Result<String, Refusal<'static>> {
-    if let Output::File(name) = output {
-        return owned(alloc, name);
-    }
+/// The name of the output of a file, with this ending, in whatever folder.
+pub(crate) fn name_of(alloc: Global, file: &str, ending: &str) -> Result<String, Refusal<'static>> {
     if file == "-" {
         return Err(Refusal::NoName);
     }
     match output_name(alloc, file, ending) {
-        Ok(Some(name)) => placed(alloc, output, file, name.as_str()),
+        Ok(Some(name)) => Ok(name),
         Ok(None) => Err(Refusal::NoName),
         Err(AllocError) => Err(Refusal::NoMemory),
     }
 }
 
-// A name of its own.
-fn owned(alloc: Global, name: &str) -> Result<String, Refusal<'static>> {
+/// A copy of a name.
+pub(crate) fn owned(alloc: Global, name: &str) -> Result<String, Refusal<'static>> {
     match String::from_str(alloc, name) {
         Ok(name) => Ok(name),
         Err(AllocError) => Err(Refusal::NoMemory),

@@ -9,25 +9,14 @@ use crate::outputs::size_of;
 use crate::place::{Goal, Place};
 use crate::tally::Tally;
 use crate::telling::{Saying, tell_file};
-use file_form::Refusal;
 use file_step::part_of;
+use file_words::Refusal;
 use front_run::{Outcome, Told, convert_one, finish};
+use std::fs::File;
 
-/// Converts files, the first of which has this name, to that of a name, and says what became of
-/// them; the status.
-pub(crate) fn put<'a>(task: &Task<'a>, first: &'a str, files: &'a [&'a str], name: &str) -> u8 {
-    put_to(task, first, files, Goal::File, name, name)
-}
-
-/// Converts files, the first of which has this name, to standard output, and says what became of
-/// them; the status.
-pub(crate) fn to_standard<'a>(task: &Task<'a>, first: &'a str, files: &'a [&'a str]) -> u8 {
-    put_to(task, first, files, Goal::Standard, "standard output", first)
-}
-
-// Converts files to that of a name, or to what is named so; what came of them is said of the shown
-// name.
-fn put_to<'a>(
+/// Converts files, the first of which has this name, to that of a name, or to what is named so; what
+/// came of them is said of the shown name. The status.
+pub(crate) fn put<'a>(
     task: &Task<'a>,
     first: &'a str,
     files: &'a [&'a str],
@@ -39,7 +28,7 @@ fn put_to<'a>(
         return tell_file(task.rt, first, &Refusal::NoMemory);
     };
     let mut place = Place::new(task.rt, files, goal);
-    let told = told_of(task, meter_of(task, first, files, goal));
+    let told = told_of(task.report, meter_of(task, first, files, goal));
     let outcome = converted(task, &mut place, told, first, part.as_str(), name);
     let mut teller = Saying {
         task,
@@ -64,24 +53,27 @@ pub(crate) fn converted<'a>(
     convert_one(task.rt.alloc(), &task.plan, place, told, first, part, name)
 }
 
-// Who is told of the conversion of a file.
-fn told_of<'a>(task: &Task<'a>, meter: Meter<'a>) -> Told<Tally<'a>, Notes<'a>, Meter<'a>> {
+/// Who is told of a conversion: a report, where there is one, and a meter.
+pub(crate) fn told_of<'a>(
+    report: Option<&'a File>,
+    progress: Meter<'a>,
+) -> Told<Tally<'a>, Notes<'a>, Meter<'a>> {
     Told {
-        report: Tally::new(task.report),
-        refusals: Notes::new(task.report),
-        progress: meter,
+        report: Tally::new(report),
+        refusals: Notes::new(report),
+        progress,
     }
 }
 
 // How far files, the first of which has this name, have come, where that is shown.
 fn meter_of<'a>(task: &Task<'a>, first: &'a str, files: &[&str], goal: Goal) -> Meter<'a> {
     if !task.metered || task.quiet || !matches!(goal, Goal::File) {
-        return Meter::Off;
+        return Meter::off(task.rt);
     }
     let size = if files.len() == 1 && first != "-" {
         size_of(task.rt, first)
     } else {
         0
     };
-    Meter::of(task.rt, first, size)
+    Meter::on(task.rt, first, size)
 }

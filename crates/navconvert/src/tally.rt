@@ -84,7 +84,8 @@ fn count_in(line: &[u8], name: &[u8]) -> Option<u64> {
 #[derive(Drop)]
 pub(crate) struct Tally<'a> {
     file: Option<&'a File>,
-    said: Said,
+    /// What it said in all.
+    pub said: Said,
     faults: u64,
 }
 
@@ -96,11 +97,6 @@ impl<'a> Tally<'a> {
             said: Said::new(),
             faults: 0,
         }
-    }
-
-    /// What it said in all.
-    pub(crate) fn said(&self) -> &Said {
-        &self.said
     }
 }
 

@@ -1,15 +1,16 @@
 //! What is said on standard error.
 
 ghost use Rattle.std.specs.Prelude.{◌≡◌};
-ghost use Rattle.file_form.specs.Says.{status_of};
+ghost use Rattle.file_words.specs.Says.{status_of};
 
 use crate::files::Task;
-use crate::notes::put_counts;
-use crate::tally::Tally;
-use file_form::{Kind, Refusal, WeekRule, row_of};
+use crate::tally::{Tally, is_put};
+use file_form::Kind;
 use file_step::FileFault;
+use file_words::{Refusal, WeekRule, row_of};
 use front_run::{Outcome, Teller};
 use nav_io::Failed;
+use receiver_log::counts_text;
 use std::io::IsTerminal;
 
 // What takes the line of a meter away.
@@ -71,11 +72,11 @@ impl<'a> Teller<Tally<'a>> for Saying<'_, 'a> {
     }
 }
 
-// Writes the counts of a log to the report; whether that was done.
+// Writes the counts of a log to the report, as `navlog` has them; whether that was done.
 fn is_counted(task: &Task, outcome: &Outcome<Tally>) -> bool {
     match &outcome.counts {
         None => true,
-        Some(counts) => put_counts(task.report, counts, outcome.count),
+        Some(counts) => is_put(task.report, counts_text(counts, outcome.count).as_slice()),
     }
 }
 
@@ -98,7 +99,7 @@ fn tell_done(task: &Task, name: &str, outcome: &Outcome<Tally>) {
 
 // Says what was made, and how many lines of it were refused.
 fn tell_made(rt: &HostRuntime, outcome: &Outcome<Tally>) {
-    let said = outcome.report.said();
+    let said = &outcome.report.said;
     match (said.written, said.refused, &outcome.counts) {
         (Some(written), _, _) => tell_count(rt, "", written, " ephemerides"),
         (None, None, Some(counts)) => {

@@ -4,14 +4,12 @@ ghost use Rattle.std.specs.Prelude.{◌+◌, ◌≤◌, length};
 
 use crate::files::Task;
 use crate::meter::Meter;
-use crate::notes::Notes;
 use crate::place::{Goal, Place};
-use crate::steps::converted;
-use crate::tally::Tally;
+use crate::steps::{converted, told_of};
 use arrayvec::ArrayVec;
-use file_form::{Refusal, fits, long_name};
 use file_step::part_of;
-use front_run::{Told, refusal_of};
+use file_words::{Refusal, fits, long_name};
+use front_run::refusal_of;
 use gnss_week::{Civil, Moment, moment_of};
 use nav_io::{Failed, Sink};
 use std::alloc::AllocError;
@@ -145,18 +143,10 @@ fn range_of<'a>(
         return Err(Refusal::NoMemory);
     };
     let mut place = Place::new(task.rt, files, Goal::Nowhere);
-    let outcome = converted(task, &mut place, untold(), first, part.as_str(), first);
+    let told = told_of(None, Meter::off(task.rt));
+    let outcome = converted(task, &mut place, told, first, part.as_str(), first);
     match outcome.done {
         Ok(()) => place.range.ok_or(Refusal::NoTimes),
         Err(stop) => Err(refusal_of(&task.plan, stop, first, first)),
-    }
-}
-
-// Nobody is told.
-fn untold<'a>() -> Told<Tally<'a>, Notes<'a>, Meter<'a>> {
-    Told {
-        report: Tally::new(None),
-        refusals: Notes::new(None),
-        progress: Meter::Off,
     }
 }

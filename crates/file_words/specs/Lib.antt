@@ -1,0 +1,7 @@
+pub mod Table
+pub mod Plans
+pub mod Fits
+pub mod Names
+pub mod Long
+pub mod KindTexts
+pub mod Says
