@@ -4,8 +4,7 @@ ghost use Rattle.std.specs.Prelude.{◌≡◌, ◌≤◌, ◌+◌, ◌-◌, ◌^
 ghost use Rattle.nav_io.specs.Causes.{Rose};
 
 use crate::faults::{Faults, fault_of};
-use crate::gathered::{Gathered, ROOM};
-use file_step::{FileFault, Folder};
+use file_step::{FileFault, Folder, GATHERED, Gathered};
 use nav_io::{ReadSource, Sink};
 use std::alloc::Global;
 use std::fs::{OpenFile, OpenOptions};
@@ -104,7 +103,7 @@ impl<R: Files> Folder for HostFolder<'_, R> {
 fn begun<R: Files>(alloc: Global, files: &R, part: &str) -> Result<Gathered<R::File>, ErrorKind>
     ensures { IfOk result (λ draft. ⟦<Gathered<R::File> as Sink>⟧.faults draft ≡ 0) }
 {
-    let Ok(buffer) = Vec::with_capacity(alloc, ROOM) else {
+    let Ok(buffer) = Vec::with_capacity(alloc, GATHERED) else {
         return Err(ErrorKind::OutOfMemory);
     };
     let mut options = OpenOptions::new();

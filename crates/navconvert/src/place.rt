@@ -6,8 +6,8 @@ ghost use Rattle.nav_io.specs.Causes.{HasCause};
 
 use crate::inputs::{Input, opened};
 use crate::times::Times;
-use file_folders::{Gathered, HostFolder, fault_of};
-use file_step::{FileFault, Folder};
+use file_folders::{HostFolder, fault_of};
+use file_step::{FileFault, Folder, Gathered};
 use gnss_week::Moment;
 use nav_io::{Failed, Sink, WriteSink};
 use std::fs::File;

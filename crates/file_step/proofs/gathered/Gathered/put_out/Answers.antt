@@ -1,7 +1,7 @@
 use Rattle.std.proofs.Common.{arith, rules, ◌∙◌}
 use Rattle.std.proofs.lemmas.Grind.{common_steps}
-use Rattle.file_folders.proofs.Gathering.{out_seen}
-use Rattle.file_folders.proofs.gathered.Gathered.put_out.Goals as goal
+use Rattle.file_step.proofs.Gathering.{out_seen}
+use Rattle.file_step.proofs.gathered.Gathered.put_out.Goals as goal
 
 pub loop-self-preserved : goal.loop-self-preserved
 loop-self-preserved g c = (

@@ -1,11 +1,11 @@
-//! The files of a folder in memory, as changes of names.
+//! Files in memory, as changes of their names.
 
 ghost use Rattle.std.specs.Prelude.{◌≡◌, Some, OnOk, OnErr, ◌≢◌, IfErr};
 ghost use Rattle.std.specs.Option.{option_map};
 ghost use Rattle.file_step.specs.Files.{Publishes, Stays};
-ghost use Rattle.file_folders.specs.Entries.{Sets, bytes_at, contents_of};
+ghost use Rattle.file_step.specs.Entries.{Sets, bytes_at, contents_of};
 
-use file_step::FileFault;
+use crate::faults::FileFault;
 use nav_io::{Sink, WriteSink};
 use std::alloc::{AllocError, Global};
 

@@ -1,6 +1,6 @@
 use Rattle.std.proofs.Common.{◌≡◌, ◌-◌, length, drop, vec_capacity}
 use Rattle.std.specs.Io.KnownBytes.{Keeps, append_known}
-use Rattle.file_folders.proofs.gathered.Gathered.put_out.Given as goal
+use Rattle.file_step.proofs.gathered.Gathered.put_out.Given as goal
 
 -- what is out and the rest are what they were
 abbrev pub invariant-loop-self : goal.invariant-loop-self

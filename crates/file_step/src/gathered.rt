@@ -9,8 +9,8 @@ ghost use Rattle.nav_io.specs.Causes.{HasCause, Rose};
 use nav_io::{Failed, Sink, WriteSink};
 use std::io::{ErrorKind, Write};
 
-/// The size of the buffer in bytes.
-pub(crate) const ROOM: usize = 65_536;
+/// How many bytes a [`Gathered`] gathers.
+pub const GATHERED: usize = 65_536;
 
 /// A buffered sink over a writer, which writes 65,536 bytes at a time. Its known bytes are those
 /// that the writer tells, and then those in the buffer.
@@ -122,11 +122,11 @@ impl<W: Write> Sink for Gathered<W> {
     /// Buffers the piece, and first writes the buffer where there is no room for both. A piece
     /// longer than the buffer is written at once.
     fn write(&mut self, piece: &[u8]) -> Result<(), Failed> {
-        if piece.len() <= ROOM - self.kept.len() {
+        if piece.len() <= GATHERED - self.kept.len() {
             return self.keep(piece);
         }
         self.put_out()?;
-        if piece.len() > ROOM {
+        if piece.len() > GATHERED {
             return self.output.write(piece);
         }
         self.keep(piece)
