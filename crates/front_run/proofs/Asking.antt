@@ -2,11 +2,11 @@
 use Rattle.std.proofs.Common.{◌≡◌, ℕ, Bool, true, false, List, Option, Some, refl, sym, ap, subst, ◌∙◌}
 use Rattle.std.specs.Prelude.{MatchOption}
 use Rattle.file_form.specs.declared.Kind.{Kind}
-use Rattle.file_words.specs.declared.table.Row.{Row}
+use Rattle.file_form.specs.declared.table.Row.{Row}
 use Rattle.bridge_engine.specs.Job.{IsJob}
 use Rattle.bridge_engine.specs.Meanings.{meaning_of}
 use Rattle.bridge_engine.specs.declared.job.Job.{Job}
-use Rattle.file_words.specs.Plans.{is_copied}
+use Rattle.file_form.specs.Plans.{is_copied}
 use Rattle.front_run.specs.Forms.{AreWords, words_with}
 use Rattle.front_run.specs.Asked.{AcceptsAs, AcceptsBy, AskBy, CanAsk, GivesReadJob, IsAsked, MadeBy, MakesAs}
 use Rattle.front_run.specs.Tasks.{IsTask, TaskBy, accepts, accepts_job, makes_by}

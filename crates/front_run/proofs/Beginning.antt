@@ -7,7 +7,7 @@ use Rattle.nav_io.specs.Causes.{Rose}
 use Rattle.file_form.specs.Kinds.{kind_of}
 use Rattle.file_form.specs.declared.Kind.{Kind}
 use Rattle.front_run.specs.Asked.{AcceptsAs, CanAsk, CanConvert, MakesAs}
-use Rattle.file_words.specs.Plans.{form_of}
+use Rattle.file_form.specs.Plans.{form_of}
 use Rattle.front_run.specs.Logs.{read_as}
 use Rattle.front_run.specs.Steps.{IsBegun, IsLack, IsStopped}
 use Rattle.front_run.specs.Tasks.{IsReady, IsTask, makes_by}

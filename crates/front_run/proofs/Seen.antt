@@ -3,7 +3,7 @@ use Rattle.std.proofs.Common.{◌≡◌, ◌≤◌, ℕ, List, Option, None, Som
 use Rattle.std.specs.Prelude.{IfSome}
 use Rattle.file_form.specs.Kinds.{kind_of}
 use Rattle.file_form.specs.declared.Kind.{Kind}
-use Rattle.file_words.specs.Plans.{form_of}
+use Rattle.file_form.specs.Plans.{form_of}
 
 -- the first 80 bytes tell the form of all
 pub looked : (named : Option Kind) (source : Option (List ℕ)) (prefix : List ℕ) (kind told : Kind)

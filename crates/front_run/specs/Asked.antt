@@ -6,7 +6,7 @@ use Rattle.file_step.specs.Files.{Publishes, Puts}
 use Rattle.bridge_engine.specs.Job.{IsJob}
 use Rattle.bridge_engine.specs.Meanings.{meaning_of}
 use Rattle.bridge_engine.specs.declared.job.Job.{Job}
-use Rattle.file_words.specs.Plans.{form_of, is_copied}
+use Rattle.file_form.specs.Plans.{form_of, is_copied}
 use Rattle.front_run.specs.Forms.{AreWords}
 use Rattle.front_run.specs.Logs.{read_as}
 use Rattle.front_run.specs.declared.plans.Plan.{Plan}

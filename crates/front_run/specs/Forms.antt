@@ -1,9 +1,9 @@
 -- The words of `navbridge` for a file that is read under a form.
 use Rattle.std.specs.Prelude.{◌≡◌, ℕ, List, Some, option_map}
 use Rattle.file_form.specs.declared.Kind.{Kind}
-use Rattle.file_words.specs.Plans.{words_of}
-use Rattle.file_words.specs.Table.{row_of}
-use Rattle.file_words.specs.declared.table.Row.{Row}
+use Rattle.file_form.specs.Plans.{words_of}
+use Rattle.file_form.specs.Table.{row_of}
+use Rattle.file_form.specs.declared.table.Row.{Row}
 use Rattle.front_run.specs.declared.plans.Plan.{Plan}
 
 -- all words for a file that is read under this form, with the values of the plan that the row takes

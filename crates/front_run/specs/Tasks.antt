@@ -5,7 +5,7 @@ use Rattle.file_form.specs.declared.Kind.{Kind}
 use Rattle.bridge_engine.specs.Meanings.{meaning_of}
 use Rattle.bridge_engine.specs.declared.job.Job.{Job}
 use Rattle.front_run.specs.Asked.{IsAsked}
-use Rattle.file_words.specs.Plans.{form_of, is_copied}
+use Rattle.file_form.specs.Plans.{form_of, is_copied}
 use Rattle.front_run.specs.declared.begun.Ready.{Ready}
 use Rattle.front_run.specs.declared.plans.Plan.{Plan}
 use Rattle.front_run.specs.declared.tasks.Task.{Task}

@@ -4,11 +4,10 @@ ghost use Rattle.std.specs.Prelude.{◌≡◌, ◌⊎◌, [], IfErr, IfOk, IfSom
 ghost use Rattle.std.specs.Io.KnownBytes.{Keeps};
 ghost use Rattle.nav_io.specs.Causes.{Rose};
 ghost use Rattle.file_form.specs.Kinds.{kind_of};
-ghost use Rattle.file_words.specs.Plans.{form_of};
+ghost use Rattle.file_form.specs.Plans.{form_of};
 
-use file_form::{Kind, LOOKED_AT, first_bytes_decide, kind_of};
+use file_form::{Kind, LOOKED_AT, first_bytes_decide, form_of, kind_of};
 use file_step::{PeekFault, Peeked};
-use file_words::form_of;
 use nav_io::Source;
 
 /// Looks at an input that was not looked at, and tells the form under which it is read.

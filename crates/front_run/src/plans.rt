@@ -5,8 +5,7 @@ ghost use Rattle.std.specs.String.{string_bytes};
 ghost use Rattle.front_run.specs.Forms.{AreWords, HasRow};
 
 use crate::stops::Stop;
-use file_form::Kind;
-use file_words::{Target, Values, row_of, words_for};
+use file_form::{Kind, Target, Values, row_of, words_for};
 use std::alloc::Global;
 
 /// What is asked of each file.

@@ -12,9 +12,8 @@ use crate::copies::copy;
 use crate::plans::{Plan, words_under};
 use crate::stops::Stop;
 use bridge_engine::{bridge, words_give_one_job, words_of_inputs_ask_for_no_seed};
-use file_form::Kind;
+use file_form::{Kind, is_copied};
 use file_step::Conversion;
-use file_words::is_copied;
 use nav_io::{Sink, Source};
 use std::alloc::{AllocError, Global};
 

@@ -8,12 +8,11 @@ ghost use Rattle.clap.specs.Words.{all_of, app_of, found_of, rows_of, rule_of};
 ghost use Rattle.navconvert.specs.Commands.{IsCommand, ReadsWords, command_with};
 ghost use Rattle.navconvert.specs.Commands.{files_rule, has_flag, name_rule, row_rule};
 ghost use Rattle.navconvert.specs.Commands.{value_in};
-ghost use Rattle.file_words.specs.Table.{kind_named, target_named};
+ghost use Rattle.file_form.specs.Table.{kind_named, target_named};
 
 use clap::builder::ValueParser;
 use clap::{Arg, ArgAction, ArgMatches, Command, Error};
-use file_form::Kind;
-use file_words::{Target, kind_named, target_named};
+use file_form::{Kind, Target, kind_named, target_named};
 use std::alloc::{AllocError, Global};
 
 /// What the command line asks for.
@@ -68,10 +67,7 @@ impl<'a> Asked<'a> {
     pub(crate) fn has(&self, name: &str) -> bool
         ensures { result ≡ has_flag self.now name.now }
     {
-        match self.value(name) {
-            None => false,
-            Some(text) => text == "true",
-        }
+        matches!(self.value(name), Some("true"))
     }
 }
 

@@ -4,8 +4,7 @@ use crate::files::Task;
 use crate::forms::input_kind;
 use crate::inputs::opened;
 use crate::telling::tell_file;
-use file_form::Kind;
-use file_words::is_copied;
+use file_form::{Kind, is_copied};
 use front_run::{refusal_of, words_under};
 
 /// Prints the command that does what is asked of files, the first of which has this name, and where

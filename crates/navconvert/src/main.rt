@@ -27,9 +27,10 @@ use crate::choices::{begin, convert_asked};
 use crate::clock::clock_of;
 use crate::command::{Asked, read_words};
 use crate::telling::tell_program;
-use file_words::Refusal;
+use file_form::Refusal;
 use std::alloc::AllocError;
 use std::env;
+use std::fs::File;
 use std::io::ErrorKind;
 use std::process::ExitCode;
 
@@ -51,12 +52,17 @@ fn run(rt: &HostRuntime, words: &[String]) -> u8 {
 
 // Does what is asked; the status.
 fn run_asked(rt: &HostRuntime, asked: &Asked) -> u8 {
-    let Ok(clock) = clock_of(rt) else {
-        return tell_program(rt, &Refusal::NoMemory);
-    };
     match begin(rt, asked) {
-        Ok(report) => convert_asked(rt, asked, &clock, report.as_ref()),
+        Ok(report) => convert_now(rt, asked, report.as_ref()),
         Err(status) => status,
+    }
+}
+
+// Converts what is asked, by the clock as it is now; the status.
+fn convert_now(rt: &HostRuntime, asked: &Asked, report: Option<&File>) -> u8 {
+    match clock_of(rt) {
+        Ok(clock) => convert_asked(rt, asked, &clock, report),
+        Err(AllocError) => tell_program(rt, &Refusal::NoMemory),
     }
 }
 

@@ -1,13 +1,12 @@
 //! What is said on standard error.
 
 ghost use Rattle.std.specs.Prelude.{◌≡◌};
-ghost use Rattle.file_words.specs.Says.{status_of};
+ghost use Rattle.file_form.specs.Says.{status_of};
 
 use crate::files::Task;
 use crate::tally::{Tally, is_put};
-use file_form::Kind;
+use file_form::{Kind, Refusal, WeekRule, row_of};
 use file_step::FileFault;
-use file_words::{Refusal, WeekRule, row_of};
 use front_run::{Outcome, Teller};
 use nav_io::Failed;
 use receiver_log::counts_text;

@@ -1,7 +1,0 @@
-pub mod Table
-pub mod Plans
-pub mod Fits
-pub mod Names
-pub mod Long
-pub mod KindTexts
-pub mod Says
