@@ -103,13 +103,10 @@ fn finished<F: Folder, E: Drop>(
         (F.Draft.faults draft) (F.faults folder.old) (F.faults folder.new) ran result }
 {
     match ran {
-        Ok(()) => {
-            let named = folder.publish(draft, part, name);
-            match named {
-                Ok(()) => Ok(()),
-                Err(fault) => Err(StepFault::Publish(fault)),
-            }
-        }
+        Ok(()) => match folder.publish(draft, part, name) {
+            Ok(()) => Ok(()),
+            Err(fault) => Err(StepFault::Publish(fault)),
+        },
         Err(fault) => Err(StepFault::Run(fault, folder.discard(draft, part))),
     }
 }
