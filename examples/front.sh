@@ -128,6 +128,10 @@ is_same "a report" r.report "$examples/station.report"
 cp station.navcap kept.navcap
 run "a report that is the input" 4 "kept.navcap is the input itself" -t list --overwrite --report kept.navcap kept.navcap
 is_same "a report that is the input" kept.navcap station.navcap
+run "a report that is the output" 4 "both.rnx is the report" --report both.rnx -o both.rnx station.navcap
+[ ! -e both.rnx ] || differs "a report that is the output" "it is there"
+run "a report that is the output, by another name" 4 "./both.rnx is the report" --report both.rnx -o ./both.rnx station.navcap
+[ ! -e both.rnx.part ] || differs "a report that is the output, by another name" "a part is there"
 run "help" 0 - --help
 grep -q -- --overwrite out || differs "help" "no option"
 run "version" 0 - --version

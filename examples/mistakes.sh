@@ -131,6 +131,7 @@ all() {
   try "several files to one" -o one.rnx station.navcap log.ubx
   try "standard input into a folder" -o outputs -
   try "a report that is there" --report there.rnx -o r.rnx station.navcap
+  try "a report as output" --report r.rnx -o r.rnx station.navcap
   try "a site of four letters" --long-name BRDC station.navcap
   try "a long name of a list" -t list --long-name BRDC00XXX station.navcap
 }

@@ -10,10 +10,12 @@
 //! ```
 #![tactic(auto)]
 
+mod entries;
 mod faults;
 mod host;
 mod memory;
 
+pub use crate::entries::MemDraft;
 pub use crate::faults::fault_of;
 pub use crate::host::HostFolder;
 pub use crate::memory::{MemFolder, MemInput};

@@ -4,10 +4,11 @@ ghost use Rattle.std.specs.Prelude.{◌≡◌, Some, None};
 ghost use Rattle.std.specs.Prelude.{OnOk, IfOk, ℕ, List, [], ◌≢◌};
 ghost use Rattle.std.specs.Option.{option_map};
 ghost use Rattle.file_step.specs.Files.{Opens};
-ghost use Rattle.file_step.specs.Entries.{Sets, bytes_at};
+ghost use Rattle.file_folders.specs.Entries.{Sets, bytes_at};
 
+use crate::entries::{Entry, MemDraft, found, published, set};
 use crate::faults::Faults;
-use file_step::{Entry, FileFault, Folder, MemDraft, found, published, set};
+use file_step::{FileFault, Folder};
 use nav_io::{ReadSource, Sink, Source, WriteSink};
 use std::alloc::{AllocError, Global};
 use std::io::Cursor;
@@ -58,7 +59,7 @@ impl MemFolder {
 
 impl Folder for MemFolder {
     ghost use Rattle.std.specs.Prelude.{Some};
-    ghost use Rattle.file_step.specs.Entries.{bytes_at};
+    ghost use Rattle.file_folders.specs.Entries.{bytes_at};
 
     type Input = MemInput;
 

@@ -41,6 +41,8 @@ pub enum Refusal<'a> {
     PartThere(&'a str),
     /// The output is the input itself.
     SameFile(&'a str),
+    /// The output is the file for reports.
+    SameReport(&'a str),
     /// Writing the output failed.
     WriteFault(&'a str, FileFault),
     /// The first line or the header of a file of this form is not accepted.
@@ -74,6 +76,7 @@ impl Refusal<'_> {
             Refusal::OutputThere(_)
             | Refusal::PartThere(_)
             | Refusal::SameFile(_)
+            | Refusal::SameReport(_)
             | Refusal::WriteFault(_, _) => 4,
             Refusal::NotAccepted(_) | Refusal::NoTimes => 5,
             Refusal::NoMemory => 6,
@@ -183,6 +186,7 @@ impl Refusal<'_> {
                 ("", name, there)
             }
             Refusal::SameFile(name) => ("", name, " is the input itself; name the output by -o"),
+            Refusal::SameReport(name) => ("", name, " is the report; name the output by -o"),
             Refusal::WriteFault(name, _) => ("writing ", name, " failed: "),
             _ => ("", "", ""),
         }

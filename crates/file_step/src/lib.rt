@@ -8,9 +8,7 @@
 //! - [`Peeked`], a source whose first bytes can be looked at, which gives them again, and then what
 //!   follows, so that a pipe can be looked at like a file; and [`Counted`], which counts the bytes
 //!   that are read and tells a [`Progress`];
-//! - [`Gathered`], a sink that gathers what is written to a file;
-//! - files in memory, as a list of changes of their names ([`Entry`], [`set`], [`found`]), and
-//!   [`published`], which gives one that was written its name.
+//! - [`Gathered`], a sink that gathers what is written to a file.
 //!
 //! ```rust
 //! let part = part_of(rt.alloc(), "station.rnx")?;
@@ -20,7 +18,6 @@
 #![tactic(auto)]
 
 mod counted;
-mod entries;
 mod faults;
 mod folder;
 mod gathered;
@@ -29,7 +26,6 @@ mod peeked;
 mod step;
 
 pub use crate::counted::{Counted, Progress, Untold};
-pub use crate::entries::{Entry, MemDraft, found, published, set};
 pub use crate::faults::FileFault;
 pub use crate::folder::Folder;
 pub use crate::gathered::{GATHERED, Gathered};

@@ -58,16 +58,27 @@ fn report_of<'a>(rt: &HostRuntime, asked: &Asked<'a>) -> Result<Option<File>, Re
     }
 }
 
-// The file of this name, for reports: it is no input, and is not replaced without leave.
+// Why the file of this name cannot have reports: it is the output, or an input.
+fn unfit_report<'a>(rt: &HostRuntime, asked: &Asked<'a>, name: &'a str) -> Option<Refusal<'a>> {
+    if matches!(asked.value("output"), Some(output) if output == name) {
+        return Some(Refusal::SameReport(name));
+    }
+    for file in asked.files().unwrap_or(&[]) {
+        if is_same_file(rt, file, name) {
+            return Some(Refusal::SameFile(name));
+        }
+    }
+    None
+}
+
+// The file of this name, for reports, where it can have them; it is not replaced without leave.
 fn opened_report<'a>(
     rt: &HostRuntime,
     asked: &Asked<'a>,
     name: &'a str,
 ) -> Result<Option<File>, Refusal<'a>> {
-    for file in asked.files().unwrap_or(&[]) {
-        if is_same_file(rt, file, name) {
-            return Err(Refusal::SameFile(name));
-        }
+    if let Some(refusal) = unfit_report(rt, asked, name) {
+        return Err(refusal);
     }
     match created(rt, name, asked.has("overwrite")) {
         Ok(file) => Ok(Some(file)),
@@ -99,6 +110,7 @@ pub(crate) fn convert_asked<'x, 'a>(
         plan: plan_of(asked, clock),
         output: output_of(rt, asked),
         report,
+        report_name: asked.value("report"),
         site: asked.value("long-name"),
         overwrites: asked.has("overwrite"),
         quiet: asked.has("quiet"),

@@ -2,7 +2,7 @@
 
 use crate::dry::show_files;
 use crate::forms::file_kind;
-use crate::outputs::{Output, is_file, is_folder, name_of, owned, placed, taken};
+use crate::outputs::{Output, is_file, is_folder, is_same_file, name_of, owned, placed, taken};
 use crate::place::Goal;
 use crate::steps::put;
 use crate::telling::tell_file;
@@ -24,6 +24,8 @@ pub(crate) struct Task<'a> {
     pub output: Output<'a>,
     /// Where reports go.
     pub report: Option<&'a File>,
+    /// The name of the file for reports, where one is named.
+    pub report_name: Option<&'a str>,
     /// The site of names by the convention of RINEX, where they are wanted.
     pub site: Option<&'a str>,
     /// Whether a file that has the name of an output is replaced.
@@ -130,8 +132,19 @@ fn times_name<'a>(
     }
 }
 
+// Whether the file of this name is that for reports.
+fn is_report(task: &Task, name: &str) -> bool {
+    match task.report_name {
+        None => false,
+        Some(report) => is_same_file(task.rt, report, name),
+    }
+}
+
 // Makes the output under this name, where it may have it.
 fn put_free<'a>(task: &Task<'a>, first: &'a str, files: &'a [&'a str], name: &str) -> u8 {
+    if is_report(task, name) {
+        return tell_file(task.rt, first, &Refusal::SameReport(name));
+    }
     for file in files {
         if let Some(refusal) = taken(task.rt, file, name, task.overwrites) {
             return tell_taken(task, file, &refusal);

@@ -1,6 +1,6 @@
 use Rattle.std.proofs.Common.{◌≡◌, drop}
-use Rattle.file_step.specs.Entries.{bytes_at}
-use Rattle.file_step.proofs.entries.found.Given as goal
+use Rattle.file_folders.specs.Entries.{bytes_at}
+use Rattle.file_folders.proofs.entries.found.Given as goal
 
 -- what was passed says nothing of the name
 abbrev pub invariant-loop-entry : goal.invariant-loop-entry

@@ -3,9 +3,9 @@
 ghost use Rattle.std.specs.Prelude.{◌≡◌, Some, OnOk, OnErr, ◌≢◌, IfErr};
 ghost use Rattle.std.specs.Option.{option_map};
 ghost use Rattle.file_step.specs.Files.{Publishes, Stays};
-ghost use Rattle.file_step.specs.Entries.{Sets, bytes_at, contents_of};
+ghost use Rattle.file_folders.specs.Entries.{Sets, bytes_at, contents_of};
 
-use crate::faults::FileFault;
+use file_step::FileFault;
 use nav_io::{Sink, WriteSink};
 use std::alloc::{AllocError, Global};
 
@@ -14,13 +14,13 @@ pub type MemDraft = WriteSink<Vec<u8>>;
 
 /// A change of a name: now a file with these bytes, or none.
 #[derive(Drop)]
-pub struct Entry {
+pub(crate) struct Entry {
     name: String,
     bytes: Option<Vec<u8>>,
 }
 
 /// Adds a change of a name, as the newest.
-pub fn set(
+pub(crate) fn set(
     alloc: Global,
     entries: &mut Vec<Entry>,
     name: &str,
@@ -46,7 +46,7 @@ fn bytes_in(entry: &Entry) -> Option<&[u8]>
 }
 
 /// The bytes of the file of this name, by changes of which the newest is the first.
-pub fn found<'a>(entries: &'a [Entry], name: &str) -> Option<&'a [u8]>
+pub(crate) fn found<'a>(entries: &'a [Entry], name: &str) -> Option<&'a [u8]>
     ensures { option_map (λ bytes. bytes.now) result ≡ bytes_at entries.now name.now }
 {
     for entry in entries {
@@ -59,7 +59,7 @@ pub fn found<'a>(entries: &'a [Entry], name: &str) -> Option<&'a [u8]>
 
 /// Gives the name the bytes, and removes the part. It fails only for want of memory, in this call or
 /// in a write of the draft.
-pub fn published(
+pub(crate) fn published(
     alloc: Global,
     entries: &mut Vec<Entry>,
     draft: MemDraft,
