@@ -57,8 +57,8 @@ pub(crate) fn found<'a>(entries: &'a [Entry], name: &str) -> Option<&'a [u8]>
     None
 }
 
-/// Gives the name the bytes, and removes the part. It fails only for want of memory, in this call or
-/// in a write of the draft.
+/// Gives the name the bytes, and removes the part. It fails only for want of memory, in this call
+/// or in a write of the draft.
 pub(crate) fn published(
     alloc: Global,
     entries: &mut Vec<Entry>,

@@ -14,8 +14,8 @@ use file_step::part_of;
 use front_run::{Outcome, Told, convert_one, finish};
 use std::fs::File;
 
-/// Converts files, the first of which has this name, to that of a name, or to what is named so; what
-/// came of them is said of the shown name. The status.
+/// Converts files, the first of which has this name, to that of a name, or to what is named so;
+/// what came of them is said of the shown name. The status.
 pub(crate) fn put<'a>(
     task: &Task<'a>,
     first: &'a str,
