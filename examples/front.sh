@@ -132,6 +132,9 @@ run "a report that is the output" 4 "both.rnx is the report" --report both.rnx -
 [ ! -e both.rnx ] || differs "a report that is the output" "it is there"
 run "a report that is the output, by another name" 4 "./both.rnx is the report" --report both.rnx -o ./both.rnx station.navcap
 [ ! -e both.rnx.part ] || differs "a report that is the output, by another name" "a part is there"
+echo old > both.rnx
+run "a report that is the output, and there" 4 "both.rnx is the report" --overwrite --report both.rnx -o ./both.rnx station.navcap
+[ "$(cat both.rnx)" = old ] || differs "a report that is the output, and there" "it was changed"
 run "help" 0 - --help
 grep -q -- --overwrite out || differs "help" "no option"
 run "version" 0 - --version

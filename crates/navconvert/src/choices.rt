@@ -60,8 +60,10 @@ fn report_of<'a>(rt: &HostRuntime, asked: &Asked<'a>) -> Result<Option<File>, Re
 
 // Why the file of this name cannot have reports: it is the output, or an input.
 fn unfit_report<'a>(rt: &HostRuntime, asked: &Asked<'a>, name: &'a str) -> Option<Refusal<'a>> {
-    if matches!(asked.value("output"), Some(output) if output == name) {
-        return Some(Refusal::SameReport(name));
+    if let Some(output) = asked.value("output") {
+        if output == name || is_same_file(rt, output, name) {
+            return Some(Refusal::SameReport(name));
+        }
     }
     for file in asked.files().unwrap_or(&[]) {
         if is_same_file(rt, file, name) {
