@@ -1,18 +1,20 @@
 -- From a step to the conversion that it ends.
 use Rattle.std.proofs.Common.{◌≡◌, ◌⊎◌, inl, inr, ◌<◌, ◌≤◌, ◌^◌, ℕ, length, List, Option, None, Some, Result, Ok, Err, refl, sym, subst, ◌∙◌, arith}
 use Rattle.std.proofs.lemmas.Bool.{cases_lt}
-use Rattle.std.specs.Prelude.{IfErr, IfSome, OnErr, OnOk}
+use Rattle.std.specs.Prelude.{IfErr, IfSome, IsSome, OnErr, OnOk}
 use Rattle.nav_io.specs.Causes.{Rose}
 use Rattle.file_step.specs.Files.{Opens, Stays}
 use Rattle.file_step.specs.Steps.{BrokeOff, Lacks, bytes_of}
 use Rattle.file_step.specs.declared.step.StepFault.{StepFault}
 use Rattle.receiver_log.specs.LogRuns.{too_many}
 use Rattle.front_run.specs.Asked.{CanConvert, ConvertsAs, Makes, PutsAs}
-use Rattle.front_run.specs.Steps.{EndsSo, IsBegun, IsLack, IsStopped, LacksMore}
+use Rattle.file_form.specs.declared.Kind.{Kind}
+use Rattle.front_run.specs.Steps.{EndsSo, IsBegun, IsLack, IsStopped, LacksMore, ReadsUnder, TellsForm}
 use Rattle.front_run.specs.Tasks.{accepts, makes_by}
 use Rattle.front_run.specs.declared.plans.Plan.{Plan}
 use Rattle.front_run.specs.declared.stops.Stop.{Stop}
 use Rattle.front_run.specs.declared.tasks.Task.{Task}
+use Rattle.front_run.proofs.Beginning.{all_ok}
 use Rattle.front_run.proofs.Ended.{always}
 
 abbrev pub Folders : Type 0
@@ -69,6 +71,11 @@ by_count count files files_new (Err fault) (inl short) why none few = inl (few s
 by_count count files files_new (Err fault) (inr many) (inl broke) none few = inr (broke, many)
 by_count count files files_new (Err fault) (inr many) (inr rose) none few = absurd (none rose)
 
+-- what is told is the form under which it was begun
+pub tells : (plan : Plan) (source : Option (List ℕ)) (done : Result (Unit {0}) Stop) (kind : Kind) (told : Option Kind) → told ≡ Some kind
+    → ReadsUnder plan source kind → TellsForm plan source done told
+tells plan source done kind told is under = rw is (record { some = all_ok done _ refl; is = under })
+
 -- It is done, or something is wanting, where the bytes are accepted and nothing fails. What is read of a log fails as the source
 -- does only while its bytes are not too many.
 pub lacks_of : (plan : Plan) (source left : Option (List ℕ)) (task : Task)
@@ -99,6 +106,16 @@ lacks_of plan (Some bytes) left task reads reads_new inner inner_new reports rep
 pub none_ok : (done : Result (Unit {0}) Stop) (A : Type 0) → OnOk done ⊥ → OnOk done A
 none_ok (Ok x) A never = absurd never
 none_ok (Err stop) A never = tt
+
+pub untold : (plan : Plan) (source : Option (List ℕ)) (done : Result (Unit {0}) Stop) (told : Option Kind) → OnOk done ⊥ → told ≡ None
+    → TellsForm plan source done told
+untold plan source done told never is = record {
+  some = none_ok done (IsSome told) never;
+  is = subst (λ (k : Option Kind). IfSome k (ReadsUnder plan source)) (sym is) tt;
+}
+
+pub unmade : (done : Result (Unit {0}) Stop) (stop : Stop) → done ≡ Err stop → OnOk done ⊥
+unmade done stop is = subst (λ (d : Result (Unit {0}) Stop). OnOk d ⊥) (sym is) tt
 
 stays_same : (files : Folders) (part : List ℕ) → Stays files files part
 stays_same None part = tt
@@ -141,6 +158,18 @@ of_file : (files : Folders) (from : List ℕ) (source : Option (List ℕ)) (P : 
     → IfSome (bytes_of files from) P
 of_file None from source P opens all = tt
 of_file (Some files) from source P (bytes, there, has) all = subst (λ (o : Option (List ℕ)). IfSome o P) (has ∙ sym there) all
+
+under_file : (plan : Plan) (files : Folders) (from : List ℕ) (source : Option (List ℕ)) (told : Option Kind) → Opens files from source
+    → IfSome told (ReadsUnder plan source) → IfSome told (ReadsUnder plan (bytes_of files from))
+under_file plan files from source None opens is = tt
+under_file plan files from source (Some kind) opens is = of_file files from source _ opens is
+
+pub tells_file : (plan : Plan) (files : Folders) (from : List ℕ) (source : Option (List ℕ)) (done result : Result (Unit {0}) Stop) (told : Option Kind)
+    → Opens files from source → EndsSo IsLack done result → TellsForm plan source done told → TellsForm plan (bytes_of files from) result told
+tells_file plan files from source done result told opens so form = record {
+  some = on_ended IsLack done result (IsSome told) (IsSome told) so (λ is. is) form.some;
+  is = under_file plan files from source told opens form.is;
+}
 
 rose_later : (a b c d : ℕ) → a ≡ b → Rose b c → c ≤ d → Rose a d
 rose_later a b c d same rose later = omega arith

@@ -2,11 +2,11 @@
 //! with it.
 
 ghost use Rattle.std.specs.Prelude.{◌≡◌, [], IfErr, IfOk, IfSome, MatchResult, OnOk};
-ghost use Rattle.std.specs.Prelude.{Err, Ok};
+ghost use Rattle.std.specs.Prelude.{Err, None, Ok};
 ghost use Rattle.std.specs.Io.KnownBytes.{Keeps};
 ghost use Rattle.nav_io.specs.Causes.{Rose};
 ghost use Rattle.front_run.specs.Asked.{CanConvert};
-ghost use Rattle.front_run.specs.Steps.{IsBegun, IsLack, IsStopped};
+ghost use Rattle.front_run.specs.Steps.{IsBegun, IsLack, IsStopped, ReadsUnder};
 ghost use Rattle.front_run.specs.Tasks.{IsReady};
 
 use crate::ends::{Outcome, Sourced, Told};
@@ -51,6 +51,9 @@ pub(crate) fn begin<S: Source, U: Sink, N: Refusals, P: Progress>(
     ensures faults { IfOk result (λ begun.
         ⟦<Input<S, N, P> as Source>⟧.faults begun.input ≡ S.faults source) }
     ensures report { IfOk result (λ begun. begun.run.report ≡ told.report) }
+    ensures form { MatchResult result
+        (λ begun. ReadsUnder plan.now (S.left source) begun.kind)
+        (λ left. left.outcome.kind ≡ None) }
     ensures stopped { IfErr result (λ left. IsStopped plan.now (S.left source)
         (S.faults source) (S.faults left.source) left.outcome.done) }
 {

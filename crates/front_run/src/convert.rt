@@ -5,7 +5,7 @@ ghost use Rattle.nav_io.specs.Causes.{Rose};
 ghost use Rattle.file_step.specs.Files.{Stays};
 ghost use Rattle.file_step.specs.Steps.{bytes_of};
 ghost use Rattle.front_run.specs.Asked.{CanConvert, ConvertsAs, PutsAs};
-ghost use Rattle.front_run.specs.Steps.{IsLack};
+ghost use Rattle.front_run.specs.Steps.{IsLack, TellsForm};
 
 use crate::begun::begin;
 use crate::ends::{Outcome, Sourced, Told, ended, told_by};
@@ -36,6 +36,8 @@ pub fn convert_one<F: Folder, U: Sink, N: Refusals, P: Progress>(
     ensures converts { OnOk result.done (ConvertsAs plan.now (F.files folder.old)
         (F.files folder.new) from.now part.now name.now) }
     ensures stays { OnErr result.done (Stays (F.files folder.old) (F.files folder.new) part.now) }
+    ensures form { TellsForm plan.now (bytes_of (F.files folder.old) from.now) result.done
+        result.kind }
 
     // It is done where the file is there, its bytes are accepted and nothing fails, but for want of
     // memory or of a log's 2^64 - 16,384 bytes.
@@ -78,6 +80,7 @@ pub fn convert_source<F: Folder, S: Source, U: Sink, N: Refusals, P: Progress>(
     ensures stays { OnErr result.outcome.done
         (Stays (F.files folder.old) (F.files folder.new) part.now) }
     ensures later { F.faults folder.old ≤ F.faults folder.new }
+    ensures form { TellsForm plan.now (S.left source) result.outcome.done result.outcome.kind }
 
     // It is done where the bytes of the source are accepted and nothing fails, but for want of
     // memory or of a log's 2^64 - 16,384 bytes.

@@ -1,6 +1,6 @@
 //! How conversions end.
 
-ghost use Rattle.std.specs.Prelude.{◌≡◌, ◌<◌, Err};
+ghost use Rattle.std.specs.Prelude.{◌≡◌, ◌<◌, Err, None, Some};
 ghost use Rattle.receiver_log.specs.LogRuns.{too_many};
 ghost use Rattle.front_run.specs.Steps.{EndsSo, IsLack, LacksMore, told_by};
 
@@ -53,6 +53,7 @@ impl<U: Sink> Outcome<U> {
     pub(crate) fn stopped(stop: Stop, report: U) -> Outcome<U>
         ensures done { result.done ≡ Err stop }
         ensures report { result.report ≡ report }
+        ensures kind { result.kind ≡ None }
     {
         Outcome {
             done: Err(stop),
@@ -71,6 +72,7 @@ pub(crate) fn ended<S: Source, U: Sink, N: Refusals, P: Progress>(
 ) -> Sourced<U, S>
     ensures done { EndsSo (LacksMore result.outcome.count) done result.outcome.done }
     ensures report { result.outcome.report ≡ begun.run.report }
+    ensures kind { result.outcome.kind ≡ Some begun.kind }
     ensures faults { result.outcome.count < too_many
         → ⟦<Input<S, N, P> as Source>⟧.faults begun.input ≡ S.faults result.source }
 {

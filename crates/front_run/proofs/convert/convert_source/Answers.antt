@@ -1,6 +1,6 @@
 use Rattle.std.proofs.Common.{Some, ap, refl}
 use Rattle.file_step.specs.Files.{Publishes}
-use Rattle.front_run.proofs.Closing.{lacks_of, made_of, none_ok, on_ended, on_failed, stays_still, stopped_lack}
+use Rattle.front_run.proofs.Closing.{lacks_of, made_of, none_ok, on_ended, on_failed, stays_still, stopped_lack, tells, untold}
 use Rattle.front_run.proofs.convert.convert_source.Goals as goal
 
 pub returns-in-Ok-clause-puts : goal.returns-in-Ok-clause-puts
@@ -16,6 +16,9 @@ returns-in-Ok-clause-stays g c = on_failed _ _ _ _ _ c.ended.ensures.done (λ st
 pub returns-in-Ok-clause-later : goal.returns-in-Ok-clause-later
 returns-in-Ok-clause-later g c = c.put_output-done.ensures.later
 
+pub returns-in-Ok-clause-form : goal.returns-in-Ok-clause-form
+returns-in-Ok-clause-form g c = tells c.args.plan.now _ _ _ _ c.ended.ensures.kind c.in-Ok.ensures.form
+
 pub returns-in-Ok-clause-complete : goal.returns-in-Ok-clause-complete
 returns-in-Ok-clause-complete g c =
     lacks_of _ _ _ _ _ _ _ _ _ _ _ _ _ _ _ _ _ c.in-Ok.ensures.begun c.ended.ensures.done c.in-Ok.ensures.faults c.ended.ensures.faults
@@ -27,6 +30,9 @@ returns-in-Err-clause-puts g c = none_ok _ _ c.in-Err.ensures.stopped.never
 
 pub returns-in-Err-clause-stays : goal.returns-in-Err-clause-stays
 returns-in-Err-clause-stays g c = stays_still _ _ _ _ refl
+
+pub returns-in-Err-clause-form : goal.returns-in-Err-clause-form
+returns-in-Err-clause-form g c = untold c.args.plan.now _ _ _ c.in-Err.ensures.stopped.never c.in-Err.ensures.form
 
 pub returns-in-Err-clause-complete : goal.returns-in-Err-clause-complete
 returns-in-Err-clause-complete g c = stopped_lack _ _ _ _ _ _ _ c.in-Err.ensures.stopped
