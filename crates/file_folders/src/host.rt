@@ -22,7 +22,9 @@ pub struct HostFolder<'a, R: Files> {
 
 impl<'a, R: Files> HostFolder<'a, R> {
     /// A folder with a fault count of 0.
-    pub fn new(alloc: Global, files: &'a R) -> HostFolder<'a, R> {
+    pub fn new(alloc: Global, files: &'a R) -> HostFolder<'a, R>
+        ensures { ⟦<HostFolder<'a, R> as Folder>⟧.faults result ≡ 0 }
+    {
         HostFolder {
             alloc,
             files,
