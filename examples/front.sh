@@ -129,9 +129,9 @@ cp station.navcap kept.navcap
 run "a report that is the input" 4 "kept.navcap is the input itself" -t list --overwrite --report kept.navcap kept.navcap
 is_same "a report that is the input" kept.navcap station.navcap
 run "a report that is the output" 4 "both.rnx is the report" --report both.rnx -o both.rnx station.navcap
-[ ! -e both.rnx ] || differs "a report that is the output" "it is there"
+is_gone "a report that is the output" both.rnx
 run "a report that is the output, by another name" 4 "./both.rnx is the report" --report both.rnx -o ./both.rnx station.navcap
-[ ! -e both.rnx.part ] || differs "a report that is the output, by another name" "a part is there"
+is_gone "a report that is the output, by another name" both.rnx.part
 echo old > both.rnx
 run "a report that is the output, and there" 4 "both.rnx is the report" --overwrite --report both.rnx -o ./both.rnx station.navcap
 [ "$(cat both.rnx)" = old ] || differs "a report that is the output, and there" "it was changed"
@@ -143,6 +143,22 @@ run "forms" 0 - --list-forms
 # ---- what is refused
 run "no such file" 3 "none.navcap: there is no such file" none.navcap
 run "a folder" 3 "in: it is a folder" in
+input=in run "a read that fails" 3 "reading it failed after 0 bytes: it is a folder" -t list -o broken.list -
+is_gone "a read that fails" broken.list.part
+cat > hang_up.py << 'END'
+import os, pty, subprocess, sys, tty
+reader, writer = pty.openpty()
+tty.setraw(writer)
+with open("station.navcap", "rb") as it:
+    os.write(writer, it.read(3000))
+os.close(writer)
+sys.exit(subprocess.run(sys.argv[1:], stdin=reader).returncode)
+END
+tried=$((tried + 1)) got=0
+python3 hang_up.py "$navconvert" -t list -o broken.list - > out 2> said || got=$?
+[ "$got" = 3 ] || differs "a terminal that hangs up" "status $got, not 3"
+grep -qF "reading it failed after 3000 bytes" said || differs "a terminal that hangs up" "it does not say where"
+is_gone "a terminal that hangs up" broken.list
 if [ "$(id -u)" != 0 ]; then
   cp station.navcap hidden.navcap
   chmod 0 hidden.navcap
