@@ -1,9 +1,7 @@
--- The form under which a file is read, and the command-line words of `navbridge` for its conversion.
-use Rattle.std.specs.Prelude.{ℕ, List, [], ◌∷◌, ◌++◌, Bool, true, false, Option, None, Some, codes}
+-- The form under which a file is read, and what its conversion is given.
+use Rattle.std.specs.Prelude.{ℕ, List, Bool, true, false, Option, None, Some}
 use Rattle.file_form.specs.declared.Kind.{Kind}
 use Rattle.file_form.specs.declared.Kind.TheVariants as kinds
-use Rattle.file_form.specs.Table.{from_word, to_word}
-use Rattle.file_form.specs.declared.table.Row.{Row}
 use Rattle.file_form.specs.declared.table.Target.{Target}
 use Rattle.file_form.specs.declared.table.Target.TheVariants as targets
 use Rattle.file_form.specs.declared.table.WeekRule.{WeekRule}
@@ -27,19 +25,3 @@ week_given Never named clock = None
 week_given IfNamed named clock = named
 week_given Always None clock = Some clock
 week_given Always (Some week) clock = Some week
-
--- the `--week` words: none, where none is given
-abbrev pub week_words : Option (List ℕ) → List (List ℕ)
-week_words None = []
-week_words (Some week) = (codes "--week=" ++ week) ∷ []
-
--- the `--leap` and `--date` words, where the conversion writes a header
-abbrev pub header_words : Bool → List ℕ → List ℕ → List (List ℕ)
-header_words false leap date = []
-header_words true leap date = (codes "--leap=" ++ leap) ∷ (codes "--date=" ++ date) ∷ []
-
--- all words of the conversion
-abbrev pub words_of : Kind → Target → Row → Option (List ℕ) → List ℕ → List ℕ → List ℕ → List (List ℕ)
-words_of kind target row named clock leap date =
-    ((codes "--from=" ++ from_word kind) ∷ (codes "--to=" ++ to_word target) ∷ [] ++ week_words (week_given row.week named clock))
-    ++ header_words row.header leap date

@@ -1,24 +1,15 @@
-//! The form of a file, told by its first bytes, and what is made of files: the table of
-//! conversions, the words of `navbridge` for each, names of outputs, and a sentence for each reason
-//! why a file is not converted.
+//! The form of a file, told by its first bytes, and the table of conversions.
 //!
 //! - [`kind_of`], the form of a file. It looks at no more than 80 bytes, so the first 80 bytes of a
 //!   file tell the same form as the whole file ([`first_bytes_decide`]);
 //! - [`form_of`], the form under which a file is read; [`row_of`], which options its conversion to
-//!   a [`Target`] takes, and [`words_for`], the words of `navbridge` for it; [`is_copied`], whether
-//!   what is made is what is read;
-//! - [`from_word`] and [`to_word`], the words of forms and targets, [`kind_named`] and
-//!   [`target_named`], what they name;
-//! - [`output_name`], the name of an output by that of its input, with the target's ending
-//!   ([`ending_of`]), and [`long_name`], that of a navigation file by the convention of RINEX 3 and
-//!   4 (RINEX 4.02, 5.2); [`fits`], whether a text is of a form;
-//! - [`Refusal`], a reason, its sentence and the status of the program, and [`run_refusal`], that
-//!   of a run which broke off.
+//!   a [`Target`] takes, and [`week_given`], the week that it is given; [`is_copied`], whether what
+//!   is made is what is read;
+//! - [`Stop`], why a file is not converted, and [`stopped_by`], how a conversion ended, by how its
+//!   step did.
 //!
 //! ```rust
 //! assert!(rt; matches!(kind_of(b"NAVCAP 1\n"), Kind::Capture1));
-//! let name = output_name(rt.alloc(), "data/station.navcap", "rnx")?;
-//! assert!(rt; name.ok_or("a name")?.as_str() == "station.rnx");
 //! ```
 #![tactic(auto)]
 
@@ -27,26 +18,15 @@ ghost use Rattle.std.specs.List.{starts_with};
 ghost use Rattle.file_form.specs.Kinds.{kind_of, prefix_kind, binary_kind, text_kind};
 ghost use Rattle.file_form.specs.Kinds.{rinex_kind, version_of, first_char, stands_at};
 
-mod digits;
-mod form;
 mod laws;
-mod long;
-mod names;
 mod plan;
-mod runs;
-mod says;
+mod stops;
 mod table;
-mod words;
 
-pub use crate::form::fits;
 pub use crate::laws::first_bytes_decide;
-pub use crate::long::{is_site, long_name};
-pub use crate::names::output_name;
-pub use crate::plan::{Values, form_of, is_copied, words_for};
-pub use crate::runs::run_refusal;
-pub use crate::says::{Refusal, kind_text, targets_of};
+pub use crate::plan::{form_of, is_copied, week_given};
+pub use crate::stops::{Stop, stopped_by};
 pub use crate::table::{Row, Target, WeekRule, row_of};
-pub use crate::words::{ending_of, from_word, kind_named, target_named, to_word};
 
 /// How many bytes tell a file's form: the first line of a RINEX file.
 pub const LOOKED_AT: usize = 80;

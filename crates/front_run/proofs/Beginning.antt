@@ -6,15 +6,15 @@ use Rattle.std.specs.Io.KnownBytes.{Keeps}
 use Rattle.nav_io.specs.Causes.{Rose}
 use Rattle.file_form.specs.Kinds.{kind_of}
 use Rattle.file_form.specs.declared.Kind.{Kind}
-use Rattle.front_run.specs.Asked.{AcceptsAs, CanAsk, CanConvert, MakesAs}
+use Rattle.front_run.specs.Asked.{AcceptsAs, CanAsk, CanConvert, MakesAs, ReadsUnder}
 use Rattle.file_form.specs.Plans.{form_of}
 use Rattle.front_run.specs.Logs.{read_as}
 use Rattle.front_run.specs.Steps.{IsBegun, IsLack, IsStopped}
 use Rattle.front_run.specs.Tasks.{IsReady, IsTask, makes_by}
 use Rattle.front_run.specs.declared.begun.Ready.{Ready}
 use Rattle.front_run.specs.declared.plans.Plan.{Plan}
-use Rattle.front_run.specs.declared.stops.Stop.{Stop}
-use Rattle.front_run.specs.declared.stops.Stop.TheVariants.{NoMemory}
+use Rattle.file_form.specs.declared.stops.Stop.{Stop}
+use Rattle.file_form.specs.declared.stops.Stop.TheVariants.{NoMemory}
 use Rattle.front_run.specs.declared.tasks.Task.{Task}
 use Rattle.front_run.proofs.Asking.{accepts_of, can_ask, makes_as}
 use Rattle.front_run.proofs.Ended.{OneJob}
@@ -22,7 +22,7 @@ use Rattle.front_run.proofs.Ended.{OneJob}
 -- ---- what is done with an input that was looked at, or why nothing is
 
 pub prepared_ready : (plan : Plan) (source : Option (List ℕ)) (kind : Kind) (r : Result Task Stop) (result : Result Ready Stop)
-    → IfSome source (λ bytes. kind ≡ form_of plan.form (kind_of bytes)) → IfOk r (λ task. IsTask plan kind task)
+    → ReadsUnder plan.form source kind → IfOk r (λ task. IsTask plan kind task)
     → MatchResult r (λ task. result ≡ Ok (record { kind = kind; task = task })) (λ stop. result ≡ Err stop)
     → IfOk result (λ ready. IsReady plan source ready)
 prepared_ready plan source kind (Ok task) result is asked same =
@@ -31,7 +31,7 @@ prepared_ready plan source kind (Err stop) result is asked same =
     subst (λ (x : Result Ready Stop). IfOk x (λ ready. IsReady plan source ready)) (sym same) tt
 
 ask_lack : (plan : Plan) (source : Option (List ℕ)) (kind : Kind) (reads reads_new : ℕ) (stop : Stop)
-    → IfSome source (λ bytes. kind ≡ form_of plan.form (kind_of bytes)) → (CanAsk plan kind → stop ≡ NoMemory)
+    → ReadsUnder plan.form source kind → (CanAsk plan kind → stop ≡ NoMemory)
     → IfSome source (λ bytes. CanConvert plan bytes → (Rose reads reads_new → ⊥) → IsLack stop)
 ask_lack plan None kind reads reads_new stop is complete = tt
 ask_lack plan (Some bytes) kind reads reads_new stop is complete = λ (can, few). λ none.
@@ -39,7 +39,7 @@ ask_lack plan (Some bytes) kind reads reads_new stop is complete = λ (can, few)
     subst IsLack (sym (complete (can_ask plan kind (read_as kind bytes) accepted))) tt
 
 pub prepared_lack : (plan : Plan) (source : Option (List ℕ)) (kind : Kind) (reads reads_new : ℕ) (r : Result Task Stop) (result : Result Ready Stop)
-    → IfSome source (λ bytes. kind ≡ form_of plan.form (kind_of bytes)) → (CanAsk plan kind → IfErr r (λ stop. stop ≡ NoMemory))
+    → ReadsUnder plan.form source kind → (CanAsk plan kind → IfErr r (λ stop. stop ≡ NoMemory))
     → MatchResult r (λ task. result ≡ Ok (record { kind = kind; task = task })) (λ stop. result ≡ Err stop)
     → IfErr result (λ stop. IfSome source (λ bytes. CanConvert plan bytes → (Rose reads reads_new → ⊥) → IsLack stop))
 prepared_lack plan source kind reads reads_new (Ok task) result is complete same =

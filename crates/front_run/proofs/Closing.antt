@@ -6,13 +6,15 @@ use Rattle.nav_io.specs.Causes.{Rose}
 use Rattle.file_step.specs.Files.{Opens, Stays}
 use Rattle.file_step.specs.Steps.{BrokeOff, Lacks, bytes_of}
 use Rattle.file_step.specs.declared.step.StepFault.{StepFault}
+use Rattle.file_step.specs.declared.step.StepFault.TheVariants.{Begin, Run, Publish}
 use Rattle.receiver_log.specs.LogRuns.{too_many}
-use Rattle.front_run.specs.Asked.{CanConvert, ConvertsAs, Makes, PutsAs}
+use Rattle.front_run.specs.Asked.{CanConvert, ConvertsAs, Makes, PutsAs, ReadsUnder}
 use Rattle.file_form.specs.declared.Kind.{Kind}
-use Rattle.front_run.specs.Steps.{EndsSo, IsBegun, IsLack, IsStopped, LacksMore, ReadsUnder, TellsForm}
+use Rattle.file_form.specs.Stops.{stopped_by}
+use Rattle.front_run.specs.Steps.{EndsSo, IsBegun, IsLack, IsStopped, LacksMore, TellsForm}
 use Rattle.front_run.specs.Tasks.{accepts, makes_by}
 use Rattle.front_run.specs.declared.plans.Plan.{Plan}
-use Rattle.front_run.specs.declared.stops.Stop.{Stop}
+use Rattle.file_form.specs.declared.stops.Stop.{Stop}
 use Rattle.front_run.specs.declared.tasks.Task.{Task}
 use Rattle.front_run.proofs.Beginning.{all_ok}
 use Rattle.front_run.proofs.Ended.{always}
@@ -50,6 +52,21 @@ lack_of lacks (Ok x) (Err stop) so lack = absurd so
 lack_of lacks (Err fault) (Ok y) so lack = tt
 lack_of lacks (Err fault) (Err stop) so lack = so lack
 
+no_call : {E A : Type 0} → ⊥ ⊎ (⊥ × A) → E
+no_call (inl never) = absurd never
+no_call (inr (never, a)) = absurd never
+
+lack_run : (status count : ℕ) → (status ≡ 6) ⊎ (Unit {0} × (too_many ≤ count)) → (status ≡ 6) ⊎ (too_many ≤ count)
+lack_run status count (inl six) = inl six
+lack_run status count (inr (broke, many)) = inr many
+
+-- what its step lacks it lacks
+pub ended_by : (kind : Kind) (count : ℕ) (done : Result (Unit {0}) (StepFault ℕ)) → EndsSo (LacksMore count) done (stopped_by kind done count)
+ended_by kind count (Ok x) = tt
+ended_by kind count (Err (Begin fault)) = no_call
+ended_by kind count (Err (Run status told)) = lack_run status count
+ended_by kind count (Err (Publish fault)) = no_call
+
 -- ---- a conversion that was begun
 
 -- what was made of what was read is what the plan asks
@@ -73,7 +90,7 @@ by_count count files files_new (Err fault) (inr many) (inr rose) none few = absu
 
 -- what is told is the form under which it was begun
 pub tells : (plan : Plan) (source : Option (List ℕ)) (done : Result (Unit {0}) Stop) (kind : Kind) (told : Option Kind) → told ≡ Some kind
-    → ReadsUnder plan source kind → TellsForm plan source done told
+    → ReadsUnder plan.form source kind → TellsForm plan source done told
 tells plan source done kind told is under = rw is (record { some = all_ok done _ refl; is = under })
 
 -- It is done, or something is wanting, where the bytes are accepted and nothing fails. What is read of a log fails as the source
@@ -111,7 +128,7 @@ pub untold : (plan : Plan) (source : Option (List ℕ)) (done : Result (Unit {0}
     → TellsForm plan source done told
 untold plan source done told never is = record {
   some = none_ok done (IsSome told) never;
-  is = subst (λ (k : Option Kind). IfSome k (ReadsUnder plan source)) (sym is) tt;
+  is = subst (λ (k : Option Kind). IfSome k (ReadsUnder plan.form source)) (sym is) tt;
 }
 
 pub unmade : (done : Result (Unit {0}) Stop) (stop : Stop) → done ≡ Err stop → OnOk done ⊥
@@ -160,7 +177,7 @@ of_file None from source P opens all = tt
 of_file (Some files) from source P (bytes, there, has) all = subst (λ (o : Option (List ℕ)). IfSome o P) (has ∙ sym there) all
 
 under_file : (plan : Plan) (files : Folders) (from : List ℕ) (source : Option (List ℕ)) (told : Option Kind) → Opens files from source
-    → IfSome told (ReadsUnder plan source) → IfSome told (ReadsUnder plan (bytes_of files from))
+    → IfSome told (ReadsUnder plan.form source) → IfSome told (ReadsUnder plan.form (bytes_of files from))
 under_file plan files from source None opens is = tt
 under_file plan files from source (Some kind) opens is = of_file files from source _ opens is
 

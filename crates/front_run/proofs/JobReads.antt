@@ -2,7 +2,7 @@
 use Rattle.std.proofs.Common.{◌≡◌, ◌∷◌, ◌++◌, ℕ, true, false, List, bytes_eq, codes, refl, sym, subst, ◌∙◌}
 use Rattle.file_form.specs.declared.Kind.{Kind}
 use Rattle.file_form.specs.declared.Kind.TheVariants as kinds
-use Rattle.file_form.specs.Table.{from_word}
+use Rattle.file_words.specs.Words.{from_word}
 use Rattle.bridge_engine.specs.Job.{IsJob}
 use Rattle.bridge_engine.specs.Meanings.{meaning_of}
 use Rattle.bridge_engine.specs.declared.job.Job.{Job}

@@ -4,13 +4,13 @@ use Rattle.std.specs.Prelude.{if◌then◌else◌}
 use Rattle.std.specs.Borrow.{Bor}
 use Rattle.file_step.specs.declared.faults.FileFault.{FileFault}
 use Rattle.file_step.specs.declared.faults.FileFault.TheVariants as faults
-use Rattle.file_form.specs.Says.{status_of}
-use Rattle.file_form.specs.declared.says.Refusal.{Refusal}
-use Rattle.file_form.specs.declared.says.Refusal.TheVariants.{NoMemory, ReportFault, TooLong}
+use Rattle.file_words.specs.Says.{status_of}
+use Rattle.file_words.specs.declared.says.Refusal.{Refusal}
+use Rattle.file_words.specs.declared.says.Refusal.TheVariants.{NoMemory, ReportFault, TooLong}
 use Rattle.front_run.specs.Statuses.{IsRefusalFor, part_refusal, status_for}
 use Rattle.front_run.specs.declared.plans.Plan.{Plan}
-use Rattle.front_run.specs.declared.stops.Stop.{Stop}
-use Rattle.front_run.specs.declared.stops.Stop.TheVariants as stops
+use Rattle.file_form.specs.declared.stops.Stop.{Stop}
+use Rattle.file_form.specs.declared.stops.Stop.TheVariants as stops
 
 part_told : (fault : FileFault) (name part : Bor (List ℕ)) → status_of (part_refusal fault name part) ≡ 4
 part_told faults.NotFound name part = refl

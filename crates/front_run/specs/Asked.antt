@@ -1,5 +1,5 @@
 -- The job for a file, and what is made of it.
-use Rattle.std.specs.Prelude.{◌≡◌, ◌<◌, ◌^◌, ℕ, List, length, Bool, true, false, Option, None, Some, IsSome}
+use Rattle.std.specs.Prelude.{◌≡◌, ◌<◌, ◌^◌, ℕ, List, length, Bool, true, false, Option, None, Some, IfSome, IsSome}
 use Rattle.file_form.specs.Kinds.{kind_of}
 use Rattle.file_form.specs.declared.Kind.{Kind}
 use Rattle.file_step.specs.Files.{Publishes, Puts}
@@ -10,6 +10,10 @@ use Rattle.file_form.specs.Plans.{form_of, is_copied}
 use Rattle.front_run.specs.Forms.{AreWords}
 use Rattle.front_run.specs.Logs.{read_as}
 use Rattle.front_run.specs.declared.plans.Plan.{Plan}
+
+-- a source with these bytes is read under this form: the one that is named, or that which they tell
+abbrev pub ReadsUnder : Option Kind → Option (List ℕ) → Kind → Type 0
+ReadsUnder named source kind = IfSome source (λ bytes. kind ≡ form_of named (kind_of bytes))
 
 -- the words for a file that is read under this form give the job
 abbrev pub IsAsked : Plan → Kind → Job → Type 0

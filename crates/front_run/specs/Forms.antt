@@ -1,7 +1,7 @@
 -- The words of `navbridge` for a file that is read under a form.
 use Rattle.std.specs.Prelude.{◌≡◌, ℕ, List, Some, option_map}
 use Rattle.file_form.specs.declared.Kind.{Kind}
-use Rattle.file_form.specs.Plans.{words_of}
+use Rattle.file_words.specs.Words.{words_of}
 use Rattle.file_form.specs.Table.{row_of}
 use Rattle.file_form.specs.declared.table.Row.{Row}
 use Rattle.front_run.specs.declared.plans.Plan.{Plan}

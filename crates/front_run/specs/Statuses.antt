@@ -5,12 +5,12 @@ use Rattle.nav_io.specs.Causes.{Rose}
 use Rattle.bridge_engine.specs.Job.{IsDateText}
 use Rattle.file_step.specs.declared.faults.FileFault.{FileFault}
 use Rattle.file_step.specs.declared.faults.FileFault.TheVariants.{AlreadyThere, Other}
-use Rattle.file_form.specs.Says.{run_refusal}
-use Rattle.file_form.specs.declared.says.Refusal.{Refusal}
-use Rattle.file_form.specs.declared.says.Refusal.TheVariants.{Date, NoMemory, NoSuchConversion, NotOpened, PartThere, ReadFault, Week, WriteFault}
+use Rattle.file_words.specs.Says.{run_refusal}
+use Rattle.file_words.specs.declared.says.Refusal.{Refusal}
+use Rattle.file_words.specs.declared.says.Refusal.TheVariants.{Date, NoMemory, NoSuchConversion, NotOpened, PartThere, ReadFault, Week, WriteFault}
 use Rattle.front_run.specs.declared.plans.Plan.{Plan}
-use Rattle.front_run.specs.declared.stops.Stop.{Stop}
-use Rattle.front_run.specs.declared.stops.Stop.TheVariants as stops
+use Rattle.file_form.specs.declared.stops.Stop.{Stop}
+use Rattle.file_form.specs.declared.stops.Stop.TheVariants as stops
 
 -- the status of `navbridge` for a run that read, wrote, reported or refused; and 6 for any other
 abbrev pub run_status : ℕ → ℕ

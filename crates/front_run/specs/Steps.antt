@@ -1,18 +1,16 @@
 -- How a conversion begins and ends.
 use Rattle.std.specs.Prelude.{◌≡◌, ◌⊎◌, ◌<◌, ◌≤◌, ◌^◌, ℕ, List, length, Option, Some, Result, Ok, Err, IfErr, IfSome, IsSome, OnOk}
-use Rattle.file_form.specs.Kinds.{kind_of}
-use Rattle.file_form.specs.Plans.{form_of}
 use Rattle.file_form.specs.declared.Kind.{Kind}
 use Rattle.nav_io.specs.Causes.{Rose}
 use Rattle.file_step.specs.Steps.{BrokeOff, Lacks}
 use Rattle.file_step.specs.declared.faults.FileFault.{FileFault}
 use Rattle.file_step.specs.declared.step.StepFault.{StepFault}
 use Rattle.receiver_log.specs.LogRuns.{too_many}
-use Rattle.front_run.specs.Asked.{CanConvert, Makes}
+use Rattle.front_run.specs.Asked.{CanConvert, Makes, ReadsUnder}
 use Rattle.front_run.specs.Tasks.{accepts, makes_by}
 use Rattle.front_run.specs.declared.plans.Plan.{Plan}
-use Rattle.front_run.specs.declared.stops.Stop.{Stop}
-use Rattle.front_run.specs.declared.stops.Stop.TheVariants as stops
+use Rattle.file_form.specs.declared.stops.Stop.{Stop}
+use Rattle.file_form.specs.declared.stops.Stop.TheVariants as stops
 use Rattle.front_run.specs.declared.tasks.Task.{Task}
 
 -- there was no memory, or a log has 2^64 - 16,384 bytes or more
@@ -43,14 +41,10 @@ told_by (Err (stops.Look told)) read = Err (stops.Look read)
 told_by (Err (stops.Run kind status count told put)) read = Err (stops.Run kind status count read put)
 told_by done read = done
 
--- a source with these bytes is read under this form
-abbrev pub ReadsUnder : Plan → Option (List ℕ) → Kind → Type 0
-ReadsUnder plan source kind = IfSome source (λ bytes. kind ≡ form_of plan.form (kind_of bytes))
-
 -- where it is done its form is told, and what is told is the form under which a source with these bytes is read
 pub record TellsForm (plan : Plan) (source : Option (List ℕ)) (done : Result (Unit {0}) Stop) (told : Option Kind) : Type 0 where
   pub some : OnOk done (IsSome told)
-  pub is : IfSome told (ReadsUnder plan source)
+  pub is : IfSome told (ReadsUnder plan.form source)
 
 -- of a source with these bytes this is left to read, of which the task makes what the plan asks; and the task takes that, where they
 -- can be converted

@@ -1,11 +1,10 @@
 -- What a task makes of the bytes that it reads.
-use Rattle.std.specs.Prelude.{◌≡◌, ℕ, List, Bool, true, false, Option, IfSome, IsSome}
-use Rattle.file_form.specs.Kinds.{kind_of}
+use Rattle.std.specs.Prelude.{ℕ, List, Bool, true, false, Option, IsSome}
 use Rattle.file_form.specs.declared.Kind.{Kind}
 use Rattle.bridge_engine.specs.Meanings.{meaning_of}
 use Rattle.bridge_engine.specs.declared.job.Job.{Job}
-use Rattle.front_run.specs.Asked.{IsAsked}
-use Rattle.file_form.specs.Plans.{form_of, is_copied}
+use Rattle.front_run.specs.Asked.{IsAsked, ReadsUnder}
+use Rattle.file_form.specs.Plans.{is_copied}
 use Rattle.front_run.specs.declared.begun.Ready.{Ready}
 use Rattle.front_run.specs.declared.plans.Plan.{Plan}
 use Rattle.front_run.specs.declared.tasks.Task.{Task}
@@ -37,5 +36,5 @@ IsTask plan kind task = TaskBy (is_copied kind plan.target) plan kind task
 
 -- the form is that of the bytes, and the task that for it
 pub record IsReady (plan : Plan) (left : Option (List ℕ)) (ready : Ready) : Type 0 where
-  pub kind : IfSome left (λ bytes. ready.kind ≡ form_of plan.form (kind_of bytes))
+  pub kind : ReadsUnder plan.form left ready.kind
   pub task : IsTask plan ready.kind ready.task

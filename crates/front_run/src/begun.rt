@@ -5,18 +5,17 @@ ghost use Rattle.std.specs.Prelude.{◌≡◌, [], IfErr, IfOk, IfSome, MatchRes
 ghost use Rattle.std.specs.Prelude.{Err, None, Ok};
 ghost use Rattle.std.specs.Io.KnownBytes.{Keeps};
 ghost use Rattle.nav_io.specs.Causes.{Rose};
-ghost use Rattle.front_run.specs.Asked.{CanConvert};
-ghost use Rattle.front_run.specs.Steps.{IsBegun, IsLack, IsStopped, ReadsUnder};
+ghost use Rattle.front_run.specs.Asked.{CanConvert, ReadsUnder};
+ghost use Rattle.front_run.specs.Steps.{IsBegun, IsLack, IsStopped};
 ghost use Rattle.front_run.specs.Tasks.{IsReady};
 
 use crate::ends::{Outcome, Sourced, Told};
 use crate::looking::look;
 use crate::plans::Plan;
 use crate::reading::{Input, reading_of};
-use crate::stops::Stop;
 use crate::tasks::{Task, TaskRun, ask};
 use bridge_engine::words_give_one_job;
-use file_form::Kind;
+use file_form::{Kind, Stop};
 use file_step::{PeekFault, Peeked, Progress};
 use nav_io::{Sink, Source};
 use receiver_log::Refusals;
@@ -52,7 +51,7 @@ pub(crate) fn begin<S: Source, U: Sink, N: Refusals, P: Progress>(
         ⟦<Input<S, N, P> as Source>⟧.faults begun.input ≡ S.faults source) }
     ensures report { IfOk result (λ begun. begun.run.report ≡ told.report) }
     ensures form { MatchResult result
-        (λ begun. ReadsUnder plan.now (S.left source) begun.kind)
+        (λ begun. ReadsUnder plan.now.form (S.left source) begun.kind)
         (λ left. left.outcome.kind ≡ None) }
     ensures stopped { IfErr result (λ left. IsStopped plan.now (S.left source)
         (S.faults source) (S.faults left.source) left.outcome.done) }

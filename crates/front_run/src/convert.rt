@@ -10,7 +10,7 @@ ghost use Rattle.front_run.specs.Steps.{IsLack, TellsForm};
 use crate::begun::begin;
 use crate::ends::{Outcome, Sourced, Told, ended, told_by};
 use crate::plans::Plan;
-use crate::stops::Stop;
+use file_form::Stop;
 use file_step::{Folder, Progress, put_output};
 use nav_io::{Sink, Source};
 use receiver_log::Refusals;

@@ -6,9 +6,8 @@ ghost use Rattle.front_run.specs.Steps.{EndsSo, IsLack, LacksMore, told_by};
 
 use crate::begun::Begun;
 use crate::reading::{Input, Taken, taken_of};
-use crate::stops::Stop;
 use crate::tasks::TaskRun;
-use file_form::Kind;
+use file_form::{Kind, Stop, stopped_by};
 use file_step::{FileFault, Progress, StepFault};
 use nav_io::{Sink, Source};
 use receiver_log::{Counts, Refusals};
@@ -96,20 +95,6 @@ pub(crate) fn ended<S: Source, U: Sink, N: Refusals, P: Progress>(
             counts,
         },
         source,
-    }
-}
-
-// How a conversion ended, after so many bytes, by what the step says.
-fn stopped_by(kind: Kind, done: Result<(), StepFault<u8>>, count: u64) -> Result<(), Stop>
-    ensures { EndsSo (LacksMore count) done result }
-{
-    match done {
-        Ok(()) => Ok(()),
-        Err(StepFault::Begin(fault)) => Err(Stop::Begin(fault)),
-        Err(StepFault::Publish(fault)) => Err(Stop::Publish(fault)),
-        Err(StepFault::Run(status, told)) => {
-            Err(Stop::Run(kind, status, count, None, told.err()))
-        }
     }
 }
 

@@ -2,11 +2,11 @@
 
 ghost use Rattle.std.specs.Prelude.{◌≡◌, ℕ, List};
 ghost use Rattle.std.specs.Borrow.{Bor};
-ghost use Rattle.file_form.specs.Says.{status_of};
-ghost use Rattle.file_form.specs.declared.says.Refusal.{Refusal};
+ghost use Rattle.file_words.specs.Says.{status_of};
+ghost use Rattle.file_words.specs.declared.says.Refusal.{Refusal};
 ghost use Rattle.front_run.specs.Statuses.{IsRefusalFor, status_for};
 ghost use Rattle.front_run.specs.declared.plans.Plan.{Plan};
-ghost use Rattle.front_run.specs.declared.stops.Stop.{Stop};
+ghost use Rattle.file_form.specs.declared.stops.Stop.{Stop};
 
 /// Of a stop one refusal is told, which has the exit status for it.
 pub fn stops_have_one_refusal()

@@ -27,7 +27,6 @@ mod looking;
 mod plans;
 mod reading;
 mod refusals;
-mod stops;
 mod tasks;
 mod telling;
 
@@ -39,7 +38,7 @@ pub use crate::laws::stops_have_one_refusal;
 pub use crate::looking::look;
 pub use crate::plans::{Plan, words_under};
 pub use crate::refusals::refusal_of;
-pub use crate::stops::Stop;
 pub use crate::tasks::{Task, ask};
 pub use crate::telling::{Teller, finish};
 pub use bridge_engine::is_date;
+pub use file_form::Stop;

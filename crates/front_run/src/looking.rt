@@ -1,10 +1,9 @@
 //! A look at a file.
 
-ghost use Rattle.std.specs.Prelude.{◌≡◌, ◌⊎◌, [], IfErr, IfOk, IfSome, OnOk};
+ghost use Rattle.std.specs.Prelude.{◌≡◌, ◌⊎◌, [], IfErr, IfOk, OnOk};
 ghost use Rattle.std.specs.Io.KnownBytes.{Keeps};
 ghost use Rattle.nav_io.specs.Causes.{Rose};
-ghost use Rattle.file_form.specs.Kinds.{kind_of};
-ghost use Rattle.file_form.specs.Plans.{form_of};
+ghost use Rattle.front_run.specs.Asked.{ReadsUnder};
 
 use file_form::{Kind, LOOKED_AT, first_bytes_decide, form_of, kind_of};
 use file_step::{PeekFault, Peeked};
@@ -15,8 +14,7 @@ pub fn look<S: Source>(named: Option<Kind>, input: &mut Peeked<S>) -> Result<Kin
     requires { input.old.prefix.items ≡ [] }
     ensures left { OnOk result (Keeps (⟦<Peeked<S> as Source>⟧.left input.old)
         (⟦<Peeked<S> as Source>⟧.left input.new)) }
-    ensures kind { IfOk result (λ kind. IfSome (S.left input.old.source) (λ bytes.
-        kind ≡ form_of named (kind_of bytes))) }
+    ensures kind { IfOk result (ReadsUnder named (S.left input.old.source)) }
     ensures faults { OnOk result
         (S.faults input.new.source ≡ S.faults input.old.source) }
     ensures cause { IfErr result (λ fault. (fault ≡ PeekFault.NoMemory)

@@ -4,8 +4,8 @@ ghost use Rattle.std.specs.Prelude.{◌≡◌, IfErr, IfOk, map};
 ghost use Rattle.std.specs.String.{string_bytes};
 ghost use Rattle.front_run.specs.Forms.{AreWords, HasRow};
 
-use crate::stops::Stop;
-use file_form::{Kind, Target, Values, row_of, words_for};
+use file_form::{Kind, Stop, Target, row_of};
+use file_words::{Values, words_for};
 use std::alloc::Global;
 
 /// What is asked of each file.

@@ -4,10 +4,10 @@ ghost use Rattle.std.specs.Prelude.{◌≡◌};
 ghost use Rattle.front_run.specs.Statuses.{IsRefusalFor, IsValueRefusal};
 
 use crate::plans::Plan;
-use crate::stops::Stop;
 use bridge_engine::is_date;
-use file_form::{Refusal, run_refusal};
+use file_form::Stop;
 use file_step::FileFault;
+use file_words::{Refusal, run_refusal};
 
 /// Why a file is not converted, as a message tells it: the names are those of the output and of its
 /// part.

@@ -2,14 +2,14 @@
 
 ghost use Rattle.std.specs.Prelude.{◌≡◌, ◌≤◌, ℕ, IfErr, OnOk};
 ghost use Rattle.nav_io.specs.Causes.{HasCause};
-ghost use Rattle.file_form.specs.Says.{status_of};
-ghost use Rattle.file_form.specs.declared.says.Refusal.{Refusal};
+ghost use Rattle.file_words.specs.Says.{status_of};
+ghost use Rattle.file_words.specs.declared.says.Refusal.{Refusal};
 ghost use Rattle.front_run.specs.Statuses.{EndsReport, IsRefusalFor, status_for};
 
 use crate::ends::Outcome;
 use crate::plans::Plan;
 use crate::refusals::refusal_of;
-use file_form::Refusal;
+use file_words::Refusal;
 use nav_io::{Failed, Sink};
 
 /// Who says what became of a file, and ends its report.

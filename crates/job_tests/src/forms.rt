@@ -1,6 +1,7 @@
 //! Forms of files by their first bytes.
 
-use file_form::{Kind, kind_of, kind_text};
+use file_form::{Kind, kind_of};
+use file_words::kind_text;
 
 // The first bytes of a file, and what they say.
 struct Prefix {

@@ -3,8 +3,9 @@
 ghost use Rattle.std.specs.Prelude.{◌≡◌};
 
 use file_folders::MemFolder;
-use file_form::{Refusal, Target, Values, kind_text};
+use file_form::Target;
 use file_step::Untold;
+use file_words::{Refusal, Values, kind_text};
 use front_run::{Outcome, Plan, Sourced, Stop, Teller, Told, convert_one, convert_source, finish};
 use nav_io::{Failed, MemSink, MemSource};
 use receiver_log::Unheard;

@@ -1,7 +1,8 @@
 //! Names of outputs, and sentences.
 
-use file_form::{Kind, Refusal, is_site, long_name, output_name};
+use file_form::Kind;
 use file_step::FileFault;
+use file_words::{Refusal, is_site, long_name, output_name};
 use gnss_week::Moment;
 use std::alloc::{AllocError, Global};
 use std::test::Fail;

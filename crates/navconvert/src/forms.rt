@@ -3,8 +3,9 @@
 use crate::files::Task;
 use crate::inputs::{Input, opened_first};
 use file_folders::fault_of;
-use file_form::{Kind, Refusal};
+use file_form::Kind;
 use file_step::{FileFault, PeekFault, Peeked};
+use file_words::Refusal;
 use front_run::look;
 use std::io::ErrorKind;
 

@@ -27,7 +27,7 @@ use crate::choices::{begin, convert_asked};
 use crate::clock::clock_of;
 use crate::command::{Asked, read_words};
 use crate::telling::tell_program;
-use file_form::Refusal;
+use file_words::Refusal;
 use std::alloc::AllocError;
 use std::env;
 use std::fs::File;

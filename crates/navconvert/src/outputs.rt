@@ -6,8 +6,8 @@ ghost use Rattle.std.specs.Path.{path_buf_bytes};
 ghost use Rattle.navconvert.specs.Outputs.{placed};
 
 use crate::command::Asked;
-use file_form::{Refusal, output_name};
 use file_step::FileFault;
+use file_words::{Refusal, output_name};
 use std::alloc::{AllocError, Global};
 use std::fs;
 use std::fs::Metadata;

@@ -9,8 +9,8 @@ use crate::outputs::size_of;
 use crate::place::{Goal, Place};
 use crate::tally::Tally;
 use crate::telling::{Saying, tell_file};
-use file_form::Refusal;
 use file_step::part_of;
+use file_words::Refusal;
 use front_run::{Outcome, Told, convert_one, finish};
 use std::fs::File;
 

@@ -1,12 +1,13 @@
 //! What is said on standard error.
 
 ghost use Rattle.std.specs.Prelude.{◌≡◌};
-ghost use Rattle.file_form.specs.Says.{status_of};
+ghost use Rattle.file_words.specs.Says.{status_of};
 
 use crate::files::Task;
 use crate::tally::{Tally, is_put};
-use file_form::{Kind, Refusal, WeekRule, row_of};
+use file_form::{Kind, WeekRule, row_of};
 use file_step::FileFault;
+use file_words::Refusal;
 use front_run::{Outcome, Teller};
 use nav_io::Failed;
 use receiver_log::counts_text;

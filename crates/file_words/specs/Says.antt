@@ -5,8 +5,8 @@ use Rattle.file_form.specs.declared.Kind.{Kind}
 use Rattle.file_form.specs.declared.Kind.TheVariants as kinds
 use Rattle.file_step.specs.declared.faults.FileFault.{FileFault}
 use Rattle.file_step.specs.declared.faults.FileFault.TheVariants.{Other}
-use Rattle.file_form.specs.declared.says.Refusal.{Refusal}
-use Rattle.file_form.specs.declared.says.Refusal.TheVariants.{NoSuchConversion, NoConversion, Date, Week, NoName, NoFiles, SeveralFiles, Site, NoLongName, NoTimes, NotOpened, ReadFault, OutputThere, PartThere, SameFile, SameReport, WriteFault, NotAccepted, NoMemory, ReportFault, TooLong, Word}
+use Rattle.file_words.specs.declared.says.Refusal.{Refusal}
+use Rattle.file_words.specs.declared.says.Refusal.TheVariants.{NoSuchConversion, NoConversion, Date, Week, NoName, NoFiles, SeveralFiles, Site, NoLongName, NoTimes, NotOpened, ReadFault, OutputThere, PartThere, SameFile, SameReport, WriteFault, NotAccepted, NoMemory, ReportFault, TooLong, Word}
 
 -- 2 for what was asked, 3 for the input, 4 for the output, 5 for a header, 6 for memory, 7 for the report, 8 for an input that
 -- is too long, 9 for a command-line word

@@ -3,7 +3,7 @@
 ghost use Rattle.std.specs.Prelude.{◌≡◌, None, Some, ℕ, List, IfOk, MatchOption};
 ghost use Rattle.std.specs.String.{string_bytes};
 ghost use Rattle.std.specs.Path.{path_file_stem};
-ghost use Rattle.file_form.specs.Names.{with_ending};
+ghost use Rattle.file_words.specs.Names.{with_ending};
 
 use std::alloc::{AllocError, Global};
 use std::path::Path;

@@ -1,10 +1,10 @@
 //! Why a file is not converted, and the message and exit status for it.
 
 ghost use Rattle.std.specs.Prelude.{◌≡◌};
-ghost use Rattle.file_form.specs.KindTexts.{kind_text, targets_of};
-ghost use Rattle.file_form.specs.Says.{status_of};
+ghost use Rattle.file_words.specs.KindTexts.{kind_text, targets_of};
+ghost use Rattle.file_words.specs.Says.{status_of};
 
-use crate::Kind;
+use file_form::Kind;
 use file_step::FileFault;
 use std::fmt;
 

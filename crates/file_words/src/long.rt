@@ -3,9 +3,9 @@
 ghost use Rattle.std.specs.Prelude.{◌≡◌, ◌==◌, ◌++◌, ◌<◌};
 ghost use Rattle.std.specs.Prelude.{◌≤◌, IfOk, OnOk, nat_lt};
 ghost use Rattle.std.specs.String.{string_bytes};
-ghost use Rattle.file_form.specs.Long.{long_name, is_site, is_leap};
-ghost use Rattle.file_form.specs.Long.{day_of_year, is_one_hour, period_of, start_time};
-ghost use Rattle.file_form.specs.Long.{start_date};
+ghost use Rattle.file_words.specs.Long.{long_name, is_site, is_leap};
+ghost use Rattle.file_words.specs.Long.{day_of_year, is_one_hour, period_of, start_time};
+ghost use Rattle.file_words.specs.Long.{start_date};
 
 use crate::digits::{push_four, push_three, push_two};
 use crate::form::fits;

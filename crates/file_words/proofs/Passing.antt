@@ -1,7 +1,7 @@
 -- The rest of a form, where the text is at its end.
 use Rattle.std.proofs.Common.{◌≡◌, ◌∙◌, ℕ, Bool, List, [], ◌∷◌, length, refl, sym, ap, arith}
 use Rattle.std.specs.Prelude.{◌==◌}
-use Rattle.file_form.specs.Fits.{fits}
+use Rattle.file_words.specs.Fits.{fits}
 
 none_left : (form : List ℕ) → (length form == 0) ≡ fits form []
 none_left [] = refl

@@ -3,7 +3,7 @@
 use Rattle.std.specs.Prelude.{◌==◌, ◌+◌, ◌-◌, ◌/◌, ◌%◌, ◌&&◌, ◌||◌, not, nat_lt, ℕ, Bool, if◌then◌else◌, List, [], ◌∷◌, ◌++◌, slice_index, codes}
 use Rattle.gnss_week.specs.Functions.{civil_to}
 use Rattle.gnss_week.specs.declared.calendar.Civil.{Civil}
-use Rattle.file_form.specs.Fits.{fits}
+use Rattle.file_words.specs.Fits.{fits}
 
 -- the last two digits of a number
 abbrev pub two : ℕ → List ℕ

@@ -1,10 +1,9 @@
 //! The words and the endings of forms and targets.
 
 ghost use Rattle.std.specs.Prelude.{◌≡◌};
-ghost use Rattle.file_form.specs.Table.{ending_of, from_word, kind_named, target_named, to_word};
+ghost use Rattle.file_words.specs.Words.{ending_of, from_word, kind_named, target_named, to_word};
 
-use crate::Kind;
-use crate::table::Target;
+use file_form::{Kind, Target};
 
 /// The `--to` word of a target.
 pub fn to_word(target: Target) -> &'static str

@@ -1,10 +1,10 @@
 //! Why a run broke off.
 
 ghost use Rattle.std.specs.Prelude.{◌≡◌};
-ghost use Rattle.file_form.specs.Says.{refused_form, run_refusal};
+ghost use Rattle.file_words.specs.Says.{refused_form, run_refusal};
 
-use crate::Kind;
 use crate::says::Refusal;
+use file_form::Kind;
 use file_step::FileFault;
 
 /// Why a run over a file of this form broke off with this status of `navbridge`, after so many

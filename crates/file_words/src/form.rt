@@ -1,7 +1,7 @@
 //! Texts of a form.
 
 ghost use Rattle.std.specs.Prelude.{◌≡◌};
-ghost use Rattle.file_form.specs.Fits.{fits, is_of};
+ghost use Rattle.file_words.specs.Fits.{fits, is_of};
 
 /// Whether a text is of this form, byte by byte: `A` stands for a capital letter, `0` for a decimal
 /// digit, `N` for either, `?` for any byte, and every other byte for itself.

@@ -1,6 +1,6 @@
 use Rattle.std.proofs.Common.{◌≡◌, drop}
-use Rattle.file_form.specs.Fits.{fits}
-use Rattle.file_form.proofs.form.fits.Given as goal
+use Rattle.file_words.specs.Fits.{fits}
+use Rattle.file_words.proofs.form.fits.Given as goal
 
 -- what was passed is of the form's first bytes
 abbrev pub invariant-loop-byte : goal.invariant-loop-byte

@@ -2,7 +2,7 @@
 
 ghost use Rattle.std.specs.Prelude.{◌≡◌, ◌+◌, ◌<◌, ◌++◌, ◌∷◌, [], OnOk};
 ghost use Rattle.std.specs.String.{string_bytes};
-ghost use Rattle.file_form.specs.Long.{two, three, four};
+ghost use Rattle.file_words.specs.Long.{two, three, four};
 
 use std::alloc::AllocError;
 

@@ -1,7 +1,7 @@
 use Rattle.std.proofs.Common.{arith}
 use Rattle.std.proofs.lemmas.List.{drop_all}
-use Rattle.file_form.proofs.Passing.{at_end}
-use Rattle.file_form.proofs.form.fits.Goals as goal
+use Rattle.file_words.proofs.Passing.{at_end}
+use Rattle.file_words.proofs.form.fits.Goals as goal
 
 pub returns : goal.returns
 returns c =
