@@ -19,7 +19,7 @@ is_copied kinds.Ubx targets.Capture = true
 is_copied kinds.Sbf targets.Capture = true
 is_copied kind target = false
 
--- the week that is given: that which is named or, where one is required and none named, that of the clock
+-- the week that is given, unless none ever is: that which is named or, where one is required and none named, that of the clock
 abbrev pub week_given : WeekRule → Option (List ℕ) → List ℕ → Option (List ℕ)
 week_given Never named clock = None
 week_given IfNamed named clock = named

@@ -1,4 +1,4 @@
--- Why a file is not converted, by its step.
+-- How a conversion ended, by how its step did.
 use Rattle.std.specs.Prelude.{ℕ, None, Result, Ok, Err}
 use Rattle.std.specs.Result.{result_err}
 use Rattle.file_form.specs.declared.Kind.{Kind}

@@ -1,4 +1,5 @@
-//! The form of a file, told by its first bytes, and the table of conversions.
+//! The form of a file, told by its first bytes, the table of conversions, and why a file is not
+//! converted.
 //!
 //! - [`kind_of`], the form of a file. It looks at no more than 80 bytes, so the first 80 bytes of a
 //!   file tell the same form as the whole file ([`first_bytes_decide`]);

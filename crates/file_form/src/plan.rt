@@ -28,7 +28,8 @@ pub fn is_copied(kind: Kind, target: Target) -> bool
     }
 }
 
-/// The week that is given by this rule.
+/// The week that is given by this rule, unless none ever is: the one that is named, or that of the
+/// clock where a week is always given and none is named.
 pub fn week_given<'a>(
     rule: WeekRule,
     named: Option<&'a str>,

@@ -60,8 +60,9 @@ lack_run : (status count : ℕ) → (status ≡ 6) ⊎ (Unit {0} × (too_many �
 lack_run status count (inl six) = inl six
 lack_run status count (inr (broke, many)) = inr many
 
--- what its step lacks it lacks
-pub ended_by : (kind : Kind) (count : ℕ) (done : Result (Unit {0}) (StepFault ℕ)) → EndsSo (LacksMore count) done (stopped_by kind done count)
+-- it is done where its step is, and lacks what its step lacks
+pub ended_by : (kind : Kind) (count : ℕ) (done : Result (Unit {0}) (StepFault ℕ))
+    → EndsSo (LacksMore count) done (stopped_by kind done count)
 ended_by kind count (Ok x) = tt
 ended_by kind count (Err (Begin fault)) = no_call
 ended_by kind count (Err (Run status told)) = lack_run status count

@@ -1,4 +1,4 @@
--- The job for a file, and what is made of it.
+-- The form under which a file is read, the job for it, and what is made of it.
 use Rattle.std.specs.Prelude.{◌≡◌, ◌<◌, ◌^◌, ℕ, List, length, Bool, true, false, Option, None, Some, IfSome, IsSome}
 use Rattle.file_form.specs.Kinds.{kind_of}
 use Rattle.file_form.specs.declared.Kind.{Kind}
