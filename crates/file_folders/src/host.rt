@@ -3,7 +3,7 @@
 ghost use Rattle.std.specs.Prelude.{◌≡◌, ◌≤◌, ◌+◌, ◌-◌, ◌^◌, min, IfOk, IsNone};
 ghost use Rattle.nav_io.specs.Causes.{Rose};
 
-use crate::faults::{Faults, fault_of};
+use file_entries::{Faults, fault_of};
 use file_step::{FileFault, Folder, GATHERED, Gathered};
 use nav_io::{ReadSource, Sink};
 use std::alloc::Global;
@@ -28,7 +28,7 @@ impl<'a, R: Files> HostFolder<'a, R> {
         HostFolder {
             alloc,
             files,
-            faults: Faults { count: 0 },
+            faults: Faults::none(),
         }
     }
 

@@ -10,12 +10,9 @@
 //! ```
 #![tactic(auto)]
 
-mod entries;
-mod faults;
 mod host;
 mod memory;
 
-pub use crate::entries::MemDraft;
-pub use crate::faults::fault_of;
 pub use crate::host::HostFolder;
 pub use crate::memory::{MemFolder, MemInput};
+pub use file_entries::{MemDraft, fault_of};

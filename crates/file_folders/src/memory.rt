@@ -1,15 +1,14 @@
 //! A folder in memory.
 
-ghost use Rattle.std.specs.Prelude.{◌≡◌, Some, None};
-ghost use Rattle.std.specs.Prelude.{OnOk, IfOk, ℕ, List, [], ◌≢◌};
+ghost use Rattle.std.specs.Prelude.{◌≡◌, Some};
+ghost use Rattle.std.specs.Prelude.{OnOk, IfOk, []};
 ghost use Rattle.std.specs.Option.{option_map};
 ghost use Rattle.file_step.specs.Files.{Opens};
-ghost use Rattle.file_folders.specs.Entries.{Sets, bytes_at};
+ghost use Rattle.file_entries.specs.Entries.{Sets, bytes_at};
 
-use crate::entries::{Entry, MemDraft, found, published, set};
-use crate::faults::Faults;
+use file_entries::{Entry, Faults, MemDraft, begun, found, published, set};
 use file_step::{FileFault, Folder};
-use nav_io::{ReadSource, Sink, Source, WriteSink};
+use nav_io::{ReadSource, Source};
 use std::alloc::{AllocError, Global};
 use std::io::Cursor;
 
@@ -34,7 +33,7 @@ impl MemFolder {
         MemFolder {
             alloc,
             entries: Vec::new(alloc),
-            faults: Faults { count: 0 },
+            faults: Faults::none(),
         }
     }
 
@@ -59,7 +58,7 @@ impl MemFolder {
 
 impl Folder for MemFolder {
     ghost use Rattle.std.specs.Prelude.{Some};
-    ghost use Rattle.file_folders.specs.Entries.{bytes_at};
+    ghost use Rattle.file_entries.specs.Entries.{bytes_at};
 
     type Input = MemInput;
 
@@ -118,23 +117,6 @@ fn opened(alloc: Global, entries: &[Entry], name: &str) -> Result<MemInput, File
     let bytes = found(entries, name).ok_or(FileFault::NotFound)?;
     match bytes.to_vec(alloc) {
         Ok(copy) => Ok(ReadSource::new(Cursor::new(copy))),
-        Err(_) => Err(FileFault::NoMemory),
-    }
-}
-
-// Creates an empty file with this name, which no file has.
-fn begun(alloc: Global, entries: &mut Vec<Entry>, part: &str) -> Result<MemDraft, FileFault>
-    ensures none { OnOk result (bytes_at entries.old.items part.now ≡ None) }
-    ensures empty { IfOk result (λ draft. ⟦<WriteSink<Vec<u8>> as Sink>⟧.written draft ≡ Some []) }
-    ensures faults { IfOk result (λ draft. ⟦<WriteSink<Vec<u8>> as Sink>⟧.faults draft ≡ 0) }
-    ensures others { (other : List ℕ) → other ≢ part.now
-        → bytes_at entries.new.items other ≡ bytes_at entries.old.items other }
-{
-    if found(entries, part).is_some() {
-        return Err(FileFault::AlreadyThere);
-    }
-    match set(alloc, entries, part, Some(Vec::new(alloc))) {
-        Ok(()) => Ok(WriteSink::new(Vec::new(alloc))),
         Err(_) => Err(FileFault::NoMemory),
     }
 }

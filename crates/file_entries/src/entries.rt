@@ -1,9 +1,10 @@
 //! Files in memory, as changes of their names.
 
-ghost use Rattle.std.specs.Prelude.{◌≡◌, Some, OnOk, OnErr, ◌≢◌, IfErr};
+ghost use Rattle.std.specs.Prelude.{◌≡◌, ◌≢◌, ℕ, List, [], Some, None};
+ghost use Rattle.std.specs.Prelude.{OnOk, OnErr, IfErr, IfOk};
 ghost use Rattle.std.specs.Option.{option_map};
 ghost use Rattle.file_step.specs.Files.{Publishes, Stays};
-ghost use Rattle.file_folders.specs.Entries.{Sets, bytes_at, contents_of};
+ghost use Rattle.file_entries.specs.Entries.{Sets, bytes_at, contents_of};
 
 use file_step::FileFault;
 use nav_io::{Sink, WriteSink};
@@ -14,13 +15,13 @@ pub type MemDraft = WriteSink<Vec<u8>>;
 
 /// A change of a name: now a file with these bytes, or none.
 #[derive(Drop)]
-pub(crate) struct Entry {
+pub struct Entry {
     name: String,
     bytes: Option<Vec<u8>>,
 }
 
 /// Adds a change of a name, as the newest.
-pub(crate) fn set(
+pub fn set(
     alloc: Global,
     entries: &mut Vec<Entry>,
     name: &str,
@@ -46,7 +47,7 @@ fn bytes_in(entry: &Entry) -> Option<&[u8]>
 }
 
 /// The bytes of the file of this name, by changes of which the newest is the first.
-pub(crate) fn found<'a>(entries: &'a [Entry], name: &str) -> Option<&'a [u8]>
+pub fn found<'a>(entries: &'a [Entry], name: &str) -> Option<&'a [u8]>
     ensures { option_map (λ bytes. bytes.now) result ≡ bytes_at entries.now name.now }
 {
     for entry in entries {
@@ -57,9 +58,26 @@ pub(crate) fn found<'a>(entries: &'a [Entry], name: &str) -> Option<&'a [u8]>
     None
 }
 
+/// Creates an empty file with this name, which no file has.
+pub fn begun(alloc: Global, entries: &mut Vec<Entry>, part: &str) -> Result<MemDraft, FileFault>
+    ensures none { OnOk result (bytes_at entries.old.items part.now ≡ None) }
+    ensures empty { IfOk result (λ draft. ⟦<WriteSink<Vec<u8>> as Sink>⟧.written draft ≡ Some []) }
+    ensures faults { IfOk result (λ draft. ⟦<WriteSink<Vec<u8>> as Sink>⟧.faults draft ≡ 0) }
+    ensures others { (other : List ℕ) → other ≢ part.now
+        → bytes_at entries.new.items other ≡ bytes_at entries.old.items other }
+{
+    if found(entries, part).is_some() {
+        return Err(FileFault::AlreadyThere);
+    }
+    match set(alloc, entries, part, Some(Vec::new(alloc))) {
+        Ok(()) => Ok(WriteSink::new(Vec::new(alloc))),
+        Err(_) => Err(FileFault::NoMemory),
+    }
+}
+
 /// Gives the name the bytes, and removes the part. It fails only for want of memory, in this call
 /// or in a write of the draft.
-pub(crate) fn published(
+pub fn published(
     alloc: Global,
     entries: &mut Vec<Entry>,
     draft: MemDraft,

@@ -1,6 +1,6 @@
 use Rattle.std.proofs.Common.{◌≡◌, drop}
-use Rattle.file_folders.specs.Entries.{bytes_at}
-use Rattle.file_folders.proofs.entries.found.Given as goal
+use Rattle.file_entries.specs.Entries.{bytes_at}
+use Rattle.file_entries.proofs.entries.found.Given as goal
 
 -- what was passed says nothing of the name
 abbrev pub invariant-loop-entry : goal.invariant-loop-entry

@@ -3,7 +3,7 @@ use Rattle.std.specs.Prelude.{◌≡◌, ◌≢◌, ℕ, List, [], ◌∷◌, Op
 use Rattle.std.specs.String.{string_bytes}
 use Rattle.std.specs.declared.vec.Vec.{Vec}
 use Rattle.std.specs.declared.alloc.Global.{Global}
-use Rattle.file_folders.specs.declared.entries.Entry.{Entry}
+use Rattle.file_entries.specs.declared.entries.Entry.{Entry}
 
 -- the bytes in memory, where there are any
 abbrev pub contents_of : Option (Vec ℕ Global) → Option (List ℕ)

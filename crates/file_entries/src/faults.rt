@@ -1,4 +1,4 @@
-//! Why calls of the system failed, and how many did.
+//! Why calls of a folder failed, and how many did.
 
 ghost use Rattle.std.specs.Prelude.{◌≡◌, ◌≤◌, ◌↔◌, ◌+◌, ◌-◌, ◌^◌, min, IsNone, IsOk};
 ghost use Rattle.nav_io.specs.Causes.{HasCause, Rose};
@@ -26,13 +26,21 @@ pub fn fault_of(kind: ErrorKind) -> FileFault {
 
 /// How often a call of a folder failed: at most 2^64 - 1.
 #[derive(Drop)]
-pub(crate) struct Faults {
+pub struct Faults {
+    /// The count.
     pub count: u64,
 }
 
 impl Faults {
+    /// No fault yet.
+    pub fn none() -> Faults
+        ensures { result.count ≡ 0 }
+    {
+        Faults { count: 0 }
+    }
+
     /// Counts a fault.
-    pub(crate) fn failed(&mut self, fault: FileFault) -> FileFault
+    pub fn failed(&mut self, fault: FileFault) -> FileFault
         ensures same { result ≡ fault }
         ensures counts { self.new.count ≡ min (self.old.count + 1) (2 ^ 64 - 1) }
         ensures later { self.old.count ≤ self.new.count }
@@ -43,7 +51,7 @@ impl Faults {
     }
 
     /// Counts a fault of this kind, where there was one.
-    pub(crate) fn told(&mut self, kind: Option<ErrorKind>) -> Result<(), FileFault>
+    pub fn told(&mut self, kind: Option<ErrorKind>) -> Result<(), FileFault>
         ensures some { IsOk result ↔ IsNone kind }
         ensures cause { HasCause self.old.count self.new.count result }
     {
