@@ -1,7 +1,7 @@
 //! Files in memory, as changes of their names.
 
 ghost use Rattle.std.specs.Prelude.{◌≡◌, ◌≢◌, ℕ, List, [], Some, None};
-ghost use Rattle.std.specs.Prelude.{OnOk, OnErr, IfErr, IfOk};
+ghost use Rattle.std.specs.Prelude.{◌⊎◌, OnOk, OnErr, IfErr, IfOk, IsSome};
 ghost use Rattle.std.specs.Option.{option_map};
 ghost use Rattle.file_step.specs.Files.{Publishes, Stays};
 ghost use Rattle.file_entries.specs.Entries.{Sets, bytes_at, contents_of};
@@ -65,6 +65,8 @@ pub fn begun(alloc: Global, entries: &mut Vec<Entry>, part: &str) -> Result<MemD
     ensures faults { IfOk result (λ draft. ⟦<WriteSink<Vec<u8>> as Sink>⟧.faults draft ≡ 0) }
     ensures others { (other : List ℕ) → other ≢ part.now
         → bytes_at entries.new.items other ≡ bytes_at entries.old.items other }
+    ensures cause { IfErr result (λ fault. (fault ≡ FileFault.NoMemory)
+        ⊎ ((fault ≡ FileFault.AlreadyThere) × IsSome (bytes_at entries.old.items part.now))) }
 {
     if found(entries, part).is_some() {
         return Err(FileFault::AlreadyThere);

@@ -2,12 +2,15 @@
 
 ghost use Rattle.std.specs.Prelude.{◌≡◌, ◌≤◌, ◌↔◌, ◌+◌, ◌-◌, ◌^◌, min, IsNone, IsOk};
 ghost use Rattle.nav_io.specs.Causes.{HasCause, Rose};
+ghost use Rattle.file_entries.specs.Faults.{fault_of, told};
 
 use file_step::FileFault;
 use std::io::ErrorKind;
 
 /// What an error of this kind says.
-pub fn fault_of(kind: ErrorKind) -> FileFault {
+pub fn fault_of(kind: ErrorKind) -> FileFault
+    ensures { result ≡ fault_of kind }
+{
     match kind {
         ErrorKind::NotFound => FileFault::NotFound,
         ErrorKind::AlreadyExists => FileFault::AlreadyThere,
@@ -52,6 +55,7 @@ impl Faults {
 
     /// Counts a fault of this kind, where there was one.
     pub fn told(&mut self, kind: Option<ErrorKind>) -> Result<(), FileFault>
+        ensures tells { result ≡ told kind }
         ensures some { IsOk result ↔ IsNone kind }
         ensures cause { HasCause self.old.count self.new.count result }
     {
