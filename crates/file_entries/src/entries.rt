@@ -21,6 +21,10 @@ pub struct Entry {
 }
 
 /// Adds a change of a name, as the newest.
+///
+/// # Errors
+///
+/// There was no memory; nothing is changed.
 pub fn set(
     alloc: Global,
     entries: &mut Vec<Entry>,
@@ -59,6 +63,10 @@ pub fn found<'a>(entries: &'a [Entry], name: &str) -> Option<&'a [u8]>
 }
 
 /// Creates an empty file with this name, which no file has.
+///
+/// # Errors
+///
+/// `AlreadyThere` where a file has the name, or `NoMemory`.
 pub fn begun(alloc: Global, entries: &mut Vec<Entry>, part: &str) -> Result<MemDraft, FileFault>
     ensures none { OnOk result (bytes_at entries.old.items part.now ≡ None) }
     ensures empty { IfOk result (λ draft. ⟦<WriteSink<Vec<u8>> as Sink>⟧.written draft ≡ Some []) }
@@ -77,8 +85,11 @@ pub fn begun(alloc: Global, entries: &mut Vec<Entry>, part: &str) -> Result<MemD
     }
 }
 
-/// Gives the name the bytes, and removes the part. It fails only for want of memory, in this call
-/// or in a write of the draft.
+/// Gives the name the bytes, and removes the part.
+///
+/// # Errors
+///
+/// `NoMemory`, in this call or in a write of the draft; every name but the part's is as it was.
 pub fn published(
     alloc: Global,
     entries: &mut Vec<Entry>,
