@@ -113,6 +113,10 @@ is_same "the command for a name with a quote" "it's.rnx" "$examples/station.rnx"
 input=station.navcap run "the command for standard input" 0 - -n "${date[@]}" -
 PATH=$PWD/path:$PATH sh ./out < station.navcap > made 2> said || differs "the command for standard input" "it fails"
 is_same "the command for standard input" made "$examples/station.rnx"
+cp one.rnx ./-one.rnx
+run "the command for a name with a dash in front" 0 - -n "${date[@]}" -t merged -o dash.rnx -- -one.rnx two.rnx
+PATH=$PWD/path:$PATH sh ./out 2> said || differs "the command for a name with a dash in front" "it fails"
+is_same "the command for a name with a dash in front" dash.rnx "$examples/merged.rnx"
 run "the command for a long name" 0 - -n "${date[@]}" --long-name STAT00CCC -o in --report d.report station.navcap
 grep -qF "> 'in/STAT00CCC_R_20233650200_01H_MN.rnx'" out || differs "the command for a long name" "$(cat out)"
 is_gone "the command for a long name" d.report
@@ -130,8 +134,12 @@ run "a report that is the input" 4 "kept.navcap is the input itself" -t list --o
 is_same "a report that is the input" kept.navcap station.navcap
 run "a report that is the output" 4 "both.rnx is the report" --report both.rnx -o both.rnx station.navcap
 is_gone "a report that is the output" both.rnx
-run "a report that is the output, by another name" 4 "./both.rnx is the report" --report both.rnx -o ./both.rnx station.navcap
-is_gone "a report that is the output, by another name" both.rnx.part
+run "a report that is the output, by another name" 4 "both.rnx is the report" --report both.rnx -o ./both.rnx station.navcap
+is_gone "a report that is the output, by another name" both.rnx
+run "a report that is the output beside its input" 4 "kept.list is the report" -t list --report ./kept.list kept.navcap
+is_gone "a report that is the output beside its input" kept.list
+run "a report that is the output in a folder" 4 "out.d/kept.list is the report" -t list --report out.d/kept.list -o in/../out.d kept.navcap
+is_gone "a report that is the output in a folder" out.d/kept.list
 echo old > both.rnx
 run "a report that is the output, and there" 4 "both.rnx is the report" --overwrite --report both.rnx -o ./both.rnx station.navcap
 [ "$(cat both.rnx)" = old ] || differs "a report that is the output, and there" "it was changed"
@@ -172,6 +180,15 @@ run "an output that is there" 4 "there.rnx is there already" -o there.rnx statio
 [ "$(cat there.rnx)" = old ] || differs "an output that is there" "it was changed"
 run "an output that is replaced" 0 "there.rnx" "${date[@]}" --overwrite -o there.rnx station.navcap
 is_same "an output that is replaced" there.rnx "$examples/station.rnx"
+run "a device" 4 "/dev/null is no file" --overwrite -o /dev/null station.navcap
+run "a name that is too long" 4 "the name is too long" -o "$(printf 'x%.0s' {1..255})" station.navcap
+mkdir other same.d
+cp "$examples/three.navcap" other/station.navcap
+for it in "" --overwrite; do
+  run "two files of one name${it:+, with leave}" 4 "same.d/station.rnx was made of another file" ${it:+"$it"} "${date[@]}" -o same.d station.navcap other/station.navcap
+  is_same "two files of one name${it:+, with leave}" same.d/station.rnx "$examples/station.rnx"
+  rm same.d/station.rnx
+done
 echo half > part.rnx.part
 run "a part that is there" 4 "part.rnx.part is there" -o part.rnx station.navcap
 [ "$(cat part.rnx.part)" = half ] || differs "a part that is there" "it was changed"

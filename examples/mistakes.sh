@@ -128,10 +128,13 @@ all() {
   try "a part that is there" -o part.rnx station.navcap
   try "the input as output" --overwrite -o station.navcap station.navcap
   try "a folder as output, which is not there" -o nowhere/ station.navcap
+  try "a device as output" --overwrite -o /dev/null station.navcap
   try "several files to one" -o one.rnx station.navcap log.ubx
+  try "standard input among files" -t merged -o r.rnx orbits.rnx -
   try "standard input into a folder" -o outputs -
   try "a report that is there" --report there.rnx -o r.rnx station.navcap
   try "a report as output" --report r.rnx -o r.rnx station.navcap
+  try "a report as output beside its input" --report ./station.rnx station.navcap
   try "a site of four letters" --long-name BRDC station.navcap
   try "a long name of a list" -t list --long-name BRDC00XXX station.navcap
 }

@@ -15,6 +15,7 @@ fault_of kinds.NotADirectory = faults.NoFolder
 fault_of kinds.StorageFull = faults.DiskFull
 fault_of kinds.QuotaExceeded = faults.QuotaFull
 fault_of kinds.FileTooLarge = faults.TooLarge
+fault_of kinds.InvalidFilename = faults.NameTooLong
 fault_of kinds.ReadOnlyFilesystem = faults.ReadOnly
 fault_of kinds.BrokenPipe = faults.ReaderGone
 fault_of kinds.OutOfMemory = faults.NoMemory

@@ -20,6 +20,7 @@ pub fn fault_of(kind: ErrorKind) -> FileFault
         ErrorKind::StorageFull => FileFault::DiskFull,
         ErrorKind::QuotaExceeded => FileFault::QuotaFull,
         ErrorKind::FileTooLarge => FileFault::TooLarge,
+        ErrorKind::InvalidFilename => FileFault::NameTooLong,
         ErrorKind::ReadOnlyFilesystem => FileFault::ReadOnly,
         ErrorKind::BrokenPipe => FileFault::ReaderGone,
         ErrorKind::OutOfMemory => FileFault::NoMemory,

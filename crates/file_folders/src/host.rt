@@ -1,7 +1,7 @@
 //! The files of the system.
 
-ghost use Rattle.std.specs.Prelude.{◌≡◌, ◌≤◌, ◌+◌, ◌-◌, ◌^◌, min, IfOk, IsNone};
-ghost use Rattle.nav_io.specs.Causes.{Rose};
+ghost use Rattle.std.specs.Prelude.{◌≡◌, ◌≤◌, ◌↔◌, ◌+◌, ◌-◌, ◌^◌, min, IfOk, IsNone, IsOk};
+ghost use Rattle.nav_io.specs.Causes.{HasCause, Rose};
 
 use file_entries::{Faults, fault_of};
 use file_step::{FileFault, Folder, GATHERED, Gathered};
@@ -43,6 +43,15 @@ impl<'a, R: Files> HostFolder<'a, R> {
             (⟦<HostFolder<'a, R> as Folder>⟧.faults self.new) }
     {
         self.faults.failed(fault)
+    }
+
+    /// Counts a fault of this kind of a call that was made beside it, where there was one.
+    pub fn told(&mut self, kind: Option<ErrorKind>) -> Result<(), FileFault>
+        ensures some { IsOk result ↔ IsNone kind }
+        ensures cause { HasCause (⟦<HostFolder<'a, R> as Folder>⟧.faults self.old)
+            (⟦<HostFolder<'a, R> as Folder>⟧.faults self.new) result }
+    {
+        self.faults.told(kind)
     }
 }
 

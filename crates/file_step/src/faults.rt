@@ -19,6 +19,8 @@ pub enum FileFault {
     QuotaFull,
     /// The file would be too large for its file system.
     TooLarge,
+    /// The name is longer than its file system allows.
+    NameTooLong,
     /// The file system is read-only.
     ReadOnly,
     /// The reading end of a pipe is closed.

@@ -6,7 +6,7 @@ use Rattle.file_form.specs.declared.Kind.TheVariants as kinds
 use Rattle.file_step.specs.declared.faults.FileFault.{FileFault}
 use Rattle.file_step.specs.declared.faults.FileFault.TheVariants.{Other}
 use Rattle.file_words.specs.declared.says.Refusal.{Refusal}
-use Rattle.file_words.specs.declared.says.Refusal.TheVariants.{NoSuchConversion, NoConversion, Date, Week, NoName, NoFiles, SeveralFiles, Site, NoLongName, NoTimes, NotOpened, ReadFault, OutputThere, PartThere, SameFile, SameReport, WriteFault, NotAccepted, NoMemory, ReportFault, TooLong, Word}
+use Rattle.file_words.specs.declared.says.Refusal.TheVariants.{NoSuchConversion, NoConversion, Date, Week, NoName, NoFiles, SeveralFiles, AmongFiles, Site, NoLongName, NoTimes, NotOpened, ReadFault, OutputThere, NoFile, MadeBefore, PartThere, SameFile, SameReport, WriteFault, NotAccepted, NoMemory, ReportFault, TooLong, Word}
 
 -- 2 for what was asked, 3 for the input, 4 for the output, 5 for a header, 6 for memory, 7 for the report, 8 for an input that
 -- is too long, 9 for a command-line word
@@ -18,12 +18,15 @@ status_of (Week text) = 2
 status_of NoName = 2
 status_of NoFiles = 2
 status_of (SeveralFiles name) = 2
+status_of AmongFiles = 2
 status_of (Site text) = 2
 status_of NoLongName = 2
 status_of NoTimes = 5
 status_of (NotOpened fault) = 3
 status_of (ReadFault count fault) = 3
 status_of (OutputThere name) = 4
+status_of (NoFile name) = 4
+status_of (MadeBefore name) = 4
 status_of (PartThere part) = 4
 status_of (SameFile name) = 4
 status_of (SameReport name) = 4

@@ -25,8 +25,5 @@ pub fn output_name(alloc: Global, input: &str, ending: &str) -> Result<Option<St
 fn named(alloc: Global, stem: &str, ending: &str) -> Result<String, AllocError>
     ensures { IfOk result (λ name. string_bytes name ≡ with_ending stem.now ending.now) }
 {
-    let mut name = String::from_str(alloc, stem)?;
-    name.push_str(".")?;
-    name.push_str(ending)?;
-    Ok(name)
+    format!(in alloc; "{stem}.{ending}")
 }

@@ -134,8 +134,6 @@ fn push_option(
     ensures { OnOk result (map string_bytes words.new.items ≡ map string_bytes words.old.items
         ++ (name.now ++ value.now) ∷ []) }
 {
-    let mut word = String::from_str(alloc, name)?;
-    word.push_str(value)?;
-    words.push(word)?;
+    words.push(format!(in alloc; "{name}{value}")?)?;
     Ok(())
 }

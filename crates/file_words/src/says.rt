@@ -25,6 +25,8 @@ pub enum Refusal<'a> {
     NoFiles,
     /// Several files would go to one.
     SeveralFiles(&'a str),
+    /// Standard input stands among files that make one output.
+    AmongFiles,
     /// The value of `--long-name` names no site.
     Site(&'a str),
     /// What is made is no navigation file of a file, which a long name could have.
@@ -37,6 +39,10 @@ pub enum Refusal<'a> {
     ReadFault(u64, FileFault),
     /// A file with the name of the output exists.
     OutputThere(&'a str),
+    /// The output is a device or a pipe, which nothing replaces.
+    NoFile(&'a str),
+    /// The output was made of another file.
+    MadeBefore(&'a str),
     /// A file with the name of the part exists.
     PartThere(&'a str),
     /// The output is the input itself.
@@ -70,10 +76,13 @@ impl Refusal<'_> {
             | Refusal::NoName
             | Refusal::NoFiles
             | Refusal::SeveralFiles(_)
+            | Refusal::AmongFiles
             | Refusal::Site(_)
             | Refusal::NoLongName => 2,
             Refusal::NotOpened(_) | Refusal::ReadFault(_, _) => 3,
             Refusal::OutputThere(_)
+            | Refusal::NoFile(_)
+            | Refusal::MadeBefore(_)
             | Refusal::PartThere(_)
             | Refusal::SameFile(_)
             | Refusal::SameReport(_)
@@ -145,6 +154,7 @@ fn fault_text(fault: FileFault) -> &'static str {
         FileFault::DiskFull => "the disk is full",
         FileFault::QuotaFull => "the quota is used up",
         FileFault::TooLarge => "the file would be too large for its file system",
+        FileFault::NameTooLong => "the name is too long for its file system",
         FileFault::ReadOnly => "the file system can only be read",
         FileFault::ReaderGone => "its reader has gone",
         FileFault::NoMemory => "there was no memory",
@@ -163,60 +173,75 @@ fn header_text(kind: Kind) -> &'static str {
 }
 
 impl Refusal<'_> {
-    // Its name or its value, where it has one, and what is said before and behind it.
-    fn named(&self) -> (&str, &str, &str) {
-        match *self {
-            Refusal::NoSuchConversion(kind) | Refusal::NoConversion(kind) => {
-                ("it is ", kind_text(kind), "; ")
-            }
-            Refusal::Date(text) => ("--date ", text, ": write it as \"20240101 000000 UTC\""),
-            Refusal::Week(text) => ("--week ", text, ": 1024 to 8191"),
-            Refusal::SeveralFiles(name) => {
-                let one = " is one file; for several name a folder that is there";
-                ("", name, one)
-            }
-            Refusal::Site(text) => {
-                let form =
-                    ": four capital letters or digits, two digits and a country, as BRDC00XXX";
-                ("--long-name ", text, form)
-            }
-            Refusal::OutputThere(name) => ("", name, " is there already; --overwrite replaces it"),
-            Refusal::PartThere(name) => {
-                let there = " is there: another run is writing it, or one was cut off; remove it";
-                ("", name, there)
-            }
-            Refusal::SameFile(name) => ("", name, " is the input itself; name the output by -o"),
-            Refusal::SameReport(name) => ("", name, " is the report; name the output by -o"),
-            Refusal::WriteFault(name, _) => ("writing ", name, " failed: "),
-            _ => ("", "", ""),
-        }
-    }
-
-    // The reason, where it is not said yet.
-    fn reason(&self) -> &str {
-        match *self {
-            Refusal::NoSuchConversion(kind) | Refusal::NoConversion(kind) => targets_of(kind),
+    // The sentence, in which `{}` stands for what it names, and behind which the reason comes.
+    fn sentence(&self) -> &'static str {
+        match self {
+            Refusal::NoSuchConversion(_) | Refusal::NoConversion(_) => "it is {}; ",
+            Refusal::Date(_) => "--date {}: write it as \"20240101 000000 UTC\"",
+            Refusal::Week(_) => "--week {}: 1024 to 8191",
             Refusal::NoName => "it has no name of a file; name the output by -o",
             Refusal::NoFiles => "no file is named; - is standard input, --help says more",
+            Refusal::SeveralFiles(_) => "{} is one file; for several name a folder that is there",
+            Refusal::AmongFiles => "standard input is read alone; name files",
+            Refusal::Site(_) => {
+                "--long-name {}: four capital letters or digits, two digits and a country, as BRDC00XXX"
+            }
             Refusal::NoLongName => {
                 "--long-name names navigation files that are made of files, beside them or in a folder"
             }
             Refusal::NoTimes => "it has no ephemeris, by whose time it would be named",
+            Refusal::NotOpened(_) | Refusal::NotAccepted(_) => "",
+            Refusal::ReadFault(_, _) => "reading it failed after {} bytes: ",
+            Refusal::OutputThere(_) => "{} is there already; --overwrite replaces it",
+            Refusal::NoFile(_) => "{} is no file; -o - writes to standard output",
+            Refusal::MadeBefore(_) => "{} was made of another file just now; name the output by -o",
+            Refusal::PartThere(_) => {
+                "{} is there: another run is writing it, or one was cut off; remove it"
+            }
+            Refusal::SameFile(_) => "{} is the input itself; name the output by -o",
+            Refusal::SameReport(_) => "{} is the report; name the output by -o",
+            Refusal::WriteFault(_, _) => "writing {} failed: ",
+            Refusal::NoMemory => "there was no memory",
+            Refusal::ReportFault => "the report was not written",
+            Refusal::TooLong => "it has more than 4,294,967,295 bytes; cut it in parts",
+            Refusal::Word => "a word of the command line is not UTF-8",
+        }
+    }
+
+    // What the sentence names: a value, a file or a form.
+    fn named(&self) -> &str {
+        match *self {
+            Refusal::NoSuchConversion(kind) | Refusal::NoConversion(kind) => kind_text(kind),
+            Refusal::Date(text)
+            | Refusal::Week(text)
+            | Refusal::SeveralFiles(text)
+            | Refusal::Site(text)
+            | Refusal::OutputThere(text)
+            | Refusal::NoFile(text)
+            | Refusal::MadeBefore(text)
+            | Refusal::PartThere(text)
+            | Refusal::SameFile(text)
+            | Refusal::SameReport(text)
+            | Refusal::WriteFault(text, _) => text,
+            _ => "",
+        }
+    }
+
+    // The reason, where the sentence lacks one.
+    fn reason(&self) -> &'static str {
+        match *self {
+            Refusal::NoSuchConversion(kind) | Refusal::NoConversion(kind) => targets_of(kind),
             Refusal::WriteFault(_, FileFault::NotFound) => "its folder is not there",
             Refusal::NotOpened(fault)
             | Refusal::ReadFault(_, fault)
             | Refusal::WriteFault(_, fault) => fault_text(fault),
             Refusal::NotAccepted(kind) => header_text(kind),
-            Refusal::NoMemory => "there was no memory",
-            Refusal::ReportFault => "the report was not written",
-            Refusal::TooLong => "it has more than 4,294,967,295 bytes; cut it in parts",
-            Refusal::Word => "a word of the command line is not UTF-8",
             _ => "",
         }
     }
 
     // What is said behind the reason.
-    fn state(&self) -> &str {
+    fn state(&self) -> &'static str {
         match self {
             Refusal::WriteFault(_, FileFault::NotFound) => "",
             Refusal::WriteFault(_, _) => "; it is as it was",
@@ -227,13 +252,15 @@ impl Refusal<'_> {
 
 impl fmt::Display for Refusal<'_> {
     fn fmt<W: fmt::Write>(&self, f: &mut fmt::Formatter<W>) -> fmt::Result {
-        if let Refusal::ReadFault(count, _) = self {
-            write!(f, "reading it failed after {count} bytes: ")?;
+        let sentence = self.sentence();
+        let (before, after) = sentence.split_once("{}").unwrap_or((sentence, ""));
+        f.write_str(before)?;
+        match self {
+            Refusal::ReadFault(count, _) => write!(f, "{count}")?,
+            _ => f.write_str(self.named())?,
         }
-        let (before, name, after) = self.named();
-        for part in [before, name, after, self.reason(), self.state()] {
-            f.write_str(part)?;
-        }
-        Ok(())
+        f.write_str(after)?;
+        f.write_str(self.reason())?;
+        f.write_str(self.state())
     }
 }

@@ -21,6 +21,7 @@ part_told faults.NoFolder name part = refl
 part_told faults.DiskFull name part = refl
 part_told faults.QuotaFull name part = refl
 part_told faults.TooLarge name part = refl
+part_told faults.NameTooLong name part = refl
 part_told faults.ReadOnly name part = refl
 part_told faults.ReaderGone name part = refl
 part_told faults.NoMemory name part = refl

@@ -135,7 +135,7 @@ struct Sentence {
     text: &'static str,
 }
 
-static SENTENCES: [Sentence; 8] = [
+static SENTENCES: [Sentence; 12] = [
     Sentence {
         refusal: Refusal::NoSuchConversion(Kind::Stream),
         status: 2,
@@ -165,6 +165,26 @@ static SENTENCES: [Sentence; 8] = [
         refusal: Refusal::WriteFault("a.rnx", FileFault::DiskFull),
         status: 4,
         text: "writing a.rnx failed: the disk is full; it is as it was",
+    },
+    Sentence {
+        refusal: Refusal::NoFile("/dev/null"),
+        status: 4,
+        text: "/dev/null is no file; -o - writes to standard output",
+    },
+    Sentence {
+        refusal: Refusal::MadeBefore("a.rnx"),
+        status: 4,
+        text: "a.rnx was made of another file just now; name the output by -o",
+    },
+    Sentence {
+        refusal: Refusal::WriteFault("a.rnx", FileFault::NameTooLong),
+        status: 4,
+        text: "writing a.rnx failed: the name is too long for its file system; it is as it was",
+    },
+    Sentence {
+        refusal: Refusal::AmongFiles,
+        status: 2,
+        text: "standard input is read alone; name files",
     },
     Sentence {
         refusal: Refusal::NotAccepted(Kind::Capture2),

@@ -3,12 +3,12 @@
 use crate::clock::ClockWords;
 use crate::command::Asked;
 use crate::files::{Task, convert_file, convert_joined};
-use crate::outputs::{Output, is_same_file, output_of};
+use crate::outputs::{Made, Output, is_same_file, name_of, output_of, placed};
 use crate::telling::tell_program;
 use file_folders::fault_of;
 use file_form::Target;
 use file_step::FileFault;
-use file_words::{Refusal, Values, is_site};
+use file_words::{Refusal, Values, ending_of, is_site};
 use front_run::{Plan, is_date};
 use std::fs::File;
 use std::io;
@@ -59,19 +59,41 @@ fn report_of<'a>(rt: &HostRuntime, asked: &Asked<'a>) -> Result<Option<File>, Re
     }
 }
 
-// Why the file of this name cannot have reports: it is the output, or an input.
+// Why the file of this name cannot have reports: it is an output, or an input.
 fn unfit_report<'a>(rt: &HostRuntime, asked: &Asked<'a>, name: &'a str) -> Option<Refusal<'a>> {
-    if let Some(output) = asked.value("output") {
-        if output == name || is_same_file(rt, output, name) {
-            return Some(Refusal::SameReport(name));
-        }
-    }
+    let output = output_of(rt, asked);
     for file in asked.files().unwrap_or(&[]) {
         if is_same_file(rt, file, name) {
             return Some(Refusal::SameFile(name));
         }
+        if is_output(rt, asked, output, file, name) {
+            return Some(Refusal::SameReport(name));
+        }
     }
     None
+}
+
+// Whether the file of this name is the output of a file, as far as that has its name before it is
+// read.
+fn is_output(rt: &HostRuntime, asked: &Asked, output: Output, file: &str, name: &str) -> bool {
+    match output {
+        Output::Standard => false,
+        Output::File(output) => is_same_file(rt, output, name),
+        Output::Beside | Output::Folder(_) => {
+            asked.value("long-name").is_none() && is_placed(rt, asked, output, file, name)
+        }
+    }
+}
+
+// Whether the file of this name is the output of a file that is named by it.
+fn is_placed(rt: &HostRuntime, asked: &Asked, output: Output, file: &str, name: &str) -> bool {
+    let Ok(own) = name_of(rt.alloc(), file, ending_of(asked.to())) else {
+        return false;
+    };
+    match placed(rt.alloc(), output, file, own.as_str()) {
+        Ok(path) => is_same_file(rt, path.as_str(), name),
+        Err(_) => false,
+    }
 }
 
 // The file of this name, for reports, where it can have them; it is not replaced without leave.
@@ -149,9 +171,10 @@ fn convert_files<'a>(task: &Task<'a>, files: &'a [&'a str]) -> u8 {
     if let (Output::File(name), true) = (task.output, files.len() > 1) {
         return tell_program(task.rt, &Refusal::SeveralFiles(name));
     }
+    let mut made = Made::none(task.rt.alloc());
     let mut status = 0;
     for file in files {
-        let ended = convert_file(task, file);
+        let ended = convert_file(task, file, &mut made);
         if status == 0 {
             status = ended;
         }

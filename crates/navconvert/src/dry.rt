@@ -63,7 +63,7 @@ fn reader_of(kind: Kind, count: usize) -> Option<(&'static str, &'static str)> {
     match kind {
         Kind::Ubx => Some(("navlog --from ubx", " < ")),
         Kind::Sbf => Some(("navlog --from sbf", " < ")),
-        _ if count > 1 => Some(("cat", " ")),
+        _ if count > 1 => Some(("cat --", " ")),
         _ => None,
     }
 }

@@ -2,7 +2,7 @@
 
 use crate::dry::show_files;
 use crate::forms::file_kind;
-use crate::outputs::{Output, is_file, is_folder, is_same_file, name_of, owned, placed, taken};
+use crate::outputs::{Made, Output, is_same_file, name_of, owned, placed, taken};
 use crate::place::Goal;
 use crate::steps::put;
 use crate::telling::tell_file;
@@ -12,6 +12,7 @@ use file_step::FileFault;
 use file_words::{Refusal, ending_of};
 use front_run::Plan;
 use std::fs::File;
+use std::path::Path;
 use std::slice::from_ref;
 
 /// What is done with each file.
@@ -40,11 +41,11 @@ pub(crate) struct Task<'a> {
 }
 
 /// Converts a file, `-` for standard input, and says what became of it; the status.
-pub(crate) fn convert_file<'a>(task: &Task<'a>, file: &'a &'a str) -> u8 {
-    if *file != "-" && is_folder(task.rt, file) {
+pub(crate) fn convert_file<'a>(task: &Task<'a>, file: &'a &'a str, made: &mut Made) -> u8 {
+    if *file != "-" && Path::new(*file).is_dir(task.rt) {
         return tell_file(task.rt, file, &Refusal::NotOpened(FileFault::IsFolder));
     }
-    convert(task, file, from_ref(file))
+    convert(task, file, from_ref(file), made)
 }
 
 /// Makes one output of files, which has the name of the first where none is named; the status.
@@ -56,12 +57,15 @@ pub(crate) fn convert_joined<'a>(task: &Task<'a>, files: &'a [&'a str]) -> u8 {
     }
     match files.first() {
         None => 0,
-        Some(first) => convert(task, first, files),
+        Some(first) => convert(task, first, files, &mut Made::none(task.rt.alloc())),
     }
 }
 
 // The status, where a file is of no form that can be joined.
 fn refused_form<'a>(task: &Task<'a>, file: &'a str) -> Option<u8> {
+    if file == "-" {
+        return Some(tell_file(task.rt, file, &Refusal::AmongFiles));
+    }
     let refusal = match file_kind(task, file) {
         Err(refusal) => refusal,
         Ok(kind) => match row_of(kind, task.plan.target) {
@@ -73,24 +77,30 @@ fn refused_form<'a>(task: &Task<'a>, file: &'a str) -> Option<u8> {
 }
 
 // Makes one output of files, the first of which has this name, `-` for standard input; the status.
-fn convert<'a>(task: &Task<'a>, first: &'a str, files: &'a [&'a str]) -> u8 {
+fn convert<'a>(task: &Task<'a>, first: &'a str, files: &'a [&'a str], made: &mut Made) -> u8 {
     match task.output {
-        Output::Standard => convert_to(task, first, files, None),
-        Output::Beside if first == "-" && files.len() == 1 => convert_to(task, first, files, None),
+        Output::Standard => convert_to(task, first, files, None, made),
+        Output::Beside if first == "-" => convert_to(task, first, files, None, made),
         _ => match named(task, first, files) {
-            Ok(name) => convert_to(task, first, files, Some(name.as_str())),
+            Ok(name) => convert_to(task, first, files, Some(name.as_str()), made),
             Err(refusal) => tell_file(task.rt, first, &refusal),
         },
     }
 }
 
 // Makes the output of this name, or that on standard output, or shows the command for it.
-fn convert_to<'a>(task: &Task<'a>, first: &'a str, files: &'a [&'a str], name: Option<&str>) -> u8 {
+fn convert_to<'a>(
+    task: &Task<'a>,
+    first: &'a str,
+    files: &'a [&'a str],
+    name: Option<&str>,
+    made: &mut Made,
+) -> u8 {
     if task.dry {
         return show_files(task, first, files, name);
     }
     match name {
-        Some(name) => put_free(task, first, files, name),
+        Some(name) => put_free(task, first, files, name, made),
         None => put(task, first, files, Goal::Standard, "standard output", first),
     }
 }
@@ -142,16 +152,26 @@ fn is_report(task: &Task, name: &str) -> bool {
 }
 
 // Makes the output under this name, where it may have it.
-fn put_free<'a>(task: &Task<'a>, first: &'a str, files: &'a [&'a str], name: &str) -> u8 {
+fn put_free<'a>(
+    task: &Task<'a>,
+    first: &'a str,
+    files: &'a [&'a str],
+    name: &str,
+    made: &mut Made,
+) -> u8 {
     if is_report(task, name) {
         return tell_file(task.rt, first, &Refusal::SameReport(name));
     }
     for file in files {
-        if let Some(refusal) = taken(task.rt, file, name, task.overwrites) {
+        if let Some(refusal) = taken(task.rt, file, name, made, task.overwrites) {
             return tell_taken(task, file, &refusal);
         }
     }
-    put(task, first, files, Goal::File, name, name)
+    let status = put(task, first, files, Goal::File, name, name);
+    if status == 0 && made.add(task.rt, name).is_err() {
+        return tell_file(task.rt, first, &Refusal::NoMemory);
+    }
+    status
 }
 
 // Says why an output may not have its name; or that the file has no conversion, where that is so.
@@ -164,7 +184,7 @@ fn tell_taken(task: &Task, file: &str, refusal: &Refusal) -> u8 {
 
 // The form of a file that can be read again, where it has no conversion.
 fn unconverted(task: &Task, file: &str) -> Option<Kind> {
-    if !is_file(task.rt, file) {
+    if !Path::new(file).is_file(task.rt) {
         return None;
     }
     let target = task.plan.target;

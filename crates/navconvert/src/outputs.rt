@@ -9,6 +9,7 @@ use crate::command::Asked;
 use file_step::FileFault;
 use file_words::{Refusal, output_name};
 use std::alloc::{AllocError, Global};
+use std::collections::BTreeSet;
 use std::fs;
 use std::fs::Metadata;
 use std::os::unix::fs::MetadataExt;
@@ -34,28 +35,12 @@ pub(crate) fn output_of<'a>(rt: &HostRuntime, asked: &Asked<'a>) -> Output<'a> {
         Some(name) => {
             if name == "-" {
                 Output::Standard
-            } else if is_folder(rt, name) {
+            } else if Path::new(name).is_dir(rt) {
                 Output::Folder(name)
             } else {
                 Output::File(name)
             }
         }
-    }
-}
-
-/// Whether the name is that of a folder.
-pub(crate) fn is_folder(rt: &HostRuntime, name: &str) -> bool {
-    match fs::metadata(rt, name) {
-        Ok(there) => there.is_dir(),
-        Err(_) => false,
-    }
-}
-
-/// Whether the name is that of a file with bytes of its own, which can be read again.
-pub(crate) fn is_file(rt: &HostRuntime, name: &str) -> bool {
-    match fs::metadata(rt, name) {
-        Ok(there) => there.is_file(),
-        Err(_) => false,
     }
 }
 
@@ -126,36 +111,100 @@ pub(crate) fn taken<'a>(
     rt: &HostRuntime,
     file: &str,
     name: &'a str,
+    made: &Made,
     overwrites: bool,
 ) -> Option<Refusal<'a>> {
     match fs::metadata(rt, name) {
         Err(_) => None,
         Ok(there) => {
-            if is_same(rt, file, &there) {
+            if identity_of(rt, file) == Some(identity(&there)) {
                 Some(Refusal::SameFile(name))
-            } else if there.is_dir() {
-                Some(Refusal::WriteFault(name, FileFault::IsFolder))
-            } else if !overwrites || !there.is_file() {
-                Some(Refusal::OutputThere(name))
+            } else if made.has(&there) {
+                Some(Refusal::MadeBefore(name))
             } else {
-                None
+                kept(&there, name, overwrites)
             }
         }
     }
 }
 
-/// Whether both names are those of one file.
-pub(crate) fn is_same_file(rt: &HostRuntime, name: &str, other: &str) -> bool {
-    match fs::metadata(rt, other) {
-        Ok(there) => is_same(rt, name, &there),
-        Err(_) => false,
+// Why what has this name is not replaced, if it is not.
+fn kept<'a>(there: &Metadata, name: &'a str, overwrites: bool) -> Option<Refusal<'a>> {
+    if there.is_dir() {
+        Some(Refusal::WriteFault(name, FileFault::IsFolder))
+    } else if !there.is_file() {
+        Some(Refusal::NoFile(name))
+    } else if !overwrites {
+        Some(Refusal::OutputThere(name))
+    } else {
+        None
     }
 }
 
-// Whether the name is that of a file with this metadata.
-fn is_same(rt: &HostRuntime, name: &str, other: &Metadata) -> bool {
+/// The files that were made so far.
+#[derive(Drop)]
+pub(crate) struct Made {
+    files: BTreeSet<(u64, u64)>,
+}
+
+impl Made {
+    /// None yet.
+    pub(crate) fn none(alloc: Global) -> Made {
+        Made {
+            files: BTreeSet::new(alloc),
+        }
+    }
+
+    /// Adds the file of this name.
+    pub(crate) fn add(&mut self, rt: &HostRuntime, name: &str) -> Result<(), AllocError> {
+        if let Some(it) = identity_of(rt, name) {
+            self.files.insert(it)?;
+        }
+        Ok(())
+    }
+
+    // Whether it is a file that was made.
+    fn has(&self, there: &Metadata) -> bool {
+        self.files.contains(&identity(there))
+    }
+}
+
+// What tells a file from every other: its device, and its number there.
+fn identity(there: &Metadata) -> (u64, u64) {
+    (there.dev(), there.ino())
+}
+
+// What tells the file of this name from every other, where there is one.
+fn identity_of(rt: &HostRuntime, name: &str) -> Option<(u64, u64)> {
     match fs::metadata(rt, name) {
-        Ok(there) => there.dev() == other.dev() && there.ino() == other.ino(),
-        Err(_) => false,
+        Ok(there) => Some(identity(&there)),
+        Err(_) => None,
+    }
+}
+
+/// Whether both names are those of one file, or of one that is not there yet.
+pub(crate) fn is_same_file(rt: &HostRuntime, name: &str, other: &str) -> bool {
+    match identity_of(rt, name) {
+        None => is_same_name(rt, Path::new(name), Path::new(other)),
+        it => it == identity_of(rt, other),
+    }
+}
+
+// Whether both are one name in one folder.
+fn is_same_name(rt: &HostRuntime, name: Path, other: Path) -> bool {
+    if name.file_name() != other.file_name() {
+        return false;
+    }
+    match identity_of(rt, folder_of(name)) {
+        None => false,
+        it => it == identity_of(rt, folder_of(other)),
+    }
+}
+
+// The folder of a name.
+fn folder_of(name: Path) -> &str {
+    match name.parent() {
+        Some(folder) if folder.as_str() != "" => folder.as_str(),
+        _ => ".",
     }
 }

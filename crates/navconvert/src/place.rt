@@ -1,17 +1,14 @@
 //! The folder of a conversion: what is read may be standard input or several files, and what is
 //! made may go to standard output, or nowhere.
 
-ghost use Rattle.std.specs.Prelude.{◌≡◌, ◌↔◌, IsNone, IsOk};
-ghost use Rattle.nav_io.specs.Causes.{HasCause};
-
 use crate::inputs::{Input, opened};
 use crate::times::Times;
-use file_folders::{HostFolder, fault_of};
+use file_folders::HostFolder;
 use file_step::{FileFault, Folder, Gathered};
 use gnss_week::Moment;
 use nav_io::{Failed, Sink, WriteSink};
 use std::fs::File;
-use std::io::{ErrorKind, Stdout};
+use std::io::Stdout;
 
 /// Where what is made goes.
 #[derive(Clone, Copy)]
@@ -79,18 +76,6 @@ impl<'a> Place<'a> {
             range: None,
         }
     }
-
-    // Counts a fault of this kind, where there was one.
-    fn told(&mut self, kind: Option<ErrorKind>) -> Result<(), FileFault>
-        ensures some { IsOk result ↔ IsNone kind }
-        ensures cause { HasCause (⟦<Place<'a> as Folder>⟧.faults self.old)
-            (⟦<Place<'a> as Folder>⟧.faults self.new) result }
-    {
-        match kind {
-            None => Ok(()),
-            Some(kind) => Err(self.folder.failed(fault_of(kind))),
-        }
-    }
 }
 
 impl<'a> Folder for Place<'a> {
@@ -113,7 +98,7 @@ impl<'a> Folder for Place<'a> {
     }
 
     fn close(&mut self, input: Input<'a>) -> Result<(), FileFault> {
-        self.told(input.fault())
+        self.folder.told(input.fault())
     }
 
     /// Creates the file, where what is made goes to one.
@@ -132,7 +117,7 @@ impl<'a> Folder for Place<'a> {
     fn publish(&mut self, draft: Draft, part: &str, name: &str) -> Result<(), FileFault> {
         match draft {
             Draft::File(draft) => self.folder.publish(draft, part, name),
-            Draft::Standard(output) => self.told(output.fault()),
+            Draft::Standard(output) => self.folder.told(output.fault()),
             Draft::Nowhere(times) => {
                 self.range = times.range;
                 Ok(())
@@ -144,7 +129,7 @@ impl<'a> Folder for Place<'a> {
     fn discard(&mut self, draft: Draft, part: &str) -> Result<(), FileFault> {
         match draft {
             Draft::File(draft) => self.folder.discard(draft, part),
-            Draft::Standard(output) => self.told(output.fault()),
+            Draft::Standard(output) => self.folder.told(output.fault()),
             Draft::Nowhere(_) => Ok(()),
         }
     }
