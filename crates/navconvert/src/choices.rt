@@ -3,7 +3,8 @@
 use crate::clock::ClockWords;
 use crate::command::Asked;
 use crate::files::{Task, convert_file, convert_joined};
-use crate::outputs::{Made, Output, is_same_file, name_of, output_of, placed};
+use crate::outputs::{Output, name_of, output_of, placed};
+use crate::taken::{Made, is_same_file};
 use crate::telling::tell_program;
 use file_folders::fault_of;
 use file_form::Target;

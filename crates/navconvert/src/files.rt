@@ -2,9 +2,10 @@
 
 use crate::dry::show_files;
 use crate::forms::file_kind;
-use crate::outputs::{Made, Output, is_same_file, name_of, owned, placed, taken};
+use crate::outputs::{Output, name_of, owned, placed};
 use crate::place::Goal;
 use crate::steps::put;
+use crate::taken::{Made, is_same_file, taken};
 use crate::telling::tell_file;
 use crate::times::long_name_of;
 use file_form::{Kind, Target, is_copied, row_of};

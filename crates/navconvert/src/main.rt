@@ -19,6 +19,7 @@ mod notes;
 mod outputs;
 mod place;
 mod steps;
+mod taken;
 mod tally;
 mod telling;
 mod times;

@@ -88,7 +88,13 @@ fn tell_done(task: &Task, name: &str, outcome: &Outcome<Tally>) {
     tell(rt, name, ": ");
     tell_made(rt, outcome);
     if let Some(counts) = &outcome.counts {
-        tell_count(rt, ", ", counts.refused, " messages refused");
+        tell_count(
+            rt,
+            ", ",
+            counts.refused,
+            "message refused",
+            "messages refused",
+        );
     }
     if outcome.kind.is_some_and(|kind| takes_clock(task, kind)) {
         tell(rt, ", read near week ", task.plan.values.clock_week);
@@ -101,15 +107,15 @@ fn tell_done(task: &Task, name: &str, outcome: &Outcome<Tally>) {
 fn tell_made(rt: &HostRuntime, outcome: &Outcome<Tally>) {
     let said = &outcome.report.said;
     match (said.written, said.refused, &outcome.counts) {
-        (Some(written), _, _) => tell_count(rt, "", written, " ephemerides"),
+        (Some(written), _, _) => tell_count(rt, "", written, "ephemeris", "ephemerides"),
         (None, None, Some(counts)) => {
-            tell_count(rt, "", counts.subframes, " subframes");
-            tell_count(rt, ", ", counts.pages, " pages");
+            tell_count(rt, "", counts.subframes, "subframe", "subframes");
+            tell_count(rt, ", ", counts.pages, "page", "pages");
         }
         _ => tell(rt, "written", ""),
     }
     if let Some(refused) = said.refused {
-        tell_count(rt, ", ", refused, " lines refused");
+        tell_count(rt, ", ", refused, "line refused", "lines refused");
     }
 }
 
@@ -118,9 +124,10 @@ fn tell(rt: &HostRuntime, text: &str, next: &str) {
     let _ = eprint!(rt; "{text}{next}");
 }
 
-// Says a count between two texts.
-fn tell_count(rt: &HostRuntime, before: &str, count: u64, after: &str) {
-    let _ = eprint!(rt; "{before}{count}{after}");
+// Says a count, of one thing or of many, behind a text.
+fn tell_count(rt: &HostRuntime, before: &str, count: u64, one: &str, many: &str) {
+    let things = if count == 1 { one } else { many };
+    let _ = eprint!(rt; "{before}{count} {things}");
 }
 
 // Whether a file of this form is read by the week of the clock.
