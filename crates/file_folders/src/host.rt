@@ -2,6 +2,7 @@
 
 ghost use Rattle.std.specs.Prelude.{◌≡◌, ◌≤◌, ◌↔◌, ◌+◌, ◌-◌, ◌^◌, min, IfOk, IsNone, IsOk};
 ghost use Rattle.nav_io.specs.Causes.{HasCause, Rose};
+ghost use Rattle.file_entries.specs.Faults.{told};
 
 use file_entries::{Faults, fault_of};
 use file_step::{FileFault, Folder, GATHERED, Gathered};
@@ -47,6 +48,7 @@ impl<'a, R: Files> HostFolder<'a, R> {
 
     /// Counts a fault of this kind of a call that was made beside it, where there was one.
     pub fn told(&mut self, kind: Option<ErrorKind>) -> Result<(), FileFault>
+        ensures tells { result ≡ told kind }
         ensures some { IsOk result ↔ IsNone kind }
         ensures cause { HasCause (⟦<HostFolder<'a, R> as Folder>⟧.faults self.old)
             (⟦<HostFolder<'a, R> as Folder>⟧.faults self.new) result }

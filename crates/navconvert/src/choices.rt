@@ -62,16 +62,33 @@ fn report_of<'a>(rt: &HostRuntime, asked: &Asked<'a>) -> Result<Option<File>, Re
 
 // Why the file of this name cannot have reports: it is an output, or an input.
 fn unfit_report<'a>(rt: &HostRuntime, asked: &Asked<'a>, name: &'a str) -> Option<Refusal<'a>> {
-    let output = output_of(rt, asked);
-    for file in asked.files().unwrap_or(&[]) {
+    let files = asked.files().unwrap_or(&[]);
+    for file in files {
         if is_same_file(rt, file, name) {
             return Some(Refusal::SameFile(name));
         }
+    }
+    let output = output_of(rt, asked);
+    for file in naming(asked.to(), files) {
         if is_output(rt, asked, output, file, name) {
             return Some(Refusal::SameReport(name));
         }
     }
     None
+}
+
+// Whether files make one output.
+fn are_joined(target: Target, files: &[&str]) -> bool {
+    files.len() > 1 && matches!(target, Target::Merged | Target::Cover)
+}
+
+// The files that outputs have their names of: the first, where they make one output.
+fn naming<'x, 'a>(target: Target, files: &'x [&'a str]) -> &'x [&'a str] {
+    if are_joined(target, files) {
+        files.get(..1).unwrap_or(files)
+    } else {
+        files
+    }
 }
 
 // Whether the file of this name is the output of a file, as far as that has its name before it is
@@ -166,7 +183,7 @@ fn plan_of<'x, 'a>(asked: &'x Asked<'a>, clock: &'x ClockWords) -> Plan<'x> {
 
 // Converts each file, or makes one output of several; the status of the first that failed.
 fn convert_files<'a>(task: &Task<'a>, files: &'a [&'a str]) -> u8 {
-    if files.len() > 1 && matches!(task.plan.target, Target::Merged | Target::Cover) {
+    if are_joined(task.plan.target, files) {
         return convert_joined(task, files);
     }
     if let (Output::File(name), true) = (task.output, files.len() > 1) {
