@@ -134,7 +134,7 @@ pub fn targets_of(kind: Kind) -> &'static str
         Kind::Rinex2 => "only versions 3 and 4 are read",
         Kind::Observations | Kind::Hatanaka | Kind::OtherRinex => "it has no orbits to convert",
         Kind::Ubx | Kind::Sbf => "that converts to rinex, rinex3, rtcm, list, count, capture",
-        Kind::Nmea => "it has no orbits to convert",
+        Kind::Nmea => "name the form by --from where it has UBX messages or SBF blocks too",
         Kind::Gzip | Kind::Compress => "unpack it: gzip -dc FILE | navconvert -o OUT -",
         Kind::Zip => "unpack it: unzip -p FILE | navconvert -o OUT -",
         Kind::Marked => "take its first three bytes away: tail -c +4 FILE | navconvert -o OUT -",
