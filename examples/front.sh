@@ -226,6 +226,13 @@ is_gone "a disk that is full" full.rnx.part
 tried=$((tried + 1))
 "$navconvert" -t list -o - station.navcap 2> said | true
 [ ! -s said ] || grep -q ephemerides said || differs "a reader that has gone" "it says something"
+tried=$((tried + 2))
+: > said
+"$navconvert" -t list --report shut.report -o shut.list station.navcap 2>&- || differs "no standard error" "status $?"
+is_same "no standard error" shut.list "$examples/station.list"
+is_same "no standard error" shut.report "$examples/station.report"
+"$navconvert" -t list --report shut2.report -o - station.navcap >&- 2> said && differs "no standard output" "status 0"
+head -c "$(wc -c < shut2.report)" "$examples/station.report" | cmp -s - shut2.report || differs "no standard output" "its report has something else"
 mkfifo pipe
 cat station.navcap > pipe &
 run "a FIFO" 0 "p.list: 4" -t list -o p.list pipe

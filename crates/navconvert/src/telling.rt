@@ -114,8 +114,18 @@ fn tell_made(rt: &HostRuntime, outcome: &Outcome<Tally>) {
         }
         _ => tell(rt, "written", ""),
     }
+    let (one, many) = refused_of(outcome.kind);
     if let Some(refused) = said.refused {
-        tell_count(rt, ", ", refused, "line refused", "lines refused");
+        tell_count(rt, ", ", refused, one, many);
+    }
+}
+
+// What is refused of a file that is read under this form, one and many.
+fn refused_of(kind: Option<Kind>) -> (&'static str, &'static str) {
+    match kind {
+        Some(Kind::Stream) => ("frame refused", "frames refused"),
+        Some(Kind::Rinex4 | Kind::Rinex3) => ("record refused", "records refused"),
+        _ => ("line refused", "lines refused"),
     }
 }
 
