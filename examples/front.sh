@@ -143,6 +143,8 @@ is_gone "a report that is the output in a folder" out.d/kept.list
 echo old > both.rnx
 run "a report that is the output, and there" 4 "both.rnx is the report" --overwrite --report both.rnx -o ./both.rnx station.navcap
 [ "$(cat both.rnx)" = old ] || differs "a report that is the output, and there" "it was changed"
+run "a report to standard output" 4 "- is no file" -t list --report - kept.navcap
+is_gone "a report to standard output" ./-
 run "help" 0 - --help
 grep -q -- --overwrite out || differs "help" "no option"
 run "version" 0 - --version

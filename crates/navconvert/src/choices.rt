@@ -60,8 +60,11 @@ fn report_of<'a>(rt: &HostRuntime, asked: &Asked<'a>) -> Result<Option<File>, Re
     }
 }
 
-// Why the file of this name cannot have reports: it is an output, or an input.
+// Why the file of this name cannot have reports: it is standard output, an output, or an input.
 fn unfit_report<'a>(rt: &HostRuntime, asked: &Asked<'a>, name: &'a str) -> Option<Refusal<'a>> {
+    if name == "-" {
+        return Some(Refusal::NoFile(name));
+    }
     let files = asked.files().unwrap_or(&[]);
     for file in files {
         if is_same_file(rt, file, name) {

@@ -38,7 +38,7 @@ use std::{env, fs, io};
 fn main(rt: HostRuntime) -> ExitCode {
     let _held = held_places(&rt);
     let status = match words_of(&rt) {
-        Ok(words) => run(&rt, &words),
+        Ok(words) => run(&rt, words.get(1..).unwrap_or(&[])),
         Err(refusal) => tell_program(&rt, &refusal),
     };
     ExitCode::from(status)
@@ -50,7 +50,7 @@ fn held_places(rt: &HostRuntime) -> [io::Result<File>; 3] {
     [fs::open(rt, "/"), fs::open(rt, "/"), fs::open(rt, "/")]
 }
 
-// Does what the words ask; the status.
+// Does what the words behind the name of the program ask; the status.
 fn run(rt: &HostRuntime, words: &[String]) -> u8 {
     match read_words(rt.alloc(), words) {
         Ok(asked) => run_asked(rt, &asked),
@@ -74,14 +74,14 @@ fn convert_now(rt: &HostRuntime, asked: &Asked, report: Option<&File>) -> u8 {
     }
 }
 
-// The words of the command line, without the program's name.
+// The words of the command line, the name of the program first.
 fn words_of(rt: &HostRuntime) -> Result<Vec<String>, Refusal<'static>> {
     let args = match env::args(rt) {
         Ok(args) => args,
         Err(error) if error.kind() == ErrorKind::OutOfMemory => return Err(Refusal::NoMemory),
         Err(_) => return Err(Refusal::Word),
     };
-    match args.skip(1).collect(rt.alloc()) {
+    match args.collect(rt.alloc()) {
         Ok(words) => Ok(words),
         Err(AllocError) => Err(Refusal::NoMemory),
     }
