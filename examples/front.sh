@@ -235,6 +235,22 @@ is_same "no standard error" shut.list "$examples/station.list"
 is_same "no standard error" shut.report "$examples/station.report"
 "$navconvert" -t list --report shut2.report -o - station.navcap >&- 2> said && differs "no standard output" "status 0"
 head -c "$(wc -c < shut2.report)" "$examples/station.report" | cmp -s - shut2.report || differs "no standard output" "its report has something else"
+cat > at_once.py << 'END'
+import socket, subprocess, sys
+ours, theirs = socket.socketpair(socket.AF_UNIX, socket.SOCK_DGRAM)
+subprocess.run(sys.argv[1:], stderr=theirs)
+ours.setblocking(False)
+parts = 0
+try:
+    while ours.recv(65536):
+        parts += 1
+except OSError:
+    pass
+sys.exit(parts != 1)
+END
+tried=$((tried + 1))
+: > said
+python3 at_once.py "$navconvert" -t list -o once.list log.ubx || differs "a line that is written at once" "it comes in parts"
 mkfifo pipe
 cat station.navcap > pipe &
 run "a FIFO" 0 "p.list: 4" -t list -o p.list pipe

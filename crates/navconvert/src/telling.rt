@@ -11,6 +11,7 @@ use file_words::Refusal;
 use front_run::{Outcome, Teller};
 use nav_io::Failed;
 use receiver_log::counts_text;
+use std::fmt;
 use std::io::IsTerminal;
 
 // What takes the line of a meter away.
@@ -80,43 +81,78 @@ fn is_counted(task: &Task, outcome: &Outcome<Tally>) -> bool {
     }
 }
 
-// Says what became of a file: what it has, what was refused, and the week of the clock where it was
-// read by that.
+// Says what became of a file, as one line that is written at once.
 fn tell_done(task: &Task, name: &str, outcome: &Outcome<Tally>) {
-    let rt = task.rt;
-    clear(rt);
-    tell(rt, name, ": ");
-    tell_made(rt, outcome);
-    if let Some(counts) = &outcome.counts {
-        tell_count(
-            rt,
-            ", ",
-            counts.refused,
-            "message refused",
-            "messages refused",
-        );
-    }
-    if outcome.kind.is_some_and(|kind| takes_clock(task, kind)) {
-        tell(rt, ", read near week ", task.plan.values.clock_week);
-        tell(rt, " of the clock", "");
-    }
-    tell(rt, "\n", "");
+    clear(task.rt);
+    let done = Done {
+        task,
+        name,
+        outcome,
+    };
+    let _ = eprintln!(task.rt; "{done}");
 }
 
-// Says what was made, and how many lines of it were refused.
-fn tell_made(rt: &HostRuntime, outcome: &Outcome<Tally>) {
+// What became of a file: what its output has, what was refused, and the week of the clock where it
+// was read by that.
+#[derive(Clone, Copy)]
+struct Done<'x, 'a> {
+    task: &'x Task<'a>,
+    name: &'x str,
+    outcome: &'x Outcome<Tally<'a>>,
+}
+
+impl fmt::Display for Done<'_, '_> {
+    fn fmt<W: fmt::Write>(&self, f: &mut fmt::Formatter<W>) -> fmt::Result {
+        f.write_str(self.name)?;
+        write_made(f, self.outcome)?;
+        if let Some(counts) = &self.outcome.counts {
+            let names = ("message refused", "messages refused");
+            write_count(f, ", ", counts.refused, names)?;
+        }
+        write_week(f, self.task, self.outcome.kind)
+    }
+}
+
+// Writes what was made, and how many lines of it were refused.
+fn write_made<W: fmt::Write>(f: &mut fmt::Formatter<W>, outcome: &Outcome<Tally>) -> fmt::Result {
     let said = &outcome.report.said;
     match (said.written, said.refused, &outcome.counts) {
-        (Some(written), _, _) => tell_count(rt, "", written, "ephemeris", "ephemerides"),
+        (Some(written), _, _) => write_count(f, ": ", written, ("ephemeris", "ephemerides"))?,
         (None, None, Some(counts)) => {
-            tell_count(rt, "", counts.subframes, "subframe", "subframes");
-            tell_count(rt, ", ", counts.pages, "page", "pages");
+            write_count(f, ": ", counts.subframes, ("subframe", "subframes"))?;
+            write_count(f, ", ", counts.pages, ("page", "pages"))?;
         }
-        _ => tell(rt, "written", ""),
+        _ => f.write_str(": written")?,
     }
-    let (one, many) = refused_of(outcome.kind);
-    if let Some(refused) = said.refused {
-        tell_count(rt, ", ", refused, one, many);
+    match said.refused {
+        None => Ok(()),
+        Some(refused) => write_count(f, ", ", refused, refused_of(outcome.kind)),
+    }
+}
+
+// Writes a count, of one thing or of many, behind a text.
+fn write_count<W: fmt::Write>(
+    f: &mut fmt::Formatter<W>,
+    before: &str,
+    count: u64,
+    names: (&str, &str),
+) -> fmt::Result {
+    let name = if count == 1 { names.0 } else { names.1 };
+    write!(f, "{before}{count} {name}")
+}
+
+// Writes the week of the clock, where a file of this form was read by it.
+fn write_week<W: fmt::Write>(
+    f: &mut fmt::Formatter<W>,
+    task: &Task,
+    kind: Option<Kind>,
+) -> fmt::Result {
+    match kind {
+        Some(kind) if takes_clock(task, kind) => {
+            let week = task.plan.values.clock_week;
+            write!(f, ", read near week {week} of the clock")
+        }
+        _ => Ok(()),
     }
 }
 
@@ -127,17 +163,6 @@ fn refused_of(kind: Option<Kind>) -> (&'static str, &'static str) {
         Some(Kind::Rinex4 | Kind::Rinex3) => ("record refused", "records refused"),
         _ => ("line refused", "lines refused"),
     }
-}
-
-// Says a text, and what follows.
-fn tell(rt: &HostRuntime, text: &str, next: &str) {
-    let _ = eprint!(rt; "{text}{next}");
-}
-
-// Says a count, of one thing or of many, behind a text.
-fn tell_count(rt: &HostRuntime, before: &str, count: u64, one: &str, many: &str) {
-    let things = if count == 1 { one } else { many };
-    let _ = eprint!(rt; "{before}{count} {things}");
 }
 
 // Whether a file of this form is read by the week of the clock.
@@ -151,6 +176,6 @@ fn takes_clock(task: &Task, kind: Kind) -> bool {
 // Takes the line of a meter away, where there is a terminal.
 fn clear(rt: &HostRuntime) {
     if rt.stderr().is_terminal() {
-        tell(rt, BLANKS, "\r");
+        let _ = eprint!(rt; "{BLANKS}\r");
     }
 }
