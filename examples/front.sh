@@ -130,6 +130,10 @@ run "a name with blanks" 0 "a name with blanks.list" -t list "a name with blanks
 run "a report" 0 "r.list" -t list --report r.report -o r.list station.navcap
 is_same "a report" r.report "$examples/station.report"
 cp station.navcap kept.navcap
+run "a report of several files" 0 "kept.list" -t list --overwrite --report r.several station.navcap kept.navcap
+{ echo "file station.navcap"; cat "$examples/station.report"; echo "file kept.navcap"; cat "$examples/station.report"; } > r.expected
+is_same "a report of several files" r.several r.expected
+rm kept.list station.list
 run "a report that is the input" 4 "kept.navcap is the input itself" -t list --overwrite --report kept.navcap kept.navcap
 is_same "a report that is the input" kept.navcap station.navcap
 run "a report that is the output" 4 "both.rnx is the report" --report both.rnx -o both.rnx station.navcap

@@ -5,7 +5,8 @@ use crate::command::Asked;
 use crate::files::{Task, convert_file, convert_joined};
 use crate::outputs::{Output, name_of, output_of, placed};
 use crate::taken::{Made, is_same_file};
-use crate::telling::tell_program;
+use crate::tally::is_put;
+use crate::telling::{tell_file, tell_program};
 use file_folders::fault_of;
 use file_form::Target;
 use file_step::FileFault;
@@ -184,6 +185,15 @@ fn plan_of<'x, 'a>(asked: &'x Asked<'a>, clock: &'x ClockWords) -> Plan<'x> {
     }
 }
 
+// Writes the name of a file before what is reported of it, where it is one of several; whether that
+// was done.
+fn is_headed(task: &Task, file: &str, files: &[&str]) -> bool {
+    files.len() == 1
+        || is_put(task.report, b"file ")
+            && is_put(task.report, file.as_bytes())
+            && is_put(task.report, b"\n")
+}
+
 // Converts each file, or makes one output of several; the status of the first that failed.
 fn convert_files<'a>(task: &Task<'a>, files: &'a [&'a str]) -> u8 {
     if are_joined(task.plan.target, files) {
@@ -195,7 +205,11 @@ fn convert_files<'a>(task: &Task<'a>, files: &'a [&'a str]) -> u8 {
     let mut made = Made::none(task.rt.alloc());
     let mut status = 0;
     for file in files {
-        let ended = convert_file(task, file, &mut made);
+        let ended = if is_headed(task, file, files) {
+            convert_file(task, file, &mut made)
+        } else {
+            tell_file(task.rt, file, &Refusal::ReportFault)
+        };
         if status == 0 {
             status = ended;
         }
