@@ -49,6 +49,11 @@ pub(crate) fn convert_file<'a>(task: &Task<'a>, file: &'a &'a str, made: &mut Ma
     convert(task, file, from_ref(file), made)
 }
 
+/// Whether files make one output.
+pub(crate) fn are_joined(target: Target, files: &[&str]) -> bool {
+    files.len() > 1 && matches!(target, Target::Merged | Target::Cover)
+}
+
 /// Makes one output of files, which has the name of the first where none is named; the status.
 pub(crate) fn convert_joined<'a>(task: &Task<'a>, files: &'a [&'a str]) -> u8 {
     for file in files {

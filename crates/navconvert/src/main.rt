@@ -18,6 +18,7 @@ mod meter;
 mod notes;
 mod outputs;
 mod place;
+mod reports;
 mod steps;
 mod taken;
 mod tally;
@@ -44,8 +45,8 @@ fn main(rt: HostRuntime) -> ExitCode {
     ExitCode::from(status)
 }
 
-// The root folder, three times: it stands where a standard stream is closed, and is neither read nor
-// written, so that no file of ours does and takes what is said.
+// The root folder, three times: where a standard stream is closed it takes its place, so that no
+// file that is opened later does. It can be neither read nor written.
 fn held_places(rt: &HostRuntime) -> [io::Result<File>; 3] {
     [fs::open(rt, "/"), fs::open(rt, "/"), fs::open(rt, "/")]
 }
