@@ -107,7 +107,7 @@ fn convert_to<'a>(
     }
     match name {
         Some(name) => put_free(task, first, files, name, made),
-        None => put(task, first, files, Goal::Standard, "standard output", first),
+        None => put(task, first, files, Goal::Standard, "standard output", first).0,
     }
 }
 
@@ -173,8 +173,8 @@ fn put_free<'a>(
             return tell_taken(task, file, &refusal);
         }
     }
-    let status = put(task, first, files, Goal::File, name, name);
-    if status == 0 && made.add(task.rt, name).is_err() {
+    let (status, is_made) = put(task, first, files, Goal::File, name, name);
+    if is_made && made.add(task.rt, name).is_err() {
         return tell_file(task.rt, first, &Refusal::NoMemory);
     }
     status

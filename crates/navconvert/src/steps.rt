@@ -15,7 +15,8 @@ use front_run::{Outcome, Told, convert_one, finish};
 use std::fs::File;
 
 /// Converts files, the first of which has this name, to that of a name, or to what is named so;
-/// what came of them is said of the shown name. The status.
+/// what came of them is said of the shown name. The status, and whether the output was made: it may
+/// have been where its report was not.
 pub(crate) fn put<'a>(
     task: &Task<'a>,
     first: &'a str,
@@ -23,9 +24,9 @@ pub(crate) fn put<'a>(
     goal: Goal,
     name: &str,
     shown: &str,
-) -> u8 {
+) -> (u8, bool) {
     let Ok(part) = part_of(task.rt.alloc(), name) else {
-        return tell_file(task.rt, first, &Refusal::NoMemory);
+        return (tell_file(task.rt, first, &Refusal::NoMemory), false);
     };
     let mut place = Place::new(task.rt, files, goal);
     let told = told_of(task.report, meter_of(task, first, files, goal));
@@ -36,7 +37,8 @@ pub(crate) fn put<'a>(
         name: shown,
         faults: 0,
     };
-    finish(&task.plan, &outcome, name, part.as_str(), &mut teller)
+    let status = finish(&task.plan, &outcome, name, part.as_str(), &mut teller);
+    (status, outcome.done.is_ok())
 }
 
 /// Converts files, the first of which has this name, to what has a name, by a part of this one.

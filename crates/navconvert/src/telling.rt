@@ -105,6 +105,7 @@ impl fmt::Display for Done<'_, '_> {
     fn fmt<W: fmt::Write>(&self, f: &mut fmt::Formatter<W>) -> fmt::Result {
         f.write_str(self.name)?;
         write_made(f, self.outcome)?;
+        write_refused(f, self.outcome)?;
         if let Some(counts) = &self.outcome.counts {
             let names = ("message refused", "messages refused");
             write_count(f, ", ", counts.refused, names)?;
@@ -113,18 +114,25 @@ impl fmt::Display for Done<'_, '_> {
     }
 }
 
-// Writes what was made, and how many lines of it were refused.
+// Writes what was made.
 fn write_made<W: fmt::Write>(f: &mut fmt::Formatter<W>, outcome: &Outcome<Tally>) -> fmt::Result {
     let said = &outcome.report.said;
     match (said.written, said.refused, &outcome.counts) {
-        (Some(written), _, _) => write_count(f, ": ", written, ("ephemeris", "ephemerides"))?,
+        (Some(written), _, _) => write_count(f, ": ", written, ("ephemeris", "ephemerides")),
         (None, None, Some(counts)) => {
             write_count(f, ": ", counts.subframes, ("subframe", "subframes"))?;
-            write_count(f, ", ", counts.pages, ("page", "pages"))?;
+            write_count(f, ", ", counts.pages, ("page", "pages"))
         }
-        _ => f.write_str(": written")?,
+        _ => f.write_str(": written"),
     }
-    match said.refused {
+}
+
+// Writes how many lines, records or frames were refused, where that was counted.
+fn write_refused<W: fmt::Write>(
+    f: &mut fmt::Formatter<W>,
+    outcome: &Outcome<Tally>,
+) -> fmt::Result {
+    match outcome.report.said.refused {
         None => Ok(()),
         Some(refused) => write_count(f, ", ", refused, refused_of(outcome.kind)),
     }
