@@ -68,7 +68,7 @@ cp "$examples"/{station.navcap,station.rtcm3,ephemerides.rtcm3,station.rnx,versi
 mkdir in out.d
 
 # ---- what is made
-run "a capture to RINEX" 0 "a.rnx: 4 ephemerides, 2 lines refused" "${date[@]}" -o a.rnx station.navcap
+run "a capture to RINEX" 0 "a.rnx: made of 4 items, 2 lines refused" "${date[@]}" -o a.rnx station.navcap
 is_same "a capture to RINEX" a.rnx "$examples/station.rnx"
 is_gone "a capture to RINEX" a.rnx.part
 run "a log to RINEX" 0 "log.rnx: " "${date[@]}" log.ubx
@@ -78,7 +78,7 @@ run "a log to its capture" 0 "k.navcap: " -t capture -o k.navcap --report k.repo
 run "that capture to a list" 0 "k.list" -t list -o k.list k.navcap
 is_same "a log to its capture" k.list "$examples/log.list"
 is_same "the report of a log" k.report "$examples/log.report"
-run "to standard output" 0 "4 ephemerides" -t list -o - station.navcap
+run "to standard output" 0 "4 items" -t list -o - station.navcap
 is_same "to standard output" out "$examples/station.list"
 run "a stream" 0 "s.nav" -f stream --week 2295 "${date[@]}" -t rinex3 -o s.nav ephemerides.rtcm3
 is_same "a stream" s.nav "$examples/expected/ephemerides.nav"
@@ -86,11 +86,11 @@ run "frames" 0 "written" -f stream -t frames -o f.frames station.rtcm3
 is_same "frames" f.frames "$examples/expected/station.frames"
 run "version 3" 0 "v.rnx" "${date[@]}" -o v.rnx version3.nav
 is_same "version 3" v.rnx "$examples/version3.rnx"
-input=station.navcap run "standard input" 0 "4 ephemerides" "${date[@]}" -
+input=station.navcap run "standard input" 0 "4 items" "${date[@]}" -
 is_same "standard input" out "$examples/station.rnx"
 run "into a folder, in quiet" 0 - -q -t rtcm -o out.d station.navcap
 is_same "into a folder" out.d/station.rtcm3 "$examples/ephemerides.rtcm3"
-run "a long name" 0 "STAT00CCC_R_20233650200_01H_MN.rnx: 4 ephemerides" "${date[@]}" --long-name STAT00CCC -o out.d station.navcap
+run "a long name" 0 "STAT00CCC_R_20233650200_01H_MN.rnx: made of 4 items" "${date[@]}" --long-name STAT00CCC -o out.d station.navcap
 is_same "a long name" out.d/STAT00CCC_R_20233650200_01H_MN.rnx "$examples/station.rnx"
 half=$(grep -n "RINEX VERSION / TYPE" "$examples/expected/twice.rnx" | sed -n '2s/:.*//p')
 head -n $((half - 1)) "$examples/expected/twice.rnx" > one.rnx
@@ -101,6 +101,12 @@ run "the cover of several files" 0 "m.cover" -t cover -o m.cover one.rnx two.rnx
 is_same "the cover of several files" m.cover "$examples/merged.cover"
 run "several files to one, of which one is none" 2 "log.ubx: it is" -t merged -o n.rnx one.rnx log.ubx
 is_gone "several files to one, of which one is none" n.rnx
+run "several files to one, of which one is none, by a form that is named" 2 "version3.nav: it is" -f rinex -t merged -o n.rnx one.rnx version3.nav
+is_gone "several files to one, of which one is none, by a form that is named" n.rnx
+mkfifo once
+run "several files to one, of which one can be read only once" 2 "once: it can be read only once" -t merged -o n.rnx one.rnx once
+run "a long name for what can be read only once" 2 "once: it can be read only once" --long-name STAT00CCC -o in once
+run "a long name on standard output" 2 "--long-name names" --long-name STAT00CCC -o - station.navcap
 run "what would be done" 0 - -n "${date[@]}" -o d.rnx log.ubx
 grep -qF "navlog --from ubx < 'log.ubx' | navbridge '--from=capture' '--to=rinex'" out || differs "what would be done" "$(cat out)"
 is_gone "what would be done" d.rnx
@@ -134,7 +140,7 @@ run "a report of several files" 0 "kept.list" -t list --overwrite --report r.sev
 { echo "file station.navcap"; cat "$examples/station.report"; echo "file kept.navcap"; cat "$examples/station.report"; } > r.expected
 is_same "a report of several files" r.several r.expected
 rm kept.list station.list
-run "a report that is the input" 4 "kept.navcap is the input itself" -t list --overwrite --report kept.navcap kept.navcap
+run "a report that is the input" 4 "kept.navcap is an input itself" -t list --overwrite --report kept.navcap kept.navcap
 is_same "a report that is the input" kept.navcap station.navcap
 run "a report that is the output" 4 "both.rnx is the report" --report both.rnx -o both.rnx station.navcap
 is_gone "a report that is the output" both.rnx
@@ -198,10 +204,31 @@ done
 echo half > part.rnx.part
 run "a part that is there" 4 "part.rnx.part is there" -o part.rnx station.navcap
 [ "$(cat part.rnx.part)" = half ] || differs "a part that is there" "it was changed"
-run "the input as output" 4 "station.navcap is the input itself" --overwrite -o station.navcap station.navcap
+run "the input as output" 4 "station.navcap is an input itself" --overwrite -o station.navcap station.navcap
 is_same "the input as output" station.navcap "$examples/station.navcap"
 ln station.navcap twin.navcap
-run "the input as output, by a link" 4 "is the input itself" --overwrite -o twin.navcap station.navcap
+run "the input as output, by a link" 4 "is an input itself" --overwrite -o twin.navcap station.navcap
+cp station.navcap fed
+input=fed run "standard input as output" 4 "fed is an input itself" --overwrite -t list -o fed -
+is_same "standard input as output" fed station.navcap
+input=fed run "a report that is standard input" 4 "fed is an input itself" --overwrite -t list -o - --report fed -
+is_same "a report that is standard input" fed station.navcap
+cp station.navcap later.navcap
+cp version3.nav later.rnx
+run "another input as output" 4 "later.rnx is an input itself" --overwrite later.navcap later.rnx
+is_same "another input as output" later.rnx version3.nav
+run "the command where an input is the output" 4 "later.rnx is an input itself" -n --overwrite -o later.rnx later.rnx
+for it in none.d/none kept.navcap; do
+  ln -sf "$it" link
+  run "an output that is a link" 4 "link is no file" -o link station.navcap
+  run "an output that is a link, with leave" 4 "link is no file" --overwrite -o link station.navcap
+  [ -L link ] || differs "an output that is a link" "it is none now"
+done
+is_same "an output that is a link" kept.navcap station.navcap
+tried=$((tried + 1))
+"$navconvert" --overwrite --report shared -t list -o - station.navcap > shared 2> said && differs "a report that is standard output" "status 0"
+grep -qF "shared is the report" said || differs "a report that is standard output" "$(cat said)"
+run "a report that is a folder" 4 "it is a folder" --report in -o r.rnx station.navcap
 run "no conversion" 2 "that converts to" -t frames station.navcap
 : > empty
 run "an empty file" 2 "an empty file" empty
@@ -231,7 +258,7 @@ is_gone "a disk that is full" full.rnx
 is_gone "a disk that is full" full.rnx.part
 tried=$((tried + 1))
 "$navconvert" -t list -o - station.navcap 2> said | true
-[ ! -s said ] || grep -q ephemerides said || differs "a reader that has gone" "it says something"
+[ ! -s said ] || grep -q items said || differs "a reader that has gone" "it says something"
 tried=$((tried + 2))
 : > said
 "$navconvert" -t list --report shut.report -o shut.list station.navcap 2>&- || differs "no standard error" "status $?"
@@ -257,7 +284,7 @@ tried=$((tried + 1))
 python3 at_once.py "$navconvert" -t list -o once.list log.ubx || differs "a line that is written at once" "it comes in parts"
 mkfifo pipe
 cat station.navcap > pipe &
-run "a FIFO" 0 "p.list: 4" -t list -o p.list pipe
+run "a FIFO" 0 "p.list: made of 4 items" -t list -o p.list pipe
 wait
 is_same "a FIFO" p.list "$examples/station.list"
 tried=$((tried + 1))

@@ -29,5 +29,5 @@ pub use crate::long::{is_site, long_name};
 pub use crate::names::output_name;
 pub use crate::options::{Values, words_for};
 pub use crate::runs::run_refusal;
-pub use crate::says::{Refusal, kind_text, targets_of};
+pub use crate::says::{Refusal, STANDARD_OUTPUT, kind_text, targets_of};
 pub use crate::words::{ending_of, from_word, kind_named, target_named, to_word};

@@ -8,6 +8,9 @@ use file_form::Kind;
 use file_step::FileFault;
 use std::fmt;
 
+/// What standard output is called, where it is an output.
+pub const STANDARD_OUTPUT: &str = "standard output";
+
 /// Why a file is not converted, or not to its end.
 #[derive(Clone, Copy, Drop)]
 pub enum Refusal<'a> {
@@ -25,7 +28,7 @@ pub enum Refusal<'a> {
     NoFiles,
     /// Several files would go to one.
     SeveralFiles(&'a str),
-    /// Standard input stands among files that make one output.
+    /// Standard input, or what is no file, would be read twice.
     AmongFiles,
     /// The value of `--long-name` names no site.
     Site(&'a str),
@@ -39,13 +42,13 @@ pub enum Refusal<'a> {
     ReadFault(u64, FileFault),
     /// A file with the name of the output exists.
     OutputThere(&'a str),
-    /// The output is a device or a pipe, which nothing replaces.
+    /// The output is a device, a pipe or a link, which nothing replaces.
     NoFile(&'a str),
     /// The output was made of another file.
     MadeBefore(&'a str),
     /// A file with the name of the part exists.
     PartThere(&'a str),
-    /// The output is the input itself.
+    /// The output is an input.
     SameFile(&'a str),
     /// The output is the file for reports.
     SameReport(&'a str),
@@ -167,7 +170,7 @@ fn header_text(kind: Kind) -> &'static str {
     match kind {
         Kind::Capture1 => "its first line names no week; name it by --week",
         Kind::Capture2 => "its first line names another week than --week",
-        Kind::Ubx | Kind::Sbf => "it has no subframe and no page that a time stands before",
+        Kind::Ubx | Kind::Sbf => "nothing in it has a time, or it is of another week than --week",
         _ => "its header is not accepted",
     }
 }
@@ -182,12 +185,12 @@ impl Refusal<'_> {
             Refusal::NoName => "it has no name of a file; name the output by -o",
             Refusal::NoFiles => "no file is named; - is standard input, --help says more",
             Refusal::SeveralFiles(_) => "{} is one file; for several name a folder that is there",
-            Refusal::AmongFiles => "standard input is read alone; name files",
+            Refusal::AmongFiles => "it can be read only once; name a file",
             Refusal::Site(_) => {
                 "--long-name {}: four capital letters or digits, two digits and a country, as BRDC00XXX"
             }
             Refusal::NoLongName => {
-                "--long-name names navigation files that are made of files, beside them or in a folder"
+                "--long-name names navigation files made of files, beside them or in a folder that is there"
             }
             Refusal::NoTimes => "it has no ephemeris, by whose time it would be named",
             Refusal::NotOpened(_) | Refusal::NotAccepted(_) => "",
@@ -198,7 +201,7 @@ impl Refusal<'_> {
             Refusal::PartThere(_) => {
                 "{} is there: another run is writing it, or one was cut off; remove it"
             }
-            Refusal::SameFile(_) => "{} is the input itself; name the output by -o",
+            Refusal::SameFile(_) => "{} is an input itself; name the output by -o",
             Refusal::SameReport(_) => "{} is the report; name the output by -o",
             Refusal::WriteFault(_, _) => "writing {} failed: ",
             Refusal::NoMemory => "there was no memory",
@@ -232,6 +235,7 @@ impl Refusal<'_> {
         match *self {
             Refusal::NoSuchConversion(kind) | Refusal::NoConversion(kind) => targets_of(kind),
             Refusal::WriteFault(_, FileFault::NotFound) => "its folder is not there",
+            Refusal::WriteFault(_, FileFault::IsFolder) => "it is a folder",
             Refusal::NotOpened(fault)
             | Refusal::ReadFault(_, fault)
             | Refusal::WriteFault(_, fault) => fault_text(fault),
@@ -244,6 +248,7 @@ impl Refusal<'_> {
     fn state(&self) -> &'static str {
         match self {
             Refusal::WriteFault(_, FileFault::NotFound) => "",
+            Refusal::WriteFault(name, _) if *name == STANDARD_OUTPUT => "",
             Refusal::WriteFault(_, _) => "; it is as it was",
             _ => "",
         }

@@ -184,7 +184,7 @@ static SENTENCES: [Sentence; 12] = [
     Sentence {
         refusal: Refusal::AmongFiles,
         status: 2,
-        text: "standard input is read alone; name files",
+        text: "it can be read only once; name a file",
     },
     Sentence {
         refusal: Refusal::NotAccepted(Kind::Capture2),

@@ -5,7 +5,7 @@ use crate::command::Asked;
 use crate::files::{Task, are_joined, convert_file, convert_joined};
 use crate::outputs::{Output, output_of};
 use crate::reports::{is_headed, report_of};
-use crate::taken::Made;
+use crate::taken::Known;
 use crate::telling::{tell_file, tell_program};
 use file_words::{Refusal, Values, is_site};
 use front_run::{Plan, is_date};
@@ -28,7 +28,7 @@ pub(crate) fn begin(rt: &HostRuntime, asked: &Asked) -> Result<Option<File>, u8>
             Err(_) => Err(4),
         };
     }
-    if let Some(refusal) = refused(asked) {
+    if let Some(refusal) = refused(rt, asked) {
         return Err(tell_program(rt, &refusal));
     }
     match report_of(rt, asked) {
@@ -37,11 +37,21 @@ pub(crate) fn begin(rt: &HostRuntime, asked: &Asked) -> Result<Option<File>, u8>
     }
 }
 
-// Why nothing is done, where no file is named or a value is none.
-fn refused<'a>(asked: &Asked<'a>) -> Option<Refusal<'a>> {
-    if asked.files().is_none() {
+// Why nothing is done, where no file is named, several would go to one, or a value is none.
+fn refused<'a>(rt: &HostRuntime, asked: &Asked<'a>) -> Option<Refusal<'a>> {
+    let Some(files) = asked.files() else {
         return Some(Refusal::NoFiles);
+    };
+    if let (Output::File(name), true) = (output_of(rt, asked), files.len() > 1) {
+        if !are_joined(asked.to(), files) {
+            return Some(Refusal::SeveralFiles(name));
+        }
     }
+    refused_value(asked)
+}
+
+// The value that is none.
+fn refused_value<'a>(asked: &Asked<'a>) -> Option<Refusal<'a>> {
     match (asked.value("long-name"), asked.value("date")) {
         (Some(site), _) if !is_site(site) => Some(Refusal::Site(site)),
         (_, Some(date)) if !is_date(date.as_bytes()) => Some(Refusal::Date(date)),
@@ -91,17 +101,16 @@ fn plan_of<'x, 'a>(asked: &'x Asked<'a>, clock: &'x ClockWords) -> Plan<'x> {
 
 // Converts each file, or makes one output of several; the status of the first that failed.
 fn convert_files<'a>(task: &Task<'a>, files: &'a [&'a str]) -> u8 {
+    let Ok(mut known) = Known::new(task.rt, files) else {
+        return tell_program(task.rt, &Refusal::NoMemory);
+    };
     if are_joined(task.plan.target, files) {
-        return convert_joined(task, files);
+        return convert_joined(task, files, &mut known);
     }
-    if let (Output::File(name), true) = (task.output, files.len() > 1) {
-        return tell_program(task.rt, &Refusal::SeveralFiles(name));
-    }
-    let mut made = Made::none(task.rt.alloc());
     let mut status = 0;
     for file in files {
         let ended = if is_headed(task, file, files) {
-            convert_file(task, file, &mut made)
+            convert_file(task, file, &mut known)
         } else {
             tell_file(task.rt, file, &Refusal::ReportFault)
         };

@@ -10,7 +10,7 @@ use front_run::{refusal_of, words_under};
 /// Prints the command that does what is asked of files, the first of which has this name, and where
 /// its output goes; the status.
 pub(crate) fn show_files(task: &Task, first: &str, files: &[&str], name: Option<&str>) -> u8 {
-    match input_kind(task, opened(task.rt, files)) {
+    match input_kind(task, task.plan.form, opened(task.rt, files)) {
         Ok(kind) => show_kind(task, first, files, name, kind),
         Err(refusal) => tell_file(task.rt, first, &refusal),
     }

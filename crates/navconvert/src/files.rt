@@ -5,12 +5,12 @@ use crate::forms::file_kind;
 use crate::outputs::{Output, name_of, owned, placed};
 use crate::place::Goal;
 use crate::steps::put;
-use crate::taken::{Made, is_same_file, taken};
+use crate::taken::{Known, is_read_once, is_same_file, taken};
 use crate::telling::tell_file;
 use crate::times::long_name_of;
 use file_form::{Kind, Target, is_copied, row_of};
 use file_step::FileFault;
-use file_words::{Refusal, ending_of};
+use file_words::{Refusal, STANDARD_OUTPUT, ending_of};
 use front_run::Plan;
 use std::fs::File;
 use std::path::Path;
@@ -42,11 +42,11 @@ pub(crate) struct Task<'a> {
 }
 
 /// Converts a file, `-` for standard input, and says what became of it; the status.
-pub(crate) fn convert_file<'a>(task: &Task<'a>, file: &'a &'a str, made: &mut Made) -> u8 {
+pub(crate) fn convert_file<'a>(task: &Task<'a>, file: &'a &'a str, known: &mut Known) -> u8 {
     if *file != "-" && Path::new(*file).is_dir(task.rt) {
         return tell_file(task.rt, file, &Refusal::NotOpened(FileFault::IsFolder));
     }
-    convert(task, file, from_ref(file), made)
+    convert(task, file, from_ref(file), known)
 }
 
 /// Whether files make one output.
@@ -55,7 +55,7 @@ pub(crate) fn are_joined(target: Target, files: &[&str]) -> bool {
 }
 
 /// Makes one output of files, which has the name of the first where none is named; the status.
-pub(crate) fn convert_joined<'a>(task: &Task<'a>, files: &'a [&'a str]) -> u8 {
+pub(crate) fn convert_joined<'a>(task: &Task<'a>, files: &'a [&'a str], known: &mut Known) -> u8 {
     for file in files {
         if let Some(status) = refused_form(task, file) {
             return status;
@@ -63,16 +63,16 @@ pub(crate) fn convert_joined<'a>(task: &Task<'a>, files: &'a [&'a str]) -> u8 {
     }
     match files.first() {
         None => 0,
-        Some(first) => convert(task, first, files, &mut Made::none(task.rt.alloc())),
+        Some(first) => convert(task, first, files, known),
     }
 }
 
-// The status, where a file is of no form that can be joined.
+// The status, where a file is of no form that can be joined: by its bytes, whatever form is named.
 fn refused_form<'a>(task: &Task<'a>, file: &'a str) -> Option<u8> {
-    if file == "-" {
+    if file == "-" || is_read_once(task.rt, file) {
         return Some(tell_file(task.rt, file, &Refusal::AmongFiles));
     }
-    let refusal = match file_kind(task, file) {
+    let refusal = match file_kind(task, None, file) {
         Err(refusal) => refusal,
         Ok(kind) => match row_of(kind, task.plan.target) {
             Some(_) => return None,
@@ -83,32 +83,26 @@ fn refused_form<'a>(task: &Task<'a>, file: &'a str) -> Option<u8> {
 }
 
 // Makes one output of files, the first of which has this name, `-` for standard input; the status.
-fn convert<'a>(task: &Task<'a>, first: &'a str, files: &'a [&'a str], made: &mut Made) -> u8 {
+fn convert<'a>(task: &Task<'a>, first: &'a str, files: &'a [&'a str], known: &mut Known) -> u8 {
     match task.output {
-        Output::Standard => convert_to(task, first, files, None, made),
-        Output::Beside if first == "-" => convert_to(task, first, files, None, made),
+        Output::Standard => convert_unnamed(task, first, files),
+        Output::Beside if first == "-" => convert_unnamed(task, first, files),
         _ => match named(task, first, files) {
-            Ok(name) => convert_to(task, first, files, Some(name.as_str()), made),
+            Ok(name) => put_free(task, first, files, name.as_str(), known),
             Err(refusal) => tell_file(task.rt, first, &refusal),
         },
     }
 }
 
-// Makes the output of this name, or that on standard output, or shows the command for it.
-fn convert_to<'a>(
-    task: &Task<'a>,
-    first: &'a str,
-    files: &'a [&'a str],
-    name: Option<&str>,
-    made: &mut Made,
-) -> u8 {
+// Makes the output on standard output, or shows the command for it; the status.
+fn convert_unnamed<'a>(task: &Task<'a>, first: &'a str, files: &'a [&'a str]) -> u8 {
+    if task.site.is_some() {
+        return tell_file(task.rt, first, &Refusal::NoLongName);
+    }
     if task.dry {
-        return show_files(task, first, files, name);
+        return show_files(task, first, files, None);
     }
-    match name {
-        Some(name) => put_free(task, first, files, name, made),
-        None => put(task, first, files, Goal::Standard, "standard output", first).0,
-    }
+    put(task, first, files, Goal::Standard, STANDARD_OUTPUT, first).0
 }
 
 // The name of the output.
@@ -143,6 +137,9 @@ fn times_name<'a>(
 ) -> Result<String, Refusal<'a>> {
     match task.plan.target {
         Target::Rinex | Target::Rinex3 | Target::Merged if first != "-" => {
+            if is_read_once(task.rt, first) {
+                return Err(Refusal::AmongFiles);
+            }
             long_name_of(task, first, files, site)
         }
         _ => Err(Refusal::NoLongName),
@@ -157,24 +154,25 @@ fn is_report(task: &Task, name: &str) -> bool {
     }
 }
 
-// Makes the output under this name, where it may have it.
+// Makes the output under this name, where it may have it, or shows the command for it; the status.
 fn put_free<'a>(
     task: &Task<'a>,
     first: &'a str,
     files: &'a [&'a str],
     name: &str,
-    made: &mut Made,
+    known: &mut Known,
 ) -> u8 {
     if is_report(task, name) {
         return tell_file(task.rt, first, &Refusal::SameReport(name));
     }
-    for file in files {
-        if let Some(refusal) = taken(task.rt, file, name, made, task.overwrites) {
-            return tell_taken(task, file, &refusal);
-        }
+    if let Some(refusal) = taken(task.rt, name, known, task.overwrites) {
+        return tell_taken(task, first, &refusal);
+    }
+    if task.dry {
+        return show_files(task, first, files, Some(name));
     }
     let (status, is_made) = put(task, first, files, Goal::File, name, name);
-    if is_made && made.add(task.rt, name).is_err() {
+    if is_made && known.add(task.rt, name).is_err() {
         return tell_file(task.rt, first, &Refusal::NoMemory);
     }
     status
@@ -194,7 +192,7 @@ fn unconverted(task: &Task, file: &str) -> Option<Kind> {
         return None;
     }
     let target = task.plan.target;
-    match file_kind(task, file) {
+    match file_kind(task, task.plan.form, file) {
         Ok(kind) if !is_copied(kind, target) && row_of(kind, target).is_none() => Some(kind),
         _ => None,
     }

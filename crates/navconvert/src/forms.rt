@@ -9,26 +9,31 @@ use file_words::Refusal;
 use front_run::look;
 use std::io::ErrorKind;
 
-/// The form under which a file is read.
-pub(crate) fn file_kind(task: &Task, file: &str) -> Result<Kind, Refusal<'static>> {
-    input_kind(task, opened_first(task.rt, file, &[]))
+/// The form under which a file is read, where this one is named.
+pub(crate) fn file_kind(
+    task: &Task,
+    named: Option<Kind>,
+    file: &str,
+) -> Result<Kind, Refusal<'static>> {
+    input_kind(task, named, opened_first(task.rt, file, &[]))
 }
 
-/// The form under which an input that was opened is read.
+/// The form under which an input that was opened is read, where this one is named.
 pub(crate) fn input_kind(
     task: &Task,
+    named: Option<Kind>,
     opened: Result<Input, FileFault>,
 ) -> Result<Kind, Refusal<'static>> {
     match opened {
-        Ok(input) => looked(task, input),
+        Ok(input) => looked(task, named, input),
         Err(fault) => Err(Refusal::NotOpened(fault)),
     }
 }
 
 // The form under which an input is read.
-fn looked(task: &Task, input: Input) -> Result<Kind, Refusal<'static>> {
+fn looked(task: &Task, named: Option<Kind>, input: Input) -> Result<Kind, Refusal<'static>> {
     let mut input = Peeked::new(task.rt.alloc(), input);
-    let kind = look(task.plan.form, &mut input);
+    let kind = look(named, &mut input);
     told(kind, input.into_source().fault())
 }
 

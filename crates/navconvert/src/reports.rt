@@ -3,7 +3,7 @@
 use crate::command::Asked;
 use crate::files::{Task, are_joined};
 use crate::outputs::{Output, name_of, output_of, placed};
-use crate::taken::is_same_file;
+use crate::taken::{input_path, is_same_file, is_standard_output};
 use crate::tally::is_put;
 use file_folders::fault_of;
 use file_form::Target;
@@ -11,6 +11,7 @@ use file_step::FileFault;
 use file_words::{Refusal, ending_of};
 use std::fs::File;
 use std::io;
+use std::path::Path;
 
 /// The file for reports, where one is named and can have them.
 pub(crate) fn report_of<'a>(
@@ -30,7 +31,7 @@ fn unfit_report<'a>(rt: &HostRuntime, asked: &Asked<'a>, name: &'a str) -> Optio
     }
     let files = asked.files().unwrap_or(&[]);
     for file in files {
-        if is_same_file(rt, file, name) {
+        if is_same_file(rt, input_path(file), name) {
             return Some(Refusal::SameFile(name));
         }
     }
@@ -56,7 +57,8 @@ fn naming<'x, 'a>(target: Target, files: &'x [&'a str]) -> &'x [&'a str] {
 // read.
 fn is_output(rt: &HostRuntime, asked: &Asked, output: Output, file: &str, name: &str) -> bool {
     match output {
-        Output::Standard => false,
+        Output::Standard => is_standard_output(rt, name),
+        Output::Beside if file == "-" => is_standard_output(rt, name),
         Output::File(output) => is_same_file(rt, output, name),
         Output::Beside | Output::Folder(_) => {
             asked.value("long-name").is_none() && is_placed(rt, asked, output, file, name)
@@ -86,6 +88,9 @@ fn opened_report<'a>(
     }
     match created(rt, name, asked.has("overwrite")) {
         Ok(file) => Ok(Some(file)),
+        Err(_) if Path::new(name).is_dir(rt) => {
+            Err(Refusal::WriteFault(name, FileFault::IsFolder))
+        }
         Err(error) => match fault_of(error.kind()) {
             FileFault::AlreadyThere => Err(Refusal::OutputThere(name)),
             fault => Err(Refusal::WriteFault(name, fault)),

@@ -2,7 +2,7 @@
 
 use file_step::FileFault;
 use file_words::Refusal;
-use std::alloc::{AllocError, Global};
+use std::alloc::AllocError;
 use std::collections::BTreeSet;
 use std::fs;
 use std::fs::Metadata;
@@ -12,26 +12,21 @@ use std::path::Path;
 /// Why an output may not have this name, if it may not.
 pub(crate) fn taken<'a>(
     rt: &HostRuntime,
-    file: &str,
     name: &'a str,
-    made: &Made,
+    known: &Known,
     overwrites: bool,
 ) -> Option<Refusal<'a>> {
     match fs::metadata(rt, name) {
-        Err(_) => None,
-        Ok(there) => {
-            if identity_of(rt, file) == Some(identity(&there)) {
-                Some(Refusal::SameFile(name))
-            } else if made.has(&there) {
-                Some(Refusal::MadeBefore(name))
-            } else {
-                kept(&there, name, overwrites)
-            }
-        }
+        Ok(there) if known.is_read(&there) => Some(Refusal::SameFile(name)),
+        Ok(there) if known.is_made(&there) => Some(Refusal::MadeBefore(name)),
+        _ => match fs::symlink_metadata(rt, name) {
+            Ok(there) => kept(&there, name, overwrites),
+            Err(_) => None,
+        },
     }
 }
 
-// Why what has this name is not replaced, if it is not.
+// Why what has this name is not replaced, if it is not: a link is no file.
 fn kept<'a>(there: &Metadata, name: &'a str, overwrites: bool) -> Option<Refusal<'a>> {
     if there.is_dir() {
         Some(Refusal::WriteFault(name, FileFault::IsFolder))
@@ -44,31 +39,65 @@ fn kept<'a>(there: &Metadata, name: &'a str, overwrites: bool) -> Option<Refusal
     }
 }
 
-/// The files that were made so far.
+/// The files that are read, and those that were made so far.
 #[derive(Drop)]
-pub(crate) struct Made {
-    files: BTreeSet<(u64, u64)>,
+pub(crate) struct Known {
+    read: BTreeSet<(u64, u64)>,
+    made: BTreeSet<(u64, u64)>,
 }
 
-impl Made {
-    /// None yet.
-    pub(crate) fn none(alloc: Global) -> Made {
-        Made {
-            files: BTreeSet::new(alloc),
+impl Known {
+    /// These are read, and none was made.
+    pub(crate) fn new(rt: &HostRuntime, names: &[&str]) -> Result<Known, AllocError> {
+        let mut read = BTreeSet::new(rt.alloc());
+        for name in names {
+            if let Some(it) = identity_of(rt, input_path(name)) {
+                read.insert(it)?;
+            }
         }
+        Ok(Known {
+            read,
+            made: BTreeSet::new(rt.alloc()),
+        })
     }
 
-    /// Adds the file of this name.
+    /// Adds the file of this name to those that were made.
     pub(crate) fn add(&mut self, rt: &HostRuntime, name: &str) -> Result<(), AllocError> {
         if let Some(it) = identity_of(rt, name) {
-            self.files.insert(it)?;
+            self.made.insert(it)?;
         }
         Ok(())
     }
 
+    // Whether it is a file that is read.
+    fn is_read(&self, there: &Metadata) -> bool {
+        there.is_file() && self.read.contains(&identity(there))
+    }
+
     // Whether it is a file that was made.
-    fn has(&self, there: &Metadata) -> bool {
-        self.files.contains(&identity(there))
+    fn is_made(&self, there: &Metadata) -> bool {
+        self.made.contains(&identity(there))
+    }
+}
+
+/// The path of an input: of standard input, `-`, that of its descriptor.
+pub(crate) fn input_path(name: &str) -> &str {
+    if name == "-" { "/dev/stdin" } else { name }
+}
+
+/// Whether it can be read only once: a pipe, say.
+pub(crate) fn is_read_once(rt: &HostRuntime, name: &str) -> bool {
+    match fs::metadata(rt, input_path(name)) {
+        Ok(there) => !there.is_file() && !there.is_dir(),
+        Err(_) => false,
+    }
+}
+
+/// Whether standard output is the file of this name.
+pub(crate) fn is_standard_output(rt: &HostRuntime, name: &str) -> bool {
+    match fs::metadata(rt, "/dev/stdout") {
+        Ok(there) => there.is_file() && identity_of(rt, name) == Some(identity(&there)),
+        Err(_) => false,
     }
 }
 

@@ -14,9 +14,8 @@ use receiver_log::counts_text;
 use std::fmt;
 use std::io::IsTerminal;
 
-// What takes the line of a meter away.
-const BLANKS: &str =
-    "\r                                                                               ";
+// What takes the line of a meter away: to its end, however long it is.
+const CLEARED: &str = "\r\x1b[K";
 
 /// Says why nothing is done; the status.
 pub(crate) fn tell_program(rt: &HostRuntime, refusal: &Refusal) -> u8
@@ -118,7 +117,7 @@ impl fmt::Display for Done<'_, '_> {
 fn write_made<W: fmt::Write>(f: &mut fmt::Formatter<W>, outcome: &Outcome<Tally>) -> fmt::Result {
     let said = &outcome.report.said;
     match (said.written, said.refused, &outcome.counts) {
-        (Some(written), _, _) => write_count(f, ": ", written, ("ephemeris", "ephemerides")),
+        (Some(items), _, _) => write_count(f, ": made of ", items, ("item", "items")),
         (None, None, Some(counts)) => {
             write_count(f, ": ", counts.subframes, ("subframe", "subframes"))?;
             write_count(f, ", ", counts.pages, ("page", "pages"))
@@ -184,6 +183,6 @@ fn takes_clock(task: &Task, kind: Kind) -> bool {
 // Takes the line of a meter away, where there is a terminal.
 fn clear(rt: &HostRuntime) {
     if rt.stderr().is_terminal() {
-        let _ = eprint!(rt; "{BLANKS}\r");
+        let _ = eprint!(rt; "{CLEARED}");
     }
 }
