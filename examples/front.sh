@@ -226,7 +226,7 @@ for it in none.d/none kept.navcap; do
 done
 is_same "an output that is a link" kept.navcap station.navcap
 tried=$((tried + 1))
-"$navconvert" --overwrite --report shared -t list -o - station.navcap > shared 2> said && differs "a report that is standard output" "status 0"
+"$navconvert" --overwrite --report ./shared -t list -o - station.navcap > shared 2> said && differs "a report that is standard output" "status 0"
 grep -qF "shared is the report" said || differs "a report that is standard output" "$(cat said)"
 run "a report that is a folder" 4 "it is a folder" --report in -o r.rnx station.navcap
 run "no conversion" 2 "that converts to" -t frames station.navcap
@@ -303,11 +303,11 @@ is_gone "a run that was cut off" c.list
 run "the run behind it" 4 "c.list.part is there" -t list -o c.list station.navcap
 mkdir many
 for ((i = 0; i < 1000; i++)); do cp station.navcap "many/$i.navcap"; done
-run "a thousand files" 0 "999.list: 4" -t list many/*.navcap
+run "a thousand files" 0 "999.list: made of 4 items" -t list many/*.navcap
 [ "$(find many -name '*.list' | wc -l)" = 1000 ] || differs "a thousand files" "not all are there"
 cp long.navcap grows.navcap
 (for ((i = 0; i < 20; i++)); do cat much; done >> grows.navcap) &
-run "a file that grows" 0 "g.list: 4" -t list -o g.list grows.navcap
+run "a file that grows" 0 "g.list: made of 4 items" -t list -o g.list grows.navcap
 wait
 is_same "a file that grows" g.list "$examples/station.list"
 

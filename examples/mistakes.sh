@@ -124,6 +124,8 @@ all() {
   try "a week that is no number" --week x station.navcap
   try "another week than that of the data" --week 2294 station.navcap
   try "leap seconds of three digits" --leap 118 station.navcap
+  try "leap seconds with a sign" --leap +18 station.navcap
+  try "a week with a sign" --week +2295 station.navcap
   try "an output that is there" -o there.rnx station.navcap
   try "a part that is there" -o part.rnx station.navcap
   try "the input as output" --overwrite -o station.navcap station.navcap

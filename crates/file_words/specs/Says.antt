@@ -6,7 +6,7 @@ use Rattle.file_form.specs.declared.Kind.TheVariants as kinds
 use Rattle.file_step.specs.declared.faults.FileFault.{FileFault}
 use Rattle.file_step.specs.declared.faults.FileFault.TheVariants.{Other}
 use Rattle.file_words.specs.declared.says.Refusal.{Refusal}
-use Rattle.file_words.specs.declared.says.Refusal.TheVariants.{NoSuchConversion, NoConversion, Date, Week, NoName, NoFiles, SeveralFiles, AmongFiles, Site, NoLongName, NoTimes, NotOpened, ReadFault, OutputThere, NoFile, MadeBefore, PartThere, SameFile, SameReport, WriteFault, NotAccepted, NoMemory, ReportFault, TooLong, Word}
+use Rattle.file_words.specs.declared.says.Refusal.TheVariants.{NoSuchConversion, NoConversion, Date, Week, Leap, NoName, NoFiles, SeveralFiles, AmongFiles, Site, NoLongName, NoTimes, NotOpened, ReadFault, OutputThere, NoFile, MadeBefore, PartThere, SameFile, SameReport, WriteFault, NotAccepted, NoMemory, ReportFault, TooLong, Word}
 
 -- 2 for what was asked, 3 for the input, 4 for the output, 5 for a header, 6 for memory, 7 for the report, 8 for an input that
 -- is too long, 9 for a command-line word
@@ -15,6 +15,7 @@ status_of (NoSuchConversion kind) = 2
 status_of (NoConversion kind) = 2
 status_of (Date text) = 2
 status_of (Week text) = 2
+status_of (Leap text) = 2
 status_of NoName = 2
 status_of NoFiles = 2
 status_of (SeveralFiles name) = 2

@@ -22,6 +22,8 @@ pub enum Refusal<'a> {
     Date(&'a str),
     /// The value of `--week` is not a valid reference week.
     Week(&'a str),
+    /// The value of `--leap` is not a number of leap seconds.
+    Leap(&'a str),
     /// The input has no file name, so that its output has none.
     NoName,
     /// No file is named.
@@ -76,6 +78,7 @@ impl Refusal<'_> {
             | Refusal::NoConversion(_)
             | Refusal::Date(_)
             | Refusal::Week(_)
+            | Refusal::Leap(_)
             | Refusal::NoName
             | Refusal::NoFiles
             | Refusal::SeveralFiles(_)
@@ -181,7 +184,8 @@ impl Refusal<'_> {
         match self {
             Refusal::NoSuchConversion(_) | Refusal::NoConversion(_) => "it is {}; ",
             Refusal::Date(_) => "--date {}: write it as \"20240101 000000 UTC\"",
-            Refusal::Week(_) => "--week {}: 1024 to 8191",
+            Refusal::Week(_) => "--week {}: 1024 to 8191, in digits alone",
+            Refusal::Leap(_) => "--leap {}: 0 to 99, in one or two digits",
             Refusal::NoName => "it has no name of a file; name the output by -o",
             Refusal::NoFiles => "no file is named; - is standard input, --help says more",
             Refusal::SeveralFiles(_) => "{} is one file; for several name a folder that is there",
@@ -217,6 +221,7 @@ impl Refusal<'_> {
             Refusal::NoSuchConversion(kind) | Refusal::NoConversion(kind) => kind_text(kind),
             Refusal::Date(text)
             | Refusal::Week(text)
+            | Refusal::Leap(text)
             | Refusal::SeveralFiles(text)
             | Refusal::Site(text)
             | Refusal::OutputThere(text)

@@ -7,7 +7,7 @@ use crate::outputs::{Output, output_of};
 use crate::reports::{is_headed, report_of};
 use crate::taken::Known;
 use crate::telling::{tell_file, tell_program};
-use file_words::{Refusal, Values, is_site};
+use file_words::{Refusal, Values, fits, is_site};
 use front_run::{Plan, is_date};
 use std::fs::File;
 use std::io::IsTerminal;
@@ -52,6 +52,26 @@ fn refused<'a>(rt: &HostRuntime, asked: &Asked<'a>) -> Option<Refusal<'a>> {
 
 // The value that is none.
 fn refused_value<'a>(asked: &Asked<'a>) -> Option<Refusal<'a>> {
+    match refused_number(asked) {
+        None => refused_text(asked),
+        it => it,
+    }
+}
+
+// The number that has a sign or leading zeros, which navbridge does not take.
+fn refused_number<'a>(asked: &Asked<'a>) -> Option<Refusal<'a>> {
+    let leap = asked.leap();
+    if !fits(b"0", leap.as_bytes()) && !fits(b"00", leap.as_bytes()) {
+        return Some(Refusal::Leap(leap));
+    }
+    match asked.value("week") {
+        Some(week) if !fits(b"0000", week.as_bytes()) => Some(Refusal::Week(week)),
+        _ => None,
+    }
+}
+
+// The site or the date that is none.
+fn refused_text<'a>(asked: &Asked<'a>) -> Option<Refusal<'a>> {
     match (asked.value("long-name"), asked.value("date")) {
         (Some(site), _) if !is_site(site) => Some(Refusal::Site(site)),
         (_, Some(date)) if !is_date(date.as_bytes()) => Some(Refusal::Date(date)),
