@@ -58,7 +58,7 @@ fn refused_value<'a>(asked: &Asked<'a>) -> Option<Refusal<'a>> {
     }
 }
 
-// The number that has a sign or leading zeros, which navbridge does not take.
+// The number that is not written in digits alone, as many as it needs at most.
 fn refused_number<'a>(asked: &Asked<'a>) -> Option<Refusal<'a>> {
     let leap = asked.leap();
     if !fits(b"0", leap.as_bytes()) && !fits(b"00", leap.as_bytes()) {

@@ -91,8 +91,8 @@ fn tell_done(task: &Task, name: &str, outcome: &Outcome<Tally>) {
     let _ = eprintln!(task.rt; "{done}");
 }
 
-// What became of a file: what its output has, what was refused, and the week of the clock where it
-// was read by that.
+// What became of a file: of what its output is made, what was refused, and the week of the clock
+// where it was read by that.
 #[derive(Clone, Copy)]
 struct Done<'x, 'a> {
     task: &'x Task<'a>,
