@@ -13,7 +13,7 @@
 #
 # The same programs and the same commit give the same bytes, whatever the umask, the time zone and the number of processors
 # are. The programs are stripped of their names (`strip --strip-unneeded`), which no running program reads.
-# It prints the package's name and its checksum. packaging/check.sh tries what it makes.
+# It prints the package's name and its checksum. checks/package.sh tries what it makes.
 set -euo pipefail
 umask 022
 export LC_ALL=C TZ=UTC
@@ -99,6 +99,7 @@ for it in docs/*.md; do put 644 "$doc/$it" "$it"; done
 put 644 "$doc/bench/README.md" bench/README.md
 put 755 "$doc/bench/feeder.py" bench/feeder.py # what examples/station/trial.sh hears
 ln -s docs/OPERATING.md "$root/$doc/OPERATING.md"
+for it in checks/runs.sh checks/archive.sh; do put 755 "$doc/$it" "$it"; done
 git ls-files examples | while read -r it; do
   # what is installed already
   case $it in examples/station/navbridge-station* | examples/station/*.service | examples/station/*.timer) continue ;; esac

@@ -1,7 +1,7 @@
 #!/usr/bin/env bash
 # Makes fifty mistakes with navconvert, and prints a table of what each says: that of docs/MISTAKES.md.
 #
-#   examples/mistakes.sh [--navconvert FILE] [--check]
+#   checks/mistakes.sh [--navconvert FILE] [--check]
 #
 #   --navconvert FILE  navconvert (NAVCONVERT, or crates/navconvert/out/navconvert)
 #   --check            compare with docs/MISTAKES.md, and print what differs
@@ -31,7 +31,7 @@ while [ $# -gt 0 ]; do
   esac
 done
 [ -z "$navconvert" ] || navconvert=$(readlink -f -- "$navconvert")
-cd "$(dirname "$(readlink -f "$0")")" || exit 1
+cd "$(dirname "$(readlink -f "$0")")/../examples" || exit 1
 navconvert=${navconvert:-$(readlink -m ../crates/navconvert/out/navconvert)}
 [ -x "$navconvert" ] || { echo "mistakes: no program $navconvert; build first, or name it" >&2; exit 2; }
 examples=$PWD page=$(readlink -m ../docs/MISTAKES.md)

@@ -3,7 +3,7 @@
 # and as C++, each run of examples/runs.txt by nb_convert, the stateless calls against an independent program's values, rooms of
 # many sizes, four threads, memory refused at each request, and the Python module.
 #
-#   bindings/check.sh [--archive FILE] [--sanitize] [--valgrind]
+#   checks/bindings.sh [--archive FILE] [--sanitize] [--valgrind]
 #
 #   --archive FILE   libnavbridge_c.a (crates/navbridge_c/out/libnavbridge_c.a)
 #   --sanitize       the C side with AddressSanitizer and UBSan
@@ -21,12 +21,12 @@ while [ $# -gt 0 ]; do
     --sanitize) sanitize='-fsanitize=address,undefined -fno-sanitize-recover=all -g' ;;
     --valgrind) valgrind='valgrind -q --error-exitcode=9 --leak-check=full' ;;
     --archive)
-      [ $# -ge 2 ] || { echo "check: $1 wants a value" >&2; exit 2; }
+      [ $# -ge 2 ] || { echo "bindings: $1 wants a value" >&2; exit 2; }
       archive=$(readlink -f -- "$2")
       shift
       ;;
     *)
-      echo "check: $1 is no option; --help" >&2
+      echo "bindings: $1 is no option; --help" >&2
       exit 2
       ;;
   esac
@@ -34,9 +34,9 @@ while [ $# -gt 0 ]; do
 done
 cd "$(dirname "$(readlink -f "$0")")/.." || exit 2
 archive=${archive:-$PWD/crates/navbridge_c/out/libnavbridge_c.a}
-[ -f "$archive" ] || { echo "check: no archive $archive: bindings/archive.sh makes it" >&2; exit 2; }
+[ -f "$archive" ] || { echo "bindings: no archive $archive: bindings/archive.sh makes it" >&2; exit 2; }
 for tool in cc c++ ar make; do
-  command -v "$tool" > /dev/null || { echo "check: no $tool" >&2; exit 2; }
+  command -v "$tool" > /dev/null || { echo "bindings: no $tool" >&2; exit 2; }
 done
 out=$(mktemp -d)
 trap 'rm -rf "$out"' EXIT
@@ -48,7 +48,7 @@ differs() {
 }
 if ! make -s -C bindings/c LIB="$archive" OUT="$made" CFLAGS="-O2 $sanitize" > "$out/make.log" 2>&1; then
   cat "$out/make.log"
-  echo "check: not built" >&2
+  echo "bindings: not built" >&2
   exit 1
 fi
 runs=0

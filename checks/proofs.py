@@ -5,13 +5,12 @@
 - names that another crate's file of proofs has not, or does not pass on;
 - files of proofs of another crate that are cited past its Surface.
 
-    examples/cites.py            from any folder of the checkout
+    checks/proofs.py            from any folder
 
-Status: 0 nothing was found; 1 something was, a line each.
+Status: 0 nothing was found; 1 something was, a line each; 2 the arguments are wrong.
 """
 
 import re
-import subprocess
 import sys
 from pathlib import Path
 
@@ -55,9 +54,12 @@ def circles(crate, files):
 
 
 def main():
+    if sys.argv[1:] in (["-h"], ["--help"]):
+        sys.exit(print(__doc__, end=""))
     if len(sys.argv) > 1:
-        sys.exit(__doc__ if sys.argv[1] in ("-h", "--help") else f"cites: {sys.argv[1]} is no option; --help")
-    top = Path(subprocess.check_output(["git", "rev-parse", "--show-toplevel"], text=True).strip())
+        print(f"proofs: {sys.argv[1]} is no option; --help", file=sys.stderr)
+        sys.exit(2)
+    top = Path(__file__).resolve().parent.parent
     crates = {it.name: {} for it in sorted((top / "crates").iterdir()) if it.is_dir()}
     for crate, files in crates.items():
         for kind in ("specs", "proofs"):

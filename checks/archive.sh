@@ -3,10 +3,10 @@
 set -u
 if [ "${1:-}" = --help ]; then
   cat << 'END'
-examples/check_archive.sh [--program FILE]
+checks/archive.sh [--program FILE]
 
 examples/archive has files of both versions, packed and plain, and five that are cut, empty, older or none. Each line that it prints is a
-case: `as it should` or `DIFFERS`. GNU parallel and gnuplot are tried where they are installed. FILE as with check.sh.
+case: `as it should` or `DIFFERS`. GNU parallel and gnuplot are tried where they are installed. FILE as with runs.sh.
 
 Status: 0 all as it should be; 1 something differs; 2 the program is not there.
 END
@@ -15,10 +15,10 @@ fi
 program=${PROGRAM:-}
 if [ "${1:-}" = --program ]; then program=${2:-}; fi
 if [ -n "$program" ]; then program=$(readlink -f -- "$program"); fi
-cd "$(dirname "$0")" || exit 1
+cd "$(dirname "$(readlink -f "$0")")/../examples" || exit 1
 program=${program:-$(readlink -f ../crates/navbridge/out/navbridge)}
 if [ ! -f "$program" ] || [ ! -x "$program" ]; then
-  echo "check_archive.sh: build first: no program ${program:-crates/navbridge/out/navbridge}; 'rt ci' at the top, or 'rt run' in crates/navbridge, leaves it there, or --program names one" >&2
+  echo "archive: build first: no program ${program:-crates/navbridge/out/navbridge}; 'rt ci' at the top, or 'rt run' in crates/navbridge, leaves it there, or --program names one" >&2
   exit 2
 fi
 command -v python3 > /dev/null || { echo "archives: not tried, since python3 is not there"; exit 0; }

@@ -1,41 +1,33 @@
-#!/usr/bin/env bash
-# Looks whether what the documents name is there: crates, files, definitions, functions, clauses, laws, headings of links.
-#
-#   examples/names.sh             each name that is not there, with its place; status 1 where there is one
-#   examples/names.sh --of NAME   the places of the documents that name NAME
-#
-# In docs/PROMISES.md a heading names crates, and the last column of its rows functions of these and, behind a colon, clauses of
-# each of the functions before it. In docs/DEFINITIONS.md a row names a crate and files of its specs/. In all documents what
-# stands between backticks is looked for if it is a path of the repository, or a name with _ or :: or a capital letter in it:
-# among the names of the sources and definitions, without their comments. A clause that is shown, and a version in the sources,
-# are looked at too: the one stands so in a contract, the other is that of CHANGELOG.md.
-#
-# Status: 0 all is there; 1 something is not; 2 the words are wrong, or there are no sources.
-set -euo pipefail
-cd "$(dirname "$(readlink -f "$0")")/.."
-case ${1:-} in
-  -h | --help)
-    sed -n '2,/^set /{/^set /d;s/^# \{0,1\}//;p}' "$0"
-    exit 0
-    ;;
-  '') name='' ;;
-  --of)
-    [ $# = 2 ] || { echo "names: --of wants a name; --help" >&2; exit 2; }
-    name=$2
-    ;;
-  *)
-    echo "names: $1 is no option; --help" >&2
-    exit 2
-    ;;
-esac
-[ -e crates.txt ] || { echo "names: no crates.txt: only a repository has sources to look in" >&2; exit 2; }
-exec python3 - "$name" << 'PYTHON'
+#!/usr/bin/env python3
+"""Looks whether what the documents name is there: crates, files, definitions, functions, clauses, laws, headings of links.
+
+    checks/names.py             each name that is not there, with its place; status 1 if there is one
+    checks/names.py --of NAME   the places of the documents that name NAME
+
+In docs/PROMISES.md a heading names crates, and the last column of its rows functions of these and, after a colon, clauses of
+each of the functions before it. In docs/DEFINITIONS.md a row names a crate and files of its specs/. In all documents what
+is between backticks is looked for if it is a path of the repository, or a name with _ or :: or a capital letter in it:
+among the names of the sources and definitions, without their comments. A clause that is shown, and a version in the sources,
+are looked at too: the first is so in a contract, the second is that of CHANGELOG.md.
+
+Status: 0 all is there; 1 something is not; 2 the arguments are wrong, or there are no sources.
+"""
+
 import glob
 import os
 import re
 import sys
 
-WANTED = sys.argv[1]
+if sys.argv[1:] in (["-h"], ["--help"]):
+    sys.exit(print(__doc__, end=""))
+if len(sys.argv) > 1 and (sys.argv[1] != "--of" or len(sys.argv) != 3):
+    print(f"names: {sys.argv[1]}: only --of NAME is an option; --help", file=sys.stderr)
+    sys.exit(2)
+WANTED = sys.argv[2] if len(sys.argv) > 1 else ""
+os.chdir(os.path.join(os.path.dirname(os.path.realpath(__file__)), ".."))
+if not os.path.exists("crates.txt"):
+    print("names: no crates.txt: only a repository has sources to look in", file=sys.stderr)
+    sys.exit(2)
 PAGES = sorted(
     [it for it in glob.glob("*.md")] + glob.glob("docs/*.md") + glob.glob("examples/*.md") + glob.glob("bench/*.md")
 )
@@ -50,7 +42,7 @@ OTHERS = set(
     RT_JOBS NAVBRIDGE_SOURCE NAVBRIDGE_SPAN STATE_DIRECTORY
     perf_event E1 E5b""".split()
 )
-TOPS = ("crates/", "docs/", "examples/", "bench/", "packaging/", "bindings/", ".ci/")
+TOPS = ("crates/", "docs/", "examples/", "bench/", "checks/", "packaging/", "bindings/", ".ci/")
 
 
 def read(path):
@@ -97,9 +89,10 @@ for path in glob.glob("crates/*/proofs/Surface.antt"):
 for path in glob.glob("crates/*/must-fail/*.edit"):
     known.add(os.path.basename(path).rsplit(".", 1)[0])
 # in scripts and plain programs beside the sources
-for path in glob.glob("bench/*.*") + glob.glob("examples/**/*", recursive=True) + glob.glob("packaging/*.*") + glob.glob("bindings/**/*.*", recursive=True):
-    if path.endswith((".sh", ".py", ".c", ".h", ".bash", "-station")) and "names.sh" not in path:
-        known |= set(re.findall(r"\w+", read(path)))
+for top in ("bench", "checks", "examples", "packaging", "bindings"):
+    for path in glob.glob(f"{top}/**/*", recursive=True):
+        if path.endswith((".sh", ".py", ".c", ".h", ".bash", "-station")) and path != "checks/names.py":
+            known |= set(re.findall(r"\w+", read(path)))
 files = {os.path.basename(it) for it in glob.glob("**/*", recursive=True)} | {".edit"}
 
 missing = 0
@@ -215,4 +208,3 @@ for path in glob.glob("crates/*/src/**/*.rt", recursive=True):
 if not WANTED:
     print(f"{len(PAGES)} documents, {missing} names that are not there")
 sys.exit(1 if missing else 0)
-PYTHON

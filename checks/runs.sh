@@ -1,9 +1,9 @@
 #!/usr/bin/env bash
 # Runs every job on its example and compares output, report and status, and navlog on its log; two generated logs through both
-# programs, beside what was sent; then the scripts for archives (check_archive.sh), and in a repository whether what the documents
-# name is there (names.sh).
+# programs, beside what was sent; then the scripts for archives (archive.sh), and in a repository whether what the documents
+# name is there (names.py).
 #
-#   examples/check.sh [--program FILE] [--navlog FILE]
+#   checks/runs.sh [--program FILE] [--navlog FILE]
 #
 #   --program FILE  navbridge (PROGRAM, or crates/navbridge/out/navbridge, which `rt ci` and `rt run` leave)
 #   --navlog FILE   navlog (NAVLOG, or crates/navlog/out/navlog); where it is not built, its log is not tried, and that is said
@@ -21,23 +21,24 @@ while [ $# -gt 0 ]; do
       exit 0
       ;;
     --program | --navlog)
-      [ $# -ge 2 ] || { echo "check: $1 wants a value" >&2; exit 2; }
+      [ $# -ge 2 ] || { echo "runs: $1 wants a value" >&2; exit 2; }
       printf -v "${1#--}" %s "$2"
       shift 2
       ;;
     *)
-      echo "check: $1 is no option; --help" >&2
+      echo "runs: $1 is no option; --help" >&2
       exit 2
       ;;
   esac
 done
 [ -z "$program" ] || program=$(readlink -f -- "$program")
 [ -z "$navlog" ] || navlog=$(readlink -f -- "$navlog")
-cd "$(dirname "$(readlink -f "$0")")" || exit 1
+checks=$(dirname "$(readlink -f "$0")")
+cd "$checks/../examples" || exit 1
 program=${program:-$(readlink -m ../crates/navbridge/out/navbridge)}
 navlog=${navlog:-$(readlink -m ../crates/navlog/out/navlog)}
 if [ ! -f "$program" ] || [ ! -x "$program" ]; then
-  echo "check: build first: no program $program; 'rt ci' at the top, or 'rt run' in crates/navbridge, leaves it there, or --program names one" >&2
+  echo "runs: build first: no program $program; 'rt ci' at the top, or 'rt run' in crates/navbridge, leaves it there, or --program names one" >&2
   exit 2
 fi
 out=$(mktemp -d)
@@ -88,6 +89,6 @@ else
   echo "navlog: not tried, since it is not built ($navlog)"
 fi
 echo "$runs runs, $wrong differ"
-./check_archive.sh --program "$program" || wrong=$((wrong + 1))
-[ ! -e ../crates.txt ] || ./names.sh || wrong=$((wrong + 1))
+"$checks/archive.sh" --program "$program" || wrong=$((wrong + 1))
+[ ! -e ../crates.txt ] || "$checks/names.py" || wrong=$((wrong + 1))
 [ "$wrong" = 0 ]

@@ -1,7 +1,7 @@
 #!/usr/bin/env bash
 # Tries the Debian package: made twice, the same bytes; lintian; installed, used, verified and removed.
 #
-#   packaging/check.sh [--program PATH]..    the built programs, navbridge and navlog (crates/NAME/out/NAME)
+#   checks/package.sh [--program PATH]..    the built programs, navbridge and navlog (crates/NAME/out/NAME)
 #
 # It installs the package on this machine and removes it, so it wants root and a machine without the package. Debian packages
 # that it uses: lintian, man-db, mandoc, systemd (for systemd-analyze), util-linux (taskset). Status 0 where all is as it
@@ -16,23 +16,23 @@ while [ $# -gt 0 ]; do
       exit 0
       ;;
     --program)
-      [ $# -ge 2 ] || { echo "check: --program wants a value" >&2; exit 2; }
+      [ $# -ge 2 ] || { echo "package: --program wants a value" >&2; exit 2; }
       given+=(--program "$(readlink -m "$2")")
       shift 2
       ;;
     *)
-      echo "check: $1 is no option; --help" >&2
+      echo "package: $1 is no option; --help" >&2
       exit 2
       ;;
   esac
 done
-[ "$(id -u)" = 0 ] || { echo "check: only root may install a package" >&2; exit 2; }
+[ "$(id -u)" = 0 ] || { echo "package: only root may install a package" >&2; exit 2; }
 if dpkg -s navbridge > /dev/null 2>&1; then
-  echo "check: a package navbridge is there already" >&2
+  echo "package: a package navbridge is there already" >&2
   exit 2
 fi
 for it in dpkg lintian man mandoc systemd-analyze taskset; do
-  command -v "$it" > /dev/null || { echo "check: $it is not there" >&2; exit 2; }
+  command -v "$it" > /dev/null || { echo "package: $it is not there" >&2; exit 2; }
 done
 work=$(mktemp -d)
 installed=
@@ -91,7 +91,7 @@ for unit in "${units[@]}"; do
 done
 
 run() {
-  PROGRAM=/usr/bin/navbridge NAVLOG=/usr/bin/navlog /usr/share/doc/navbridge/examples/check.sh > "$work/runs" 2>&1 || cat "$work/runs"
+  PROGRAM=/usr/bin/navbridge NAVLOG=/usr/bin/navlog /usr/share/doc/navbridge/checks/runs.sh > "$work/runs" 2>&1 || cat "$work/runs"
 }
 silent "the installed program gives each example's output, report and status" run
 is_logged() {

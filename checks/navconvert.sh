@@ -1,7 +1,7 @@
 #!/usr/bin/env bash
 # Tries navconvert from outside: what it does of the examples, and what it says and leaves where something is wrong.
 #
-#   examples/front.sh [--navconvert FILE] [--program FILE]
+#   checks/navconvert.sh [--navconvert FILE] [--program FILE]
 #
 #   --navconvert FILE  navconvert (NAVCONVERT, or crates/navconvert/out/navconvert)
 #   --program FILE     navbridge (PROGRAM, or crates/navbridge/out/navbridge), whose outputs are compared
@@ -16,23 +16,23 @@ while [ $# -gt 0 ]; do
       exit 0
       ;;
     --navconvert | --program)
-      [ $# -ge 2 ] || { echo "front: $1 wants a value" >&2; exit 2; }
+      [ $# -ge 2 ] || { echo "navconvert.sh: $1 wants a value" >&2; exit 2; }
       printf -v "${1#--}" %s "$2"
       shift 2
       ;;
     *)
-      echo "front: $1 is no option; --help" >&2
+      echo "navconvert.sh: $1 is no option; --help" >&2
       exit 2
       ;;
   esac
 done
 [ -z "$navconvert" ] || navconvert=$(readlink -f -- "$navconvert")
 [ -z "$program" ] || program=$(readlink -f -- "$program")
-cd "$(dirname "$(readlink -f "$0")")" || exit 1
+cd "$(dirname "$(readlink -f "$0")")/../examples" || exit 1
 navconvert=${navconvert:-$(readlink -m ../crates/navconvert/out/navconvert)}
 program=${program:-$(readlink -m ../crates/navbridge/out/navbridge)}
 for it in "$navconvert" "$program"; do
-  [ -x "$it" ] || { echo "front: no program $it; build first, or name it" >&2; exit 2; }
+  [ -x "$it" ] || { echo "navconvert.sh: no program $it; build first, or name it" >&2; exit 2; }
 done
 examples=$PWD
 work=$(mktemp -d)
