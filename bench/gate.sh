@@ -8,9 +8,9 @@ usage: bench/gate.sh                       prints the table of the last run
        bench/gate.sh run [PROCESSORS]      runs the whole gate from nothing over what is committed, in a clone, and prints
                                            the table; PROCESSORS as taskset has them, such as 0,1
 
-For each crate the processor seconds of its proof, of its tests, of the checks that its wrong bodies begin and end with
-(seed; with an older kit among the wrong bodies), of its wrong bodies, and of what is compiled of a program; how many
-checks of wrong bodies there were, and the longest single check by the clock. The last line has the whole: minutes by
+For each crate the processor seconds of its proof, of its tests, of the checks that its mutants begin and end with
+(seed; with an older kit among the mutants), of its mutants, and of what is compiled of a program; how many
+checks of mutants there were, and the longest single check by the clock. The last line has the whole: minutes by
 the clock and of processor time, and by what a fixed loop took the pace of the machine meanwhile.
 END
 }
