@@ -15,44 +15,52 @@ const STATION: &[u8] =
 
 // A stream, and its frames, concatenated.
 struct StreamRow {
+    name: &'static str,
     bytes: &'static [u8],
     frames: &'static [u8],
 }
 
 static STREAMS: [StreamRow; 8] = [
     StreamRow {
+        name: "nothing",
         bytes: b"",
         frames: b"",
     },
     StreamRow {
+        name: "a frame",
         bytes: EMPTY,
         frames: EMPTY,
     },
     // A preamble in front announces a frame that does not end.
     StreamRow {
+        name: "a preamble in front",
         bytes: b"\xd3\xd3\x00\x00\x47\xea\x4b",
         frames: EMPTY,
     },
     StreamRow {
+        name: "a frame cut short",
         bytes: b"\xd3\x00\x00\x47\xea",
         frames: b"",
     },
     StreamRow {
+        name: "a wrong checksum",
         bytes: b"\xd3\x00\x00\x47\xea\x4a",
         frames: b"",
     },
     // A whole frame inside one of wrong checksum.
     StreamRow {
+        name: "a frame inside a wrong one",
         bytes: b"\xd3\x00\x07\xd3\x00\x00\x47\xea\x4b\x00\x00\x00\x00",
         frames: EMPTY,
     },
     // Reserved bits are not looked at.
     StreamRow {
+        name: "reserved bits",
         bytes: b"\x00\xd3\xfc\x00\x32\xc2\x4f\x00",
         frames: b"\xd3\xfc\x00\x32\xc2\x4f",
     },
-    // A preamble inside a payload.
     StreamRow {
+        name: "a preamble inside a payload",
         bytes: STATION,
         frames: STATION,
     },
@@ -123,11 +131,11 @@ fn no_byte_is_gone_over_twice() -> bool {
 
 #[test]
 fn streams_and_frames(rt: HostRuntime) -> Result<(), Fail> {
-    let mut all = finds_a_frame_behind_many_false_starts(rt.alloc())?;
     for row in &STREAMS {
-        all = gives(rt.alloc(), row.bytes, row.frames)? && all;
+        assert!(rt; gives(rt.alloc(), row.bytes, row.frames)?, "{}", row.name);
     }
+    assert!(rt; finds_a_frame_behind_many_false_starts(rt.alloc())?);
     let one = one_frame_is_written_and_read() == Some(true);
-    assert!(rt; all && one && no_byte_is_gone_over_twice());
+    assert!(rt; one && no_byte_is_gone_over_twice());
     Ok(())
 }

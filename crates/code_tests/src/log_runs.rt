@@ -37,6 +37,7 @@ pub(crate) const ANYTHING: &str = "{*}";
 /// A log, what fails in a run over it, its status, and what it writes and reports.
 #[derive(Clone, Copy)]
 pub(crate) struct Log<'a> {
+    pub(crate) name: &'a str,
     pub(crate) form: Form,
     pub(crate) bytes: &'a [u8],
     pub(crate) failing: Failing<'a>,
@@ -48,6 +49,7 @@ pub(crate) struct Log<'a> {
 /// A log of UBX with no byte, of which the first read gives at most 40 bytes, and of which nothing
 /// is written.
 pub(crate) const IN_TWO: Log<'static> = Log {
+    name: "",
     form: Form::Ubx,
     bytes: b"",
     failing: Failing {

@@ -10,6 +10,7 @@ use std::test::Fail;
 
 // How the small log is read, and what the source over it gives.
 struct Reading {
+    name: &'static str,
     // how many bytes the first piece of the log has
     cuts: &'static [u32],
     // how many bytes are asked for at a time
@@ -22,18 +23,21 @@ struct Reading {
 
 static READINGS: [Reading; 6] = [
     Reading {
+        name: "at once",
         cuts: &[132],
         size: 400,
         fails: &[],
         capture: ALL,
     },
     Reading {
+        name: "byte by byte",
         cuts: &[1],
         size: 1,
         fails: &[],
         capture: ALL,
     },
     Reading {
+        name: "seven bytes at a time",
         cuts: &[75],
         size: 7,
         fails: &[],
@@ -41,6 +45,7 @@ static READINGS: [Reading; 6] = [
     },
     // the end of the log can't be read
     Reading {
+        name: "the read at the end fails",
         cuts: &[132],
         size: 64,
         fails: &[1],
@@ -48,12 +53,14 @@ static READINGS: [Reading; 6] = [
     },
     // the first piece has the time and the page
     Reading {
+        name: "the read behind the page fails",
         cuts: &[76],
         size: 64,
         fails: &[1],
         capture: PAGE,
     },
     Reading {
+        name: "the first read fails",
         cuts: &[76],
         size: 64,
         fails: &[0],
@@ -92,7 +99,7 @@ fn gives(alloc: Global, reading: &Reading) -> Result<bool, AllocError> {
 #[test]
 fn a_source_over_a_log_gives_its_capture(rt: HostRuntime) -> Result<(), Fail> {
     for reading in &READINGS {
-        assert!(rt; gives(rt.alloc(), reading)?);
+        assert!(rt; gives(rt.alloc(), reading)?, "{}", reading.name);
     }
     Ok(())
 }

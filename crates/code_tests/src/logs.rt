@@ -6,8 +6,8 @@ use crate::small_log::SMALL_LOGS;
 use std::test::Fail;
 
 static LOGS: [Log; 11] = [
-    // the turn of a day
     Log {
+        name: "the turn of a day",
         bytes: b"\
             \xb5\x62\x01\x20\x10\x00\x18\x58\x26\x05\x00\x00\x00\x00\xf6\x08\x12\x07\x05\x00\x00\
             \x00\xe8\x1c\
@@ -35,8 +35,8 @@ static LOGS: [Log; 11] = [
         ),
         ..IN_TWO
     },
-    // the turn of a week
     Log {
+        name: "the turn of a week",
         bytes: b"\
             \xb5\x62\x01\x20\x10\x00\x18\x80\x0c\x24\x00\x00\x00\x00\xf6\x08\x12\x07\x05\x00\x00\
             \x00\x15\x9b\
@@ -64,8 +64,8 @@ static LOGS: [Log; 11] = [
         ),
         ..IN_TWO
     },
-    // nine days
     Log {
+        name: "nine days",
         bytes: b"\
             \xb5\x62\x01\x20\x10\x00\x00\x00\x00\x00\x00\x00\x00\x00\xf6\x08\x12\x07\x05\x00\x00\
             \x00\x4d\x1f\
@@ -103,8 +103,8 @@ static LOGS: [Log; 11] = [
         ),
         ..IN_TWO
     },
-    // a message that is cut, and a whole one behind it
     Log {
+        name: "a message that is cut, and a whole one behind it",
         bytes: b"\
             \xb5\x62\x01\x20\x10\x00\x00\xdd\x6d\x00\x00\x00\x00\x00\xf6\x08\x12\x07\x05\x00\x00\
             \x00\x97\x08\
@@ -126,8 +126,8 @@ static LOGS: [Log; 11] = [
         ),
         ..IN_TWO
     },
-    // NMEA and RTCM between
     Log {
+        name: "NMEA and RTCM between",
         bytes: b"\
             \x24\x47\x50\x47\x47\x41\x2c\x31\x32\x30\x30\x30\x30\x2e\x30\x30\x2c\x34\x37\x31\x37\
             \x2e\x31\x31\x2c\x4e\
@@ -158,8 +158,8 @@ static LOGS: [Log; 11] = [
         ),
         ..IN_TWO
     },
-    // the words of data turned, and all their bits
     Log {
+        name: "the words of data turned, and all their bits",
         bytes: b"\
             \xb5\x62\x01\x20\x10\x00\x00\xdd\x6d\x00\x00\x00\x00\x00\xf6\x08\x12\x07\x05\x00\x00\
             \x00\x97\x08\
@@ -186,8 +186,8 @@ static LOGS: [Log; 11] = [
         ),
         ..IN_TWO
     },
-    // eight and nine words
     Log {
+        name: "eight and nine words",
         bytes: b"\
             \xb5\x62\x01\x20\x10\x00\x00\xdd\x6d\x00\x00\x00\x00\x00\xf6\x08\x12\x07\x05\x00\x00\
             \x00\x97\x08\
@@ -212,8 +212,8 @@ static LOGS: [Log; 11] = [
         ),
         ..IN_TWO
     },
-    // each signal of UBX
     Log {
+        name: "each signal of UBX",
         bytes: b"\
             \xb5\x62\x01\x20\x10\x00\x00\xdd\x6d\x00\x00\x00\x00\x00\xf6\x08\x12\x07\x05\x00\x00\
             \x00\x97\x08\
@@ -253,8 +253,8 @@ static LOGS: [Log; 11] = [
         ),
         ..IN_TWO
     },
-    // each signal of SBF
     Log {
+        name: "each signal of SBF",
         form: Form::Sbf,
         bytes: b"\
             \x24\x40\xc4\xb5\xb7\x0f\x34\x00\x00\xdd\x6d\x00\xf6\x08\x4a\x01\x00\x11\x00\x00\x55\
@@ -282,8 +282,8 @@ static LOGS: [Log; 11] = [
         ),
         ..IN_TWO
     },
-    // each reason of UBX
     Log {
+        name: "each reason of UBX",
         bytes: b"\
             \xb5\x62\x02\x13\x28\x00\x02\x04\x00\x00\x08\x09\x02\x00\x55\x55\x95\x00\x55\x55\x55\
             \x55\x55\x55\x55\x55\
@@ -328,8 +328,8 @@ static LOGS: [Log; 11] = [
         ),
         ..IN_TWO
     },
-    // each reason of SBF
     Log {
+        name: "each reason of SBF",
         form: Form::Sbf,
         bytes: b"\
             \x24\x40\xdb\x05\xb1\x0f\x3c\x00\x00\x00\x00\x00\x00\x04\x03\x01\x00\x00\x00\x00\x0b\
@@ -380,9 +380,9 @@ static LOGS: [Log; 11] = [
 #[test]
 fn logs_end_as_the_tables_say(rt: HostRuntime) -> Result<(), Fail> {
     let tables: [&[Log]; 3] = [&LOGS, &ODD_LOGS, &SMALL_LOGS];
-    for (table, logs) in tables.iter().enumerate() {
-        for (number, log) in logs.iter().enumerate() {
-            assert!(rt; log.ends_so(rt.alloc())?, "{table} {number}");
+    for logs in &tables {
+        for log in *logs {
+            assert!(rt; log.ends_so(rt.alloc())?, "{}", log.name);
         }
     }
     Ok(())

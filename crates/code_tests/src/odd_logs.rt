@@ -4,8 +4,8 @@
 use crate::log_runs::{Form, IN_TWO, Log};
 
 pub(crate) static ODD_LOGS: [Log; 7] = [
-    // measurements alone
     Log {
+        name: "measurements alone",
         bytes: b"\
             \xb5\x62\x02\x15\x10\x00\x00\x00\x00\x00\x00\x20\xbc\x40\xf6\x08\x12\x00\x01\x01\x00\
             \x00\x55\x2a\
@@ -17,8 +17,8 @@ pub(crate) static ODD_LOGS: [Log; 7] = [
         ),
         ..IN_TWO
     },
-    // no time yet, and a time that is taken away
     Log {
+        name: "no time yet, and a time that is taken away",
         bytes: b"\
             \xb5\x62\x02\x13\x30\x00\x00\x03\x00\x00\x0a\x07\x02\x00\x0b\x8d\xc4\x22\xc8\x16\x98\
             \x34\x53\x00\x00\x00\
@@ -45,8 +45,8 @@ pub(crate) static ODD_LOGS: [Log; 7] = [
         ),
         ..IN_TWO
     },
-    // times that jump, over a week, back, and over 511 weeks
     Log {
+        name: "times that jump, over a week, back, and over 511 weeks",
         bytes: b"\
             \xb5\x62\x01\x20\x10\x00\x00\xdd\x6d\x00\x00\x00\x00\x00\xf6\x08\x12\x07\x05\x00\x00\
             \x00\x97\x08\
@@ -92,8 +92,8 @@ pub(crate) static ODD_LOGS: [Log; 7] = [
         ),
         ..IN_TWO
     },
-    // an empty log
     Log {
+        name: "an empty log",
         bytes: b"",
         report: concat!(
             "messages 0\nskipped 0\ntimes 0\nsubframes 0\npages 0\nrefused 0\nother 0\n",
@@ -101,8 +101,8 @@ pub(crate) static ODD_LOGS: [Log; 7] = [
         ),
         ..IN_TWO
     },
-    // a text
     Log {
+        name: "a text",
         bytes: b"no log of a receiver\n",
         report: concat!(
             "messages 0\nskipped 21\ntimes 0\nsubframes 0\npages 0\nrefused 0\nother 0\n",
@@ -110,8 +110,8 @@ pub(crate) static ODD_LOGS: [Log; 7] = [
         ),
         ..IN_TWO
     },
-    // a file of RINEX
     Log {
+        name: "a file of RINEX",
         form: Form::Sbf,
         bytes: b"     3.04           N: GNSS NAV DATA    G: GPS              RINEX VERSION / TYPE\n",
         report: concat!(
@@ -120,8 +120,8 @@ pub(crate) static ODD_LOGS: [Log; 7] = [
         ),
         ..IN_TWO
     },
-    // a file that is packed
     Log {
+        name: "a file that is packed",
         form: Form::Sbf,
         bytes: b"\
             \x1f\x8b\x08\x00\x00\x00\x00\x00\x00\x03\x4b\xcc\x2d\x28\xa9\x54\xc8\x4d\xcd\x4d\x4a\

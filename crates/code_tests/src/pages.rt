@@ -9,6 +9,7 @@ use std::test::Fail;
 
 // A word, and the two page parts into which it is split.
 struct WordRow {
+    name: &'static str,
     word: &'static [u8],
     even: &'static [u8],
     odd: &'static [u8],
@@ -16,26 +17,31 @@ struct WordRow {
 
 static WORDS: [WordRow; 5] = [
     WordRow {
+        name: "word 1",
         word: b"06230001fffffffd7661a0e10b42b180",
         even: b"0188c0007fffffff5d98683842d080",
         odd: b"ac6000000000000000003374bc4000",
     },
     WordRow {
+        name: "word 2",
         word: b"085ddd618681ffffffffffffffff7ffc",
         even: b"0217775861a07fffffffffffffffc0",
         odd: b"9fff00000000000000003f729c0000",
     },
     WordRow {
+        name: "word 4",
         word: b"13ff8a0002d80c000800000017be48dc",
         even: b"04ffe28000b603000200000005ef80",
         odd: b"923700000000000000001cbcac0000",
     },
     WordRow {
+        name: "word 5",
         word: b"17fffffc8bfe36ffff4dd49d3f800000",
         even: b"05ffffff22ff8dbfffd375274fe000",
         odd: b"8000000000000000000018ab3bc000",
     },
     WordRow {
+        name: "word 3",
         word: b"0df8800000ffff7fff8000ffffd60965",
         even: b"037e2000003fffdfffe0003ffff580",
         odd: b"825940000000000000003b9ad68000",
@@ -100,13 +106,14 @@ struct PartRow {
 
 // Parts in their order, and the window in which they are kept.
 struct PartsRow {
+    name: &'static str,
     window: u32,
     parts: &'static [PartRow],
 }
 
 static PARTS: [PartsRow; 4] = [
-    // In any order.
     PartsRow {
+        name: "in any order",
         window: 7200,
         parts: &[
             PartRow {
@@ -197,6 +204,7 @@ static PARTS: [PartsRow; 4] = [
     },
     // As long as the window.
     PartsRow {
+        name: "as long apart as the window",
         window: 7200,
         parts: &[
             PartRow {
@@ -225,6 +233,7 @@ static PARTS: [PartsRow; 4] = [
     },
     // Longer than it.
     PartsRow {
+        name: "longer apart than the window",
         window: 7200,
         parts: &[
             PartRow {
@@ -247,8 +256,8 @@ static PARTS: [PartsRow; 4] = [
             },
         ],
     },
-    // With each partner.
     PartsRow {
+        name: "with each partner",
         window: 60,
         parts: &[
             PartRow {
@@ -317,13 +326,12 @@ fn all_give(alloc: Global, row: &PartsRow) -> Result<bool, AllocError> {
 
 #[test]
 fn words_are_split_and_parts_joined(rt: HostRuntime) -> Result<(), Fail> {
-    let mut all = parts_are_read_and_refused();
     for row in &WORDS {
-        all = all && is_split(row);
+        assert!(rt; is_split(row), "{}", row.name);
     }
     for row in &PARTS {
-        all = all_give(rt.alloc(), row)? && all;
+        assert!(rt; all_give(rt.alloc(), row)?, "{}", row.name);
     }
-    assert!(rt; all);
+    assert!(rt; parts_are_read_and_refused());
     Ok(())
 }

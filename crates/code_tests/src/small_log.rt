@@ -45,14 +45,15 @@ const REPORT: &str = concat!(
 /// The log whole, and calls that fail: the first piece has the time and the page.
 pub(crate) static SMALL_LOGS: [Log; 6] = [
     Log {
+        name: "nothing fails",
         bytes: &LOG,
         failing: NOTHING_FAILS,
         capture: ALL,
         report: REPORT,
         ..IN_TWO
     },
-    // the first read
     Log {
+        name: "the first read",
         bytes: &LOG,
         failing: Failing {
             cuts: &[76],
@@ -63,8 +64,8 @@ pub(crate) static SMALL_LOGS: [Log; 6] = [
         report: "",
         ..IN_TWO
     },
-    // the read behind the page
     Log {
+        name: "the read behind the page",
         bytes: &LOG,
         failing: Failing {
             cuts: &[76],
@@ -76,8 +77,8 @@ pub(crate) static SMALL_LOGS: [Log; 6] = [
         report: "",
         ..IN_TWO
     },
-    // the first write
     Log {
+        name: "the first write",
         bytes: &LOG,
         failing: Failing {
             cuts: &[76],
@@ -88,8 +89,8 @@ pub(crate) static SMALL_LOGS: [Log; 6] = [
         report: "",
         ..IN_TWO
     },
-    // the write of the subframe
     Log {
+        name: "the write of the subframe",
         bytes: &LOG,
         failing: Failing {
             cuts: &[76],
@@ -101,8 +102,8 @@ pub(crate) static SMALL_LOGS: [Log; 6] = [
         report: "",
         ..IN_TWO
     },
-    // the report of the counts
     Log {
+        name: "the report of the counts",
         bytes: &LOG,
         failing: Failing {
             cuts: &[76],

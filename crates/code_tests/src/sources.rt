@@ -51,15 +51,18 @@ struct Reading {
     first: u8,
 }
 
-// Whether the reads of a source are answered so.
-fn reads<S: Source>(source: &mut S, readings: &[Reading]) -> bool {
+// How many reads of a source are answered so, up to the first that is not.
+fn reads<S: Source>(source: &mut S, readings: &[Reading]) -> usize {
     let mut buffer = [0; 4];
-    let mut all = true;
+    let mut count = 0usize;
     for reading in readings {
         let answer = source.read(&mut buffer);
-        all = all && answer == reading.answer && buffer[0] == reading.first;
+        if answer != reading.answer || buffer[0] != reading.first {
+            return count;
+        }
+        count = count.saturating_add(1);
     }
-    all
+    count
 }
 
 // The write of a piece, and its answer.
@@ -68,14 +71,16 @@ struct Writing {
     answer: Result<(), Failed>,
 }
 
-// Whether the writes to a sink are answered so.
-fn writes<S: Sink>(sink: &mut S, writings: &[Writing]) -> bool {
-    let mut all = true;
+// How many writes to a sink are answered so, up to the first that is not.
+fn writes<S: Sink>(sink: &mut S, writings: &[Writing]) -> usize {
+    let mut count = 0usize;
     for writing in writings {
-        let answer = sink.write(writing.piece);
-        all = all && answer == writing.answer;
+        if sink.write(writing.piece) != writing.answer {
+            return count;
+        }
+        count = count.saturating_add(1);
     }
-    all
+    count
 }
 
 static MEMORY_READINGS: [Reading; 5] = [
@@ -204,22 +209,29 @@ static FALTERING_WRITINGS: [Writing; 5] = [
     },
 ];
 
-// Memory is read in pieces.
-fn memory_is_read(alloc: Global) -> Result<bool, AllocError> {
+// How many reads of memory in pieces are answered so, and how many bytes are left.
+fn reads_of_memory(alloc: Global) -> Result<[usize; 2], AllocError> {
     let mut source = source_of(alloc, b"abcd", &[1, 0, 1], &[2])?;
-    Ok(reads(&mut source, &MEMORY_READINGS) && source.left().len() == 0)
+    let count = reads(&mut source, &MEMORY_READINGS);
+    Ok([count, source.left().len()])
 }
 
-// Memory is written as far as there is room.
-fn memory_is_written(alloc: Global) -> Result<bool, AllocError> {
+// How many writes to memory are answered so; none where other bytes stand in it than there is room
+// for.
+fn writes_to_memory(alloc: Global) -> Result<usize, AllocError> {
     let mut sink = MemSink::new(alloc, 5, [1].to_vec(alloc)?)?;
-    Ok(writes(&mut sink, &MEMORY_WRITINGS) && sink.bytes() == b"abijk".as_slice())
+    let count = writes(&mut sink, &MEMORY_WRITINGS);
+    Ok(if sink.bytes() == b"abijk".as_slice() {
+        count
+    } else {
+        0
+    })
 }
 
 #[test]
 fn memory(rt: HostRuntime) -> Result<(), Fail> {
-    let read = memory_is_read(rt.alloc())?;
-    assert!(rt; memory_is_written(rt.alloc())? && read);
+    assert_eq!(rt; reads_of_memory(rt.alloc())?, [MEMORY_READINGS.len(), 0]);
+    assert_eq!(rt; writes_to_memory(rt.alloc())?, MEMORY_WRITINGS.len());
     Ok(())
 }
 
@@ -238,7 +250,7 @@ fn edge(rt: HostRuntime) {
     let mut sink = WriteSink::new(Faltering { calls: 0 });
     let writes_on = writes(&mut sink, &FALTERING_WRITINGS);
     let kinds = [source.fault(), sink.fault()] == [Some(ErrorKind::Interrupted); 2];
-    assert!(rt;
-        read && written && out.as_slice() == b"abcd".as_slice() && reads_on && writes_on && kinds
-    );
+    let is_out = out.as_slice() == b"abcd".as_slice();
+    assert_eq!(rt; [read, written, reads_on, writes_on], [5, 2, 5, 5]);
+    assert!(rt; is_out && kinds);
 }

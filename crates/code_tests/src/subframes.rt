@@ -16,6 +16,7 @@ fn read(bits: &Bits<38>) -> Option<Result<Part, LnavFault>> {
 
 // The digits of a subframe, the TOW count that it is written with, and what it holds.
 struct SubframeRow {
+    name: &'static str,
     digits: &'static [u8],
     count: u64,
     holds: Holds,
@@ -48,6 +49,7 @@ enum Holds {
 
 static SUBFRAMES: [SubframeRow; 7] = [
     SubframeRow {
+        name: "a clock of zeroes",
         digits: b"8b00004800021043dc000580000029ffffff580000029ffffff580000029ffffff58000008c0",
         count: 1,
         holds: Holds::Clock {
@@ -58,6 +60,7 @@ static SUBFRAMES: [SubframeRow; 7] = [
         },
     },
     SubframeRow {
+        name: "a clock of issue 619",
         digits: b"8b00004b137e1704f7f12280000029ffffff580000029ffff8589ae4e9f2f9d2cce34f60a680",
         count: 100_799,
         holds: Holds::Clock {
@@ -80,6 +83,7 @@ static SUBFRAMES: [SubframeRow; 7] = [
         },
     },
     SubframeRow {
+        name: "a clock of issue 745",
         digits: b"8b00004aca60164ffdf8ab5ffffffc00000000000000000008a545bfffd100873c5461c8f680",
         count: 91_440,
         holds: Holds::Clock {
@@ -102,6 +106,7 @@ static SUBFRAMES: [SubframeRow; 7] = [
         },
     },
     SubframeRow {
+        name: "orbit A of issue 255, crs -14,220",
         digits: b"8b00004adc3629cffc8748d25168f0f91c311aac512d4f74313c4398000500000057fffdff00",
         count: 93_723,
         holds: Holds::OrbitA {
@@ -120,6 +125,7 @@ static SUBFRAMES: [SubframeRow; 7] = [
         },
     },
     SubframeRow {
+        name: "orbit A of issue 255, crs -15,553",
         digits: b"8b00004b137e2c8ffc33f74cbd1dc11a3945b200006b5c91f84bbfffc33d0ae7c6824e9c0380",
         count: 100_799,
         holds: Holds::OrbitA {
@@ -138,6 +144,7 @@ static SUBFRAMES: [SubframeRow; 7] = [
         },
     },
     SubframeRow {
+        name: "orbit B of issue 73",
         digits: b"8b00004800023e4b94c8f0a6273f30ec6cff9bfffffea03f5bcb718d45ce93fbfa6ed88d76c0",
         count: 1,
         holds: Holds::OrbitB {
@@ -155,6 +162,7 @@ static SUBFRAMES: [SubframeRow; 7] = [
         },
     },
     SubframeRow {
+        name: "an ionosphere",
         digits: b"8b00004a01c247078f3809b0602d2571007f9ffffffffffffffffffffffffffffffffffffac0",
         count: 65_761,
         holds: Holds::Ion {
@@ -239,6 +247,7 @@ fn is_subframe(row: &SubframeRow) -> bool {
 
 // Digits, and why they are refused; `None` where they are read.
 struct ReadingRow {
+    name: &'static str,
     digits: &'static [u8],
     fault: Option<LnavFault>,
 }
@@ -252,28 +261,34 @@ const TURNED: &[u8; 76] =
 
 static READINGS: [ReadingRow; 6] = [
     ReadingRow {
+        name: "upright",
         digits: UPRIGHT,
         fault: None,
     },
     ReadingRow {
+        name: "another preamble",
         digits: b"8a000048000631c8000000000000000000000000000000000000000000000000000000000000",
         fault: Some(LnavFault::Preamble),
     },
     ReadingRow {
+        name: "a wrong parity in word 3",
         digits: b"8b000048000631c8000000000000000000000000000000000000000000000000000000000000",
         fault: Some(LnavFault::Parity { word: 3 }),
     },
     // Subframes 2 in good words: the last toe of the week; with the next toe and a count past the
     // week, and with the next toe alone.
     ReadingRow {
+        name: "the last toe of the week",
         digits: b"8b000048000026c000000000000000000000000000000000000000000000000000024e9c0380",
         fault: None,
     },
     ReadingRow {
+        name: "the next toe, and a count past the week",
         digits: b"8b00004b1380250000000000000000000000000000000000000000000000000000024ea00dc0",
         fault: Some(LnavFault::BadTow),
     },
     ReadingRow {
+        name: "the next toe",
         digits: b"8b00004b137e2c8000000000000000000000000000000000000000000000000000024ea00dc0",
         fault: Some(LnavFault::BadTime),
     },
@@ -307,18 +322,18 @@ fn last_second_is_read() -> Option<bool> {
 
 #[test]
 fn subframes_both_ways_and_faults(rt: HostRuntime) {
-    let mut all = read(&bits_of(TURNED)) == read(&bits_of(UPRIGHT));
     for row in &SUBFRAMES {
-        all = all && is_subframe(row);
+        assert!(rt; is_subframe(row), "{}", row.name);
     }
     for row in &READINGS {
-        all = all && is_read(&bits_of(row.digits), row.fault);
+        assert!(rt; is_read(&bits_of(row.digits), row.fault), "{}", row.name);
     }
+    let turned = read(&bits_of(TURNED)) == read(&bits_of(UPRIGHT));
     let other = SubframeOut::Other {
         number: U::from_bits(5),
         page: U::from_bits(1),
     };
     let bits = write_subframe(&other, U::from_bits(7));
     let unused = is_read(&bits, Some(LnavFault::Unused { number: 5, page: 1 }));
-    assert!(rt; all && unused && last_second_is_read() == Some(true));
+    assert!(rt; turned && unused && last_second_is_read() == Some(true));
 }

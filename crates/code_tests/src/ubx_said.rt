@@ -4,6 +4,7 @@ use receiver_messages::{Content, Reason, Said, ubx_said};
 
 // A time message, and the second that it gives, or 0 where it gives none.
 struct TimeCase {
+    name: &'static str,
     class: u8,
     number: u8,
     payload: [u8; 16],
@@ -11,169 +12,169 @@ struct TimeCase {
 }
 
 static TIMES: [TimeCase; 24] = [
-    // a time of NAV-TIMEGPS
     TimeCase {
+        name: "a time of NAV-TIMEGPS",
         class: 1,
         number: 32,
         payload: *b"\x00\xdd\x6d\x00\x00\x00\x00\x00\xf7\x08\x12\x07\x00\x00\x00\x00",
         second: 1388023200,
     },
-    // to the nearest second, halves upwards
     TimeCase {
+        name: "to the nearest second, halves upwards",
         class: 1,
         number: 32,
         payload: *b"\xf4\xde\x6d\x00\x00\x00\x00\x00\xf7\x08\x12\x03\x00\x00\x00\x00",
         second: 1388023201,
     },
-    // over the week rollover
     TimeCase {
+        name: "over the week rollover",
         class: 1,
         number: 32,
         payload: *b"\xff\x83\x0c\x24\x00\x00\x00\x00\xf7\x08\x12\x03\x00\x00\x00\x00",
         second: 1388620800,
     },
-    // no week
     TimeCase {
+        name: "no week",
         class: 1,
         number: 32,
         payload: *b"\x00\xdd\x6d\x00\x00\x00\x00\x00\xf7\x08\x12\x01\x00\x00\x00\x00",
         second: 0,
     },
-    // no second of the week
     TimeCase {
+        name: "no second of the week",
         class: 1,
         number: 32,
         payload: *b"\x00\x84\x0c\x24\x00\x00\x00\x00\xf7\x08\x12\x03\x00\x00\x00\x00",
         second: 0,
     },
-    // week 1024
     TimeCase {
+        name: "week 1024",
         class: 1,
         number: 32,
         payload: *b"\x00\x00\x00\x00\x00\x00\x00\x00\x00\x04\x12\x03\x00\x00\x00\x00",
         second: 0,
     },
-    // week 8191
     TimeCase {
+        name: "week 8191",
         class: 1,
         number: 32,
         payload: *b"\x00\x00\x00\x00\x00\x00\x00\x00\xff\x1f\x12\x03\x00\x00\x00\x00",
         second: 4953916800,
     },
-    // a negative week
     TimeCase {
+        name: "a negative week",
         class: 1,
         number: 32,
         payload: *b"\x00\x00\x00\x00\x00\x00\x00\x00\xff\xff\x12\x03\x00\x00\x00\x00",
         second: 0,
     },
-    // a date of NAV-PVT
     TimeCase {
+        name: "a date of NAV-PVT",
         class: 1,
         number: 7,
         payload: *b"\x50\x7f\x94\x05\xe8\x07\x01\x01\x02\x00\x00\x03\x00\x00\x00\x00",
         second: 1388109618,
     },
-    // a date in the week before that of the time
     TimeCase {
+        name: "a date in the week before that of the time",
         class: 1,
         number: 7,
         payload: *b"\x68\x42\x00\x00\xe7\x07\x0c\x1e\x17\x3b\x3b\x03\x00\x00\x00\x00",
         second: 1388016017,
     },
-    // a second 60
     TimeCase {
+        name: "a second 60",
         class: 1,
         number: 7,
         payload: *b"\x68\x42\x00\x00\xe7\x07\x0c\x1e\x17\x3b\x3c\x03\x00\x00\x00\x00",
         second: 1388016017,
     },
-    // a second 61
     TimeCase {
+        name: "a second 61",
         class: 1,
         number: 7,
         payload: *b"\x68\x42\x00\x00\xe7\x07\x0c\x1e\x17\x3b\x3d\x03\x00\x00\x00\x00",
         second: 0,
     },
-    // a day that is none
     TimeCase {
+        name: "a day that is none",
         class: 1,
         number: 7,
         payload: *b"\x50\x7f\x94\x05\xe7\x07\x02\x1d\x02\x00\x00\x03\x00\x00\x00\x00",
         second: 0,
     },
-    // no valid date
     TimeCase {
+        name: "no valid date",
         class: 1,
         number: 7,
         payload: *b"\x50\x7f\x94\x05\xe8\x07\x01\x01\x02\x00\x00\x02\x00\x00\x00\x00",
         second: 0,
     },
-    // a time of RXM-RAWX before its second
     TimeCase {
+        name: "a time of RXM-RAWX before its second",
         class: 2,
         number: 21,
         payload: *b"\x68\x91\xed\x7c\xff\x1f\xbc\x40\xf7\x08\x00\x00\x00\x00\x00\x00",
         second: 1388023200,
     },
-    // a half
     TimeCase {
+        name: "a half",
         class: 2,
         number: 21,
         payload: *b"\x00\x00\x00\x00\x80\x1f\xbc\x40\xf7\x08\x00\x00\x00\x00\x00\x00",
         second: 1388023200,
     },
-    // below a half
     TimeCase {
+        name: "below a half",
         class: 2,
         number: 21,
         payload: *b"\x08\x39\xef\xff\x7f\x1f\xbc\x40\xf7\x08\x00\x00\x00\x00\x00\x00",
         second: 1388023199,
     },
-    // the last of the week
     TimeCase {
+        name: "the last of the week",
         class: 2,
         number: 21,
         payload: *b"\x00\x00\x00\x80\xff\x74\x22\x41\xf7\x08\x00\x00\x00\x00\x00\x00",
         second: 1388620800,
     },
-    // the next week
     TimeCase {
+        name: "the next week",
         class: 2,
         number: 21,
         payload: *b"\x00\x00\x00\x00\x00\x75\x22\x41\xf7\x08\x00\x00\x00\x00\x00\x00",
         second: 0,
     },
-    // a zero with a sign
     TimeCase {
+        name: "a zero with a sign",
         class: 2,
         number: 21,
         payload: *b"\x00\x00\x00\x00\x00\x00\x00\x80\xf7\x08\x00\x00\x00\x00\x00\x00",
         second: 1388016000,
     },
-    // below zero
     TimeCase {
+        name: "below zero",
         class: 2,
         number: 21,
         payload: *b"\x95\xd6\x26\xe8\x0b\x2e\x11\xbe\xf7\x08\x00\x00\x00\x00\x00\x00",
         second: 0,
     },
-    // the least number
     TimeCase {
+        name: "the least number",
         class: 2,
         number: 21,
         payload: *b"\x01\x00\x00\x00\x00\x00\x00\x00\xf7\x08\x00\x00\x00\x00\x00\x00",
         second: 1388016000,
     },
-    // no number
     TimeCase {
+        name: "no number",
         class: 2,
         number: 21,
         payload: *b"\x00\x00\x00\x00\x00\x00\xf8\x7f\xf7\x08\x00\x00\x00\x00\x00\x00",
         second: 0,
     },
-    // without end
     TimeCase {
+        name: "without end",
         class: 2,
         number: 21,
         payload: *b"\x00\x00\x00\x00\x00\x00\xf0\x7f\xf7\x08\x00\x00\x00\x00\x00\x00",
@@ -181,22 +182,23 @@ static TIMES: [TimeCase; 24] = [
     },
 ];
 
-// Whether the message with this payload, whose sums are not looked at, gives the second of the
-// table.
-fn gives(case: &TimeCase) -> bool {
+// The second that the message with this payload gives, whose sums are not looked at, or 0 where it
+// gives none; `None` where it is no time message.
+fn second_of(case: &TimeCase) -> Option<u64> {
     let mut message = [0; 24];
     message[2] = case.class;
     message[3] = case.number;
     message[6..22].copy_from_slice(&case.payload);
     match ubx_said(&message) {
-        Said::Time(Some(time)) => time.value() == case.second,
-        Said::Time(None) => case.second == 0,
-        _ => false,
+        Said::Time(Some(time)) => Some(time.value()),
+        Said::Time(None) => Some(0),
+        _ => None,
     }
 }
 
 // The head of RXM-SFRBX with so many bytes of payload behind it, and the reason why it is refused.
 struct RefusedCase {
+    name: &'static str,
     system: u8,
     satellite: u8,
     signal: u8,
@@ -207,6 +209,7 @@ struct RefusedCase {
 
 static REFUSED: [RefusedCase; 12] = [
     RefusedCase {
+        name: "G01",
         system: 0,
         satellite: 1,
         signal: 0,
@@ -215,6 +218,7 @@ static REFUSED: [RefusedCase; 12] = [
         refused: None,
     },
     RefusedCase {
+        name: "G32",
         system: 0,
         satellite: 32,
         signal: 0,
@@ -223,6 +227,7 @@ static REFUSED: [RefusedCase; 12] = [
         refused: None,
     },
     RefusedCase {
+        name: "a satellite 0 of GPS",
         system: 0,
         satellite: 0,
         signal: 0,
@@ -231,6 +236,7 @@ static REFUSED: [RefusedCase; 12] = [
         refused: Some(Reason::Satellite),
     },
     RefusedCase {
+        name: "a satellite 33 of GPS",
         system: 0,
         satellite: 33,
         signal: 0,
@@ -239,6 +245,7 @@ static REFUSED: [RefusedCase; 12] = [
         refused: Some(Reason::Satellite),
     },
     RefusedCase {
+        name: "a satellite 33 and nine words",
         system: 0,
         satellite: 33,
         signal: 0,
@@ -247,6 +254,7 @@ static REFUSED: [RefusedCase; 12] = [
         refused: Some(Reason::Length),
     },
     RefusedCase {
+        name: "a longer payload than ten words",
         system: 0,
         satellite: 1,
         signal: 0,
@@ -255,6 +263,7 @@ static REFUSED: [RefusedCase; 12] = [
         refused: Some(Reason::Length),
     },
     RefusedCase {
+        name: "E36 of signal 1",
         system: 2,
         satellite: 36,
         signal: 1,
@@ -263,6 +272,7 @@ static REFUSED: [RefusedCase; 12] = [
         refused: None,
     },
     RefusedCase {
+        name: "E36 of signal 5",
         system: 2,
         satellite: 36,
         signal: 5,
@@ -271,6 +281,7 @@ static REFUSED: [RefusedCase; 12] = [
         refused: None,
     },
     RefusedCase {
+        name: "a satellite 37 of Galileo",
         system: 2,
         satellite: 37,
         signal: 0,
@@ -279,6 +290,7 @@ static REFUSED: [RefusedCase; 12] = [
         refused: Some(Reason::Satellite),
     },
     RefusedCase {
+        name: "a satellite 0 of Galileo",
         system: 2,
         satellite: 0,
         signal: 5,
@@ -287,6 +299,7 @@ static REFUSED: [RefusedCase; 12] = [
         refused: Some(Reason::Satellite),
     },
     RefusedCase {
+        name: "seven words",
         system: 2,
         satellite: 1,
         signal: 1,
@@ -295,6 +308,7 @@ static REFUSED: [RefusedCase; 12] = [
         refused: Some(Reason::Length),
     },
     RefusedCase {
+        name: "nine words in the length of eight",
         system: 2,
         satellite: 1,
         signal: 1,
@@ -325,12 +339,10 @@ fn is_refused_so(case: &RefusedCase) -> bool {
 
 #[test]
 fn times_and_words_are_taken_or_refused(rt: HostRuntime) {
-    let mut all = true;
     for case in &TIMES {
-        all = all && gives(case);
+        assert_eq!(rt; second_of(case), Some(case.second), "{}", case.name);
     }
     for case in &REFUSED {
-        all = all && is_refused_so(case);
+        assert!(rt; is_refused_so(case), "{}", case.name);
     }
-    assert!(rt; all);
 }

@@ -13,6 +13,7 @@ use nav_samples::{
 
 // The digits of a word, the satellite that sends it, and what it is read as.
 struct WordRow {
+    name: &'static str,
     digits: &'static [u8],
     satellite: u8,
     read: WordRead,
@@ -38,6 +39,7 @@ enum WordRead {
 // The worked words of one satellite, words made by an independent program, and worked faults.
 static WORDS: [WordRow; 42] = [
     WordRow {
+        name: "word 1 of E11, issue 5",
         digits: b"04050000000000000000000000000000",
         satellite: 11,
         read: WordRead::Word1(Word1Numbers {
@@ -49,6 +51,7 @@ static WORDS: [WordRow; 42] = [
         }),
     },
     WordRow {
+        name: "word 2 of E11, issue 5",
         digits: b"08050000000000000000000000000000",
         satellite: 11,
         read: WordRead::Word2(Word2Numbers {
@@ -60,6 +63,7 @@ static WORDS: [WordRow; 42] = [
         }),
     },
     WordRow {
+        name: "word 3 of E11, issue 5",
         digits: b"0c05000000000000000000000000006b",
         satellite: 11,
         read: WordRead::Word3(Word3Numbers {
@@ -74,6 +78,7 @@ static WORDS: [WordRow; 42] = [
         }),
     },
     WordRow {
+        name: "word 4 of E11, issue 5",
         digits: b"10052c00000000000000000000000000",
         satellite: 11,
         read: WordRead::Word4(Word4Numbers {
@@ -87,6 +92,7 @@ static WORDS: [WordRow; 42] = [
         }),
     },
     WordRow {
+        name: "word 5 of E11, week 1271",
         digits: b"14000000000000000027b80004000000",
         satellite: 11,
         read: WordRead::Word5 {
@@ -109,6 +115,7 @@ static WORDS: [WordRow; 42] = [
         },
     },
     WordRow {
+        name: "word 1 of E34, issue 547",
         digits: b"06230001fffffffd7661a0e10b42b180",
         satellite: 34,
         read: WordRead::Word1(Word1Numbers {
@@ -120,6 +127,7 @@ static WORDS: [WordRow; 42] = [
         }),
     },
     WordRow {
+        name: "word 2 of E34, issue 93",
         digits: b"085ddd618681ffffffffffffffff7ffc",
         satellite: 34,
         read: WordRead::Word2(Word2Numbers {
@@ -131,6 +139,7 @@ static WORDS: [WordRow; 42] = [
         }),
     },
     WordRow {
+        name: "word 3 of E34, issue 984",
         digits: b"0fd8ee144e7ffffb7bffffa2517fffff",
         satellite: 34,
         read: WordRead::Word3(Word3Numbers {
@@ -145,6 +154,7 @@ static WORDS: [WordRow; 42] = [
         }),
     },
     WordRow {
+        name: "word 4 of E34, issue 1023",
         digits: b"13ff8a0002d80c000800000017be48dc",
         satellite: 34,
         read: WordRead::Word4(Word4Numbers {
@@ -158,6 +168,7 @@ static WORDS: [WordRow; 42] = [
         }),
     },
     WordRow {
+        name: "word 5 of E34, week 2490",
         digits: b"17fffffc8bfe36ffff4dd49d3f800000",
         satellite: 34,
         read: WordRead::Word5 {
@@ -180,6 +191,7 @@ static WORDS: [WordRow; 42] = [
         },
     },
     WordRow {
+        name: "word 1 of E23, issue 725",
         digits: b"06d535d3fffffffe8ffeac9dbc5d25c0",
         satellite: 23,
         read: WordRead::Word1(Word1Numbers {
@@ -191,6 +203,7 @@ static WORDS: [WordRow; 42] = [
         }),
     },
     WordRow {
+        name: "word 2 of E23, issue 1023",
         digits: b"0bff80000000800000009c0787fd7ffc",
         satellite: 23,
         read: WordRead::Word2(Word2Numbers {
@@ -202,6 +215,7 @@ static WORDS: [WordRow; 42] = [
         }),
     },
     WordRow {
+        name: "word 3 of E23, issue 845",
         digits: b"0f4ddd0db8ffff8376c04a8000ffffff",
         satellite: 23,
         read: WordRead::Word3(Word3Numbers {
@@ -216,6 +230,7 @@ static WORDS: [WordRow; 42] = [
         }),
     },
     WordRow {
+        name: "word 4 of E23, issue 386",
         digits: b"11825ffffdfffc0007fffffff000007c",
         satellite: 23,
         read: WordRead::Word4(Word4Numbers {
@@ -229,6 +244,7 @@ static WORDS: [WordRow; 42] = [
         }),
     },
     WordRow {
+        name: "word 5 of E23, week 4095",
         digits: b"1466fffc6ee1f340007ff80000000000",
         satellite: 23,
         read: WordRead::Word5 {
@@ -251,6 +267,7 @@ static WORDS: [WordRow; 42] = [
         },
     },
     WordRow {
+        name: "word 1 of E14, issue 333",
         digits: b"054d0002e61caaf3fffffffc1d89a858",
         satellite: 14,
         read: WordRead::Word1(Word1Numbers {
@@ -262,6 +279,7 @@ static WORDS: [WordRow; 42] = [
         }),
     },
     WordRow {
+        name: "word 2 of E14, issue 1023",
         digits: b"0bff7fffffffffffffff800000008000",
         satellite: 14,
         read: WordRead::Word2(Word2Numbers {
@@ -273,6 +291,7 @@ static WORDS: [WordRow; 42] = [
         }),
     },
     WordRow {
+        name: "word 3 of E14, issue 1023",
         digits: b"0fff78cd247fff7fff9fec7fffd0b76b",
         satellite: 14,
         read: WordRead::Word3(Word3Numbers {
@@ -287,6 +306,7 @@ static WORDS: [WordRow; 42] = [
         }),
     },
     WordRow {
+        name: "word 4 of E14, issue 628",
         digits: b"12743abc1a0000000e13ec9d3b3d4ed0",
         satellite: 14,
         read: WordRead::Word4(Word4Numbers {
@@ -300,6 +320,7 @@ static WORDS: [WordRow; 42] = [
         }),
     },
     WordRow {
+        name: "word 5 of E14, week 4095",
         digits: b"1490bff80012ffeda8fff97290000000",
         satellite: 14,
         read: WordRead::Word5 {
@@ -322,6 +343,7 @@ static WORDS: [WordRow; 42] = [
         },
     },
     WordRow {
+        name: "word 1 of E23, issue 673",
         digits: b"06a19d7dfffffffffffffffffffffffc",
         satellite: 23,
         read: WordRead::Word1(Word1Numbers {
@@ -333,6 +355,7 @@ static WORDS: [WordRow; 42] = [
         }),
     },
     WordRow {
+        name: "word 2 of E23, issue 289",
         digits: b"0921ffffffffd629b8ccbfb4cebe7ffc",
         satellite: 23,
         read: WordRead::Word2(Word2Numbers {
@@ -344,6 +367,7 @@ static WORDS: [WordRow; 42] = [
         }),
     },
     WordRow {
+        name: "word 3 of E23, issue 579",
         digits: b"0e43ffffffb4dbffff800081bcffff00",
         satellite: 23,
         read: WordRead::Word3(Word3Numbers {
@@ -358,6 +382,7 @@ static WORDS: [WordRow; 42] = [
         }),
     },
     WordRow {
+        name: "word 4 of E23, issue 179",
         digits: b"10b35e0002b90275fddca79d6924b080",
         satellite: 23,
         read: WordRead::Word4(Word4Numbers {
@@ -371,6 +396,7 @@ static WORDS: [WordRow; 42] = [
         }),
     },
     WordRow {
+        name: "word 5 of E23, week 1374",
         digits: b"161e4137fffe8b8a01aaf1808f000000",
         satellite: 23,
         read: WordRead::Word5 {
@@ -393,6 +419,7 @@ static WORDS: [WordRow; 42] = [
         },
     },
     WordRow {
+        name: "word 1 of E14, issue 908",
         digits: b"078c00020000000104b96f4ffffffffc",
         satellite: 14,
         read: WordRead::Word1(Word1Numbers {
@@ -404,6 +431,7 @@ static WORDS: [WordRow; 42] = [
         }),
     },
     WordRow {
+        name: "word 2 of E14, issue 799",
         digits: b"0b1fefcf97fc800000007ffffffffffc",
         satellite: 14,
         read: WordRead::Word2(Word2Numbers {
@@ -415,6 +443,7 @@ static WORDS: [WordRow; 42] = [
         }),
     },
     WordRow {
+        name: "word 3 of E14, issue 504",
         digits: b"0df8800000ffff7fff8000ffffd60965",
         satellite: 14,
         read: WordRead::Word3(Word3Numbers {
@@ -429,6 +458,7 @@ static WORDS: [WordRow; 42] = [
         }),
     },
     WordRow {
+        name: "word 4 of E14, issue 309",
         digits: b"11353bfffdfffe75f7fffffff000007c",
         satellite: 14,
         read: WordRead::Word4(Word4Numbers {
@@ -442,6 +472,7 @@ static WORDS: [WordRow; 42] = [
         }),
     },
     WordRow {
+        name: "word 5 of E14, week 3661",
         digits: b"17ffc00fffe4ffbd5ff26bbfb7000000",
         satellite: 14,
         read: WordRead::Word5 {
@@ -464,61 +495,73 @@ static WORDS: [WordRow; 42] = [
         },
     },
     WordRow {
+        name: "word 0",
         digits: b"00000000000000000000000000000000",
         satellite: 11,
         read: WordRead::Fault(WordFault::OtherWord { number: 0 }),
     },
     WordRow {
+        name: "word 6",
         digits: b"18000000000000000000000000000000",
         satellite: 11,
         read: WordRead::Fault(WordFault::OtherWord { number: 6 }),
     },
     WordRow {
+        name: "word 63",
         digits: b"ffffffffffffffffffffffffffffffff",
         satellite: 11,
         read: WordRead::Fault(WordFault::OtherWord { number: 63 }),
     },
     WordRow {
+        name: "word 4 of another satellite",
         digits: b"10052c00000000000000000000000000",
         satellite: 12,
         read: WordRead::Fault(WordFault::WrongSat),
     },
     WordRow {
+        name: "word 4 of another satellite with toc past the week",
         digits: b"10052c00000002760000000000000000",
         satellite: 12,
         read: WordRead::Fault(WordFault::WrongSat),
     },
     WordRow {
+        name: "word 4 with toc past the week",
         digits: b"10052c00000002760000000000000000",
         satellite: 11,
         read: WordRead::Fault(WordFault::BadTime),
     },
     WordRow {
+        name: "word 1 with toe past the week",
         digits: b"04059d80000000000000000000000000",
         satellite: 11,
         read: WordRead::Fault(WordFault::BadTime),
     },
     WordRow {
+        name: "word 5 with a time past the week",
         digits: b"14000000000000000000049d40000000",
         satellite: 11,
         read: WordRead::Fault(WordFault::BadTime),
     },
     WordRow {
+        name: "word 5 with the greatest time",
         digits: b"1400000000000000000007ffff800000",
         satellite: 11,
         read: WordRead::Fault(WordFault::BadTime),
     },
     WordRow {
+        name: "word 3 with SISA 126",
         digits: b"0c05000000000000000000000000007e",
         satellite: 11,
         read: WordRead::Fault(WordFault::SpareSisa),
     },
     WordRow {
+        name: "word 3 with SISA 254",
         digits: b"0c0500000000000000000000000000fe",
         satellite: 11,
         read: WordRead::Fault(WordFault::SpareSisa),
     },
     WordRow {
+        name: "word 3 of E36 with SISA 254",
         digits: b"0c0500000000000000000000000000fe",
         satellite: 36,
         read: WordRead::Fault(WordFault::SpareSisa),
@@ -608,9 +651,7 @@ fn is_word(row: &WordRow) -> bool {
 
 #[test]
 fn words(rt: HostRuntime) {
-    let mut all = true;
     for row in &WORDS {
-        all = all && is_word(row);
+        assert!(rt; is_word(row), "{}", row.name);
     }
-    assert!(rt; all);
 }

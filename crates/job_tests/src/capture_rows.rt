@@ -1,6 +1,6 @@
 //! What captures give: the lists of their periods, and the texts that are made of them.
 
-use crate::over_memory::{ANYTHING, RUN, Run, runs_that_end_so};
+use crate::over_memory::{ANYTHING, RUN, Run, first_wrong};
 use crate::samples::{
     FIRST, GALILEO, GALILEO_EPH, GALILEO_ION, GPS, HEADER, RECORD, TO_COUNT, TO_LIST, TO_RINEX,
     TO_RTCM, WORD_5, WORDS,
@@ -39,11 +39,13 @@ const LIST: Run = Run {
 static LISTED: [Run; 28] = [
     // of GPS
     Run {
+        name: "GPS",
         input: &[FIRST, "0 L G05 {A}\n6 L G05 {B}\n12 L G05 {C}\n"],
         output: &["12 EPH G05 0 whole\n"],
         ..LIST
     },
     Run {
+        name: "GPS in another order",
         input: &[
             FIRST,
             "12 L G05 {C}\n6 L G05 {B}\n0 L G05 {A}\n6 L G05 {B}\n",
@@ -52,21 +54,25 @@ static LISTED: [Run; 28] = [
         ..LIST
     },
     Run {
+        name: "a wrong parity",
         input: &[FIRST, "0 L G05 {BAD_PARITY}\n"],
         report: &["line 2 parity 3\n", "lines ", ANYTHING],
         ..LIST
     },
     Run {
+        name: "no preamble",
         input: &[FIRST, "0 L G05 {NO_PREAMBLE}\n"],
         report: &["line 2 preamble\n", "lines ", ANYTHING],
         ..LIST
     },
     Run {
+        name: "GPS, one subframe missing",
         input: &[FIRST, "0 L G05 {A}\n6 L G05 {B}\n6 L G05 {B}\n"],
         output: &["6 EPH G05 0 partial\n"],
         ..LIST
     },
     Run {
+        name: "GPS, two contents of one subframe",
         input: &[
             FIRST,
             "0 L G05 {A}\n6 L G05 {B}\n12 L G05 {C}\n36 L G05 {B_M0}\n",
@@ -75,32 +81,38 @@ static LISTED: [Run; 28] = [
         ..LIST
     },
     Run {
+        name: "GPS, as long apart as the window",
         input: &[FIRST, "0 L G05 {A}\n7200 L G05 {B}\n14400 L G05 {C}\n"],
         output: &["14400 EPH G05 0 whole\n"],
         ..LIST
     },
     Run {
+        name: "GPS, longer apart than the window",
         input: &[FIRST, "0 L G05 {A}\n7201 L G05 {B}\n"],
         output: &["0 EPH G05 0 partial\n7201 EPH G05 0 partial\n"],
         ..LIST
     },
     Run {
+        name: "GPS, a subframe between two others",
         input: &[FIRST, "0 L G05 {A}\n8000 L G05 {C}\n4000 L G05 {B}\n"],
         output: &["8000 EPH G05 0 whole\n"],
         ..LIST
     },
     Run {
+        name: "GPS, two issues",
         input: &[FIRST, "0 L G05 {A}\n6 L G05 {C_IODE}\n12 L G05 {B}\n"],
         output: &["6 EPH G05 9 partial\n12 EPH G05 0 partial\n"],
         ..LIST
     },
     Run {
+        name: "GPS, a late line",
         input: &[FIRST, "10000 L G05 {A}\n2800 L G05 {B}\n2799 L G05 {C}\n"],
         output: &["10000 EPH G05 0 partial\n"],
         report: &["line 4 late\n", "lines ", ANYTHING],
         ..LIST
     },
     Run {
+        name: "GPS, a frame of the same issue",
         input: &[
             FIRST,
             "0 L G05 {A}\n6 L G05 {B}\n12 L G05 {C}\n18 R {FRAME_L2}\n",
@@ -109,12 +121,14 @@ static LISTED: [Run; 28] = [
         ..LIST
     },
     Run {
+        name: "two frames of which one is wrong",
         input: &[FIRST, "5 R d3000047ea4c\n5 R d3000047ea4b\n"],
         report: &["line 2 frame\n", "lines ", ANYTHING],
         ..LIST
     },
     // an issue of GPS heard again
     Run {
+        name: "GPS again",
         input: &[
             FIRST,
             GPS,
@@ -124,6 +138,7 @@ static LISTED: [Run; 28] = [
         ..LIST
     },
     Run {
+        name: "GPS again with another health",
         input: &[
             FIRST,
             GPS,
@@ -133,6 +148,7 @@ static LISTED: [Run; 28] = [
         ..LIST
     },
     Run {
+        name: "GPS again behind a part of it",
         input: &[
             FIRST,
             GPS,
@@ -143,11 +159,13 @@ static LISTED: [Run; 28] = [
     },
     // of Galileo, behind words 1 to 4
     Run {
+        name: "Galileo",
         input: &[FIRST, WORDS, "8 P E11 B {EVEN_5}\n9 P E11 B {ODD_5}\n"],
         output: &["7 EPH E11 5 whole\n9 ION E 00000000000 whole\n"],
         ..LIST
     },
     Run {
+        name: "Galileo, health a window behind the end",
         input: &[
             FIRST,
             WORDS,
@@ -157,6 +175,7 @@ static LISTED: [Run; 28] = [
         ..LIST
     },
     Run {
+        name: "Galileo, health later than that",
         input: &[
             FIRST,
             WORDS,
@@ -166,6 +185,7 @@ static LISTED: [Run; 28] = [
         ..LIST
     },
     Run {
+        name: "Galileo, an odd part before the even one",
         input: &[
             FIRST,
             WORDS,
@@ -175,6 +195,7 @@ static LISTED: [Run; 28] = [
         ..LIST
     },
     Run {
+        name: "Galileo, an odd part of another stamp and of another signal",
         input: &[
             FIRST,
             WORDS,
@@ -184,6 +205,7 @@ static LISTED: [Run; 28] = [
         ..LIST
     },
     Run {
+        name: "Galileo, word 4 of another satellite",
         input: &[FIRST, WORDS, "20 P E12 B {EVEN_4}\n21 P E12 B {ODD_4}\n"],
         output: &["7 EPH E11 5 nohealth\n"],
         report: &["line 11 satellite\n", "lines ", ANYTHING],
@@ -191,32 +213,38 @@ static LISTED: [Run; 28] = [
     },
     // ionospheres
     Run {
+        name: "an ionosphere",
         input: &[FIRST, "18 L G05 {PAGE_18}\n"],
         output: &["18 ION G 0b0000002c000000 whole\n"],
         ..LIST
     },
     Run {
+        name: "an ionosphere of two satellites",
         input: &[FIRST, "18 L G07 {PAGE_18}\n18 L G05 {PAGE_18}\n"],
         output: &["18 ION G 0b0000002c000000 whole\n"],
         ..LIST
     },
     Run {
+        name: "an ionosphere of two stamps",
         input: &[FIRST, "18 L G05 {PAGE_18}\n12 L G07 {PAGE_18}\n"],
         output: &["18 ION G 0b0000002c000000 whole\n"],
         ..LIST
     },
     // two words 5 of Galileo
     Run {
+        name: "Galileo, health before the end",
         input: &[FIRST, ONE_BEFORE, LATER],
         output: &["7 ION E 00000000000 whole\n7207 EPH E11 5 whole\n"],
         ..LIST
     },
     Run {
+        name: "Galileo, two health words before the end",
         input: &[FIRST, TWO_BEFORE, LATER],
         output: &["7 ION E 00000000000 whole\n7207 EPH E11 5 whole\n"],
         ..LIST
     },
     Run {
+        name: "Galileo, two health words behind the end",
         input: &[FIRST, WORDS, TWO_BEHIND],
         output: &["7 EPH E11 5 whole\n9 ION E 00000000000 whole\n"],
         ..LIST
@@ -225,32 +253,35 @@ static LISTED: [Run; 28] = [
 
 #[test]
 fn lists_periods(rt: HostRuntime) -> Result<(), Fail> {
-    let count = runs_that_end_so(rt.alloc(), &LISTED)?;
-    assert!(rt; count == LISTED.len(), "{count}");
+    assert_eq!(rt; first_wrong(rt.alloc(), &LISTED)?, None);
     Ok(())
 }
 
 // Captures of their own week and window.
 static HEADED: [Run; 11] = [
     Run {
+        name: "subframes as long apart as the window",
         words: "--from=capture;--to=list",
         input: &["NAVCAP 2 2295 60\n0 L G05 {A}\n60 L G05 {B}\n120 L G05 {C}\n"],
         output: &["120 EPH G05 0 whole\n"],
         ..LIST
     },
     Run {
+        name: "subframes longer apart than the window",
         words: "--from=capture;--to=list",
         input: &["NAVCAP 2 2295 60\n0 L G05 {A}\n61 L G05 {B}\n121 L G05 {C}\n"],
         output: &["0 EPH G05 0 partial\n121 EPH G05 0 partial\n"],
         ..LIST
     },
     Run {
+        name: "a late line",
         input: &["NAVCAP 2 2295 60\n100 L G05 {A}\n40 L G05 {B}\n39 L G05 {C}\n"],
         output: &["100 EPH G05 0 partial\n"],
         report: &["line 4 late\n", "lines ", ANYTHING],
         ..LIST
     },
     Run {
+        name: "another week in the words",
         words: "--from=capture;--to=list;--week=2294",
         input: &["NAVCAP 2 2295 60\n0 L G05 {A}\n"],
         status: 5,
@@ -258,6 +289,7 @@ static HEADED: [Run; 11] = [
         ..LIST
     },
     Run {
+        name: "no week",
         words: "--from=capture;--to=list",
         input: &["NAVCAP 1\n0 L G05 {A}\n"],
         status: 5,
@@ -265,18 +297,21 @@ static HEADED: [Run; 11] = [
         ..LIST
     },
     Run {
+        name: "a window of 59",
         input: &["NAVCAP 2 2295 59\n"],
         status: 5,
         report: &[],
         ..LIST
     },
     Run {
+        name: "a window of 14401",
         input: &["NAVCAP 2 2295 14401\n"],
         status: 5,
         report: &[],
         ..LIST
     },
     Run {
+        name: "a week of 1023",
         words: "--from=capture;--to=list",
         input: &["NAVCAP 2 1023 60\n"],
         status: 5,
@@ -284,17 +319,20 @@ static HEADED: [Run; 11] = [
         ..LIST
     },
     Run {
+        name: "no first line",
         status: 5,
         report: &[],
         ..LIST
     },
     Run {
+        name: "a comment in front",
         input: &["# x\nNAVCAP 1\n"],
         status: 5,
         report: &[],
         ..LIST
     },
     Run {
+        name: "a blank behind the first line",
         input: &["NAVCAP 1 \n"],
         status: 5,
         report: &[],
@@ -304,8 +342,7 @@ static HEADED: [Run; 11] = [
 
 #[test]
 fn takes_week_and_window_of_the_first_line(rt: HostRuntime) -> Result<(), Fail> {
-    let count = runs_that_end_so(rt.alloc(), &HEADED)?;
-    assert!(rt; count == HEADED.len(), "{count}");
+    assert_eq!(rt; first_wrong(rt.alloc(), &HEADED)?, None);
     Ok(())
 }
 
@@ -338,24 +375,28 @@ const MALFORMED_REPORT: &str = concat!(
 // Captures, and what is made of them.
 static WRITTEN: [Run; 16] = [
     Run {
+        name: "GPS",
         words: TO_RINEX,
         input: &[FIRST, GPS],
         output: &[HEADER, RECORD],
         ..RUN
     },
     Run {
+        name: "a first line with no end",
         words: TO_RINEX,
         input: &["NAVCAP 1"],
         output: &[HEADER],
         ..RUN
     },
     Run {
+        name: "Galileo",
         words: TO_RINEX,
         input: &[FIRST, WORDS, WORD_5],
         output: &[HEADER, GALILEO],
         ..RUN
     },
     Run {
+        name: "two contents of one subframe",
         words: TO_RINEX,
         input: &[FIRST, GPS, "36 L G05 {B_M0}\n"],
         output: &[HEADER],
@@ -363,6 +404,7 @@ static WRITTEN: [Run; 16] = [
     },
     // the counts
     Run {
+        name: "the counts, reported",
         words: TO_RINEX,
         input: &[FIRST, GPS],
         output: &[ANYTHING],
@@ -370,6 +412,7 @@ static WRITTEN: [Run; 16] = [
         ..RUN
     },
     Run {
+        name: "the counts, written",
         words: TO_COUNT,
         input: &[FIRST, GPS],
         output: &[COUNTS],
@@ -378,20 +421,21 @@ static WRITTEN: [Run; 16] = [
     },
     // the frame
     Run {
+        name: "a frame",
         words: TO_RTCM,
         input: &[FIRST, GPS],
         output: &["{GPS_FRAME}"],
         ..RUN
     },
-    // over the week rollover
     Run {
+        name: "over the week rollover",
         words: ROLLOVER_TO_RINEX,
         input: &[FIRST, ROLLOVER],
         output: &[HEADER, "> EPH G05 LNAV\n{ROLLOVER}"],
         ..RUN
     },
-    // malformed lines
     Run {
+        name: "malformed lines",
         words: TO_RINEX,
         input: &[FIRST, GPS, MALFORMED],
         output: &[HEADER, RECORD],
@@ -400,18 +444,21 @@ static WRITTEN: [Run; 16] = [
     },
     // ionospheres
     Run {
+        name: "an ionosphere",
         words: TO_RINEX,
         input: &[FIRST, "18 L G05 {PAGE_18}\n"],
         output: &[HEADER, "> ION G05 LNAV\n    2023 12 31 00 00 18", ANYTHING],
         ..RUN
     },
     Run {
+        name: "an ionosphere of two satellites",
         words: TO_RINEX,
         input: &[FIRST, "18 L G07 {PAGE_18}\n18 L G05 {PAGE_18}\n"],
         output: &[HEADER, "> ION G05 LNAV\n    2023 12 31 00 00 18", ANYTHING],
         ..RUN
     },
     Run {
+        name: "an ionosphere of two stamps",
         words: TO_RINEX,
         input: &[FIRST, "18 L G05 {PAGE_18}\n12 L G07 {PAGE_18}\n"],
         output: &[HEADER, "> ION G07 LNAV\n    2023 12 31 00 00 18", ANYTHING],
@@ -419,12 +466,14 @@ static WRITTEN: [Run; 16] = [
     },
     // the health of the word 5 that is nearest the end
     Run {
+        name: "health before the end",
         words: TO_RINEX,
         input: &[FIRST, ONE_BEFORE, LATER],
         output: &[HEADER, GALILEO_ION, GALILEO_EPH],
         ..RUN
     },
     Run {
+        name: "two health words before the end",
         words: TO_RINEX,
         input: &[FIRST, TWO_BEFORE, LATER],
         old: HEALTHY,
@@ -433,6 +482,7 @@ static WRITTEN: [Run; 16] = [
         ..RUN
     },
     Run {
+        name: "two health words behind the end",
         words: TO_RINEX,
         input: &[FIRST, WORDS, TWO_BEHIND],
         output: &[HEADER, GALILEO],
@@ -440,6 +490,7 @@ static WRITTEN: [Run; 16] = [
     },
     // the later side of an ephemeris of GPS
     Run {
+        name: "the later side of GPS",
         words: TO_RINEX,
         input: &[FIRST, GPS, "18 R {FRAME_L2}\n"],
         old: " 0.000000000000D+00 2.295000000000D+03",
@@ -451,7 +502,6 @@ static WRITTEN: [Run; 16] = [
 
 #[test]
 fn writes_what_a_capture_holds(rt: HostRuntime) -> Result<(), Fail> {
-    let count = runs_that_end_so(rt.alloc(), &WRITTEN)?;
-    assert!(rt; count == WRITTEN.len(), "{count}");
+    assert_eq!(rt; first_wrong(rt.alloc(), &WRITTEN)?, None);
     Ok(())
 }

@@ -2,7 +2,7 @@
 
 use crate::bits::expand;
 use crate::over_memory::{
-    ANYTHING, Failing, NOTHING_FAILS, PREFIX, REPORT_FAILS, RUN, Run, run_over, runs_that_end_so,
+    ANYTHING, Failing, NOTHING_FAILS, PREFIX, REPORT_FAILS, RUN, Run, first_wrong, run_over,
 };
 use crate::samples::{
     COVER, FILE_TO_RINEX, FIRST, FRAMES_TO_RINEX, FRAMES_TO_RTCM, GALILEO, GALILEO_EPH, GPS,
@@ -37,6 +37,7 @@ const COUNTS: &str = concat!(
 // What fails in a run, and what was written by then: what is closed is written while it reads.
 static BROKEN: [Run; 23] = [
     Run {
+        name: "list, the read before the period closes",
         words: TO_LIST,
         input: &[FIRST, GPS, CLOSING],
         failing: Failing {
@@ -48,6 +49,7 @@ static BROKEN: [Run; 23] = [
         ..RUN
     },
     Run {
+        name: "list, the read behind that",
         words: TO_LIST,
         input: &[FIRST, GPS, CLOSING],
         failing: Failing {
@@ -60,6 +62,7 @@ static BROKEN: [Run; 23] = [
         ..RUN
     },
     Run {
+        name: "list, of a period that goes on",
         words: TO_LIST,
         input: &[FIRST, GPS, GOING_ON],
         failing: Failing {
@@ -72,6 +75,7 @@ static BROKEN: [Run; 23] = [
     },
     // what a run that writes a file answers
     Run {
+        name: "rinex, the second read",
         words: TO_RINEX,
         input: &[FIRST, GPS],
         failing: Failing {
@@ -85,6 +89,7 @@ static BROKEN: [Run; 23] = [
         ..RUN
     },
     Run {
+        name: "rinex, the first write",
         words: TO_RINEX,
         input: &[FIRST, GPS],
         failing: Failing {
@@ -95,6 +100,7 @@ static BROKEN: [Run; 23] = [
         ..RUN
     },
     Run {
+        name: "rinex, the first report",
         words: TO_RINEX,
         input: &[FIRST, GPS],
         failing: Failing {
@@ -108,6 +114,7 @@ static BROKEN: [Run; 23] = [
     },
     // The refused line is reported before it is judged further.
     Run {
+        name: "rinex, the report of the counts",
         words: TO_RINEX,
         input: &[FIRST, GPS, "18 L G05 {BAD_PARITY}\n"],
         failing: Failing {
@@ -121,6 +128,7 @@ static BROKEN: [Run; 23] = [
     },
     // each write of a run that writes two records
     Run {
+        name: "five words, the first write",
         failing: Failing {
             writes: &[0],
             ..IN_PIECES
@@ -130,6 +138,7 @@ static BROKEN: [Run; 23] = [
         ..FIVE_WORDS
     },
     Run {
+        name: "five words, the second write",
         failing: Failing {
             writes: &[1],
             ..IN_PIECES
@@ -140,6 +149,7 @@ static BROKEN: [Run; 23] = [
         ..FIVE_WORDS
     },
     Run {
+        name: "five words, the third write",
         failing: Failing {
             writes: &[2],
             ..IN_PIECES
@@ -150,6 +160,7 @@ static BROKEN: [Run; 23] = [
         ..FIVE_WORDS
     },
     Run {
+        name: "five words, a fourth write that is not made",
         failing: Failing {
             writes: &[3],
             ..IN_PIECES
@@ -159,6 +170,7 @@ static BROKEN: [Run; 23] = [
         ..FIVE_WORDS
     },
     Run {
+        name: "five words, the first report",
         failing: Failing {
             reports: &[0],
             ..IN_PIECES
@@ -169,6 +181,7 @@ static BROKEN: [Run; 23] = [
         ..FIVE_WORDS
     },
     Run {
+        name: "five words, a second report that is not made",
         failing: Failing {
             reports: &[1],
             ..IN_PIECES
@@ -179,6 +192,7 @@ static BROKEN: [Run; 23] = [
     },
     // files that are merged, and the times that they cover
     Run {
+        name: "merged, the report",
         words: MERGE,
         input: &[HEADER, RECORD],
         failing: REPORT_FAILS,
@@ -188,6 +202,7 @@ static BROKEN: [Run; 23] = [
         ..RUN
     },
     Run {
+        name: "cover, the report",
         words: COVER,
         input: &[HEADER, RECORD],
         failing: REPORT_FAILS,
@@ -198,6 +213,7 @@ static BROKEN: [Run; 23] = [
     },
     // a file of one record
     Run {
+        name: "a file, the second read",
         words: FILE_TO_RINEX,
         input: &[HEADER, RECORD],
         failing: Failing {
@@ -211,6 +227,7 @@ static BROKEN: [Run; 23] = [
         ..RUN
     },
     Run {
+        name: "a file, the first write",
         words: FILE_TO_RINEX,
         input: &[HEADER, RECORD],
         failing: Failing {
@@ -221,6 +238,7 @@ static BROKEN: [Run; 23] = [
         ..RUN
     },
     Run {
+        name: "a file, the report",
         words: FILE_TO_RINEX,
         input: &[HEADER, RECORD],
         failing: REPORT_FAILS,
@@ -231,6 +249,7 @@ static BROKEN: [Run; 23] = [
     },
     // a stream of two frames
     Run {
+        name: "a stream, the first read",
         words: FRAMES_TO_RINEX,
         input: &["{GPS_FRAME}{SHORT_FRAME}"],
         failing: Failing {
@@ -243,6 +262,7 @@ static BROKEN: [Run; 23] = [
         ..RUN
     },
     Run {
+        name: "a stream, the second write",
         words: FRAMES_TO_RINEX,
         input: &["{GPS_FRAME}{SHORT_FRAME}"],
         failing: Failing {
@@ -254,6 +274,7 @@ static BROKEN: [Run; 23] = [
         ..RUN
     },
     Run {
+        name: "a stream to rtcm, the report",
         words: FRAMES_TO_RTCM,
         input: &["{GPS_FRAME}{SHORT_FRAME}"],
         failing: REPORT_FAILS,
@@ -264,6 +285,7 @@ static BROKEN: [Run; 23] = [
     },
     // captures that are made
     Run {
+        name: "a seed to counts, the report",
         words: ONE_TO_COUNT,
         failing: Failing {
             reads: &[0],
@@ -276,6 +298,7 @@ static BROKEN: [Run; 23] = [
         ..RUN
     },
     Run {
+        name: "a seed to a capture, the first write",
         words: TO_CAPTURE,
         failing: Failing {
             writes: &[0],
@@ -289,8 +312,7 @@ static BROKEN: [Run; 23] = [
 
 #[test]
 fn writes_what_is_closed_before_a_call_fails(rt: HostRuntime) -> Result<(), Fail> {
-    let count = runs_that_end_so(rt.alloc(), &BROKEN)?;
-    assert!(rt; count == BROKEN.len(), "{count}");
+    assert_eq!(rt; first_wrong(rt.alloc(), &BROKEN)?, None);
     Ok(())
 }
 

@@ -5,107 +5,132 @@ use file_words::kind_text;
 
 // The first bytes of a file, and what they say.
 struct Prefix {
+    name: &'static str,
     bytes: &'static [u8],
     kind: Kind,
 }
 
 static PREFIXES: [Prefix; 24] = [
     Prefix {
+        name: "no byte",
         bytes: b"",
         kind: Kind::Empty,
     },
     Prefix {
+        name: "a capture with no week",
         bytes: b"NAVCAP 1\n6 P E01 5 ",
         kind: Kind::Capture1,
     },
     Prefix {
+        name: "a capture with a week",
         bytes: b"NAVCAP 2 2295 60\r\n",
         kind: Kind::Capture2,
     },
     Prefix {
+        name: "the first word of a capture alone",
         bytes: b"NAVCAP",
         kind: Kind::Unknown,
     },
     // RTCM 10403.3, 4.1: the preamble, six bits of 0, and a length of 19 bytes
     Prefix {
+        name: "a stream",
         bytes: b"\xd3\x00\x13\x3e\xd7\xd3",
         kind: Kind::Stream,
     },
     Prefix {
+        name: "a stream with a reserved bit",
         bytes: b"\xd3\x04\x13",
         kind: Kind::Unknown,
     },
     Prefix {
+        name: "a preamble alone",
         bytes: b"\xd3",
         kind: Kind::Unknown,
     },
     Prefix {
+        name: "UBX",
         bytes: b"\xb5\x62\x01\x07",
         kind: Kind::Ubx,
     },
     Prefix {
+        name: "SBF",
         bytes: b"$@\x12\x34",
         kind: Kind::Sbf,
     },
     Prefix {
+        name: "NMEA",
         bytes: b"$GPGGA,092725.00,",
         kind: Kind::Nmea,
     },
     Prefix {
+        name: "gzip",
         bytes: b"\x1f\x8b\x08\x00",
         kind: Kind::Gzip,
     },
     Prefix {
+        name: "compress",
         bytes: b"\x1f\x9d\x90",
         kind: Kind::Compress,
     },
     Prefix {
+        name: "zip",
         bytes: b"PK\x03\x04",
         kind: Kind::Zip,
     },
     Prefix {
+        name: "a capture behind a byte order mark",
         bytes: b"\xef\xbb\xbfNAVCAP 1\n",
         kind: Kind::Marked,
     },
     Prefix {
+        name: "RINEX 4.01",
         bytes: b"     4.01           N: GNSS NAV DATA    M: MIXED            RINEX VERSION / TYPE",
         kind: Kind::Rinex4,
     },
     Prefix {
+        name: "RINEX 3.04",
         bytes: b"     3.04           N: GNSS NAV DATA    M: MIXED            RINEX VERSION / TYPE",
         kind: Kind::Rinex3,
     },
     // one column short
     Prefix {
+        name: "RINEX 3.04, one column short",
         bytes: b"     3.04           N: GNSS NAV DATA    M: MIXED            RINEX VERSION / TYP",
         kind: Kind::Unknown,
     },
     // the label one column late
     Prefix {
+        name: "RINEX 3.04, the label one column late",
         bytes: b"     3.04           N: GNSS NAV DATA    M: MIXED             RINEX VERSION / TYPE",
         kind: Kind::Unknown,
     },
     Prefix {
+        name: "RINEX 3.02",
         bytes: b"3.02                N                   G                   RINEX VERSION / TYPE",
         kind: Kind::Rinex3,
     },
     Prefix {
+        name: "RINEX 2.11",
         bytes: b"     2.11           N: GPS NAV DATA                         RINEX VERSION / TYPE",
         kind: Kind::Rinex2,
     },
     Prefix {
+        name: "RINEX 2.10 of GLONASS",
         bytes: b"     2.10           GLONASS NAV DATA                        RINEX VERSION / TYPE",
         kind: Kind::OtherRinex,
     },
     Prefix {
+        name: "observations",
         bytes: b"     3.04           OBSERVATION DATA    M: MIXED            RINEX VERSION / TYPE",
         kind: Kind::Observations,
     },
     Prefix {
+        name: "Hatanaka",
         bytes: b"3.0                 COMPACT RINEX FORMAT                    CRINEX VERS   / TYPE",
         kind: Kind::Hatanaka,
     },
     Prefix {
+        name: "HTML",
         bytes: b"<html>\n",
         kind: Kind::Unknown,
     },
@@ -114,6 +139,7 @@ static PREFIXES: [Prefix; 24] = [
 #[test]
 fn prefixes_tell_forms(rt: HostRuntime) {
     for prefix in &PREFIXES {
-        assert!(rt; kind_text(kind_of(prefix.bytes)) == kind_text(prefix.kind));
+        let read = kind_text(kind_of(prefix.bytes));
+        assert_eq!(rt; read, kind_text(prefix.kind), "{}", prefix.name);
     }
 }

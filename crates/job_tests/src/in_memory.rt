@@ -41,6 +41,7 @@ struct Step {
 
 // The files of a folder, the steps over it, which files are there behind them, and which are not.
 struct Case {
+    name: &'static str,
     files: &'static [File],
     steps: &'static [Step],
     there: &'static [File],
@@ -80,8 +81,8 @@ const PART: File = File {
 };
 
 static CASES: [Case; 4] = [
-    // the second of two files is refused
     Case {
+        name: "the second of two files is refused",
         files: &[
             INPUT,
             File {
@@ -101,8 +102,8 @@ static CASES: [Case; 4] = [
         there: &[OUTPUT, OLD],
         absent: &["a.rnx.part", "b.rnx.part"],
     },
-    // a file that is there is replaced
     Case {
+        name: "a file that is there is replaced",
         files: &[
             INPUT,
             File {
@@ -114,15 +115,15 @@ static CASES: [Case; 4] = [
         there: &[OUTPUT, INPUT],
         absent: &[],
     },
-    // a part that is there is kept
     Case {
+        name: "a part that is there is kept",
         files: &[INPUT, PART],
         steps: &[PART_THERE],
         there: &[PART],
         absent: &["a.rnx"],
     },
-    // there is no input of that name
     Case {
+        name: "there is no input of that name",
         files: &[INPUT, PART],
         steps: &[
             PART_THERE,
@@ -189,7 +190,7 @@ fn holds(alloc: Global, case: &Case) -> Result<bool, AllocError> {
 #[test]
 fn steps_over_a_folder_end_as_the_table_says(rt: HostRuntime) -> Result<(), Fail> {
     for case in &CASES {
-        assert!(rt; holds(rt.alloc(), case)?);
+        assert!(rt; holds(rt.alloc(), case)?, "{}", case.name);
     }
     Ok(())
 }

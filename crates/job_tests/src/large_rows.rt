@@ -1,7 +1,7 @@
 //! Captures that are made, and captures of very many lines, over memory.
 
 use crate::bits::expand;
-use crate::over_memory::{ANYTHING, NOTHING_FAILS, RUN, Run, run_over, runs_that_end_so};
+use crate::over_memory::{ANYTHING, NOTHING_FAILS, RUN, Run, first_wrong, run_over};
 use crate::samples::{FIRST, ONE_TO_COUNT, TO_CAPTURE, TO_COUNT, TO_LIST};
 use one_run::{Text, append_decimal};
 use std::alloc::{AllocError, Global};
@@ -33,6 +33,7 @@ const COMMENT_COUNTS: &str = concat!(
 // Captures that are made, of which no input is read, and one with long comments.
 static MADE: [Run; 5] = [
     Run {
+        name: "counts of two satellites",
         words: TWO_TO_COUNT,
         input: &["not read"],
         output: &[COUNTS],
@@ -41,24 +42,28 @@ static MADE: [Run; 5] = [
         ..RUN
     },
     Run {
+        name: "counts of an hour of twelve",
         words: HOUR_TO_COUNT,
         output: &[HOUR_COUNTS],
         report: &[HOUR_COUNTS],
         ..RUN
     },
     Run {
+        name: "a capture of one",
         words: TO_CAPTURE,
         output: &["NAVCAP 1\n6 P E01 5 ", ANYTHING],
         report: &[],
         ..RUN
     },
     Run {
+        name: "counts of one",
         words: ONE_TO_COUNT,
         output: &["lines 7866\n", ANYTHING],
         ..RUN
     },
     // a comment of the greatest length, and one that is longer
     Run {
+        name: "a comment of the greatest length and a longer one",
         words: TO_COUNT,
         input: &["NAVCAP 1\n{COMMENT}\n{COMMENT}#\n"],
         output: &[COMMENT_COUNTS],
@@ -69,8 +74,7 @@ static MADE: [Run; 5] = [
 
 #[test]
 fn counts_captures_that_are_made(rt: HostRuntime) -> Result<(), Fail> {
-    let count = runs_that_end_so(rt.alloc(), &MADE)?;
-    assert!(rt; count == MADE.len(), "{count}");
+    assert_eq!(rt; first_wrong(rt.alloc(), &MADE)?, None);
     Ok(())
 }
 

@@ -117,6 +117,7 @@ fn are_those(
 /// A run over a text.
 #[derive(Clone, Copy)]
 pub(crate) struct Run<'a> {
+    pub(crate) name: &'a str,
     pub(crate) words: &'a str,
     // the parts of the input, and how many of its bytes stand
     pub(crate) input: &'a [&'a str],
@@ -136,6 +137,7 @@ pub(crate) struct Run<'a> {
 
 /// A run over nothing, in which nothing fails, whose report is not looked at.
 pub(crate) const RUN: Run<'static> = Run {
+    name: "",
     words: "",
     input: &[],
     length: usize::MAX,
@@ -163,14 +165,15 @@ impl Run<'_> {
     }
 }
 
-/// How many of the runs end as they must, up to the first that does not.
-pub(crate) fn runs_that_end_so(alloc: Global, runs: &[Run]) -> Result<usize, AllocError> {
-    let mut count = 0usize;
+/// The name of the first run that does not end as it must.
+pub(crate) fn first_wrong(
+    alloc: Global,
+    runs: &'static [Run<'static>],
+) -> Result<Option<&'static str>, AllocError> {
     for run in runs {
         if !run.ends_so(alloc)? {
-            return Ok(count);
+            return Ok(Some(run.name));
         }
-        count = count.saturating_add(1);
     }
-    Ok(count)
+    Ok(None)
 }

@@ -40,6 +40,7 @@ fn end_of(done: Result<(), Stop>) -> End {
 // A file of these bytes, where it is there, and what is asked of it; the output's bytes before and
 // afterwards, how it ends, and its status where the report can be ended, or cannot.
 struct Case {
+    name: &'static str,
     bytes: Option<&'static [u8]>,
     target: Target,
     week: Option<&'static str>,
@@ -54,6 +55,7 @@ const CAPTURE: &[u8] = b"NAVCAP 2 2295 300\n";
 
 static CASES: [Case; 8] = [
     Case {
+        name: "a capture",
         bytes: Some(CAPTURE),
         target: Target::List,
         week: None,
@@ -63,8 +65,8 @@ static CASES: [Case; 8] = [
         fails: false,
         status: 0,
     },
-    // the report cannot be ended
     Case {
+        name: "the report cannot be ended",
         bytes: Some(CAPTURE),
         target: Target::List,
         week: None,
@@ -74,8 +76,8 @@ static CASES: [Case; 8] = [
         fails: true,
         status: 7,
     },
-    // another week than that of the capture
     Case {
+        name: "another week than that of the capture",
         bytes: Some(CAPTURE),
         target: Target::List,
         week: Some("2294"),
@@ -85,8 +87,8 @@ static CASES: [Case; 8] = [
         fails: false,
         status: 5,
     },
-    // a log is copied as its capture
     Case {
+        name: "a log is copied as its capture",
         bytes: Some(b"\xb5\x62 and no message"),
         target: Target::Capture,
         week: None,
@@ -97,6 +99,7 @@ static CASES: [Case; 8] = [
         status: 0,
     },
     Case {
+        name: "a log with no time",
         bytes: Some(b"\xb5\x62 and no message"),
         target: Target::List,
         week: None,
@@ -107,6 +110,7 @@ static CASES: [Case; 8] = [
         status: 5,
     },
     Case {
+        name: "a form with no such conversion",
         bytes: Some(b"NAVCAP 1 300\n"),
         target: Target::Frames,
         week: None,
@@ -117,6 +121,7 @@ static CASES: [Case; 8] = [
         status: 2,
     },
     Case {
+        name: "a week that is none",
         bytes: Some(b"NAVCAP 1 300\n"),
         target: Target::List,
         week: Some("99999"),
@@ -127,6 +132,7 @@ static CASES: [Case; 8] = [
         status: 2,
     },
     Case {
+        name: "no file",
         bytes: None,
         target: Target::List,
         week: None,
@@ -228,7 +234,7 @@ fn ends_so(alloc: Global, case: &Case) -> Result<bool, AllocError> {
 #[test]
 fn files_are_converted_as_the_table_says(rt: HostRuntime) -> Result<(), Fail> {
     for case in &CASES {
-        assert!(rt; ends_so(rt.alloc(), case)?);
+        assert!(rt; ends_so(rt.alloc(), case)?, "{}", case.name);
     }
     Ok(())
 }

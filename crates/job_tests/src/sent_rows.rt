@@ -1,6 +1,6 @@
 //! Navigation files that are sent as captures, over memory, and the captures that come back.
 
-use crate::over_memory::{RUN, Run, runs_that_end_so};
+use crate::over_memory::{RUN, Run, first_wrong};
 use crate::samples::{
     FIRST, GALILEO, GPS, HEADER, OLDER_HEADER, ONE_ITEM, ORBIT, RECORD, TO_LIST, TO_RINEX,
 };
@@ -42,6 +42,7 @@ const AT_TOE: &str = "\n     0.000000000000D+00\n> ION E11 IFNV\n    2023 12 31 
 // Files, what is sent of them, and what comes back.
 static SENT: [Run; 12] = [
     Run {
+        name: "rinex",
         words: SEND,
         input: &[HEADER, RECORD],
         output: &[FIRST, GPS],
@@ -49,6 +50,7 @@ static SENT: [Run; 12] = [
         ..RUN
     },
     Run {
+        name: "rinex3",
         words: SEND_OLDER,
         input: &[OLDER_HEADER, ORBIT],
         output: &[FIRST, GPS],
@@ -57,6 +59,7 @@ static SENT: [Run; 12] = [
     },
     // no header
     Run {
+        name: "rinex with no header",
         words: SEND,
         input: &["no header\n"],
         status: 5,
@@ -64,6 +67,7 @@ static SENT: [Run; 12] = [
         ..RUN
     },
     Run {
+        name: "rinex3 with no header",
         words: SEND_OLDER,
         input: &["no header\n"],
         status: 5,
@@ -72,6 +76,7 @@ static SENT: [Run; 12] = [
     },
     // what is not sent, and why
     Run {
+        name: "an issue that is not sent",
         words: SEND,
         input: &[HEADER, RECORD],
         old: "     2.000000000000D+00 0.000000000000D+00 0.000000000000D+00 0.000000000000D+00\n",
@@ -81,6 +86,7 @@ static SENT: [Run; 12] = [
         ..RUN
     },
     Run {
+        name: "a week that is not near",
         words: SEND_3000,
         input: &[HEADER, RECORD],
         output: &[FIRST],
@@ -88,6 +94,7 @@ static SENT: [Run; 12] = [
         ..RUN
     },
     Run {
+        name: "a date that is refused",
         words: SEND,
         input: &[HEADER, RECORD],
         old: "12 31 00 00 00",
@@ -98,6 +105,7 @@ static SENT: [Run; 12] = [
     },
     // an ephemeris and an ionosphere of Galileo, and the list of its lines
     Run {
+        name: "Galileo",
         words: SEND,
         input: &[HEADER, GALILEO],
         output: &[
@@ -107,6 +115,7 @@ static SENT: [Run; 12] = [
         ..RUN
     },
     Run {
+        name: "the list of its lines",
         words: TO_LIST,
         input: &[
             FIRST, LINE_0, LINE_1, LINE_2, LINE_3, LINE_4, LINE_5, LINE_6, LINE_7, LINE_8, LINE_9,
@@ -118,6 +127,7 @@ static SENT: [Run; 12] = [
     // digits of two numbers. The transmission time and the epoch of the ionosphere are those of
     // word 5, at toe.
     Run {
+        name: "its lines backwards",
         words: TO_RINEX,
         input: &[
             FIRST, LINE_9, LINE_8, LINE_7, LINE_6, LINE_5, LINE_4, LINE_3, LINE_2, LINE_1, LINE_0,
@@ -129,6 +139,7 @@ static SENT: [Run; 12] = [
         ..RUN
     },
     Run {
+        name: "its lines by the digits of a number",
         words: TO_RINEX,
         input: &[
             FIRST, LINE_3, LINE_1, LINE_4, LINE_1, LINE_5, LINE_9, LINE_2, LINE_6, LINE_5, LINE_3,
@@ -142,6 +153,7 @@ static SENT: [Run; 12] = [
         ..RUN
     },
     Run {
+        name: "its lines by the digits of another number",
         words: TO_RINEX,
         input: &[
             FIRST, LINE_2, LINE_7, LINE_1, LINE_8, LINE_2, LINE_8, LINE_1, LINE_8, LINE_2, LINE_8,
@@ -156,7 +168,6 @@ static SENT: [Run; 12] = [
 
 #[test]
 fn sends_files_and_takes_them_back(rt: HostRuntime) -> Result<(), Fail> {
-    let count = runs_that_end_so(rt.alloc(), &SENT)?;
-    assert!(rt; count == SENT.len(), "{count}");
+    assert_eq!(rt; first_wrong(rt.alloc(), &SENT)?, None);
     Ok(())
 }

@@ -1,6 +1,6 @@
 //! Streams of RTCM frames, converted over memory.
 
-use crate::over_memory::{Failing, NOTHING_FAILS, RUN, Run, runs_that_end_so};
+use crate::over_memory::{Failing, NOTHING_FAILS, RUN, Run, first_wrong};
 use crate::samples::{
     FRAMES, FRAMES_TO_RINEX, FRAMES_TO_RTCM, HEADER, OLDER_HEADER, ORBIT_LINE, UNSENT,
 };
@@ -18,6 +18,7 @@ const IN_BYTES: Failing<'static> = Failing {
 // Streams, and what they are converted to: each ephemeris once, or a line for each frame.
 static STREAMS: [Run; 20] = [
     Run {
+        name: "a frame three times to rinex",
         words: FRAMES_TO_RINEX,
         input: &["{GPS_FRAME}{GPS_FRAME}{GPS_FRAME}"],
         output: &[HEADER, ORBIT_LINE, UNSENT],
@@ -25,6 +26,7 @@ static STREAMS: [Run; 20] = [
         ..RUN
     },
     Run {
+        name: "a frame three times to rtcm",
         words: FRAMES_TO_RTCM,
         input: &["{GPS_FRAME}{GPS_FRAME}{GPS_FRAME}"],
         output: &["{GPS_FRAME}"],
@@ -32,6 +34,7 @@ static STREAMS: [Run; 20] = [
         ..RUN
     },
     Run {
+        name: "a short frame to rinex",
         words: FRAMES_TO_RINEX,
         input: &["{SHORT_FRAME}"],
         output: &[HEADER],
@@ -39,12 +42,14 @@ static STREAMS: [Run; 20] = [
         ..RUN
     },
     Run {
+        name: "a short frame to rtcm",
         words: FRAMES_TO_RTCM,
         input: &["{SHORT_FRAME}"],
         report: &["frame 1 short\nframes 1\nrefused 1\nunused 0\nitems 0\n"],
         ..RUN
     },
     Run {
+        name: "an empty frame to rinex",
         words: FRAMES_TO_RINEX,
         input: &["{EMPTY_FRAME}"],
         output: &[HEADER],
@@ -52,12 +57,14 @@ static STREAMS: [Run; 20] = [
         ..RUN
     },
     Run {
+        name: "an empty frame to rtcm",
         words: FRAMES_TO_RTCM,
         input: &["{EMPTY_FRAME}"],
         report: &["frames 1\nrefused 0\nunused 1\nitems 0\n"],
         ..RUN
     },
     Run {
+        name: "noise and two frames to rinex",
         words: FRAMES_TO_RINEX,
         input: &["{NOISE}{SHORT_FRAME}{GPS_FRAME}"],
         output: &[HEADER, ORBIT_LINE, UNSENT],
@@ -65,6 +72,7 @@ static STREAMS: [Run; 20] = [
         ..RUN
     },
     Run {
+        name: "noise and two frames to rtcm",
         words: FRAMES_TO_RTCM,
         input: &["{NOISE}{SHORT_FRAME}{GPS_FRAME}"],
         output: &["{GPS_FRAME}"],
@@ -72,6 +80,7 @@ static STREAMS: [Run; 20] = [
         ..RUN
     },
     Run {
+        name: "a frame to rinex3",
         words: TO_RINEX3,
         input: &["{GPS_FRAME}"],
         output: &[OLDER_HEADER, UNSENT],
@@ -80,6 +89,7 @@ static STREAMS: [Run; 20] = [
     },
     // the lines of their frames
     Run {
+        name: "an empty frame",
         words: FRAMES,
         input: &["{EMPTY_FRAME}"],
         output: &["- 0\n"],
@@ -87,6 +97,7 @@ static STREAMS: [Run; 20] = [
         ..RUN
     },
     Run {
+        name: "an empty frame in bytes",
         words: FRAMES,
         input: &["{EMPTY_FRAME}"],
         failing: IN_BYTES,
@@ -95,6 +106,7 @@ static STREAMS: [Run; 20] = [
         ..RUN
     },
     Run {
+        name: "a start in front",
         words: FRAMES,
         input: &["{START}{EMPTY_FRAME}"],
         output: &["- 0\n"],
@@ -102,6 +114,7 @@ static STREAMS: [Run; 20] = [
         ..RUN
     },
     Run {
+        name: "a start in front in bytes",
         words: FRAMES,
         input: &["{START}{EMPTY_FRAME}"],
         failing: IN_BYTES,
@@ -110,12 +123,14 @@ static STREAMS: [Run; 20] = [
         ..RUN
     },
     Run {
+        name: "a frame cut short",
         words: FRAMES,
         input: &["{CUT_FRAME}"],
         report: &[],
         ..RUN
     },
     Run {
+        name: "a frame cut short in bytes",
         words: FRAMES,
         input: &["{CUT_FRAME}"],
         failing: IN_BYTES,
@@ -123,12 +138,14 @@ static STREAMS: [Run; 20] = [
         ..RUN
     },
     Run {
+        name: "no byte",
         words: FRAMES,
         input: &[],
         report: &[],
         ..RUN
     },
     Run {
+        name: "no byte in pieces",
         words: FRAMES,
         input: &[],
         failing: IN_BYTES,
@@ -137,6 +154,7 @@ static STREAMS: [Run; 20] = [
     },
     // a read, and a write of a line, that fail
     Run {
+        name: "a read that fails",
         words: FRAMES,
         input: &["{EMPTY_FRAME}{EMPTY_FRAME}"],
         failing: Failing {
@@ -149,6 +167,7 @@ static STREAMS: [Run; 20] = [
         ..RUN
     },
     Run {
+        name: "a write that fails",
         words: FRAMES,
         input: &["{EMPTY_FRAME}{EMPTY_FRAME}"],
         failing: Failing {
@@ -162,6 +181,7 @@ static STREAMS: [Run; 20] = [
     },
     // The lines of one piece are one write.
     Run {
+        name: "two lines in one write",
         words: FRAMES,
         input: &["{EMPTY_FRAME}{EMPTY_FRAME}"],
         failing: Failing {
@@ -176,7 +196,6 @@ static STREAMS: [Run; 20] = [
 
 #[test]
 fn converts_streams(rt: HostRuntime) -> Result<(), Fail> {
-    let count = runs_that_end_so(rt.alloc(), &STREAMS)?;
-    assert!(rt; count == STREAMS.len(), "{count}");
+    assert_eq!(rt; first_wrong(rt.alloc(), &STREAMS)?, None);
     Ok(())
 }

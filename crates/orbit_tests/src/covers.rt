@@ -14,6 +14,7 @@ struct Range {
 // The toes of the ephemerides that are added, their fit interval flag, and the ranges that they
 // cover.
 struct CoverRow {
+    name: &'static str,
     toes: [u64; 3],
     fit: u64,
     ranges: &'static [Range],
@@ -23,6 +24,7 @@ struct CoverRow {
 // joins two others. Each with the ionosphere beside it, which covers nothing.
 static COVERS: [CoverRow; 5] = [
     CoverRow {
+        name: "one toe",
         toes: [0, 0, 0],
         fit: 0,
         ranges: &[Range {
@@ -31,6 +33,7 @@ static COVERS: [CoverRow; 5] = [
         }],
     },
     CoverRow {
+        name: "two toes whose times touch",
         toes: [0, 900, 0],
         fit: 0,
         ranges: &[Range {
@@ -39,6 +42,7 @@ static COVERS: [CoverRow; 5] = [
         }],
     },
     CoverRow {
+        name: "two toes with a gap of 16 s",
         toes: [901, 0, 0],
         fit: 0,
         ranges: &[
@@ -53,6 +57,7 @@ static COVERS: [CoverRow; 5] = [
         ],
     },
     CoverRow {
+        name: "a fit interval of six hours",
         toes: [0, 0, 0],
         fit: 1,
         ranges: &[Range {
@@ -61,6 +66,7 @@ static COVERS: [CoverRow; 5] = [
         }],
     },
     CoverRow {
+        name: "a range that joins two others",
         toes: [0, 1_350, 675],
         fit: 0,
         ranges: &[Range {
@@ -114,10 +120,8 @@ fn is_cover(alloc: Global, row: &CoverRow) -> Result<bool, AllocError> {
 fn ranges_of_items(rt: HostRuntime) -> Result<(), Fail> {
     covering();
     one_cover();
-    let mut all = true;
     for row in &COVERS {
-        all = is_cover(rt.alloc(), row)? && all;
+        assert!(rt; is_cover(rt.alloc(), row)?, "{}", row.name);
     }
-    assert!(rt; all);
     Ok(())
 }

@@ -16,6 +16,7 @@ struct Period {
 
 // Parts that are heard, in this order, and their periods.
 struct PeriodsRow {
+    name: &'static str,
     heard: &'static [Heard],
     periods: &'static [Period],
 }
@@ -167,6 +168,7 @@ const FIRST: Heard = Heard {
 static PERIODS: [PeriodsRow; 24] = [
     // Verdicts.
     PeriodsRow {
+        name: "three parts",
         heard: &[
             Heard { stamp: 0, kind: A },
             Heard { stamp: 6, kind: B },
@@ -178,6 +180,7 @@ static PERIODS: [PeriodsRow; 24] = [
         }],
     },
     PeriodsRow {
+        name: "three parts in another order",
         heard: &[
             Heard { stamp: 12, kind: C },
             Heard { stamp: 0, kind: A },
@@ -190,6 +193,7 @@ static PERIODS: [PeriodsRow; 24] = [
         }],
     },
     PeriodsRow {
+        name: "one part twice",
         heard: &[Heard { stamp: 6, kind: B }, Heard { stamp: 6, kind: B }],
         periods: &[Period {
             end: 6,
@@ -197,6 +201,7 @@ static PERIODS: [PeriodsRow; 24] = [
         }],
     },
     PeriodsRow {
+        name: "two contents of one kind",
         heard: &[
             Heard { stamp: 0, kind: A },
             Heard { stamp: 6, kind: B },
@@ -212,6 +217,7 @@ static PERIODS: [PeriodsRow; 24] = [
         }],
     },
     PeriodsRow {
+        name: "parts as long apart as the window",
         heard: &[
             Heard { stamp: 0, kind: A },
             Heard {
@@ -229,6 +235,7 @@ static PERIODS: [PeriodsRow; 24] = [
         }],
     },
     PeriodsRow {
+        name: "parts longer apart than the window",
         heard: &[
             Heard { stamp: 0, kind: A },
             Heard {
@@ -248,6 +255,7 @@ static PERIODS: [PeriodsRow; 24] = [
         ],
     },
     PeriodsRow {
+        name: "a part between two others",
         heard: &[
             Heard { stamp: 0, kind: A },
             Heard {
@@ -265,6 +273,7 @@ static PERIODS: [PeriodsRow; 24] = [
         }],
     },
     PeriodsRow {
+        name: "parts of two issues",
         heard: &[
             Heard { stamp: 0, kind: A },
             Heard {
@@ -284,8 +293,8 @@ static PERIODS: [PeriodsRow; 24] = [
             },
         ],
     },
-    // Up to the last stamp.
     PeriodsRow {
+        name: "up to the last stamp",
         heard: &[
             Heard {
                 stamp: u32::MAX,
@@ -307,6 +316,7 @@ static PERIODS: [PeriodsRow; 24] = [
     },
     // Health near the end.
     PeriodsRow {
+        name: "health behind the end",
         heard: &[
             WORD_1,
             WORD_2,
@@ -323,6 +333,7 @@ static PERIODS: [PeriodsRow; 24] = [
         }],
     },
     PeriodsRow {
+        name: "health a window behind the end",
         heard: &[
             WORD_1,
             WORD_2,
@@ -339,6 +350,7 @@ static PERIODS: [PeriodsRow; 24] = [
         }],
     },
     PeriodsRow {
+        name: "health later than a window behind the end",
         heard: &[
             WORD_1,
             WORD_2,
@@ -355,6 +367,7 @@ static PERIODS: [PeriodsRow; 24] = [
         }],
     },
     PeriodsRow {
+        name: "a word that is missing",
         heard: &[
             WORD_1,
             WORD_2,
@@ -370,6 +383,7 @@ static PERIODS: [PeriodsRow; 24] = [
         }],
     },
     PeriodsRow {
+        name: "health a window before the end",
         heard: &[
             Heard {
                 stamp: 7,
@@ -386,6 +400,7 @@ static PERIODS: [PeriodsRow; 24] = [
         }],
     },
     PeriodsRow {
+        name: "health earlier than a window before the end",
         heard: &[
             Heard {
                 stamp: 6,
@@ -404,6 +419,7 @@ static PERIODS: [PeriodsRow; 24] = [
     // Issues heard again. The same is nothing new; another health of the satellite is; a partial
     // period between does not count.
     PeriodsRow {
+        name: "an issue again",
         heard: &[A0, B0, C0, A1, B1, C1],
         periods: &[
             Period {
@@ -417,6 +433,7 @@ static PERIODS: [PeriodsRow; 24] = [
         ],
     },
     PeriodsRow {
+        name: "an issue again with another health",
         heard: &[
             A0,
             B0,
@@ -440,6 +457,7 @@ static PERIODS: [PeriodsRow; 24] = [
         ],
     },
     PeriodsRow {
+        name: "an issue again behind a part of it",
         heard: &[
             A0,
             B0,
@@ -469,6 +487,7 @@ static PERIODS: [PeriodsRow; 24] = [
     },
     // Three times, with a partial period before the last.
     PeriodsRow {
+        name: "an issue three times, with a part of it before the last",
         heard: &[
             A0,
             B0,
@@ -505,6 +524,7 @@ static PERIODS: [PeriodsRow; 24] = [
     },
     // What was said before the last time is new again.
     PeriodsRow {
+        name: "an issue again with the health of its first time",
         heard: &[
             A0,
             B0,
@@ -536,6 +556,7 @@ static PERIODS: [PeriodsRow; 24] = [
     },
     // Words heard again.
     PeriodsRow {
+        name: "words again",
         heard: &[
             WORD_1,
             WORD_2,
@@ -563,6 +584,7 @@ static PERIODS: [PeriodsRow; 24] = [
         ],
     },
     PeriodsRow {
+        name: "words again with another health",
         heard: &[
             WORD_1,
             WORD_2,
@@ -590,6 +612,7 @@ static PERIODS: [PeriodsRow; 24] = [
         ],
     },
     PeriodsRow {
+        name: "an ionosphere again",
         heard: &[
             Heard {
                 stamp: 18,
@@ -613,6 +636,7 @@ static PERIODS: [PeriodsRow; 24] = [
     },
     // In the order of ends, and then of classes.
     PeriodsRow {
+        name: "ends alike, in the order of classes",
         heard: &[
             Heard {
                 stamp: 18,
@@ -671,6 +695,7 @@ enum Said {
 // Parts that are heard, near a week, and what is said by the item of their first period, which is
 // whole. Where an end is given there is one period, with that end.
 struct ItemRow {
+    name: &'static str,
     week: u32,
     heard: &'static [Heard],
     end: Option<u32>,
@@ -681,6 +706,7 @@ static ITEMS: [ItemRow; 13] = [
     // Health: of two at one stamp the greater before the end, the lesser behind it; of two stamps
     // the last before it.
     ItemRow {
+        name: "two health words of one stamp before the end",
         week: WEEK,
         heard: &[
             Heard {
@@ -700,6 +726,7 @@ static ITEMS: [ItemRow; 13] = [
         said: Said::Health { hs_e1b: 2 },
     },
     ItemRow {
+        name: "two health words of two stamps before the end",
         week: WEEK,
         heard: &[
             Heard {
@@ -723,6 +750,7 @@ static ITEMS: [ItemRow; 13] = [
         said: Said::Health { hs_e1b: 1 },
     },
     ItemRow {
+        name: "two health words of one stamp behind the end",
         week: WEEK,
         heard: &[
             WORD_1,
@@ -742,6 +770,7 @@ static ITEMS: [ItemRow; 13] = [
         said: Said::Health { hs_e1b: 1 },
     },
     ItemRow {
+        name: "two health words of two stamps behind the end",
         week: WEEK,
         heard: &[
             WORD_1,
@@ -762,6 +791,7 @@ static ITEMS: [ItemRow; 13] = [
     },
     // Clocks of GPS, before and behind the rest of the orbit.
     ItemRow {
+        name: "two clocks, the earlier of the start of the week",
         week: WEEK,
         heard: &[
             Heard {
@@ -791,6 +821,7 @@ static ITEMS: [ItemRow; 13] = [
         },
     },
     ItemRow {
+        name: "two clocks, of two accuracies",
         week: WEEK,
         heard: &[
             Heard {
@@ -820,6 +851,7 @@ static ITEMS: [ItemRow; 13] = [
         },
     },
     ItemRow {
+        name: "two clocks of one stamp",
         week: WEEK,
         heard: &[
             Heard {
@@ -845,6 +877,7 @@ static ITEMS: [ItemRow; 13] = [
         },
     },
     ItemRow {
+        name: "a clock of a toe alone",
         week: WEEK,
         heard: &[
             Heard {
@@ -867,6 +900,7 @@ static ITEMS: [ItemRow; 13] = [
     },
     // Sent 30 s before a week begins, with a toe at its start.
     ItemRow {
+        name: "a clock of the week before",
         week: 2_294,
         heard: &[
             Heard {
@@ -897,6 +931,7 @@ static ITEMS: [ItemRow; 13] = [
     },
     // Ionospheres.
     ItemRow {
+        name: "an ionosphere",
         week: WEEK,
         heard: &[Heard {
             stamp: 18,
@@ -909,6 +944,7 @@ static ITEMS: [ItemRow; 13] = [
         },
     },
     ItemRow {
+        name: "an ionosphere of two satellites",
         week: WEEK,
         heard: &[
             Heard {
@@ -927,6 +963,7 @@ static ITEMS: [ItemRow; 13] = [
         },
     },
     ItemRow {
+        name: "an ionosphere of two stamps",
         week: WEEK,
         heard: &[
             Heard {
@@ -945,6 +982,7 @@ static ITEMS: [ItemRow; 13] = [
         },
     },
     ItemRow {
+        name: "an ionosphere of Galileo",
         week: WEEK,
         heard: &[Heard {
             stamp: 9,
@@ -999,14 +1037,12 @@ fn says(alloc: Global, row: &ItemRow) -> Result<bool, AllocError> {
 
 #[test]
 fn rows(rt: HostRuntime) -> Result<(), Fail> {
-    let mut all = true;
     for row in &PERIODS {
-        all = makes(rt.alloc(), row)? && all;
+        assert!(rt; makes(rt.alloc(), row)?, "{}", row.name);
     }
     for row in &ITEMS {
-        all = says(rt.alloc(), row)? && all;
+        assert!(rt; says(rt.alloc(), row)?, "{}", row.name);
     }
-    assert!(rt; all);
     Ok(())
 }
 

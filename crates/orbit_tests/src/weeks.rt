@@ -59,8 +59,8 @@ static GPS_WEEKS: [WeekRow; 9] = [
     },
 ];
 
-fn is_gps_week(row: &WeekRow) -> Option<bool> {
-    Some(gps_week(RefWeek::new(row.reference)?, U::new(row.bits)?).value() == row.week)
+fn gps_week_of(row: &WeekRow) -> Option<u32> {
+    Some(gps_week(RefWeek::new(row.reference)?, U::new(row.bits)?).value())
 }
 
 static GALILEO_WEEKS: [WeekRow; 9] = [
@@ -111,8 +111,8 @@ static GALILEO_WEEKS: [WeekRow; 9] = [
     },
 ];
 
-fn is_galileo_week(row: &WeekRow) -> Option<bool> {
-    Some(gal_week(RefWeek::new(row.reference)?, U::new(row.bits)?).value() == row.week)
+fn galileo_week_of(row: &WeekRow) -> Option<u32> {
+    Some(gal_week(RefWeek::new(row.reference)?, U::new(row.bits)?).value())
 }
 
 // A reference week, a week, and whether the bits of GPS and of Galileo tell it apart there.
@@ -168,11 +168,13 @@ static NEAR_WEEKS: [NearRow; 7] = [
     },
 ];
 
-fn is_near(row: &NearRow) -> Option<bool> {
+fn is_near(row: &NearRow) -> Option<[bool; 2]> {
     let reference = RefWeek::new(row.reference)?;
     let week = Week::new(row.week)?;
-    let gps = is_near_gps(reference, week) == row.gps;
-    Some(gps && is_near_galileo(reference, week) == row.galileo)
+    Some([
+        is_near_gps(reference, week),
+        is_near_galileo(reference, week),
+    ])
 }
 
 // A moment, a second of a week, and the nearest moment with that second.
@@ -225,10 +227,10 @@ static NEAREST: [NearestRow; 8] = [
     },
 ];
 
-fn is_nearest(row: &NearestRow) -> Option<bool> {
+fn nearest(row: &NearestRow) -> Option<u64> {
     let near = Moment::new(row.near)?;
     let _week = Week::new(near.week())?;
-    Some(nearest_moment(near, Second::new(row.second)?).value() == row.moment)
+    Some(nearest_moment(near, Second::new(row.second)?).value())
 }
 
 // A date, and the moment that it names, or why it names none.
@@ -424,21 +426,44 @@ fn numbers() -> Option<bool> {
 
 #[test]
 fn weeks_and_moments(rt: HostRuntime) {
-    let mut all = numbers() == Some(true);
     for row in &GPS_WEEKS {
-        all = all && is_gps_week(row) == Some(true);
+        assert_eq!(rt;
+            gps_week_of(row),
+            Some(row.week),
+            "{} {}",
+            row.reference,
+            row.bits
+        );
     }
     for row in &GALILEO_WEEKS {
-        all = all && is_galileo_week(row) == Some(true);
+        assert_eq!(rt;
+            galileo_week_of(row),
+            Some(row.week),
+            "{} {}",
+            row.reference,
+            row.bits
+        );
     }
     for row in &NEAR_WEEKS {
-        all = all && is_near(row) == Some(true);
+        assert_eq!(rt; is_near(row), Some([row.gps, row.galileo]), "{}", row.week);
     }
     for row in &NEAREST {
-        all = all && is_nearest(row) == Some(true);
+        assert_eq!(rt;
+            nearest(row),
+            Some(row.moment),
+            "{} {}",
+            row.near,
+            row.second
+        );
     }
     for row in &DATES {
-        all = all && is_date(row);
+        assert!(rt;
+            is_date(row),
+            "{}-{}-{}",
+            row.date.year,
+            row.date.month,
+            row.date.day
+        );
     }
-    assert!(rt; all);
+    assert!(rt; numbers() == Some(true));
 }

@@ -227,6 +227,7 @@ fn cover(
 
 // Two files, what they are merged to, and what is reported.
 struct Merged {
+    name: &'static str,
     first: File,
     second: File,
     output: File,
@@ -239,30 +240,35 @@ const ONE_KEPT: &[u8] = b"records 2\nrefused 0\npassed 0\nitems 2\nkept 1\n";
 // sent first is kept. Two systems, in the order of rank, whatever comes first.
 static MERGED: [Merged; 5] = [
     Merged {
+        name: "a file twice",
         first: GPS,
         second: GPS,
         output: GPS,
         report: ONE_KEPT,
     },
     Merged {
+        name: "the unknown transmission time first",
         first: UNKNOWN_SENT,
         second: GPS,
         output: GPS,
         report: ONE_KEPT,
     },
     Merged {
+        name: "the unknown transmission time last",
         first: GPS,
         second: UNKNOWN_SENT,
         output: GPS,
         report: ONE_KEPT,
     },
     Merged {
+        name: "two systems",
         first: OF_GALILEO,
         second: GPS,
         output: OF_BOTH,
         report: b"records 3\nrefused 0\npassed 0\nitems 3\nkept 3\n",
     },
     Merged {
+        name: "a record that is refused",
         first: GPS,
         second: ONE_REFUSED,
         output: GPS,
@@ -297,16 +303,16 @@ fn are_kept_counted(alloc: Global) -> Result<bool, AllocError> {
 
 #[test]
 fn merges_two_files_and_counts_what_is_kept(rt: HostRuntime) -> Result<(), Fail> {
-    let mut all = are_kept_counted(rt.alloc())?;
     for row in &MERGED {
-        all = is_merged(rt.alloc(), row)? && all;
+        assert!(rt; is_merged(rt.alloc(), row)?, "{}", row.name);
     }
-    assert!(rt; all);
+    assert!(rt; are_kept_counted(rt.alloc())?);
     Ok(())
 }
 
 // Two files, the ranges that they cover, and what is reported.
 struct Covered {
+    name: &'static str,
     first: File,
     second: File,
     ranges: &'static [u8],
@@ -321,30 +327,35 @@ const TWO_ITEMS: &[u8] = b"records 2\nrefused 0\npassed 0\nitems 2\n";
 // six hours.
 static COVERED: [Covered; 5] = [
     Covered {
+        name: "an ephemeris of GPS",
         first: GPS,
         second: NOTHING,
         ranges: b"G05 1388008800 1388023200\n",
         report: ONE_ITEM,
     },
     Covered {
+        name: "an ephemeris of Galileo",
         first: OF_GALILEO,
         second: NOTHING,
         ranges: b"E11 1388008800 1388023200\n",
         report: TWO_ITEMS,
     },
     Covered {
+        name: "two whose times touch",
         first: LATER,
         second: GPS,
         ranges: b"G05 1388008800 1388037600\n",
         report: TWO_ITEMS,
     },
     Covered {
+        name: "two with a gap of 16 s",
         first: GPS,
         second: APART,
         ranges: b"G05 1388008800 1388023200\nG05 1388023216 1388037616\n",
         report: TWO_ITEMS,
     },
     Covered {
+        name: "a fit interval of six hours",
         first: LONG_FIT,
         second: NOTHING,
         ranges: b"G05 1388005200 1388026800\n",
@@ -377,10 +388,9 @@ fn are_items_counted(alloc: Global) -> Result<bool, AllocError> {
 
 #[test]
 fn covers_ranges_and_counts_what_covers(rt: HostRuntime) -> Result<(), Fail> {
-    let mut all = are_items_counted(rt.alloc())?;
     for row in &COVERED {
-        all = is_covered(rt.alloc(), row)? && all;
+        assert!(rt; is_covered(rt.alloc(), row)?, "{}", row.name);
     }
-    assert!(rt; all);
+    assert!(rt; are_items_counted(rt.alloc())?);
     Ok(())
 }

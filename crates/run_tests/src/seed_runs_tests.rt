@@ -68,6 +68,7 @@ fn counts_the_capture(rt: HostRuntime) -> Result<(), Fail> {
 
 // What there is room for in a run, and what it ends with.
 struct Fault {
+    name: &'static str,
     to: SeedTo,
     room: usize,
     report_room: usize,
@@ -76,18 +77,21 @@ struct Fault {
 
 static FAULTS: [Fault; 3] = [
     Fault {
+        name: "a capture with no room",
         to: SeedTo::Capture,
         room: 0,
         report_room: 0,
         fault: BridgeFault::WriteFault,
     },
     Fault {
+        name: "counts with no room",
         to: SeedTo::Count,
         room: 0,
         report_room: 200,
         fault: BridgeFault::WriteFault,
     },
     Fault {
+        name: "counts with no room in the report",
         to: SeedTo::Count,
         room: 200,
         report_room: 0,
@@ -109,7 +113,7 @@ fn is_answered(alloc: Global, case: &Fault) -> Result<bool, AllocError> {
 #[test]
 fn answers_faults(rt: HostRuntime) -> Result<(), Fail> {
     for case in &FAULTS {
-        assert!(rt; is_answered(rt.alloc(), case)?);
+        assert!(rt; is_answered(rt.alloc(), case)?, "{}", case.name);
     }
     Ok(())
 }

@@ -238,6 +238,7 @@ fn is_wanted(read: &ItemRead, want: &Want) -> bool {
 // A file, what is read of it, and its items as they are written in version 4 and in version 3;
 // `None` where that is not looked at.
 struct FileRow {
+    name: &'static str,
     bytes: &'static [u8],
     reads: &'static [Want],
     four: Option<&'static [u8]>,
@@ -248,6 +249,7 @@ static FILES: [FileRow; 2] = [
     // A file of an independent program, with numbers in several spellings, and its items as that
     // program writes them.
     FileRow {
+        name: "numbers in several spellings",
         bytes: FILE,
         reads: &[
             Want::PassedOver { line: 5 },
@@ -262,6 +264,7 @@ static FILES: [FileRow; 2] = [
     },
     // Another one, with records that are refused and data sources that are no number.
     FileRow {
+        name: "records that are refused",
         bytes: REFUSED,
         reads: &[
             Want::Item { line: 6 },
@@ -285,36 +288,42 @@ static FILES: [FileRow; 2] = [
 // Single records behind a header.
 static RECORDS: [FileRow; 7] = [
     FileRow {
+        name: "GPS",
         bytes: GPS,
         reads: &[Want::Item { line: 5 }],
         four: None,
         three: Some(GPS),
     },
     FileRow {
+        name: "GPS in other spellings",
         bytes: ODD_GPS,
         reads: &[Want::Item { line: 5 }],
         four: None,
         three: Some(GPS),
     },
     FileRow {
+        name: "Galileo",
         bytes: GALILEO,
         reads: &[Want::Item { line: 5 }],
         four: None,
         three: Some(GALILEO),
     },
     FileRow {
+        name: "F/NAV",
         bytes: FNAV,
         reads: &[Want::PassedOver { line: 5 }],
         four: None,
         three: Some(b""),
     },
     FileRow {
+        name: "GLONASS",
         bytes: GLONASS,
         reads: &[Want::PassedOver { line: 5 }],
         four: None,
         three: Some(b""),
     },
     FileRow {
+        name: "six lines",
         bytes: SIX_LINES,
         reads: &[Want::Refused {
             line: 5,
@@ -324,6 +333,7 @@ static RECORDS: [FileRow; 7] = [
         three: Some(b""),
     },
     FileRow {
+        name: "five lines",
         bytes: FIVE_LINES,
         reads: &[Want::PassedOver { line: 5 }],
         four: None,
@@ -384,6 +394,7 @@ fn is_file(alloc: Global, start: &[u8], row: &FileRow) -> Result<bool, AllocErro
 
 // Bytes, and what a reader answers when it is asked for their header, once and again.
 struct HeaderRow {
+    name: &'static str,
     bytes: &'static [u8],
     answer: Result<(), HeaderFault>,
 }
@@ -391,53 +402,60 @@ struct HeaderRow {
 // The versions that are read, and others.
 static HEADERS: [HeaderRow; 7] = [
     HeaderRow {
+        name: "3.05",
         bytes: b"     3.05           N: GNSS NAV DATA    M: MIXED            RINEX VERSION / TYPE
                                                             END OF HEADER
 ",
         answer: Ok(()),
     },
     HeaderRow {
+        name: "3.02 in the first column",
         bytes: b"3.02                N: GNSS NAV DATA    M: MIXED            RINEX VERSION / TYPE
                                                             END OF HEADER
 ",
         answer: Ok(()),
     },
     HeaderRow {
+        name: "3.04 in the third column",
         bytes: b"  3.04              N: GNSS NAV DATA    M: MIXED            RINEX VERSION / TYPE
                                                             END OF HEADER
 ",
         answer: Ok(()),
     },
     HeaderRow {
+        name: "3.01",
         bytes: b"     3.01           N: GNSS NAV DATA    M: MIXED            RINEX VERSION / TYPE
                                                             END OF HEADER
 ",
         answer: Err(HeaderFault::Version),
     },
     HeaderRow {
+        name: "3.06",
         bytes: b"     3.06           N: GNSS NAV DATA    M: MIXED            RINEX VERSION / TYPE
                                                             END OF HEADER
 ",
         answer: Err(HeaderFault::Version),
     },
     HeaderRow {
+        name: "4.01",
         bytes: b"     4.01           N: GNSS NAV DATA    M: MIXED            RINEX VERSION / TYPE
                                                             END OF HEADER
 ",
         answer: Err(HeaderFault::Version),
     },
     HeaderRow {
+        name: "a capture",
         bytes: b"NAVCAP 1\n",
         answer: Err(HeaderFault::NotRinexNav),
     },
 ];
 
-fn answers_twice(alloc: Global, row: &HeaderRow) -> Result<bool, AllocError> {
+fn answers(alloc: Global, row: &HeaderRow) -> Result<[Result<(), HeaderFault>; 2], AllocError> {
     let mut source = source_of(alloc, row.bytes, b"")?;
     let mut records = Records3::new();
     let first = records.read_header3(&mut source);
     let second = records.read_header3(&mut source);
-    Ok(first == row.answer && second == row.answer)
+    Ok([first, second])
 }
 
 // Whether the header is written.
@@ -452,16 +470,15 @@ fn is_written(alloc: Global) -> Result<bool, AllocError> {
 
 #[test]
 fn files_and_headers(rt: HostRuntime) -> Result<(), Fail> {
-    let mut all = is_written(rt.alloc())?;
     for row in &FILES {
-        all = is_file(rt.alloc(), b"", row)? && all;
+        assert!(rt; is_file(rt.alloc(), b"", row)?, "{}", row.name);
     }
     for row in &RECORDS {
-        all = is_file(rt.alloc(), HEADER, row)? && all;
+        assert!(rt; is_file(rt.alloc(), HEADER, row)?, "{}", row.name);
     }
     for row in &HEADERS {
-        all = answers_twice(rt.alloc(), row)? && all;
+        assert_eq!(rt; answers(rt.alloc(), row)?, [row.answer; 2], "{}", row.name);
     }
-    assert!(rt; all);
+    assert!(rt; is_written(rt.alloc())?);
     Ok(())
 }

@@ -140,6 +140,7 @@ fn is_wanted(read: &Result<ItemRead, LineFault>, want: &Want) -> bool {
 // pieces of so many bytes of which one read fails; what is read; and whether the record is written
 // of what is read, as the ionosphere is.
 struct FileRow {
+    name: &'static str,
     record: &'static [u8],
     is_followed: bool,
     piece: u32,
@@ -275,6 +276,7 @@ G05 2023 12 31 00 00 00 0.000000000000D+00 0.000000000000D+00 0.000000000000D+00
 // Each is written again.
 static FILES: [FileRow; 14] = [
     FileRow {
+        name: "G05 of zeroes",
         record: ZEROES,
         is_followed: true,
         piece: MOST,
@@ -289,6 +291,7 @@ static FILES: [FileRow; 14] = [
         is_written: true,
     },
     FileRow {
+        name: "G32",
         record: G32_RECORD,
         is_followed: true,
         piece: MOST,
@@ -309,6 +312,7 @@ static FILES: [FileRow; 14] = [
         is_written: true,
     },
     FileRow {
+        name: "G01",
         record: G01_RECORD,
         is_followed: true,
         piece: MOST,
@@ -329,6 +333,7 @@ static FILES: [FileRow; 14] = [
         is_written: true,
     },
     FileRow {
+        name: "G28",
         record: G28_RECORD,
         is_followed: true,
         piece: MOST,
@@ -389,6 +394,7 @@ static FILES: [FileRow; 14] = [
         is_written: true,
     },
     FileRow {
+        name: "E11 of zeroes",
         record: E11_RECORD,
         is_followed: true,
         piece: MOST,
@@ -409,6 +415,7 @@ static FILES: [FileRow; 14] = [
         is_written: true,
     },
     FileRow {
+        name: "E01 of issue 378",
         record: E01_RECORD,
         is_followed: true,
         piece: MOST,
@@ -429,6 +436,7 @@ static FILES: [FileRow; 14] = [
         is_written: true,
     },
     FileRow {
+        name: "E01 of issue 0",
         record: E01_RECORD_OF_ISSUE_0,
         is_followed: true,
         piece: MOST,
@@ -449,6 +457,7 @@ static FILES: [FileRow; 14] = [
         is_written: true,
     },
     FileRow {
+        name: "an ionosphere of G05",
         record: G05_IONOSPHERE,
         is_followed: true,
         piece: MOST,
@@ -479,6 +488,7 @@ static FILES: [FileRow; 14] = [
         is_written: true,
     },
     FileRow {
+        name: "an ionosphere of G32",
         record: G32_IONOSPHERE,
         is_followed: true,
         piece: MOST,
@@ -509,6 +519,7 @@ static FILES: [FileRow; 14] = [
         is_written: true,
     },
     FileRow {
+        name: "an ionosphere of E36",
         record: E36_IONOSPHERE,
         is_followed: true,
         piece: MOST,
@@ -535,6 +546,7 @@ static FILES: [FileRow; 14] = [
         is_written: true,
     },
     FileRow {
+        name: "an ionosphere of E01",
         record: E01_IONOSPHERE,
         is_followed: true,
         piece: MOST,
@@ -561,6 +573,7 @@ static FILES: [FileRow; 14] = [
         is_written: true,
     },
     FileRow {
+        name: "an ionosphere of E11 of zeroes",
         record: IONOSPHERE,
         is_followed: true,
         piece: MOST,
@@ -579,6 +592,7 @@ static FILES: [FileRow; 14] = [
     },
     // A record that ends after seven lines and one of another kind.
     FileRow {
+        name: "a record of seven lines",
         record: SHORT,
         is_followed: true,
         piece: MOST,
@@ -599,6 +613,7 @@ static FILES: [FileRow; 14] = [
     // In pieces of 100 bytes of which the sixth read fails: a header of four lines takes four of
     // them.
     FileRow {
+        name: "a read that fails",
         record: ZEROES,
         is_followed: false,
         piece: 100,
@@ -654,6 +669,7 @@ fn is_file(alloc: Global, row: &FileRow) -> Result<bool, AllocError> {
 
 // The record of zeroes with other characters from one place on, and what it is to stand for.
 struct ChangeRow {
+    name: &'static str,
     place: usize,
     characters: &'static [u8],
     judged: Change,
@@ -670,101 +686,121 @@ const BLANK: &[u8] = b"                   ";
 
 static CHANGES: [ChangeRow; 20] = [
     ChangeRow {
+        name: "satellite 33 in the first line",
         place: 7,
         characters: b"33",
         judged: Change::Refused(Reason::BadSat),
     },
     ChangeRow {
+        name: "another satellite in the second line",
         place: 15,
         characters: b"G06",
         judged: Change::Refused(Reason::BadSat),
     },
     ChangeRow {
+        name: "a blank in the satellite",
         place: 7,
         characters: b" 5",
         judged: Change::Refused(Reason::BadSat),
     },
     ChangeRow {
+        name: "a letter in a number",
         place: 101,
         characters: b"x",
         judged: Change::Refused(Reason::NotANumber),
     },
     ChangeRow {
+        name: "a letter in the day",
         place: 27,
         characters: b"D2",
         judged: Change::Refused(Reason::NotANumber),
     },
     ChangeRow {
+        name: "a blank number",
         place: 119,
         characters: BLANK,
         judged: Change::Refused(Reason::Blank),
     },
     ChangeRow {
+        name: "an issue past its range",
         place: 562,
         characters: b" 1.024000000000D+03",
         judged: Change::Refused(Reason::OutOfRange),
     },
     ChangeRow {
+        name: "a health past its range",
         place: 524,
         characters: b" 6.400000000000D+01",
         judged: Change::Refused(Reason::OutOfRange),
     },
     ChangeRow {
+        name: "a day 32",
         place: 27,
         characters: b"32",
         judged: Change::Refused(Reason::NoSuchDate),
     },
     ChangeRow {
+        name: "a year before the epoch",
         place: 19,
         characters: b"1979",
         judged: Change::Refused(Reason::Week),
     },
     ChangeRow {
+        name: "a year 0",
         place: 19,
         characters: b"0000",
         judged: Change::Refused(Reason::Week),
     },
     ChangeRow {
+        name: "a fit interval of two hours",
         place: 605,
         characters: b" 2.000000000000D+00",
         judged: Change::Refused(Reason::Fit),
     },
     ChangeRow {
+        name: "an epoch one second on",
         place: 36,
         characters: b"01",
         judged: Change::Refused(Reason::EpochStep),
     },
     ChangeRow {
+        name: "an epoch far from toe",
         place: 27,
         characters: b"23",
         judged: Change::Refused(Reason::EpochFar),
     },
     ChangeRow {
+        name: "a blank fit interval",
         place: 605,
         characters: BLANK,
         judged: Change::Item(SentSecond::At(0)),
     },
     ChangeRow {
+        name: "an unknown transmission time",
         place: 586,
         characters: b" 9.999000000000e+08",
         judged: Change::Item(SentSecond::Unknown),
     },
     ChangeRow {
+        name: "a blank transmission time",
         place: 586,
         characters: BLANK,
         judged: Change::Item(SentSecond::Unknown),
     },
     ChangeRow {
+        name: "a blank L2 flag",
         place: 443,
         characters: BLANK,
         judged: Change::Item(SentSecond::At(0)),
     },
     ChangeRow {
+        name: "another kind of record",
         place: 2,
         characters: b"STO",
         judged: Change::PassedOver,
     },
     ChangeRow {
+        name: "another system",
         place: 6,
         characters: b"R",
         judged: Change::PassedOver,
@@ -793,34 +829,41 @@ fn is_change(row: &ChangeRow) -> bool {
 
 // Bytes, and what a reader answers when it is asked for their header, once and again.
 struct HeaderRow {
+    name: &'static str,
     bytes: &'static [u8],
     answer: Result<(), HeaderFault>,
 }
 
 static HEADERS: [HeaderRow; 6] = [
     HeaderRow {
+        name: "4.00 with CR LF",
         bytes: HEADER,
         answer: Ok(()),
     },
     HeaderRow {
+        name: "no byte",
         bytes: b"",
         answer: Err(HeaderFault::NotRinexNav),
     },
     HeaderRow {
+        name: "a capture",
         bytes: b"NAVCAP 1\n",
         answer: Err(HeaderFault::NotRinexNav),
     },
     HeaderRow {
+        name: "a header with no end",
         bytes: b"     4.01           N: GNSS NAV DATA    M: MIXED            RINEX VERSION / TYPE\n",
         answer: Err(HeaderFault::NotRinexNav),
     },
     HeaderRow {
+        name: "observations",
         bytes: b"     4.01           OBSERVATION DATA    M: MIXED            RINEX VERSION / TYPE
                                                             END OF HEADER
 ",
         answer: Err(HeaderFault::NotRinexNav),
     },
     HeaderRow {
+        name: "3.05",
         bytes: b"     3.05           N: GNSS NAV DATA    M: MIXED            RINEX VERSION / TYPE
                                                             END OF HEADER
 ",
@@ -828,19 +871,20 @@ static HEADERS: [HeaderRow; 6] = [
     },
 ];
 
-fn answers_twice(alloc: Global, row: &HeaderRow) -> Result<bool, AllocError> {
+fn answers(alloc: Global, row: &HeaderRow) -> Result<[Result<(), HeaderFault>; 2], AllocError> {
     let bytes = row.bytes.to_vec(alloc)?;
     let mut source = MemSource::new(bytes, Vec::new(alloc), Vec::new(alloc));
     let mut records = Records::new();
     let first = records.read_header(&mut source);
     let second = records.read_header(&mut source);
-    Ok(first == row.answer && second == row.answer)
+    Ok([first, second])
 }
 
 // The leap seconds of a header, the write to its sink that fails, the answers of the header and of
 // the ionosphere of zeroes behind it, and what the sink has: what is behind a failed write is still
 // written.
 struct WrittenRow {
+    name: &'static str,
     leap: u8,
     fails: u32,
     header: Result<(), Failed>,
@@ -850,6 +894,7 @@ struct WrittenRow {
 
 static WRITTEN: [WrittenRow; 3] = [
     WrittenRow {
+        name: "no write fails",
         leap: 18,
         fails: 9,
         header: Ok(()),
@@ -864,6 +909,7 @@ navbridge                               20240101 000000 UTC PGM / RUN BY / DATE
 ",
     },
     WrittenRow {
+        name: "the second write fails",
         leap: 5,
         fails: 1,
         header: Ok(()),
@@ -875,6 +921,7 @@ navbridge                               20240101 000000 UTC PGM / RUN BY / DATE
 ",
     },
     WrittenRow {
+        name: "the first write fails",
         leap: 18,
         fails: 0,
         header: Err(Failed),
@@ -912,19 +959,17 @@ fn is_written(alloc: Global, row: &WrittenRow, item: &NavItem) -> Result<bool, A
 #[test]
 fn files_changes_and_headers(rt: HostRuntime) -> Result<(), Fail> {
     let item = ionosphere().ok_or("an ionosphere")?;
-    let mut all = true;
     for row in &FILES {
-        all = is_file(rt.alloc(), row)? && all;
+        assert!(rt; is_file(rt.alloc(), row)?, "{}", row.name);
     }
     for row in &CHANGES {
-        all = all && is_change(row);
+        assert!(rt; is_change(row), "{}", row.name);
     }
     for row in &HEADERS {
-        all = answers_twice(rt.alloc(), row)? && all;
+        assert_eq!(rt; answers(rt.alloc(), row)?, [row.answer; 2], "{}", row.name);
     }
     for row in &WRITTEN {
-        all = is_written(rt.alloc(), row, &item)? && all;
+        assert!(rt; is_written(rt.alloc(), row, &item)?, "{}", row.name);
     }
-    assert!(rt; all);
     Ok(())
 }

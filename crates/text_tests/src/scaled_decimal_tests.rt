@@ -48,19 +48,19 @@ const ANGLE: ScaleNumbers = ScaleNumbers {
 struct TextRow {
     number: i64,
     scale: ScaleNumbers,
-    text: &'static [u8; 19],
+    text: &'static str,
 }
 
 static TEXTS: [TextRow; 18] = [
     TextRow {
         number: 1,
         scale: ANGLE,
-        text: b" 1.462918079267D-09",
+        text: " 1.462918079267D-09",
     },
     TextRow {
         number: -2_147_483_648,
         scale: ANGLE,
-        text: b"-3.141592653590D+00",
+        text: "-3.141592653590D+00",
     },
     TextRow {
         number: 4_294_967_295,
@@ -70,7 +70,7 @@ static TEXTS: [TextRow; 18] = [
             two: -19,
             ten: 0,
         },
-        text: b" 8.191999998093D+03",
+        text: " 8.191999998093D+03",
     },
     TextRow {
         number: 4_294_967_295,
@@ -80,7 +80,7 @@ static TEXTS: [TextRow; 18] = [
             two: -33,
             ten: 0,
         },
-        text: b" 4.999999998836D-01",
+        text: " 4.999999998836D-01",
     },
     TextRow {
         number: -2_097_152,
@@ -90,7 +90,7 @@ static TEXTS: [TextRow; 18] = [
             two: -31,
             ten: 0,
         },
-        text: b"-9.765625000000D-04",
+        text: "-9.765625000000D-04",
     },
     TextRow {
         number: 11,
@@ -100,7 +100,7 @@ static TEXTS: [TextRow; 18] = [
             two: -30,
             ten: 0,
         },
-        text: b" 1.024454832077D-08",
+        text: " 1.024454832077D-08",
     },
     TextRow {
         number: 44,
@@ -110,12 +110,12 @@ static TEXTS: [TextRow; 18] = [
             two: 11,
             ten: 0,
         },
-        text: b" 9.011200000000D+04",
+        text: " 9.011200000000D+04",
     },
     TextRow {
         number: 0,
         scale: ANGLE,
-        text: b" 0.000000000000D+00",
+        text: " 0.000000000000D+00",
     },
     TextRow {
         number: 2_701_656_576,
@@ -125,7 +125,7 @@ static TEXTS: [TextRow; 18] = [
             two: -19,
             ten: 0,
         },
-        text: b" 5.153000976562D+03",
+        text: " 5.153000976562D+03",
     },
     TextRow {
         number: 2_701_657_600,
@@ -135,7 +135,7 @@ static TEXTS: [TextRow; 18] = [
             two: -19,
             ten: 0,
         },
-        text: b" 5.153002929688D+03",
+        text: " 5.153002929688D+03",
     },
     TextRow {
         number: -4_294_967_295,
@@ -145,7 +145,7 @@ static TEXTS: [TextRow; 18] = [
             two: -29,
             ten: -2,
         },
-        text: b"-4.799999998882D+00",
+        text: "-4.799999998882D+00",
     },
     TextRow {
         number: -4_294_967_295,
@@ -155,7 +155,7 @@ static TEXTS: [TextRow; 18] = [
             two: 11,
             ten: -2,
         },
-        text: b"-2.763374121243D+11",
+        text: "-2.763374121243D+11",
     },
     TextRow {
         number: 4_294_967_295,
@@ -165,7 +165,7 @@ static TEXTS: [TextRow; 18] = [
             two: 16,
             ten: 0,
         },
-        text: b" 1.414847550076D+16",
+        text: " 1.414847550076D+16",
     },
     TextRow {
         number: 178,
@@ -175,7 +175,7 @@ static TEXTS: [TextRow; 18] = [
             two: -59,
             ten: -2,
         },
-        text: b" 3.087807787239D-18",
+        text: " 3.087807787239D-18",
     },
     TextRow {
         number: 1,
@@ -185,7 +185,7 @@ static TEXTS: [TextRow; 18] = [
             two: -55,
             ten: -2,
         },
-        text: b" 8.719671245022D-19",
+        text: " 8.719671245022D-19",
     },
     TextRow {
         number: -1,
@@ -195,7 +195,7 @@ static TEXTS: [TextRow; 18] = [
             two: -59,
             ten: 0,
         },
-        text: b"-2.428612866368D-17",
+        text: "-2.428612866368D-17",
     },
     TextRow {
         number: 64,
@@ -205,7 +205,7 @@ static TEXTS: [TextRow; 18] = [
             two: -30,
             ten: -2,
         },
-        text: b" 9.536743164062D-09",
+        text: " 9.536743164062D-09",
     },
     TextRow {
         number: 4_179_216_566,
@@ -215,7 +215,7 @@ static TEXTS: [TextRow; 18] = [
             two: -5,
             ten: 0,
         },
-        text: b" 7.836031061250D+09",
+        text: " 7.836031061250D+09",
     },
 ];
 
@@ -231,13 +231,14 @@ fn is_printed(row: &TextRow) -> bool {
         return false;
     };
     row.number.unsigned_abs() <= 4_294_967_295
-        && print(row.number, &scale) == *row.text
-        && read(row.text.as_slice(), &scale, ANY.low, ANY.high) == Ok(row.number)
+        && row.text.len() <= 19
+        && print(row.number, &scale).as_slice() == row.text.as_bytes()
+        && read(row.text.as_bytes(), &scale, ANY.low, ANY.high) == Ok(row.number)
 }
 
 // A text, its scale, a range, and the number or the fault.
 struct ReadingRow {
-    text: &'static [u8],
+    text: &'static str,
     scale: ScaleNumbers,
     range: Range,
     answer: Result<i64, DecimalFault>,
@@ -245,255 +246,256 @@ struct ReadingRow {
 
 static READINGS: [ReadingRow; 37] = [
     ReadingRow {
-        text: b" 2.500000000000e+00",
+        text: " 2.500000000000e+00",
         scale: ONE,
         range: BYTE,
         answer: Ok(2),
     },
     ReadingRow {
-        text: b"-3.500000000000E+00",
+        text: "-3.500000000000E+00",
         scale: ONE,
         range: ANY,
         answer: Ok(-4),
     },
     ReadingRow {
-        text: b" 4.294967295500d+09",
+        text: " 4.294967295500d+09",
         scale: ONE,
         range: ANY,
         answer: Err(DecimalFault::OutOfRange),
     },
     ReadingRow {
-        text: b"-4.294967295499D+09",
+        text: "-4.294967295499D+09",
         scale: ONE,
         range: ANY,
         answer: Ok(-4_294_967_295),
     },
     ReadingRow {
-        text: b"+1.000000000000D+00",
+        text: "+1.000000000000D+00",
         scale: ONE,
         range: BYTE,
         answer: Ok(1),
     },
     ReadingRow {
-        text: b" 1.00000000000:D+00",
-        scale: ONE,
-        range: BYTE,
-        answer: Err(DecimalFault::NotANumber),
-    },
-    ReadingRow {
-        text: b" 1.000000000000D 00",
+        text: " 1.00000000000:D+00",
         scale: ONE,
         range: BYTE,
         answer: Err(DecimalFault::NotANumber),
     },
     ReadingRow {
-        text: b"1.462918079267e-09",
+        text: " 1.000000000000D 00",
+        scale: ONE,
+        range: BYTE,
+        answer: Err(DecimalFault::NotANumber),
+    },
+    ReadingRow {
+        text: "1.462918079267e-09",
         scale: ANGLE,
         range: SIGNED,
         answer: Ok(1),
     },
     ReadingRow {
-        text: b"1.462918079268D-09",
+        text: "1.462918079268D-09",
         scale: ANGLE,
         range: SIGNED,
         answer: Ok(1),
     },
     ReadingRow {
-        text: b"-0.5",
+        text: "-0.5",
         scale: ANGLE,
         range: SIGNED,
         answer: Ok(-341_782_638),
     },
     ReadingRow {
-        text: b"1.00000000000000000",
+        text: "1.00000000000000000",
         scale: ANGLE,
         range: SIGNED,
         answer: Ok(683_565_276),
     },
     ReadingRow {
-        text: b" 12 ",
+        text: " 12 ",
         scale: ANGLE,
         range: SIGNED,
         answer: Err(DecimalFault::OutOfRange),
     },
     ReadingRow {
-        text: b".5D+01",
+        text: ".5D+01",
         scale: ONE,
         range: BYTE,
         answer: Ok(5),
     },
     ReadingRow {
-        text: b"5",
+        text: "5",
         scale: ONE,
         range: BYTE,
         answer: Ok(5),
     },
     ReadingRow {
-        text: b"+5.0",
+        text: "+5.0",
         scale: ONE,
         range: BYTE,
         answer: Ok(5),
     },
     ReadingRow {
-        text: b" 12 ",
+        text: " 12 ",
         scale: ONE,
         range: BYTE,
         answer: Ok(12),
     },
     ReadingRow {
-        text: b"-0.0",
+        text: "-0.0",
         scale: ONE,
         range: BYTE,
         answer: Ok(0),
     },
     ReadingRow {
-        text: b"1.5",
+        text: "1.5",
         scale: ONE,
         range: BYTE,
         answer: Ok(2),
     },
     ReadingRow {
-        text: b"2.5",
+        text: "2.5",
         scale: ONE,
         range: BYTE,
         answer: Ok(2),
     },
     ReadingRow {
-        text: b"1E03",
+        text: "1E03",
         scale: ONE,
         range: ANY,
         answer: Ok(1000),
     },
     ReadingRow {
-        text: b"1d3",
+        text: "1d3",
         scale: ONE,
         range: BYTE,
         answer: Err(DecimalFault::OutOfRange),
     },
     ReadingRow {
-        text: b"256",
+        text: "256",
         scale: ONE,
         range: BYTE,
         answer: Err(DecimalFault::OutOfRange),
     },
     ReadingRow {
-        text: b"-1",
+        text: "-1",
         scale: ONE,
         range: BYTE,
         answer: Err(DecimalFault::OutOfRange),
     },
     ReadingRow {
-        text: b"4294967295.5",
+        text: "4294967295.5",
         scale: ONE,
         range: ANY,
         answer: Err(DecimalFault::OutOfRange),
     },
     ReadingRow {
-        text: b"1D+999",
+        text: "1D+999",
         scale: ONE,
         range: ANY,
         answer: Err(DecimalFault::OutOfRange),
     },
     ReadingRow {
-        text: b"1D-999",
-        scale: ONE,
-        range: ANY,
-        answer: Ok(0),
-    },
-    ReadingRow {
-        text: b"0D+999",
+        text: "1D-999",
         scale: ONE,
         range: ANY,
         answer: Ok(0),
     },
     ReadingRow {
-        text: b"999999999999999999",
+        text: "0D+999",
+        scale: ONE,
+        range: ANY,
+        answer: Ok(0),
+    },
+    ReadingRow {
+        text: "999999999999999999",
         scale: ONE,
         range: ANY,
         answer: Err(DecimalFault::OutOfRange),
     },
     ReadingRow {
-        text: b"1111111111111111111",
+        text: "1111111111111111111",
         scale: ONE,
         range: ANY,
         answer: Err(DecimalFault::NotANumber),
     },
     ReadingRow {
-        text: b"1.0D 05",
+        text: "1.0D 05",
         scale: ONE,
         range: BYTE,
         answer: Err(DecimalFault::NotANumber),
     },
     ReadingRow {
-        text: b"1 2",
+        text: "1 2",
         scale: ONE,
         range: BYTE,
         answer: Err(DecimalFault::NotANumber),
     },
     ReadingRow {
-        text: b"1..2",
+        text: "1..2",
         scale: ONE,
         range: BYTE,
         answer: Err(DecimalFault::NotANumber),
     },
     ReadingRow {
-        text: b"--1",
+        text: "--1",
         scale: ONE,
         range: BYTE,
         answer: Err(DecimalFault::NotANumber),
     },
     ReadingRow {
-        text: b"1e+0003",
+        text: "1e+0003",
         scale: ONE,
         range: BYTE,
         answer: Err(DecimalFault::NotANumber),
     },
     ReadingRow {
-        text: b".",
+        text: ".",
         scale: ONE,
         range: BYTE,
         answer: Err(DecimalFault::NotANumber),
     },
     ReadingRow {
-        text: b"   ",
+        text: "   ",
         scale: ONE,
         range: BYTE,
         answer: Err(DecimalFault::Blank),
     },
     ReadingRow {
-        text: b"",
+        text: "",
         scale: ONE,
         range: BYTE,
         answer: Err(DecimalFault::Blank),
     },
 ];
 
-// Whether the text is read so, in a range that may be asked for.
-fn is_read(row: &ReadingRow) -> bool {
+// What the text is read as, in a range that may be asked for.
+fn answer(row: &ReadingRow) -> Option<Result<i64, DecimalFault>> {
     let ScaleNumbers {
         pi,
         factor,
         two,
         ten,
     } = row.scale;
-    let Some(scale) = Scale::new(pi, factor, two, ten) else {
-        return false;
-    };
+    let scale = Scale::new(pi, factor, two, ten)?;
     let Range { low, high } = row.range;
-    row.text.len() <= 19
-        && -4_294_967_295 <= low
-        && high <= 4_294_967_295
-        && read(row.text, &scale, low, high) == row.answer
+    let text = row.text.as_bytes();
+    if text.len() > 19 || low < -4_294_967_295 || high > 4_294_967_295 {
+        return None;
+    }
+    Some(read(text, &scale, low, high))
 }
 
 // The numbers of a scale, and whether there is such a scale.
 struct ScaleRow {
+    name: &'static str,
     numbers: ScaleNumbers,
     is_scale: bool,
 }
 
 static SCALES: [ScaleRow; 8] = [
     ScaleRow {
+        name: "factor 0",
         numbers: ScaleNumbers {
             pi: false,
             factor: 0,
@@ -503,6 +505,7 @@ static SCALES: [ScaleRow; 8] = [
         is_scale: false,
     },
     ScaleRow {
+        name: "factor 61",
         numbers: ScaleNumbers {
             pi: false,
             factor: 61,
@@ -512,6 +515,7 @@ static SCALES: [ScaleRow; 8] = [
         is_scale: false,
     },
     ScaleRow {
+        name: "2 to the -60",
         numbers: ScaleNumbers {
             pi: false,
             factor: 1,
@@ -521,6 +525,7 @@ static SCALES: [ScaleRow; 8] = [
         is_scale: false,
     },
     ScaleRow {
+        name: "2 to the 17",
         numbers: ScaleNumbers {
             pi: false,
             factor: 1,
@@ -530,6 +535,7 @@ static SCALES: [ScaleRow; 8] = [
         is_scale: false,
     },
     ScaleRow {
+        name: "10 to the -3",
         numbers: ScaleNumbers {
             pi: false,
             factor: 1,
@@ -539,6 +545,7 @@ static SCALES: [ScaleRow; 8] = [
         is_scale: false,
     },
     ScaleRow {
+        name: "10 to the 1",
         numbers: ScaleNumbers {
             pi: false,
             factor: 1,
@@ -548,6 +555,7 @@ static SCALES: [ScaleRow; 8] = [
         is_scale: false,
     },
     ScaleRow {
+        name: "the least scale",
         numbers: ScaleNumbers {
             pi: true,
             factor: 1,
@@ -557,6 +565,7 @@ static SCALES: [ScaleRow; 8] = [
         is_scale: true,
     },
     ScaleRow {
+        name: "the greatest scale",
         numbers: ScaleNumbers {
             pi: true,
             factor: 60,
@@ -586,15 +595,19 @@ fn is_scale(row: &ScaleRow) -> bool {
 
 #[test]
 fn numbers_and_scales(rt: HostRuntime) {
-    let mut all = true;
     for row in &TEXTS {
-        all = all && is_printed(row);
+        assert!(rt; is_printed(row), "{}", row.text);
     }
     for row in &READINGS {
-        all = all && is_read(row);
+        assert_eq!(rt;
+            answer(row),
+            Some(row.answer),
+            "{} {}",
+            row.text,
+            row.scale.two
+        );
     }
     for row in &SCALES {
-        all = all && is_scale(row);
+        assert!(rt; is_scale(row), "{}", row.name);
     }
-    assert!(rt; all);
 }
