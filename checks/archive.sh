@@ -1,41 +1,32 @@
 #!/usr/bin/env bash
 # Tries the scripts for archives on examples/archive: merge_archive.sh, the tree by GNU parallel, the picture.
+#
+#   checks/archive.sh [--program FILE]
+#
+#   --program FILE  navbridge (PROGRAM, or crates/navbridge/out/navbridge)
+#
+# examples/archive has files of both versions, packed and plain, and five that are cut, empty, older or none. Each line that it
+# prints is a case: `as it should` or `DIFFERS`. GNU parallel and gnuplot are tried where they are installed.
+#
+# Status: 0 all as it should be; 1 something differs; 2 the words are wrong, or the program is not there.
 set -u
-if [ "${1:-}" = --help ]; then
-  cat << 'END'
-checks/archive.sh [--program FILE]
-
-examples/archive has files of both versions, packed and plain, and five that are cut, empty, older or none. Each line that it prints is a
-case: `as it should` or `DIFFERS`. GNU parallel and gnuplot are tried where they are installed. FILE as with runs.sh.
-
-Status: 0 all as it should be; 1 something differs; 2 the program is not there.
-END
-  exit 0
-fi
-program=${PROGRAM:-}
-if [ "${1:-}" = --program ]; then program=${2:-}; fi
-if [ -n "$program" ]; then program=$(readlink -f -- "$program"); fi
-cd "$(dirname "$(readlink -f "$0")")/../examples" || exit 1
-program=${program:-$(readlink -f ../crates/navbridge/out/navbridge)}
-if [ ! -f "$program" ] || [ ! -x "$program" ]; then
-  echo "archive: build first: no program ${program:-crates/navbridge/out/navbridge}; 'rt ci' at the top, or 'rt run' in crates/navbridge, leaves it there, or --program names one" >&2
-  exit 2
-fi
-command -v python3 > /dev/null || { echo "archives: not tried, since python3 is not there"; exit 0; }
+. "$(dirname "$(readlink -f "$0")")/lib.sh"
+program=''
+options '--program:' "$@"
+built program navbridge
+command -v python3 > /dev/null || skip "python3 is not installed"
+cd "$top/examples" || exit 1
 unset PROGRAM
 export LC_ALL=C.UTF-8
-here=$PWD
-out=$(mktemp -d)
-trap 'rm -rf "$out"' EXIT
+work_folder
+out=$work
 words=(--date "20240101 000000 UTC" --leap 18)
-cases=0
-wrong=0
 
 # a case: its name, and a command that must succeed
 holds() {
   local name=$1
   shift
-  cases=$((cases + 1))
+  tried=$((tried + 1))
   if "$@" > /dev/null 2>&1; then echo "as it should: $name"; else wrong=$((wrong + 1)); echo "DIFFERS: $name"; fi
 }
 # a run of merge_archive.sh that must end with a status
@@ -143,6 +134,4 @@ if command -v gnuplot > /dev/null; then
 else
   echo "the picture: not tried, since gnuplot is not there"
 fi
-cd "$here" || exit 1
-echo "archives: $cases cases, $wrong differ"
-[ "$wrong" = 0 ]
+ended archives

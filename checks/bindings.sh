@@ -11,67 +11,31 @@
 #
 # Status: 0 all as it should be; 1 something differs; 2 the words are wrong, or a compiler or the archive is not there.
 set -u
+. "$(dirname "$(readlink -f "$0")")/lib.sh"
 archive='' sanitize='' valgrind=''
-while [ $# -gt 0 ]; do
-  case $1 in
-    -h | --help)
-      sed -n '2,/^set /{/^set /d;s/^# \{0,1\}//;p}' "$0"
-      exit 0
-      ;;
-    --sanitize) sanitize='-fsanitize=address,undefined -fno-sanitize-recover=all -g' ;;
-    --valgrind) valgrind='valgrind -q --error-exitcode=9 --leak-check=full' ;;
-    --archive)
-      [ $# -ge 2 ] || { echo "bindings: $1 wants a value" >&2; exit 2; }
-      archive=$(readlink -f -- "$2")
-      shift
-      ;;
-    *)
-      echo "bindings: $1 is no option; --help" >&2
-      exit 2
-      ;;
-  esac
-  shift
-done
-cd "$(dirname "$(readlink -f "$0")")/.." || exit 2
-archive=${archive:-$PWD/crates/navbridge_c/out/libnavbridge_c.a}
-[ -f "$archive" ] || { echo "bindings: no archive $archive: bindings/archive.sh makes it" >&2; exit 2; }
+options '--archive: --sanitize --valgrind' "$@"
+archive=$(readlink -m -- "${archive:-$top/crates/navbridge_c/out/libnavbridge_c.a}")
+[ -f "$archive" ] || fail "no archive $archive: bindings/archive.sh makes it"
+[ -z "$sanitize" ] || sanitize='-fsanitize=address,undefined -fno-sanitize-recover=all -g'
+[ -z "$valgrind" ] || valgrind='valgrind -q --error-exitcode=9 --leak-check=full'
+cd "$top" || exit 2
 for tool in cc c++ ar make; do
-  command -v "$tool" > /dev/null || { echo "bindings: no $tool" >&2; exit 2; }
+  command -v "$tool" > /dev/null || fail "no $tool"
 done
-out=$(mktemp -d)
-trap 'rm -rf "$out"' EXIT
-made=$out/made
-wrong=0
-differs() {
-  wrong=$((wrong + 1))
-  echo "differs: $*"
-}
+work_folder
+out=$work made=$work/made
 if ! make -s -C bindings/c LIB="$archive" OUT="$made" CFLAGS="-O2 $sanitize" > "$out/make.log" 2>&1; then
   cat "$out/make.log"
   echo "bindings: not built" >&2
   exit 1
 fi
-runs=0
-for program in convert convert++; do
+# The runs of examples/runs.txt by one of the examples in C: of `follow` those that can be pushed
+for program in convert convert++ follow follow++; do
+  before=$tried
   while IFS='|' read -r status input output report words; do
     case $status in '' | '#'*) continue ;; esac
-    eval "set -- $words"
-    case $output in -) output=/dev/null ;; *) output=examples/$output ;; esac
-    case $report in -) report=/dev/null ;; *) report=examples/$report ;; esac
-    (cd examples && "$made/$program" "$@" < "$input" > "$out/output" 2> "$out/report")
-    got=$?
-    runs=$((runs + 1))
-    [ "$got" = "$status" ] || differs "status $got: $program $words < $input"
-    cmp -s "$out/output" "$output" || differs "output: $program $words < $input"
-    cmp -s "$out/report" "$report" || differs "report: $program $words < $input"
-  done < examples/runs.txt
-done
-echo "convert: $runs runs"
-runs=0
-for program in follow follow++; do
-  while IFS='|' read -r status input output report words; do
-    case $status$words in
-      '0--from stream --to r'* | [05]'--from capture'* | '0--from=capture'* | '0--to count --from capture') ;;
+    case $program,$status$words in
+      convert* | *,'0--from stream --to r'* | *,[05]'--from capture'* | *,'0--from=capture'* | *,'0--to count --from capture') ;;
       *) continue ;;
     esac
     eval "set -- $words"
@@ -79,14 +43,13 @@ for program in follow follow++; do
     case $report in -) report=/dev/null ;; *) report=examples/$report ;; esac
     (cd examples && "$made/$program" "$@" < "$input" > "$out/output" 2> "$out/report")
     got=$?
-    runs=$((runs + 1))
+    tried=$((tried + 1))
     [ "$got" = "$status" ] || differs "status $got: $program $words < $input"
     cmp -s "$out/output" "$output" || differs "output: $program $words < $input"
     cmp -s "$out/report" "$report" || differs "report: $program $words < $input"
   done < examples/runs.txt
+  case $program,$((tried - before)) in follow*,10 | convert*,[1-9]*) ;; *) differs "$((tried - before)) runs of $program" ;; esac
 done
-[ "$runs" = 20 ] || differs "$runs runs of follow, and not 20"
-echo "follow: $runs runs"
 vectors=bindings/c/tests/vectors
 for suffix in '' ++; do
   $valgrind "$made/messages$suffix" $vectors/items.txt $vectors/records.txt || differs "messages$suffix"
@@ -131,5 +94,4 @@ if command -v python3 > /dev/null && [ -z "$sanitize" ]; then
   NAVBRIDGE_LIBRARY=$made/libnavbridge.so PYTHONDONTWRITEBYTECODE=1 python3 -m doctest bindings/python/navbridge.py || differs 'navbridge.py'
   echo 'navbridge.py: its example was run'
 fi
-echo "bindings: $wrong differ"
-[ "$wrong" = 0 ]
+ended bindings

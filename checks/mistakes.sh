@@ -8,35 +8,12 @@
 #
 # Status: 0 done, or nothing differs; 1 something differs; 2 the words are wrong, or the program is not there.
 set -u
-navconvert=${NAVCONVERT:-} check=
-while [ $# -gt 0 ]; do
-  case $1 in
-    -h | --help)
-      sed -n '2,/^set /{/^set /d;s/^# \{0,1\}//;p}' "$0"
-      exit 0
-      ;;
-    --check)
-      check=yes
-      shift
-      ;;
-    --navconvert)
-      [ $# -ge 2 ] || { echo "mistakes: $1 wants a value" >&2; exit 2; }
-      navconvert=$2
-      shift 2
-      ;;
-    *)
-      echo "mistakes: $1 is no option; --help" >&2
-      exit 2
-      ;;
-  esac
-done
-[ -z "$navconvert" ] || navconvert=$(readlink -f -- "$navconvert")
-cd "$(dirname "$(readlink -f "$0")")/../examples" || exit 1
-navconvert=${navconvert:-$(readlink -m ../crates/navconvert/out/navconvert)}
-[ -x "$navconvert" ] || { echo "mistakes: no program $navconvert; build first, or name it" >&2; exit 2; }
-examples=$PWD page=$(readlink -m ../docs/MISTAKES.md)
-work=$(mktemp -d)
-trap 'rm -rf "$work"' EXIT
+. "$(dirname "$(readlink -f "$0")")/lib.sh"
+navconvert='' check=''
+options '--navconvert: --check' "$@"
+built navconvert navconvert
+examples=$top/examples page=$top/docs/MISTAKES.md
+work_folder
 cd "$work" || exit 1
 
 # What was said, without the usage, as a cell

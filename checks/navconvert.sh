@@ -1,44 +1,22 @@
 #!/usr/bin/env bash
 # Tries navconvert from outside: what it does of the examples, and what it says and leaves where something is wrong.
 #
-#   checks/navconvert.sh [--navconvert FILE] [--program FILE]
+#   checks/navconvert.sh [--navconvert FILE] [--program FILE] [--speed]
 #
 #   --navconvert FILE  navconvert (NAVCONVERT, or crates/navconvert/out/navconvert)
 #   --program FILE     navbridge (PROGRAM, or crates/navbridge/out/navbridge), whose outputs are compared
+#   --speed            the processor's time too: a start, and a large file beside navbridge; on a machine that does nothing else
 #
 # Status: 0 all as it should be; 1 something differs; 2 the words are wrong, or a program is not there.
 set -u
-navconvert=${NAVCONVERT:-} program=${PROGRAM:-}
-while [ $# -gt 0 ]; do
-  case $1 in
-    -h | --help)
-      sed -n '2,/^set /{/^set /d;s/^# \{0,1\}//;p}' "$0"
-      exit 0
-      ;;
-    --navconvert | --program)
-      [ $# -ge 2 ] || { echo "navconvert.sh: $1 wants a value" >&2; exit 2; }
-      printf -v "${1#--}" %s "$2"
-      shift 2
-      ;;
-    *)
-      echo "navconvert.sh: $1 is no option; --help" >&2
-      exit 2
-      ;;
-  esac
-done
-[ -z "$navconvert" ] || navconvert=$(readlink -f -- "$navconvert")
-[ -z "$program" ] || program=$(readlink -f -- "$program")
-cd "$(dirname "$(readlink -f "$0")")/../examples" || exit 1
-navconvert=${navconvert:-$(readlink -m ../crates/navconvert/out/navconvert)}
-program=${program:-$(readlink -m ../crates/navbridge/out/navbridge)}
-for it in "$navconvert" "$program"; do
-  [ -x "$it" ] || { echo "navconvert.sh: no program $it; build first, or name it" >&2; exit 2; }
-done
-examples=$PWD
-work=$(mktemp -d)
-trap 'chmod -R u+w "$work"; rm -rf "$work"' EXIT
+. "$(dirname "$(readlink -f "$0")")/lib.sh"
+navconvert='' program='' speed=''
+options '--navconvert: --program: --speed' "$@"
+built navconvert navconvert
+built program navbridge
+examples=$top/examples
+work_folder
 cd "$work" || exit 1
-tried=0 wrong=0
 # What it was, and why it differs
 differs() {
   wrong=$((wrong + 1))
@@ -311,7 +289,7 @@ run "a file that grows" 0 "g.list: made of 4 items" -t list -o g.list grows.navc
 wait
 is_same "a file that grows" g.list "$examples/station.list"
 
-# ---- the time that it takes, beside navbridge
+# ---- a large file, and the time that it takes, beside navbridge
 # The least of five times of a command that reads big.rnx, user and system together, in milliseconds
 least() {
   local TIMEFORMAT='%3U %3S' best=999999 user system
@@ -325,16 +303,16 @@ least() {
 sed '1,/END OF HEADER/d' "$examples/station.rnx" > body
 for ((i = 0; i < 13; i++)); do cat body body > twice && mv twice body; done
 { sed '/END OF HEADER/q' "$examples/station.rnx"; cat body; } > big.rnx
-tried=$((tried + 1))
-begun=$(least "$navconvert" --version)
-[ "$begun" -le 5 ] || differs "the start" "it takes $begun ms"
-tried=$((tried + 1))
-bridged=$(least "$program" --from rinex --to rtcm)
-cp out bridged.rtcm3
-converted=$(least "$navconvert" -q --overwrite -t rtcm -o big.rtcm3 big.rnx)
+"$program" --from rinex --to rtcm < big.rnx > bridged.rtcm3 2> said
+run "a large file" 0 - -q -t rtcm -o big.rtcm3 big.rnx
 is_same "a large file" big.rtcm3 bridged.rtcm3
-[ $((converted * 20)) -le $((bridged * 21 + 100)) ] || differs "a large file" "$converted ms, and navbridge $bridged"
-echo "$(wc -c < big.rnx) bytes of RINEX to RTCM: navconvert $converted ms, navbridge $bridged ms; the start $begun ms"
-
-echo "$tried runs, $wrong differ"
-[ "$wrong" = 0 ]
+if [ -n "$speed" ]; then
+  tried=$((tried + 2))
+  begun=$(least "$navconvert" --version)
+  [ "$begun" -le 5 ] || differs "the start" "it takes $begun ms"
+  bridged=$(least "$program" --from rinex --to rtcm)
+  converted=$(least "$navconvert" -q --overwrite -t rtcm -o big.rtcm3 big.rnx)
+  [ $((converted * 20)) -le $((bridged * 21 + 100)) ] || differs "a large file" "$converted ms, and navbridge $bridged"
+  echo "$(wc -c < big.rnx) bytes of RINEX to RTCM: navconvert $converted ms, navbridge $bridged ms; the start $begun ms"
+fi
+ended navconvert

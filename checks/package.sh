@@ -1,38 +1,24 @@
 #!/usr/bin/env bash
 # Tries the Debian package: made twice, the same bytes; lintian; installed, used, verified and removed.
 #
-#   checks/package.sh [--program PATH]..    the built programs, navbridge and navlog (crates/NAME/out/NAME)
+#   checks/package.sh [--program PATH]..    the built programs, navbridge, navlog, navconvert (crates/NAME/out/NAME)
 #
-# It installs the package on this machine and removes it, so it wants root and a machine without the package. Debian packages
-# that it uses: lintian, man-db, mandoc, systemd (for systemd-analyze), util-linux (taskset). Status 0 where all is as it
-# should be, 1 where something is not, 2 where it cannot be tried.
+# It installs the package on this machine and removes it, so it wants root and a machine without the package; else it is skipped.
+# Debian packages that it uses: lintian, man-db, mandoc, systemd (for systemd-analyze), util-linux (taskset).
+#
+# Status: 0 all as it should be, or skipped, and why; 1 something is not; 2 the words are wrong, or a program is not built.
 set -uo pipefail
-cd "$(dirname "$(readlink -f "$0")")/.." || exit 1
+. "$(dirname "$(readlink -f "$0")")/lib.sh"
+program=()
+options '--program+:' "$@"
 given=()
-while [ $# -gt 0 ]; do
-  case $1 in
-    -h | --help)
-      sed -n '2,/^set /{/^set /d;s/^# \{0,1\}//;p}' "$0"
-      exit 0
-      ;;
-    --program)
-      [ $# -ge 2 ] || { echo "package: --program wants a value" >&2; exit 2; }
-      given+=(--program "$(readlink -m "$2")")
-      shift 2
-      ;;
-    *)
-      echo "package: $1 is no option; --help" >&2
-      exit 2
-      ;;
-  esac
-done
-[ "$(id -u)" = 0 ] || { echo "package: only root may install a package" >&2; exit 2; }
-if dpkg -s navbridge > /dev/null 2>&1; then
-  echo "package: a package navbridge is there already" >&2
-  exit 2
-fi
-for it in dpkg lintian man mandoc systemd-analyze taskset; do
-  command -v "$it" > /dev/null || { echo "package: $it is not there" >&2; exit 2; }
+for it in "${program[@]}"; do given+=(--program "$(readlink -m -- "$it")"); done
+cd "$top" || exit 1
+[ "$(id -u)" = 0 ] || skip "only root may install a package"
+command -v dpkg > /dev/null || skip "dpkg is not installed"
+! dpkg -s navbridge > /dev/null 2>&1 || skip "a package navbridge is installed already"
+for it in lintian man mandoc systemd-analyze taskset; do
+  command -v "$it" > /dev/null || skip "$it is not installed"
 done
 work=$(mktemp -d)
 installed=
@@ -41,18 +27,18 @@ clean() {
   rm -rf -- "$work"
 }
 trap clean EXIT
-wrong=0
 # A check: what, and the command that wants status 0 and says nothing
 silent() {
   local what=$1 said status=0
   shift
+  tried=$((tried + 1))
   said=$("$@" 2>&1) || status=$?
   if [ "$status" = 0 ] && [ -z "$said" ]; then
     echo "$what: yes"
   else
     echo "$what: NO (status $status)"
     [ -z "$said" ] || printf '%s\n' "$said" | sed 's/^/  /'
-    wrong=1
+    wrong=$((wrong + 1))
   fi
 }
 
@@ -93,7 +79,9 @@ done
 run() {
   PROGRAM=/usr/bin/navbridge NAVLOG=/usr/bin/navlog /usr/share/doc/navbridge/checks/runs.sh > "$work/runs" 2>&1 || cat "$work/runs"
 }
+merge() { /usr/share/doc/navbridge/checks/archive.sh --program /usr/bin/navbridge > "$work/runs" 2>&1 || cat "$work/runs"; }
 silent "the installed program gives each example's output, report and status" run
+silent "the installed scripts merge the archive of the examples" merge
 is_logged() {
   local log=/usr/share/doc/navbridge/examples/log.ubx
   navlog --from ubx < "$log" 2> /dev/null | navbridge --from capture --to list 2> /dev/null | cmp - "${log%.ubx}.list"
@@ -132,5 +120,7 @@ silent "completion of the station's options" offered "--leap --letter" navbridge
 silent "removed" remove_it
 installed=
 find /usr /etc /var/lib -xdev -path /var/lib/dpkg -prune -o -print 2> /dev/null | sort > "$work/after"
-silent "nothing is left" comm -13 "$work/before" "$work/after"
-[ "$wrong" = 0 ]
+# what is new, but for what another package has brought meanwhile
+left() { comm -13 "$work/before" "$work/after" | while read -r it; do dpkg -S "$it" > /dev/null 2>&1 || echo "$it"; done; }
+silent "nothing is left" left
+ended package

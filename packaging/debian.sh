@@ -99,8 +99,7 @@ for it in docs/*.md; do put 644 "$doc/$it" "$it"; done
 put 644 "$doc/bench/README.md" bench/README.md
 put 755 "$doc/bench/feeder.py" bench/feeder.py # what examples/station/trial.sh hears
 ln -s docs/OPERATING.md "$root/$doc/OPERATING.md"
-for it in checks/runs.sh checks/archive.sh; do put 755 "$doc/$it" "$it"; done
-git ls-files examples | while read -r it; do
+git ls-files examples checks/{archive,lib,runs}.sh | while read -r it; do
   # what is installed already
   case $it in examples/station/navbridge-station* | examples/station/*.service | examples/station/*.timer) continue ;; esac
   mode=644
