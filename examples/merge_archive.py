@@ -1,7 +1,8 @@
+#!/usr/bin/env -S python3 -I
 """Merges an archive of RINEX navigation files as they are: packed or not, versions 3 and 4, thousands of them.
 
-merge_archive.sh is the way to call it. The work is done by navbridge; this script unpacks, looks what each file is, hands batches of
-files over, and keeps the books. It uses Python's own library alone.
+The conversion is navbridge's. This script unpacks, finds out what each file is, hands batches of files over, and counts. It needs
+Python 3.9 or later and its standard library.
 """
 import argparse
 import bisect
@@ -10,6 +11,7 @@ import fcntl
 import fnmatch
 import glob
 import hashlib
+import io
 import json
 import os
 import re
@@ -22,33 +24,35 @@ import time
 import zlib
 
 HELP = """\
-merge_archive.sh [options] NAME..       files and folders
-merge_archive.sh [options] - < LIST     names on standard input, one a line
-merge_archive.sh --table ROWS..         the table of several FILE.files together
+merge_archive [options] NAME..       files and directories
+merge_archive [options] - < LIST     names on standard input, one a line
+merge_archive --table ROWS..         the table of several FILE.files together
 
-Merges RINEX navigation files of versions 3 and 4 into one RINEX 4 file that has each ephemeris and ionosphere set once. Files are taken
-by their content, whatever their names are, and may be packed by gzip or compress (.gz, .Z). A file that can't be used is named with the
-reason, and the rest goes on.
+Merges RINEX navigation files of versions 3 and 4 into one RINEX 4 file that has each ephemeris and ionosphere set once. A file is taken
+by its content, not by its name, and may be packed by gzip or compress (.gz, .Z). A file that cannot be used is named with the reason,
+and the rest is merged. Links to directories are followed; each directory is read once.
 
-  -o FILE          the merged file; beside it FILE.files has a row for each input, and FILE.parts what a later run need not do again
+  -o FILE          the merged file; FILE.files has a row for each input, and FILE.parts what a later run need not do again
   --cover FILE     the times for which each satellite has an ephemeris (one of -o and --cover, or both)
   -j N             batches at work at once (as many as there are processors)
   --date TEXT      the header's date, as "20240101 000000 UTC" (now)
   --leap N         the header's leap seconds (18)
-  --name PATTERN   of folders, only files whose name fits, as '*MN.rnx*'; may be given more than once
+  --name PATTERN   of directories, only files whose name fits, as '*MN.rnx*'; may be given more than once
   -0               names on standard input end with a byte 0, not with a line
   --batch N        at most N files in one batch (64)
-  --clean          removes FILE.parts at the end (not where two are at work on one FILE)
-  --again          begins anew: nothing of earlier runs is used
+  --clean          removes FILE.parts at the end (not if two runs write one FILE)
+  --again          uses nothing of earlier runs
   --program FILE   navbridge (crates/navbridge/out/navbridge of this repository, else navbridge on the PATH; PROGRAM in the environment)
-  -q               only what went wrong, and no table
-  --help           this text; --version, alone, the version
+  -q               only errors, and no table
+  --help           this text
+  --version        the version
 
-A run that was broken off goes on where it stopped when it is started again with the same -o. Two that work on the same FILE do no harm:
-what they write has the same bytes, and each name is given by one renaming. Where nothing has changed since, nothing is done.
+A run that was interrupted continues if it is started again with the same -o. Two runs may write one FILE: both write the same bytes, and
+each name is given by one renaming. If nothing has changed since the last run, nothing is done. FILE may be in a directory that is
+merged: it is no input then. An input is never replaced.
 
-Status: 0 every file was read; 1 the result is written, and some file was not read or ends short; 2 the words, or no program; 3 the run
-failed (a full disk, say), and FILE is as it was.
+Exit status: 0 every file was read; 1 the result is written, and some file was not read to its end; 2 wrong arguments, or no program;
+3 the run failed (a full disk, for example), and FILE is as it was.
 """
 
 # a header of each version, as short as navbridge takes it: the files' own headers are looked at here and left out
@@ -59,12 +63,19 @@ HEADERS = {
 BATCH_BYTES = 128 << 20  # in a batch, unpacked, as far as names tell: those of version 3 are held in memory
 UNPACKED = 1 << 30  # one file may have so many bytes unpacked
 ONE_RUN = 3 << 30  # and one run of navbridge is given at most these (it takes 4 GiB)
+RULES = 2  # what earlier runs left is used where they read files by the same rules
 PART_DATE = ["--date", "20000101 000000 UTC", "--leap", "0"]  # the header of a part says nothing
-READS = ("read", "ends short")  # outcomes of files whose records are in the result
+READS = ("read", "ends short", "mixed")  # outcomes of files whose records are in the result
+# outcomes that are known before a file is opened; what is left out is no file, and no fault
+UNOPENED = ("missing", "unreadable", "no file", "unfinished", "left out")
 
 
 class Unusable(Exception):
     """A file that can't be used: the reason, and a note."""
+
+
+class Misused(Exception):
+    """Arguments by which an input would be replaced."""
 
 
 class Failed(Exception):
@@ -135,6 +146,22 @@ def unpacked(data):
     return data, ""
 
 
+LABEL = b"RINEX VERSION / TYPE"
+VERSION_LINE = re.compile(rb" *\d+\.\d* [^\n]*")
+
+
+def headers_of(data):
+    """Where headers begin: the first one, and those of files that were joined to it. A header that follows a line without an end
+    begins in that line."""
+    begins, at = [0], data.find(LABEL, 61)
+    while at >= 0:
+        begin = at - 60
+        if begin > begins[-1] and VERSION_LINE.fullmatch(data, begin, at):
+            begins.append(begin)
+        at = data.find(LABEL, at + 1)
+    return begins
+
+
 def column(line, first, last):
     """Columns of a line; one that is shorter is as if blanks followed it."""
     return line[first - 1:last].ljust(last - first + 1)
@@ -146,7 +173,7 @@ def version_of(data):
         raise Unusable("empty", "" if not data else "bytes 0 alone")
     end = data.find(b"\n")
     first = data[:end if end >= 0 else len(data)].rstrip(b"\r")[:80]
-    if column(first, 61, 80) != b"RINEX VERSION / TYPE":
+    if column(first, 61, 80) != LABEL:
         label = column(first, 61, 80).strip()
         note = "packed observations" if label.startswith(b"CRINEX") else "a byte order mark" if data[:3] == b"\xef\xbb\xbf" else ""
         raise Unusable("no RINEX", note)
@@ -235,8 +262,60 @@ def last_record(data, form, begin, end):
     return begin
 
 
+# a record of the other version, which has no header of its own: a title in version 3, in version 4 the first line of a record
+# that does not follow a title
+OTHERS = {3: re.compile(rb"> ?(?:EPH|STO|EOP|ION) "), 4: re.compile(rb"[A-Z][ \d]\d [12]\d{3}[ \d]")}
+TITLED = re.compile(rb"(\n>[^\n]*)?\n[A-Z][ \d]\d [12]\d{3}[ \d]")
+
+
+def without_others(data, form, begin):
+    """The bytes without records of the other version, how many these are, and the line of the first (of the bytes, from 0)."""
+    if form == 3 and data.find(b"\n>", begin - 1) < 0:
+        return data, 0, 0
+    if form == 4 and b"" not in TITLED.findall(data, begin - 1):
+        return data, 0, 0
+    kept, others, first, mine, behind_title = [data[:begin]], 0, 0, True, False
+    for number, line in enumerate(io.BytesIO(data[begin:])):
+        title = line[:1] == b">"
+        if title or line[:1] not in b" \r\n" and not behind_title:
+            mine = title == (form == 4) or not OTHERS[form].match(line)
+            first = first if mine or others else number
+            others += not mine
+        if mine:
+            kept.append(line)
+        behind_title = title and (form == 4 or not mine)
+    return b"".join(kept), others, data.count(b"\n", 0, begin) + first
+
+
+def section_of(data, above):
+    """What stands below one header, as navbridge is to have it; so many lines are above the header. Counts are those of the records."""
+    form, start = version_of(data)
+    section = {"form": form, "outcome": "read", "notes": [], "refused": {}, "left_out": 0}
+    data, others, line = without_others(data, form, start)
+    if others:
+        section["outcome"] = "mixed"
+        section["notes"].append(f"records of version {7 - form} left out: {others}, the first in line {above + line + 1}")
+    first = (TITLE if form == 4 else START).search(data, start - 1)
+    begin, end = first.start() + 1 if first else len(data), len(data)
+    if begin < end and data[-1:] != b"\n":
+        # a number in a line without an end may be cut and still be a number, so its record is left out
+        end = last_record(data, form, begin, end)
+        section.update(outcome=worse("ends short", section["outcome"]), left_out=1)
+        section["notes"].append("last record left out: its last line has no end")
+    records, passed = (records_of_4 if form == 4 else records_of_3)(data, begin, end)
+    lines_above, lines = data.count(b"\n", 0, begin), data.count(b"\n", begin, end)
+    last = lines_above + 1 + lines - data.count(b"\n", last_record(data, form, begin, end), end) if records else 0
+    section.update(records=records, passed=dict(passed), above=lines_above, last=last, body=memoryview(data)[begin:end], lines=lines)
+    return section
+
+
+def worse(*outcomes):
+    """That of outcomes which says most."""
+    return max(outcomes, key=READS.index)
+
+
 def looked_at(path, row):
-    """Reads a file, fills its row in, and gives its version and the lines that navbridge is to have: those of its records."""
+    """Reads a file, and gives its sections, one for each header; fills in of its row what is known before navbridge has read them."""
     try:
         with open(path, "rb") as file:
             data = file.read()
@@ -245,21 +324,36 @@ def looked_at(path, row):
     data, note = unpacked(data)
     if note:
         row["notes"].append(note)
-    form, start = version_of(data)
-    first = (TITLE if form == 4 else START).search(data, start - 1)
-    begin, end = first.start() + 1 if first else len(data), len(data)
-    if begin < end and data[-1:] != b"\n":
-        # a number in a line without an end may be cut and still be a number, so its record is left out
-        end = last_record(data, form, begin, end)
-        row.update(outcome="ends short", left_out=1)
-        row["notes"].append("last record left out: its last line has no end")
-    records, passed = (records_of_4 if form == 4 else records_of_3)(data, begin, end)
-    above, lines = data.count(b"\n", 0, begin), data.count(b"\n", begin, end)
-    last = above + 1 + lines - data.count(b"\n", last_record(data, form, begin, end), end) if records else 0
-    row.update(version=form, bytes=len(data), records=records, passed=dict(passed), above=above, last=last)
-    if not records and not row.get("left_out"):
+    sections, begins = [], headers_of(data)
+    for begin, end in zip(begins, [*begins[1:], len(data)]):
+        above = data.count(b"\n", 0, begin)
+        if begin:
+            row["notes"].append(f"another header in line {above + 1}")
+        try:
+            sections.append(section_of(data[begin:end], above))
+        except Unusable as why:
+            if not begin:
+                raise
+            row["outcome"] = "mixed"
+            row["notes"].append(f"what follows it left out: {why.args[0]}")
+    row.update(version=sections[0]["form"], bytes=len(data))
+    if not any(section["records"] or section["left_out"] for section in sections):
         row["notes"].append("no records")
-    return form, memoryview(data)[begin:end], lines
+    return sections
+
+
+def summed(row, sections):
+    """Fills in the row of a file what became of its sections."""
+    refused, passed = collections.Counter(row["refused"]), collections.Counter()
+    for section in sections:
+        if section["left_out"]:
+            section["refused"]["cut"] = section["refused"].get("cut", 0) + 1
+        refused.update(section["refused"])
+        passed.update(section["passed"])
+        row["records"] += section["records"] + section["left_out"]
+        row["outcome"] = worse(row["outcome"], section["outcome"])
+        row["notes"] += section["notes"]
+    row.update(refused=dict(refused), passed=dict(passed))
 
 
 # --- runs of navbridge
@@ -314,29 +408,32 @@ class Disagreed(Exception):
         self.status, self.counts = status, counts
 
 
-def settle(call, rows, others):
-    """Ends a run and writes into the rows what was refused; others are the records that it was given besides those of the rows, and those
-    of them that it passes over."""
+def settle(call, sections, others):
+    """Ends a run and writes into the sections what was rejected; others are the records that it was given besides those of the sections, and
+    those of them that it skips. Where the counts are not those that were counted here, those of one file alone are navbridge's."""
     status, refused, counts = call.end()
-    records, passed = counts["records"] - others[0], counts["passed"] - others[1]
-    if status or (records, passed) != (sum(row["records"] for row in rows), sum(sum(row["passed"].values()) for row in rows)):
-        if status or len(rows) != 1:
+    records = counts["records"] - others[0] - sum(section["records"] for section in sections)
+    passed = counts["passed"] - others[1] - sum(sum(section["passed"].values()) for section in sections)
+    if status or records or passed:
+        if status or len({section["file"] for section in sections}) != 1:
             raise Disagreed(status, counts)
-        apart = passed - sum(rows[0]["passed"].values())  # one file alone: the program's counts are taken
-        rows[0].update(records=records, passed={**rows[0]["passed"], "not told apart": apart} if apart > 0 else {"not told apart": passed})
-    starts = [row["base"] for row in rows]
+        first = sections[0]
+        apart = sum(first["passed"].values()) + passed
+        first.update(records=first["records"] + records,
+                     passed={**first["passed"], "not told apart": passed} if passed > 0 else {"not told apart": apart})
+    starts = [section["base"] for section in sections]
     for line, reason in refused:
-        row = rows[bisect.bisect_left(starts, line) - 1]
-        row["refused"][reason] = row["refused"].get(reason, 0) + 1
-        if reason == "short" and line - row["base"] + row["above"] == row["last"]:
-            row["outcome"] = "ends short"
-            row["notes"].append("last record is cut")
+        section = sections[bisect.bisect_left(starts, line) - 1]
+        section["refused"][reason] = section["refused"].get(reason, 0) + 1
+        if reason == "short" and line - section["base"] + section["above"] == section["last"]:
+            section["outcome"] = worse("ends short", section["outcome"])
+            section["notes"].append("last record is cut")
     return counts
 
 
 def one_run(tool, files, merged, dated):
     """Merges files into one, by one run of navbridge, and one more where there are files of version 3; gives their rows and what is kept."""
-    rows, fours, threes, held = [], [], [], []
+    read, rows, fours, threes = [], [], [], []
     with open(merged, "wb") as output:
         call = Call(tool.program, ["--from", "rinex", "--to", "merged", *dated], output, merged + ".report")
         call.give(HEADERS[4], 2)
@@ -344,36 +441,34 @@ def one_run(tool, files, merged, dated):
             row = new_row(*file)
             rows.append(row)
             try:
-                form, body, lines = looked_at(file[0], row)
+                sections = looked_at(file[0], row)
             except Unusable as why:
                 row["outcome"], row["notes"] = why.args[0], [why.args[1]] if why.args[1] else []
                 continue
-            if form == 4:
-                row["base"] = call.lines
-                fours.append(row)
-                call.give(body, lines)
-            else:
-                threes.append(row)
-                held.append((body, lines))
+            read.append((row, sections))
+            for section in sections:
+                section["file"] = file[0]
+                if section["form"] == 4:
+                    section["base"] = call.lines
+                    fours.append(section)
+                    call.give(section.pop("body"), section["lines"])
+                else:
+                    threes.append(section)
         others = (0, 0)
         if threes:
-            call.give(b">\n")  # a record of its own, which is passed over: so one that is cut does not go on in the header that follows
+            call.give(b">\n")  # a record of its own, which is skipped: so one that is cut does not go on in the header that follows
             older = Call(tool.program, ["--from", "rinex3", "--to", "rinex", *dated], call.run.stdin.fileno(), merged + ".report3")
             older.give(HEADERS[3], 2)
-            for row, (body, lines) in zip(threes, held):
-                row["base"] = older.lines
-                older.give(body, lines)
+            for section in threes:
+                section["base"] = older.lines
+                older.give(section.pop("body"), section["lines"])
             try:
                 others = (settle(older, threes, (0, 0))["items"] + 1, 1)
             except Disagreed as why:
                 raise Disagreed(call.end()[0] or why.status, why.counts) from None
         counts = settle(call, fours, others)
-    for row in rows:
-        if row.get("left_out"):
-            row["records"] += 1
-            row["refused"]["cut"] = 1
-        for key in ("base", "above", "last", "left_out"):
-            row.pop(key, None)
+    for row, sections in read:
+        summed(row, sections)
     return rows, counts["kept"]
 
 
@@ -386,7 +481,7 @@ def run_batch(tool, files, merged, dated):
             raise Failed(f"navbridge could not write (status {why.status}): is the disk full?") from None
         if len(files) == 1:
             row = new_row(*files[0])
-            row.update(outcome="refused", notes=[f"navbridge ended with status {why.status}"])
+            row.update(outcome="rejected", notes=[f"navbridge ended with status {why.status}"])
             return [row], merge_files(tool, [], merged, dated)
         half = len(files) // 2
         rows = run_batch(tool, files[:half], merged + "a", dated)[0] + run_batch(tool, files[half:], merged + "b", dated)[0]
@@ -419,7 +514,7 @@ def merge_files(tool, paths, merged, dated):
                     call.give(piece)
     status, refused, counts = call.end()
     if status or refused:
-        raise Failed(f"navbridge, merging what was merged, ended with status {status}, {len(refused)} records refused")
+        raise Failed(f"navbridge, merging what was merged, ended with status {status}, {len(refused)} records rejected")
     return counts["kept"]
 
 
@@ -441,7 +536,7 @@ def new_row(name, size, when):
             "notes": []}
 
 
-COLUMNS = ("outcome", "version", "bytes", "records", "refused", "passed over", "size", "time", "name", "notes")
+COLUMNS = ("outcome", "version", "bytes", "records", "rejected", "skipped", "size", "time", "name", "notes")
 
 
 def pairs(counts):
@@ -490,32 +585,35 @@ def table(rows, first):
         for what, count in sorted(counts.items()):
             line(depth, what, count)
     outcomes = collections.Counter(row["outcome"] for row in rows)
-    line(0, "files", len(rows))
+    left = outcomes.pop("left out", 0)
+    line(0, "files", sum(outcomes.values()))
     for what in READS:
         if outcomes[what] or what == "read":
             line(1, what, outcomes[what])
     others = {what: count for what, count in outcomes.items() if what not in READS}
     line(1, "not read", sum(others.values()))
     block(2, others)
-    notes = collections.Counter(note for row in rows if row["outcome"] == "read" for note in row["notes"])
-    if notes:
-        line(1, "read, and noted", sum(1 for row in rows if row["outcome"] == "read" and row["notes"]))
-        block(2, notes)
-    refused, passed = collections.Counter(), collections.Counter()
+    noted = [row["notes"] for row in rows if row["outcome"] == "read" and row["notes"]]
+    if noted:
+        line(1, "read, and noted", len(noted))
+        block(2, collections.Counter(re.sub(r" in line \d+$", "", note) for notes in noted for note in notes))
+    if left:
+        line(0, "directories left out", left)
+        block(1, collections.Counter(note.split(": ")[0] for row in rows if row["outcome"] == "left out" for note in row["notes"]))
+    rejected, skipped = collections.Counter(), collections.Counter()
     for row in rows:
-        refused.update(row["refused"])
-        passed.update(row["passed"])
+        rejected.update(row["refused"])
+        skipped.update(row["passed"])
     records = sum(row["records"] for row in rows)
     line(0, "records", records)
-    line(1, "read", records - sum(refused.values()) - sum(passed.values()))
-    line(1, "refused", sum(refused.values()))
-    block(2, refused)
-    line(1, "passed over", sum(passed.values()))
-    block(2, passed)
-    if first.get("kept") is not None:
-        line(0, "kept", first["kept"])
-    if first.get("ranges") is not None:
-        line(0, "ranges", first["ranges"])
+    line(1, "read", records - sum(rejected.values()) - sum(skipped.values()))
+    line(1, "rejected", sum(rejected.values()))
+    block(2, rejected)
+    line(1, "skipped", sum(skipped.values()))
+    block(2, skipped)
+    for what in ("kept", "ranges"):
+        if first.get(what) is not None:
+            line(0, what, first[what])
     return "\n".join(lines)
 
 
@@ -528,40 +626,97 @@ def put(path, name):
     os.replace(path, name)
 
 
-def inputs(args, own):
-    """The files, as name, size and time, and rows of those that are none."""
-    names = list(args.names)
-    if "-" in names:
-        names.remove("-")
-        text = sys.stdin.buffer.read()
-        names += [os.fsdecode(name) for name in text.split(b"\0" if args.zero else b"\n") if name]
-    files, rows = {}, []
-    def take(name):
+class Inputs:
+    """What is to be read: files, as name, size and time, and rows of what is no file, or none that is finished."""
+
+    def __init__(self, args, results, parts):
+        self.args, self.parts, self.files, self.rows, self.visited = args, os.path.realpath(parts), {}, [], set()
+        self.results = {}  # files of this run that are there already, by what the system tells them apart by
+        for path, is_ours in results:
+            try:
+                about = os.stat(path)
+                self.results[about.st_dev, about.st_ino] = path, is_ours
+            except OSError:
+                pass
+        self.found = []  # those of them that were met
+        names = list(args.names)
+        if "-" in names:
+            names.remove("-")
+            text = sys.stdin.buffer.read()
+            names += [os.fsdecode(name) for name in text.split(b"\0" if args.zero else b"\n") if name]
+        directories = []
+        for name in dict.fromkeys(names):
+            if os.path.isdir(name):
+                directories.append(name)
+            else:
+                self.take(name, True)
+        links = self.walk(directories)
+        while links:  # after all that is there without them, so that a file has its plain name
+            link = links.pop(0)
+            if os.path.realpath(link) in self.visited:
+                self.row(link, "left out", "link to a directory that is read already")
+            else:
+                links += self.walk([link])
+
+    def row(self, name, outcome, note=""):
+        """A row of what is not opened."""
+        self.rows.append({**new_row(name, 0, 0), "outcome": outcome, "notes": [note] if note else []})
+
+    def take(self, name, is_named=False):
+        """Takes a file, which was named or found in a directory."""
         try:
             about = os.stat(name)
         except OSError as fault:
             gone = isinstance(fault, (FileNotFoundError, NotADirectoryError))
-            rows.append({**new_row(name, 0, 0), "outcome": "missing" if gone else "unreadable", "notes": [] if gone else [fault.strerror]})
+            self.row(name, "missing" if gone else "unreadable", "" if gone else fault.strerror)
             return
-        if stat.S_ISREG(about.st_mode):
-            files[name] = (name, about.st_size, about.st_mtime_ns)
+        result, is_ours = self.results.get((about.st_dev, about.st_ino), (None, False))
+        if result and (is_named or not is_ours):
+            raise Misused(f"{shown(name)}: is an input of this run, and {shown(result)} would replace it; give the result another name")
+        if result:
+            self.found.append(name)
+        elif not stat.S_ISREG(about.st_mode):
+            self.row(name, "no file", "a pipe or a device")
+        elif name.endswith(".part") and not is_named:
+            self.row(name, "unfinished", "its name ends in .part")
         else:
-            rows.append({**new_row(name, 0, 0), "outcome": "no file", "notes": ["a pipe or a device"]})
-    def unlisted(fault):
-        rows.append({**new_row(fault.filename, 0, 0), "outcome": "unreadable", "notes": [fault.strerror]})
-    for name in dict.fromkeys(names):
-        if not os.path.isdir(name):
-            take(name)
-            continue
-        for folder, below, inside in os.walk(name, onerror=unlisted):
-            below[:] = sorted(it for it in below if not it.endswith((".parts", ".part")))
-            for it in sorted(inside):
-                path = os.path.join(folder, it)
-                if os.path.abspath(path) in own or it.endswith(".part") or args.name and not any(fnmatch.fnmatchcase(it, pattern) for pattern in args.name):
+            self.files[name] = (name, about.st_size, about.st_mtime_ns)
+
+    def walk(self, directories):
+        """Takes the files of directories and of those below them, each once; gives the links to directories in them."""
+        links = []
+        unlisted = lambda fault: self.row(fault.filename, "unreadable", fault.strerror)
+        for directory in directories:
+            for path, below, inside in os.walk(directory, onerror=unlisted):
+                real = os.path.realpath(path)
+                if real in self.visited:
+                    below[:] = []
                     continue
-                if path not in files:
-                    take(path)
-    return files, rows
+                self.visited.add(real)
+                links += (os.path.join(path, it) for it in sorted(below) if os.path.islink(os.path.join(path, it)))
+                below[:] = [it for it in sorted(below) if not os.path.islink(os.path.join(path, it)) and not self.is_part(path, it)]
+                for it in sorted(inside):
+                    if not self.args.name or any(fnmatch.fnmatchcase(it, pattern) for pattern in self.args.name):
+                        self.take(os.path.join(path, it))
+        return links
+
+    def is_part(self, path, it):
+        """Whether a directory has the parts of a merge, or the files of one that is at work, as this script makes them."""
+        path = os.path.join(path, it)
+        real = os.path.realpath(path)
+        if real == self.parts or real.startswith(self.parts[:-len("parts")]) and re.fullmatch(r".*\.\d+\.(part|new)", it):
+            return True  # of this result, and so of what is read here
+        try:
+            inside = os.listdir(path)
+        except OSError:
+            return False
+        if it.endswith(".parts") and inside and all(re.fullmatch(r"[0-9a-f]{20}\.(files|rnx)", name) for name in inside):
+            self.row(path, "left out", "parts of a merge")
+        elif re.search(r"\.\d+\.(part|new)$", it) and "lock" in inside:
+            self.row(path, "left out", "a merge at work, or one that was broken off")
+        else:
+            return False
+        return True
 
 
 def order(file):
@@ -600,12 +755,16 @@ class Tool:
         self.children = {}
         self.lock = None
 
-    def own(self):
-        """Files of this run that are no input."""
-        return {os.path.abspath(path) for path in (self.base, self.base + ".files", self.args.cover or self.base)}
+    def results(self):
+        """The files that this run gives names to, and whether an earlier one has made what stands there now."""
+        said = read_rows(self.base + ".files")
+        if not said and os.path.lexists(self.base + ".files"):
+            raise Misused(f"{shown(self.base)}.files: is there, and this script has not made it; give the result another name")
+        first = said[0] if said else {}
+        return [(path, bool(first.get(key))) for path, key in ((self.out, "out"), (self.args.cover, "cover")) if path] + [(self.base + ".files", True)]
 
     def begin(self):
-        """Makes the folder of this run, and removes those of runs on this machine that have ended without doing so."""
+        """Makes the directory of this run, and removes those of runs on this machine that have ended without doing so."""
         for old in glob.glob(f"{glob.escape(self.base)}.{glob.escape(os.uname().nodename)}.*.part"):
             try:
                 with open(os.path.join(old, "lock"), "rb") as file:
@@ -613,7 +772,7 @@ class Tool:
                     shutil.rmtree(old, ignore_errors=True)
             except OSError:
                 pass
-        fresh = self.work[:-len("part")] + "new"  # the lock is held before the folder has the name that others look for
+        fresh = self.work[:-len("part")] + "new"  # the lock is held before the directory has the name that others look for
         os.makedirs(fresh)
         self.lock = open(os.path.join(fresh, "lock"), "wb")  # held while this run or a worker of it lives
         try:
@@ -623,7 +782,7 @@ class Tool:
         os.rename(fresh, self.work)
 
     def end(self):
-        """Ends the workers and removes the folder of this run."""
+        """Ends the workers and removes the directory of this run."""
         for child in self.children:
             try:
                 os.kill(child, signal.SIGTERM)
@@ -644,7 +803,7 @@ class Tool:
         """Merges a batch into a part: its rows first, the part last, which is the marker."""
         merged = os.path.join(self.work, f"batch{number}")
         rows, kept = run_batch(self, files, merged, PART_DATE)
-        write_rows(merged + ".files", rows, {"kept": kept, "bytes": os.path.getsize(merged)})
+        write_rows(merged + ".files", rows, {"rules": RULES, "kept": kept, "bytes": os.path.getsize(merged)})
         os.makedirs(self.parts, exist_ok=True)
         put(merged + ".files", self.part_of(files) + ".files")
         put(merged, self.part_of(files) + ".rnx")
@@ -665,7 +824,7 @@ class Tool:
                         self.worker(number, files)
                         status = 0
                     except (Failed, OSError) as why:
-                        print(f"merge_archive.sh: {why}", file=sys.stderr, flush=True)
+                        print(f"merge_archive: {why}", file=sys.stderr, flush=True)
                     finally:
                         os._exit(status)
                 self.children[child] = len(files)
@@ -684,7 +843,7 @@ class Tool:
         for path in sorted(glob.glob(os.path.join(glob.escape(self.parts), "*.files"))):
             part = path[:-len("files")] + "rnx"
             said = read_rows(path)
-            if not said or not os.path.exists(part) or os.path.getsize(part) != said[0].get("bytes"):
+            if not said or said[0].get("rules") != RULES or not os.path.exists(part) or os.path.getsize(part) != said[0].get("bytes"):
                 continue
             of_part = {row["name"]: row for row in said[1] if row["outcome"] != "unreadable"}
             if of_part and all(name not in rows and files.get(name) == (name, row["size"], row["when"]) for name, row in of_part.items()):
@@ -695,19 +854,22 @@ class Tool:
     def there(self, files, others):
         """What FILE.files says, where nothing has changed since FILE was made."""
         said = None if self.args.again else read_rows(self.base + ".files")
-        if not said:
+        if not said or said[0].get("rules") != RULES:
             return None
         first, rows = said
         seen = lambda path: [os.stat(path).st_size, os.stat(path).st_mtime_ns] if path and os.path.exists(path) else None
         same = first.get("out") == seen(self.out) and first.get("cover") == seen(self.args.cover) and (self.args.date in (None, first.get("date"))) \
             and str(first.get("leap")) == self.args.leap
-        key = lambda row: (row["name"], row["size"], row["when"], row["outcome"] in ("missing", "unreadable", "no file"))
+        key = lambda row: (row["name"], row["size"], row["when"], row["outcome"] in UNOPENED)
         now = {(*file, False) for file in files.values()} | {key(row) for row in others}
         return (first, rows) if same and now == {key(row) for row in rows} else None
 
     def run(self):
         """Everything; gives the rows and the first line of FILE.files."""
-        files, others = inputs(self.args, self.own())
+        read = Inputs(self.args, self.results(), self.parts)
+        files, others = read.files, read.rows
+        for name in () if self.args.quiet else read.found:
+            print(f"merge_archive: {shown(name)}: is a result of this run, and no input", file=sys.stderr)
         said = self.there(files, others)
         if said:
             return said
@@ -730,7 +892,7 @@ class Tool:
                 paths.append(self.part_of(batch) + ".rnx")
             kept = merge_files(self, paths, merged, dated)
         rows = sorted([*rows, *others], key=lambda row: row["name"])
-        first = {"date": date, "leap": self.args.leap, "kept": kept}
+        first = {"rules": RULES, "date": date, "leap": self.args.leap, "kept": kept}
         made = [(self.out, merged)] if self.out else []
         if self.args.cover:
             first["ranges"] = make_cover(self, merged, merged + ".cover")
@@ -746,9 +908,21 @@ class Tool:
         return first, rows
 
 
+def version():
+    """The version of the package, or of the repository, whose CHANGELOG.md begins with it."""
+    here = os.path.dirname(os.path.realpath(__file__))
+    for path, pattern in ((f"{here}/version", r"(\S+)"), (f"{here}/../CHANGELOG.md", r"(?m)^## (\d\S*)")):
+        try:
+            with open(path, encoding="utf-8") as file:
+                return re.search(pattern, file.read())[1]
+        except (OSError, TypeError):
+            pass
+    return "of an unknown version"
+
+
 def options(words):
-    """The words; a slip is told and ends with 2."""
-    parser = argparse.ArgumentParser(prog="merge_archive.sh", add_help=False, allow_abbrev=False, usage="merge_archive.sh [options] NAME.. (--help says more)")
+    """The arguments; a wrong one is reported and ends with 2."""
+    parser = argparse.ArgumentParser(prog="merge_archive", add_help=False, allow_abbrev=False, usage="merge_archive [options] NAME.. (--help says more)")
     parser.add_argument("names", nargs="*")
     parser.add_argument("-o", dest="out")
     parser.add_argument("--cover")
@@ -763,26 +937,27 @@ def options(words):
     parser.add_argument("--program", default=os.environ.get("PROGRAM"))
     parser.add_argument("-q", dest="quiet", action="store_true")
     parser.add_argument("--table", action="store_true")
-    parser.add_argument("--help", action="store_true")
+    parser.add_argument("-h", "--help", action="store_true")
+    parser.add_argument("--version", action="store_true")
     args = parser.parse_args(words)
-    if args.help:
-        print(HELP, end="")
+    if args.help or args.version:
+        print(HELP if args.help else f"merge_archive {version()}\n", end="")
         sys.exit(0)
     if not args.names:
-        parser.error("no names: give files, folders, or - for a list on standard input")
+        parser.error("no names: give files, directories, or - for a list on standard input")
     if args.table:
         return args
     if not args.out and not args.cover:
-        parser.error("-o FILE or --cover FILE is wanted")
+        parser.error("-o FILE or --cover FILE is missing")
     if args.jobs < 1 or args.batch < 1:
         parser.error("-j and --batch are at least 1")
     if args.date is not None and not re.fullmatch(r"\d{8} \d{6} UTC", args.date):
-        parser.error('--date is wanted as "20240101 000000 UTC"')
+        parser.error('--date is of the form "20240101 000000 UTC"')
     if not re.fullmatch(r"\d\d?", args.leap):
         parser.error("--leap is 0 to 99")
     for path in filter(None, (args.out, args.cover)):
         if os.path.isdir(path) or not os.path.isdir(os.path.dirname(path) or "."):
-            parser.error(f"{path}: is a folder, or stands in a folder that is not there")
+            parser.error(f"{path}: is a directory, or is in a directory that is missing")
     built = os.path.join(os.path.dirname(os.path.dirname(os.path.realpath(__file__))), "crates", "navbridge", "out", "navbridge")
     args.program = args.program or (built if os.path.exists(built) else shutil.which("navbridge"))
     if not args.program or not os.access(args.program, os.X_OK) or os.path.isdir(args.program):
@@ -791,18 +966,18 @@ def options(words):
 
 
 def tell(args, rows, first):
-    """Names what was not read, prints the table, and gives the status."""
+    """Names what was not read, prints the table, and gives the exit status."""
     for row in rows:
-        if row["outcome"] != "read":
+        if row["outcome"] not in ("read", "left out") or row["outcome"] == "left out" and not args.quiet:
             print(": ".join([shown(row["name"]), row["outcome"], *filter(None, ["; ".join(row["notes"])])]), file=sys.stderr)
     if not rows:
-        print("merge_archive.sh: no files", file=sys.stderr)
+        print("merge_archive: no files", file=sys.stderr)
     try:
         if not args.quiet:
             print(table(rows, first), flush=True)
     except BrokenPipeError:  # its reader has gone, which is no fault of the merge
         os.dup2(os.open(os.devnull, os.O_WRONLY), 1)
-    return 0 if all(row["outcome"] == "read" for row in rows) else 1
+    return 0 if all(row["outcome"] in ("read", "left out") for row in rows) else 1
 
 
 def main(words):
@@ -812,7 +987,7 @@ def main(words):
     if args.table:
         said = {name: read_rows(name) for name in args.names}
         for name in (name for name, rows in said.items() if rows is None):
-            print(f"{shown(name)}: no rows of merge_archive.sh", file=sys.stderr)
+            print(f"{shown(name)}: no rows of merge_archive", file=sys.stderr)
         return tell(args, [row for rows in said.values() if rows for row in rows[1]], {}) if all(said.values()) else 2
 
     def stop(_number, _frame):
@@ -822,11 +997,14 @@ def main(words):
     try:
         first, rows = tool.run()
     except KeyboardInterrupt:
-        print("merge_archive.sh: broken off; the same words go on where it stopped", file=sys.stderr)
+        print("merge_archive: interrupted; the same command continues from here", file=sys.stderr)
         return 130
+    except Misused as why:
+        print(f"merge_archive: {why}", file=sys.stderr)
+        return 2
     except (Failed, OSError) as why:
         if str(why):
-            print(f"merge_archive.sh: {why}", file=sys.stderr)
+            print(f"merge_archive: {why}", file=sys.stderr)
         return 3
     finally:
         tool.end()

@@ -7,7 +7,7 @@
 #   step.sh day|month|year NAME       NAME is 2023032, 202302 or 2023
 #   step.sh day                       in an array of Slurm: the line of TREE/state/$MONTH.days with the task's number
 #
-# submit.sh and parallel.sh call it, with these in the environment: MERGE (merge_archive.sh), ARCHIVE (with a folder YEAR/DAY for each
+# submit.sh and parallel.sh call it, with these in the environment: MERGE (merge_archive.py), ARCHIVE (with a folder YEAR/DAY for each
 # day, as 2023/032), TREE, DATE, LEAP, PROGRAM; COVER=1 for the times covered beside each file; STRICT=1 where a day of which a file was
 # not read is a fault. What it makes is TREE/day/NAME.rnx and so on, with NAME.rnx.files beside it. A step whose inputs are as they were
 # when it was made is not made again. One that fails leaves TREE/state/LEVEL.NAME.failed, and what stands on it fails with its name.
@@ -56,5 +56,5 @@ if [ "$status" = 1 ] && [ "$level" = day ] && [ "${STRICT:-0}" != 1 ]; then
   echo "day $name: made, though some file was not read: $out.files names it"
   status=0
 fi
-[ "$status" = 0 ] || fail "merge_archive.sh ended with status $status"
+[ "$status" = 0 ] || fail "merge_archive ended with status $status"
 rm -f "$failed"

@@ -4,7 +4,7 @@ set -eu
 usage=$(cat << 'END'
 submit.sh [options] ARCHIVE TREE
 
-ARCHIVE has a folder for each day, as 2023/032, with RINEX navigation files as merge_archive.sh takes them. TREE gets day/2023032.rnx,
+ARCHIVE has a folder for each day, as 2023/032, with RINEX navigation files as merge_archive.py takes them. TREE gets day/2023032.rnx,
 month/202302.rnx, year/2023.rnx, with rows of what was read beside each (.files), logs and state. Both, and navbridge, are seen by all nodes.
 
 One job array a month has its days, a job behind each array merges the month, a job behind these the year. A step that fails cancels what

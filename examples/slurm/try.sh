@@ -5,7 +5,7 @@ usage=$(cat << 'END'
 try.sh [options] DIR
 
 Makes DIR with an archive by bench/year.py, starts a Slurm in it by cluster.sh, merges the archive by submit.sh, kills the second node while
-a step runs on it, and compares the year with what merge_archive.sh makes of all files at once; then a late file, then a step that
+a step runs on it, and compares the year with what merge_archive.py makes of all files at once; then a late file, then a step that
 fails. It ends the Slurm and leaves DIR. It is no part of the gate: as root, on ports 17000 to 17004, some five minutes for a year.
 
   --days N, --stations N   of the archive (365, 40)
@@ -45,8 +45,8 @@ tree() { "$here/submit.sh" --wait "${words[@]}" "$@" "$dir/archive" "$dir/tree" 
 
 began=$SECONDS
 if [ -n "$from" ]; then cp -al "$(readlink -f -- "$from")" "$dir/archive"; else "$here/../../bench/year.py" "$dir/archive" --days "$days" --stations "$stations" | sed 's/^/        /'; fi
-"$here/../merge_archive.sh" -o "$dir/once.rnx" "${words[@]}" --cover "$dir/once.cover" -q "$dir/archive"
-say "all files at once by merge_archive.sh"
+"$here/../merge_archive.py" -o "$dir/once.rnx" "${words[@]}" --cover "$dir/once.cover" -q "$dir/archive"
+say "all files at once by merge_archive.py"
 "$here/cluster.sh" start "$dir/slurm" > /dev/null
 trap '"$here/cluster.sh" stop "$dir/slurm"' EXIT
 export SLURM_CONF=$dir/slurm/etc/slurm.conf
@@ -71,7 +71,7 @@ before=$(find "$dir/tree" -path '*.parts' -prune -o -name '*.rnx' -printf '%p %T
 tree --cover
 after=$(find "$dir/tree" -path '*.parts' -prune -o -name '*.rnx' -printf '%p %T@\n' | sort)
 say "a late file of a day; made anew: $(comm -13 <(echo "$before") <(echo "$after") | sed "s|^$dir/tree/||; s|\.rnx .*||" | tr '\n' ' ')"
-"$here/../merge_archive.sh" -o "$dir/once.rnx" "${words[@]}" -q "$dir/archive"
+"$here/../merge_archive.py" -o "$dir/once.rnx" "${words[@]}" -q "$dir/archive"
 check "$dir/once.rnx" "$dir/tree/year/2023.rnx" "the year with it"
 
 echo "no navigation file" > "$dir/archive/2023/003/JUNK00XXX_R_20230030000_01D_MN.rnx"
