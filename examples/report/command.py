@@ -104,10 +104,10 @@ def gathered(args, work):
     os.makedirs(cache, exist_ok=True)
     merged, cover = os.path.join(cache, "merged.rnx"), os.path.join(cache, "merged.cover")
     tool = gather.Archive(argparse.Namespace(names=args.names, out=merged, cover=cover, jobs=args.jobs, date=None, leap="18", name=args.name,
-                                             zero=args.zero, batch=64, clean=False, again=False, program=args.program, quiet=args.quiet),
+                                             zero=args.zero, batch=64, clean=False, again=False, program=args.program, quiet=True),
                           {os.path.join(os.path.abspath(args.site), it) for it in os.listdir(args.site) if site.OWN.fullmatch(it)})
     try:
-        _, rows = tool.run()
+        rows = [row for row in tool.run()[1] if row["outcome"] != "left out"]
         found = types.SimpleNamespace(rows=rows, names=[merge.shown(row["name"]) for row in rows], reading=figures.Reading())
         listed, healthy = os.path.join(work, "list"), os.path.join(work, "healthy.rnx")
         gather.run(tool, "list", merged, listed)
@@ -158,6 +158,9 @@ def main(arguments):
     except KeyboardInterrupt:
         print("navreport: interrupted; the site is as it was", file=sys.stderr)
         return 130
+    except getattr(merge, "Misused", ()) as why:
+        print(f"navreport: {why}", file=sys.stderr)
+        return 2
     except (merge.Failed, OSError) as why:
         print(f"navreport: {why}", file=sys.stderr)
         return 3

@@ -36,6 +36,9 @@ class Archive(merge.Tool):
     def own(self):
         return super().own() | self.pages
 
+    def results(self):
+        return [*super().results(), *((page, True) for page in self.pages)]
+
 
 def run(tool, to, source, result):
     """One conversion by navbridge of a file that it wrote itself."""
@@ -118,6 +121,25 @@ def producer_of(name):
     return [" ".join("".join(c if c.isprintable() else " " for c in part).split()) for part in (text[:20], text[20:40])]
 
 
+def sections_of(name):
+    """What is below each header of a file: version, how many lines are above, bytes, lines, whether the last record was left out."""
+    if hasattr(merge, "section_of"):
+        with open(name, "rb") as file:
+            data = merge.unpacked(file.read())[0]
+        begins = merge.headers_of(data)
+        for begin, end in zip(begins, [*begins[1:], len(data)]):
+            above = data.count(b"\n", 0, begin)
+            try:
+                it = merge.section_of(data[begin:end], above)
+            except merge.Unusable:
+                continue
+            yield it["form"], above + it["above"], bytes(it["body"]), it["lines"], it["left_out"]
+    else:
+        row = merge.new_row(name, 0, 0)
+        form, body, lines = merge.looked_at(name, row)
+        yield form, row["above"], bytes(body), lines, row.get("left_out", 0)
+
+
 def candidates(data, form):
     """The records of a file that could be one of the wanted: where they begin and end."""
     for found in EPOCH.finditer(data):
@@ -157,24 +179,21 @@ def look_again(files):
         for number, name, for_rejected, for_versions in files:
             try:
                 producers.append((number, *producer_of(name)))
-                if not (for_rejected or for_versions):
-                    continue
-                row = merge.new_row(name, 0, 0)
-                form, body, lines = merge.looked_at(name, row)
+                sections = list(sections_of(name)) if for_rejected or for_versions else []
             except (merge.Unusable, OSError, zlib.error):
                 continue
-            data = bytes(body)
-            if row.get("left_out"):
-                rejected.append((number, row["above"] + lines + 1, "cut", ""))
-            if for_rejected:
-                parts[form].append((call(form, "list").lines, number, row["above"], data))
-                calls[form, "list"].give(data, lines)
-            if for_versions:
-                at, line = 0, row["above"]
-                for start, end in candidates(data, form):
-                    line, at = line + data.count(b"\n", at, start), start
-                    given[form].append((call(form, "rinex").lines, number, line + 1))
-                    calls[form, "rinex"].give(data[start:end], data.count(b"\n", start, end))
+            for form, above, data, lines, left_out in sections:
+                if left_out:
+                    rejected.append((number, above + lines + 1, "cut", ""))
+                if for_rejected:
+                    parts[form].append((call(form, "list").lines, number, above, data))
+                    calls[form, "list"].give(data, lines)
+                if for_versions:
+                    at, line = 0, above
+                    for start, end in candidates(data, form):
+                        line, at = line + data.count(b"\n", at, start), start
+                        given[form].append((call(form, "rinex").lines, number, line + 1))
+                        calls[form, "rinex"].give(data[start:end], data.count(b"\n", start, end))
         for (form, to), one in calls.items():
             status, refused, counts = one.end()
             if status:
