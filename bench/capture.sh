@@ -7,18 +7,11 @@
 # their digits taken at random. A program over the two crates is made in a folder of its own, proved and built there, and
 # timed as a whole, the least of five runs.
 set -eu
-cd "$(git rev-parse --show-toplevel)"
-megabytes=${1:-12}
-folder=$(mktemp -d)
-trap 'rm -rf "$folder"' EXIT
-(cd "$folder" && git init -q . && mkdir crates)
-grep -E '^(nav_bits|nav_io|crc24q|gnss_week|nav_eph|inav_page|capture_lines):' crates.txt > "$folder/crates.txt"
-echo 'capture: nav_io capture_lines' >> "$folder/crates.txt"
-for crate in nav_bits nav_io crc24q gnss_week nav_eph inav_page capture_lines; do
-  cp -r "crates/$crate" "$folder/crates/"
-done
-mkdir -p "$folder/crates/capture/src"
-cat > "$folder/crates/capture/src/main.rt" <<'PROGRAM'
+. "$(dirname "$(readlink -f "$0")")/lib.sh"
+options '..' "$@"
+megabytes=${arguments[0]:-12}
+over capture nav_io capture_lines
+cat > "$work/crates/capture/src/main.rt" <<'PROGRAM'
 #![tactic(auto)]
 
 use capture_lines::{LineItem, read_line_into};
@@ -85,25 +78,17 @@ BEGIN {
       size += length(line); printf "%s", line
     }
   }
-}' > "$folder/capture.txt"
-bytes=$(stat -c %s "$folder/capture.txt")
-lines=$(wc -l < "$folder/capture.txt")
+}' > "$work/capture.txt"
+bytes=$(stat -c %s "$work/capture.txt")
+lines=$(wc -l < "$work/capture.txt")
 for way in false true; do
-  sed "s/= WAY;/= $way;/" "$folder/crates/capture/src/main.rt" > "$folder/main.$way"
+  sed "s/= WAY;/= $way;/" "$work/crates/capture/src/main.rt" > "$work/main.$way"
 done
 printf '%-26s %8s %12s %10s\n' "$lines lines" MB/s lines/s seconds
 for way in false true; do
-  cp "$folder/main.$way" "$folder/crates/capture/src/main.rt"
-  (cd "$folder/crates/capture" && rt run < /dev/null > "$folder/$way.log" 2>&1) || true
-  program="$folder/crates/capture/out/capture"
-  [ -x "$program" ] || { tail -20 "$folder/$way.log"; exit 1; }
-  best=
-  for _ in 1 2 3 4 5; do
-    from=$(date +%s%N)
-    "$program" < "$folder/capture.txt" || true
-    to=$(date +%s%N)
-    if [ -z "$best" ] || [ $((to - from)) -lt "$best" ]; then best=$((to - from)); fi
-  done
+  cp "$work/main.$way" "$work/crates/capture/src/main.rt"
+  build capture
+  best=$(least 5 "$work/capture.txt" "$work/crates/capture/out/capture")
   name=$([ "$way" = true ] && echo 'lines and read_line_into' || echo 'lines alone')
   awk -v n="$name" -v b="$bytes" -v l="$lines" -v t="$best" \
     'BEGIN { s = t / 1e9; printf "%-26s %8.0f %12.0f %10.4f\n", n, b / s / 1e6, l / s, s }'

@@ -6,17 +6,12 @@
 #
 # A program over the crate is made in a folder of its own, proved and built there, and timed as a whole.
 set -eu
-cd "$(git rev-parse --show-toplevel)"
-numbers=${1:-5000000}
-here=bench/build
-mkdir -p "$here"
-${CC:-cc} -O2 -o "$here/decimals" bench/decimals.c
-folder=$(mktemp -d)
-trap 'rm -rf "$folder"' EXIT
-(cd "$folder" && git init -q . && printf 'scaled_decimal: thiserror\ndecimals: scaled_decimal\n' > crates.txt && mkdir crates)
-cp -r crates/scaled_decimal "$folder/crates/"
-mkdir -p "$folder/crates/decimals/src"
-cat > "$folder/crates/decimals/src/main.rt" <<'PROGRAM'
+. "$(dirname "$(readlink -f "$0")")/lib.sh"
+options '..' "$@"
+numbers=${arguments[0]:-5000000}
+plain decimals
+over decimals scaled_decimal
+cat > "$work/crates/decimals/src/main.rt" <<'PROGRAM'
 #![tactic(auto)]
 
 ghost use Rattle.scaled_decimal.specs.ScaleValue.{AreWithin};
@@ -54,16 +49,13 @@ PROGRAM
 for way in print read; do
   back=false
   [ "$way" = read ] && back=true
-  sed "s/NUMBERS, BACK/$numbers, $back/" "$folder/crates/decimals/src/main.rt" > "$folder/main.$way"
+  sed "s/NUMBERS, BACK/$numbers, $back/" "$work/crates/decimals/src/main.rt" > "$work/main.$way"
 done
 for way in print read; do
-  cp "$folder/main.$way" "$folder/crates/decimals/src/main.rt"
-  (cd "$folder/crates/decimals" && rt run > "$folder/$way.log" 2>&1) || true
-  program="$folder/crates/decimals/out/decimals"
-  from=$(date +%s%N)
-  "$program" || true
-  to=$(date +%s%N)
-  awk -v w="$way" -v n="$numbers" -v t=$((to - from)) \
+  cp "$work/main.$way" "$work/crates/decimals/src/main.rt"
+  build decimals
+  time=$(least 1 /dev/null "$work/crates/decimals/out/decimals")
+  awk -v w="$way" -v n="$numbers" -v t="$time" \
     'BEGIN { printf "navbridge, %-6s %12.0f numbers/s%s\n", w, n / t * 1e9, w == "read" ? " written and read" : "" }'
 done
 "$here/decimals" print "$numbers"

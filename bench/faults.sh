@@ -1,18 +1,18 @@
 #!/usr/bin/env bash
 # Real faults: the built program with its input, its output or its report broken by the system.
 #
-#   bench/faults.sh
+#   bench/faults.sh [--program FILE]
 #
 # For each fault and each of some jobs: the status (3 where the input is at fault, 4 the output, 7 the report), and whether
 # what was written, as far as it can be seen, is a front of what the run without a fault writes. The end of a pipe whose
-# writer has died is no fault for a reader: there the run must be that of the bytes that came. It wants the program in
-# crates/navbridge/out, or the one that NAVBRIDGE names.
+# writer has died is no fault for a reader: there the run must be that of the bytes that came. FILE is
+# navbridge (PROGRAM, or crates/navbridge/out/navbridge).
 set -eu
-cd "$(git rev-parse --show-toplevel)"
-here=bench/build
-program=${NAVBRIDGE:-crates/navbridge/out/navbridge}
-mkdir -p "$here"
-for name in frames streams; do ${CC:-cc} -O2 -o "$here/$name" "bench/$name.c"; done
+. "$(dirname "$(readlink -f "$0")")/lib.sh"
+program=''
+options '--program:' "$@"
+built program navbridge
+plain frames streams
 "$here/frames" mixed 300000 > "$here/mixed.few"
 "$here/streams" make distinct 100000 > "$here/few.stream"
 "$here/streams" rinex 2295 '20240101 000000 UTC' 18 < "$here/few.stream" > "$here/few.rinex" 2> "$here/report"

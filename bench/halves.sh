@@ -11,20 +11,12 @@
 #
 # A program over the crate is made in a folder of its own, proved and built there, and timed as a whole.
 set -eu
-cd "$(git rev-parse --show-toplevel)"
-seconds=${1:-7200}
-folder=$(mktemp -d)
-trap 'rm -rf "$folder"' EXIT
-(cd "$folder" && git init -q . && mkdir crates)
-grep -E '^(nav_bits|crc24q|gnss_week|nav_eph|inav_page):' crates.txt > "$folder/crates.txt"
-echo 'halves: nav_bits nav_eph inav_page' >> "$folder/crates.txt"
-echo 'crowded: nav_bits nav_eph inav_page' >> "$folder/crates.txt"
-for name in nav_bits crc24q gnss_week nav_eph inav_page; do
-  cp -r "crates/$name" "$folder/crates/"
-  rm -rf "$folder/crates/$name/out"
-done
-mkdir -p "$folder/crates/halves/src"
-cat > "$folder/crates/halves/src/main.rt" <<'PROGRAM'
+. "$(dirname "$(readlink -f "$0")")/lib.sh"
+options '..' "$@"
+seconds=${arguments[0]:-7200}
+over halves nav_bits nav_eph inav_page
+over crowded nav_bits nav_eph inav_page
+cat > "$work/crates/halves/src/main.rt" <<'PROGRAM'
 #![tactic(auto)]
 
 ghost use Rattle.std.specs.Prelude.{◌≡◌};
@@ -70,9 +62,8 @@ fn main(rt: HostRuntime) -> Result<ExitCode, AllocError> {
     Ok(ExitCode::from(if words == SECONDS / 2 * 60 { 0 } else { 1 }))
 }
 PROGRAM
-sed -i "s/0\.\.SECONDS/0..${seconds}u32/; s/SECONDS/$seconds/g" "$folder/crates/halves/src/main.rt"
-mkdir -p "$folder/crates/crowded/src"
-cat > "$folder/crates/crowded/src/main.rt" <<'PROGRAM'
+sed -i "s/0\.\.SECONDS/0..${seconds}u32/; s/SECONDS/$seconds/g" "$work/crates/halves/src/main.rt"
+cat > "$work/crates/crowded/src/main.rt" <<'PROGRAM'
 #![tactic(auto)]
 
 ghost use Rattle.std.specs.Prelude.{◌≡◌};
@@ -108,14 +99,12 @@ fn main(rt: HostRuntime) -> Result<ExitCode, AllocError> {
     Ok(ExitCode::from(if words < 1_000_000 { 0 } else { 1 }))
 }
 PROGRAM
-for name in halves crowded; do
-  (cd "$folder/crates/$name" && rt fmt >/dev/null 2>&1; rt run >"$folder/log" 2>&1) || { tail -20 "$folder/log"; exit 1; }
-done
+for name in halves crowded; do build "$name"; done
 # Runs a program three times over: its name, and how many halves it takes.
 timed() {
   for _ in 1 2 3; do
     begin=$(date +%s%N)
-    "$folder/crates/$1/out/$1"
+    "$work/crates/$1/out/$1"
     end=$(date +%s%N)
     echo "$1: $2 halves in $(((end - begin) / 1000000)) ms: $(($2 * 1000 / ((end - begin) / 1000000 + 1))) halves/s"
   done

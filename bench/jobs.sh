@@ -1,25 +1,23 @@
 #!/usr/bin/env bash
 # The whole jobs: what the built program takes beside plain C programs of the same job on the same files, in one sitting.
 #
-#   bench/jobs.sh [MEGABYTES]      50 where none is said: the bytes of each stream
+#   bench/jobs.sh [MEGABYTES] [--program FILE] [--runs N]
 #
-# It wants the program that `rt ci` and `rt run` leave in crates/navbridge/out (or the one that NAVBRIDGE names). Inputs are made in
-# bench/build. First each job is run once into a file, and its bytes are compared with those of the C program, or with
-# what the maker of the input knows; then it is timed with the output sent to /dev/null, the least of five runs. Times
+#   MEGABYTES       of each stream (50)
+#   --program FILE  navbridge (PROGRAM, or crates/navbridge/out/navbridge)
+#   --runs N        of each row, of which the least is told (5)
+#
+# Inputs are made in bench/build. First each job is run once into a file, and its bytes are compared with those of the C program, or with
+# what the maker of the input knows; then it is timed with the output sent to /dev/null, the least of the runs. Times
 # are of the processor (user and system), which other work on the machine moves less than the clock; both are printed.
 # "not built" stands where the program answers that the words give no job.
 set -eu
-cd "$(git rev-parse --show-toplevel)"
-size=$((${1:-50} * 1000000))
-runs=${RUNS:-5}
-here=bench/build
-program=${NAVBRIDGE:-crates/navbridge/out/navbridge}
-mkdir -p "$here"
-for name in frames streams captures spent; do
-  if [ ! -x "$here/$name" ] || [ "bench/$name.c" -nt "$here/$name" ] || [ bench/records.h -nt "$here/$name" ]; then
-    ${CC:-cc} -O2 -o "$here/$name" "bench/$name.c"
-  fi
-done
+. "$(dirname "$(readlink -f "$0")")/lib.sh"
+program='' runs=5
+options '--program: --runs: ..' "$@"
+size=$((${arguments[0]:-50} * 1000000))
+built program navbridge
+plain frames streams captures spent
 date=(--date '20240101 000000 UTC' --leap 18)
 week=(--week 2295)
 

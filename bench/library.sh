@@ -10,15 +10,13 @@
 #
 # Each row is the least of five runs, in processor time.
 set -eu
-cd "$(dirname "$(readlink -f "$0")")/.."
-megabytes=${1:-10}
+. "$(dirname "$(readlink -f "$0")")/lib.sh"
+options '..' "$@"
+megabytes=${arguments[0]:-10}
 archive=${ARCHIVE:-$PWD/crates/navbridge_c/out/libnavbridge_c.a}
-[ -f "$archive" ] || { echo "library: no archive $archive: bindings/archive.sh makes it" >&2; exit 2; }
-here=bench/build
-mkdir -p "$here"
+[ -f "$archive" ] || fail "no archive $archive: bindings/archive.sh makes it"
+plain streams captures
 cc=${CC:-cc}
-$cc -O2 -o "$here/streams" bench/streams.c
-$cc -O2 -o "$here/captures" bench/captures.c
 "$here/streams" make distinct $((megabytes * 1000000)) > "$here/library.rtcm3"
 "$here/captures" make 7 32 2295 > "$here/library.navcap"
 words=()

@@ -1,19 +1,19 @@
 #!/usr/bin/env bash
 # Memory refused: the built program with its requests refused, one by one, and under limits of its address space.
 #
-#   bench/memory.sh [MOST]      2,000 where none is said: at most so many requests of a job are refused, spread evenly
+#   bench/memory.sh [MOST] [--program FILE]      2,000 where none is said: at most so many requests of a job are refused, spread evenly
 #
 # A library in front of the C library's (bench/refuse.c) refuses the n-th request alone, and in a second pass the n-th and
 # all after it. Each run must end with 6, or with 0 and the output and the report of the run with ample memory; on 6 what
 # was written must be a front of these. Then `ulimit -v` is set lower and lower, which also refuses what the C library
-# itself asks of the system. It wants the program in crates/navbridge/out, or the one that NAVBRIDGE names.
+# itself asks of the system. FILE is navbridge (PROGRAM, or crates/navbridge/out/navbridge).
 set -eu
-cd "$(git rev-parse --show-toplevel)"
-here=bench/build
-program=${NAVBRIDGE:-crates/navbridge/out/navbridge}
-mkdir -p "$here"
+. "$(dirname "$(readlink -f "$0")")/lib.sh"
+program=''
+options '--program: ..' "$@"
+built program navbridge
 ${CC:-cc} -O2 -fno-builtin -shared -fPIC -o "$here/refuse.so" bench/refuse.c
-for name in streams captures; do ${CC:-cc} -O2 -o "$here/$name" "bench/$name.c"; done
+plain streams captures
 echo "what the program takes from the C library: $(nm -D "$program" | awk '$1 == "U" { sub("@.*", "", $2); print $2 }' | tr '\n' ' ')"
 cat > "$here/galileo.navcap" <<'CAPTURE'
 NAVCAP 1
@@ -36,7 +36,7 @@ CAPTURE
   23i > STO G31 LNAV\n    2024 01 01 00 00 00 GPUT\n     0.000000000000e+00
   s/([0-9])D([+-])/\1e\2/g
   s/^(     9\.999000000000e\+08) .*/\1/' | sed 's/$/\r/' > "$here/tools.rinex"
-exec python3 - "$program" "$here" "${1:-2000}" <<'PYTHON'
+exec python3 - "$program" "$here" "${arguments[0]:-2000}" <<'PYTHON'
 import os, resource, subprocess, sys
 
 program, here, most = os.path.abspath(sys.argv[1]), os.path.abspath(sys.argv[2]), int(sys.argv[3])

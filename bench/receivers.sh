@@ -2,21 +2,21 @@
 # Times navlog over logs of receivers: an hour of UBX with RXM-RAWX of 100 signals a second and RXM-SFRBX of 15 satellites of
 # GPS and 15 of Galileo among them, and logs of false syncs alone.
 #
-#   bench/receivers.sh NAVLOG [FOLDER]
+#   bench/receivers.sh [--navlog FILE] [--folder FOLDER]
 #
-# NAVLOG is the built program; the logs are made in FOLDER, or in a new one that is removed at the end.
+#   --navlog FILE    navlog (NAVLOG, or crates/navlog/out/navlog)
+#   --folder FOLDER  where the logs are made (one that goes at the end)
 set -eu
-
-if [ $# -lt 1 ] || [ "$1" = --help ]; then
-    sed -n '2,8s/^# \{0,1\}//p' "$0"
-    exit 0
-fi
-navlog=$1
-folder=${2:-}
+. "$(dirname "$(readlink -f "$0")")/lib.sh"
+navlog='' folder=''
+options '--navlog: --folder:' "$@"
+built navlog navlog
 if [ -z "$folder" ]; then
-    folder=$(mktemp -d)
-    trap 'rm -rf "$folder"' EXIT
+  work_folder
+  folder=$work
 fi
+folder=$(path_of "$folder")
+mkdir -p "$folder"
 
 python3 - "$folder" <<'PYTHON'
 import os, random, struct, sys
@@ -58,12 +58,6 @@ PYTHON
 for log in hour.ubx false.ubx noise.ubx false.sbf; do
     form=${log##*.}
     bytes=$(stat -c %s "$folder/$log")
-    best=
-    for _ in 1 2 3; do
-        begin=$(date +%s%N)
-        "$navlog" --from "$form" < "$folder/$log" > /dev/null 2> /dev/null
-        spent=$(($(date +%s%N) - begin))
-        if [ -z "$best" ] || [ "$spent" -lt "$best" ]; then best=$spent; fi
-    done
+    best=$(least 3 "$folder/$log" "$navlog" --from "$form")
     echo "$log: $bytes bytes, $((bytes * 1000 / best)) MB/s"
 done

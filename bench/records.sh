@@ -6,19 +6,12 @@
 # A file of two ephemerides in turn is made, and a program over the crate, in a folder of its own, which is proved and
 # built there and timed as a whole, the reading of its standard input included.
 set -eu
-cd "$(git rev-parse --show-toplevel)"
-records=${1:-200000}
-folder=$(mktemp -d)
-trap 'rm -rf "$folder"' EXIT
-(cd "$folder" && git init -q . && mkdir crates)
-crates="nav_bits gnss_week nav_eph nav_io scaled_decimal rinex_write rinex_read"
-for name in $crates; do
-  grep "^$name:" crates.txt >> "$folder/crates.txt"
-  cp -r "crates/$name" "$folder/crates/"
-done
-echo 'records: nav_io rinex_read' >> "$folder/crates.txt"
-mkdir -p "$folder/crates/records/src" "$folder/crates/records/proofs/count"
-cat > "$folder/crates/records/src/main.rt" <<'PROGRAM'
+. "$(dirname "$(readlink -f "$0")")/lib.sh"
+options '..' "$@"
+records=${arguments[0]:-200000}
+over records nav_io rinex_read
+mkdir -p "$work/crates/records/proofs/count"
+cat > "$work/crates/records/src/main.rt" <<'PROGRAM'
 #![tactic(auto)]
 
 ghost use Rattle.std.specs.Prelude.{◌≡◌};
@@ -55,8 +48,8 @@ fn main(rt: HostRuntime) -> ExitCode {
     ExitCode::from(if items == RECORDS { 0 } else { 2 })
 }
 PROGRAM
-sed -i "s/RECORDS/$records/" "$folder/crates/records/src/main.rt"
-cat > "$folder/crates/records/proofs/count/Invariants.antt" <<'PROOF'
+sed -i "s/RECORDS/$records/" "$work/crates/records/src/main.rt"
+cat > "$work/crates/records/proofs/count/Invariants.antt" <<'PROOF'
 use Rattle.std.proofs.Common.{◌≡◌}
 use Rattle.rinex_read.specs.declared.judged.HeaderState.TheVariants.{Passed}
 use Rattle.rinex_read.specs.States.{lines_left}
@@ -68,7 +61,7 @@ invariant-records g l = l.records.header ≡ Passed
 abbrev pub decreases-records : goal.decreases-records
 decreases-records g l = lines_left l.records
 PROOF
-cat > "$folder/two" <<'RECORDS'
+cat > "$work/two" <<'RECORDS'
 > EPH G01 LNAV
 G01 2014 03 12 12 00 00 7.284949533641D-04 1.136868377216D-13 2.498001805407D-15
      4.100000000000D+01-4.687500000000D-01 0.000000000000D+00 1.462918079267D-09
@@ -90,12 +83,9 @@ E01 2024 01 05 14 00 00 6.249999994179D-02 1.151801143351D-08-5.377642775528D-17
 RECORDS
 {
   printf '%-60s%s\n' '     4.01           N: GNSS NAV DATA    M: MIXED' 'RINEX VERSION / TYPE' "$(printf ' ')" 'END OF HEADER'
-  awk -v n=$((records / 2)) '{ text = text $0 "\n" } END { for (i = 0; i < n; i++) printf "%s", text }' "$folder/two"
-} > "$folder/file"
-(cd "$folder/crates/records" && rt run < "$folder/file" > "$folder/run.log" 2>&1) || { tail -20 "$folder/run.log"; exit 1; }
-program="$folder/crates/records/out/records"
-from=$(date +%s%N)
-"$program" < "$folder/file"
-to=$(date +%s%N)
-awk -v n="$records" -v b="$(stat -c %s "$folder/file")" -v t=$((to - from)) \
+  awk -v n=$((records / 2)) '{ text = text $0 "\n" } END { for (i = 0; i < n; i++) printf "%s", text }' "$work/two"
+} > "$work/file"
+build records "$work/file"
+time=$(least 1 "$work/file" "$work/crates/records/out/records")
+awk -v n="$records" -v b="$(stat -c %s "$work/file")" -v t="$time" \
   'BEGIN { printf "%.0f records of %.1f MB in %.2f s: %.1f MB/s, %.0f records/s\n", n, b / 1e6, t / 1e9, b / t * 1e3, n / t * 1e9 }'

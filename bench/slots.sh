@@ -7,20 +7,13 @@
 # contents of their own, all open at once; and parts of 64 keys again and again, ten seconds apart, in order and in
 # another order. A program over the crate is made in a folder of its own, proved and built there, and timed as a whole.
 set -eu
-cd "$(git rev-parse --show-toplevel)"
-parts=${1:-200000}
-folder=$(mktemp -d)
-trap 'rm -rf "$folder"' EXIT
-(cd "$folder" && git init -q . && mkdir crates)
-crates="nav_bits gnss_week nav_eph periods slot_assembly"
-for name in $crates; do
-  grep "^$name:" crates.txt >> "$folder/crates.txt"
-  cp -r "crates/$name" "$folder/crates/"
-done
-echo 'slots: nav_bits gnss_week nav_eph periods slot_assembly' >> "$folder/crates.txt"
-mkdir -p "$folder/crates/slots/src" "$folder/crates/slots/proofs"
-touch "$folder/crates/slots/proofs/Lib.antt"
-cat > "$folder/crates/slots/src/main.rt" <<'PROGRAM'
+. "$(dirname "$(readlink -f "$0")")/lib.sh"
+options '..' "$@"
+parts=${arguments[0]:-200000}
+over slots nav_bits gnss_week nav_eph periods slot_assembly
+mkdir -p "$work/crates/slots/proofs"
+touch "$work/crates/slots/proofs/Lib.antt"
+cat > "$work/crates/slots/src/main.rt" <<'PROGRAM'
 #![tactic(auto)]
 
 ghost use Rattle.std.specs.Prelude.{◌<◌};
@@ -105,13 +98,13 @@ fn main(rt: HostRuntime) -> ExitCode {
     }
 }
 PROGRAM
-main="$folder/crates/slots/src/main.rt"
+main="$work/crates/slots/src/main.rt"
 sed -i "s/PARTS/$parts/g" "$main"
-cp "$main" "$folder/main.rt"
+cp "$main" "$work/main.rt"
 while read -r kind step periods what; do
-  sed "s/KIND/$kind/; s/STEP/$step/; s/PERIODS/$periods/" "$folder/main.rt" > "$main"
-  (cd "$folder/crates/slots" && rt run < /dev/null > "$folder/log" 2>&1) || { tail -20 "$folder/log"; exit 1; }
-  program="$folder/crates/slots/out/slots"
+  sed "s/KIND/$kind/; s/STEP/$step/; s/PERIODS/$periods/" "$work/main.rt" > "$main"
+  build slots
+  program="$work/crates/slots/out/slots"
   python3 - "$program" "$parts" "$what" <<'TIME'
 import resource, subprocess, sys, time
 program, parts, what = sys.argv[1], int(sys.argv[2]), sys.argv[3]

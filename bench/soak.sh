@@ -6,7 +6,7 @@
 #   --seconds N     of the clock (3600)
 #   --rate N        times the usual rate of frames and lines (100)
 #   --seed N        of the values and the faults (7)
-#   --program PATH  the built program (NAVBRIDGE, or crates/navbridge/out/navbridge, which `rt ci` and `rt run` leave)
+#   --program PATH  the built program (PROGRAM, or crates/navbridge/out/navbridge, which `rt ci` and `rt run` leave)
 #   --keep          leaves inputs, outputs and samples in bench/build/soak; some 1.4 GB for an hour at a hundred times the rate
 #
 # Two runs side by side, stream to rinex and capture to rinex, fed by bench/feeder.py through a pipe, with connections that are
@@ -15,34 +15,12 @@
 # status 0 where every output and every report is that of the run over the whole, and no ephemeris is missing (of a capture
 # the last ones are whole where the data ends with two hours, as with 3600 s or 1800 s at a hundred times the rate).
 set -euo pipefail
-cd "$(dirname "$0")/.."
-
-seconds=3600 rate=100 seed=7 keep=
-program=${NAVBRIDGE:-crates/navbridge/out/navbridge}
-while [ $# -gt 0 ]; do
-  case $1 in
-    -h | --help)
-      sed -n '2,/^set /{/^set /d;s/^# \{0,1\}//;p}' "$0"
-      exit 0
-      ;;
-    --seconds | --rate | --seed | --program)
-      [ $# -ge 2 ] || { echo "soak: $1 wants a value; --help" >&2; exit 2; }
-      printf -v "${1#--}" %s "$2"
-      shift 2
-      ;;
-    --keep)
-      keep=1
-      shift
-      ;;
-    *)
-      echo "soak: $1 is no option; --help" >&2
-      exit 2
-      ;;
-  esac
-done
-[ -x "$program" ] || { echo "soak: build first: no program at $program (rt ci and rt run leave it there; --program names another)" >&2; exit 2; }
+. "$(dirname "$(readlink -f "$0")")/lib.sh"
+seconds=3600 rate=100 seed=7 keep='' program=''
+options '--seconds: --rate: --seed: --program: --keep' "$@"
+built program navbridge
 for number in "$seconds" "$rate" "$seed"; do
-  [[ $number =~ ^[1-9][0-9]{0,5}$ ]] || { echo "soak: $number is no number from 1 to 999999; --help" >&2; exit 2; }
+  [[ $number =~ ^[1-9][0-9]{0,5}$ ]] || fail "$number is no number from 1 to 999999; --help"
 done
 
 here=bench/build/soak

@@ -1,41 +1,28 @@
 #!/usr/bin/env bash
 # Measures the merging of a year's archive: at once, by days, months and years, beside sort -u and RTKLIB's convbin.
+#
+# bench/year.sh [options] DIR
+#
+# Makes an archive by bench/year.py in DIR (once: what is there is taken), and merges it: all files at once, by days, months and the year,
+# again with nothing new, and the same records in files of a day's size. Each row has the seconds that passed, the processor's seconds, the
+# memory at the peak of the largest process, the bytes unpacked, MB/s of these, and what was kept. Then the plain ways: each record on a
+# line through `sort -u`, of the files of one program, whole and without the time of sending; and convbin, where it is installed.
+#
+#   --days N, --stations N   of the archive (365, 40)
+#   --jobs N                 at work at once (as many as there are processors)
+#   --program FILE           navbridge (crates/navbridge/out/navbridge of this repository)
+#
+# Status: 0 measured; 1 bytes differ that should not; 2 the words.
 set -eu
-usage=$(cat << 'END'
-bench/year.sh [options] DIR
-
-Makes an archive by bench/year.py in DIR (once: what is there is taken), and merges it: all files at once, by days, months and the year,
-again with nothing new, and the same records in files of a day's size. Each row has the seconds that passed, the processor's seconds, the
-memory at the peak of the largest process, the bytes unpacked, MB/s of these, and what was kept. Then the plain ways: each record on a
-line through `sort -u`, of the files of one program, whole and without the time of sending; and convbin, where it is installed.
-
-  --days N, --stations N   of the archive (365, 40)
-  --jobs N                 at work at once (as many as there are processors)
-  --program FILE           navbridge (crates/navbridge/out/navbridge of this repository)
-  --help                   this text
-
-Status: 0 measured; 1 bytes differ that should not; 2 the words.
-END
-)
-here=$(dirname -- "$(readlink -f -- "${BASH_SOURCE[0]}")")
-days=365 stations=40 jobs=$(nproc) program=${PROGRAM:-$here/../crates/navbridge/out/navbridge} dir=
-while [ $# -gt 0 ]; do
-  case $1 in
-    --help) echo "$usage"; exit 0 ;;
-    --days) days=$2; shift ;;
-    --stations) stations=$2; shift ;;
-    --jobs) jobs=$2; shift ;;
-    --program) program=$2; shift ;;
-    -*) echo "year.sh: $1: no such option; --help says more" >&2; exit 2 ;;
-    *) dir=$1 ;;
-  esac
-  shift
-done
-[ -n "$dir" ] || { echo "$usage" >&2; exit 2; }
-[ -x "$program" ] || { echo "year.sh: $program: build it first (rt ci, or rt run in crates/navbridge), or name it by --program" >&2; exit 2; }
-program=$(readlink -f -- "$program")
+. "$(dirname "$(readlink -f "$0")")/lib.sh"
+days=365 stations=40 jobs=$(nproc) program=''
+options '--days: --stations: --jobs: --program: ..' "$@"
+dir=${arguments[0]:-}
+[ -n "$dir" ] || fail "the name of a folder is wanted; --help"
+built program navbridge
+here=$top/bench
+dir=$(path_of "$dir")
 mkdir -p "$dir"
-dir=$(readlink -f -- "$dir")
 merge=$here/../examples/merge_archive.sh
 words=(--date "20240101 000000 UTC" --leap 18 --program "$program")
 export LC_ALL=C

@@ -14,7 +14,7 @@ set -u
 . "$(dirname "$(readlink -f "$0")")/lib.sh"
 archive='' sanitize='' valgrind=''
 options '--archive: --sanitize --valgrind' "$@"
-archive=$(readlink -m -- "${archive:-$top/crates/navbridge_c/out/libnavbridge_c.a}")
+archive=$(path_of "${archive:-$top/crates/navbridge_c/out/libnavbridge_c.a}")
 [ -f "$archive" ] || fail "no archive $archive: bindings/archive.sh makes it"
 [ -z "$sanitize" ] || sanitize='-fsanitize=address,undefined -fno-sanitize-recover=all -g'
 [ -z "$valgrind" ] || valgrind='valgrind -q --error-exitcode=9 --leak-check=full'

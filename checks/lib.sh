@@ -3,6 +3,7 @@
 
 top=$(dirname "$(dirname "$(readlink -f "${BASH_SOURCE[0]}")")")
 me=$(basename "$0" .sh)
+start=$PWD
 tried=0 wrong=0
 
 # Why the script ends, and its status 2
@@ -16,6 +17,9 @@ skip() {
   echo "skipped: $*"
   exit 0
 }
+
+# A path of the command line, as a whole one, wherever the script has gone
+path_of() { (cd "$start" && readlink -m -- "$1"); }
 
 # The comment at the head of the script
 help() { sed -n '2,/^[^#]/{/^[^#]/d;s/^# \{0,1\}//;p}' "$0"; }
@@ -63,7 +67,7 @@ options() {
 is_built() {
   local variable=$1 of_environment=${1^^} file
   file=${!variable:-${!of_environment:-}}
-  printf -v "$variable" %s "$(readlink -m -- "${file:-$top/crates/$2/out/$2}")"
+  printf -v "$variable" %s "$(path_of "${file:-$top/crates/$2/out/$2}")"
   [ -f "${!variable}" ] && [ -x "${!variable}" ]
 }
 built() {

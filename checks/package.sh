@@ -12,7 +12,7 @@ set -uo pipefail
 program=()
 options '--program+:' "$@"
 given=()
-for it in "${program[@]}"; do given+=(--program "$(readlink -m -- "$it")"); done
+for it in "${program[@]}"; do given+=(--program "$(path_of "$it")"); done
 cd "$top" || exit 1
 [ "$(id -u)" = 0 ] || skip "only root may install a package"
 command -v dpkg > /dev/null || skip "dpkg is not installed"

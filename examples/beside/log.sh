@@ -1,19 +1,21 @@
 #!/usr/bin/env bash
 # What convbin (RTKLIB) and navlog with navbridge make of the same log of a receiver, number by number, where they are installed.
 #
-#   examples/beside/log.sh
+#   examples/beside/log.sh [--navlog FILE] [--program FILE]
 #
-# NAVLOG and PROGRAM name navlog and navbridge (those of crates/*/out where they are not set).
+#   --navlog FILE   navlog (NAVLOG, or crates/navlog/out/navlog)
+#   --program FILE  navbridge (PROGRAM, or crates/navbridge/out/navbridge)
 set -euo pipefail
-cd "$(dirname "$0")"
-navlog=${NAVLOG:-../../crates/navlog/out/navlog}
-program=${PROGRAM:-../../crates/navbridge/out/navbridge}
-if ! command -v convbin > /dev/null; then
-  echo "log.sh: convbin is not installed (Debian's package rtklib)" >&2
-  exit 1
-fi
-out=$(mktemp -d)
-trap 'rm -rf "$out"' EXIT
+# shellcheck source=../../checks/lib.sh
+. "$(dirname "$(readlink -f "$0")")/../../checks/lib.sh"
+navlog='' program=''
+options '--navlog: --program:' "$@"
+built navlog navlog
+built program navbridge
+command -v convbin > /dev/null || fail "convbin is not installed (Debian's package rtklib)"
+work_folder
+out=$work
+cd "$top/examples/beside"
 python3 log.py log > "$out/log.ubx"
 "$navlog" --from ubx < "$out/log.ubx" 2> "$out/report" > "$out/log.navcap"
 "$program" --from capture --to rinex3 --date "20240105 000000 UTC" --leap 18 < "$out/log.navcap" > "$out/ours.nav" 2> /dev/null

@@ -1,13 +1,18 @@
 #!/usr/bin/env bash
 # What convbin (RTKLIB), gpsdecode (gpsd) and navbridge make of the same streams, where they are installed.
 #
-#   examples/beside/run.sh
+#   examples/beside/run.sh [--program FILE]
 #
-# PROGRAM names navbridge (crates/navbridge/out/navbridge where it is not set).
-cd "$(dirname "$0")" || exit 1
-program=${PROGRAM:-../../crates/navbridge/out/navbridge}
-out=$(mktemp -d)
-trap 'rm -rf "$out"' EXIT
+#   --program FILE  navbridge (PROGRAM, or crates/navbridge/out/navbridge)
+set -u
+# shellcheck source=../../checks/lib.sh
+. "$(dirname "$(readlink -f "$0")")/../../checks/lib.sh"
+program=''
+options '--program:' "$@"
+built program navbridge
+work_folder
+out=$work
+cd "$top/examples/beside" || exit 1
 beside() { # stream, week of the words, what convbin is told of the time
   echo "=== $1"
   echo "--- navbridge --from stream --to rinex3 --week $2"

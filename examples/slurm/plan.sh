@@ -1,5 +1,9 @@
-# shellcheck shell=bash
-# What submit.sh and parallel.sh have in common: their words, and the lists of the steps. They source it; it is no command.
+#!/usr/bin/env bash
+# What submit.sh and parallel.sh have in common: their words, and the lists of the steps. They source it; called, it prints this.
+if [ "${BASH_SOURCE[0]}" = "$0" ]; then
+  sed -n '2s/^# //p' "$0"
+  exit 0
+fi
 
 # reads the words behind the text of --help, and exports what step.sh wants
 read_words() {
