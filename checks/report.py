@@ -394,8 +394,8 @@ def look(tally, browser, site, report):
                [report["files"]["files"], report["files"]["not_read"], report["records"]["records"], report["records"]["rejected"], report["records"]["skipped"],
                 report["records"]["distinct_ephemerides"], len(report["gaps"]), len(report["contradictions"]), len(report["health_changes"])])
     rows = "[...document.querySelectorAll('tr[data-sat]')].filter((it) => !it.hidden)"
-    tally.same("index: satellites", browser.js(f"{rows}.map((it) => [...it.cells].slice(0, 4).map((one) => one.textContent))"),
-               [[it["satellite"], str(it["ephemerides"]), f"{it['percent']:.2f}", str(it["gaps"])] for it in report["satellites"]])
+    tally.same("index: satellites", browser.js(f"{rows}.map((it) => [0, 1, 3, 5].map((one) => it.cells[one].textContent))"),
+               [[it["satellite"], f"{it['percent']:.2f}", str(it["gaps"]), str(it["ephemerides"])] for it in report["satellites"]])
     browser.click("document.getElementById('find')")
     browser.call("Input.insertText", text="e1")
     tally.same("index: the search", browser.js(f"{rows}.map((it) => it.dataset.sat)"), ["E11"])
@@ -408,8 +408,8 @@ def look(tally, browser, site, report):
     tally.same("index: a click on a day", browser.js("document.getElementById('status') && document.getElementById('status').textContent.slice(0, 26)"), "G31, 2024-01-21 (day 021):")
     month(tally, browser, site, report, by_name)
     browser.open(f"file://{site}/files.html")
-    tally.same("files: rejected", browser.js(texts("rejected")), [[it["file"], str(it["line"]), it["reason"], it["record"]] for it in report["rejected"]])
-    tally.same("files: all", browser.js(f"{texts('all')}.map((it) => it.slice(0, 2))"), [[it["file"], it["outcome"]] for it in report["file_rows"]])
+    tally.same("files: rejected", browser.js(texts("rejected")), [[it["file"][len(report["root"]):], str(it["line"]), it["reason"], it["record"]] for it in report["rejected"]])
+    tally.same("files: all", browser.js(f"{texts('all')}.map((it) => it.slice(0, 2))"), [[it["file"][len(report["root"]):], it["outcome"]] for it in report["file_rows"]])
     tally.same("files: a name is no markup", browser.js("document.images.length"), 0)
     browser.click("document.querySelector('input[data-rows=all]')")
     browser.call("Input.insertText", text="ends short")
@@ -435,7 +435,7 @@ def month(tally, browser, site, report, by_name):
     state = "['sat', 'day', 'hour'].map((it) => document.getElementById(it).value)"
     tally.same("month: percents", browser.js(f"{texts('matrix')}.map((it) => it.map((one) => Number(one) || one))"),
                [[name, it["percent"], *(day * 10000 // 86400 / 100 or "0" for day in it["day_seconds"])] for name, it in by_name.items()])
-    tally.same("month: gaps", browser.js(f"{texts('gaps')}.map((it) => it.slice(0, 3))"),
+    tally.same("month: gaps", browser.js(f"{texts('gaps')}.map((it) => [it[0], it[2], it[3]])"),
                [[it["satellite"], moment_text(it["from"]), moment_text(it["to"])] for it in report["gaps"]])
     tally.same("month: gaps in the timeline", browser.js("document.querySelectorAll('#chart rect.gap').length"), len(report["gaps"]))
     tally.same("month: contradictions in the timeline", browser.js("document.querySelectorAll('#chart path.mark').length"), len(report["contradictions"]))

@@ -35,7 +35,7 @@ packed by gzip or compress or plain, detected by their content.
   --help           this text; --version, alone, the version
 
 Exit status: 0 every file was read; 1 the site is written, and some file was not read or ends short; 2 wrong arguments, or no program;
-3 the run failed (a full disk, say).
+3 the run failed (a full disk, for example).
 """
 
 
@@ -152,9 +152,9 @@ def main(arguments):
         os.makedirs(args.site, exist_ok=True)
         work = tempfile.mkdtemp(prefix=".navreport.", suffix=".part", dir=args.site)
         found = gathered(args, work)
-        report = figures.report(found, made, args.first, args.last)
         title = args.title or ", ".join(merge.shown(os.path.basename(os.path.normpath(it)) or it) for it in args.names if it != "-")
-        site.write(args.site, report, found.reading, title or "Archive", work)
+        report = figures.report(found, made, title or "Archive", args.first, args.last)
+        site.write(args.site, report, found.reading, work)
     except KeyboardInterrupt:
         print("navreport: interrupted; the site is as it was", file=sys.stderr)
         return 130

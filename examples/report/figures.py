@@ -2,6 +2,8 @@
 import collections
 import datetime
 import itertools
+import os
+import re
 
 from report import gather
 
@@ -95,13 +97,13 @@ class Reading:
         issues = collections.defaultdict(list)
         for it in group:
             issues[it.issue].append(it)
-        for issue, some in sorted(issues.items()):
+        for _, some in sorted(issues.items()):
             if len(some) > 1:
-                self.note("numbers", toe, satellite, issue, some)
+                self.note("numbers", toe, satellite, some)
         if len(issues) > 1:
-            self.note("issue", toe, satellite, None, [some[0] for _, some in sorted(issues.items())])
+            self.note("issue", toe, satellite, [some[0] for _, some in sorted(issues.items())])
 
-    def note(self, kind, toe, satellite, issue, some):
+    def note(self, kind, toe, satellite, some):
         values = [gather.numbers_of(it.lines) for it in some]
         differ = [name for name in values[0] if len({it[name] for it in values}) > 1]
         ids = []
@@ -109,8 +111,8 @@ class Reading:
             ids.append(len(self.texts))
             self.texts.append(gather.text_of(it.lines))
             self.epochs.add(it.lines[1][:23].replace(b" ", b"0"))
-        self.contradictions.append({"satellite": satellite, "toe": toe, "toe_text": text_of(toe), "issue": issue, "kind": kind,
-                                    "differ": differ, "versions": [{"values": {name: it[name] for name in differ}, "files": [],
+        self.contradictions.append({"satellite": satellite, "toe": toe, "toe_text": text_of(toe), "kind": kind,
+                                    "issues": sorted({it.issue for it in some}), "differ": differ, "versions": [{"values": {name: it[name] for name in differ}, "files": [],
                                                                     "file_count": 0, "producers": []} for it in values]})
         self.versions.append(ids)
 
@@ -178,11 +180,38 @@ def covered(reading, cover, healthy, span):
 
 
 def span_of(reading, first, last):
-    """From the first day with a Toe to the last one, or the days that were asked for."""
-    toes = [it[at][0] for it in reading.ephemerides.values() for at in (0, -1)]
-    start = moment_of(first) if first else min(toes, default=0) // DAY * DAY
-    end = moment_of(last) + DAY if last else (max(toes) // DAY + 1) * DAY if toes else start + DAY
+    """The days that were asked for, else from the first day with a Toe to the last one. Where more than a year lies between two such
+    days, a file has a wrong date: then it is the part that has most ephemerides."""
+    per_day = collections.Counter(toe // DAY for some in reading.ephemerides.values() for toe, _, _ in some)
+    parts = [[0]]
+    for day in sorted(per_day):
+        if day - parts[-1][-1] > 366:
+            parts.append([])
+        parts[-1].append(day)
+    part = max(parts[1:], key=lambda days: sum(per_day[day] for day in days), default=[0])
+    start = moment_of(first) if first else part[0] * DAY
+    end = moment_of(last) + DAY if last else (part[-1] + 1) * DAY
     return start, max(end, start + DAY)
+
+
+LONG_NAME = re.compile(r"([A-Z0-9]{9})_[A-Z]_(\d{4})(\d{3})\d{4}_")  # RINEX 3.05, table A1
+SHORT_NAME = re.compile(r"([a-z0-9]{4})(\d{3})[0-9a-x](?:\d\d)?\.(\d\d)[nlp]", re.I)
+
+
+def stations_of(rows, days):
+    """The days of which each station has a file, by the files' names, and those that are missing between."""
+    groups = collections.defaultdict(list)
+    for row in rows:
+        name = os.path.basename(row["name"])
+        found = LONG_NAME.match(name)
+        station, year, day = found.groups() if found else ("", "", "")
+        if not found and (found := SHORT_NAME.match(name)):
+            station, day, year = found.groups()
+            year = f"{'20' if year < '80' else '19'}{year}"
+        if found and row["outcome"] in gather.merge.READS and 1 <= int(day) <= 366:
+            groups[station.upper()].append(f"{datetime.date(int(year), 1, 1) + datetime.timedelta(days=int(day) - 1)}")
+    return [{"station": station, "files": len(some), "days": sorted(set(some)), "missing": [day for day in days if day not in set(some)]}
+            for station, some in sorted(groups.items())]
 
 
 def by_producer(rows, producers, contradictions_of):
@@ -208,7 +237,7 @@ def summed(rows, key):
     return dict(sorted(total.items()))
 
 
-def report(found, made, first, last):
+def report(found, made, title, first, last):
     """All of it; found is what command.py gathered."""
     reading, rows, names = found.reading, found.rows, found.names
     span = span_of(reading, first, last)
@@ -233,18 +262,26 @@ def report(found, made, first, last):
     rejected, skipped = summed(rows, "refused"), summed(rows, "passed")
     days = (end - start) // DAY
     ephemerides = sum(len(some) for some in reading.ephemerides.values())
+    outside = sorted((toe, name) for name, some in reading.ephemerides.items() for toe, _, _ in some if not start <= toe < end)
+    day_names = [f"{date_of(start + day * DAY):%Y-%m-%d}" for day in range(days)]
+    roots = {os.path.dirname(name) for name in names}
+    root = os.path.commonpath(roots) + os.sep if len(roots) > 1 and len({os.path.isabs(it) for it in roots}) == 1 else "".join(roots) + os.sep
     return {
         "format": "navreport 1",
         "made": made,
+        "title": title,
         "time": "GPS time, seconds from 1980-01-06 00:00:00",
         "span": {"from": start, "to": end, "from_text": text_of(start), "to_text": text_of(end)},
-        "days": [f"{date_of(start + day * DAY):%Y-%m-%d}" for day in range(days)],
+        "days": day_names,
+        "root": root if all(name.startswith(root) for name in names) else "",
         "files": {"files": len(rows), "read": sum(outcomes[it] for it in gather.merge.READS),
                   "not_read": len(rows) - sum(outcomes[it] for it in gather.merge.READS), "by_outcome": dict(sorted(outcomes.items()))},
         "records": {"records": total, "rejected": sum(rejected.values()), "skipped": sum(skipped.values()),
                     "read": total - sum(rejected.values()) - sum(skipped.values()), "rejected_by_reason": rejected, "skipped_by_kind": skipped,
-                    "distinct_ephemerides": ephemerides, "outside_span": ephemerides - sum(it["ephemerides"] for it in satellites)},
+                    "distinct_ephemerides": ephemerides, "outside_span": len(outside)},
+        "outside": [{"satellite": name, "toe": toe, "toe_text": text_of(toe)} for toe, name in outside[:1000]],
         "producers": by_producer(rows, found.producers, contradictions_of),
+        "stations": stations_of(rows, day_names),
         "systems": systems,
         "satellites": satellites,
         "gaps": gaps,

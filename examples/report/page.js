@@ -47,7 +47,7 @@ function table(heads, rows, caption) {
   if (!rows.length) return make("p", { class: "soft" }, "None.");
   const cell = (it) => make("td", typeof it === "number" ? { class: "n" } : {}, it instanceof Node ? it : String(it));
   return make("div", { class: "wide tall", tabindex: "0", role: "region", "aria-label": caption },
-    make("table", {}, make("caption", {}, caption),
+    make("table", {},
       make("thead", {}, make("tr", {}, ...heads.map((it) => make("th", { scope: "col" }, it)))),
       make("tbody", {}, ...rows.map((row) => make("tr", {}, ...row.map(cell))))));
 }
@@ -104,9 +104,9 @@ function holes(it, from, to) {
   if (at < to) found.push([at, to]);
   return found;
 }
-function seconds(it, from, to) {
+function overlap(ranges, from, to) {
   let sum = 0;
-  for (const [a, b] of it.ranges) sum += Math.max(0, Math.min(b, to) - Math.max(a, from));
+  for (const [a, b] of ranges) sum += Math.max(0, Math.min(b, to) - Math.max(a, from));
   return sum;
 }
 
@@ -134,7 +134,7 @@ function chart() {
   if (size > DAY) svg.append(draw("text", { x: 0, y: 23, class: "small" }, "of year"));
   rows.forEach((it, i) => {
     const y = HEAD + i * ROW, g = draw("g", { class: "row", "data-sat": it.n });
-    g.append(draw("title", {}, `${it.n}: ${pct(seconds(it, from, from + size), size)} % covered`));
+    g.append(draw("title", {}, `${it.n}: ${pct(overlap(it.ranges, from, from + size), size)} % covered`));
     g.append(draw("rect", { class: "back", x: 0, y, width, height: ROW - 2, rx: 2 }));
     g.append(draw("text", { class: "name", x: 4, y: y + 12 }, it.n));
     for (const [a, b] of it.ranges)
@@ -188,6 +188,7 @@ function detail() {
     make("dl", { class: "facts" },
       make("dt", {}, "Covered"), make("dd", { id: "detail-percent" }, `${pct(part, to - from)} %`),
       make("dt", {}, "Seconds"), make("dd", { id: "detail-seconds" }, String(part)),
+      make("dt", {}, "Only unhealthy"), make("dd", { id: "detail-unhealthy" }, length(overlap(it.u, from, to))),
       make("dt", {}, "Ephemerides"), make("dd", { id: "detail-ephemerides" }, String(eph.length)),
       make("dt", {}, "Contradictions"), make("dd", { id: "detail-contradictions" }, String(other.length))));
   const pair = make("div", { class: "pair" });

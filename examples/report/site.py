@@ -16,11 +16,21 @@ SYSTEMS = {"G": "GPS", "E": "Galileo"}
 KINDS = {"numbers": "same Toe and issue, different numbers", "issue": "same Toe, different issues"}
 
 escape = lambda text: html.escape(str(text), quote=True)
+below = lambda name, root: name[len(root):] if root and name.startswith(root) else name
 
 
 def part(name):
     with open(os.path.join(HERE, name), encoding="utf-8") as file:
         return file.read()
+
+
+# what each reason of a rejected record says (FORMATS.md, "RINEX navigation files as read")
+REASONS = {
+    "satellite": "no such satellite, or another one in the line below the title", "short": "lines are missing", "number": "a field is no number",
+    "date": "no such day or time", "week": "a date outside of what is read", "blank": "a field is empty", "range": "a value that no message can have",
+    "fit": "a fit interval of two or three hours", "step": "the epoch is no multiple of 16 s (GPS) or 60 s (Galileo)",
+    "far": "epoch and Toe are more than half a week apart", "cut": "the last line of the file has no end",
+}
 
 
 def page(title, parent, links, body, data):
@@ -66,8 +76,8 @@ def table(heads, rows, caption, more="", name=""):
                      + "".join(f"<td{mark(kind)}>{cell(it)}</td>" for it, kind in zip(row, kinds)) + "</tr>" for row in rows[:ROWS])
     if len(rows) > ROWS:
         caption += f"; the first {ROWS} of {len(rows)}, report.json has all"
-    return (f'{more}<div class="wide tall" tabindex="0" role="region" aria-label="{escape(caption)}"><table{f" id={name}" if name else ""}>'
-            f"<caption>{escape(caption)}</caption>\n<thead><tr>{head}</tr></thead>\n<tbody>\n{body}\n</tbody></table></div>\n")
+    return (f'<p class="soft">{escape(caption)}</p>{more}<div class="wide tall" tabindex="0" role="region" aria-label="{escape(caption)}">'
+            f'<table{f" id={name}" if name else ""}>\n<thead><tr>{head}</tr></thead>\n<tbody>\n{body}\n</tbody></table></div>\n')
 
 
 class Row(list):
@@ -121,22 +131,22 @@ def scale_buttons():
 
 def gap_rows(gaps):
     edges = {"": "", "start": "from the start", "end": "to the end", "all": "all of the time"}
-    return [[it["satellite"], time(it["from"]), time(it["to"]), length(it["seconds"]), edges[it["at"]]] for it in gaps]
+    return [[it["satellite"], length(it["seconds"]), time(it["from"]), time(it["to"]), edges[it["at"]]] for it in gaps]
 
 
-GAP_HEADS = ["satellite", "from", "to", "length#", ""]
+GAP_HEADS = ["satellite", "length#", "from", "to", "where"]
 
 
-def contradiction_rows(some):
+def contradiction_rows(some, root):
     rows = []
     for it in some:
         many = len(it["differ"])
         for at, version in enumerate(it["versions"]):
             values = "; ".join(f"{name} {version['values'][name]}" for name in it["differ"][:4]) + (f"; {many - 4} more fields" if many > 4 else "")
-            files = "<br>".join(f"{escape(one['file'])}, line {one['line']}" for one in version["files"][:3])
+            files = "<br>".join(f"{escape(below(one['file'], root))}, line {one['line']}" for one in version["files"][:3])
             if version["file_count"] > 3:
                 files += f"<br>and {version['file_count'] - 3} more"
-            rows.append([it["satellite"] if not at else "", time(it["toe"]) if not at else "", it["issue"] if not at and it["issue"] is not None else "",
+            rows.append([it["satellite"] if not at else "", time(it["toe"]) if not at else "", " | ".join(map(str, it["issues"])) if not at else "",
                          KINDS[it["kind"]] if not at else "", f"{'ABCDEFGHIJKLMNOPQRSTUVWXYZ'[at % 26]}: {values}", version["file_count"],
                          ", ".join(it or "not named" for it in version["producers"]), (files or "not found again",)])
     return rows
@@ -166,16 +176,18 @@ def index(title, report, months):
                        ("distinct ephemerides", records["distinct_ephemerides"]), ("gaps of 2 h and more", len(report["gaps"])),
                        ("contradictions", len(report["contradictions"])), ("health changes", len(report["health_changes"]))]))
     if records["outside_span"]:
-        body.append(f'<p>{records["outside_span"]} ephemerides have a Toe outside of these days and are not shown.</p>')
+        body.append(f'<p><span class="bad">{records["outside_span"]} ephemerides outside of these days</span> are not shown: '
+                    f'{escape(", ".join(it["satellite"] + " " + it["toe_text"] for it in report["outside"][:6]))}{" and more" if len(report["outside"]) > 6 else ""}.</p>')
     empty = [day for at, day in enumerate(report["days"]) if not any(it["day_seconds"][at] for it in report["systems"])]
     if empty:
         body.append(f'<p><span class="bad">{len(empty)} days without any ephemeris</span> {escape(", ".join(empty[:12]))}'
                     f'{" and more" if len(empty) > 12 else ""}. If these are not expected, a file has a wrong date.</p>')
     body.append("<h2>Coverage by system</h2>\n")
-    body.append(table(["system", "satellites#", "ephemerides#", "covered, percent#", "gaps#", "by day, full height is 100 percent"],
-                      [[SYSTEMS[it["system"]], it["satellites"], it["ephemerides"], f"{it['percent']:.2f}", it["gaps"],
-                        strip(it["day_seconds"], 86400 * max(1, it["satellites"]), "", f"{SYSTEMS[it['system']]}, percent by day")] for it in report["systems"]],
-                      "Percent of the time for which a satellite has an ephemeris, over the satellites that the archive has"))
+    body.append(table(["system", "percent#", "by day", "satellites#", "ephemerides#", "gaps#"],
+                      [[SYSTEMS[it["system"]], f"{it['percent']:.2f}",
+                        strip(it["day_seconds"], 86400 * max(1, it["satellites"]), "", f"{SYSTEMS[it['system']]}, coverage by day"),
+                        it["satellites"], it["ephemerides"], it["gaps"]] for it in report["systems"]],
+                      "Percent of the time for which a satellite has an ephemeris, over the satellites that the archive has; in the bars full height is 100"))
     for it in report["systems"]:
         if it["absent"] and it["satellites"]:
             body.append(f'<p class="soft">No ephemeris at all of {SYSTEMS[it["system"]]}: {" ".join(it["absent"])}</p>')
@@ -188,10 +200,11 @@ def index(title, report, months):
     changes = collections.Counter(it["satellite"] for it in report["health_changes"])
     against = collections.Counter(it["satellite"] for it in report["contradictions"])
     link = lambda name: (f'<a href="{months[-1]["key"]}.html#s={name}">{name}</a>',) if months else name
-    body.append(table(["satellite", "ephemerides#", "covered, percent#", "gaps#", "longest gap#", "contradictions#", "health changes#", "by day"],
-                      [Row([link(it["satellite"]), it["ephemerides"], f"{it['percent']:.2f}", it["gaps"],
-                            length(it["longest_gap"]) if it["gaps"] else "", against[it["satellite"]], changes[it["satellite"]],
-                            strip(it["day_seconds"], 86400, it["satellite"], f"{it['satellite']}, coverage by day")], f' data-sat="{it["satellite"]}"')
+    body.append(table(["satellite", "percent#", "by day", "gaps#", "longest gap#", "ephemerides#", "contradictions#", "health changes#"],
+                      [Row([link(it["satellite"]), f"{it['percent']:.2f}",
+                            strip(it["day_seconds"], 86400, it["satellite"], f"{it['satellite']}, coverage by day"), it["gaps"],
+                            length(it["longest_gap"]) if it["gaps"] else "", it["ephemerides"], against[it["satellite"]], changes[it["satellite"]]],
+                           f' data-sat="{it["satellite"]}"')
                        for it in report["satellites"]], "Gaps are those of two hours and more; a bar leads to its day"))
     body.append("<h2>Longest gaps</h2>\n")
     longest = sorted(report["gaps"], key=lambda it: (-it["seconds"], it["from"], figures.order(it["satellite"])))
@@ -210,25 +223,31 @@ def index(title, report, months):
                       [[it["program"] or "not named", it["agencies"], it["files"], it["records"], it["rejected"], it["skipped"], it["contradictions"]]
                        for it in report["producers"]], "By the program that the header names (PGM / RUN BY / DATE)"))
     body.append('<p><a href="files.html">All files, and what was rejected</a></p>')
+    body.append("<h2>Stations</h2>\n")
+    body.append(table(["station", "files#", "days#", "by day", "missing#", "days without a file"],
+                      [[it["station"], it["files"], len(it["days"]), strip([86400 * (day in set(it["days"])) for day in report["days"]], 86400, "", f"{it['station']}, days with a file"),
+                        len(it["missing"]), ", ".join(it["missing"][:8]) + (f" and {len(it['missing']) - 8} more" if len(it["missing"]) > 8 else "")]
+                       for it in report["stations"]], "By the station and the day in a file's name, of files that were read"))
     return page("overview", title, '<a href="files.html">Files</a> <a href="report.json">report.json</a>', "".join(body),
                 {"from": span["from"], "months": [it["key"] for it in months], "leaps": figures.LEAP_TIMES})
 
 
 def files_page(title, report, months):
     """All files, and what was rejected."""
-    records = report["records"]
-    body = ["<h2>Files that were not read</h2>\n"]
-    body.append(table(["file~", "outcome", "notes"], [[it["file"], it["outcome"], "; ".join(it["notes"])] for it in report["files_not_read"]],
+    records, root = report["records"], report["root"]
+    body = [f'<p>Names are those below {escape(root)}</p>' if root else "", "<h2>Files that were not read</h2>\n"]
+    body.append(table(["file~", "outcome", "notes"], [[below(it["file"], root), it["outcome"], "; ".join(it["notes"])] for it in report["files_not_read"]],
                       "Nothing of these is in the numbers"))
     body.append("<h2>Rejected records</h2>\n")
-    body.append(table(["reason", "records#"], list(records["rejected_by_reason"].items()), "By reason; navbridge(1) says what each means"))
-    body.append(table(["file~", "line#", "reason", "record"], [[it["file"], it["line"], it["reason"], it["record"]] for it in report["rejected"]],
+    body.append(table(["reason", "records#", "what it means"], [[what, count, REASONS.get(what, "")] for what, count in records["rejected_by_reason"].items()],
+                      "By reason"))
+    body.append(table(["file~", "line#", "reason", "record"], [[below(it["file"], root), it["line"], it["reason"], it["record"]] for it in report["rejected"]],
                       "Each rejected record with the line at which it begins", find("rejected", "Rejected records with") if report["rejected"] else "", "rejected"))
     body.append("<h2>Skipped records</h2>\n")
     body.append(table(["what", "records#"], list(records["skipped_by_kind"].items()), "Records of other systems and messages, which navbridge does not read"))
     body.append("<h2>All files</h2>\n")
     body.append(table(["file~", "outcome", "RINEX#", "program", "records#", "rejected#", "skipped#", "notes"],
-                      [[it["file"], it["outcome"], it["version"] or "", it["producer"], it["records"], it["rejected"], sum(it["skipped"].values()),
+                      [[below(it["file"], root), it["outcome"], it["version"] or "", it["producer"], it["records"], it["rejected"], sum(it["skipped"].values()),
                         "; ".join(it["notes"])] for it in report["file_rows"]], "Every file", find("all", "Files with"), "all"))
     return page("files", title, '<a href="index.html">Overview</a> <a href="report.json">report.json</a>', "".join(body),
                 {"from": report["span"]["from"], "months": [it["key"] for it in months], "leaps": figures.LEAP_TIMES})
@@ -267,7 +286,7 @@ def month_page(title, month, others, report):
 {scale_buttons()}
 </div>
 <p id="status" role="status"></p>
-<div><svg id="chart" tabindex="0" role="img" aria-label="Timeline by satellite and day. Arrow keys: satellite and day. Enter: closer. Escape: back. The table below has the percents."></svg></div>
+<div><svg id="chart" tabindex="0" role="application" aria-label="Timeline by satellite and day. Arrow keys: satellite and day. Enter: closer. Escape: back. The table below has the percents."></svg></div>
 <div class="bar">{legend}</div>
 <p class="soft">The axis is GPS time. Click a day, then an hour. Keys in the timeline: arrows, Enter (closer), Escape (back), Home, End.</p>
 {PATTERNS}
@@ -278,7 +297,7 @@ def month_page(title, month, others, report):
 """]
     body.append("<h2>Gaps of two hours and more</h2>\n" + table(GAP_HEADS, gap_rows(month["gap_list"]), "A gap that goes over the bounds of the month is in both",
                                                                  find("gaps", "Gaps with") if month["gap_list"] else "", "gaps"))
-    body.append("<h2>Contradictions</h2>\n" + table(CONTRADICTION_HEADS, contradiction_rows(month["data"]["contradictions"]),
+    body.append("<h2>Contradictions</h2>\n" + table(CONTRADICTION_HEADS, contradiction_rows(month["data"]["contradictions"], report["root"]),
                                                      "Versions of an ephemeris, with the fields that differ as RINEX has them"))
     body.append("<h2>Health changes</h2>\n" + table(HEALTH_HEADS, health_rows(month["health_list"]), "In the order of Toe"))
     data = {**month["data"], "contradictions": [{"satellite": it["satellite"], "toe": it["toe"]} for it in month["data"]["contradictions"]]}
@@ -329,9 +348,9 @@ def months_of(report, reading):
     return months
 
 
-def write(site, report, reading, title, work):
+def write(site, report, reading, work):
     """Writes the pages and report.json, each by one renaming, and removes pages of months that are gone."""
-    months = months_of(report, reading)
+    months, title = months_of(report, reading), report["title"]
     pages = {"index.html": index(title, report, months), "files.html": files_page(title, report, months),
              "report.json": json.dumps(report, separators=(",", ":")).replace('],"', '],\n"').replace('},{"', '},\n{"') + "\n"}
     for month in months:
