@@ -39,18 +39,6 @@ Exit status: 0 every file was read; 1 the site is written, and some file was not
 """
 
 
-def version():
-    """That of CHANGELOG.md, or what the package says."""
-    top = os.path.dirname(os.path.dirname(os.path.dirname(os.path.realpath(__file__))))
-    for path, form in ((os.path.join(top, "CHANGELOG.md"), r"^## (\d\S*)"), (os.path.join(top, "navbridge", "version"), r"^(\S+)")):
-        try:
-            with open(path, encoding="utf-8") as file:
-                return re.search(form, file.read(), re.M)[1]
-        except (OSError, TypeError):
-            pass
-    return "unknown"
-
-
 def options(arguments):
     """The options; a mistake is reported and ends with 2."""
     parser = argparse.ArgumentParser(prog="navreport", add_help=False, allow_abbrev=False,
@@ -71,7 +59,7 @@ def options(arguments):
     parser.add_argument("--version", action="store_true")
     args = parser.parse_args(arguments)
     if args.help or args.version:
-        print(HELP if args.help else f"navreport {version()}", end="" if args.help else "\n")
+        print(HELP if args.help else f"navreport {merge.version()}", end="" if args.help else "\n")
         sys.exit(0)
     if not args.names:
         parser.error("no names: give files, directories, or - for a list on standard input")
@@ -158,7 +146,7 @@ def main(arguments):
     except KeyboardInterrupt:
         print("navreport: interrupted; the site is as it was", file=sys.stderr)
         return 130
-    except getattr(merge, "Misused", ()) as why:
+    except merge.Misused as why:
         print(f"navreport: {why}", file=sys.stderr)
         return 2
     except (merge.Failed, OSError) as why:

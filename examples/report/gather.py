@@ -33,9 +33,6 @@ class Archive(merge.Tool):
         super().__init__(args)
         self.pages = pages
 
-    def own(self):
-        return super().own() | self.pages
-
     def results(self):
         return [*super().results(), *((page, True) for page in self.pages)]
 
@@ -123,21 +120,16 @@ def producer_of(name):
 
 def sections_of(name):
     """What is below each header of a file: version, how many lines are above, bytes, lines, whether the last record was left out."""
-    if hasattr(merge, "section_of"):
-        with open(name, "rb") as file:
-            data = merge.unpacked(file.read())[0]
-        begins = merge.headers_of(data)
-        for begin, end in zip(begins, [*begins[1:], len(data)]):
-            above = data.count(b"\n", 0, begin)
-            try:
-                it = merge.section_of(data[begin:end], above)
-            except merge.Unusable:
-                continue
-            yield it["form"], above + it["above"], bytes(it["body"]), it["lines"], it["left_out"]
-    else:
-        row = merge.new_row(name, 0, 0)
-        form, body, lines = merge.looked_at(name, row)
-        yield form, row["above"], bytes(body), lines, row.get("left_out", 0)
+    with open(name, "rb") as file:
+        data = merge.unpacked(file.read())[0]
+    begins = merge.headers_of(data)
+    for begin, end in zip(begins, [*begins[1:], len(data)]):
+        above = data.count(b"\n", 0, begin)
+        try:
+            it = merge.section_of(data[begin:end], above)
+        except merge.Unusable:
+            continue
+        yield it["form"], above + it["above"], bytes(it["body"]), it["lines"], it["left_out"]
 
 
 def candidates(data, form):
