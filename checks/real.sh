@@ -1,0 +1,79 @@
+#!/usr/bin/env bash
+# Real streams and logs, none of which is in the repository: those that the Debian source packages of gpsd and RTKLIB carry.
+#
+#   checks/real.sh [--program FILE] [--navlog FILE] [FOLDER]
+#
+#   --program FILE  navbridge (PROGRAM, or crates/navbridge/out/navbridge)
+#   --navlog FILE   navlog (NAVLOG, or crates/navlog/out/navlog)
+#   FOLDER          the unpacked packages, anywhere in it. Without one they are fetched once, 35 MB, by apt-get, where it knows
+#                   sources (a line `Types: deb-src` in /etc/apt/sources.list.d), into ~/.cache/navbridge/real
+#
+# Of each of three streams of RTCM 3 the GPS and Galileo ephemerides are counted, and where convbin is installed (Debian's package
+# rtklib) compared with its own, number by number: all are equal but the time of sending, which no message has and convbin takes
+# from its clock. Of a log of a ZED-F9P the subframes and pages are counted that navlog writes: 5 and 27, each page in two lines. Two
+# more pages stand behind the last time message of the log, and have no time.
+#
+# Status: 0 all as it should be, or skipped, and why; 1 something differs; 2 the arguments are wrong, or a program is not built.
+set -u
+. "$(dirname "$(readlink -f "$0")")/lib.sh"
+program='' navlog=''
+options '--program: --navlog: ..' "$@"
+built program navbridge
+built navlog navlog
+command -v python3 > /dev/null || skip "python3 is not installed"
+work_folder
+names=(rtcm3.2.log GMSD7_20121014.rtcm3 testglo.rtcm3 ublox-zed-f9p-sfrbx.log)
+# whether all are in a folder
+has_all() {
+  local name
+  for name in "${names[@]}"; do [ -n "$(find "$1" -name "$name" -size +0 2> /dev/null | head -n 1)" ] || return 1; done
+}
+if [ "${#arguments[@]}" -gt 0 ]; then
+  folder=$(path_of "${arguments[0]}")
+  has_all "$folder" || fail "$folder has not all of ${names[*]}"
+else
+  folder=${XDG_CACHE_HOME:-$HOME/.cache}/navbridge/real
+  if ! has_all "$folder"; then
+    command -v apt-get > /dev/null || skip "the source packages gpsd and rtklib are not there, and no apt-get"
+    [ -n "$(apt-cache showsrc gpsd 2> /dev/null)" ] || skip "the source packages gpsd and rtklib are not there, and apt-get knows no sources"
+    (cd "$work" && timeout 240 apt-get -q source --download-only gpsd rtklib > apt.log 2>&1) || skip "apt-get could not fetch the source packages gpsd and rtklib"
+    mkdir -p "$folder"
+    for name in "${names[@]}"; do
+      for it in "$work"/gpsd_*.orig.tar.* "$work"/rtklib_*.orig.tar.*; do
+        case $it in *.asc) continue ;; esac
+        tar -xOf "$it" --wildcards "*/$name" > "$folder/$name" 2> /dev/null && [ -s "$folder/$name" ] && break
+      done
+    done
+    has_all "$folder" || skip "the source packages gpsd and rtklib have not all of ${names[*]}"
+  fi
+fi
+
+# A stream: its name, the week for navbridge, a time of its span for convbin, how many ephemerides are in it
+stream() {
+  local file got=0 count
+  file=$(find "$folder" -name "$1" | head -n 1)
+  tried=$((tried + 1))
+  "$program" --from stream --to rinex3 --week "$2" --date "20240101 000000 UTC" --leap 18 < "$file" > "$work/ours.nav" 2> "$work/report" || got=$?
+  count=$(grep -c '^[GE][0-9][0-9] ' "$work/ours.nav")
+  [ "$got,$count" = "0,$4" ] || differs "$1: status $got, and $count ephemerides, not $4"
+  command -v convbin > /dev/null || return 0
+  tried=$((tried + 1))
+  rm -f "$work/theirs.nav"
+  convbin -r rtcm3 -v 3.04 -tr "$3" 12:0:0 -n "$work/theirs.nav" -od -os "$file" > /dev/null 2>&1
+  python3 "$top/examples/beside/log.py" compare "$work/ours.nav" "$work/theirs.nav" > "$work/compared" || differs "$1: no comparison with convbin"
+  awk -v count="$4" '
+    / ephemerides of navlog/ { both += $(NF - 2) }
+    / differs in / && $2 != "transmission" { other = other "; " $0 }
+    END { if (both != count) print both " ephemerides in both, not " count; if (other) print substr(other, 3) }' "$work/compared" > "$work/found"
+  [ ! -s "$work/found" ] || differs "$1 beside convbin: $(cat "$work/found")"
+}
+stream rtcm3.2.log 2005 2016/4/6 41
+stream GMSD7_20121014.rtcm3 1710 2012/10/14 15
+stream testglo.rtcm3 1500 2009/12/17 15
+command -v convbin > /dev/null || echo "convbin is not installed: not compared"
+
+tried=$((tried + 1)) got=0
+"$navlog" --from ubx < "$(find "$folder" -name ublox-zed-f9p-sfrbx.log | head -n 1)" > "$work/navcap" 2> "$work/report" || got=$?
+written="$(grep -c ' L ' "$work/navcap") subframes, $(($(grep -c ' P ' "$work/navcap") / 2)) pages"
+[ "$got,$written" = "0,5 subframes, 27 pages" ] || differs "ublox-zed-f9p-sfrbx.log: status $got, $written, and not 5 subframes, 27 pages"
+ended real
