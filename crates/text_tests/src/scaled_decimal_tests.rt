@@ -230,10 +230,11 @@ fn is_printed(row: &TextRow) -> bool {
     let Some(scale) = Scale::new(pi, factor, two, ten) else {
         return false;
     };
+    let text = row.text.as_bytes();
     row.number.unsigned_abs() <= 4_294_967_295
-        && row.text.len() <= 19
-        && print(row.number, &scale).as_slice() == row.text.as_bytes()
-        && read(row.text.as_bytes(), &scale, ANY.low, ANY.high) == Ok(row.number)
+        && text.len() <= 19
+        && print(row.number, &scale).as_slice() == text
+        && read(text, &scale, ANY.low, ANY.high) == Ok(row.number)
 }
 
 // A text, its scale, a range, and the number or the fault.
