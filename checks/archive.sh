@@ -114,6 +114,73 @@ holds "which is said" grep -q 'build first' "$out/named"
 ends "a program that is none" 3 -o "$out/x.rnx" --program /bin/false archive
 holds "which leaves no result" [ ! -e "$out/x.rnx" ]
 
+# files joined by cat, records of both versions, links, unfinished files, a result among the inputs
+merged_of() { for file; do case $(head -c 9 "$file") in *4.0?) form=rinex ;; *) form=rinex3 ;; esac
+  "$program" --from "$form" --to rinex "${words[@]}" < "$file" 2> /dev/null; done | "$program" --from rinex --to merged "${words[@]}" 2> /dev/null; }
+records_of() { sed '1,/END OF HEADER/d' "$1"; }
+merged_of station.rnx version3.nav > "$out/both.rnx"
+joined() { # name, then the note of the one file that is read, and the file on standard input
+  cat > "$out/joined"
+  ends "$1" 0 -o "$out/joined.rnx" --again "$out/joined"
+  holds "$1: the records of both" cmp "$out/joined.rnx" "$out/both.rnx"
+  holds "$1: the line" grep -qP "\tanother header in line $2\$" "$out/joined.rnx.files"
+}
+joined "files of versions 4 and 3 joined" 30 < <(cat station.rnx version3.nav)
+joined "files of versions 3 and 4 joined" 34 < <(cat version3.nav station.rnx)
+holds "which the table counts" grep -qx '    another header  *1' "$out/table"
+head -c -1 version3.nav | cat - station.rnx > "$out/joined"
+ends "joined where the last line has no end" 1 -o "$out/joined.rnx" --again "$out/joined"
+holds "that is named, and the header behind it" grep -qx ".*/joined: ends short: another header in line 33; last record left out: its last line has no end" "$out/named"
+mixed() { # name, the file whose records are read, version and number of the others, the line of the first
+  cat > "$out/mixed"
+  ends "$1" 1 -o "$out/mixed.rnx" --again "$out/mixed"
+  holds "$1: named, with the line" grep -qx ".*/mixed: mixed: records of version $3 left out: $4, the first in line $5" "$out/named"
+  holds "$1: the others are read" cmp "$out/mixed.rnx" <(merged_of "$2")
+}
+mixed "records of version 3 behind those of 4" station.rnx 3 4 30 < <(cat station.rnx; records_of version3.nav)
+mixed "records of version 4 behind those of 3" version3.nav 4 4 34 < <(cat version3.nav; records_of station.rnx)
+mixed "records of version 4 amid those of 3" version3.nav 4 4 6 < <(sed '/END OF HEADER/q' version3.nav; records_of station.rnx; records_of version3.nav)
+mkdir "$out/linked" "$out/elsewhere"
+cp station.rnx "$out/linked"
+cp version3.nav "$out/elsewhere"
+ln -s . "$out/linked/loop"
+ln -s ../elsewhere "$out/linked/other"
+ends "a directory with links" 0 -o "$out/links.rnx" "$out/linked"
+holds "each directory is read once" cmp "$out/links.rnx" "$out/both.rnx"
+holds "a link back is counted" grep -qx '  link to a directory that is read already *1' "$out/table"
+holds "and named" grep -qx ".*/linked/loop: left out: link to a directory that is read already" "$out/named"
+mkdir "$out/day" "$out/day/x.parts"
+cp station.rnx "$out/day"
+cp version3.nav "$out/day/x.parts"
+cp version3.nav "$out/day/late.rnx.part"
+ends "an unfinished file" 1 -o "$out/unfinished.rnx" "$out/day"
+holds "is named" grep -qx ".*/day/late.rnx.part: unfinished: its name ends in .part" "$out/named"
+holds "and a directory is taken by what is in it" cmp "$out/unfinished.rnx" "$out/both.rnx"
+rm "$out/day/late.rnx.part"
+ends "a result in the directory that is merged" 0 -o "$out/day/all.rnx" "$out/day"
+ends "again" 0 -o "$out/day/all.rnx" "$out/day"
+holds "it is no input, which is said" grep -qx "merge_archive: .*/day/all.rnx: is a result of this run, and no input" "$out/named"
+holds "nothing is done" [ "$(calls merged -o "$out/day/all.rnx" "$out/day")" = 0 ]
+holds "its bytes" cmp "$out/day/all.rnx" "$out/both.rnx"
+ln -s day "$out/way"
+ends "the same by a link" 0 -o "$out/way/all.rnx" "$out/day"
+holds "it is no input either" grep -qx "files  *2" "$out/table"
+replaces() { # name, what would be replaced, words
+  local name=$1 file=$2 before
+  shift 2
+  before=$(cksum < "$file")
+  ends "$name" 2 "$@"
+  holds "$name: said" grep -q "is an input of this run" "$out/named"
+  holds "$name: it is as it was" [ "$before" = "$(cksum < "$file")" ]
+}
+replaces "an input as the result" "$out/day/station.rnx" -o "$out/day/station.rnx" "$out/day"
+replaces "an input as the times covered" "$out/day/station.rnx" -o "$out/x.rnx" --cover "$out/day/station.rnx" "$out/day"
+replaces "an input by a link" "$out/day/station.rnx" -o "$out/way/station.rnx" "$out/day"
+replaces "a result that is named as an input" "$out/day/all.rnx" -o "$out/day/all.rnx" "$out/day/all.rnx" station.rnx
+echo text > "$out/y.rnx.files"
+ends "a file where the rows would stand" 2 -o "$out/y.rnx" station.rnx
+holds "it is as it was" [ "$(cat "$out/y.rnx.files")" = text ]
+
 if parallel --version 2> /dev/null | grep -q '^GNU parallel'; then
   echo "2/:" > "$out/hosts"
   slurm/parallel.sh --program "$program" "${words[@]}" --cover --hosts "$out/hosts" archive "$out/tree" > /dev/null 2>&1
@@ -128,9 +195,15 @@ fi
 if command -v gnuplot > /dev/null; then
   ./cover_picture.sh archive.cover "$out/a.png" "$out/a.svg" > "$out/said" 2>&1
   ./cover_picture.sh archive.cover "$out/b.png" "$out/b.svg" > /dev/null 2>&1
-  holds "the picture: its gaps" [ "$(cat "$out/said")" = "6 satellites, 25 gaps of 309600 seconds in all, from 2023-12-31 22:00:00 to 2024-01-04 00:00:00 GPS time" ]
+  holds "the picture: its gaps" grep -qx "6 satellites, 25 gaps of 309600 seconds in all, from 2023-12-31 22:00:00 to 2024-01-04 00:00:00 GPS time" "$out/said"
+  holds "each satellite's" grep -qx "G02 94.6 % covered, gaps 2, the longest of 7200 seconds from 2024-01-03 06:00:00" "$out/said"
   holds "twice the same png" cmp "$out/a.png" "$out/b.png"
   holds "twice the same svg" cmp "$out/a.svg" "$out/b.svg"
+  printf 'G01 1388016000 1400000000\nG01 1400007200 1419552000\n' > "$out/year.cover"
+  ./cover_picture.sh "$out/year.cover" "$out/year.svg" > "$out/said" 2>&1
+  holds "two hours in a year: counted" grep -qx "G01 99.9 % covered, gaps 1, the longest of 7200 seconds from 2024-05-17 16:53:20" "$out/said"
+  # the red boxes that are three points wide: that of the legend and that of the gap
+  holds "and seen" [ "$(awk -F "[ ,']+" '/polygon fill = .rgb\(208/ { if ($11 - $9 >= 3) n++ } END { print n + 0 }' "$out/year.svg")" = 2 ]
 else
   echo "the picture: not tried, since gnuplot is not there"
 fi
