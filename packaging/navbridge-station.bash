@@ -8,7 +8,7 @@ _navbridge_station() {
     --form) words=(rtcm3 sbf ubx) ;;
     --letter) words=(R S U) ;;
     --span) words=(3600 86400) ;;
-    --source) words=(ntrip:// serial:// tcpcli://) ;;
+    --source) words=(ntrip:// ntrip2:// ntrip2s:// serial:// tcpcli://) ;;
     --lap | --silent | --leap | --station) return ;;
     --folder) mapfile -t COMPREPLY < <(compgen -d -- "$current") && return ;;
     --program | --navlog | --str2str) mapfile -t COMPREPLY < <(compgen -fc -- "$current") && return ;;

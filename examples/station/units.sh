@@ -71,7 +71,7 @@ inside() { # form
   [ "$form" = rtcm3 ] || first=navlog
   kill -KILL "$(pgrep -x "$first" | head -n 1)"
   sleep 5
-  check "$first killed: it is started again, and that is said" grep -q "$first ended with status 137" <(journalctl -u "navbridge-station@$unit" -o cat)
+  check "$first killed: it is started again, and that is said" grep -q "$first was killed by SIGKILL" <(journalctl -u "navbridge-station@$unit" -o cat)
   check "the script is the same" is "navbridge-station@$unit" MainPID "$main"
   kill -KILL "$main"
   sleep 6
