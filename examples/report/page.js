@@ -296,7 +296,10 @@ function month() {
     if (done && !event.ctrlKey && !event.altKey && !event.metaKey) { event.preventDefault(); done(); }
   };
   window.onresize = chart;
-  window.onhashchange = fromHash;
+  window.onhashchange = () => {
+    fromHash();
+    $("status").scrollIntoView({ block: "center" });
+  };
   fromHash();
 }
 

@@ -2,359 +2,298 @@
 import calendar
 import collections
 import datetime
-import html
 import json
 import os
 import re
 
 from report import figures
+from report.markup import SCALE, Row, below, escape, find, length, link, page, some, strip, table, tiles, time
 
-HERE = os.path.dirname(os.path.realpath(__file__))
 OWN = re.compile(r"(?:index|files|\d{4}-\d{2})\.html|report\.json")  # the names of what is written
-ROWS = 4000  # rows of a table in a page; report.json has all
 SYSTEMS = {"G": "GPS", "E": "Galileo"}
 KINDS = {"numbers": "same Toe and issue, different numbers", "issue": "same Toe, different issues"}
-
-escape = lambda text: html.escape(str(text), quote=True)
-below = lambda name, root: name[len(root):] if root and name.startswith(root) else name
-
-
-def part(name):
-    with open(os.path.join(HERE, name), encoding="utf-8") as file:
-        return file.read()
-
-
+EDGES = {"": "", "start": "from the start", "end": "to the end", "all": "all of the time"}
 # what each reason of a rejected record says (FORMATS.md, "RINEX navigation files as read")
 REASONS = {
-    "satellite": "no such satellite, or another one in the line below the title", "short": "lines are missing", "number": "a field is no number",
-    "date": "no such day or time", "week": "a date outside of what is read", "blank": "a field is empty", "range": "a value that no message can have",
-    "fit": "a fit interval of two or three hours", "step": "the epoch is no multiple of 16 s (GPS) or 60 s (Galileo)",
-    "far": "epoch and Toe are more than half a week apart", "cut": "the last line of the file has no end",
+    "satellite": "no such satellite, or another one in the line below the title", "short": "lines are missing",
+    "number": "a field is no number", "date": "no such day or time", "week": "a date outside of what is read",
+    "blank": "a field is empty", "range": "a value that no message can have", "fit": "a fit interval of two or three hours",
+    "step": "the epoch is no multiple of 16 s (GPS) or 60 s (Galileo)", "far": "epoch and Toe are more than half a week apart",
+    "cut": "the last line of the file has no end",
 }
 
 
-def page(title, parent, links, body, data):
-    """A whole page."""
-    text = json.dumps(data, separators=(",", ":")).replace("<", "\\u003c").replace("&", "\\u0026")
-    return f"""<!DOCTYPE html>
-<html lang="en">
-<head>
-<meta charset="utf-8">
-<meta name="viewport" content="width=device-width, initial-scale=1">
-<meta http-equiv="Content-Security-Policy" content="default-src 'none'; style-src 'unsafe-inline'; script-src 'unsafe-inline'; img-src data:">
-<title>{escape(title)} - {escape(parent)}</title>
-<style>
-{part("page.css")}</style>
-</head>
-<body>
-<a class="skip" href="#main">To the content</a>
-<header>
-<h1>{escape(parent)}: {escape(title)}</h1>
-<nav aria-label="Pages">{links}</nav>
-</header>
-<main id="main">
-<noscript><p><b>This page needs JavaScript for the timeline and the search. report.json has the same numbers.</b></p></noscript>
-{body}
-</main>
-<script type="application/json" id="data">{text}</script>
-<script>
-{part("page.js")}</script>
-</body>
-</html>
-"""
+def gap_table(gaps, caption, more="", name=""):
+    return table(["satellite", "length#", "from", "to", "where"],
+                 [[link(it["satellite"], it["from"]), length(it["seconds"]), time(it["from"]), time(it["to"]), EDGES[it["at"]]]
+                  for it in gaps], caption, more, name)
 
 
-def table(heads, rows, caption, more="", name=""):
-    """A table; a head that ends in # has numbers below it, one that ends in ~ names of files. A cell is text, or markup in a tuple."""
-    if not rows:
-        return '<p class="soft">None.</p>\n'
-    kinds = ["n" if it[-1:] == "#" else "m" if it[-1:] == "~" else "" for it in heads]
-    mark = lambda kind: f' class="{kind}"' if kind else ""
-    head = "".join(f'<th scope="col"{mark(kind if kind == "n" else "")}>{escape(it.rstrip("#~"))}</th>' for it, kind in zip(heads, kinds))
-    cell = lambda it: it[0] if isinstance(it, tuple) else escape(it)
-    body = "\n".join(f"<tr{row.attributes if isinstance(row, Row) else ''}>"
-                     + "".join(f"<td{mark(kind)}>{cell(it)}</td>" for it, kind in zip(row, kinds)) + "</tr>" for row in rows[:ROWS])
-    if len(rows) > ROWS:
-        caption += f"; the first {ROWS} of {len(rows)}, report.json has all"
-    return (f'<p class="soft">{escape(caption)}</p>{more}<div class="wide tall" tabindex="0" role="region" aria-label="{escape(caption)}">'
-            f'<table{f" id={name}" if name else ""}>\n<thead><tr>{head}</tr></thead>\n<tbody>\n{body}\n</tbody></table></div>\n')
+def health_table(changes):
+    text = lambda it, key: f"{' | '.join(map(str, it[key]))} {it[key + '_text']}"
+    return table(["satellite", "Toe", "before", "from then on"],
+                 [[link(it["satellite"], it["toe"]), time(it["toe"]), text(it, "from"), text(it, "to")] for it in changes],
+                 "In the order of Toe")
 
 
-class Row(list):
-    """A row with attributes of its own."""
-
-    def __init__(self, cells, attributes):
-        super().__init__(cells)
-        self.attributes = attributes
-
-
-def find(rows, label):
-    """A field that hides the rows of a table that do not have its text."""
-    return f'<p><label>{escape(label)} <input type="search" data-rows="{rows}" autocomplete="off"></label></p>'
-
-
-def time(moment):
-    return (f'<time data-m="{moment}">{figures.text_of(moment)}</time>',)
-
-
-def length(seconds):
-    days, rest = divmod(seconds, 86400)
-    hours, rest = divmod(rest, 3600)
-    return f"{f'{days} d ' if days else ''}{f'{hours} h ' if days or hours else ''}{rest // 60:02} min{f' {rest % 60} s' if rest % 60 else ''}"
-
-
-def strip(seconds, whole, name, text):
-    """Coverage by day as a row of bars: full height is all of a day."""
-    step = -(-len(seconds) // 740)
-    levels = [round(sum(seconds[at:at + step]) * 20 / (whole * len(seconds[at:at + step])), 1) for at in range(0, len(seconds), step)]
-    path, at = "", 0
-    while at < len(levels):
-        end = at
-        while end < len(levels) and levels[end] == levels[at]:
-            end += 1
-        if levels[at]:
-            path += f"M{at} 20v-{levels[at]:g}h{end - at}v{levels[at]:g}z"
-        at = end
-    sat = f' data-sat="{name}"' if len(name) == 3 else ""
-    return (f'<svg class="strip" viewBox="0 0 {len(levels)} 20" preserveAspectRatio="none" role="img" data-days="{len(seconds)}"{sat} '
-            f'aria-label="{escape(text)}"><title>{escape(text)}</title><path d="{path}"/></svg>',)
-
-
-def tiles(some):
-    return '<ul class="tiles">' + "".join(f"<li><b>{escape(value)}</b>{escape(what)}</li>" for what, value in some) + "</ul>\n"
-
-
-def scale_buttons():
-    return ('<span class="bar" role="group" aria-label="Time scale"><button type="button" data-utc="0" aria-pressed="true">GPS time</button>'
-            '<button type="button" data-utc="1" aria-pressed="false">UTC</button></span>')
-
-
-def gap_rows(gaps):
-    edges = {"": "", "start": "from the start", "end": "to the end", "all": "all of the time"}
-    return [[it["satellite"], length(it["seconds"]), time(it["from"]), time(it["to"]), edges[it["at"]]] for it in gaps]
-
-
-GAP_HEADS = ["satellite", "length#", "from", "to", "where"]
-
-
-def contradiction_rows(some, root):
+def contradiction_table(contradictions, root):
     rows = []
-    for it in some:
-        many = len(it["differ"])
-        for at, version in enumerate(it["versions"]):
-            values = "; ".join(f"{name} {version['values'][name]}" for name in it["differ"][:4]) + (f"; {many - 4} more fields" if many > 4 else "")
-            files = "<br>".join(f"{escape(below(one['file'], root))}, line {one['line']}" for one in version["files"][:3])
+    for it in contradictions:
+        first = [link(it["satellite"], it["toe"]), time(it["toe"]), " | ".join(map(str, it["issues"])), KINDS[it["kind"]]]
+        for letter, version in zip("ABCDEFGHIJKLMNOPQRSTUVWXYZ", it["versions"]):
+            values = some([f"{name} {version['values'][name]}" for name in it["differ"]], 4)
+            files = [f"{escape(below(one['file'], root))}, line {one['line']}" for one in version["files"][:3]]
             if version["file_count"] > 3:
-                files += f"<br>and {version['file_count'] - 3} more"
-            rows.append([it["satellite"] if not at else "", time(it["toe"]) if not at else "", " | ".join(map(str, it["issues"])) if not at else "",
-                         KINDS[it["kind"]] if not at else "", f"{'ABCDEFGHIJKLMNOPQRSTUVWXYZ'[at % 26]}: {values}", version["file_count"],
-                         ", ".join(it or "not named" for it in version["producers"]), (files or "not found again",)])
-    return rows
+                files.append(f"and {version['file_count'] - 3} more")
+            rows.append([*first, f"{letter}: {values}", version["file_count"], ", ".join(one or "not named" for one in version["producers"]),
+                         ("<br>".join(files) or "not found again",)])
+            first = [""] * 4
+    return table(["satellite", "Toe", "issue", "what", "values", "files#", "programs", "lines~"], rows,
+                 "Versions of an ephemeris, with the fields that differ as RINEX has them")
 
 
-CONTRADICTION_HEADS = ["satellite", "Toe", "issue", "what", "values", "files#", "programs", "lines~"]
+def contradiction_kinds(contradictions):
+    """How often the same fields of the same programs differ."""
+    kinds = collections.Counter()
+    for it in contradictions:
+        programs = [", ".join(one or "not named" for one in version["producers"]) or "not found again" for version in it["versions"]]
+        kinds[KINDS[it["kind"]], some(it["differ"], 6), " | ".join(programs)] += 1
+    return table(["fields that differ", "programs, a bar between the versions", "times#", "what"],
+                 [[fields, programs, count, what] for (what, fields, programs), count in sorted(kinds.items(), key=lambda it: (-it[1], it[0]))],
+                 "Ephemerides of one satellite and Toe that do not agree; each month's page lists its own with files and lines")
 
 
-def health_rows(some):
-    return [[it["satellite"], time(it["toe"]), f"{' | '.join(map(str, it['from']))} {it['from_text']}",
-             f"{' | '.join(map(str, it['to']))} {it['to_text']}"] for it in some]
-
-
-HEALTH_HEADS = ["satellite", "Toe", "before", "from then on"]
-
-
-def index(title, report, months):
-    """The overview."""
+def head_of(report):
+    """The days, the totals, and what is odd about the days."""
     span, files, records = report["span"], report["files"], report["records"]
-    days = len(report["days"])
-    day_of = lambda moment: f"{figures.date_of(moment):%Y-%m-%d} (day {figures.date_of(moment):%j})"
-    first, last = day_of(span["from"]), day_of(span["to"] - 1)
-    body = [f'<p>{first} to {last}, {days} day{"s" * (days != 1)}. Made {escape(report["made"])}. '
-            f'Times are in <b class="scale">GPS time</b>; days are days of GPS time. {scale_buttons()}</p>']
-    body.append(tiles([("files", files["files"]), ("files not read", files["not_read"]), ("records", records["records"]),
-                       ("records rejected", records["rejected"]), ("records skipped", records["skipped"]),
-                       ("distinct ephemerides", records["distinct_ephemerides"]), ("gaps of 2 h and more", len(report["gaps"])),
-                       ("contradictions", len(report["contradictions"])), ("health changes", len(report["health_changes"]))]))
-    if records["outside_span"]:
-        body.append(f'<p><span class="bad">{records["outside_span"]} ephemerides outside of these days</span> are not shown: '
-                    f'{escape(", ".join(it["satellite"] + " " + it["toe_text"] for it in report["outside"][:6]))}{" and more" if len(report["outside"]) > 6 else ""}.</p>')
-    empty = [day for at, day in enumerate(report["days"]) if not any(it["day_seconds"][at] for it in report["systems"])]
+    days = report["days"]
+    text = lambda moment: f"{figures.date_of(moment):%Y-%m-%d} (day {figures.date_of(moment):%j})"
+    yield (f'<p>{text(span["from"])} to {text(span["to"] - 1)}, {len(days)} day{"s" * (len(days) != 1)}. Made {escape(report["made"])}. '
+           f'Times are in <b class="scale">GPS time</b>; days are days of GPS time. {SCALE}</p>')
+    yield tiles([("files", files["files"]), ("files not read", files["not_read"]), ("records", records["records"]),
+                 ("records rejected", records["rejected"]), ("records skipped", records["skipped"]),
+                 ("distinct ephemerides", records["distinct_ephemerides"]), ("gaps of 2 h and more", len(report["gaps"])),
+                 ("contradictions", len(report["contradictions"])), ("health changes", len(report["health_changes"]))])
+    if report["outside"]:
+        names = some([f"{it['satellite']} {it['toe_text']}" for it in report["outside"]], 6)
+        yield f'<p><span class="bad">{records["outside_span"]} ephemerides outside of these days</span> are not shown: {escape(names)}.</p>'
+    empty = [day for at, day in enumerate(days) if not any(it["day_seconds"][at] for it in report["systems"])]
     if empty:
-        body.append(f'<p><span class="bad">{len(empty)} days without any ephemeris</span> {escape(", ".join(empty[:12]))}'
-                    f'{" and more" if len(empty) > 12 else ""}. If these are not expected, a file has a wrong date.</p>')
-    body.append("<h2>Coverage by system</h2>\n")
-    body.append(table(["system", "percent#", "by day", "satellites#", "ephemerides#", "gaps#"],
-                      [[SYSTEMS[it["system"]], f"{it['percent']:.2f}",
-                        strip(it["day_seconds"], 86400 * max(1, it["satellites"]), "", f"{SYSTEMS[it['system']]}, coverage by day"),
-                        it["satellites"], it["ephemerides"], it["gaps"]] for it in report["systems"]],
-                      "Percent of the time for which a satellite has an ephemeris, over the satellites that the archive has; in the bars full height is 100"))
+        yield f'<p><span class="bad">{len(empty)} days without any ephemeris</span> {escape(some(empty, 12))}.</p>'
+
+
+def coverage_of(report):
+    """Coverage by system."""
+    yield "<h2>Coverage by system</h2>\n"
+    rows = []
+    for it in report["systems"]:
+        name = SYSTEMS[it["system"]]
+        bars = strip(it["day_seconds"], 86400 * max(1, it["satellites"]), f"{name}, coverage by day")
+        rows.append([name, f"{it['percent']:.2f}", bars, it["satellites"], it["ephemerides"], it["gaps"]])
+    yield table(["system", "percent#", "by day", "satellites#", "ephemerides#", "gaps#"], rows,
+                "Percent of the time for which a satellite has an ephemeris, over the satellites that the archive has; full height is 100")
     for it in report["systems"]:
         if it["absent"] and it["satellites"]:
-            body.append(f'<p class="soft">No ephemeris at all of {SYSTEMS[it["system"]]}: {" ".join(it["absent"])}</p>')
-    body.append("<h2>Months</h2>\n")
-    body.append(table(["month", "days#", *(f"{SYSTEMS[it['system']]}, percent#" for it in report["systems"]), "gaps#", "contradictions#", "health changes#"],
-                      [[(f'<a href="{it["key"]}.html">{it["name"]}</a>',), it["days"], *it["percent"], it["gaps"], it["contradictions"], it["health"]]
-                       for it in months], "A page for each month: the timeline, by day and hour"))
-    body.append('<h2>Satellites</h2>\n<p><label>Search <input type="search" id="find" placeholder="G05, E" autocomplete="off"></label> '
-                '<span id="found" aria-live="polite"></span></p>')
+            yield f'<p class="soft">No ephemeris at all of {SYSTEMS[it["system"]]}: {" ".join(it["absent"])}</p>'
+
+
+def months_table(report, months):
+    yield "<h2>Months</h2>\n"
+    heads = ["month", "days#", *(f"{SYSTEMS[it['system']]}, percent#" for it in report["systems"]), "gaps#", "contradictions#", "health changes#"]
+    yield table(heads, [[(f'<a href="{it["key"]}.html">{it["name"]}</a>',), it["days"], *it["percent"], len(it["gaps"]),
+                         len(it["contradictions"]), len(it["changes"])] for it in months],
+                "A page for each month: the timeline, by day and hour")
+
+
+def satellites_table(report, months):
+    yield ('<h2>Satellites</h2>\n<p><label>Search <input type="search" id="find" placeholder="G05, E" autocomplete="off"></label> '
+           '<span id="found" aria-live="polite"></span></p>')
     changes = collections.Counter(it["satellite"] for it in report["health_changes"])
     against = collections.Counter(it["satellite"] for it in report["contradictions"])
-    link = lambda name: (f'<a href="{months[-1]["key"]}.html#s={name}">{name}</a>',) if months else name
-    body.append(table(["satellite", "percent#", "by day", "gaps#", "longest gap#", "ephemerides#", "contradictions#", "health changes#"],
-                      [Row([link(it["satellite"]), f"{it['percent']:.2f}",
-                            strip(it["day_seconds"], 86400, it["satellite"], f"{it['satellite']}, coverage by day"), it["gaps"],
-                            length(it["longest_gap"]) if it["gaps"] else "", it["ephemerides"], against[it["satellite"]], changes[it["satellite"]]],
-                           f' data-sat="{it["satellite"]}"')
-                       for it in report["satellites"]], "Gaps are those of two hours and more; a bar leads to its day"))
-    body.append("<h2>Longest gaps</h2>\n")
+    rows = []
+    for it in report["satellites"]:
+        name = it["satellite"]
+        here = (f'<a href="{months[-1]["key"]}.html#s={name}">{name}</a>',) if months else name
+        rows.append(Row([here, f"{it['percent']:.2f}", strip(it["day_seconds"], 86400, f"{name}, coverage by day", name), it["gaps"],
+                         length(it["longest_gap"]) if it["gaps"] else "", it["ephemerides"], against[name], changes[name]],
+                        f' data-sat="{name}"'))
+    yield table(["satellite", "percent#", "by day", "gaps#", "longest gap#", "ephemerides#", "contradictions#", "health changes#"], rows,
+                "Gaps are those of two hours and more; a bar leads to its day")
+
+
+def sources_of(report):
+    """Files, programs and stations."""
+    yield "<h2>Files</h2>\n"
+    yield table(["outcome", "files#"], [[what, count] for what, count in report["files"]["by_outcome"].items()], "What became of the files")
+    yield '<p><a href="files.html">All files, and what was rejected</a></p>'
+    yield "<h2>Programs</h2>\n"
+    yield table(["program", "agencies#", "files#", "records#", "rejected#", "skipped#", "contradictions#"],
+                [[it["program"] or "not named", *(it[key] for key in ("agencies", "files", "records", "rejected", "skipped", "contradictions"))]
+                 for it in report["producers"]], "By the program that the header names (PGM / RUN BY / DATE)")
+    yield "<h2>Stations</h2>\n"
+    rows = []
+    for it in report["stations"]:
+        there = set(it["days"])
+        bars = strip([86400 * (day in there) for day in report["days"]], 86400, f"{it['station']}, days with a file")
+        rows.append([it["station"], len(it["missing"]), bars, it["files"], len(it["days"]), some(it["missing"], 8)])
+    yield table(["station", "missing#", "by day", "files#", "days#", "days without a file"], rows,
+                "By the station and the day in a file's name, of files that were read")
+
+
+def index(report, months):
+    """The overview."""
     longest = sorted(report["gaps"], key=lambda it: (-it["seconds"], it["from"], figures.order(it["satellite"])))
-    body.append(table(GAP_HEADS, gap_rows(longest[:50]), f"The longest {min(50, len(longest))} of {len(longest)}; each month's page lists its own"))
-    body.append("<h2>Contradictions</h2>\n")
-    groups = collections.Counter((KINDS[it["kind"]], ", ".join(it["differ"][:6]) + (f" and {len(it['differ']) - 6} more" if len(it["differ"]) > 6 else ""),
-                                  " | ".join(", ".join(one or "not named" for one in version["producers"]) or "not found again" for version in it["versions"]))
-                                 for it in report["contradictions"])
-    body.append(table(["what", "fields that differ", "programs, a bar between the versions", "ephemerides#"],
-                      [[*what, count] for what, count in sorted(groups.items(), key=lambda it: (-it[1], it[0]))],
-                      "Ephemerides of one satellite and Toe that do not agree; each month's page lists its own with files and lines"))
-    body.append("<h2>Health changes</h2>\n" + table(HEALTH_HEADS, health_rows(report["health_changes"]), "In the order of Toe"))
-    body.append("<h2>Files</h2>\n")
-    body.append(table(["outcome", "files#"], [[what, count] for what, count in files["by_outcome"].items()], "What became of the files"))
-    body.append(table(["program", "agencies#", "files#", "records#", "rejected#", "skipped#", "contradictions#"],
-                      [[it["program"] or "not named", it["agencies"], it["files"], it["records"], it["rejected"], it["skipped"], it["contradictions"]]
-                       for it in report["producers"]], "By the program that the header names (PGM / RUN BY / DATE)"))
-    body.append('<p><a href="files.html">All files, and what was rejected</a></p>')
-    body.append("<h2>Stations</h2>\n")
-    body.append(table(["station", "files#", "days#", "by day", "missing#", "days without a file"],
-                      [[it["station"], it["files"], len(it["days"]), strip([86400 * (day in set(it["days"])) for day in report["days"]], 86400, "", f"{it['station']}, days with a file"),
-                        len(it["missing"]), ", ".join(it["missing"][:8]) + (f" and {len(it['missing']) - 8} more" if len(it["missing"]) > 8 else "")]
-                       for it in report["stations"]], "By the station and the day in a file's name, of files that were read"))
-    return page("overview", title, '<a href="files.html">Files</a> <a href="report.json">report.json</a>', "".join(body),
-                {"from": span["from"], "months": [it["key"] for it in months], "leaps": figures.LEAP_TIMES})
+    caption = f"The longest {min(50, len(longest))} of {len(longest)}; each month's page lists its own"
+    body = [*head_of(report), *coverage_of(report), *months_table(report, months), *satellites_table(report, months),
+            "<h2>Longest gaps</h2>\n", gap_table(longest[:50], caption),
+            "<h2>Contradictions</h2>\n", contradiction_kinds(report["contradictions"]),
+            "<h2>Health changes</h2>\n", health_table(report["health_changes"]), *sources_of(report)]
+    return page("overview", report["title"], '<a href="files.html">Files</a> <a href="report.json">report.json</a>', "".join(body),
+                data_of(report, months))
 
 
-def files_page(title, report, months):
+def data_of(report, months):
+    return {"from": report["span"]["from"], "months": [it["key"] for it in months], "leaps": figures.LEAP_TIMES}
+
+
+def files_page(report, months):
     """All files, and what was rejected."""
     records, root = report["records"], report["root"]
-    body = [f'<p>Names are those below {escape(root)}</p>' if root else "", "<h2>Files that were not read</h2>\n"]
-    body.append(table(["file~", "outcome", "notes"], [[below(it["file"], root), it["outcome"], "; ".join(it["notes"])] for it in report["files_not_read"]],
-                      "Nothing of these is in the numbers"))
-    body.append("<h2>Rejected records</h2>\n")
-    body.append(table(["reason", "records#", "what it means"], [[what, count, REASONS.get(what, "")] for what, count in records["rejected_by_reason"].items()],
-                      "By reason"))
-    body.append(table(["file~", "line#", "reason", "record"], [[below(it["file"], root), it["line"], it["reason"], it["record"]] for it in report["rejected"]],
-                      "Each rejected record with the line at which it begins", find("rejected", "Rejected records with") if report["rejected"] else "", "rejected"))
-    body.append("<h2>Skipped records</h2>\n")
-    body.append(table(["what", "records#"], list(records["skipped_by_kind"].items()), "Records of other systems and messages, which navbridge does not read"))
-    body.append("<h2>All files</h2>\n")
-    body.append(table(["file~", "outcome", "RINEX#", "program", "records#", "rejected#", "skipped#", "notes"],
-                      [[below(it["file"], root), it["outcome"], it["version"] or "", it["producer"], it["records"], it["rejected"], sum(it["skipped"].values()),
-                        "; ".join(it["notes"])] for it in report["file_rows"]], "Every file", find("all", "Files with"), "all"))
-    return page("files", title, '<a href="index.html">Overview</a> <a href="report.json">report.json</a>', "".join(body),
-                {"from": report["span"]["from"], "months": [it["key"] for it in months], "leaps": figures.LEAP_TIMES})
+    name = lambda it: below(it["file"], root)
+    body = [f"<p>Names are those below {escape(root)}</p>" if root else "",
+            "<h2>Files that were not read</h2>\n",
+            table(["file~", "outcome", "notes"], [[name(it), it["outcome"], "; ".join(it["notes"])] for it in report["files_not_read"]],
+                  "Nothing of these is in the numbers"),
+            "<h2>Rejected records</h2>\n",
+            table(["reason", "records#", "what it means"],
+                  [[what, count, REASONS.get(what, "")] for what, count in records["rejected_by_reason"].items()], "By reason"),
+            table(["file~", "line#", "reason", "record"], [[name(it), it["line"], it["reason"], it["record"]] for it in report["rejected"]],
+                  "Each rejected record with the line at which it begins", find("rejected", "Rejected records with"), "rejected"),
+            "<h2>Skipped records</h2>\n",
+            table(["what", "records#"], list(records["skipped_by_kind"].items()),
+                  "Records of other systems and messages, which navbridge does not read"),
+            "<h2>All files</h2>\n",
+            table(["file~", "outcome", "RINEX#", "program", "records#", "rejected#", "skipped#", "notes"],
+                  [[name(it), it["outcome"], it["version"] or "", it["producer"], it["records"], it["rejected"],
+                    sum(it["skipped"].values()), "; ".join(it["notes"])] for it in report["file_rows"]],
+                  "Every file", find("all", "Files with"), "all")]
+    return page("files", report["title"], '<a href="index.html">Overview</a> <a href="report.json">report.json</a>', "".join(body),
+                data_of(report, months))
 
 
 PATTERNS = """<template id="patterns"><svg><defs>
-<pattern id="p-gap" width="6" height="6" patternUnits="userSpaceOnUse" patternTransform="rotate(45)"><line class="p-gap" x1="0" y1="0" x2="0" y2="6"/></pattern>
-<pattern id="p-ill" width="6" height="6" patternUnits="userSpaceOnUse"><rect class="p-ill" width="6" height="6"/><circle class="p-ill-b" cx="3" cy="3" r="1.7"/></pattern>
+<pattern id="p-gap" width="6" height="6" patternUnits="userSpaceOnUse" patternTransform="rotate(45)">
+<line class="p-gap" x1="0" y1="0" x2="0" y2="6"/></pattern>
+<pattern id="p-ill" width="6" height="6" patternUnits="userSpaceOnUse">
+<rect class="p-ill" width="6" height="6"/><circle class="p-ill-b" cx="3" cy="3" r="1.7"/></pattern>
 </defs></svg></template>
 """
-
-
-def month_page(title, month, others, report):
-    """The timeline of a month."""
-    at = others.index(month)
-    links = ['<a href="index.html">Overview</a> <a href="files.html">Files</a>']
-    links += [f'<a href="{it["key"]}.html" rel="{rel}">{arrow} {it["name"]}</a>' for it, rel, arrow in
-              ((others[at - 1] if at else None, "prev", "&larr;"), (others[at + 1] if at + 1 < len(others) else None, "next", "&rarr;")) if it]
-    key = lambda shape, text: f'<span class="key"><svg viewBox="0 0 34 14" aria-hidden="true" id="key-{text.split()[0]}">{shape}</svg>{text}</span>'
-    legend = "".join((
-        key('<rect x="1" y="1" width="32" height="12" fill="var(--cover)"/>', "has an ephemeris"),
-        key('<rect x="1" y="1" width="32" height="12" fill="url(#p-gap)" stroke="var(--gap)"/>', "gap of two hours and more"),
-        key('<rect x="1" y="1" width="32" height="12" fill="var(--panel)" stroke="var(--line)"/>', "shorter gap"),
-        key('<rect x="1" y="1" width="32" height="12" fill="url(#p-ill)" stroke="var(--ill)"/>', "marked unhealthy"),
-        key('<path d="M17 1l6 11h-12z" fill="var(--mark)"/>', "contradiction"),
-        key('<path d="M17 1v12" stroke="var(--text)" stroke-width="2"/>', "Toe, with the issue (by day and hour)")))
-    body = [f"""<h2>Timeline</h2>
-<div class="bar">
+CONTROLS = f"""<div class="bar">
 <label>Search <input type="search" id="find" placeholder="G05, E" autocomplete="off"></label>
-<span class="bar" role="group" aria-label="Zoom"><button type="button" data-zoom="month" aria-pressed="true">Month</button><button type="button"
- data-zoom="day" aria-pressed="false">Day</button><button type="button" data-zoom="hour" aria-pressed="false">Hour</button></span>
-<span class="bar"><button type="button" id="before" aria-label="Before">&larr;</button><button type="button" id="after" aria-label="After">&rarr;</button></span>
+<span class="bar" role="group" aria-label="Zoom">
+<button type="button" data-zoom="month" aria-pressed="true">Month</button>
+<button type="button" data-zoom="day" aria-pressed="false">Day</button>
+<button type="button" data-zoom="hour" aria-pressed="false">Hour</button></span>
+<span class="bar"><button type="button" id="before" aria-label="Before">&larr;</button>
+<button type="button" id="after" aria-label="After">&rarr;</button></span>
 <label>Satellite <select id="sat"><option value="">all</option></select></label>
 <label>Day <select id="day"><option value="-1">all</option></select></label>
 <label>Hour <select id="hour"><option value="-1">all</option></select></label>
-{scale_buttons()}
+{SCALE}
 </div>
-<p id="status" role="status"></p>
-<div><svg id="chart" tabindex="0" role="application" aria-label="Timeline by satellite and day. Arrow keys: satellite and day. Enter: closer. Escape: back. The table below has the percents."></svg></div>
-<div class="bar">{legend}</div>
-<p class="soft">The axis is GPS time. Click a day, then an hour. Keys in the timeline: arrows, Enter (closer), Escape (back), Home, End.</p>
-{PATTERNS}
-<section id="detail" aria-label="Satellite"></section>
-<h2>Coverage in percent by satellite and day</h2>
+"""
+CHART = """<p id="status" role="status"></p>
+<div><svg id="chart" tabindex="0" role="application" aria-label="Timeline by satellite and day. Arrow keys: satellite and day.
+ Enter: closer. Escape: back. The table below has the percents."></svg></div>
+"""
+BOX = '<rect x="1" y="1" width="32" height="12" fill="{}" stroke="{}"/>'
+LEGEND = ((BOX.format("var(--cover)", "none"), "has an ephemeris"), (BOX.format("url(#p-gap)", "var(--gap)"), "gap of two hours and more"),
+          (BOX.format("var(--panel)", "var(--line)"), "shorter gap"), (BOX.format("url(#p-ill)", "var(--ill)"), "marked unhealthy"),
+          ('<path d="M17 1l6 11h-12z" fill="var(--mark)"/>', "contradiction"),
+          ('<path d="M17 1v12" stroke="var(--text)" stroke-width="2"/>', "Toe, with the issue (by day and hour)"))
+MATRIX = """<h2>Coverage in percent by satellite and day</h2>
 <div class="wide tall" tabindex="0" role="region" aria-label="Percent by satellite and day"><table id="matrix"></table></div>
 <p class="soft">Rounded down: 100 is all of a day. Underlined: less. Bold 0: nothing.</p>
-"""]
-    body.append("<h2>Gaps of two hours and more</h2>\n" + table(GAP_HEADS, gap_rows(month["gap_list"]), "A gap that goes over the bounds of the month is in both",
-                                                                 find("gaps", "Gaps with") if month["gap_list"] else "", "gaps"))
-    body.append("<h2>Contradictions</h2>\n" + table(CONTRADICTION_HEADS, contradiction_rows(month["data"]["contradictions"], report["root"]),
-                                                     "Versions of an ephemeris, with the fields that differ as RINEX has them"))
-    body.append("<h2>Health changes</h2>\n" + table(HEALTH_HEADS, health_rows(month["health_list"]), "In the order of Toe"))
-    data = {**month["data"], "contradictions": [{"satellite": it["satellite"], "toe": it["toe"]} for it in month["data"]["contradictions"]]}
-    return page(month["name"], title, " ".join(links), "".join(body), data)
+"""
 
 
-def month_of(report, reading, first, days, key):
-    """What a month's page needs: its days are those from number first on."""
-    start, end = report["span"]["from"] + first * 86400, report["span"]["from"] + (first + days) * 86400
-    inside = lambda some: [it for it in some if start <= it["toe"] < end]
+def month_page(month, months, report):
+    """The timeline of a month."""
+    at = months.index(month)
+    links = ['<a href="index.html">Overview</a> <a href="files.html">Files</a>']
+    if at:
+        links.append(f'<a href="{months[at - 1]["key"]}.html" rel="prev">&larr; {months[at - 1]["name"]}</a>')
+    if at + 1 < len(months):
+        links.append(f'<a href="{months[at + 1]["key"]}.html" rel="next">{months[at + 1]["name"]} &rarr;</a>')
+    legend = "".join(f'<span class="key"><svg viewBox="0 0 34 14" aria-hidden="true">{shape}</svg>{text}</span>' for shape, text in LEGEND)
+    body = ["<h2>Timeline</h2>\n", CONTROLS, CHART, f'<div class="bar">{legend}</div>\n',
+            '<p class="soft">The axis is GPS time. Click a day, then an hour. Keys in the timeline: arrows, Enter (closer), Escape (back), '
+            "Home, End.</p>\n", PATTERNS, '<section id="detail" aria-label="Satellite"></section>\n', MATRIX,
+            "<h2>Gaps of two hours and more</h2>\n",
+            gap_table(month["gaps"], "A gap that goes over the bounds of the month is in both", find("gaps", "Gaps with"), "gaps"),
+            "<h2>Contradictions</h2>\n", contradiction_table(month["contradictions"], report["root"]),
+            "<h2>Health changes</h2>\n", health_table(month["changes"])]
+    return page(month["name"], report["title"], " ".join(links), "".join(body), month["data"])
+
+
+def satellite_of(it, gaps, ephemerides, span, days):
+    """What the timeline needs of a satellite: times as differences, each from the end of what is before it."""
+    start, end = span
+    ranges, at = [], start
+    for a, b in figures.clipped(it["ranges"], start, end):
+        ranges += [a - at, b - a]
+        at = b
+    issues, at = [], start
+    for toe, issue, health in ephemerides:
+        if start <= toe < end:
+            issues += [toe - at, issue, health]
+            at = toe
+    own = [(gap["from"], gap["to"]) for gap in gaps if gap["satellite"] == it["satellite"]]
+    return {"n": it["satellite"], "r": ranges, "e": issues, "u": figures.clipped(it["unhealthy"], start, end),
+            "g": figures.clipped(own, start, end), "p": it["day_seconds"][days]}
+
+
+def month_of(report, reading, first, count):
+    """A month: its days are so many from a number on."""
+    start = report["span"]["from"] + first * 86400
+    end, days = start + count * 86400, slice(first, first + count)
+    inside = lambda them: [it for it in them if start <= it["toe"] < end]
+    gaps = [it for it in report["gaps"] if it["from"] < end and it["to"] > start]
     sats, healths = [], {}
     for it in report["satellites"]:
-        flat, at = [], start
-        for a, b in figures.clipped(it["ranges"], start, end):
-            flat += [a - at, b - a]
-            at = b
-        ephemerides, at = [], start
-        for toe, issue, health in reading.ephemerides[it["satellite"]]:
-            if start <= toe < end:
-                ephemerides += [toe - at, issue, health]
-                at = toe
-                healths[f"{it['satellite'][0]}{health}"] = f"{health} {figures.health_text(it['satellite'], health)}"
-        sats.append({"n": it["satellite"], "r": flat, "u": figures.clipped(it["unhealthy"], start, end), "e": ephemerides,
-                     "g": [[a, b] for a, b in figures.clipped([(gap["from"], gap["to"]) for gap in report["gaps"] if gap["satellite"] == it["satellite"]], start, end)],
-                     "p": it["day_seconds"][first:first + days]})
-    gaps = [it for it in report["gaps"] if it["from"] < end and it["to"] > start]
-    against, changes = inside(report["contradictions"]), inside(report["health_changes"])
-    year, month = map(int, key.split("-"))
-    name = f"{calendar.month_name[month]} {year}"
-    return {"key": key, "name": name, "days": days, "gaps": len(gaps), "gap_list": gaps, "contradictions": len(against), "health": len(changes),
-            "health_list": changes,
-            "percent": [f"{figures.percent(sum(it['day_seconds'][first:first + days]), it['satellites'] * days * 86400):.2f}" for it in report["systems"]],
-            "there": any(it["e"] or it["r"] for it in sats),
-            "data": {"name": name, "from": start, "to": end, "sats": sats, "contradictions": against, "health": healths, "leaps": figures.LEAP_TIMES}}
+        name = it["satellite"]
+        sats.append(satellite_of(it, gaps, reading.ephemerides[name], (start, end), days))
+        for health in sats[-1]["e"][2::3]:
+            healths[f"{name[0]}{health}"] = f"{health} {figures.health_text(name, health)}"
+    contradictions = inside(report["contradictions"])
+    name = f"{calendar.month_name[figures.date_of(start).month]} {figures.date_of(start).year}"
+    percents = [figures.percent(sum(it["day_seconds"][days]), it["satellites"] * count * 86400) for it in report["systems"]]
+    data = {"name": name, "from": start, "to": end, "sats": sats, "health": healths, "leaps": figures.LEAP_TIMES,
+            "contradictions": [{"satellite": it["satellite"], "toe": it["toe"]} for it in contradictions]}
+    return {"key": f"{figures.date_of(start):%Y-%m}", "name": name, "days": count, "gaps": gaps, "contradictions": contradictions,
+            "changes": inside(report["health_changes"]), "percent": [f"{it:.2f}" for it in percents], "data": data}
 
 
 def months_of(report, reading):
     """The months of the report that have anything."""
     months, at = [], 0
     while at < len(report["days"]):
-        key = report["days"][at][:7]
-        year, month = map(int, key.split("-"))
-        days = min(len(report["days"]) - at, (datetime.date(year + month // 12, month % 12 + 1, 1) - datetime.date.fromisoformat(report["days"][at])).days)
-        one = month_of(report, reading, at, days, key)
-        if one["there"]:
-            months.append(one)
-        at += days
+        day = datetime.date.fromisoformat(report["days"][at])
+        count = min(len(report["days"]) - at, calendar.monthrange(day.year, day.month)[1] - day.day + 1)
+        month = month_of(report, reading, at, count)
+        if any(it["e"] or it["r"] for it in month["data"]["sats"]):
+            months.append(month)
+        at += count
     return months
 
 
 def write(site, report, reading, work):
     """Writes the pages and report.json, each by one renaming, and removes pages of months that are gone."""
-    months, title = months_of(report, reading), report["title"]
-    pages = {"index.html": index(title, report, months), "files.html": files_page(title, report, months),
-             "report.json": json.dumps(report, separators=(",", ":")).replace('],"', '],\n"').replace('},{"', '},\n{"') + "\n"}
+    months = months_of(report, reading)
+    text = json.dumps(report, separators=(",", ":")).replace('],"', '],\n"').replace('},{"', '},\n{"')
+    pages = {"index.html": index(report, months), "files.html": files_page(report, months), "report.json": text + "\n"}
     for month in months:
-        pages[f"{month['key']}.html"] = month_page(title, month, months, report)
+        pages[f"{month['key']}.html"] = month_page(month, months, report)
     for name, text in pages.items():
         with open(os.path.join(work, name), "w", encoding="utf-8", errors="backslashreplace", newline="\n") as file:
             file.write(text)
