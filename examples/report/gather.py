@@ -118,38 +118,48 @@ def producer_of(name):
     return [" ".join("".join(c if c.isprintable() else " " for c in part).split()) for part in (text[:20], text[20:40])]
 
 
-def sections_of(name):
-    """What is below each header of a file: version, how many lines are above, bytes, lines, whether the last record was left out."""
-    with open(name, "rb") as file:
-        data = merge.unpacked(file.read())[0]
+def sections_of(data):
+    """What is below each header of a file: version, how many lines are above, and the lines."""
     begins = merge.headers_of(data)
     for begin, end in zip(begins, [*begins[1:], len(data)]):
-        above = data.count(b"\n", 0, begin)
         try:
-            it = merge.section_of(data[begin:end], above)
+            form, start = merge.version_of(data[begin:end])
         except merge.Unusable:
             continue
-        yield it["form"], above + it["above"], bytes(it["body"]), it["lines"], it["left_out"]
+        yield form, data.count(b"\n", 0, begin + start), data[begin + start:end].split(b"\n")
 
 
-def candidates(data, form):
-    """The records of a file that could be one of the wanted: where they begin and end."""
-    for found in EPOCH.finditer(data):
-        if found[0].replace(b" ", b"0") not in LOOK["epochs"]:
+def candidates(form, lines):
+    """The records that could be one of the wanted: where their lines begin and end. Those that navbridge skips are left out, and
+    a last one whose last line has no end."""
+    for at, line in enumerate(lines):
+        if line[:1] not in (b"G", b"E") or line[:23].replace(b" ", b"0") not in LOOK["epochs"]:
             continue
-        start = found.start()
+        begins = (lambda it: it[:1] == b">") if form == 4 else (lambda it: it[:1].strip(b" \r"))
+        end = next((it for it in range(at + 1, len(lines)) if begins(lines[it])), len(lines))
+        above = lines[at - 1] if at else b""
+        if end == len(lines) and lines[-1]:
+            continue
         if form == 4:
-            end = data.find(b"\n>", start) + 1 or len(data)
-            start = data.rfind(b"\n", 0, max(start - 1, 0)) + 1
-            title = data[start + 1:start + 14].ljust(13)
-            if data[start:start + 1] == b">" and title[1:4] + b" " + title[5:6] + b" " + title[9:13] in merge.TRIED:
-                yield start, end
-        else:
-            after = merge.START.search(data, start)
-            end = after.end() if after else len(data)
-            sixth = merge.SIXTH.match(data, start, end)
-            if data[start:start + 1] == b"G" or sixth and merge.source_of(sixth[1].rstrip(b"\r")[23:42].ljust(19)) == "I/NAV":
-                yield start, end
+            title = above[1:14].ljust(13)
+            if above[:1] == b">" and title[1:4] + b" " + title[5:6] + b" " + title[9:13] in merge.TRIED:
+                yield at - 1, end
+        elif above[:1] != b">":
+            sixth = lines[at + 5].rstrip(b"\r") if at + 5 < end else b""
+            if line[:1] == b"G" or sixth and merge.source_of(sixth[23:42].ljust(19)) == "I/NAV":
+                yield at, end
+
+
+def give_all(call, parts, number, form, above, lines):
+    """Hands all records of a section to navbridge; gives the last one as rejected if its last line has no end."""
+    begins = [at for at, line in enumerate(lines) if (line[:1] == b">" if form == 4 else line[:1].strip(b" \r"))]
+    if not begins:
+        return []
+    cut = [(number, above + begins[-1] + 1, "cut", "")] if lines[-1] else []
+    first, end = begins[0], begins[-1] if cut else len(lines) - 1
+    parts.append((call.lines, number, above + first, lines[first:end]))
+    call.give(b"\n".join(lines[first:end]) + b"\n", end - first)
+    return cut
 
 
 def look_again(files):
@@ -171,21 +181,18 @@ def look_again(files):
         for number, name, for_rejected, for_versions in files:
             try:
                 producers.append((number, *producer_of(name)))
-                sections = list(sections_of(name)) if for_rejected or for_versions else []
+                data = b""
+                if for_rejected or for_versions:
+                    with open(name, "rb") as file:
+                        data = merge.unpacked(file.read())[0]
             except (merge.Unusable, OSError, zlib.error):
                 continue
-            for form, above, data, lines, left_out in sections:
-                if left_out:
-                    rejected.append((number, above + lines + 1, "cut", ""))
+            for form, above, lines in sections_of(data) if data else ():
                 if for_rejected:
-                    parts[form].append((call(form, "list").lines, number, above, data))
-                    calls[form, "list"].give(data, lines)
-                if for_versions:
-                    at, line = 0, above
-                    for start, end in candidates(data, form):
-                        line, at = line + data.count(b"\n", at, start), start
-                        given[form].append((call(form, "rinex").lines, number, line + 1))
-                        calls[form, "rinex"].give(data[start:end], data.count(b"\n", start, end))
+                    rejected += give_all(call(form, "list"), parts[form], number, form, above, lines)
+                for begin, end in candidates(form, lines) if for_versions else ():
+                    given[form].append((call(form, "rinex").lines, number, above + begin + 1))
+                    calls[form, "rinex"].give(b"\n".join(lines[begin:end]) + b"\n", end - begin)
         for (form, to), one in calls.items():
             status, refused, counts = one.end()
             if status:
@@ -193,9 +200,8 @@ def look_again(files):
             if to == "list":
                 bases = [it[0] for it in parts[form]]
                 for line, reason in refused:
-                    base, number, above, data = parts[form][merge.bisect.bisect_left(bases, line) - 1]
-                    texts = data.split(b"\n", line - base + 1)[line - base - 1:line - base + 1]
-                    text = texts[-1 if form == 4 else 0][:23].decode("latin-1")
+                    base, number, above, lines = parts[form][merge.bisect.bisect_left(bases, line) - 1]
+                    text = b"".join(lines[line - base - (form == 3):][:1])[:23].decode("latin-1")
                     rejected.append((number, line - base + above, reason, "".join(c if c.isprintable() else "?" for c in text).strip()))
             else:
                 wrong = {merge.bisect.bisect_left([it[0] for it in given[form]], line) - 1 for line, _ in refused}
