@@ -17,34 +17,18 @@
 set -euo pipefail
 umask 022
 export LC_ALL=C TZ=UTC
-start=$PWD
-cd "$(dirname "$(readlink -f "$0")")/.."
+. "$(dirname "$(readlink -f "$0")")/../checks/lib.sh"
 declare -A programs=([navbridge]='' [navlog]='' [navconvert]='')
-maintainer='' version='' epoch=${SOURCE_DATE_EPOCH:-} out=packaging/build
-while [ $# -gt 0 ]; do
-  case $1 in
-    -h | --help)
-      sed -n '2,/^set /{/^set /d;s/^# \{0,1\}//;p}' "$0"
-      exit 0
-      ;;
-    --program | --maintainer | --version | --epoch | --out) [ $# -ge 2 ] || { echo "debian: $1 wants a value" >&2; exit 2; } ;;
-    *)
-      echo "debian: $1 is no option; --help" >&2
-      exit 2
-      ;;
-  esac
-  case $1 in
-    # from where it was called
-    --program)
-      name=${2##*/}
-      [ -n "${programs[$name]+x}" ] || { echo "debian: $name is no program of the package: navbridge, navlog, navconvert" >&2; exit 2; }
-      programs[$name]=$(cd "$start" && readlink -m -- "$2")
-      ;;
-    --out) out=$(cd "$start" && readlink -m -- "$2") ;;
-    *) printf -v "${1#--}" %s "$2" ;;
-  esac
-  shift 2
+program=() maintainer='' version='' epoch=${SOURCE_DATE_EPOCH:-} out=''
+options '--program+: --maintainer: --version: --epoch: --out:' "$@"
+for it in "${program[@]}"; do
+  name=${it##*/}
+  [ -n "${programs[$name]+x}" ] || fail "$name is no program of the package: navbridge, navlog, navconvert"
+  programs[$name]=$(path_of "$it")
 done
+[ -z "$out" ] || out=$(path_of "$out")
+out=${out:-packaging/build}
+cd "$top"
 [ -n "${programs[navconvert]}" ] || [ -x crates/navconvert/out/navconvert ] || unset 'programs[navconvert]'
 names=()
 for name in navbridge navlog navconvert; do
