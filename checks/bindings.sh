@@ -29,9 +29,19 @@ if ! make -s -C bindings/c LIB="$archive" OUT="$made" CFLAGS="-O2 $sanitize" > "
   echo "bindings: not built" >&2
   exit 1
 fi
-# The runs of examples/runs.txt by one of the examples in C: of `follow` those that can be pushed
-for program in convert convert++ follow follow++; do
-  before=$tried
+# the header: by each C++ standard, by every compiler that is there; each reason with a number of its own, the one that it had
+for cxx in c++ clang++; do
+  command -v "$cxx" > /dev/null || continue
+  for standard in 11 14 17 20; do
+    "$cxx" -std=c++$standard -fsyntax-only -Wall -Wextra -Werror -pedantic -Wold-style-cast -Wconversion -Wsign-conversion \
+      -Ibindings/c bindings/c/tests/header.cpp || differs "navbridge.h: $cxx, C++$standard"
+  done
+done
+sed -n '/^typedef enum nb_status/,/^}/s/^ *\(NB_[A-Z0-9_]*\) = \([0-9]*\).*/\2 \1/p' bindings/c/navbridge.h > "$out/reasons"
+[ -z "$(cut -d ' ' -f 1 "$out/reasons" | sort | uniq -d)" ] || differs 'navbridge.h: two reasons have one number'
+diff bindings/c/reasons.txt "$out/reasons" || differs 'navbridge.h: its reasons are not those of bindings/c/reasons.txt'
+runs=0
+for program in convert convert++; do
   while IFS='|' read -r status input output report words; do
     case $status in '' | '#'*) continue ;; esac
     case $program,$status$words in
@@ -91,6 +101,13 @@ if [ -n "$valgrind" ]; then
     || differs 'convert under valgrind'
 fi
 if command -v python3 > /dev/null && [ -z "$sanitize" ]; then
+  # wherever the file lies
+  python3 - << 'END' || differs 'navbridge.py: it is not imported from /'
+import types, sys
+module = sys.modules["navbridge"] = types.ModuleType("navbridge")
+module.__file__ = "/navbridge.py"
+exec(compile(open("bindings/python/navbridge.py").read(), "navbridge.py", "exec"), module.__dict__)
+END
   NAVBRIDGE_LIBRARY=$made/libnavbridge.so PYTHONDONTWRITEBYTECODE=1 python3 -m doctest bindings/python/navbridge.py || differs 'navbridge.py'
   echo 'navbridge.py: its example was run'
 fi

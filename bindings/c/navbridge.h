@@ -30,7 +30,7 @@
 extern "C" {
 #endif
 
-/** Answers of the calls that give a status. */
+/** Answers of the calls that give a status: 0, or the reason. No two have one number, and none changes its number. */
 typedef enum nb_status {
     NB_OK = 0,            /**< all was done */
     NB_NO_JOB = 2,        /**< nb_convert(): the words name no job */
@@ -67,13 +67,22 @@ typedef enum nb_status {
     NB_RECORD_FAR = 41,         /**< the epoch is not within half a week of toe */
     NB_RECORD_PASSED_OVER = 42, /**< a record of another kind */
 
-    NB_SUBFRAME_PREAMBLE = 48, /**< neither the preamble nor its complement stands first */
-    NB_SUBFRAME_PARITY = 48,   /**< with the number of the first word of wrong parity added: 49 to 58 */
-    NB_SUBFRAME_TOW = 59,      /**< the TOW count is 100,800 or more */
-    NB_SUBFRAME_UNUSED = 60,   /**< not subframe 1, 2 or 3, nor page 18 of subframe 4 */
-    NB_SUBFRAME_TIME = 61,     /**< toc or toe past the end of the week */
-    NB_NO_SATELLITE = 62,      /**< the satellite that was named is not 1 to 32 (GPS) or 1 to 36 (Galileo) */
-    NB_NO_TOW_COUNT = 63,      /**< the TOW count that was given is 100,800 or more */
+    NB_SUBFRAME_PREAMBLE = 48,  /**< neither the preamble nor its complement stands first */
+    NB_SUBFRAME_PARITY_1 = 49,  /**< the first word of wrong parity is word 1; nb_parity_word() gives its number */
+    NB_SUBFRAME_PARITY_2 = 50,  /**< word 2 */
+    NB_SUBFRAME_PARITY_3 = 51,  /**< word 3 */
+    NB_SUBFRAME_PARITY_4 = 52,  /**< word 4 */
+    NB_SUBFRAME_PARITY_5 = 53,  /**< word 5 */
+    NB_SUBFRAME_PARITY_6 = 54,  /**< word 6 */
+    NB_SUBFRAME_PARITY_7 = 55,  /**< word 7 */
+    NB_SUBFRAME_PARITY_8 = 56,  /**< word 8 */
+    NB_SUBFRAME_PARITY_9 = 57,  /**< word 9 */
+    NB_SUBFRAME_PARITY_10 = 58, /**< word 10 */
+    NB_SUBFRAME_TOW = 59,       /**< the TOW count is 100,800 or more */
+    NB_SUBFRAME_UNUSED = 60,    /**< not subframe 1, 2 or 3, nor page 18 of subframe 4 */
+    NB_SUBFRAME_TIME = 61,      /**< toc or toe past the end of the week */
+    NB_NO_SATELLITE = 62,       /**< the satellite that was named is not 1 to 32 (GPS) or 1 to 36 (Galileo) */
+    NB_NO_TOW_COUNT = 63,       /**< the TOW count that was given is 100,800 or more */
 
     NB_PAGE_ALERT = 65,     /**< a part is of an alert page */
     NB_PAGE_NO_PAIR = 66,   /**< the parts are not an even one and an odd one */
@@ -287,8 +296,8 @@ uint32_t nb_version(void);
  *
  * It takes memory: the output and the report once more, and what the job keeps. All is given back.
  */
-uint32_t nb_convert(const nb_bytes *words, size_t n_words, const uint8_t *input, size_t n, uint8_t *output, size_t room,
-                    size_t *used, uint8_t *report, size_t report_room, size_t *report_used);
+nb_status nb_convert(const nb_bytes *words, size_t n_words, const uint8_t *input, size_t n, uint8_t *output, size_t room,
+                     size_t *used, uint8_t *report, size_t report_room, size_t *report_used);
 
 /** @name RTCM 10403.3
  * A frame is the byte D3, 6 reserved bits, 10 bits of length, a payload of 0 to 1,023 bytes and the CRC-24Q of all before. */
@@ -314,14 +323,14 @@ size_t nb_frame_make(const uint8_t *payload, size_t n, uint8_t *frame, size_t ro
  * @return NB_OK, NB_NO_WEEK, or the first of NB_NO_NUMBER, NB_OTHER_MESSAGE, NB_SHORT, NB_BAD_SATELLITE, NB_BAD_TIME and
  *         NB_SPARE_SISA that holds. Bytes behind the message are not looked at.
  */
-uint32_t nb_message_read(const uint8_t *payload, size_t n, uint32_t week, nb_item *item);
+nb_status nb_message_read(const uint8_t *payload, size_t n, uint32_t week, nb_item *item);
 
 /**
  * @brief Makes the frame of message 1019 or 1046 of an ephemeris: 67 or 69 bytes.
  * @param used set to its size, which may be more than the room: the prefix that fits is put
  * @return NB_OK, NB_NO_ITEM or NB_NO_MESSAGE; but for NB_OK nothing is put, and the size is 0
  */
-uint32_t nb_message_write(const nb_item *item, uint8_t *frame, size_t room, size_t *used);
+nb_status nb_message_write(const nb_item *item, uint8_t *frame, size_t room, size_t *used);
 
 /**@}*/
 
@@ -350,10 +359,10 @@ typedef struct nb_subframe {
  * @brief Reads a subframe; one with inverted polarity is inverted first.
  * @param satellite the GPS satellite that sent it, 1 to 32
  * @param subframe  set where the answer is NB_OK, and left as it is otherwise
- * @return NB_OK, NB_NO_SATELLITE, or the first of NB_SUBFRAME_PREAMBLE, NB_SUBFRAME_PARITY + 1 to NB_SUBFRAME_PARITY + 10,
+ * @return NB_OK, NB_NO_SATELLITE, or the first of NB_SUBFRAME_PREAMBLE, NB_SUBFRAME_PARITY_1 to NB_SUBFRAME_PARITY_10,
  *         NB_SUBFRAME_TOW, NB_SUBFRAME_UNUSED and NB_SUBFRAME_TIME that holds
  */
-uint32_t nb_subframe_read(const nb_subframe_bits *bits, uint32_t satellite, nb_subframe *subframe);
+nb_status nb_subframe_read(const nb_subframe_bits *bits, uint32_t satellite, nb_subframe *subframe);
 
 /**
  * @brief Makes the bits of a subframe: TLM message, flags and reserved bits 0, the last four bits 0.
@@ -361,7 +370,7 @@ uint32_t nb_subframe_read(const nb_subframe_bits *bits, uint32_t satellite, nb_s
  * @param bits      set where the answer is NB_OK, and left as it is otherwise
  * @return NB_OK, NB_NO_TOW_COUNT or NB_NO_ITEM
  */
-uint32_t nb_subframe_write(const nb_subframe *subframe, uint32_t tow_count, nb_subframe_bits *bits);
+nb_status nb_subframe_write(const nb_subframe *subframe, uint32_t tow_count, nb_subframe_bits *bits);
 
 /**@}*/
 
@@ -394,7 +403,7 @@ typedef struct nb_word {
  * @return NB_OK, NB_NO_SATELLITE, or the first of NB_PAGE_ALERT, NB_PAGE_NO_PAIR, NB_PAGE_CRC, NB_WORD_UNUSED,
  *         NB_WORD_SATELLITE, NB_WORD_TIME and NB_WORD_SISA that holds
  */
-uint32_t nb_page_read(const nb_page_bits *page, uint32_t satellite, nb_word *word);
+nb_status nb_page_read(const nb_page_bits *page, uint32_t satellite, nb_word *word);
 
 /**
  * @brief Makes the page of a word: nominal, reserved and tail bits 0.
@@ -402,7 +411,7 @@ uint32_t nb_page_read(const nb_page_bits *page, uint32_t satellite, nb_word *wor
  * @param page      set where the answer is NB_OK, and left as it is otherwise
  * @return NB_OK, NB_NO_SATELLITE or NB_NO_ITEM
  */
-uint32_t nb_page_write(const nb_word *word, uint32_t satellite, nb_page_bits *page);
+nb_status nb_page_write(const nb_word *word, uint32_t satellite, nb_page_bits *page);
 
 /**@}*/
 
@@ -460,7 +469,7 @@ void nb_pages_init(nb_pages *at, uint32_t window);
  * @return NB_OK; or the first of NB_NO_SATELLITE, NB_PAGE_ALERT, NB_NO_SIGNAL and NB_NO_MEMORY that holds, and then nothing is
  *         changed
  */
-uint32_t nb_pages_take(nb_pages *at, const uint8_t *part, uint32_t stamp, uint32_t satellite, uint32_t signal);
+nb_status nb_pages_take(nb_pages *at, const uint8_t *part, uint32_t stamp, uint32_t satellite, uint32_t signal);
 
 /**
  * @brief Gives the next page that the last part makes with its partners: none where there is no partner yet, or where the same
@@ -486,7 +495,7 @@ void nb_pages_close(nb_pages *at);
  * @return NB_OK; NB_NO_VERSION; NB_RECORD_PASSED_OVER; or the first of NB_RECORD_SATELLITE to NB_RECORD_FAR that is found, in
  *         this order: satellite, number of lines, the same satellite in the line of the date, date, numbers, what they make
  */
-uint32_t nb_record_read(const uint8_t *text, size_t n, uint32_t version, nb_item *item);
+nb_status nb_record_read(const uint8_t *text, size_t n, uint32_t version, nb_item *item);
 
 /**
  * @brief Writes the record of an item: its lines, each with LF.
@@ -495,7 +504,7 @@ uint32_t nb_record_read(const uint8_t *text, size_t n, uint32_t version, nb_item
  *                parameters have no record in version 3, and its length is 0
  * @return NB_OK, NB_NO_VERSION or NB_NO_ITEM; but for NB_OK nothing is put, and the length is 0
  */
-uint32_t nb_record_write(const nb_item *item, uint32_t version, uint8_t *text, size_t room, size_t *used);
+nb_status nb_record_write(const nb_item *item, uint32_t version, uint8_t *text, size_t room, size_t *used);
 
 /**@}*/
 
@@ -594,7 +603,7 @@ size_t nb_push_size(void);
  * @param n_words how many
  * @return NB_OK, NB_NO_JOB, NB_NO_MEMORY, NB_NO_TEXT or NB_NOT_PUSHED
  */
-uint32_t nb_push_open(nb_push_state *at, const nb_bytes *words, size_t n_words);
+nb_status nb_push_open(nb_push_state *at, const nb_bytes *words, size_t n_words);
 
 /**
  * @brief Pushes the next bytes of the input.
@@ -603,11 +612,11 @@ uint32_t nb_push_open(nb_push_state *at, const nb_bytes *words, size_t n_words);
  *         but NB_OK is given by each further call, and so is that of nb_push_open(); NB_ENDED behind nb_push_finish(), NB_CLOSED
  *         behind nb_push_close().
  */
-uint32_t nb_push(nb_push_state *at, const uint8_t *bytes, size_t n);
+nb_status nb_push(nb_push_state *at, const uint8_t *bytes, size_t n);
 
 /** Says that no byte follows: an incomplete frame may hide whole ones, a last line may lack its end, what is open of a capture is
  * closed, and the report ends with the counts. NB_OK, or as nb_push(), but NB_TOO_LONG never comes here. */
-uint32_t nb_push_finish(nb_push_state *at);
+nb_status nb_push_finish(nb_push_state *at);
 
 /** Puts the next bytes of the output, as many as wait and fit, and tells how many: 0 where none waits, or there is no room. */
 size_t nb_push_take(nb_push_state *at, uint8_t *room, size_t n);
@@ -623,6 +632,7 @@ void nb_push_close(nb_push_state *at);
 /** @name Sizes
  * What the library was built for; a compiler that lays these out otherwise stops here. */
 /**@{*/
+typedef char nb_check_status[sizeof(nb_status) == 4 ? 1 : -1];
 typedef char nb_check_bytes[sizeof(nb_bytes) == 16 && sizeof(size_t) == 8 && offsetof(nb_bytes, size) == 8 ? 1 : -1];
 typedef char nb_check_sent[sizeof(nb_sent) == 8 ? 1 : -1];
 typedef char nb_check_gps[sizeof(nb_gps) == 132 && offsetof(nb_gps, clock) == 16 && offsetof(nb_gps, fit) == 128 ? 1 : -1];
@@ -638,11 +648,19 @@ typedef char nb_check_word[sizeof(nb_word) == 152 && offsetof(nb_word, ion) == 1
 typedef char nb_check_page_bits[sizeof(nb_page_bits) == 30 && offsetof(nb_page_bits, odd) == 15 ? 1 : -1];
 /**@}*/
 
+/** The word of a subframe, 1 to 10, whose parity is wrong by a status of nb_subframe_read(); 0 by any other. */
+static inline uint32_t nb_parity_word(uint32_t status) {
+    return status >= NB_SUBFRAME_PARITY_1 && status <= NB_SUBFRAME_PARITY_10 ? status - NB_SUBFRAME_PARITY_1 + 1 : 0;
+}
+
 /** How many bytes the frame has that begins here, as its header says: 0 where these bytes do not begin with D3, and 3 where
  * they are fewer than its header. */
 static inline size_t nb_frame_wanted(const uint8_t *bytes, size_t n) {
+    size_t length;
     if (n == 0 || bytes[0] != 0xD3) return 0;
-    return n < 3 ? 3 : (((size_t)bytes[1] << 8 | bytes[2]) & 1023) + 6;
+    if (n < 3) return 3;
+    length = bytes[1] & 3u;
+    return length * 256 + bytes[2] + 6;
 }
 
 /** @name Doubles
@@ -741,9 +759,9 @@ static inline nb_orbit nb_orbit_of_gal(const nb_gal *g) {
 /** The raw integer nearest to a double at a scale of 2^-bits: of an angle divide by NB_PI first. It gives back what the
  * functions above made a double of. A number past 2^62 is 2^62, which no field has. */
 static inline int64_t nb_raw(double value, int bits) {
+    const int64_t most = 4611686018427387904;
     double scaled = ldexp(value, bits);
-    return scaled > -4611686018427387904.0 && scaled < 4611686018427387904.0 ? (int64_t)llround(scaled)
-                                                                            : (int64_t)4611686018427387904;
+    return scaled > -4611686018427387904.0 && scaled < 4611686018427387904.0 ? llround(scaled) : most;
 }
 
 /**@}*/

@@ -66,7 +66,8 @@ GALILEO_IONOSPHERE = 4
 E1B = 1
 E5B = 2
 PI = 3.1415926535898  # as the standards give it
-EXAMPLES = Path(__file__).resolve().parents[2] / "examples"
+HERE = Path(__file__).resolve().parent
+EXAMPLES = HERE.parent.parent / "examples"  # of a clone; wherever this file lies it may be imported
 VERSION = 3
 
 REASONS = {
@@ -288,7 +289,7 @@ _library: ctypes.CDLL | None = None
 def _loaded() -> ctypes.CDLL:
     global _library
     if _library is None:
-        beside = Path(__file__).resolve().parents[1] / "c" / "out" / "libnavbridge.so"
+        beside = HERE.parent / "c" / "out" / "libnavbridge.so"
         library = ctypes.CDLL(os.environ.get("NAVBRIDGE_LIBRARY", str(beside)))
         size, text, number, item = ctypes.c_size_t, ctypes.c_char_p, ctypes.c_uint32, ctypes.POINTER(Item)
         to_size, subframe, word = ctypes.POINTER(size), ctypes.POINTER(Subframe), ctypes.POINTER(Word)

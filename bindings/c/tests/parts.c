@@ -40,12 +40,12 @@ static void subframe(int line, const nb_subframe_bits *bits, const nb_subframe *
     want(nb_subframe_read(&made, 7, &read) == NB_OK && memcmp(&read, value, sizeof read) == 0, line, "inverted");
     memset(&untouched, 0xAA, sizeof untouched);
     for (i = 0; i < 300; i++) {
-        uint32_t answer;
+        uint32_t answer, word = i < 8 ? 0 : 1 + (uint32_t)i / 30;
         made = *bits;
         made.bytes[i / 8] ^= (uint8_t)(0x80 >> i % 8);
         read = untouched;
         answer = nb_subframe_read(&made, 7, &read);
-        want(answer == (i < 8 ? (uint32_t)NB_SUBFRAME_PREAMBLE : NB_SUBFRAME_PARITY + 1 + (uint32_t)i / 30)
+        want(nb_parity_word(answer) == word && (word != 0 || answer == NB_SUBFRAME_PREAMBLE)
                  && memcmp(&read, &untouched, sizeof read) == 0,
              line, "a bit turned");
     }
