@@ -1,24 +1,43 @@
 #!/usr/bin/env bash
 # Tries the Debian package: made twice, the same bytes; lintian; installed, used, verified and removed.
 #
-#   checks/package.sh [--program PATH]..    the built programs, navbridge, navlog, navconvert (crates/NAME/out/NAME)
+#   checks/package.sh [--program PATH]..    the built programs, navbridge, navlog and navconvert (crates/NAME/out/NAME)
 #
-# It installs the package on this machine and removes it, so it wants root and a machine without the package; else it is skipped.
-# Debian packages that it uses: lintian, man-db, mandoc, systemd (for systemd-analyze), util-linux (taskset).
-#
-# Status: 0 all as it should be, or skipped, and why; 1 something is not; 2 the words are wrong, or a program is not built.
+# It installs the package on this machine, updates and removes it, so it wants root and a machine without the package. Where
+# systemd runs is a mount namespace in which /run says so, with a systemctl that writes down what it is asked. Debian packages
+# that it uses: lintian, man-db, mandoc, systemd (for systemd-analyze), util-linux (taskset, unshare). Status 0 where all is as
+# it should be, 1 where something is not, 2 where it cannot be tried.
 set -uo pipefail
-. "$(dirname "$(readlink -f "$0")")/lib.sh"
-program=()
-options '--program+:' "$@"
+cd "$(dirname "$(readlink -f "$0")")/.." || exit 1
+names=(navbridge navlog navconvert)
+declare -A built
+for name in "${names[@]}"; do built[$name]=$PWD/crates/$name/out/$name; done
+while [ $# -gt 0 ]; do
+  case $1 in
+    -h | --help)
+      sed -n '2,/^set /{/^set /d;s/^# \{0,1\}//;p}' "$0"
+      exit 0
+      ;;
+    --program)
+      [ $# -ge 2 ] || { echo "package: --program wants a value" >&2; exit 2; }
+      built[${2##*/}]=$(readlink -m "$2")
+      shift 2
+      ;;
+    *)
+      echo "package: $1 is no option; --help" >&2
+      exit 2
+      ;;
+  esac
+done
 given=()
-for it in "${program[@]}"; do given+=(--program "$(path_of "$it")"); done
-cd "$top" || exit 1
-[ "$(id -u)" = 0 ] || skip "only root may install a package"
-command -v dpkg > /dev/null || skip "dpkg is not installed"
-! dpkg -s navbridge > /dev/null 2>&1 || skip "a package navbridge is installed already"
-for it in lintian man mandoc systemd-analyze taskset; do
-  command -v "$it" > /dev/null || skip "$it is not installed"
+for name in "${names[@]}"; do given+=(--program "${built[$name]}"); done
+[ "$(id -u)" = 0 ] || { echo "package: only root may install a package" >&2; exit 2; }
+if dpkg -s navbridge > /dev/null 2>&1; then
+  echo "package: a package navbridge is there already" >&2
+  exit 2
+fi
+for it in dpkg lintian man mandoc systemd-analyze taskset unshare deb-systemd-invoke; do
+  command -v "$it" > /dev/null || { echo "package: $it is not there" >&2; exit 2; }
 done
 work=$(mktemp -d)
 installed=
@@ -43,6 +62,17 @@ silent() {
 }
 
 packaging/debian.sh "${given[@]}" --out "$work/one" || exit 1
+# every program is wanted: one that is not built is named, and there is no package
+lacks() {
+  local said status=0
+  git clone -q . "$work/clone" || return 1
+  said=$("$work/clone/packaging/debian.sh" "${given[@]:0:$1}" --out "$work/none" 2>&1) || status=$?
+  { [ "$status" = 2 ] && [ ! -e "$work/none" ] && grep -q "no program crates/$2/out/$2" <<< "$said"; } || echo "status $status: $said"
+  rm -rf -- "$work/clone"
+}
+for count in 0 1 2; do
+  silent "with $count of three programs there is no package, and the next is named" lacks $((2 * count)) "${names[count]}"
+done
 sleep 1
 (umask 077 && TZ=Asia/Tokyo LC_ALL=C.UTF-8 taskset -c 0 packaging/debian.sh "${given[@]}" --out "$work/two" > /dev/null) || exit 1
 package=$(echo "$work"/one/*.deb)
@@ -57,6 +87,7 @@ remove_it() { dpkg -P navbridge > "$work/dpkg" 2>&1 || cat "$work/dpkg"; }
 has_page() { man -w "$1" > /dev/null && zcat "/usr/share/man/man1/$1.1.gz" | mandoc -Tlint; }
 silent "installed" install_it
 silent "dpkg -V" dpkg -V navbridge
+silent "five commands" test "$(dpkg -L navbridge | sed -n 's|^/usr/bin/||p' | sort | xargs)" = "merge_archive navbridge navbridge-station navconvert navlog"
 for name in $(dpkg -L navbridge | sed -n 's|^/usr/bin/||p'); do
   silent "$name has a man page, of which mandoc has nothing to say" has_page "$name"
 done
@@ -91,6 +122,38 @@ has_help() { navbridge-station --help | grep -q -- --source; }
 silent "the installed station has its help" has_help
 has_version() { [ "$(navbridge-station --version)" = "navbridge-station $(dpkg-query -W -f '${Version}' navbridge)" ]; }
 silent "its version is that of the package" has_version
+merges() {
+  [ "$(merge_archive --version)" = "merge_archive.sh $(dpkg-query -W -f '${Version}' navbridge)" ] || echo "another version"
+  merge_archive -q -o "$work/day.rnx" --date '20240101 000000 UTC' /usr/share/doc/navbridge/examples/archive/2024/002 2>&1 | grep -v '^/usr/share/doc/navbridge/examples/archive'
+  "$PWD/examples/merge_archive.sh" -q -o "$work/day2.rnx" --date '20240101 000000 UTC' --program /usr/bin/navbridge examples/archive/2024/002 > /dev/null 2>&1
+  cmp "$work/day.rnx" "$work/day2.rnx"
+}
+silent "the installed merge_archive merges a day, with navbridge of the path" merges
+names_options() {
+  local option page
+  page=$(man merge_archive | col -b)
+  for option in $(merge_archive --help | grep -o '^  --*[a-z0-9]*' | tr -d ' '); do
+    grep -q -- " $option\b" <<< "$page" || echo "not in the page: $option"
+  done
+}
+silent "its page has each option of its help" names_options
+mkdir "$work/fake"
+printf '#!/bin/sh\necho $$\n' > "$work/fake/sbatch"
+chmod 755 "$work/fake/sbatch"
+submits() {
+  env -u PROGRAM "PATH=$work/fake:$PATH" /usr/share/doc/navbridge/examples/slurm/submit.sh --date '20240101 000000 UTC' \
+    /usr/share/doc/navbridge/examples/archive "$work/slurm" 2>&1 | grep -v '^submitted: '
+  [ -s "$work/slurm/state/days" ] || echo 'no days'
+}
+silent "the scripts for Slurm find navbridge and merge_archive" submits
+if command -v parallel > /dev/null; then
+  trees() {
+    env -u PROGRAM /usr/share/doc/navbridge/examples/slurm/parallel.sh --date '20240101 000000 UTC' \
+      /usr/share/doc/navbridge/examples/archive "$work/tree" > "$work/said" 2>&1 || cat "$work/said"
+    [ -s "$work/tree/year/2024.rnx" ] || echo 'no year'
+  }
+  silent "that for GNU parallel makes a year" trees
+fi
 offered() { # what is wanted, words: the last one is completed
   local want=$1
   shift
@@ -114,11 +177,44 @@ silent "completion of navlog's option" offered "--from" navlog ""
 silent "completion of navlog's forms" offered "sbf ubx" navlog --from ""
 silent "completion of navlog's forms behind =" offered "sbf ubx" navlog --from =
 silent "completion of a form that is begun" offered "ubx" navlog --from = u
+silent "completion of navconvert's forms" offered "auto capture stream rinex rinex3 ubx sbf" navconvert --from ""
 silent "completion of the station's jobs" offered "files record run --help --version" navbridge-station ""
 silent "completion of the station's options" offered "--leap --letter" navbridge-station run --source x --le
 
+# an update, and the end, where systemd runs
+cat > "$work/fake/systemctl" << END
+#!/bin/sh
+echo "\$*" >> "$work/asked"
+END
+chmod 755 "$work/fake/systemctl"
+under_systemd() { # what systemctl must be asked, and the command
+  local want=$1
+  shift
+  : > "$work/asked"
+  # shellcheck disable=SC2016
+  PATH=$work/fake:$PATH unshare -m sh -c 'mount -t tmpfs none /run && mkdir -p /run/systemd/system || exit 1
+    [ ! -e /usr/sbin/policy-rc.d ] || mount --bind /bin/true /usr/sbin/policy-rc.d || exit 1
+    exec "$@"' sh "$@" > "$work/dpkg" 2>&1 || cat "$work/dpkg"
+  diff <(echo "$want") "$work/asked"
+}
+instances='navbridge-station@*.service navbridge-record@*.service navbridge-files@*.timer'
+if unshare -m true 2> /dev/null; then
+  mkdir -p /etc/navbridge /var/lib/navbridge/TRIED00CCC
+  echo NAVBRIDGE_SOURCE=none > /etc/navbridge/TRIED00CCC.conf
+  echo bytes > /var/lib/navbridge/TRIED00CCC/raw
+  silent "an update reads the units and restarts the instances that run" under_systemd "--system daemon-reload
+try-restart $instances" dpkg -i "$package"
+  silent "the end stops them" under_systemd "stop $instances navbridge-files@*.service
+--system daemon-reload" dpkg -P navbridge
+  silent "an installation starts nothing" under_systemd "--system daemon-reload" dpkg -i "$package"
+fi
 silent "removed" remove_it
 installed=
+if [ -d /var/lib/navbridge/TRIED00CCC ]; then
+  silent "the station's settings and files are there" cmp <(echo NAVBRIDGE_SOURCE=none; echo bytes) <(cat /etc/navbridge/TRIED00CCC.conf /var/lib/navbridge/TRIED00CCC/raw)
+  rm -f /etc/navbridge/TRIED00CCC.conf /var/lib/navbridge/TRIED00CCC/raw
+  rmdir --ignore-fail-on-non-empty /var/lib/navbridge/TRIED00CCC /var/lib/navbridge /etc/navbridge
+fi
 find /usr /etc /var/lib -xdev -path /var/lib/dpkg -prune -o -print 2> /dev/null | sort > "$work/after"
 # what is new, but for what another package has brought meanwhile
 left() { comm -13 "$work/before" "$work/after" | while read -r it; do dpkg -S "$it" > /dev/null 2>&1 || echo "$it"; done; }

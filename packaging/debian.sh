@@ -3,9 +3,8 @@
 #
 #   packaging/debian.sh [--program PATH].. [--version VERSION] [--epoch SECONDS] [--maintainer NAME] [--out FOLDER]
 #
-#   --program PATH     a built program: navbridge, navlog or navconvert; given again: another. Where one is not said, the one
-#                      that `rt ci` or `rt run` left in crates/NAME/out/NAME. The package has the first two, and the third
-#                      where it is built
+#   --program PATH     a built program: navbridge, navlog or navconvert, all of which the package has; given again: another.
+#                      Where one is not said, the one that `rt ci` or `rt run` left in crates/NAME/out/NAME
 #   --version VERSION  the first that CHANGELOG.md has, where it is not said
 #   --epoch SECONDS    the time of all files (SOURCE_DATE_EPOCH, or that of the last commit)
 #   --maintainer NAME  with its address, as the package names it (the author of the last commit)
@@ -26,14 +25,8 @@ for it in "${program[@]}"; do
   [ -n "${programs[$name]+x}" ] || fail "$name is no program of the package: navbridge, navlog, navconvert"
   programs[$name]=$(path_of "$it")
 done
-[ -z "$out" ] || out=$(path_of "$out")
-out=${out:-packaging/build}
-cd "$top"
-[ -n "${programs[navconvert]}" ] || [ -x crates/navconvert/out/navconvert ] || unset 'programs[navconvert]'
-names=()
-for name in navbridge navlog navconvert; do
-  [ -n "${programs[$name]+x}" ] || continue
-  names+=("$name")
+names=(navbridge navlog navconvert)
+for name in "${names[@]}"; do
   : "${programs[$name]:=crates/$name/out/$name}"
   if [ ! -f "${programs[$name]}" ] || [ ! -x "${programs[$name]}" ]; then
     echo "debian: no program ${programs[$name]}; build first: 'rt ci' at the top, or 'rt run' in crates/$name, leaves it there" >&2
@@ -66,8 +59,12 @@ for name in "${names[@]}"; do
 done
 put 755 usr/bin/navbridge-station examples/station/navbridge-station
 page examples/station/navbridge-station.1
-mkdir -p "$root/usr/share/navbridge"
-echo "$version" > "$root/usr/share/navbridge/version"
+share=usr/share/navbridge
+put 755 $share/merge_archive.sh examples/merge_archive.sh
+put 644 $share/merge_archive.py examples/merge_archive.py
+ln -s ../share/navbridge/merge_archive.sh "$root/usr/bin/merge_archive"
+page docs/merge_archive.1
+echo "$version" > "$root/$share/version"
 for completion in packaging/*.bash; do
   name=${completion##*/}
   put 644 "usr/share/bash-completion/completions/${name%.bash}" "$completion"
@@ -85,7 +82,14 @@ put 755 "$doc/bench/feeder.py" bench/feeder.py # what examples/station/trial.sh 
 ln -s docs/OPERATING.md "$root/$doc/OPERATING.md"
 git ls-files examples checks/{archive,lib,runs}.sh | while read -r it; do
   # what is installed already
-  case $it in examples/station/navbridge-station* | examples/station/*.service | examples/station/*.timer) continue ;; esac
+  case $it in
+    examples/station/navbridge-station* | examples/station/*.service | examples/station/*.timer) continue ;;
+    examples/merge_archive.*)
+      mkdir -p "$root/$doc/examples"
+      ln -s "../../../navbridge/${it##*/}" "$root/$doc/$it"
+      continue
+      ;;
+  esac
   mode=644
   [ ! -x "$it" ] || mode=755
   put "$mode" "$doc/$it" "$it"
@@ -128,9 +132,9 @@ Version: $version
 Architecture: $architecture
 Maintainer: $maintainer
 Installed-Size: $size
-Depends: libc6
+Depends: libc6, python3 (>= 3.9)
 Recommends: rtklib
-Suggests: bash-completion, python3
+Suggests: bash-completion, parallel
 Section: science
 Priority: optional
 Description: proved converter of broadcast satellite orbits
@@ -142,6 +146,35 @@ Description: proved converter of broadcast satellite orbits
  .
  navbridge-station keeps what a caster or a receiver sends, and makes RINEX
  files by hour and by day of it; units of systemd are with it.
+END
+# instances of the units: started anew by an update, stopped where the package is removed; their files and settings stay
+running="'navbridge-station@*.service' 'navbridge-record@*.service' 'navbridge-files@*.timer'"
+script() { # a maintainer script: its name, and the text on standard input
+  { printf '#!/bin/sh\nset -e\n'; cat; } > "$root/DEBIAN/$1"
+  chmod 755 "$root/DEBIAN/$1"
+}
+script postinst << END
+case \$1 in configure | abort-upgrade | abort-deconfigure | abort-remove)
+  if [ -z "\$DPKG_ROOT" ] && [ -d /run/systemd/system ]; then
+    systemctl --system daemon-reload > /dev/null || true
+    [ -z "\$2" ] || deb-systemd-invoke try-restart $running > /dev/null || true
+  fi
+  ;;
+esac
+END
+script prerm << END
+if [ "\$1" = remove ] && [ -z "\$DPKG_ROOT" ] && [ -d /run/systemd/system ]; then
+  deb-systemd-invoke stop $running 'navbridge-files@*.service' > /dev/null || true
+fi
+END
+script postrm << 'END'
+if [ "$1" = purge ]; then
+  # what 'systemctl enable' made, which points to units that have gone
+  for unit in navbridge-station@ navbridge-record@ navbridge-files@; do
+    rm -f "$DPKG_ROOT"/etc/systemd/system/*.target.wants/"$unit"*.service "$DPKG_ROOT"/etc/systemd/system/*.target.wants/"$unit"*.timer
+  done
+fi
+if [ "$1" = remove ] && [ -z "$DPKG_ROOT" ] && [ -d /run/systemd/system ]; then systemctl --system daemon-reload > /dev/null || true; fi
 END
 (cd "$root" && find usr -type f -print0 | sort -z | xargs -0 md5sum) > "$root/DEBIAN/md5sums"
 find "$root" -exec touch -h -d "@$epoch" {} +

@@ -29,12 +29,17 @@ read_words() {
   [ "${#words[@]}" = 2 ] || { echo "$usage" >&2; exit 2; }
   ARCHIVE=$(readlink -f -- "${words[0]}")
   [ -d "$ARCHIVE" ] || { echo "$(basename "$0"): ${words[0]}: no such folder" >&2; exit 2; }
-  PROGRAM=${PROGRAM:-$here/../../crates/navbridge/out/navbridge}
+  # of the repository, or those of the path where the package is installed
+  if [ -d "$here/../../crates" ]; then
+    PROGRAM=${PROGRAM:-$here/../../crates/navbridge/out/navbridge} MERGE=$here/../merge_archive.sh
+  else
+    PROGRAM=${PROGRAM:-$(command -v navbridge || echo navbridge)} MERGE=$(command -v merge_archive || echo "$here/../merge_archive.sh")
+  fi
   [ -x "$PROGRAM" ] || { echo "$(basename "$0"): $PROGRAM: build it first (rt ci, or rt run in crates/navbridge), or name it by --program" >&2; exit 2; }
   mkdir -p "${words[1]}/state" "${words[1]}/log"
   TREE=$(readlink -f -- "${words[1]}")
   PROGRAM=$(readlink -f -- "$PROGRAM")
-  MERGE=$(readlink -f -- "$here/../merge_archive.sh")
+  MERGE=$(readlink -f -- "$MERGE")
   export DATE LEAP COVER STRICT ARCHIVE TREE PROGRAM MERGE HOSTS WAIT
 }
 

@@ -13,7 +13,7 @@ stands on it. Submitted again, steps whose inputs have not changed end at once, 
   --date TEXT, --leap N   of the headers (now, 18); the same words give the same bytes
   --cover                 also the times covered, as day/2023032.cover and so on
   --strict                a day of which a file was not read is a failed step (else it is made of the rest, and its log says so)
-  --program FILE          navbridge (crates/navbridge/out/navbridge of this repository)
+  --program FILE          navbridge (crates/navbridge/out/navbridge of this repository; as it is installed, that of the path)
   --wait                  waits for the jobs, then names the steps that were not made
   --help                  this text
 
