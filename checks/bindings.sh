@@ -29,7 +29,7 @@ if ! make -s -C bindings/c LIB="$archive" OUT="$made" CFLAGS="-O2 $sanitize" > "
   echo "bindings: not built" >&2
   exit 1
 fi
-# the header: by each C++ standard, by every compiler that is there; each reason with a number of its own, the one that it had
+# the header: by each C++ standard, by every compiler that is there
 for cxx in c++ clang++; do
   command -v "$cxx" > /dev/null || continue
   for standard in 11 14 17 20; do
@@ -37,9 +37,32 @@ for cxx in c++ clang++; do
       -Ibindings/c bindings/c/tests/header.cpp || differs "navbridge.h: $cxx, C++$standard"
   done
 done
-sed -n '/^typedef enum nb_status/,/^}/s/^ *\(NB_[A-Z0-9_]*\) = \([0-9]*\).*/\2 \1/p' bindings/c/navbridge.h > "$out/reasons"
-[ -z "$(cut -d ' ' -f 1 "$out/reasons" | sort | uniq -d)" ] || differs 'navbridge.h: two reasons have one number'
-diff bindings/c/reasons.txt "$out/reasons" || differs 'navbridge.h: its reasons are not those of bindings/c/reasons.txt'
+bindings/abi.sh --library "$made/libnavbridge.so" || differs 'what programs rely on'
+# installed: the examples of a Makefile and of CMake build and run from there; nothing stays behind
+stage=$out/stage
+installs() { make -s -C bindings/c LIB="$archive" OUT="$made" CFLAGS="-O2 $sanitize" "$1" PREFIX=/usr LIBDIR=/usr/lib/tried DESTDIR="$stage" > /dev/null; }
+listens() {
+  LD_LIBRARY_PATH=$stage/usr/lib/tried "$1" 2295 < examples/ephemerides.rtcm3 | cmp -s - examples/expected/ephemerides.heard || differs "$1, as it is installed"
+}
+if [ -z "$sanitize" ]; then
+  installs install || differs 'make install'
+  cp -r examples/c "$out/example"
+  if command -v pkg-config > /dev/null; then
+    PKG_CONFIG_PATH=$stage/usr/lib/tried/pkgconfig PKG_CONFIG_SYSROOT_DIR=$stage make -s -C "$out/example" || differs 'examples/c/Makefile'
+    listens "$out/example/listen"
+  else
+    echo 'examples/c/Makefile: not tried, since pkg-config is not there'
+  fi
+  if command -v cmake > /dev/null; then
+    { cmake -S "$out/example" -B "$out/example/cmake" "-Dnavbridge_DIR=$stage/usr/lib/tried/cmake/navbridge" \
+      && cmake --build "$out/example/cmake"; } > "$out/cmake.log" 2>&1 || { cat "$out/cmake.log"; differs 'examples/c/CMakeLists.txt'; }
+    listens "$out/example/cmake/listen"
+  else
+    echo 'examples/c/CMakeLists.txt: not tried, since cmake is not there'
+  fi
+  installs uninstall || differs 'make uninstall'
+  [ -z "$(find "$stage" ! -type d)" ] || differs "make uninstall leaves $(find "$stage" ! -type d)"
+fi
 runs=0
 for program in convert convert++; do
   while IFS='|' read -r status input output report words; do

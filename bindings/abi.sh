@@ -1,0 +1,72 @@
+#!/usr/bin/env bash
+# What programs that are linked with the library rely on: its symbols, the numbers of its reasons, the layout of its structs.
+#
+#   bindings/abi.sh [--library FILE] [--write]
+#
+#   --library FILE   a shared object whose symbols are compared too
+#   --write          writes bindings/c/symbols.txt, reasons.txt and navbridge.abi anew, of navbridge.h: where something is added
+#
+# What is kept there is compared with navbridge.h, the layouts by abidw and abidiff (Debian: abigail-tools) where they are
+# installed. Where something that is kept has to change, the shared object needs a new name (SONAME in bindings/c/Makefile).
+#
+# Status: 0 all is as it was; 1 something differs; 2 the words are wrong, or a tool is not there.
+set -u
+library='' write=''
+while [ $# -gt 0 ]; do
+  case $1 in
+    -h | --help)
+      sed -n '2,/^set /{/^set /d;s/^# \{0,1\}//;p}' "$0"
+      exit 0
+      ;;
+    --write) write=1 ;;
+    --library)
+      [ $# -ge 2 ] || { echo "abi: $1 wants a value" >&2; exit 2; }
+      library=$(readlink -f -- "$2")
+      shift
+      ;;
+    *)
+      echo "abi: $1 is no option; --help" >&2
+      exit 2
+      ;;
+  esac
+  shift
+done
+cd "$(dirname "$(readlink -f "$0")")/c" || exit 2
+for tool in cc nm; do
+  command -v "$tool" > /dev/null || { echo "abi: no $tool" >&2; exit 2; }
+done
+out=$(mktemp -d) || exit 2
+trap 'rm -rf "$out"' EXIT
+wrong=0
+differs() {
+  wrong=1
+  echo "differs: $*"
+}
+
+symbols() { nm -D --defined-only "$1" | awk '$2 == "T" { sub("@@", " ", $3); print $3 }' | LC_ALL=C sort; }
+# a library with the header's calls and no code
+{
+  echo '#include "navbridge.h"'
+  cc -E -P navbridge.h | tr '\n' ' ' | sed 's/[;}]/&\n/g' \
+    | sed -n 's/^ *\(nb_status\|uint32_t\|size_t\|_Bool\|void\) \(nb_[a-z_0-9]*\)(\(.*\));$/\1 \2(\3) { __builtin_trap(); }/p'
+} > "$out/calls.c"
+cc -std=c99 -g -fPIC -shared -w -I. -Wl,--version-script=exports.map -o "$out/calls.so" "$out/calls.c" || exit 2
+symbols "$out/calls.so" > "$out/symbols.txt"
+sed -n '/^typedef enum nb_status/,/^}/s/^ *\(NB_[A-Z0-9_]*\) = \([0-9]*\).*/\2 \1/p' navbridge.h > "$out/reasons.txt"
+if command -v abidw > /dev/null && command -v abidiff > /dev/null; then
+  abidw --no-corpus-path --no-comp-dir-path --no-show-locs --no-architecture "$out/calls.so" > "$out/navbridge.abi" || exit 2
+else
+  echo 'layouts: not compared, since abidw or abidiff is not there'
+fi
+if [ -n "$write" ]; then
+  cp "$out/symbols.txt" "$out/reasons.txt" .
+  [ ! -e "$out/navbridge.abi" ] || cp "$out/navbridge.abi" .
+fi
+diff symbols.txt "$out/symbols.txt" || differs 'the calls of navbridge.h are not those of bindings/c/symbols.txt'
+diff reasons.txt "$out/reasons.txt" || differs 'the reasons of navbridge.h are not those of bindings/c/reasons.txt'
+[ -z "$(cut -d ' ' -f 1 "$out/reasons.txt" | sort | uniq -d)" ] || differs 'two reasons have one number'
+[ ! -e "$out/navbridge.abi" ] || abidiff navbridge.abi "$out/navbridge.abi" || differs 'the layouts of navbridge.h are not those of bindings/c/navbridge.abi'
+if [ -n "$library" ]; then
+  diff symbols.txt <(symbols "$library") || differs "the symbols of $library are not those of bindings/c/symbols.txt"
+fi
+exit $wrong
