@@ -119,6 +119,9 @@ for suffix in '' ++; do
   "$made/filter$suffix" 2295 < examples/ephemerides.rtcm3 > "$out/passed" 2> /dev/null
   cmp -s examples/ephemerides.rtcm3 "$out/passed" || differs "filter$suffix"
 done
+for standard in 17 20; do
+  $valgrind "$made/values$standard" examples/ephemerides.rtcm3 examples/expected/ephemerides.rnx || differs "navbridge.hpp, C++$standard"
+done
 if [ -n "$valgrind" ]; then
   $valgrind "$made/convert" --from=stream --to=frames < examples/station.rtcm3 | cmp -s - examples/expected/station.frames \
     || differs 'convert under valgrind'
