@@ -127,14 +127,25 @@ if [ -n "$valgrind" ]; then
     || differs 'convert under valgrind'
 fi
 if command -v python3 > /dev/null && [ -z "$sanitize" ]; then
-  # wherever the file lies
-  python3 - << 'END' || differs 'navbridge.py: it is not imported from /'
-import types, sys
-module = sys.modules["navbridge"] = types.ModuleType("navbridge")
-module.__file__ = "/navbridge.py"
-exec(compile(open("bindings/python/navbridge.py").read(), "navbridge.py", "exec"), module.__dict__)
-END
-  NAVBRIDGE_LIBRARY=$made/libnavbridge.so PYTHONDONTWRITEBYTECODE=1 python3 -m doctest bindings/python/navbridge.py || differs 'navbridge.py'
-  echo 'navbridge.py: its example was run'
+  export PYTHONDONTWRITEBYTECODE=1
+  grep -qx "__version__ = \"$(sed -n 's/^## \([0-9][^ ]*\).*/\1/p;T;q' CHANGELOG.md)\"" bindings/python/navbridge/__init__.py \
+    || differs 'the version of the package for Python is not that of CHANGELOG.md'
+  NAVBRIDGE_LIBRARY=$made/libnavbridge.so.2 python3 bindings/python/tests.py > "$out/python.log" 2>&1 || { cat "$out/python.log"; differs 'bindings/python/tests.py'; }
+  # a wheel, with no network: it has the shared object, and works where nothing else is
+  wheels=
+  for python in python3 /usr/bin/python3; do
+    if "$python" -c 'import pip, setuptools, wheel' 2> /dev/null; then wheels=$python; break; fi
+  done
+  if [ -n "$wheels" ]; then
+    cp -r bindings/python "$out/python"
+    { NAVBRIDGE_LIBRARY=$made/libnavbridge.so.2 "$wheels" -m pip wheel -q --no-index --no-build-isolation --no-deps -w "$out/wheels" "$out/python" \
+      && "$wheels" -m pip install -q --no-index --no-deps --target "$out/site" "$out"/wheels/navbridge-*-py3-none-linux_*.whl; } > "$out/python.log" 2>&1 \
+      || { cat "$out/python.log"; differs 'pip wheel'; }
+    (cd examples && PYTHONPATH=$out/site "$wheels" -m doctest "$out/site/navbridge/__init__.py") || differs "the example of the package for Python"
+    PYTHONPATH=$out/site "$wheels" bindings/python/tests.py --installed > "$out/python.log" 2>&1 || { cat "$out/python.log"; differs 'bindings/python/tests.py, of the wheel'; }
+  else
+    echo 'the wheel: not tried, since pip, setuptools or wheel is not there'
+  fi
+  echo 'the package for Python: its example and its tests were run'
 fi
 ended bindings

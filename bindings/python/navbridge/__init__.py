@@ -1,0 +1,70 @@
+"""Broadcast orbits of GPS and Galileo, by libnavbridge: messages, streams, subframes, pages, records, conversions.
+
+Names are those of navbridge.h without ``nb_``. Values are dataclasses of the integers that were broadcast, each checked where it
+is set; ``orbit()`` and ``si()`` give floats in SI units. What cannot be given is an :class:`Error`, a ValueError, whose ``status``
+is the reason. Calls may run in several threads: none holds the interpreter's lock while it works, and a second call with one
+object waits. Only the standard library is needed; ``array`` wants numpy.
+
+Examples, which run as a test in a clone (``cd examples && python3 -m doctest ../bindings/python/navbridge/__init__.py``). A stream
+of RTCM 3 becomes lines, and its first ephemeris an orbit in SI units, a record, its frame again, and the page of a word:
+
+>>> from navbridge import *
+>>> from pathlib import Path
+>>> stream = Path("ephemerides.rtcm3").read_bytes()
+>>> convert(["--from=stream", "--to=frames"], stream).output.splitlines()[0]
+b'1046 63'
+>>> for gal in ephemerides(open("ephemerides.rtcm3", "rb"), week=2295):
+...     break
+>>> type(gal).__name__, gal.w1.iodnav == gal.w4.iodnav, gal.orbit().toe % 60
+('Gal', True, 0.0)
+>>> frame = message_write(gal)
+>>> frame == stream[:69], is_frame(frame), frame_make(frame[3:-3]) == frame
+(True, True, True)
+>>> message_read(memoryview(frame)[3:-3], week=2295) == gal
+True
+>>> record = record_write(gal)
+>>> record.startswith("> EPH E"), record_read(record) == gal
+(True, True)
+>>> page = page_write(Word(number=1, w1=gal.w1), gal.satellite)
+>>> page_read(page, gal.satellite).w1 == gal.w1
+True
+>>> with Pages() as parts:
+...     parts.take(page[15:], 1001, gal.satellite), parts.take(page[:15], 1000, gal.satellite)[0].page == page
+([], True)
+>>> deframer = Deframer()
+>>> [len(it) for it in deframer.feed(stream[:100])], [len(it) for it in deframer.feed(stream[100:])], deframer.finish()
+([69], [67], [])
+>>> words = ["--from=stream", "--to=rinex", "--week=2295", "--date=20240101 000000 UTC", "--leap=18"]
+>>> with Push(words) as push:
+...     first, second, last = push.push(stream[:100]), push.push(stream[100:]), push.finish()
+...     report = push.report()
+>>> first + second + last == convert(words, stream).output, second.startswith(b"> EPH"), report.splitlines()[0]
+(True, True, b'frames 2')
+>>> message_read(b"", week=2295)
+Traceback (most recent call last):
+    ...
+navbridge.Error: the payload has no message number
+>>> gal.satellite = 37
+Traceback (most recent call last):
+    ...
+ValueError: Gal.satellite: 37 is not 1 to 36
+"""
+
+from ._calls import (
+    E1B, E5B, FRAME_MOST, Conversion, Deframer, Joined, Pages, Push, convert, ephemerides, frame_make, frames, is_frame,
+    message_read, message_write, page_read, page_write, record_read, record_write, subframe_read, subframe_write,
+)
+from ._library import Error, Status
+from ._values import (
+    PI, Gal, GalHealth, GalIon, GalWord1, GalWord2, GalWord3, GalWord4, Gps, GpsClock, GpsIon, GpsOrbitA, GpsOrbitB, GpsSide, Ion,
+    Item, Orbit, Subframe, Word, array,
+)
+
+Error.__module__ = Status.__module__ = __name__
+__version__ = "1.0.0"
+__all__ = [
+    "Conversion", "Deframer", "E1B", "E5B", "Error", "FRAME_MOST", "Gal", "GalHealth", "GalIon", "GalWord1", "GalWord2", "GalWord3",
+    "GalWord4", "Gps", "GpsClock", "GpsIon", "GpsOrbitA", "GpsOrbitB", "GpsSide", "Ion", "Item", "Joined", "Orbit", "PI", "Pages",
+    "Push", "Status", "Subframe", "Word", "array", "convert", "ephemerides", "frame_make", "frames", "is_frame", "message_read",
+    "message_write", "page_read", "page_write", "record_read", "record_write", "subframe_read", "subframe_write",
+]

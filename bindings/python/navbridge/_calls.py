@@ -1,0 +1,304 @@
+"""The calls of navbridge.h, over bytes and values."""
+
+from __future__ import annotations
+
+import ctypes
+import mmap
+import threading
+from typing import Any, BinaryIO, Callable, Iterator, NamedTuple, Sequence
+
+from ._library import Bytes, Error, Status, done, library, number, view
+from ._values import ITEM_SIZE, SUBFRAMES, WORDS, Gal, Gps, Item, Subframe, Word, _kept, _wanted, item_bytes, item_of
+
+FRAME_MOST = 1029
+E1B, E5B = 1, 2
+
+
+class Conversion(NamedTuple):
+    """What a conversion wrote and what it reported."""
+
+    output: bytes
+    report: bytes
+
+
+class Joined(NamedTuple):
+    """The page of two parts that belong together, and the stamp of its odd part."""
+
+    page: bytes
+    stamp: int
+
+
+def _words(words: Sequence[str]) -> tuple[Any, int]:
+    if isinstance(words, (str, bytes)):
+        raise TypeError("words: a list of words is wanted, not one text")
+    texts = []
+    for it in words:
+        if not isinstance(it, str):
+            raise TypeError(f"words: str is wanted, not {type(it).__name__}")
+        texts.append(it.encode())
+    return (Bytes * len(texts))(*[Bytes(it, len(it)) for it in texts]), len(texts)
+
+
+def convert(words: Sequence[str], data: Any = b"") -> Conversion:
+    """Does what the program ``navbridge`` does with these words and this input.
+
+    An :class:`Error` says why it was not done. The output is in memory three times at most, the input once."""
+    given, count = _words(words)
+    at, size = view(data, "data")
+    call = library().nb_convert
+    sizes = [max(1 << 20, 4 * size), 1 << 20]
+    while True:
+        # rooms of the system's: what is not written takes no memory
+        rooms = [mmap.mmap(-1, it) for it in sizes]
+        lent = [(ctypes.c_char * len(it)).from_buffer(it) for it in rooms]
+        used = [ctypes.c_size_t(), ctypes.c_size_t()]
+        status = call(given, count, at, size, lent[0], sizes[0], ctypes.byref(used[0]), lent[1], sizes[1], ctypes.byref(used[1]))
+        lent.clear()
+        wants = [it.value for it in used]
+        if status in (Status.OUTPUT_ROOM, Status.REPORT_ROOM):
+            sizes = [max(it, want) for it, want in zip(sizes, wants)]
+            for room in rooms:
+                room.close()
+            continue
+        done(status)
+        return Conversion(*(room[:want] for room, want in zip(rooms, wants)))
+
+
+def is_frame(data: Any) -> bool:
+    """Whether these bytes are one whole frame of RTCM 3 with a right checksum, and nothing else."""
+    return bool(library().nb_is_frame(*view(data, "data")))
+
+
+def frame_make(payload: Any) -> bytes:
+    """The frame of a payload of at most 1,023 bytes."""
+    at, length = view(payload, "payload")
+    room = ctypes.create_string_buffer(FRAME_MOST)
+    size = library().nb_frame_make(at, length, room, FRAME_MOST)
+    if size == 0:
+        raise ValueError(f"payload: at most 1023 bytes are wanted, not {length}")
+    return room.raw[:size]
+
+
+def message_read(payload: Any, week: int) -> Gps | Gal:
+    """The ephemeris in message 1019 or 1046, whose week is the one near this, 1024 to 8191."""
+    room = ctypes.create_string_buffer(ITEM_SIZE)
+    done(library().nb_message_read(*view(payload, "payload"), number(week, "week"), room))
+    return item_of(room.raw)
+
+
+def _item(item: Item) -> Any:
+    return (ctypes.c_char * ITEM_SIZE).from_buffer(item_bytes(item))
+
+
+def message_write(item: Gps | Gal) -> bytes:
+    """The frame of message 1019 or 1046 of an ephemeris."""
+    room, used = ctypes.create_string_buffer(FRAME_MOST), ctypes.c_size_t()
+    done(library().nb_message_write(_item(item), room, FRAME_MOST, ctypes.byref(used)))
+    return room.raw[: used.value]
+
+
+def _typed(value: Any, kind: type) -> Any:
+    if not isinstance(value, kind):
+        raise TypeError(f"{kind.__name__} is wanted, not {type(value).__name__}")
+    return value
+
+
+def subframe_read(bits: Any, satellite: int) -> Subframe:
+    """The content of an LNAV subframe of that GPS satellite: 300 bits with parity and four that are ignored, 38 bytes."""
+    room = ctypes.create_string_buffer(160)
+    done(library().nb_subframe_read(view(bits, "bits", 38)[0], number(satellite, "satellite"), room))
+    return _kept(Subframe._of_bytes(room.raw), SUBFRAMES)
+
+
+def subframe_write(subframe: Subframe, tow_count: int) -> bytes:
+    """The 38 bytes of an LNAV subframe; the TOW count is the start of the next in units of 6 s from the start of the week."""
+    room = ctypes.create_string_buffer(38)
+    given = _wanted(_typed(subframe, Subframe), SUBFRAMES)
+    done(library().nb_subframe_write(ctypes.create_string_buffer(given, 160), number(tow_count, "tow_count"), room))
+    return room.raw
+
+
+def page_read(page: Any, satellite: int) -> Word:
+    """The content of the word of an I/NAV page of that Galileo satellite: its even and its odd part, 15 bytes each."""
+    room = ctypes.create_string_buffer(152)
+    done(library().nb_page_read(view(page, "page", 30)[0], number(satellite, "satellite"), room))
+    return _kept(Word._of_bytes(room.raw), WORDS)
+
+
+def page_write(word: Word, satellite: int) -> bytes:
+    """The even and the odd part of the I/NAV page of a word that this Galileo satellite sends, 15 bytes each."""
+    room = ctypes.create_string_buffer(30)
+    given = _wanted(_typed(word, Word), WORDS)
+    done(library().nb_page_write(ctypes.create_string_buffer(given, 152), number(satellite, "satellite"), room))
+    return room.raw
+
+
+def record_read(text: str, version: int = 4) -> Item:
+    """The item of one record of a navigation file, of version 4 with its title line, of version 3 without."""
+    room, lines = ctypes.create_string_buffer(ITEM_SIZE), _typed(text, str).encode()
+    done(library().nb_record_read(lines, len(lines), number(version, "version"), room))
+    return item_of(room.raw)
+
+
+def record_write(item: Item, version: int = 4) -> str:
+    """The record of an item in a navigation file of RINEX 4.01 or 3.05; ionospheric parameters have none in version 3."""
+    room, used = ctypes.create_string_buffer(1024), ctypes.c_size_t()
+    done(library().nb_record_write(_item(item), number(version, "version"), room, len(room), ctypes.byref(used)))
+    return room.raw[: used.value].decode("ascii")
+
+
+class _State:
+    """Memory that the library has the meaning of: not copied, and used by one call at a time; another thread's call waits."""
+
+    def __init__(self, size: int) -> None:
+        self._lock = threading.Lock()
+        self._state = (ctypes.c_uint64 * ((size + 7) // 8))()
+
+    def __reduce_ex__(self, protocol: Any) -> Any:
+        raise TypeError(f"a {type(self).__name__} cannot be copied")
+
+
+class Deframer(_State):
+    """Finds the frames of a stream of RTCM 3 that comes in pieces of any size."""
+
+    def __init__(self) -> None:
+        super().__init__(library().nb_deframer_size())
+        library().nb_deframer_init(self._state)
+
+    def _decided(self) -> list[bytes]:
+        room, frames = ctypes.create_string_buffer(FRAME_MOST), []
+        while size := library().nb_deframer_next(self._state, room, FRAME_MOST):
+            frames.append(room.raw[:size])
+        return frames
+
+    def feed(self, data: Any) -> list[bytes]:
+        """The frames that are decided by these bytes, with those that were fed before; none once it is finished."""
+        given, size = view(data, "data")
+        with self._lock:
+            frames, at, taken = self._decided(), 0, 1
+            first = ctypes.cast(given, ctypes.c_void_p).value or 0
+            while at < size and taken:
+                taken = library().nb_deframer_feed(self._state, first + at, size - at)
+                at += taken
+                frames += self._decided()
+        return frames
+
+    def finish(self) -> list[bytes]:
+        """The frames after an incomplete one, now that no byte follows."""
+        with self._lock:
+            library().nb_deframer_finish(self._state)
+            return self._decided()
+
+
+def frames(file: BinaryIO) -> Iterator[bytes]:
+    """The frames of a binary file, a pipe or a socket's file, each as soon as its last byte has come."""
+    read: Callable[[int], Any] = getattr(file, "read1", None) or file.read
+    deframer = Deframer()
+    while piece := read(65536):
+        yield from deframer.feed(piece)
+    yield from deframer.finish()
+
+
+def ephemerides(file: BinaryIO, week: int, refused: Callable[[Error, bytes], Any] | None = None) -> Iterator[Gps | Gal]:
+    """The ephemerides of a stream, of messages 1019 and 1046; ``refused`` is called with each of these that is none, and why."""
+    number(week, "week", 1024, 8191)
+    for frame in frames(file):
+        try:
+            yield message_read(frame[3:-3], week)
+        except Error as error:
+            if refused is not None and error.status not in (Status.NO_NUMBER, Status.OTHER_MESSAGE):
+                refused(error, frame)
+
+
+class _Closed(_State):
+    """A state that holds memory until it is closed; as a context it is closed at its end."""
+
+    _close: str
+
+    def close(self) -> None:
+        """Gives back its memory."""
+        with self._lock:
+            if self._state is not None:
+                getattr(library(), self._close)(self._state)
+                self._state = None
+
+    def _open(self) -> Any:
+        if self._state is None:
+            raise Error(Status.CLOSED)
+        return self._state
+
+    def __enter__(self) -> Any:
+        return self
+
+    def __exit__(self, *error: object) -> None:
+        self.close()
+
+    def __del__(self) -> None:
+        if getattr(self, "_ready", False):
+            self.close()
+
+
+class Pages(_Closed):
+    """Parts of I/NAV pages that wait for their partners, taken in any order.
+
+    A part is kept while its stamp is at most ``window`` and one second below the greatest, 60 to 14,400 seconds."""
+
+    _close = "nb_pages_close"
+
+    def __init__(self, window: int = 60) -> None:
+        super().__init__(library().nb_pages_size())
+        library().nb_pages_init(self._state, number(window, "window", 60, 14400))
+        self._ready = True
+
+    def take(self, part: Any, stamp: int, satellite: int, signal: int = E1B) -> list[Joined]:
+        """The pages that a part of 15 bytes makes with those that were taken, each as ``page_read`` takes it."""
+        given = view(part, "part", 15)[0]
+        numbers = number(stamp, "stamp"), number(satellite, "satellite"), number(signal, "signal")
+        with self._lock:
+            done(library().nb_pages_take(self._open(), given, *numbers))
+            room, pages = ctypes.create_string_buffer(36), []
+            while library().nb_pages_next(self._state, room):
+                pages.append(Joined(room.raw[:30], int.from_bytes(room.raw[32:], "little")))
+        return pages
+
+
+class Push(_Closed):
+    """A conversion whose input is pushed in pieces of any size: what ``convert`` gives of the whole, as it comes.
+
+    Its words name a job over a capture, or over a stream to RINEX or to its ephemerides."""
+
+    _close = "nb_push_close"
+
+    def __init__(self, words: Sequence[str]) -> None:
+        given, count = _words(words)
+        super().__init__(library().nb_push_size())
+        status = library().nb_push_open(self._state, given, count)
+        self._ready = True
+        if status != 0:
+            self.close()
+            raise Error(status)
+
+    def _taken(self, take: Callable[..., int]) -> bytes:
+        room, pieces = ctypes.create_string_buffer(65536), []
+        while size := take(self._state, room, len(room)):
+            pieces.append(room.raw[:size])
+        return b"".join(pieces)
+
+    def push(self, data: Any) -> bytes:
+        """Takes the next bytes of the input, and gives the output that they decide."""
+        given = view(data, "data")
+        with self._lock:
+            done(library().nb_push(self._open(), *given))
+            return self._taken(library().nb_push_take)
+
+    def finish(self) -> bytes:
+        """The last of the output, now that no byte follows."""
+        with self._lock:
+            done(library().nb_push_finish(self._open()))
+            return self._taken(library().nb_push_take)
+
+    def report(self) -> bytes:
+        """What was reported since this was last asked."""
+        with self._lock:
+            self._open()
+            return self._taken(library().nb_push_take_report)
