@@ -63,8 +63,9 @@ if [ -z "$sanitize" ]; then
   installs uninstall || differs 'make uninstall'
   [ -z "$(find "$stage" ! -type d)" ] || differs "make uninstall leaves $(find "$stage" ! -type d)"
 fi
-runs=0
-for program in convert convert++; do
+# The runs of examples/runs.txt by one of the examples in C: of `follow` those that can be pushed
+for program in convert convert++ follow follow++; do
+  before=$tried
   while IFS='|' read -r status input output report words; do
     case $status in '' | '#'*) continue ;; esac
     case $program,$status$words in
