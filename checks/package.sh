@@ -110,7 +110,7 @@ done
 run() {
   PROGRAM=/usr/bin/navbridge NAVLOG=/usr/bin/navlog /usr/share/doc/navbridge/checks/runs.sh > "$work/runs" 2>&1 || cat "$work/runs"
 }
-merge() { /usr/share/doc/navbridge/checks/archive.sh --program /usr/bin/navbridge > "$work/runs" 2>&1 || cat "$work/runs"; }
+merge() { PYTHONDONTWRITEBYTECODE=1 /usr/share/doc/navbridge/checks/archive.sh --program /usr/bin/navbridge > "$work/runs" 2>&1 || cat "$work/runs"; }
 silent "the installed program gives each example's output, report and status" run
 silent "the installed scripts merge the archive of the examples" merge
 is_logged() {
