@@ -63,10 +63,12 @@ options() {
 }
 
 # A built program into a variable: `built program navbridge`. It is the file that the variable has (of an option), or that of the
-# environment (PROGRAM), or crates/navbridge/out/navbridge. Where it is not there: status 2; of `is_built` 1.
+# environment (PROGRAM), or crates/navbridge/out/navbridge, or without a repository, as in the package, that of the path. Where it
+# is not there: status 2; of `is_built` 1.
 is_built() {
   local variable=$1 of_environment=${1^^} file
   file=${!variable:-${!of_environment:-}}
+  [ -n "$file" ] || [ -d "$top/crates" ] || file=$(command -v "$2") || true
   printf -v "$variable" %s "$(path_of "${file:-$top/crates/$2/out/$2}")"
   [ -f "${!variable}" ] && [ -x "${!variable}" ]
 }
