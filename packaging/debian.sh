@@ -64,6 +64,7 @@ put 755 $share/merge_archive.sh examples/merge_archive.sh
 put 644 $share/merge_archive.py examples/merge_archive.py
 ln -s ../share/navbridge/merge_archive.sh "$root/usr/bin/merge_archive"
 page docs/merge_archive.1
+put 644 $share/station_status.py examples/station/station_status.py
 echo "$version" > "$root/$share/version"
 for completion in packaging/*.bash; do
   name=${completion##*/}
