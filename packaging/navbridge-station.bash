@@ -10,13 +10,13 @@ _navbridge_station() {
     --span) words=(3600 86400) ;;
     --source) words=(ntrip:// ntrip2:// ntrip2s:// serial:// tcpcli://) ;;
     --lap | --silent | --leap | --station) return ;;
-    --folder) mapfile -t COMPREPLY < <(compgen -d -- "$current") && return ;;
+    --folder | --status) mapfile -t COMPREPLY < <(compgen -d -- "$current") && return ;;
     --program | --navlog | --str2str) mapfile -t COMPREPLY < <(compgen -fc -- "$current") && return ;;
     *)
       if [ "$COMP_CWORD" = 1 ]; then
         words=(files record run --help --version)
       else
-        words=(--source --station --folder --form --span --lap --silent --leap --letter --program --navlog --str2str)
+        words=(--source --station --folder --form --span --lap --silent --leap --letter --status --program --navlog --str2str)
         [ "${COMP_WORDS[1]}" != files ] || words=(--all "${words[@]:1}")
       fi
       ;;

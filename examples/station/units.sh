@@ -67,6 +67,9 @@ inside() { # form
   check "it cannot write /usr (ProtectSystem=)" fails touch "$root/usr/x"
   check "nor /etc" fails touch "$root/etc/x"
   check "its user cannot read its settings" fails setpriv --reuid "$(stat -c %u "/proc/$main")" --clear-groups cat "/etc/navbridge/$unit.conf"
+  sleep 10
+  check "any user can read its page" setpriv --reuid 65534 --clear-groups grep -q 'receiving</b>: last byte' "/run/navbridge/$unit/status.html"
+  check "and its metrics" setpriv --reuid 65534 --clear-groups grep -q '^navbridge_last_byte_timestamp_seconds.* [1-9]' "/run/navbridge/$unit/metrics.prom"
   first=navbridge
   [ "$form" = rtcm3 ] || first=navlog
   kill -KILL "$(pgrep -x "$first" | head -n 1)"
