@@ -91,9 +91,10 @@ def gathered(args, work):
     cache = args.cache or work
     os.makedirs(cache, exist_ok=True)
     merged, cover = os.path.join(cache, "merged.rnx"), os.path.join(cache, "merged.cover")
-    tool = gather.Archive(argparse.Namespace(names=args.names, out=merged, cover=cover, jobs=args.jobs, date=None, leap="18", name=args.name,
-                                             zero=args.zero, batch=64, clean=False, again=False, program=args.program, quiet=True),
-                          {os.path.join(os.path.abspath(args.site), it) for it in os.listdir(args.site) if site.OWN.fullmatch(it)})
+    words = argparse.Namespace(names=args.names, out=merged, cover=cover, jobs=args.jobs, date=None, leap="18", name=args.name,
+                               zero=args.zero, batch=64, clean=False, again=False, program=args.program, quiet=True)
+    pages = {os.path.join(os.path.abspath(args.site), it) for it in os.listdir(args.site) if site.OWN.fullmatch(it)}
+    tool = gather.Archive(words, pages)
     try:
         rows = [row for row in tool.run()[1] if row["outcome"] != "left out"]
         found = types.SimpleNamespace(rows=rows, names=[merge.shown(row["name"]) for row in rows], reading=figures.Reading())
@@ -106,7 +107,8 @@ def gathered(args, work):
         if found.reading.ill:
             gather.run(tool, "cover", healthy, os.path.join(work, "healthy.cover"))
             found.healthy = gather.cover_of(os.path.join(work, "healthy.cover"))
-        found.producers, found.rejected, found.versions = gather.second_look(tool, rows, found.reading.epochs, found.reading.texts, work)
+        reading = found.reading
+        found.producers, found.rejected, found.versions = gather.second_look(tool, rows, reading.epochs, reading.texts, work)
         return found
     finally:
         tool.end()

@@ -112,8 +112,9 @@ class Reading:
             self.texts.append(gather.text_of(it.lines))
             self.epochs.add(it.lines[1][:23].replace(b" ", b"0"))
         self.contradictions.append({"satellite": satellite, "toe": toe, "toe_text": text_of(toe), "kind": kind,
-                                    "issues": sorted({it.issue for it in some}), "differ": differ, "versions": [{"values": {name: it[name] for name in differ}, "files": [],
-                                                                    "file_count": 0, "producers": []} for it in values]})
+                                    "issues": sorted({it.issue for it in some}), "differ": differ,
+                                    "versions": [{"values": {name: it[name] for name in differ}, "files": [], "file_count": 0,
+                                                  "producers": []} for it in values]})
         self.versions.append(ids)
 
 
@@ -180,18 +181,18 @@ def covered(reading, cover, healthy, span):
 
 
 def span_of(reading, first, last):
-    """The days that were asked for, else from the first day with a Toe to the last one. Where more than a year lies between two such
-    days, a file has a wrong date: then it is the part that has most ephemerides."""
+    """The days that were asked for, else from the first day with a Toe to the last one. If more than a year lies between two such
+    days, a file has a wrong date: then it is the part with the most ephemerides. No days if there are none."""
     per_day = collections.Counter(toe // DAY for some in reading.ephemerides.values() for toe, _, _ in some)
     parts = [[0]]
     for day in sorted(per_day):
         if day - parts[-1][-1] > 366:
             parts.append([])
         parts[-1].append(day)
-    part = max(parts[1:], key=lambda days: sum(per_day[day] for day in days), default=[0])
+    part = max(parts[1:], key=lambda days: sum(per_day[day] for day in days), default=[0, -1])
     start = moment_of(first) if first else part[0] * DAY
     end = moment_of(last) + DAY if last else (part[-1] + 1) * DAY
-    return start, max(end, start + DAY)
+    return start, max(end, start)
 
 
 LONG_NAME = re.compile(r"([A-Z0-9]{9})_[A-Z]_(\d{4})(\d{3})\d{4}_")  # RINEX 3.05, table A1

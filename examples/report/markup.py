@@ -111,7 +111,7 @@ def link(satellite, moment):
 
 def strip(seconds, whole, text, satellite=""):
     """Coverage by day as a row of bars: full height is all of a day."""
-    step = -(-len(seconds) // 740)
+    step = max(1, -(-len(seconds) // 740))
     levels = []
     for at in range(0, len(seconds), step):
         of_these = seconds[at:at + step]

@@ -16,6 +16,7 @@ function shift(m) {
 const date = (m) => new Date(ZERO + shift(m) * 1000).toISOString();
 const full = (m) => date(m).slice(0, 10) + " " + date(m).slice(11, 19);
 const clock = (m) => date(m).slice(11, 19);
+const dayOf = (m) => String(new Date(ZERO + m * 1000).getUTCDate());
 const dayText = (m) => new Date(ZERO + m * 1000).toISOString().slice(0, 10);
 function doy(m) {
   const d = new Date(ZERO + m * 1000);
@@ -124,7 +125,7 @@ function chart() {
     const m = from + i * step, at = x(m);
     svg.append(draw("line", { class: "tick", x1: at, x2: at, y1: HEAD - 4, y2: height }));
     if (i === count && size > DAY || i % every) continue;
-    const label = size > DAY ? String(new Date(ZERO + m * 1000).getUTCDate()) : size > 3600 ? two(i) : new Date(ZERO + m * 1000).toISOString().slice(11, 16);
+    const label = size > DAY ? dayOf(m) : size > 3600 ? two(i) : new Date(ZERO + m * 1000).toISOString().slice(11, 16);
     const where = size > DAY ? (at + x(m + step)) / 2 : at;
     const anchor = i === count ? "end" : "middle";
     svg.append(draw("text", { x: where, y: 11, "text-anchor": anchor }, label));
@@ -137,12 +138,11 @@ function chart() {
     g.append(draw("title", {}, `${it.n}: ${pct(overlap(it.ranges, from, from + size), size)} % covered`));
     g.append(draw("rect", { class: "back", x: 0, y, width, height: ROW - 2, rx: 2 }));
     g.append(draw("text", { class: "name", x: 4, y: y + 12 }, it.n));
-    for (const [a, b] of it.ranges)
-      if (b > from && a < from + size) g.append(draw("rect", { class: "cover", x: x(a), y: y + 2, width: Math.max(0.5, x(b) - x(a)), height: ROW - 6 }));
-    for (const [a, b] of it.u)
-      if (b > from && a < from + size) g.append(draw("rect", { class: "ill", fill: "url(#p-ill)", x: x(a), y: y + 2, width: Math.max(3, x(b) - x(a)), height: ROW - 6 }));
-    for (const [a, b] of it.g)
-      if (b > from && a < from + size) g.append(draw("rect", { class: "gap", fill: "url(#p-gap)", x: x(a), y: y + 2.5, width: Math.max(3, x(b) - x(a)), height: ROW - 7 }));
+    for (const [ranges, some, least] of [[it.ranges, { class: "cover" }, 0.5], [it.u, { class: "ill", fill: "url(#p-ill)" }, 3],
+      [it.g, { class: "gap", fill: "url(#p-gap)" }, 3]])
+      for (const [a, b] of ranges)
+        if (b > from && a < from + size)
+          g.append(draw("rect", { ...some, x: x(a), y: y + 2, width: Math.max(least, x(b) - x(a)), height: ROW - 6 }));
     if (size <= DAY) {
       let free = LEFT;
       for (const [toe, issue] of it.eph) {
@@ -166,7 +166,8 @@ function chart() {
   if (at >= 0) {
     const inside = state.day >= 0 && size > DAY;
     const a = inside ? x(start + state.day * DAY) : 0, b = inside ? x(start + (state.day + 1) * DAY) : width;
-    svg.append(draw("rect", { class: "chosen", x: Math.max(1, a), y: HEAD + at * ROW, width: Math.max(4, b - a - 2), height: ROW - 2 }));
+    const box = { x: Math.max(1, a), y: HEAD + at * ROW, width: Math.max(4, b - a - 2), height: ROW - 2 };
+    svg.append(draw("rect", { class: "chosen", ...box }));
   }
   if (!rows.length) svg.append(draw("text", { x: LEFT, y: HEAD + 12 }, "No satellite fits."));
 }
@@ -183,31 +184,33 @@ function detail() {
   const day = whole ? data.name : `${dayText(from)} (day ${doy(from)})`;
   const part = whole ? it.p.reduce((a, b) => a + b, 0) : it.p[state.day], none = holes(it, from, to);
   const eph = it.eph.filter((e) => e[0] >= from && e[0] < to), long = none.filter(([a, b]) => b - a >= 7200).length;
+  const ill = overlap(it.u, from, to);
   const other = data.contradictions.filter((c) => c.satellite === it.n && c.toe >= from && c.toe < to);
   box.append(make("h2", { id: "detail-name" }, `${it.n} ${whole ? "in" : "on"} ${day}`),
     make("dl", { class: "facts" },
       make("dt", {}, "Covered"), make("dd", { id: "detail-percent" }, `${pct(part, to - from)} %`),
       make("dt", {}, "Seconds"), make("dd", { id: "detail-seconds" }, String(part)),
-      make("dt", {}, "Only unhealthy"), make("dd", { id: "detail-unhealthy" }, length(overlap(it.u, from, to))),
+      make("dt", {}, "Only unhealthy"), make("dd", { id: "detail-unhealthy" }, ill ? length(ill) : "none"),
       make("dt", {}, "Ephemerides"), make("dd", { id: "detail-ephemerides" }, String(eph.length)),
       make("dt", {}, "Contradictions"), make("dd", { id: "detail-contradictions" }, String(other.length))));
   const pair = make("div", { class: "pair" });
   pair.append(make("div", { id: "detail-none" }, make("h3", {}, "Times without an ephemeris"),
-    table(["from", "to", "length"], none.map(([a, b]) => [time(a), time(b), length(b - a)]), `of ${it.n}, in ${state.utc ? "UTC" : "GPS time"}`)));
+    table(["from", "to", "length"], none.map(([a, b]) => [time(a), time(b), length(b - a)]), `Times without an ephemeris of ${it.n}`)));
   pair.append(make("div", { id: "detail-eph" }, make("h3", {}, "Ephemerides"),
     table(["Toe", it.n[0] === "G" ? "IODE" : "IODnav", "health"],
       eph.slice(0, 600).map(([toe, issue, health]) => [time(toe), issue, data.health[it.n[0] + health]]),
-      eph.length > 600 ? "the first 600" : `of ${it.n}`)));
+      `Ephemerides of ${it.n}`)));
+  if (eph.length > 600) pair.lastChild.append(make("p", { class: "soft" }, `The first 600 of ${eph.length}.`));
   box.append(pair);
-  $("status").textContent = `${it.n}, ${day}: ${pct(part, to - from)} % covered, ${long} gap${long === 1 ? "" : "s"} of two hours and more, ` +
-    `${eph.length} ephemerides`;
+  $("status").textContent = `${it.n}, ${day}: ${pct(part, to - from)} % covered, ${long} gap${long === 1 ? "" : "s"} of two ` +
+    `hours and more, ${eph.length} ephemerides`;
 }
 
 function matrix() {
   const box = $("matrix"), rows = shown();
   const head = make("tr", {}, make("th", { scope: "col" }, "Satellite"), make("th", { scope: "col" }, "all"));
   for (let d = 0; d < days; d++) {
-    const m = start + d * DAY, label = make("button", { "data-day": d, title: dayText(m) }, String(new Date(ZERO + m * 1000).getUTCDate()));
+    const m = start + d * DAY, label = make("button", { "data-day": d, title: dayText(m) }, dayOf(m));
     head.append(make("th", { scope: "col" }, label, make("br"), make("span", { class: "soft" }, doy(m))));
   }
   const body = make("tbody");
@@ -235,7 +238,8 @@ function go(some, keep) {
   detail();
   matrix();
   if (!keep) {
-    const words = [state.sat && "s=" + state.sat, state.day >= 0 && "d=" + dayText(start + state.day * DAY), state.hour >= 0 && "h=" + state.hour];
+    const day = state.day >= 0 && "d=" + dayText(start + state.day * DAY);
+    const words = [state.sat && "s=" + state.sat, day, state.hour >= 0 && "h=" + state.hour];
     try { history.replaceState(null, "", "#" + words.filter(Boolean).join("&")); } catch { /* not allowed from a file */ }
   }
 }
@@ -263,7 +267,7 @@ function fromHash() {
 
 function month() {
   for (const it of sats) $("sat").append(make("option", { value: it.n }, it.n));
-  for (let d = 0; d < days; d++) $("day").append(make("option", { value: d }, `${dayText(start + d * DAY)} (${doy(start + d * DAY)})`));
+  for (let m = start, d = 0; d < days; d++, m += DAY) $("day").append(make("option", { value: d }, `${dayText(m)} (${doy(m)})`));
   for (let h = 0; h < 24; h++) $("hour").append(make("option", { value: h }, `${two(h)}:00`));
   $("sat").onchange = () => go({ sat: $("sat").value });
   $("day").onchange = () => go({ day: Number($("day").value) });
@@ -321,7 +325,8 @@ for (const it of document.querySelectorAll("input[data-rows]")) it.oninput = () 
 for (const it of document.querySelectorAll("svg.strip[data-days]")) it.onclick = (event) => {
   const box = it.getBoundingClientRect(), day = Math.floor((event.clientX - box.left) / box.width * Number(it.dataset.days));
   const at = dayText(data.from + Math.max(0, day) * DAY);
-  if (data.months.includes(at.slice(0, 7))) location.href = `${at.slice(0, 7)}.html#${it.dataset.sat ? `s=${it.dataset.sat}&` : ""}d=${at}`;
+  const sat = it.dataset.sat ? `s=${it.dataset.sat}&` : "";
+  if (data.months.includes(at.slice(0, 7))) location.href = `${at.slice(0, 7)}.html#${sat}d=${at}`;
 };
 if (data.sats) month();
 let kept = false;

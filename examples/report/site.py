@@ -68,7 +68,8 @@ def head_of(report):
     span, files, records = report["span"], report["files"], report["records"]
     days = report["days"]
     text = lambda moment: f"{figures.date_of(moment):%Y-%m-%d} (day {figures.date_of(moment):%j})"
-    yield (f'<p>{text(span["from"])} to {text(span["to"] - 1)}, {len(days)} day{"s" * (len(days) != 1)}. Made {escape(report["made"])}. '
+    when = f'{text(span["from"])} to {text(span["to"] - 1)}, {len(days)} day{"s" * (len(days) != 1)}' if days else "No ephemeris was read"
+    yield (f'<p>{when}. Made {escape(report["made"])}. '
            f'Times are in <b class="scale">GPS time</b>; days are days of GPS time. {SCALE}</p>')
     yield tiles([("files", files["files"]), ("files not read", files["not_read"]), ("records", records["records"]),
                  ("records rejected", records["rejected"]), ("records skipped", records["skipped"]),
@@ -209,7 +210,7 @@ CHART = """<p id="status" role="status"></p>
 BOX = '<rect x="1" y="1" width="32" height="12" fill="{}" stroke="{}"/>'
 LEGEND = ((BOX.format("var(--cover)", "none"), "has an ephemeris"), (BOX.format("url(#p-gap)", "var(--gap)"), "gap of two hours and more"),
           (BOX.format("var(--panel)", "var(--line)"), "shorter gap"), (BOX.format("url(#p-ill)", "var(--ill)"), "marked unhealthy"),
-          ('<path d="M17 1l6 11h-12z" fill="var(--mark)"/>', "contradiction"),
+          ('<path d="M17 1.5l6 11h-12z" fill="var(--page)" stroke="var(--mark)" stroke-width="2"/>', "contradiction"),
           ('<path d="M17 1v12" stroke="var(--text)" stroke-width="2"/>', "Toe, with the issue (by day and hour)"))
 MATRIX = """<h2>Coverage in percent by satellite and day</h2>
 <div class="wide tall" tabindex="0" role="region" aria-label="Percent by satellite and day"><table id="matrix"></table></div>
