@@ -132,7 +132,7 @@ function chart() {
     if (size > DAY) svg.append(draw("text", { x: where, y: 23, "text-anchor": "middle", class: "small" }, doy(m)));
   }
   svg.append(draw("text", { x: 0, y: 11, class: "small" }, size > DAY ? "day" : size > 3600 ? "hour" : "GPS"));
-  if (size > DAY) svg.append(draw("text", { x: 0, y: 23, class: "small" }, "of year"));
+  if (size > DAY) svg.append(draw("text", { x: 0, y: 23, class: "small" }, "DOY"));
   rows.forEach((it, i) => {
     const y = HEAD + i * ROW, g = draw("g", { class: "row", "data-sat": it.n });
     g.append(draw("title", {}, `${it.n}: ${pct(overlap(it.ranges, from, from + size), size)} % covered`));
