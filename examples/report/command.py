@@ -39,6 +39,15 @@ Exit status: 0 every file was read; 1 the site is written, and some file was not
 """
 
 
+def version():
+    """What the package says, which installs a file of that name with merge_archive.py, or the repository."""
+    try:
+        with open(os.path.join(os.path.dirname(merge.__file__), "version"), encoding="utf-8") as file:
+            return file.read().strip()
+    except OSError:
+        return merge.version()
+
+
 def options(arguments):
     """The options; a mistake is reported and ends with 2."""
     parser = argparse.ArgumentParser(prog="navreport", add_help=False, allow_abbrev=False,
@@ -59,7 +68,7 @@ def options(arguments):
     parser.add_argument("--version", action="store_true")
     args = parser.parse_args(arguments)
     if args.help or args.version:
-        print(HELP if args.help else f"navreport {merge.version()}", end="" if args.help else "\n")
+        print(HELP if args.help else f"navreport {version()}", end="" if args.help else "\n")
         sys.exit(0)
     if not args.names:
         parser.error("no names: give files, directories, or - for a list on standard input")
