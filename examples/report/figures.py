@@ -1,4 +1,4 @@
-"""The numbers of the report: report.json has them, and the pages show no others. Times are GPS time, in seconds from 1980-01-06."""
+"""The numbers of the report: report.json has them, and the pages show no others. A time is seconds of GPS time from 1980-01-06."""
 import collections
 import datetime
 import itertools
@@ -139,7 +139,8 @@ def gaps_of(satellite, ranges, start, end):
     for a, b in without([(start, end)], ranges):
         if b - a >= LONG:
             at = "all" if (a, b) == (start, end) else "start" if a == start else "end" if b == end else ""
-            gaps.append({"satellite": satellite, "from": a, "to": b, "seconds": b - a, "from_text": text_of(a), "to_text": text_of(b), "at": at})
+            gaps.append({"satellite": satellite, "from": a, "to": b, "seconds": b - a, "from_text": text_of(a), "to_text": text_of(b),
+                         "at": at})
     return gaps
 
 
@@ -211,8 +212,11 @@ def stations_of(rows, days):
             year = f"{'20' if year < '80' else '19'}{year}"
         if found and row["outcome"] in gather.merge.READS and 1 <= int(day) <= 366:
             groups[station.upper()].append(f"{datetime.date(int(year), 1, 1) + datetime.timedelta(days=int(day) - 1)}")
-    return [{"station": station, "files": len(some), "days": sorted(set(some)), "missing": [day for day in days if day not in set(some)]}
-            for station, some in sorted(groups.items())]
+    stations = []
+    for station, some in sorted(groups.items()):
+        there = set(some)
+        stations.append({"station": station, "files": len(some), "days": sorted(there), "missing": [day for day in days if day not in there]})
+    return stations
 
 
 def by_producer(rows, producers, contradictions_of):
@@ -221,8 +225,8 @@ def by_producer(rows, producers, contradictions_of):
     for number, row in enumerate(rows):
         if number in producers:
             program, agency = producers[number]
-            it = groups.setdefault(program, {"program": program, "agencies": set(), "files": 0, "records": 0, "rejected": 0, "skipped": 0,
-                                             "contradictions": len(contradictions_of.get(program, ()))})
+            it = groups.setdefault(program, {"program": program, "agencies": set(), "files": 0, "records": 0, "rejected": 0,
+                                             "skipped": 0, "contradictions": len(contradictions_of.get(program, ()))})
             it["agencies"].add(agency)
             it["files"] += 1
             it["records"] += row["records"]
@@ -236,6 +240,13 @@ def summed(rows, key):
     for row in rows:
         total.update(row[key])
     return dict(sorted(total.items()))
+
+
+def root_of(names):
+    """The directory that all names begin with."""
+    above = {os.path.dirname(name) for name in names}
+    root = os.path.commonpath(above) + os.sep if len({os.path.isabs(it) for it in above}) == 1 else ""
+    return root if all(name.startswith(root) for name in names) else ""
 
 
 def report(found, made, title, first, last):
@@ -265,8 +276,6 @@ def report(found, made, title, first, last):
     ephemerides = sum(len(some) for some in reading.ephemerides.values())
     outside = sorted((toe, name) for name, some in reading.ephemerides.items() for toe, _, _ in some if not start <= toe < end)
     day_names = [f"{date_of(start + day * DAY):%Y-%m-%d}" for day in range(days)]
-    roots = {os.path.dirname(name) for name in names}
-    root = os.path.commonpath(roots) + os.sep if len(roots) > 1 and len({os.path.isabs(it) for it in roots}) == 1 else "".join(roots) + os.sep
     return {
         "format": "navreport 1",
         "made": made,
@@ -274,11 +283,13 @@ def report(found, made, title, first, last):
         "time": "GPS time, seconds from 1980-01-06 00:00:00",
         "span": {"from": start, "to": end, "from_text": text_of(start), "to_text": text_of(end)},
         "days": day_names,
-        "root": root if all(name.startswith(root) for name in names) else "",
+        "root": root_of(names),
         "files": {"files": len(rows), "read": sum(outcomes[it] for it in gather.merge.READS),
-                  "not_read": len(rows) - sum(outcomes[it] for it in gather.merge.READS), "by_outcome": dict(sorted(outcomes.items()))},
+                  "not_read": len(rows) - sum(outcomes[it] for it in gather.merge.READS),
+                  "by_outcome": dict(sorted(outcomes.items()))},
         "records": {"records": total, "rejected": sum(rejected.values()), "skipped": sum(skipped.values()),
-                    "read": total - sum(rejected.values()) - sum(skipped.values()), "rejected_by_reason": rejected, "skipped_by_kind": skipped,
+                    "read": total - sum(rejected.values()) - sum(skipped.values()),
+                    "rejected_by_reason": rejected, "skipped_by_kind": skipped,
                     "distinct_ephemerides": ephemerides, "outside_span": len(outside)},
         "outside": [{"satellite": name, "toe": toe, "toe_text": text_of(toe)} for toe, name in outside[:1000]],
         "producers": by_producer(rows, found.producers, contradictions_of),
@@ -290,8 +301,10 @@ def report(found, made, title, first, last):
         "health_changes": health_changes(reading, start, end),
         "files_not_read": [{"file": name, "outcome": row["outcome"], "notes": row["notes"]} for name, row in zip(names, rows)
                            if row["outcome"] not in gather.merge.READS],
-        "rejected": [{"file": names[number], "line": line, "reason": reason, "record": text} for number, line, reason, text in found.rejected],
+        "rejected": [{"file": names[number], "line": line, "reason": reason, "record": text}
+                     for number, line, reason, text in found.rejected],
         "file_rows": [{"file": name, "outcome": row["outcome"], "version": row["version"] or None, "producer": producer(number),
-                       "records": row["records"], "rejected": sum(row["refused"].values()), "skipped": row["passed"], "notes": row["notes"]}
+                       "records": row["records"], "rejected": sum(row["refused"].values()), "skipped": row["passed"],
+                       "notes": row["notes"]}
                       for number, (name, row) in enumerate(zip(names, rows))],
     }

@@ -163,18 +163,17 @@ def give_all(call, parts, number, form, above, lines):
 
 
 def look_again(files):
-    """Reads files again, each (number, name, whether for rejected records, whether for versions); gives producers, rejected records as
-    (file, line, reason, text), and (version, file, line)."""
+    """Reads files again, each (number, name, whether for rejected records, whether for versions); gives producers as
+    (file, program, agency), rejected records as (file, line, reason, text), and (version, file, line)."""
     producers, rejected, versions = [], [], []
     with tempfile.TemporaryDirectory(dir=LOOK["work"]) as place:
         calls, parts, given = {}, collections.defaultdict(list), collections.defaultdict(list)
 
         def call(form, to):
             if (form, to) not in calls:
-                output = open(os.path.join(place, f"{form}.{to}"), "wb")  # closed when the run ends
-                dated = merge.PART_DATE if to == "rinex" else []
-                calls[form, to] = merge.Call(LOOK["program"], ["--from", FORMATS[form], "--to", to, *dated], output, output.name + ".report")
-                output.close()
+                words = ["--from", FORMATS[form], "--to", to, *(merge.PART_DATE if to == "rinex" else [])]
+                with open(os.path.join(place, f"{form}.{to}"), "wb") as output:
+                    calls[form, to] = merge.Call(LOOK["program"], words, output, output.name + ".report")
                 calls[form, to].give(merge.HEADERS[form], 2)
             return calls[form, to]
 
@@ -202,7 +201,8 @@ def look_again(files):
                 for line, reason in refused:
                     base, number, above, lines = parts[form][merge.bisect.bisect_left(bases, line) - 1]
                     text = b"".join(lines[line - base - (form == 3):][:1])[:23].decode("latin-1")
-                    rejected.append((number, line - base + above, reason, "".join(c if c.isprintable() else "?" for c in text).strip()))
+                    text = "".join(c if c.isprintable() else "?" for c in text).strip()
+                    rejected.append((number, line - base + above, reason, text))
             else:
                 wrong = {merge.bisect.bisect_left([it[0] for it in given[form]], line) - 1 for line, _ in refused}
                 good = [it for at, it in enumerate(given[form]) if at not in wrong]
@@ -212,6 +212,12 @@ def look_again(files):
                         if version is not None:
                             versions.append((version, number, line))
     return producers, rejected, versions
+
+
+def begin_worker():
+    """A worker ends when it is told to, and leaves an interrupt to the process that started it."""
+    signal.signal(signal.SIGTERM, signal.SIG_DFL)
+    signal.signal(signal.SIGINT, signal.SIG_IGN)
 
 
 def second_look(tool, rows, epochs, texts, work):
@@ -229,7 +235,7 @@ def second_look(tool, rows, epochs, texts, work):
              for number, row in enumerate(rows) if row["outcome"] in merge.READS]
     producers, rejected, versions = {}, [], []
     chunks = [files[at:at + 64] for at in range(0, len(files), 64)]
-    with multiprocessing.get_context("fork").Pool(tool.args.jobs, signal.signal, (signal.SIGTERM, signal.SIG_DFL)) as pool:
+    with multiprocessing.get_context("fork").Pool(tool.args.jobs, begin_worker) as pool:
         for some, of_records, of_versions in pool.imap_unordered(look_again, chunks):
             producers.update((number, (program, agency)) for number, program, agency in some)
             rejected += of_records
