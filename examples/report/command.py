@@ -1,11 +1,12 @@
 """The command line of navreport."""
 import argparse
+import fcntl
+import glob
 import os
 import re
 import shutil
 import signal
 import sys
-import tempfile
 import time
 import types
 
@@ -39,15 +40,6 @@ Exit status: 0 every file was read; 1 the site is written, and some file was not
 """
 
 
-def version():
-    """What the package says, which installs a file of that name with merge_archive.py, or the repository."""
-    try:
-        with open(os.path.join(os.path.dirname(merge.__file__), "version"), encoding="utf-8") as file:
-            return file.read().strip()
-    except OSError:
-        return merge.version()
-
-
 def options(arguments):
     """The options; a mistake is reported and ends with 2."""
     parser = argparse.ArgumentParser(prog="navreport", add_help=False, allow_abbrev=False,
@@ -68,7 +60,7 @@ def options(arguments):
     parser.add_argument("--version", action="store_true")
     args = parser.parse_args(arguments)
     if args.help or args.version:
-        print(HELP if args.help else f"navreport {version()}", end="" if args.help else "\n")
+        print(HELP if args.help else f"navreport {merge.version()}", end="" if args.help else "\n")
         sys.exit(0)
     if not args.names:
         parser.error("no names: give files, directories, or - for a list on standard input")
@@ -93,6 +85,22 @@ def options(arguments):
     if not args.program or not os.access(args.program, os.X_OK) or os.path.isdir(args.program):
         parser.error(f"no program {args.program or 'navbridge'}; rt ci, or rt run in crates/navbridge, builds it, or --program names one")
     return args
+
+
+def begin(place):
+    """A directory in the site for what is being made, and its lock; those of runs that have ended without removing theirs go."""
+    for old in glob.glob(os.path.join(glob.escape(place), ".navreport.*.part")):
+        try:
+            with open(os.path.join(old, "lock"), "wb") as file:
+                fcntl.flock(file, fcntl.LOCK_EX | fcntl.LOCK_NB)
+                shutil.rmtree(old)
+        except OSError:
+            pass
+    work = os.path.join(place, f".navreport.{os.getpid()}.part")  # merge_archive takes nothing from a directory of such a name
+    os.makedirs(work)
+    lock = open(os.path.join(work, "lock"), "wb")
+    fcntl.flock(lock, fcntl.LOCK_EX)
+    return work, lock
 
 
 def gathered(args, work):
@@ -149,7 +157,7 @@ def main(arguments):
     work = None
     try:
         os.makedirs(args.site, exist_ok=True)
-        work = tempfile.mkdtemp(prefix=".navreport.", suffix=".part", dir=args.site)
+        work, _lock = begin(args.site)
         found = gathered(args, work)
         title = args.title or ", ".join(merge.shown(os.path.basename(os.path.normpath(it)) or it) for it in args.names if it != "-")
         report = figures.report(found, made, title or "Archive", args.first, args.last)
