@@ -123,7 +123,7 @@ silent "the installed station has its help" has_help
 has_version() { [ "$(navbridge-station --version)" = "navbridge-station $(dpkg-query -W -f '${Version}' navbridge)" ]; }
 silent "its version is that of the package" has_version
 merges() {
-  [ "$(merge_archive --version)" = "merge_archive.sh $(dpkg-query -W -f '${Version}' navbridge)" ] || echo "another version"
+  [ "$(merge_archive --version)" = "merge_archive $(dpkg-query -W -f '${Version}' navbridge)" ] || echo "another version"
   merge_archive -q -o "$work/day.rnx" --date '20240101 000000 UTC' /usr/share/doc/navbridge/examples/archive/2024/002 2>&1 | grep -v '^/usr/share/doc/navbridge/examples/archive'
   "$PWD/examples/merge_archive.sh" -q -o "$work/day2.rnx" --date '20240101 000000 UTC' --program /usr/bin/navbridge examples/archive/2024/002 > /dev/null 2>&1
   cmp "$work/day.rnx" "$work/day2.rnx"
