@@ -433,8 +433,10 @@ def month(tally, browser, site, report, by_name):
     """The timeline: by month, day and hour, by the mouse and by keys."""
     browser.open(f"file://{site}/2024-01.html")
     state = "['sat', 'day', 'hour'].map((it) => document.getElementById(it).value)"
+    of_systems = [[{"G": "GPS", "E": "Galileo"}[it["system"]], it["percent"], *(day * 10000 // (86400 * it["satellites"]) / 100 for day in it["day_seconds"])]
+                  for it in report["systems"]]
     tally.same("month: percents", browser.js(f"{texts('matrix')}.map((it) => it.map((one) => Number(one) || one))"),
-               [[name, it["percent"], *(day * 10000 // 86400 / 100 or "0" for day in it["day_seconds"])] for name, it in by_name.items()])
+               of_systems + [[name, it["percent"], *(day * 10000 // 86400 / 100 or "0" for day in it["day_seconds"])] for name, it in by_name.items()])
     tally.same("month: gaps", browser.js(f"{texts('gaps')}.map((it) => [it[0], it[2], it[3]])"),
                [[it["satellite"], moment_text(it["from"]), moment_text(it["to"])] for it in report["gaps"]])
     tally.same("month: gaps in the timeline", browser.js("document.querySelectorAll('#chart rect.gap').length"), len(report["gaps"]))

@@ -214,15 +214,22 @@ function matrix() {
     head.append(make("th", { scope: "col" }, label, make("br"), make("span", { class: "soft" }, doy(m))));
   }
   const body = make("tbody");
-  for (const it of rows) {
-    const row = make("tr", {}, make("th", { scope: "row" }, make("button", { "data-sat": it.n }, it.n)),
-      make("td", {}, pct(it.p.reduce((a, b) => a + b, 0), end - start)));
-    it.p.forEach((s, d) => {
-      const kind = !s ? "zero" : s < DAY ? "low" : "", here = it.n === state.sat && d === state.day ? " here" : "";
-      row.append(make("td", { class: kind + here, "data-sat": it.n, "data-day": d }, s === DAY ? "100" : s ? pct(s, DAY) : "0"));
+  // a row: how many seconds of each day are covered, of how many satellites
+  const line = (name, seconds, count, some) => {
+    const row = make("tr", {}, make("th", { scope: "row" }, some ? make("button", some, name) : name),
+      make("td", {}, pct(seconds.reduce((a, b) => a + b, 0), (end - start) * count)));
+    seconds.forEach((s, d) => {
+      const kind = !s ? "zero" : s < DAY * count ? "low" : "", here = some && name === state.sat && d === state.day ? " here" : "";
+      const text = s === DAY * count ? "100" : s ? pct(s, DAY * count) : "0";
+      row.append(make("td", { class: kind + here, "data-day": d, ...some }, text));
     });
     body.append(row);
+  };
+  for (const [letter, name] of [["G", "GPS"], ["E", "Galileo"]]) {
+    const all = sats.filter((it) => it.n[0] === letter);
+    if (all.length) line(name, all[0].p.map((_, d) => all.reduce((sum, it) => sum + it.p[d], 0)), all.length);
   }
+  for (const it of rows) line(it.n, it.p, 1, { "data-sat": it.n });
   box.replaceChildren(make("thead", {}, head), body);
 }
 

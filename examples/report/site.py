@@ -212,8 +212,8 @@ LEGEND = ((BOX.format("var(--cover)", "none"), "has an ephemeris"), (BOX.format(
           (BOX.format("var(--panel)", "var(--line)"), "shorter gap"), (BOX.format("url(#p-ill)", "var(--ill)"), "marked unhealthy"),
           ('<path d="M17 1.5l6 11h-12z" fill="var(--page)" stroke="var(--mark)" stroke-width="2"/>', "contradiction"),
           ('<path d="M17 1v12" stroke="var(--text)" stroke-width="2"/>', "Toe, with the issue (by day and hour)"))
-MATRIX = """<h2>Coverage in percent by satellite and day</h2>
-<div class="wide tall" tabindex="0" role="region" aria-label="Percent by satellite and day"><table id="matrix"></table></div>
+MATRIX = """<h2>Coverage in percent by system, satellite and day</h2>
+<div class="wide tall" tabindex="0" role="region" aria-label="Percent by system, satellite and day"><table id="matrix"></table></div>
 <p class="soft">Rounded down: 100 is all of a day. Underlined: less. Bold 0: nothing.</p>
 """
 
