@@ -68,7 +68,7 @@ def head_of(report):
     span, files, records = report["span"], report["files"], report["records"]
     days = report["days"]
     text = lambda moment: f"{figures.date_of(moment):%Y-%m-%d} (day {figures.date_of(moment):%j})"
-    when = f'{text(span["from"])} to {text(span["to"] - 1)}, {len(days)} day{"s" * (len(days) != 1)}' if days else "No ephemeris was read"
+    when = f'{text(span["from"])} to {text(span["to"] - 1)}, {len(days)} day{"s" * (len(days) != 1)}' if days else "No ephemeris"
     yield (f'<p>{when}. Made {escape(report["made"])}. '
            f'Times are in <b class="scale">GPS time</b>; days are days of GPS time. {SCALE}</p>')
     yield tiles([("files", files["files"]), ("files not read", files["not_read"]), ("records", records["records"]),
