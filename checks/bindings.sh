@@ -149,4 +149,13 @@ if command -v python3 > /dev/null && [ -z "$sanitize" ]; then
   fi
   echo 'the package for Python: its example and its tests were run'
 fi
+if command -v cargo > /dev/null && [ -z "$sanitize" ]; then
+  export CARGO_TARGET_DIR=$out/cargo NAVBRIDGE_LIB_DIR=$made
+  cargo test -q --offline --locked --manifest-path bindings/rust/Cargo.toml > "$out/rust.log" 2>&1 || { cat "$out/rust.log"; differs 'bindings/rust: cargo test'; }
+  RUSTDOCFLAGS='-D warnings' cargo doc -q --offline --locked --manifest-path bindings/rust/Cargo.toml > "$out/rust.log" 2>&1 \
+    || { cat "$out/rust.log"; differs 'bindings/rust: cargo doc'; }
+  grep -qx "version = \"$(sed -n 's/^## \([0-9][^ ]*\).*/\1/p;T;q' CHANGELOG.md)\"" bindings/rust/Cargo.toml \
+    || differs 'the version of bindings/rust is not that of CHANGELOG.md'
+  echo 'the crate for Rust: its example and its tests were run'
+fi
 ended bindings

@@ -1,0 +1,175 @@
+//! The proof ends at the C edge: what this crate adds to the calls of `navbridge.h` is tested, not proved.
+//!
+//! Messages, frames, subframes, pages and records of GPS and Galileo are read to structs of the integers that were
+//! broadcast, and written from them. What cannot be given is an [`Error`].
+//!
+//! ```
+//! let stream = std::fs::File::open(concat!(env!("CARGO_MANIFEST_DIR"), "/../../examples/ephemerides.rtcm3"))?;
+//! for frame in navbridge::frames(stream) {
+//!     let frame = frame?;
+//!     let item = navbridge::message_read(&frame[3..frame.len() - 3], 2295)?;
+//!     assert_eq!(navbridge::message_write(&item)?, frame);
+//!     if let navbridge::Item::Gal(gal) = item {
+//!         assert_eq!(gal.orbit().toe % 60.0, 0.0);
+//!     }
+//! }
+//! # Ok::<(), Box<dyn std::error::Error>>(())
+//! ```
+#![warn(missing_docs)]
+
+mod error;
+mod raw;
+mod streams;
+mod values;
+
+pub use error::Error;
+pub use streams::{frames, Deframer, Frames, Joined, Pages, Push, Signal};
+pub use values::*;
+
+use raw::Item as RawItem;
+
+/// The most bytes that a frame has.
+pub const FRAME_MOST: usize = 1029;
+
+/// What a conversion wrote and what it reported.
+#[derive(Clone, Debug, Default, PartialEq, Eq)]
+pub struct Conversion {
+    /// What the program would write.
+    pub output: Vec<u8>,
+    /// What it would report.
+    pub report: Vec<u8>,
+}
+
+/// Does what the program `navbridge` does with these words and this input.
+pub fn convert(words: &[&str], input: &[u8]) -> Result<Conversion, Error> {
+    let words = raw::words(words);
+    let mut made = Conversion {
+        output: vec![0; 65536],
+        report: vec![0; 65536],
+    };
+    loop {
+        let (mut used, mut report_used) = (0, 0);
+        // each pointer is valid for the size beside it, and nothing overlaps
+        let status = unsafe {
+            raw::nb_convert(
+                words.as_ptr(),
+                words.len(),
+                input.as_ptr(),
+                input.len(),
+                made.output.as_mut_ptr(),
+                made.output.len(),
+                &mut used,
+                made.report.as_mut_ptr(),
+                made.report.len(),
+                &mut report_used,
+            )
+        };
+        let again = used > made.output.len() || report_used > made.report.len();
+        if again {
+            made.output.resize(used.max(made.output.len()), 0);
+            made.report.resize(report_used.max(made.report.len()), 0);
+            continue;
+        }
+        Error::check(status)?;
+        made.output.truncate(used);
+        made.report.truncate(report_used);
+        return Ok(made);
+    }
+}
+
+/// Whether these bytes are one whole frame of RTCM 3 with a right checksum, and nothing else.
+pub fn is_frame(bytes: &[u8]) -> bool {
+    unsafe { raw::nb_is_frame(bytes.as_ptr(), bytes.len()) }
+}
+
+/// The frame of a payload; none where it has more than 1,023 bytes.
+pub fn frame_make(payload: &[u8]) -> Option<Vec<u8>> {
+    let mut frame = vec![0; FRAME_MOST];
+    let size = unsafe {
+        raw::nb_frame_make(
+            payload.as_ptr(),
+            payload.len(),
+            frame.as_mut_ptr(),
+            frame.len(),
+        )
+    };
+    frame.truncate(size);
+    (size > 0).then_some(frame)
+}
+
+/// The ephemeris in message 1019 or 1046, whose week is the one near this, 1024 to 8191.
+pub fn message_read(payload: &[u8], week: u32) -> Result<Item, Error> {
+    let mut item = RawItem::default();
+    Error::check(unsafe {
+        raw::nb_message_read(payload.as_ptr(), payload.len(), week, &mut item)
+    })?;
+    item.value()
+}
+
+/// The frame of message 1019 or 1046 of an ephemeris.
+pub fn message_write(item: &Item) -> Result<Vec<u8>, Error> {
+    let (mut frame, mut used) = (vec![0; FRAME_MOST], 0);
+    Error::check(unsafe {
+        raw::nb_message_write(
+            &RawItem::of(item),
+            frame.as_mut_ptr(),
+            frame.len(),
+            &mut used,
+        )
+    })?;
+    frame.truncate(used);
+    Ok(frame)
+}
+
+/// The item of one record of a navigation file, of version 4 with its title line, of version 3 without.
+pub fn record_read(text: &str, version: u32) -> Result<Item, Error> {
+    let mut item = RawItem::default();
+    Error::check(unsafe { raw::nb_record_read(text.as_ptr(), text.len(), version, &mut item) })?;
+    item.value()
+}
+
+/// The record of an item in a navigation file of RINEX 4.01 or 3.05; ionospheric parameters have none in version 3.
+pub fn record_write(item: &Item, version: u32) -> Result<String, Error> {
+    let (mut text, mut used) = (vec![0; 1024], 0);
+    Error::check(unsafe {
+        raw::nb_record_write(
+            &RawItem::of(item),
+            version,
+            text.as_mut_ptr(),
+            text.len(),
+            &mut used,
+        )
+    })?;
+    text.truncate(used);
+    String::from_utf8(text).map_err(|_| Error::NoText)
+}
+
+/// The content of an LNAV subframe of that GPS satellite: 300 bits with parity, and four that are ignored.
+pub fn subframe_read(bits: &[u8; 38], satellite: u32) -> Result<Subframe, Error> {
+    let mut subframe = raw::Subframe::default();
+    Error::check(unsafe { raw::nb_subframe_read(bits, satellite, &mut subframe) })?;
+    subframe.value()
+}
+
+/// The bits of an LNAV subframe; the TOW count is the start of the next in units of 6 s from the start of the week.
+pub fn subframe_write(subframe: &Subframe, tow_count: u32) -> Result<[u8; 38], Error> {
+    let mut bits = [0; 38];
+    Error::check(unsafe {
+        raw::nb_subframe_write(&raw::Subframe::of(subframe), tow_count, &mut bits)
+    })?;
+    Ok(bits)
+}
+
+/// The content of the word of an I/NAV page of that Galileo satellite: its even and its odd part, 15 bytes each.
+pub fn page_read(page: &[u8; 30], satellite: u32) -> Result<Word, Error> {
+    let mut word = raw::Word::default();
+    Error::check(unsafe { raw::nb_page_read(page, satellite, &mut word) })?;
+    word.value()
+}
+
+/// The even and the odd part of the I/NAV page of a word that this Galileo satellite sends.
+pub fn page_write(word: &Word, satellite: u32) -> Result<[u8; 30], Error> {
+    let mut page = [0; 30];
+    Error::check(unsafe { raw::nb_page_write(&raw::Word::of(word), satellite, &mut page) })?;
+    Ok(page)
+}
