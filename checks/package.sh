@@ -1,7 +1,10 @@
 #!/usr/bin/env bash
 # Tries the Debian package: made twice, the same bytes; lintian; installed, used, verified and removed.
 #
-#   checks/package.sh [--program PATH]..    the built programs, navbridge, navlog and navconvert (crates/NAME/out/NAME)
+#   checks/package.sh [--program PATH].. [--archive FILE]
+#
+#   --program PATH   the built programs, navbridge, navlog and navconvert (crates/NAME/out/NAME)
+#   --archive FILE   libnavbridge_c.a (crates/navbridge_c/out/libnavbridge_c.a): where it is there, the library's packages too
 #
 # It installs the package on this machine, updates and removes it, so it wants root and a machine without the package. Where
 # systemd runs is a mount namespace in which /run says so, with a systemctl that writes down what it is asked. Debian packages
@@ -12,6 +15,7 @@ cd "$(dirname "$(readlink -f "$0")")/.." || exit 1
 names=(navbridge navlog navconvert)
 declare -A built
 for name in "${names[@]}"; do built[$name]=$PWD/crates/$name/out/$name; done
+archive=$PWD/crates/navbridge_c/out/libnavbridge_c.a
 while [ $# -gt 0 ]; do
   case $1 in
     -h | --help)
@@ -21,6 +25,11 @@ while [ $# -gt 0 ]; do
     --program)
       [ $# -ge 2 ] || { echo "package: --program wants a value" >&2; exit 2; }
       built[${2##*/}]=$(readlink -m "$2")
+      shift 2
+      ;;
+    --archive)
+      [ $# -ge 2 ] || { echo "package: --archive wants a value" >&2; exit 2; }
+      archive=$(readlink -m "$2")
       shift 2
       ;;
     *)
@@ -42,7 +51,7 @@ done
 work=$(mktemp -d)
 installed=
 clean() {
-  [ -z "$installed" ] || dpkg -P navbridge > /dev/null 2>&1
+  [ -z "$installed" ] || dpkg -P navbridge python3-navbridge libnavbridge-dev libnavbridge2 > /dev/null 2>&1
   rm -rf -- "$work"
 }
 trap clean EXIT
@@ -61,7 +70,13 @@ silent() {
   fi
 }
 
-packaging/debian.sh "${given[@]}" --out "$work/one" || exit 1
+library=()
+if [ -f "$archive" ]; then
+  library=(--library "$archive")
+else
+  echo "the library's packages: not tried, since $archive is not there; bindings/archive.sh makes it"
+fi
+packaging/debian.sh "${given[@]}" "${library[@]}" --out "$work/one" || exit 1
 # every program is wanted: one that is not built is named, and there is no package
 lacks() {
   local said status=0
@@ -74,10 +89,13 @@ for count in 0 1 2; do
   silent "with $count of three programs there is no package, and the next is named" lacks $((2 * count)) "${names[count]}"
 done
 sleep 1
-(umask 077 && TZ=Asia/Tokyo LC_ALL=C.UTF-8 taskset -c 0 packaging/debian.sh "${given[@]}" --out "$work/two" > /dev/null) || exit 1
-package=$(echo "$work"/one/*.deb)
-silent "the same bytes with umask 077, in Tokyo, on one processor, a second later" cmp "$package" "$work/two/${package##*/}"
-silent "lintian has no error and no warning" lintian --allow-root "$package"
+(umask 077 && TZ=Asia/Tokyo LC_ALL=C.UTF-8 taskset -c 0 packaging/debian.sh "${given[@]}" "${library[@]}" --out "$work/two" > /dev/null) || exit 1
+package=$(echo "$work"/one/navbridge_*.deb)
+for one in "$work"/one/*.deb; do
+  name=${one##*/}
+  silent "${name%%_*}: the same bytes with umask 077, in Tokyo, on one processor, a second later" cmp "$one" "$work/two/$name"
+  silent "${name%%_*}: lintian has no error and no warning" lintian --allow-root "$one"
+done
 dpkg-deb -c "$package" | awk '{ print "  " $1, $2, $6 }' | grep -v '/$' | grep -v 'doc/navbridge/\(examples\|docs\)/'
 
 find /usr /etc /var/lib -xdev -path /var/lib/dpkg -prune -o -print 2> /dev/null | sort > "$work/before"
@@ -207,6 +225,29 @@ try-restart $instances" dpkg -i "$package"
   silent "the end stops them" under_systemd "stop $instances navbridge-files@*.service
 --system daemon-reload" dpkg -P navbridge
   silent "an installation starts nothing" under_systemd "--system daemon-reload" dpkg -i "$package"
+fi
+if [ -f "$archive" ]; then
+  kinds=(libnavbridge2 libnavbridge-dev python3-navbridge)
+  silent "the library: installed" sh -c 'dpkg -i "$@" > /dev/null' sh "$work"/one/libnavbridge*.deb "$work"/one/python3-navbridge*.deb
+  silent "dpkg -V ${kinds[*]}" dpkg -V "${kinds[@]}"
+  cp -r examples/c "$work/c"
+  builds() {
+    { make -s -C "$work/c" && cmake -S "$work/c" -B "$work/c/cmake" && cmake --build "$work/c/cmake"; } > "$work/said" 2>&1 || cat "$work/said"
+    local it
+    for it in "$work/c/listen" "$work/c/cmake/listen"; do
+      timeout 20 "$it" 2295 < examples/ephemerides.rtcm3 | cmp - examples/expected/ephemerides.heard
+      readelf -d "$it" | grep -q 'NEEDED.*libnavbridge.so.2' || echo "$it is not linked with it"
+    done
+  }
+  silent "a Makefile and CMake build with it, and what they build runs" builds
+  imports() {
+    (cd "$work" && timeout 20 /usr/bin/python3 -c 'import navbridge, sys
+assert navbridge.__file__.startswith("/usr/lib/python3/dist-packages/"), navbridge.__file__
+frames = list(navbridge.frames(open(sys.argv[1], "rb")))
+assert b"".join(frames) == open(sys.argv[1], "rb").read()' "$OLDPWD/examples/ephemerides.rtcm3")
+  }
+  silent "Python's finds the frames of a stream" imports
+  silent "the library: removed" sh -c 'dpkg -P python3-navbridge libnavbridge-dev libnavbridge2 > /dev/null'
 fi
 silent "removed" remove_it
 installed=

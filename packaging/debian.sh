@@ -1,10 +1,13 @@
 #!/usr/bin/env bash
-# A Debian package of the proved programs, with man pages, completion, units of systemd and examples.
+# A Debian package of the proved programs, with man pages, completion, units of systemd and examples; and, where it is asked for,
+# those of the library.
 #
-#   packaging/debian.sh [--program PATH].. [--version VERSION] [--epoch SECONDS] [--maintainer NAME] [--out FOLDER]
+#   packaging/debian.sh [--program PATH].. [--library FILE] [--version VERSION] [--epoch SECONDS] [--maintainer NAME] [--out FOLDER]
 #
 #   --program PATH     a built program: navbridge, navlog or navconvert, all of which the package has; given again: another.
 #                      Where one is not said, the one that `rt ci` or `rt run` left in crates/NAME/out/NAME
+#   --library FILE     the library's packages too, libnavbridge2, libnavbridge-dev and python3-navbridge, of this archive
+#                      (crates/navbridge_c/out/libnavbridge_c.a, which bindings/archive.sh makes); it takes make and a C compiler
 #   --version VERSION  the first that CHANGELOG.md has, where it is not said
 #   --epoch SECONDS    the time of all files (SOURCE_DATE_EPOCH, or that of the last commit)
 #   --maintainer NAME  with its address, as the package names it (the author of the last commit)
@@ -12,19 +15,25 @@
 #
 # The same programs and the same commit give the same bytes, whatever the umask, the time zone and the number of processors
 # are. The programs are stripped of their names (`strip --strip-unneeded`), which no running program reads.
-# It prints the package's name and its checksum. checks/package.sh tries what it makes.
+# It prints each package's name and its checksum. checks/package.sh tries what it makes.
 set -euo pipefail
 umask 022
 export LC_ALL=C TZ=UTC
 . "$(dirname "$(readlink -f "$0")")/../checks/lib.sh"
 declare -A programs=([navbridge]='' [navlog]='' [navconvert]='')
-program=() maintainer='' version='' epoch=${SOURCE_DATE_EPOCH:-} out=''
-options '--program+: --maintainer: --version: --epoch: --out:' "$@"
+program=() library='' maintainer='' version='' epoch=${SOURCE_DATE_EPOCH:-} out=''
+options '--program+: --library: --maintainer: --version: --epoch: --out:' "$@"
 for it in "${program[@]}"; do
   name=${it##*/}
   [ -n "${programs[$name]+x}" ] || fail "$name is no program of the package: navbridge, navlog, navconvert"
   programs[$name]=$(path_of "$it")
 done
+if [ -n "$library" ]; then
+  library=$(path_of "$library")
+  [ -f "$library" ] || fail "no archive $library; bindings/archive.sh makes crates/navbridge_c/out/libnavbridge_c.a"
+fi
+out=$(path_of "${out:-$top/packaging/build}")
+cd "$top"
 names=(navbridge navlog navconvert)
 for name in "${names[@]}"; do
   : "${programs[$name]:=crates/$name/out/$name}"
@@ -41,14 +50,47 @@ done
 : "${version:=$(sed -n 's/^## \([0-9][^ ]*\).*/\1/p;T;q' CHANGELOG.md)}"
 export SOURCE_DATE_EPOCH=$epoch
 
-root=$(mktemp -d)
-trap 'rm -rf "$root"' EXIT
-chmod 755 "$root"
+work=$(mktemp -d)
+trap 'rm -rf "$work"' EXIT
+root=$work/navbridge
+install -d -m 755 "$root"
 # a file of the package: mode, where it goes, where it stands
 put() { install -D -m "$1" "$3" "$root/$2"; }
 page() { # a man page
   mkdir -p "$root/usr/share/man/man1"
   gzip -n9 < "$1" > "$root/usr/share/man/man1/${1##*/}.gz"
+}
+papers() { # copyright and changelog of a package
+  local at=$root/usr/share/doc/$1
+  mkdir -p "$at"
+  {
+    cat << 'END'
+Format: https://www.debian.org/doc/packaging-manuals/copyright-format/1.0/
+Upstream-Name: navbridge
+
+Files: *
+END
+    echo "Copyright: $(sed -n 's/^Copyright (c) //p' LICENSE-MIT)"
+    cat << 'END'
+License: Expat or Apache-2.0
+
+License: Expat
+END
+    sed -n '/^Permission/,$s/^/ /p' LICENSE-MIT | sed 's/^ *$/ ./'
+    cat << 'END'
+
+License: Apache-2.0
+ On Debian systems the text of the Apache License, version 2.0, stands in
+ /usr/share/common-licenses/Apache-2.0.
+END
+  } > "$at/copyright"
+  {
+    echo "$1 ($version) unstable; urgency=medium"
+    echo
+    echo "  * Built from the sources at $(git rev-parse --short=12 HEAD); CHANGELOG.md says what is new."
+    echo
+    echo " -- $maintainer  $(date -R -d "@$epoch")"
+  } | gzip -n9 > "$at/changelog.gz"
 }
 doc=usr/share/doc/navbridge
 
@@ -95,59 +137,10 @@ git ls-files examples checks/{archive,lib,runs}.sh | while read -r it; do
   [ ! -x "$it" ] || mode=755
   put "$mode" "$doc/$it" "$it"
 done
-{
-  cat << 'END'
-Format: https://www.debian.org/doc/packaging-manuals/copyright-format/1.0/
-Upstream-Name: navbridge
+papers navbridge
 
-Files: *
-END
-  echo "Copyright: $(sed -n 's/^Copyright (c) //p' LICENSE-MIT)"
-  cat << 'END'
-License: Expat or Apache-2.0
-
-License: Expat
-END
-  sed -n '/^Permission/,$s/^/ /p' LICENSE-MIT | sed 's/^ *$/ ./'
-  cat << 'END'
-
-License: Apache-2.0
- On Debian systems the text of the Apache License, version 2.0, stands in
- /usr/share/common-licenses/Apache-2.0.
-END
-} > "$root/$doc/copyright"
-{
-  echo "navbridge ($version) unstable; urgency=medium"
-  echo
-  echo "  * Built from the sources at $(git rev-parse --short=12 HEAD); CHANGELOG.md says what is new."
-  echo
-  echo " -- $maintainer  $(date -R -d "@$epoch")"
-} | gzip -n9 > "$root/$doc/changelog.gz"
-
-mkdir -p "$root/DEBIAN"
+mkdir -p "$root/DEBIAN" "$out"
 architecture=$(dpkg --print-architecture)
-size=$(find "$root" -path "$root/DEBIAN" -prune -o -type f -printf '%s\n' | awk '{ kb += int(($1 + 1023) / 1024) } END { print kb }')
-cat > "$root/DEBIAN/control" << END
-Package: navbridge
-Version: $version
-Architecture: $architecture
-Maintainer: $maintainer
-Installed-Size: $size
-Depends: libc6, python3 (>= 3.9)
-Recommends: rtklib
-Suggests: bash-completion, parallel
-Section: science
-Priority: optional
-Description: proved converter of broadcast satellite orbits
- navbridge converts ephemerides and ionosphere sets of GPS and Galileo between
- the bits that satellites send, RTCM 3 messages and RINEX navigation files, by
- whole numbers alone. navlog makes the input of logs of u-blox and Septentrio
- receivers. Both are written in Rattle, which is Rust with contracts, and what
- they promise is proved.
- .
- navbridge-station keeps what a caster or a receiver sends, and makes RINEX
- files by hour and by day of it; units of systemd are with it.
-END
 # instances of the units: started anew by an update, stopped where the package is removed; their files and settings stay
 running="'navbridge-station@*.service' 'navbridge-record@*.service' 'navbridge-files@*.timer'"
 script() { # a maintainer script: its name, and the text on standard input
@@ -177,9 +170,109 @@ if [ "$1" = purge ]; then
 fi
 if [ "$1" = remove ] && [ -z "$DPKG_ROOT" ] && [ -d /run/systemd/system ]; then systemctl --system daemon-reload > /dev/null || true; fi
 END
-(cd "$root" && find usr -type f -print0 | sort -z | xargs -0 md5sum) > "$root/DEBIAN/md5sums"
-find "$root" -exec touch -h -d "@$epoch" {} +
-mkdir -p "$out"
-package=$out/navbridge_${version}_$architecture.deb
-dpkg-deb --build --root-owner-group -Zxz "$root" "$package" > /dev/null
-sha256sum "$package"
+# the package of $root, whose name, architecture and further lines of control are given
+pack() {
+  local name=$1 for=$2 size
+  size=$(find "$root" -path "$root/DEBIAN" -prune -o -type f -printf '%s\n' | awk '{ kb += int(($1 + 1023) / 1024) } END { print kb }')
+  {
+    printf 'Package: %s\nVersion: %s\nArchitecture: %s\nMaintainer: %s\nInstalled-Size: %s\n' "$name" "$version" "$for" "$maintainer" "$size"
+    cat
+  } > "$root/DEBIAN/control"
+  (cd "$root" && find usr -type f -print0 | sort -z | xargs -0 md5sum) > "$root/DEBIAN/md5sums"
+  find "$root" -exec touch -h -d "@$epoch" {} +
+  dpkg-deb --build --root-owner-group -Zxz "$root" "$out/${name}_${version}_$for.deb" > /dev/null
+  sha256sum "$out/${name}_${version}_$for.deb"
+}
+
+pack navbridge "$architecture" << END
+Depends: libc6, python3 (>= 3.9)
+Recommends: rtklib
+Suggests: bash-completion, parallel
+Section: science
+Priority: optional
+Description: proved converter of broadcast satellite orbits
+ navbridge converts ephemerides and ionosphere sets of GPS and Galileo between
+ the bits that satellites send, RTCM 3 messages and RINEX navigation files, by
+ whole numbers alone. navlog makes the input of logs of u-blox and Septentrio
+ receivers. Both are written in Rattle, which is Rust with contracts, and what
+ they promise is proved.
+ .
+ navbridge-station keeps what a caster or a receiver sends, and makes RINEX
+ files by hour and by day of it; units of systemd are with it.
+END
+[ -n "$library" ] || exit 0
+
+multiarch=$(dpkg-architecture -qDEB_HOST_MULTIARCH 2> /dev/null || "${CC:-cc}" -print-multiarch)
+make_it() {
+  make -s -C bindings/c LIB="$library" OUT="$work/made" PREFIX=/usr LIBDIR="/usr/lib/$multiarch" DESTDIR="$work/stage" \
+    LDFLAGS=-Wl,-z,relro,-z,now "$@" > "$work/make.log" 2>&1 || { cat "$work/make.log" >&2; exit 1; }
+}
+make_it install
+stage=$work/stage/usr/lib/$multiarch
+begin() { # a package
+  root=$work/$1
+  install -d -m 755 "$root/DEBIAN" "$root/usr/lib/$multiarch"
+  papers "$1"
+}
+
+begin libnavbridge2
+mv "$stage/libnavbridge.so.2" "$root/usr/lib/$multiarch"
+strip --strip-unneeded "$root/usr/lib/$multiarch/libnavbridge.so.2"
+echo 'activate-noawait ldconfig' > "$root/DEBIAN/triggers"
+echo 'libnavbridge 2 libnavbridge2' > "$root/DEBIAN/shlibs"
+{
+  echo 'libnavbridge.so.2 libnavbridge2 #MINVER#'
+  echo " NAVBRIDGE_2@NAVBRIDGE_2 $version"
+  sed "s/\(.*\) \(.*\)/ \1@\2 $version/" bindings/c/symbols.txt
+} > "$root/DEBIAN/symbols"
+pack libnavbridge2 "$architecture" << END
+Multi-Arch: same
+Depends: libc6
+Section: libs
+Priority: optional
+Description: proved library for broadcast satellite orbits
+ libnavbridge reads and writes ephemerides of GPS and Galileo: messages and
+ frames of RTCM 3, LNAV subframes, I/NAV pages, records of RINEX navigation
+ files, and whole conversions as navbridge does them.
+END
+
+begin libnavbridge-dev
+mv "$work/stage/usr/include" "$root/usr"
+mv "$stage"/* "$root/usr/lib/$multiarch"
+strip --strip-debug --enable-deterministic-archives "$root/usr/lib/$multiarch/libnavbridge.a"
+pack libnavbridge-dev "$architecture" << END
+Multi-Arch: same
+Depends: libnavbridge2 (= $version)
+Suggests: pkgconf, cmake
+Section: libdevel
+Priority: optional
+Description: proved library for broadcast satellite orbits (for development)
+ The headers of libnavbridge for C and C++, its archive, and what pkg-config
+ and CMake want.
+END
+
+begin python3-navbridge
+rmdir "$root/usr/lib/$multiarch"
+packages=usr/lib/python3/dist-packages
+for it in bindings/python/navbridge/*.py bindings/python/navbridge/py.typed; do put 644 "$packages/navbridge/${it##*/}" "$it"; done
+mkdir -p "$root/$packages/navbridge-$version.dist-info"
+printf 'Metadata-Version: 2.1\nName: navbridge\nVersion: %s\n' "$version" > "$root/$packages/navbridge-$version.dist-info/METADATA"
+script postinst << 'END'
+if command -v py3compile > /dev/null 2>&1; then py3compile -p python3-navbridge; fi
+END
+script prerm << 'END'
+if command -v py3clean > /dev/null 2>&1; then
+  py3clean -p python3-navbridge
+else
+  find /usr/lib/python3/dist-packages/navbridge -name __pycache__ -prune -exec rm -r {} +
+fi
+END
+pack python3-navbridge all << END
+Depends: python3 (>= 3.10), libnavbridge2 (>= $version)
+Suggests: python3-numpy
+Section: python
+Priority: optional
+Description: proved library for broadcast satellite orbits (Python)
+ Ephemerides of GPS and Galileo as dataclasses, frames of streams as iterators,
+ and the conversions of navbridge, by libnavbridge.
+END
