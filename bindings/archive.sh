@@ -5,10 +5,13 @@
 #
 #   --built   over the libraries in crates/*/out, as an `rt ci` at the top has just left them
 #
-# It proves navbridge_c and compiles it, over the libraries below as `rt ci` makes them: without --built, in a copy that has
-# these crates alone. `rt ci` takes what it has proved on this machine before and proves the rest. (`rt lib` proves all anew.)
+# It proves navbridge_c and compiles it, over the crates below. Without --built these are proved first, in a copy that has them
+# alone: from nothing that takes most of the time of a whole `rt ci`, an hour and more (bench/README.md has the times of the
+# whole), and minutes where this machine has proved them before. Each crate is shown as it comes, with how many there are. With
+# --built it takes some minutes.
 #
-# Status: 0 the archive is there; 1 something is not proved; 2 the words are wrong, or there is no toolchain.
+# Status: 0 the archive is there; 1 something is not proved; 2 the words are wrong, or a library below or the toolchain is not
+# there.
 set -u
 built=''
 case ${1-} in
@@ -26,7 +29,7 @@ esac
 top=$(dirname "$(readlink -f "$0")")/..
 cd "$top" || exit 2
 top=$PWD
-kit=$(rt doc) || exit 2
+kit=$(rt doc 2> /dev/null) || { echo 'archive: no toolchain: rt is not there' >&2; exit 2; }
 kit=$(dirname "$kit")
 
 # what a crate stands on by crates.txt, and whether that is ours or the toolchain's
@@ -57,9 +60,27 @@ if [ -z "$built" ]; then
     mkdir "$copy/crates/$it"
     for part in src specs proofs; do [ ! -d "crates/$it/$part" ] || cp -r "crates/$it/$part" "$copy/crates/$it"; done
   done
-  (cd "$copy" && rt ci) || exit 1
+  # rt's lines are passed on; before the first that says what became of a crate, how many did
+  count=$(wc -w <<< "$found")
+  echo "archive: $count crates below navbridge_c, proved or taken from what this machine has kept"
+  (cd "$copy" && rt ci) 2>&1 | awk -v all="$count" -v names=" $found " '{
+    if ($1 == "rt:" && $3 ~ /^(is|proved|NOT)$/ && index(names, " " $2 " ") && !($2 in seen)) {
+      seen[$2] = 1
+      printf "archive: crate %d of %d: %s\n", ++n, all, $2
+    }
+    print
+    fflush()
+  }'
+  [ "${PIPESTATUS[0]}" = 0 ] || { echo "archive: a crate below navbridge_c is not proved" >&2; exit 1; }
   libraries=$copy/crates
 fi
+lacks=''
+for it in $found; do [ -f "$libraries/$it/out/rlib/$it.rlib" ] || lacks="$lacks $it"; done
+if [ -n "$lacks" ]; then
+  echo "archive: not built:$lacks; \`rt ci\` at the top of the checkout builds them, or bindings/archive.sh without --built" >&2
+  exit 2
+fi
+echo 'archive: navbridge_c is proved and compiled'
 
 words=(--crate-name navbridge_c src/lib.rt --crate-type staticlib --extern "std=$kit/rlibs/std.rlib" -L "dependency=$kit/rlibs")
 for it in $(named navbridge_c); do
