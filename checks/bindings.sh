@@ -29,6 +29,13 @@ if ! make -s -C bindings/c LIB="$archive" OUT="$made" CFLAGS="-O2 $sanitize" > "
   echo "bindings: not built" >&2
   exit 1
 fi
+# where a library below is missing, it is named, with what makes it, and nothing is left
+if command -v rt > /dev/null; then
+  git clone -q . "$out/clone"
+  "$out/clone/bindings/archive.sh" --built > "$out/archive.log" 2>&1
+  { [ $? = 2 ] && grep -q 'not built:.* c_records .*rt ci' "$out/archive.log" && [ ! -e "$out/clone/crates/navbridge_c/out" ]; } \
+    || { cat "$out/archive.log"; differs 'bindings/archive.sh --built in a fresh clone'; }
+fi
 # the header: by each C++ standard, by every compiler that is there
 for cxx in c++ clang++; do
   command -v "$cxx" > /dev/null || continue
