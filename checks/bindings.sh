@@ -142,7 +142,7 @@ if command -v python3 > /dev/null && [ -z "$sanitize" ]; then
   # a wheel, with no network: it has the shared object, and works where nothing else is
   wheels=
   for python in python3 /usr/bin/python3; do
-    if "$python" -c 'import pip, setuptools, wheel' 2> /dev/null; then wheels=$python; break; fi
+    if "$python" -c 'import setuptools, wheel, pip' 2> /dev/null; then wheels=$python; break; fi
   done
   if [ -n "$wheels" ]; then
     cp -r bindings/python "$out/python"

@@ -11,42 +11,21 @@
 # that it uses: lintian, man-db, mandoc, systemd (for systemd-analyze), util-linux (taskset, unshare). Status 0 where all is as
 # it should be, 1 where something is not, 2 where it cannot be tried.
 set -uo pipefail
-cd "$(dirname "$(readlink -f "$0")")/.." || exit 1
+. "$(dirname "$(readlink -f "$0")")/lib.sh"
+program=() archive=''
+options '--program+: --archive:' "$@"
 names=(navbridge navlog navconvert)
-declare -A built
-for name in "${names[@]}"; do built[$name]=$PWD/crates/$name/out/$name; done
-archive=$PWD/crates/navbridge_c/out/libnavbridge_c.a
-while [ $# -gt 0 ]; do
-  case $1 in
-    -h | --help)
-      sed -n '2,/^set /{/^set /d;s/^# \{0,1\}//;p}' "$0"
-      exit 0
-      ;;
-    --program)
-      [ $# -ge 2 ] || { echo "package: --program wants a value" >&2; exit 2; }
-      built[${2##*/}]=$(readlink -m "$2")
-      shift 2
-      ;;
-    --archive)
-      [ $# -ge 2 ] || { echo "package: --archive wants a value" >&2; exit 2; }
-      archive=$(readlink -m "$2")
-      shift 2
-      ;;
-    *)
-      echo "package: $1 is no option; --help" >&2
-      exit 2
-      ;;
-  esac
-done
+declare -A chosen
+for name in "${names[@]}"; do chosen[$name]=$top/crates/$name/out/$name; done
+for it in "${program[@]}"; do chosen[${it##*/}]=$(path_of "$it"); done
 given=()
-for name in "${names[@]}"; do given+=(--program "${built[$name]}"); done
-[ "$(id -u)" = 0 ] || { echo "package: only root may install a package" >&2; exit 2; }
-if dpkg -s navbridge > /dev/null 2>&1; then
-  echo "package: a package navbridge is there already" >&2
-  exit 2
-fi
+for name in "${names[@]}"; do given+=(--program "${chosen[$name]}"); done
+archive=$(path_of "${archive:-$top/crates/navbridge_c/out/libnavbridge_c.a}")
+cd "$top" || exit 2
+[ "$(id -u)" = 0 ] || fail "only root may install a package"
+! dpkg -s navbridge > /dev/null 2>&1 || fail "a package navbridge is there already"
 for it in dpkg lintian man mandoc systemd-analyze taskset unshare deb-systemd-invoke; do
-  command -v "$it" > /dev/null || { echo "package: $it is not there" >&2; exit 2; }
+  command -v "$it" > /dev/null || fail "$it is not there"
 done
 work=$(mktemp -d)
 installed=
