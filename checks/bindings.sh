@@ -149,7 +149,6 @@ if command -v python3 > /dev/null && [ -z "$sanitize" ]; then
     { NAVBRIDGE_LIBRARY=$made/libnavbridge.so.2 "$wheels" -m pip wheel -q --no-index --no-build-isolation --no-deps -w "$out/wheels" "$out/python" \
       && "$wheels" -m pip install -q --no-index --no-deps --target "$out/site" "$out"/wheels/navbridge-*-py3-none-linux_*.whl; } > "$out/python.log" 2>&1 \
       || { cat "$out/python.log"; differs 'pip wheel'; }
-    (cd examples && PYTHONPATH=$out/site "$wheels" -m doctest "$out/site/navbridge/__init__.py") || differs "the example of the package for Python"
     PYTHONPATH=$out/site "$wheels" bindings/python/tests.py --installed > "$out/python.log" 2>&1 || { cat "$out/python.log"; differs 'bindings/python/tests.py, of the wheel'; }
   else
     echo 'the wheel: not tried, since pip, setuptools or wheel is not there'

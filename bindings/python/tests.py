@@ -1,10 +1,13 @@
-"""Tests of the package for Python, beside the examples in its first lines: what is refused, and that it is the header's.
+"""Tests of the package for Python: the examples in its first lines, what is refused, and that it is the header's.
 
     NAVBRIDGE_LIBRARY=libnavbridge.so.2 python3 tests.py        in a clone
+    python3 tests.py --installed                                of the package that is installed
 """
 
 import copy
+import doctest
 import io
+import os
 import pickle
 import re
 import subprocess
@@ -16,6 +19,7 @@ from pathlib import Path
 HERE = Path(__file__).resolve().parent
 if "--installed" in sys.argv:
     sys.argv.remove("--installed")
+    sys.path = [it for it in sys.path if Path(it or ".").resolve() != HERE]
 else:
     sys.path.insert(0, str(HERE))
 import navbridge
@@ -23,6 +27,7 @@ from navbridge import _values
 
 HEADER = (HERE.parent / "c" / "navbridge.h").read_text()
 EXAMPLES = HERE.parent.parent / "examples"
+os.chdir(EXAMPLES)
 STREAM = (EXAMPLES / "ephemerides.rtcm3").read_bytes()
 
 
@@ -158,6 +163,11 @@ class Streams(unittest.TestCase):
         self.assertTrue(numpy.array_equal(raw["w1"]["e"] * 2.0**-33, si["e"]))
         with self.assertRaises(TypeError):
             navbridge.array([])
+
+
+def load_tests(loader, tests, pattern):
+    tests.addTests(doctest.DocTestSuite(navbridge))
+    return tests
 
 
 if __name__ == "__main__":

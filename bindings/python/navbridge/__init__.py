@@ -5,16 +5,16 @@ is set; ``orbit()`` and ``si()`` give floats in SI units. What cannot be given i
 is the reason. Calls may run in several threads: none holds the interpreter's lock while it works, and a second call with one
 object waits. Only the standard library is needed; ``array`` wants numpy.
 
-Examples, which run as a test in a clone (``cd examples && python3 -m doctest ../bindings/python/navbridge/__init__.py``). A stream
-of RTCM 3 becomes lines, and its first ephemeris an orbit in SI units, a record, its frame again, and the page of a word:
+Examples, which run as a test in a clone (``python3 bindings/python/tests.py``), where examples/ is. A stream of RTCM 3
+becomes lines, and its first ephemeris an orbit in SI units, a record, its frame again, and the page of a word:
 
 >>> from navbridge import *
 >>> from pathlib import Path
 >>> stream = Path("ephemerides.rtcm3").read_bytes()
 >>> convert(["--from=stream", "--to=frames"], stream).output.splitlines()[0]
 b'1046 63'
->>> for gal in ephemerides(open("ephemerides.rtcm3", "rb"), week=2295):
-...     break
+>>> with open("ephemerides.rtcm3", "rb") as file:
+...     gal = next(ephemerides(file, week=2295))
 >>> type(gal).__name__, gal.w1.iodnav == gal.w4.iodnav, gal.orbit().toe % 60
 ('Gal', True, 0.0)
 >>> frame = message_write(gal)
