@@ -104,6 +104,7 @@ page examples/station/navbridge-station.1
 share=usr/share/navbridge
 put 755 $share/merge_archive.sh examples/merge_archive.sh
 put 644 $share/merge_archive.py examples/merge_archive.py
+sed -i '1s|^#!/usr/bin/env -S python3|#!/usr/bin/python3|' "$root/$share/merge_archive.py"
 ln -s ../share/navbridge/merge_archive.sh "$root/usr/bin/merge_archive"
 page docs/merge_archive.1
 put 644 $share/station_status.py examples/station/station_status.py
