@@ -1,7 +1,7 @@
 -- What is known of a job that was asked for, and what its end says of a capture.
 use Rattle.std.proofs.Common.{◌≡◌, ◌≤◌, ℕ, List, Option, Some, None, Result, Ok, Err, false, true, refl, sym, subst, inl}
 use Rattle.std.proofs.KnownBytes.{Appends-nil}
-use Rattle.std.specs.Prelude.{◌↔◌, IfErr, IfSome, IsSome, MatchResult, OnErr}
+use Rattle.std.specs.Prelude.{◌↔◌, IfErr, IfSome, IsSome, MatchResult, OnErr, option_map}
 use Rattle.std.specs.Io.KnownBytes.{Appends, IsAtEnd}
 use Rattle.nav_io.specs.Lines.{Line}
 use Rattle.capture_lines.specs.declared.item.LineItem.{LineItem}
@@ -12,7 +12,10 @@ use Rattle.capture_log.specs.Heard.{IsPartHeard}
 use Rattle.capture_log.specs.Log.{line_items_of, parts_of}
 use Rattle.rinex_write.specs.Texts.{rinex_text}
 use Rattle.rinex_write.specs.declared.words.HeaderWords.{HeaderWords}
-use Rattle.one_run.specs.Ends.{EndedBy, any_count, status_of, uncounted}
+use Rattle.one_run.specs.Ends.{EndedBy, giving, status_of, uncounted}
+use Rattle.captures.specs.declared.counts.CaptureCounts.{CaptureCounts}
+use Rattle.bridge_engine.specs.declared.done.Done.{Done}
+use Rattle.bridge_engine.specs.declared.done.Done.TheVariants as dones
 use Rattle.one_run.specs.Runs.{Ended, World}
 use Rattle.one_run.specs.declared.fault.BridgeFault.{BridgeFault}
 use Rattle.one_run.proofs.Surface.{accepted_of, done_by, end_of, no_prefix, text_of}
@@ -85,12 +88,16 @@ in_capture laws week header None o' w w' text some end = tt
 in_capture laws week header (Some bytes) o' w w' text some end = converts laws week header bytes o' w w'
     (capture_of week bytes) refl some text end
 
+-- whether there are counts, as a meaning without counts says it
+abbrev forgotten : Option CaptureCounts → Option (Unit {0})
+forgotten counts = option_map (λ (done : Done). tt) (option_map dones.Capture counts)
+
 some_capture : (o : Option (List ℕ)) (week : Option ℕ)
-    → IfSome o (λ bytes. IsSome (any_count (counts_in (capture_of week bytes))))
+    → IfSome o (λ bytes. IsSome (forgotten (counts_in (capture_of week bytes))))
     → IfSome o (λ bytes. IsSome (capture_of week bytes))
 some_capture None week all = tt
 some_capture (Some bytes) week some = by_capture (capture_of week bytes) some where
-  by_capture : (c : Option CaptureOf) → IsSome (any_count (counts_in c)) → IsSome c
+  by_capture : (c : Option CaptureOf) → IsSome (forgotten (counts_in c)) → IsSome c
   by_capture None none = none
   by_capture (Some c) some = refl
 
@@ -100,23 +107,12 @@ pub headline_of : {S T U : Type 0} → Readings
     → Capture (record { week = week; to = Rinex header }) ≡ job → EndedBy (meaning_of job) b a status → status ≡ 0
     → IfSome b.left (λ bytes. Converts week header bytes a.left b.written a.written)
 headline_of laws job week header b a status is by zero =
-    let m = uncounted (capture_meaning (Rinex header) week) in
+    let m = uncounted (giving dones.Capture (capture_meaning (Rinex header) week)) in
     let done = done_by m b a status (subst (λ (j : Job). EndedBy (meaning_of j) b a status) (sym is) by) zero in
     in_capture laws week header b.left a.left b.written a.written (text_of m b a (Ok tt) done)
     (some_capture b.left week (accepted_of m b a (Ok tt) done (inl refl))) (end_of m b a (Ok tt) done)
 
 -- ---- what is known of the bytes that were not taken
-
--- the knowledge after a run carries over to one that ended alike
-pub ahead_as : {C : Type 0} (A : Type 0) (run : Result C BridgeFault) (result : Result (Unit {0}) BridgeFault)
-    → MatchResult run (λ counts. result ≡ Ok tt) (λ fault. result ≡ Err fault) → IfErr run (λ fault. A) → OnErr result A
-ahead_as A (Ok counts) result is ahead = subst (λ (r : Result (Unit {0}) BridgeFault). OnErr r A) (sym is) tt
-ahead_as A (Err fault) result is ahead = subst (λ (r : Result (Unit {0}) BridgeFault). OnErr r A) (sym is) ahead
-
--- the headline clause says nothing of other jobs
-pub none_ahead : (result : Result (Unit {0}) BridgeFault) → OnErr result (Unit {0})
-none_ahead (Ok done) = tt
-none_ahead (Err fault) = tt
 
 -- a job that was not done
 pub ahead_of : (run : Result (Unit {0}) BridgeFault) (status : ℕ) (job : Job) (capture : CaptureJob)

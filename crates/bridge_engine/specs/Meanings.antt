@@ -2,7 +2,7 @@
 use Rattle.std.specs.Prelude.{◌≤◌, ℕ, List, Option, IfSome}
 use Rattle.rinex_read.specs.Forms.{rinex4}
 use Rattle.rinex_read.specs.Form3.{rinex3}
-use Rattle.one_run.specs.Ends.{uncounted}
+use Rattle.one_run.specs.Ends.{giving, uncounted}
 use Rattle.one_run.specs.Runs.{Meaning}
 use Rattle.nav_files.specs.Files.{convert_meaning}
 use Rattle.streams.specs.Streams.{stream_meaning}
@@ -14,21 +14,27 @@ use Rattle.captures.specs.Converts.{CaptureAhead}
 use Rattle.streams.specs.FrameLines.{frames_meaning}
 use Rattle.captures.specs.Seeds.{seed_meaning}
 use Rattle.bridge_engine.specs.Job.{row_of}
+use Rattle.bridge_engine.specs.declared.done.Done.{Done}
+use Rattle.bridge_engine.specs.declared.done.Done.TheVariants as dones
 use Rattle.bridge_engine.specs.declared.job.Job.{Job}
 use Rattle.bridge_engine.specs.declared.job.Job.TheVariants.{StreamToFrames, Capture, Stream, Rinex, Rinex3, SendRinex, SendRinex3, Merge, Cover, Seed}
 
--- the meaning of a job, without what its run counts
+-- the meaning of a job: what it makes of the bytes of its input, and what it counts in them
+abbrev pub done_of : Job → Meaning Done
+done_of StreamToFrames = giving dones.Frames frames_meaning
+done_of (Capture job) = giving dones.Capture (capture_meaning job.to job.week)
+done_of (Stream job) = giving dones.Stream (stream_meaning job.to job.week)
+done_of (Rinex to) = giving dones.File (convert_meaning rinex4 (target_of_file to))
+done_of (Rinex3 to) = giving dones.File (convert_meaning rinex3 (target_of_file to))
+done_of (SendRinex week) = giving dones.Sent (send_meaning rinex4 week)
+done_of (SendRinex3 week) = giving dones.Sent (send_meaning rinex3 week)
+done_of (Merge words) = giving dones.Merged (merge_meaning words)
+done_of Cover = giving dones.Covered cover_meaning
+done_of (Seed job) = giving dones.Generated (seed_meaning job.to job.seed job.sats job.week)
+
+-- the same, without what is counted
 abbrev pub meaning_of : Job → Meaning (Unit {0})
-meaning_of StreamToFrames = uncounted frames_meaning
-meaning_of (Capture job) = uncounted (capture_meaning job.to job.week)
-meaning_of (Stream job) = uncounted (stream_meaning job.to job.week)
-meaning_of (Rinex to) = uncounted (convert_meaning rinex4 (target_of_file to))
-meaning_of (Rinex3 to) = uncounted (convert_meaning rinex3 (target_of_file to))
-meaning_of (SendRinex week) = uncounted (send_meaning rinex4 week)
-meaning_of (SendRinex3 week) = uncounted (send_meaning rinex3 week)
-meaning_of (Merge words) = uncounted (merge_meaning words)
-meaning_of Cover = uncounted cover_meaning
-meaning_of (Seed job) = uncounted (seed_meaning job.to job.seed job.sats job.week)
+meaning_of job = uncounted (done_of job)
 
 -- a generated capture has 1 to 32 satellites
 abbrev pub HasSats : Job → Type 0

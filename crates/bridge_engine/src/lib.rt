@@ -25,6 +25,7 @@
 #![tactic(auto)]
 
 mod command;
+mod done;
 mod job;
 mod laws;
 mod options;
@@ -34,9 +35,11 @@ mod table;
 mod values;
 mod word_laws;
 
+pub use crate::done::Done;
 pub use crate::job::{CaptureJob, Job, SeedJob, StreamJob, job_of};
 pub use crate::laws::{captures_are_told, words_give_one_job};
 pub use crate::options::{Found, options_of};
+pub use crate::run::run_job;
 pub use crate::statuses::bridge;
 pub use crate::values::is_date;
 pub use crate::word_laws::{
@@ -47,5 +50,5 @@ pub use nav_files::{
     MergeCounts, RinexCounts, RinexTo, run_cover, run_merge, run_rinex, run_rinex3, send_rinex,
     send_rinex3,
 };
-pub use one_run::BridgeFault;
+pub use one_run::{BridgeFault, Status};
 pub use streams::{FrameCounts, StreamCounts, StreamTo, run_frames, run_stream};

@@ -24,7 +24,7 @@ use crate::laws::captures_are_told;
 use crate::run::run_job;
 use capture_log::lines_yield_what_is_heard;
 use nav_io::{Sink, Source};
-use one_run::BridgeFault;
+use one_run::Status;
 use std::alloc::{AllocError, Global};
 
 /// Runs the job that the command-line words ask for, and returns the status.
@@ -90,16 +90,11 @@ pub fn bridge<S: Source, T: Sink, U: Sink>(
     lines_yield_what_is_heard();
     captures_are_told();
     match job_of(alloc, words) {
-        Err(AllocError) => 6,
-        Ok(None) => 2,
-        Ok(Some(job)) => match run_job(alloc, &job, input, output, report) {
-            Ok(()) => 0,
-            Err(BridgeFault::ReadFault) => 3,
-            Err(BridgeFault::WriteFault) => 4,
-            Err(BridgeFault::NotThisForm) => 5,
-            Err(BridgeFault::NoMemory) => 6,
-            Err(BridgeFault::ReportFault) => 7,
-            Err(BridgeFault::TooLong) => 8,
-        },
+        Err(AllocError) => Status::NoMemory.number(),
+        Ok(None) => Status::NoJob.number(),
+        Ok(Some(job)) => {
+            let ended = run_job(alloc, &job, input, output, report);
+            Status::of(&ended).number()
+        }
     }
 }

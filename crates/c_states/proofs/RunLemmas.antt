@@ -1,8 +1,7 @@
 -- What a run says of a piece and of the end, as its job says it.
 use Rattle.std.proofs.Common.{◌≡◌, ◌≢◌, inl, inr, ℕ, ◌+◌, ◌^◌, ◌≤◌, List, [], ◌++◌, length, sym, ap, ◌∙◌, subst, arith, length-append}
-use Rattle.std.specs.Prelude.{Option, None, Some, IfSome, Result, Ok, Err, IfErr, OnErr, OnOk}
+use Rattle.std.specs.Prelude.{Option, None, Some, option_map, IfSome, Result, Ok, Err, IfErr, OnErr, OnOk}
 use Rattle.nav_io.specs.Prefix.{IsPrefix}
-use Rattle.one_run.specs.Ends.{any_count}
 use Rattle.one_run.specs.declared.fault.BridgeFault.{BridgeFault}
 use Rattle.one_run.specs.declared.fault.BridgeFault.TheVariants.{NotThisForm, ReadFault, TooLong}
 use Rattle.outlets.specs.Targets.{prefix_text, item_text}
@@ -15,6 +14,8 @@ use Rattle.streams.specs.Pushed.{IsCutShort, IsPushFault, IsPushed, IsWhole, Str
 use Rattle.streams.specs.Streams.{flushed_output_by, flushed_readings, readings_report, stream_output_by, stream_report}
 use Rattle.streams.specs.Targets.{target_of_stream}
 use Rattle.bridge_engine.specs.Meanings.{meaning_of}
+use Rattle.bridge_engine.specs.declared.done.Done.{Done}
+use Rattle.bridge_engine.specs.declared.done.Done.TheVariants as dones
 use Rattle.bridge_engine.specs.declared.job.CaptureJob.{CaptureJob}
 use Rattle.bridge_engine.specs.declared.job.Job.{Job}
 use Rattle.bridge_engine.specs.declared.job.Job.TheVariants as jobs
@@ -74,6 +75,10 @@ flushed_by run job bytes output report is = absurd is
 
 -- ---- a capture's run
 
+-- whether there are counts, as a meaning without counts says it
+abbrev forgotten : Option CaptureCounts → Option (Unit {0})
+forgotten counts = option_map (λ (done : Done). tt) (option_map dones.Capture counts)
+
 cut_capture : (run : CaptureRunState) (job : CaptureJob) (bytes whole output report : List ℕ) (fault : BridgeFault) → run.to ≡ target_of job.to → run.week ≡ job.week
     → IsCaptureCut run.to run.week bytes whole (Some []) (Some output) (Some []) (Some report) fault → IsCut (jobs.Capture job) bytes whole output report fault
 cut_capture run job bytes whole output report fault to week cut =
@@ -82,8 +87,8 @@ cut_capture run job bytes whole output report fault to week cut =
     let rep : cut.report.0 ≡ report = sym cut.report.2 in
     record {
       read = λ e. subst (CutSays run.week whole) e cut.says;
-      form = λ e. ap (λ (w : Option ℕ). any_count (counts_in (capture_of w whole))) (sym week)
-          ∙ ap (λ c. any_count (counts_in c)) (subst (CutSays run.week whole) e cut.says);
+      form = λ e. ap (λ (w : Option ℕ). forgotten (counts_in (capture_of w whole))) (sym week)
+          ∙ ap (λ c. forgotten (counts_in c)) (subst (CutSays run.week whole) e cut.says);
       long = λ e. subst (CutSays run.week whole) e cut.says;
       least = subst (λ (l : List ℕ). IsPrefix l output) (of_job (λ t w. flushed_output t w bytes))
           (subst (λ (l : List ℕ). IsPrefix (flushed_output run.to run.week bytes) l) out cut.output.no_less);

@@ -1,12 +1,12 @@
 -- What follows from how a run ended.
 use Rattle.std.proofs.Common.{◌≡◌, ◌⊎◌, inl, inr, ◌^◌, ◌<◌, ◌≤◌, ℕ, Bool, false, true, List, ◌++◌, length, Option, None, Some, Result, Ok, Err, refl, sym, ap, subst, ◌∙◌, arith, append-nil, length-append}
-use Rattle.std.specs.Prelude.{IfSome, IfOk, IsSome, IsOk, IsErr, IsErrOf, OnOk, MatchResult}
+use Rattle.std.specs.Prelude.{IfSome, IfOk, IsSome, IsOk, IsErr, IsErrOf, OnOk}
 use Rattle.std.specs.Io.KnownBytes.{Appends, Consumes, IsAtEnd}
 use Rattle.nav_io.specs.Causes.{Rose}
 use Rattle.one_run.specs.declared.fault.BridgeFault.{BridgeFault}
 use Rattle.one_run.specs.declared.fault.BridgeFault.TheVariants.{ReadFault, WriteFault, ReportFault, NotThisForm, TooLong, NoMemory}
 use Rattle.one_run.specs.Runs.{Accepts, Broke, Done, Ended, Leaves, Meaning, Says, World, bytes_for}
-use Rattle.one_run.specs.Ends.{EndedBy, any_count, fault_status, status_of, uncounted}
+use Rattle.one_run.specs.Ends.{EndedBy, fault_status, status_of}
 
 -- ---- known bytes
 
@@ -115,61 +115,6 @@ complete_of {C = C} m b a r ended = if_some _ _ (λ bytes is. by_end r ended byt
 pub broke_by : {C S T U : Type 0} (m : Meaning C) (b a : World S T U) (r : Result C BridgeFault) (fault : BridgeFault) → Ended m b a r → IsErrOf r fault
     → Broke m b a fault
 broke_by m b a r fault ended is = subst (Ended m b a) is ended
-
--- ---- whatever is counted
-
-any_some : {C : Type 0} (o : Option C) → IsSome o → IsSome (any_count o)
-any_some None some = absurd (let no : false ≡ true = some in cc)
-any_some (Some counts) some = refl
-
-any_accepts : {C : Type 0} (counts : List ℕ → Option C) (o : Option (List ℕ)) → IfSome o (λ bytes. IsSome (counts bytes))
-    → IfSome o (λ bytes. IsSome (any_count (counts bytes)))
-any_accepts counts None all = tt
-any_accepts counts (Some bytes) some = any_some (counts bytes) some
-
-any_refuses : {C : Type 0} (counts : List ℕ → Option C) (o : Option (List ℕ)) → IfSome o (λ bytes. counts bytes ≡ None)
-    → IfSome o (λ bytes. any_count (counts bytes) ≡ None)
-any_refuses counts None all = tt
-any_refuses counts (Some bytes) none = ap any_count none
-
-any_says : {C S T U : Type 0} (m : Meaning C) (taken : List ℕ) (b a : World S T U) (fault : BridgeFault) → Says m taken b a fault → Says (uncounted m) taken b a fault
-any_says m taken b a ReadFault says = says
-any_says m taken b a WriteFault says = (says.0, any_accepts m.counts _ says.1)
-any_says m taken b a ReportFault says = (says.0, says.1, any_accepts m.counts _ says.2)
-any_says m taken b a NotThisForm says = (ap any_count says.0, any_refuses m.counts _ says.1, says.2, says.3)
-any_says m taken b a TooLong says = says
-any_says m taken b a NoMemory says = (says.0, any_accepts m.counts _ says.1)
-
-any_done : {C S T U : Type 0} (m : Meaning C) (b a : World S T U) (counts : C) → Done m b a counts → Done (uncounted m) b a tt
-any_done m b a counts done = record {
-  taken = done.taken;
-  consumes = done.consumes;
-  end = done.end;
-  fits = done.fits;
-  counted = ap any_count done.counted;
-  text = done.text;
-  told = done.told;
-  leaves = record { unread = done.leaves.unread; silent = done.leaves.silent };
-  reads = done.reads;
-  writes = done.writes;
-  reports = done.reports;
-}
-
-any_broke : {C S T U : Type 0} (m : Meaning C) (b a : World S T U) (fault : BridgeFault) → Broke m b a fault → Broke (uncounted m) b a fault
-any_broke m b a fault broke = record {
-  taken = broke.taken;
-  consumes = broke.consumes;
-  text = broke.text;
-  told = broke.told;
-  leaves = record { unread = broke.leaves.unread; silent = broke.leaves.silent };
-  says = any_says m broke.taken b a fault broke.says;
-}
-
--- a run that ended as another did, without what was counted
-pub ended_as : {C S T U : Type 0} (m : Meaning C) (b a : World S T U) (run : Result C BridgeFault) (result : Result (Unit {0}) BridgeFault)
-    → MatchResult run (λ counts. result ≡ Ok tt) (λ fault. result ≡ Err fault) → Ended m b a run → Ended (uncounted m) b a result
-ended_as m b a (Ok counts) result is done = subst (Ended (uncounted m) b a) (sym is) (any_done m b a counts done)
-ended_as m b a (Err fault) result is broke = subst (Ended (uncounted m) b a) (sym is) (any_broke m b a fault broke)
 
 -- ---- by its exit status
 

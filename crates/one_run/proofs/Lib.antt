@@ -1,4 +1,5 @@
 mod Digits
 pub mod Facts
+pub mod Givings
 pub mod Prefixes
 pub mod Surface

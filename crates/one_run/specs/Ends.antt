@@ -1,25 +1,38 @@
 -- Runs without regard to what they count, and their exit status.
-use Rattle.std.specs.Prelude.{◌≡◌, ℕ, Bool, List, Option, None, Some, Result, Ok, Err}
+use Rattle.std.specs.Prelude.{◌≡◌, ℕ, Bool, List, Option, option_map, Result, Ok, Err}
 use Rattle.one_run.specs.declared.fault.BridgeFault.{BridgeFault}
 use Rattle.one_run.specs.declared.fault.BridgeFault.TheVariants.{ReadFault, WriteFault, ReportFault, NotThisForm, TooLong, NoMemory}
+use Rattle.one_run.specs.declared.status.Status.{Status}
+use Rattle.one_run.specs.declared.status.Status.TheVariants as statuses
 use Rattle.one_run.specs.Runs.{Ended, Meaning, World, world}
 
--- whether there are counts
-abbrev pub any_count : {C : Type 0} → Option C → Option (Unit {0})
-any_count None = None
-any_count (Some counts) = Some tt
-
--- the same meaning without what is counted
-abbrev pub uncounted : {C : Type 0} → Meaning C → Meaning (Unit {0})
-uncounted m = record {
+-- the same meaning, with what a function reads of its counts
+abbrev pub giving : {C D : Type 0} → (C → D) → Meaning C → Meaning D
+giving f m = record {
   reads = m.reads;
   reports = m.reports;
   memory = m.memory;
-  counts = λ bytes. any_count (m.counts bytes);
+  counts = λ bytes. option_map f (m.counts bytes);
   whole = m.whole;
   least = m.least;
   flushed = m.flushed;
 }
+
+-- the same meaning without what is counted
+abbrev pub uncounted : {C : Type 0} → Meaning C → Meaning (Unit {0})
+uncounted m = giving (λ counts. tt) m
+
+-- the number of an exit status
+abbrev pub number_of : Status → ℕ
+number_of statuses.Done = 0
+number_of statuses.NoJob = 2
+number_of statuses.ReadFault = 3
+number_of statuses.WriteFault = 4
+number_of statuses.NotThisForm = 5
+number_of statuses.NoMemory = 6
+number_of statuses.ReportFault = 7
+number_of statuses.TooLong = 8
+number_of statuses.NoText = 9
 
 -- the exit status of a run that a fault ended
 abbrev pub fault_status : BridgeFault → ℕ
@@ -30,8 +43,8 @@ fault_status NoMemory = 6
 fault_status ReportFault = 7
 fault_status TooLong = 8
 
--- the exit status of a run with this result
-abbrev pub status_of : Result (Unit {0}) BridgeFault → ℕ
+-- the exit status of a run with this result, whatever it counts
+abbrev pub status_of : {C : Type 0} → Result C BridgeFault → ℕ
 status_of (Ok counts) = 0
 status_of (Err fault) = fault_status fault
 

@@ -1,6 +1,6 @@
 //! What all runs share: their contract, the lines of report and counts, and why a run ends early.
 //!
-//! - [`BridgeFault`] is why a run ended before it was done;
+//! - [`BridgeFault`] is why a run ended before it was done, [`Status`] the exit status of a program;
 //! - [`report_text`] is a line of a report, and [`append_count`] appends a line of counts;
 //! - [`Text`] is a short text in a buffer of fixed size; no memory is allocated.
 //!
@@ -17,8 +17,10 @@
 
 mod fault;
 mod report;
+mod status;
 mod text;
 
 pub use crate::fault::BridgeFault;
 pub use crate::report::{append_count, report_prefix, report_text};
+pub use crate::status::Status;
 pub use crate::text::{ROOM, Text, append, append_decimal, append_hex};
