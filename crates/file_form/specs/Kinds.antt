@@ -1,6 +1,7 @@
 -- The form of a file, from its first bytes.
-use Rattle.std.specs.Prelude.{◌==◌, nat_eq, nat_lt, ◌&&◌, ℕ, Bool, if◌then◌else◌, List, [], ◌∷◌, length, take, drop, codes, slice_index}
+use Rattle.std.specs.Prelude.{◌==◌, nat_eq, nat_lt, ◌&&◌, ℕ, Bool, true, false, if◌then◌else◌, List, [], ◌∷◌, length, take, drop, codes, slice_index, Option, unwrap_or}
 use Rattle.std.specs.List.{starts_with}
+use Rattle.file_form.specs.Units.{first_unit}
 use Rattle.file_form.specs.declared.Kind.{Kind}
 use Rattle.file_form.specs.declared.Kind.TheVariants.{Empty, Capture1, Capture2, Rinex4, Rinex3, Rinex2, Observations, Hatanaka, OtherRinex, Stream, Ubx, Sbf, Nmea, Gzip, Compress, Zip, Marked, Unknown}
 
@@ -80,6 +81,24 @@ or_else Marked kind = Marked
 unfoldable pub prefix_kind : List ℕ → Kind
 prefix_kind prefix = if length prefix == 0 then Empty else or_else (binary_kind prefix) (text_kind prefix)
 
--- The form of a file with these bytes.
+-- what a file tells by its first line or signature alone, whatever follows: a capture, a file of RINEX, or one compressed by gzip
+abbrev pub is_head : Kind → Bool
+is_head Capture1 = true
+is_head Capture2 = true
+is_head Rinex4 = true
+is_head Rinex3 = true
+is_head Rinex2 = true
+is_head Observations = true
+is_head Hatanaka = true
+is_head OtherRinex = true
+is_head Gzip = true
+is_head kind = false
+
+-- the form by what the first 80 bytes tell, and by the first whole unit
+abbrev pub told_by : Kind → Option Kind → Kind
+told_by head unit = if is_head head then head else unwrap_or unit head
+
+-- The form of a file with these bytes: that of its head; else that of the first whole unit in the first 65,536 bytes; and where there
+-- is none what the first 80 bytes tell.
 unfoldable pub kind_of : List ℕ → Kind
-kind_of bytes = prefix_kind (take 80 bytes)
+kind_of bytes = told_by (prefix_kind (take 80 bytes)) (first_unit (take 65536 bytes))

@@ -1,3 +1,4 @@
+pub mod Units
 pub mod Kinds
 pub mod Table
 pub mod Plans

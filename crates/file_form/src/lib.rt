@@ -1,8 +1,10 @@
 //! The form of a file, told by its first bytes, the table of conversions, and why a file is not
 //! converted.
 //!
-//! - [`kind_of`], the form of a file. It looks at no more than 80 bytes, so the first 80 bytes of a
-//!   file tell the same form as the whole file ([`first_bytes_decide`]);
+//! - [`kind_of`], the form of a file: that of its first line or signature, or else of the first whole
+//!   unit in its first 65,536 bytes: a UBX message, an SBF block or an RTCM 3 frame of right
+//!   checksum. These bytes tell the same form as the whole file ([`first_bytes_decide`]);
+//! - [`look`], the form of a source, of which no more is looked at than decides it;
 //! - [`form_of`], the form under which a file is read; [`row_of`], which options its conversion to
 //!   a [`Target`] takes, and [`week_given`], the week that it is given; [`is_copied`], whether what
 //!   is made is what is read;
@@ -14,23 +16,32 @@
 //! ```
 #![tactic(auto)]
 
-ghost use Rattle.std.specs.Prelude.{◌≡◌, ◌≤◌, ℕ, List, take, drop, nat_eq, nat_lt};
+ghost use Rattle.std.specs.Prelude.{◌≡◌, ◌≤◌, ◌++◌, ℕ, List, length, take, drop, nat_eq, nat_lt};
+ghost use Rattle.std.specs.Prelude.{IfSome};
 ghost use Rattle.std.specs.List.{starts_with};
-ghost use Rattle.file_form.specs.Kinds.{kind_of, prefix_kind, binary_kind, text_kind};
+ghost use Rattle.file_form.specs.Kinds.{kind_of, is_head, prefix_kind, binary_kind, text_kind};
+ghost use Rattle.file_form.specs.Units.{IsPast};
 ghost use Rattle.file_form.specs.Kinds.{rinex_kind, version_of, first_char, stands_at};
 
 mod laws;
+mod looking;
 mod plan;
 mod stops;
 mod table;
+mod units;
 
-pub use crate::laws::first_bytes_decide;
+pub use crate::laws::{a_frame_tells_a_stream, first_bytes_decide};
+pub use crate::looking::look;
 pub use crate::plan::{form_of, is_copied, week_given};
 pub use crate::stops::{Stop, stopped_by};
 pub use crate::table::{Row, Target, WeekRule, row_of};
+use crate::units::find_unit;
 
-/// How many bytes tell a file's form: the first line of a RINEX file.
-pub const LOOKED_AT: usize = 80;
+/// How many bytes of a file are looked at for its form, at most.
+pub const LOOKED_AT: usize = 65_536;
+
+// How many bytes tell a head: the first line of a RINEX file.
+const HEAD: usize = 80;
 
 /// The form of a file.
 #[derive(Clone, Copy)]
@@ -73,12 +84,60 @@ pub enum Kind {
     Unknown,
 }
 
-/// The form of a file that begins with these bytes.
+/// The form of a file that begins with these bytes: that of its head, a capture, a file of RINEX or
+/// one compressed by gzip; else that of the first whole unit in its first 65,536 bytes, a UBX
+/// message, an SBF block or an RTCM 3 frame of right checksum; else what the first 80 bytes tell.
 #[tactic(auto, using(std::proofs::lemmas::List::take_min), unfolding(crate::specs::Kinds::kind_of))]
 pub fn kind_of(bytes: &[u8]) -> Kind
     ensures { result ≡ kind_of bytes.now }
 {
-    prefix_kind(&bytes[..LOOKED_AT.min(bytes.len())])
+    let head = prefix_kind(&bytes[..HEAD.min(bytes.len())]);
+    if is_head(head) {
+        return head;
+    }
+    let first = &bytes[..LOOKED_AT.min(bytes.len())];
+    find_unit(first, 0, false).1.unwrap_or(head)
+}
+
+/// The form of a file that begins with these bytes, where they decide it, whatever bytes follow. No
+/// whole unit begins before `place`, which is moved on: each place is looked at once.
+pub fn kind_so_far(prefix: &[u8], place: &mut usize) -> Option<Kind>
+    requires few { length prefix.now ≤ 65536 }
+    requires within { place.old ≤ length prefix.now }
+    requires past { IsPast prefix.now place.old }
+    ensures kind { IfSome result (λ kind.
+        (following : List ℕ) → kind ≡ kind_of (prefix.now ++ following)) }
+    ensures within { place.new ≤ length prefix.now }
+    ensures past { IsPast prefix.now place.new }
+{
+    if prefix.len() < HEAD || prefix.len() == LOOKED_AT {
+        return None;
+    }
+    let head = prefix_kind(&prefix[..HEAD]);
+    if is_head(head) {
+        return Some(head);
+    }
+    let (past, unit) = find_unit(prefix, *place, true);
+    *place = past;
+    unit
+}
+
+// Whether a file tells this form by its first line or signature alone.
+fn is_head(kind: Kind) -> bool
+    ensures { result ≡ is_head kind }
+{
+    match kind {
+        Kind::Capture1
+        | Kind::Capture2
+        | Kind::Rinex4
+        | Kind::Rinex3
+        | Kind::Rinex2
+        | Kind::Observations
+        | Kind::Hatanaka
+        | Kind::OtherRinex
+        | Kind::Gzip => true,
+        _ => false,
+    }
 }
 
 // The form that the first bytes tell.

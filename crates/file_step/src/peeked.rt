@@ -1,8 +1,8 @@
-//! A source whose first bytes were peeked at.
+//! A source whose first bytes can be looked at.
 
-ghost use Rattle.std.specs.Prelude.{◌≡◌, ◌<◌, ◌≤◌};
-ghost use Rattle.std.specs.Prelude.{◌⊎◌, [], length, take, drop};
-ghost use Rattle.std.specs.Prelude.{IsTrue, IsOk, IfOk, IfErr, OnOk, IfSome, MatchResult};
+ghost use Rattle.std.specs.Prelude.{◌≡◌, ◌<◌, ◌≤◌, ℕ, List, Option};
+ghost use Rattle.std.specs.Prelude.{◌⊎◌, ◌++◌, [], length, take, drop};
+ghost use Rattle.std.specs.Prelude.{IsTrue, IsOk, IfOk, IfErr, OnOk, MatchResult};
 ghost use Rattle.std.specs.Io.KnownBytes.{Consumes, IsAtEnd, Keeps};
 ghost use Rattle.nav_io.specs.Causes.{HasCause, Rose};
 
@@ -52,19 +52,27 @@ impl<S: Source> Peeked<S> {
         }
     }
 
-    /// Looks at the first bytes, so many at most: fewer only where there are no more.
+    /// Looks further, by one read: how many bytes it gave, none only at the end. So many are looked
+    /// at in all, at most.
     ///
     /// # Errors
     ///
     /// The source inside has failed, or there was no memory: bytes may be lost then.
-    pub fn look(&mut self, most: usize) -> Result<(), PeekFault>
-        requires { self.old.prefix.items ≡ [] }
+    pub fn look_on(&mut self, most: usize) -> Result<usize, PeekFault>
+        requires { length self.old.prefix.items < most }
 
         // No byte is lost.
         ensures left { OnOk result (Keeps (⟦<Peeked<S> as Source>⟧.left self.old)
             (⟦<Peeked<S> as Source>⟧.left self.new)) }
-        ensures prefix { OnOk result (IfSome (S.left self.old.source)
-            (λ bytes. self.new.prefix.items ≡ take most bytes)) }
+
+        // What was taken and looked at is followed by what was read.
+        ensures takes { OnOk result ((known : Option (List ℕ))
+            → Consumes known (S.left self.old.source) self.old.prefix.items
+            → Consumes known (S.left self.new.source) self.new.prefix.items) }
+        ensures grows { IfOk result (λ count. (piece : List ℕ) × (length piece ≡ count)
+            × (self.new.prefix.items ≡ self.old.prefix.items ++ piece)) }
+        ensures most { OnOk result (length self.new.prefix.items ≤ most) }
+        ensures end { IfOk result (λ count. count ≡ 0 → IsAtEnd (S.left self.new.source)) }
 
         // It has failed as often, and a look fails only where a read of the source does.
         ensures faults { OnOk result
@@ -75,7 +83,14 @@ impl<S: Source> Peeked<S> {
             (λ _. IsTrue (S.never_fails self.new.source))
             (λ fault. fault ≡ PeekFault.NoMemory) }
     {
-        fill(&mut self.source, &mut self.prefix, most)
+        let mut piece = [0; 4096];
+        match read_part(&mut self.source, &mut piece, most - self.prefix.len()) {
+            Ok(count) => {
+                self.prefix.extend_from_slice(&piece[..count])?;
+                Ok(count)
+            }
+            Err(Failed) => Err(PeekFault::ReadFault),
+        }
     }
 
     /// The bytes that were looked at.
@@ -124,30 +139,6 @@ impl<S: Source> Source for Peeked<S> {
         self.place += count;
         Ok(count)
     }
-}
-
-// Reads until `most` bytes are there, or the source is at its end.
-fn fill<S: Source>(source: &mut S, prefix: &mut Vec<u8>, most: usize) -> Result<(), PeekFault>
-    requires { prefix.old.items ≡ [] }
-    ensures bytes { OnOk result (Consumes (S.left source.old) (S.left source.new)
-        prefix.new.items) }
-    ensures prefix { OnOk result (IfSome (S.left source.old) (λ bytes.
-        prefix.new.items ≡ take most bytes)) }
-    ensures faults { OnOk result (S.faults source.new ≡ S.faults source.old) }
-    ensures cause { IfErr result (λ fault. (fault ≡ PeekFault.NoMemory)
-        ⊎ Rose (S.faults source.old) (S.faults source.new)) }
-    ensures never { IsTrue (S.never_fails source.old) → MatchResult result
-        (λ _. IsTrue (S.never_fails source.new)) (λ fault. fault ≡ PeekFault.NoMemory) }
-{
-    let mut piece = [0; 80];
-    while prefix.len() < most {
-        match read_part(source, &mut piece, most - prefix.len()) {
-            Ok(0) => return Ok(()),
-            Ok(count) => prefix.extend_from_slice(&piece[..count])?,
-            Err(Failed) => return Err(PeekFault::ReadFault),
-        }
-    }
-    Ok(())
 }
 
 // Reads at most `most` bytes into the start of the piece.

@@ -1,4 +1,3 @@
-pub mod Seen
 pub mod Ended
 pub mod Asking
 mod JobReads

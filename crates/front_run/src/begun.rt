@@ -10,12 +10,11 @@ ghost use Rattle.front_run.specs.Steps.{IsBegun, IsLack, IsStopped};
 ghost use Rattle.front_run.specs.Tasks.{IsReady};
 
 use crate::ends::{Outcome, Sourced, Told};
-use crate::looking::look;
 use crate::plans::Plan;
 use crate::reading::{Input, reading_of};
 use crate::tasks::{Task, TaskRun, ask};
 use bridge_engine::words_give_one_job;
-use file_form::{Kind, Stop};
+use file_form::{Kind, Stop, look};
 use file_step::{PeekFault, Peeked, Progress};
 use nav_io::{Sink, Source};
 use receiver_log::Refusals;

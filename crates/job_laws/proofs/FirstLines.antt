@@ -1,9 +1,9 @@
 -- The form that the first line of a capture or of a navigation file tells.
-use Rattle.std.proofs.Common.{◌≡◌, ◌⊎◌, inl, inr, ◌+◌, ◌<◌, ◌≤◌, ◌==◌, ◌&&◌, ℕ, suc, zero, Bool, true, false, cond, List, [], ◌∷◌, ◌++◌, length, take, drop, get_or, map, codes, bytes_eq, nat_eq, Option, None, Some, refl, sym, ap, subst, ◌∙◌, arith, append_assoc, drop-cons, take-take, nat_le, nat_lt, lit≤}
+use Rattle.std.proofs.Common.{◌≡◌, ◌⊎◌, inl, inr, ◌+◌, ◌<◌, ◌≤◌, ◌==◌, ◌&&◌, ℕ, suc, zero, Bool, true, false, cond, List, [], ◌∷◌, ◌++◌, length, take, drop, get_or, map, codes, bytes_eq, nat_eq, Option, None, Some, refl, sym, ap, subst, ◌∙◌, arith, append_assoc, drop-cons, take-take, nat_le, lit≤}
 use Rattle.std.proofs.lemmas.List.{take-append-drop, take-append-le, get_or_past}
-use Rattle.std.proofs.lemmas.Bool.{and_parts, cases_lt, eqb-true, lt-ltb, ne_eqb}
+use Rattle.std.proofs.lemmas.Bool.{and_parts, cases_lt, eqb-true, ne_eqb}
 use Rattle.std.proofs.lemmas.Slice.Eq.{bytes_eq-Decides}
-use Rattle.std.specs.Prelude.{IsSome, if◌then◌else◌}
+use Rattle.std.specs.Prelude.{IsSome, if◌then◌else◌, unwrap_or}
 use Rattle.std.specs.Cmp.Lexicographic.{pointwise}
 use Rattle.std.specs.List.{starts_with}
 use Rattle.nav_io.specs.Lines.{Line, line_of, lines_by, pieces, with_prefix, without_cr}
@@ -15,9 +15,10 @@ use Rattle.rinex_read.specs.Files.{is_navigation}
 use Rattle.rinex_read.specs.Forms.{is_four, is_version, rinex4}
 use Rattle.rinex_read.specs.Form3.{is_three, rinex3}
 use Rattle.rinex_read.specs.Lines.{columns, lines_of, stands_at}
-use Rattle.file_form.specs.Kinds.{binary_kind, first_char, kind_of, or_else, prefix_kind, rinex_kind, text_kind, version_of}
+use Rattle.file_form.specs.Kinds.{binary_kind, first_char, is_head, kind_of, or_else, prefix_kind, rinex_kind, text_kind, told_by, version_of}
+use Rattle.file_form.specs.Units.{first_unit}
 use Rattle.file_form.specs.declared.Kind.{Kind}
-use Rattle.file_form.specs.declared.Kind.TheVariants.{Capture1, Capture2, Empty, Hatanaka, Observations, OtherRinex, Rinex2, Rinex3, Rinex4, Stream, Unknown}
+use Rattle.file_form.specs.declared.Kind.TheVariants.{Capture1, Capture2, Empty, Hatanaka, Observations, OtherRinex, Rinex2, Rinex3, Rinex4, Unknown}
 
 never : false ≡ true → ⊥
 never e = cc
@@ -87,13 +88,20 @@ filled c more =
     let some : (length (c ∷ more) == 0) ≡ false = ne_eqb (length (c ∷ more)) 0 (λ none. omega (arith, none)) in
     ap (λ (b : Bool). if b then Empty else or_else (binary_kind (c ∷ more)) (text_kind (c ∷ more))) some
 
+-- what the first line tells alone
+by_head : (bytes : List ℕ) (kind : Kind) → prefix_kind (take 80 bytes) ≡ kind → is_head kind ≡ true → kind_of bytes ≡ kind
+unfolding kind_of
+by_head bytes kind told head =
+    ap (λ (k : Kind). told_by k (first_unit (take 65536 bytes))) told
+    ∙ ap (λ (b : Bool). if b then kind else unwrap_or (first_unit (take 65536 bytes)) kind) head
+
 plain_told : (rest : List ℕ) → kind_of (codes "NAVCAP 1" ++ rest) ≡ Capture1
-unfolding kind_of binary_kind text_kind
-plain_told rest = filled 78 (codes "AVCAP 1" ++ take 72 rest)
+unfolding binary_kind text_kind
+plain_told rest = by_head (codes "NAVCAP 1" ++ rest) Capture1 (filled 78 (codes "AVCAP 1" ++ take 72 rest)) refl
 
 week_told : (rest : List ℕ) → kind_of (codes "NAVCAP 2 " ++ rest) ≡ Capture2
-unfolding kind_of binary_kind text_kind
-week_told rest = filled 78 (codes "AVCAP 2 " ++ take 71 rest)
+unfolding binary_kind text_kind
+week_told rest = by_head (codes "NAVCAP 2 " ++ rest) Capture2 (filled 78 (codes "AVCAP 2 " ++ take 71 rest)) refl
 
 -- what begins so
 after : (mark line : List ℕ) → starts_with nat_eq line mark ≡ true → line ≡ mark ++ drop (length mark) line
@@ -262,17 +270,22 @@ kind_by (c ∷ more) digit which long label type version =
     ∙ typed prefix (within 1 20 80 (c ∷ more) (lit≤ tt) ∙ type)
     ∙ ap by_version version_is
 
+version_is_head : (digit : ℕ) → (digit ≡ 51) ⊎ (digit ≡ 52) → is_head (by_version digit) ≡ true
+unfolding by_version
+version_is_head digit (inl is) = subst (λ (d : ℕ). is_head (by_version d) ≡ true) (sym is) refl
+version_is_head digit (inr is) = subst (λ (d : ℕ). is_head (by_version d) ≡ true) (sym is) refl
+
 navigation_told : (line bytes : List ℕ) (digit : ℕ) → (digit ≡ 51) ⊎ (digit ≡ 52) → IsPrefix line bytes → is_navigation line ≡ true
     → first_char (columns 0 9 line) ≡ digit → kind_of bytes ≡ by_version digit
-unfolding kind_of is_navigation
+unfolding is_navigation
 navigation_told line bytes digit which (rest, is) navigation version =
     let parts = and_parts (stands_at 60 (codes "RINEX VERSION / TYPE") line) (stands_at 20 (codes "N") line) navigation in
     let long : 80 ≤ length line = long_line line parts.0 in
     let first : take 80 bytes ≡ take 80 line = ap (take 80) is ∙ take-append-le 80 line rest long in
-    ap prefix_kind first
+    by_head bytes (by_version digit) (ap prefix_kind first
     ∙ kind_by line digit which long (text_at 60 (codes "RINEX VERSION / TYPE") line (omega (arith, long)) parts.0)
     (text_at 20 (codes "N") line (omega (arith, long)) parts.1)
-    (ap first_char (sym (columns_are 9 0 line (omega (arith, long)))) ∙ version)
+    (ap first_char (sym (columns_are 9 0 line (omega (arith, long)))) ∙ version)) (version_is_head digit which)
 
 pub four_told : (line bytes : List ℕ) → IsPrefix line bytes → is_navigation line ≡ true → is_version rinex4 line ≡ true → kind_of bytes ≡ Rinex4
 unfolding is_version by_version
@@ -283,14 +296,3 @@ pub three_told : (line bytes : List ℕ) → IsPrefix line bytes → is_navigati
 unfolding is_version by_version
 three_told line bytes front navigation version =
     navigation_told line bytes 51 (inl refl) front navigation (trimmed (columns 0 9 line) ∙ is_3 (trim_start (columns 0 9 line)) version)
-
--- ---- a stream
-
-pub stream_told : (second : ℕ) (rest : List ℕ) → second < 4 → kind_of (211 ∷ second ∷ rest) ≡ Stream
-unfolding kind_of binary_kind
-stream_told second rest few =
-    let prefix = 211 ∷ second ∷ take 78 rest in
-    let more : nat_lt 1 (length prefix) ≡ true = lt-ltb 1 (length prefix) (omega arith) in
-    filled 211 (second ∷ take 78 rest)
-    ∙ ap (λ (b : Bool). or_else (if b && nat_lt second 4 then Stream else Unknown) (text_kind prefix)) more
-    ∙ ap (λ (b : Bool). or_else (if b then Stream else Unknown) (text_kind prefix)) (lt-ltb second 4 few)

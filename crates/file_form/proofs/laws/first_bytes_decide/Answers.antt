@@ -1,8 +1,11 @@
-use Rattle.std.proofs.Common.{ap}
+use Rattle.std.proofs.Common.{ap, arith, ◌∙◌, take, List, ℕ}
 use Rattle.std.proofs.lemmas.List.{take-take}
-use Rattle.file_form.specs.Kinds.{kind_of, prefix_kind}
+use Rattle.file_form.specs.Kinds.{kind_of, prefix_kind, told_by}
+use Rattle.file_form.specs.Units.{first_unit}
 use Rattle.file_form.proofs.laws.first_bytes_decide.Goals as goal
 
 pub returns : goal.returns
 unfolding kind_of
-returns c = λ n bytes many. ap prefix_kind (take-take 80 n bytes many)
+returns c = λ n bytes many.
+    ap (λ (p : List ℕ). told_by (prefix_kind p) (first_unit (take 65536 (take n bytes)))) (take-take 80 n bytes (omega (arith, many)))
+    ∙ ap (λ (p : List ℕ). told_by (prefix_kind (take 80 bytes)) (first_unit p)) (take-take 65536 n bytes many)

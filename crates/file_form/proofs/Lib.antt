@@ -1,0 +1,3 @@
+mod FirstUnit
+mod FrameForms
+mod Looked
