@@ -1,7 +1,11 @@
-//! Forms of files by their first bytes.
+//! Forms of files by their first bytes, and of logs that are cut.
 
-use file_form::{Kind, kind_of};
+use file_form::{Kind, kind_of, look};
+use file_step::Peeked;
 use file_words::kind_text;
+use nav_io::MemSource;
+use std::alloc::{AllocError, Global};
+use std::test::Fail;
 
 // The first bytes of a file, and what they say.
 struct Prefix {
@@ -142,4 +146,66 @@ fn prefixes_tell_forms(rt: HostRuntime) {
         let read = kind_text(kind_of(prefix.bytes));
         assert_eq!(rt; read, kind_text(prefix.kind), "{}", prefix.name);
     }
+}
+
+// A log: a unit, text that is none, and a unit again.
+struct Log {
+    name: &'static str,
+    bytes: &'static [u8],
+    // the offset of its last unit
+    last: usize,
+    kind: Kind,
+}
+
+static LOGS: [Log; 3] = [
+    // u-blox M8 protocol, UBX-ACK-ACK of CFG-MSG
+    Log {
+        name: "ubx",
+        bytes: b"\xb5\x62\x05\x01\x02\x00\x06\x01\x0f\x38$GPTXT*00\r\n\
+            \xb5\x62\x05\x01\x02\x00\x06\x01\x0f\x38",
+        last: 21,
+        kind: Kind::Ubx,
+    },
+    // a block of number 4011, its CRC by another program
+    Log {
+        name: "sbf",
+        bytes: b"$@\x4f\xdc\xab\x0f\x0c\x00\x01\x02\x03\x04$GPTXT*00\r\n\
+            $@\x4f\xdc\xab\x0f\x0c\x00\x01\x02\x03\x04",
+        last: 23,
+        kind: Kind::Sbf,
+    },
+    // the message 1005 of the standard's example (RTCM 10403.3, 4.2), whose sixth byte is a preamble
+    Log {
+        name: "rtcm",
+        bytes: b"\xd3\x00\x13\x3e\xd7\xd3\x02\x02\x98\x0e\xde\xef\x34\xb4\xbd\x62\xac\x09\x41\x98\
+            \x6f\x33\x36\x0b\x98$GPTXT*00\r\n\
+            \xd3\x00\x13\x3e\xd7\xd3\x02\x02\x98\x0e\xde\xef\x34\xb4\xbd\x62\xac\x09\x41\x98\
+            \x6f\x33\x36\x0b\x98",
+        last: 36,
+        kind: Kind::Stream,
+    },
+];
+
+// Whether these bytes tell this form, all at once and as a source that gives three at a time.
+fn is_told(alloc: Global, bytes: &[u8], kind: Kind) -> Result<bool, AllocError> {
+    let source = MemSource::new(bytes.to_vec(alloc)?, [3; 32].to_vec(alloc)?, Vec::new(alloc));
+    let mut peeked = Peeked::new(alloc, source);
+    let Ok(looked) = look(None, &mut peeked) else {
+        return Ok(false);
+    };
+    let text = kind_text(kind);
+    Ok(kind_text(kind_of(bytes)) == text && kind_text(looked) == text)
+}
+
+#[test]
+fn logs_that_are_cut_tell_forms(rt: HostRuntime) -> Result<(), Fail> {
+    for log in &LOGS {
+        for cut in 0..40 {
+            if cut <= log.last {
+                let rest = &log.bytes[cut.min(log.bytes.len())..];
+                assert!(rt; is_told(rt.alloc(), rest, log.kind)?, "{} from {cut}", log.name);
+            }
+        }
+    }
+    Ok(())
 }

@@ -1,4 +1,4 @@
-use Rattle.std.proofs.Common.{◌≡◌, ℕ, List, ap, sym, take, ◌∙◌}
+use Rattle.std.proofs.Common.{◌≡◌, ℕ, ap, refl, sym, take, ◌∙◌}
 use Rattle.std.proofs.lemmas.List.{take_min}
 use Rattle.file_form.specs.Kinds.{prefix_kind}
 use Rattle.file_form.specs.Units.{first_unit}

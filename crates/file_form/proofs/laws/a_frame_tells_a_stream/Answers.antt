@@ -1,4 +1,4 @@
-use Rattle.std.proofs.Common.{◌≡◌, ◌<◌, ◌∷◌, ◌&&◌, ◌==◌, Bool, false, true, ℕ, List, Option, Some, if◌then◌else◌, ap, arith, length, nat_lt, take, ◌∙◌}
+use Rattle.std.proofs.Common.{◌≡◌, ◌<◌, ◌∷◌, ◌&&◌, ◌==◌, Bool, false, true, ℕ, List, if◌then◌else◌, ap, arith, length, nat_lt, take, ◌∙◌}
 use Rattle.std.proofs.lemmas.Bool.{lt-ltb, ne_eqb}
 use Rattle.file_form.specs.Kinds.{binary_kind, kind_of, or_else, prefix_kind, text_kind, told_by}
 use Rattle.file_form.specs.Units.{first_unit}

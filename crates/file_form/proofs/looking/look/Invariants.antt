@@ -5,8 +5,8 @@ use Rattle.file_form.specs.Units.{IsPast}
 use Rattle.file_form.proofs.looking.look.Given as goal
 
 -- what was taken was looked at, no byte is lost, and no unit begins before the place
-abbrev pub invariant-loop : goal.invariant-loop
-invariant-loop g l = record {
+abbrev pub invariant-loop-input : goal.invariant-loop-input
+invariant-loop-input g l = record {
   takes : Consumes (g.S.Source.left l.fn.input.source) (g.S.Source.left l.input.source) l.input.prefix.items;
   few : length l.input.prefix.items ≤ 65536;
   within : l.place ≤ length l.input.prefix.items;
@@ -16,5 +16,5 @@ invariant-loop g l = record {
       (prepend_known (drop l.input.place l.input.prefix.items) (g.S.Source.left l.input.source));
 }
 
-abbrev pub decreases-loop : goal.decreases-loop
-decreases-loop g l = 65536 - length l.input.prefix.items
+abbrev pub decreases-loop-input : goal.decreases-loop-input
+decreases-loop-input g l = 65536 - length l.input.prefix.items

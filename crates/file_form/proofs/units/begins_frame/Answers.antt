@@ -1,4 +1,5 @@
-use Rattle.std.proofs.Common.{ap, arith, sym, nat_lt}
+use Rattle.std.proofs.Common.{ap, arith, refl, sym, nat_lt}
+use Rattle.std.proofs.lemmas.Bool.{false≢true}
 use Rattle.file_form.proofs.FrameForms.{held_none, held_whole, size_few, size_long, size_other}
 use Rattle.file_form.proofs.units.begins_frame.Goals as goal
 
@@ -15,9 +16,9 @@ returns-then-bytes-size c =
 pub returns-in-Some : goal.returns-in-Some
 returns-in-Some c =
     sym (held_whole c.args.bytes.now c.size_told-size.result (omega arith) c.if-bytes.false c.size_told-size.ensures (omega (arith, c.if-bytes-size.false))
-    (c.in-Some.ensures.whole.0 tt))
+    (c.in-Some.ensures.whole.0 refl))
 
 pub returns-in-None : goal.returns-in-None
 returns-in-None c =
     sym (held_none c.args.bytes.now c.size_told-size.result (omega arith) c.if-bytes.false c.size_told-size.ensures (omega (arith, c.if-bytes-size.false))
-    (λ frame. c.in-None.ensures.whole.1 frame))
+    (λ frame. false≢true (c.in-None.ensures.whole.1 frame)))
