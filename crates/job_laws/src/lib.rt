@@ -7,7 +7,7 @@
 //!
 //! Of the form of a file (`file_form`):
 //!
-//! - [`accepted_bytes_tell_their_form`]: what a job accepts is told as its form by its first bytes.
+//! - [`accepted_bytes_tell_their_form`]: what a job accepts is told as its form by its first line.
 //!
 //! Of the log of a capture (`capture_log`):
 //!

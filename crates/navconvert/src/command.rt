@@ -118,7 +118,7 @@ static OPTIONS: [Row; 12] = [
         parser: ValueParser::Names(&["auto", "capture", "stream", "rinex", "rinex3", "ubx", "sbf"]),
         defaults: &["auto"],
         values: &["FORM"],
-        help: "The form of the files; auto looks at their first bytes",
+        help: "The form of the files; auto looks at what is in them",
     },
     Row {
         name: "to",

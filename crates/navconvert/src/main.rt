@@ -1,7 +1,7 @@
 //! `navconvert` converts files of GNSS broadcast orbits: `navconvert log.ubx` makes a navigation
 //! file of what a receiver logged, and `navconvert -t rtcm station.navcap` frames of RTCM 3.
 //!
-//! The form of each file is told by its first bytes, and the words of `navbridge` for it give its
+//! The form of each file is told by what is in it, and the words of `navbridge` for it give its
 //! job. An output is written as a part beside its name, and gets the name once it is whole:
 //! [`front_run::convert_one`] has the contract. What a file came to is one line on standard error.
 //! The status is that of the first file that failed, as `navbridge` has it.
