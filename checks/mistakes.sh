@@ -51,7 +51,7 @@ all() {
   printf '\037\235\220' > old.Z
   sed 1d station.navcap > cut.navcap
   sed '1s/NAVCAP 2 2295/NAVCAP 1/' station.navcap > first.navcap
-  tail -c +3 ephemerides.rtcm3 > inside.rtcm3
+  tail -c +3 ephemerides.rtcm3 | head -c 40 > inside.rtcm3
   echo old > there.rnx
   echo half > part.rnx.part
   printf '| Mistake | Words | Status | What it says |\n|---|---|---|---|\n'
@@ -81,7 +81,7 @@ all() {
   try "observations" observed.rnx
   try "observations, compact" packed.crx
   try "NMEA" position.nmea
-  try "a stream that begins inside a frame" inside.rtcm3
+  try "a piece of a stream with no whole frame" inside.rtcm3
   try "a capture without its first line" cut.navcap
   try "a stream as a capture" -f capture ephemerides.rtcm3
   try "a capture as RINEX" -f rinex station.navcap
