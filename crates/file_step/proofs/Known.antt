@@ -1,7 +1,7 @@
 -- Known bytes, with those that were looked at in front.
-use Rattle.std.proofs.Common.{◌≡◌, ◌+◌, ◌≤◌, ℕ, List, [], ◌++◌, length, take, drop, Option, None, Some, Result, refl, sym, ap, ◌∙◌, append_assoc}
-use Rattle.std.proofs.lemmas.List.{drop-append-le, drop-drop, take-append-drop}
-use Rattle.std.specs.Io.KnownBytes.{Consumes, Keeps, ReadConsumes, prepend_known}
+use Rattle.std.proofs.Common.{◌≡◌, ◌+◌, ℕ, List, [], ◌++◌, take, drop, Option, None, Some, Result, refl, sym, ap, ◌∙◌, append_assoc}
+use Rattle.std.proofs.lemmas.List.{drop-drop, take-append-drop}
+use Rattle.std.specs.Io.KnownBytes.{Consumes, ReadConsumes, prepend_known}
 
 pub prepend_none : (prefix : List ℕ) (known : Option (List ℕ)) → prefix ≡ [] → prepend_known prefix known ≡ known
 prepend_none prefix None e = refl
@@ -20,19 +20,3 @@ again (Some xs) prefix into place n e =
     ap (λ (s : List ℕ). s ++ xs) (sym (take-append-drop n (drop place prefix)) ∙ ap (λ (s : List ℕ). s ++ drop n (drop place prefix)) (sym e)
     ∙ ap (λ (s : List ℕ). take n into ++ s) (drop-drop n place prefix))
     ∙ append_assoc (take n into) (drop (place + n) prefix) xs
-
-pub more : (known now left : Option (List ℕ)) (prefix piece : List ℕ) → Consumes known now prefix → Consumes now left piece
-    → Consumes known left (prefix ++ piece)
-more None now left prefix piece h k = tt
-more (Some xs) None left prefix piece h k = absurd h
-more (Some xs) (Some ys) None prefix piece h k = k
-more (Some xs) (Some ys) (Some zs) prefix piece h k = h ∙ ap (λ (s : List ℕ). prefix ++ s) k ∙ sym (append_assoc prefix piece zs)
-
--- a look further loses no byte
-pub looked_on : (place : ℕ) (prefix piece : List ℕ) (known left : Option (List ℕ)) → place ≤ length prefix → Consumes known left piece
-    → Keeps (prepend_known (drop place prefix) known) (prepend_known (drop place (prefix ++ piece)) left)
-looked_on place prefix piece None left within h = tt
-looked_on place prefix piece (Some xs) None within h = h
-looked_on place prefix piece (Some xs) (Some ys) within h =
-    ap (λ (s : List ℕ). s ++ ys) (drop-append-le place prefix piece within) ∙ append_assoc (drop place prefix) piece ys
-    ∙ ap (λ (s : List ℕ). drop place prefix ++ s) (sym h)
