@@ -1,8 +1,8 @@
 -- The first whole unit of bytes that more bytes follow.
-use Rattle.std.proofs.Common.{◌≡◌, ◌⊎◌, ℕ, ◌+◌, ◌-◌, ◌<◌, ◌≤◌, ◌&&◌, ◌||◌, nat_lt, Bool, true, false, if◌then◌else◌, List, [], ◌∷◌, ◌++◌, Option, None, Some, IfSome, unwrap_or, length, take, drop, refl, sym, ap, subst, ◌∙◌, inl, inr, arith, append-nil, append_assoc}
+use Rattle.std.proofs.Common.{◌≡◌, ◌⊎◌, ℕ, ◌+◌, ◌-◌, ◌<◌, ◌≤◌, ◌&&◌, ◌||◌, nat_lt, Bool, true, false, if◌then◌else◌, List, [], ◌∷◌, ◌++◌, Option, None, Some, IfSome, unwrap_or, length, take, drop, refl, sym, ap, subst, ◌∙◌, inl, inr, arith, append-nil}
 use Rattle.std.proofs.Math.Seq.{take-append-add}
 use Rattle.std.proofs.lemmas.Bool.{or_parts, false≢true, lt-ltb}
-use Rattle.std.proofs.lemmas.List.{drop_all, drop_more, drop-append-le, take-append-le}
+use Rattle.std.proofs.lemmas.List.{drop_all, drop_more, take-append-le}
 use Rattle.receiver_frames.specs.Headings.{Heading, IsHeading, format_of, opens_by, size_by}
 use Rattle.receiver_frames.specs.Messages.{IsFormat}
 use Rattle.receiver_frames.specs.SbfForm.{sbf}
@@ -127,22 +127,6 @@ same_unit prefix following old place kind few past passed whole =
     let front : take 65536 (prefix ++ following) ≡ prefix ++ more =
     ap (λ (m : ℕ). take m (prefix ++ following)) (sym all) ∙ take-append-add prefix following n in
     sym (ap first_unit front ∙ past more ∙ passed more (λ no. absurd (false≢true (sym no))) ∙ whole more (λ no. absurd (false≢true (sym no))))
-
--- an offset that is past stays so
-pub past_on : (prefix : List ℕ) (old place : ℕ) → IsPast prefix old
-    → ((following : List ℕ) → (true ≡ false → following ≡ []) → first_unit (drop old prefix ++ following) ≡ first_unit (drop place prefix ++ following))
-    → IsPast prefix place
-past_on prefix old place past passed = λ following. past following ∙ passed following (λ no. absurd (false≢true (sym no)))
-
-pub past_begins : (bytes : List ℕ) → IsPast bytes 0
-past_begins bytes = λ following. refl
-
--- and where more bytes come
-pub past_grows : (bytes piece : List ℕ) (place : ℕ) → place ≤ length bytes → IsPast bytes place → IsPast (bytes ++ piece) place
-past_grows bytes piece place within past = λ following.
-    ap first_unit (append_assoc bytes piece following) ∙ past (piece ++ following)
-    ∙ ap first_unit (sym (append_assoc (drop place bytes) piece following)
-    ∙ ap (λ (s : List ℕ). s ++ following) (sym (drop-append-le place bytes piece within)))
 
 -- what bytes tell of a file that begins with them, where a search in them found this unit or none
 pub told_so_far : (prefix : List ℕ) (old place : ℕ) (head : Kind) (unit : Option Kind) → 80 ≤ length prefix → length prefix ≤ 65536
