@@ -1,5 +1,5 @@
 #!/usr/bin/env bash
-# Makes fifty mistakes with navconvert, and prints a table of what each says: that of docs/MISTAKES.md.
+# Makes mistakes with navconvert, and prints a table of what each says: that of docs/MISTAKES.md.
 #
 #   checks/mistakes.sh [--navconvert FILE] [--check]
 #
@@ -24,7 +24,7 @@ try() {
   shift
   for word; do
     case $word in
-      *' '*) words+=" \"$word\"" ;;
+      *' '* | '') words+=" \"$word\"" ;;
       *) words+=" $word" ;;
     esac
   done
@@ -48,12 +48,16 @@ all() {
   # shellcheck disable=SC2016
   printf '$GPGGA,120000.00\n' > position.nmea
   printf 'PK\003\004' > archive.zip
+  printf 'BZh91AY&SY' > packed.bz2
+  printf '\3757zXZ\0\0' > packed.xz
+  printf '#dP2024  1  1  0  0  0.00000000      96 ORBIT IGS20 HLM  IGS\n' > orbits.sp3
+  cat orbits.rnx version3.nav > joined.rnx
   printf '\037\235\220' > old.Z
   sed 1d station.navcap > cut.navcap
   sed '1s/NAVCAP 2 2295/NAVCAP 1/' station.navcap > first.navcap
   tail -c +3 ephemerides.rtcm3 | head -c 40 > inside.rtcm3
   echo old > there.rnx
-  echo half > part.rnx.part
+  mkdir part.rnx.navconvert.part
   printf '| Mistake | Words | Status | What it says |\n|---|---|---|---|\n'
   try "no words"
   try "no file" -t list
@@ -68,6 +72,7 @@ all() {
   try "an option twice" -t list -t count station.navcap
   try "a short option that is none" -x station.navcap
   try "a file that is not there" none.navcap
+  try "an empty name" ""
   try "a folder that is not there" nowhere/station.navcap
   try "a file as a folder" station.navcap/it
   try "a folder" folder
@@ -75,7 +80,11 @@ all() {
   try "a text" notes.txt
   try "a text with a mark in front" marked.rnx
   try "packed by gzip" station.navcap.gz
+  try "packed by gzip, to a list" -t list station.navcap.gz
   try "packed by compress" old.Z
+  try "packed by bzip2" packed.bz2
+  try "packed by xz" packed.xz
+  try "precise orbits" orbits.sp3
   try "an archive" archive.zip
   try "RINEX 2" two.rnx
   try "observations" observed.rnx
@@ -92,7 +101,7 @@ all() {
   try "frames of a capture" -t frames station.navcap
   try "a list of a stream" -t list ephemerides.rtcm3
   try "counts of RINEX" -t count orbits.rnx
-  try "merging RINEX 3" -t merged version3.nav
+  try "RINEX 4 and 3 in one file" -t list joined.rnx
   try "the cover of a capture" -t cover station.navcap
   try "a capture of a capture" -t capture station.navcap
   try "a date as it is written elsewhere" --date 2024-01-01 station.navcap
@@ -104,7 +113,7 @@ all() {
   try "leap seconds with a sign" --leap +18 station.navcap
   try "a week with a sign" --week +2295 station.navcap
   try "an output that is there" -o there.rnx station.navcap
-  try "a part that is there" -o part.rnx station.navcap
+  try "a folder in the place of the part" -o part.rnx station.navcap
   try "the input as output" --overwrite -o station.navcap station.navcap
   try "a folder as output, which is not there" -o nowhere/ station.navcap
   try "a device as output" --overwrite -o /dev/null station.navcap

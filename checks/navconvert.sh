@@ -46,17 +46,17 @@ cp "$examples"/{station.navcap,station.rtcm3,ephemerides.rtcm3,station.rnx,versi
 mkdir in out.d
 
 # ---- what is made
-run "a capture to RINEX" 0 "a.rnx: made of 4 items, 2 lines refused" "${date[@]}" -o a.rnx station.navcap
+run "a capture to RINEX" 0 "a.rnx: 2 ephemerides, 2 ionosphere records; 2 lines rejected, 1 line malformed, 1 line late" "${date[@]}" -o a.rnx station.navcap
 is_same "a capture to RINEX" a.rnx "$examples/station.rnx"
-is_gone "a capture to RINEX" a.rnx.part
-run "a log to RINEX" 0 "log.rnx: " "${date[@]}" log.ubx
+is_gone "a capture to RINEX" a.rnx.navconvert.part
+run "a log to RINEX" 0 "log.rnx: 2 ephemerides, 1 ionosphere record; nothing rejected, nothing skipped" "${date[@]}" log.ubx
 run "a log to a list" 0 "log.list" -t list log.ubx
 is_same "a log to a list" log.list "$examples/log.list"
 run "a log to its capture" 0 "k.navcap: " -t capture -o k.navcap --report k.report log.ubx
 run "that capture to a list" 0 "k.list" -t list -o k.list k.navcap
 is_same "a log to its capture" k.list "$examples/log.list"
 is_same "the report of a log" k.report "$examples/log.report"
-run "to standard output" 0 "4 items" -t list -o - station.navcap
+run "to standard output" 0 "made of 4 ephemerides and ionosphere records" -t list -o - station.navcap
 is_same "to standard output" out "$examples/station.list"
 run "a stream" 0 "s.nav" -f stream --week 2295 "${date[@]}" -t rinex3 -o s.nav ephemerides.rtcm3
 is_same "a stream" s.nav "$examples/expected/ephemerides.nav"
@@ -64,11 +64,11 @@ run "frames" 0 "written" -f stream -t frames -o f.frames station.rtcm3
 is_same "frames" f.frames "$examples/expected/station.frames"
 run "version 3" 0 "v.rnx" "${date[@]}" -o v.rnx version3.nav
 is_same "version 3" v.rnx "$examples/version3.rnx"
-input=station.navcap run "standard input" 0 "4 items" "${date[@]}" -
+input=station.navcap run "standard input" 0 "-: 2 ephemerides, 2 ionosphere records" "${date[@]}" -
 is_same "standard input" out "$examples/station.rnx"
 run "into a folder, in quiet" 0 - -q -t rtcm -o out.d station.navcap
 is_same "into a folder" out.d/station.rtcm3 "$examples/ephemerides.rtcm3"
-run "a long name" 0 "STAT00CCC_R_20233650200_01H_MN.rnx: made of 4 items" "${date[@]}" --long-name STAT00CCC -o out.d station.navcap
+run "a long name" 0 "STAT00CCC_R_20233650200_01H_MN.rnx: 2 ephemerides, 2 ionosphere records" "${date[@]}" --long-name STAT00CCC -o out.d station.navcap
 is_same "a long name" out.d/STAT00CCC_R_20233650200_01H_MN.rnx "$examples/station.rnx"
 half=$(grep -n "RINEX VERSION / TYPE" "$examples/expected/twice.rnx" | sed -n '2s/:.*//p')
 head -n $((half - 1)) "$examples/expected/twice.rnx" > one.rnx
@@ -79,7 +79,7 @@ run "the cover of several files" 0 "m.cover" -t cover -o m.cover one.rnx two.rnx
 is_same "the cover of several files" m.cover "$examples/merged.cover"
 run "several files to one, of which one is none" 2 "log.ubx: it is" -t merged -o n.rnx one.rnx log.ubx
 is_gone "several files to one, of which one is none" n.rnx
-run "several files to one, of which one is none, by a form that is named" 2 "version3.nav: it is" -f rinex -t merged -o n.rnx one.rnx version3.nav
+run "several files to one, of which one is none, by a form that is named" 2 "log.ubx: it is" -f rinex -t merged -o n.rnx one.rnx log.ubx
 is_gone "several files to one, of which one is none, by a form that is named" n.rnx
 mkfifo once
 run "several files to one, of which one can be read only once" 2 "once: it can be read only once" -t merged -o n.rnx one.rnx once
@@ -138,11 +138,110 @@ grep -q -- --overwrite out || differs "help" "no option"
 run "version" 0 - --version
 run "forms" 0 - --list-forms
 
+# ---- what is skipped
+cp "$examples/rtklib_style.nav" .
+run "other systems in RINEX 4" 0 "skipped: 1 GLONASS, 1 BeiDou, 1 Galileo F/NAV records" "${date[@]}" -o skip.rnx rtklib_style.nav
+run "other systems in RINEX 3" 0 "v.list: made of 2 ephemerides and ionosphere records; skipped: 1 GLONASS, 1 Galileo F/NAV records" -t list -o v.list version3.nav
+cat > other.py << 'END'
+import struct, sys
+def rtcm(number, size):
+    frame = b"\xd3" + struct.pack(">H", size) + struct.pack(">H", number << 4) + bytes(size - 2)
+    crc = 0
+    for byte in frame:
+        crc ^= byte << 16
+        for _ in range(8):
+            crc = crc << 1 ^ (0x1864CFB if crc & 0x800000 else 0)
+    return frame + (crc & 0xffffff).to_bytes(3, "big")
+def ubx(system, signal, words):
+    body = struct.pack("<BBHBBBBBBBB", 2, 0x13, 8 + 4 * words, system, 5, signal, 0, words, 0, 2, 0) + bytes(4 * words)
+    a = b = 0
+    for byte in body:
+        a = a + byte & 255
+        b = b + a & 255
+    return b"\xb5b" + body + bytes([a, b])
+out = sys.stdout.buffer
+if sys.argv[1] == "rtcm":
+    out.write(open("ephemerides.rtcm3", "rb").read())
+    for number, size in [(1020, 45)] * 3 + [(1042, 64), (1045, 62), (1077, 200), (1077, 300), (1044, 61)]:
+        out.write(rtcm(number, size))
+else:
+    out.write(open("log.ubx", "rb").read())
+    for system, signal, words in [(6, 0, 4)] * 4 + [(3, 0, 10), (1, 0, 8), (5, 0, 10), (7, 0, 10), (0, 3, 10), (2, 3, 8)]:
+        out.write(ubx(system, signal, words))
+    out.write(b"\xb5b\x0a\x09\x00\x00\x13\x43")
+END
+python3 other.py rtcm > other.rtcm3
+python3 other.py ubx > other.ubx
+run "other systems in a stream" 0 "skipped: 3 GLONASS, 1 BeiDou, 1 QZSS, 1 Galileo F/NAV, 2 other messages" -t rtcm --week 2295 -o skip.rtcm3 other.rtcm3
+run "other systems in a log" 0 "skipped: 4 GLONASS, 1 BeiDou, 1 QZSS, 1 NavIC, 1 SBAS, 1 GPS CNAV, 1 Galileo F/NAV, 1 other messages" "${date[@]}" -o skip.rnx --overwrite other.ubx
+
+# ---- RINEX 3 that is merged, and joined files
+run "RINEX 3 to RINEX 4" 0 "four.rnx: 2 ephemerides" "${date[@]}" -o four.rnx version3.nav
+run "what merging that gives" 0 "four.merged: 2 ephemerides; 1 record rejected, 2 repeated;" "${date[@]}" -t merged -o four.merged one.rnx four.rnx
+run "RINEX 3 among files that are merged" 0 "three.merged: 2 ephemerides; 1 record rejected, 2 repeated; skipped: 2 GLONASS, 1 BeiDou, 2 Galileo F/NAV records" "${date[@]}" -t merged -o three.merged one.rnx version3.nav
+is_same "RINEX 3 among files that are merged" three.merged four.merged
+run "RINEX 3 that is merged alone" 0 "alone.merged: 2 ephemerides; skipped: 1 GLONASS, 1 Galileo F/NAV records" "${date[@]}" -t merged -o alone.merged version3.nav
+run "the cover of RINEX 3" 0 "three.cover" -t cover -o three.cover version3.nav
+run "the cover of that as RINEX 4" 0 "four.cover" -t cover -o four.cover four.rnx
+is_same "the cover of RINEX 3" three.cover four.cover
+run "the command for RINEX 3 that is merged" 0 - -n "${date[@]}" -t merged -o shown.merged one.rnx version3.nav
+PATH=$PWD/path:$PATH sh ./out 2> said || differs "the command for RINEX 3 that is merged" "it fails"
+is_same "the command for RINEX 3 that is merged" shown.merged four.merged
+input=version3.nav run "RINEX 3 from standard input" 2 "navconvert -o - - < FILE | navconvert -t merged -o OUT -" -t merged -o n.rnx -
+cat one.rnx version3.nav > four_three.rnx
+cat version3.nav one.rnx > three_four.rnx
+cat one.rnx <(sed '1,/END OF HEADER/d' version3.nav) > headless.rnx
+lines=$(wc -l < one.rnx)
+run "RINEX 3 behind RINEX 4" 5 "line $((lines + 1)) begins RINEX 3 in a file of RINEX 4" -t list -o joined.list four_three.rnx
+run "RINEX 3 behind RINEX 4, without its header" 5 "line $((lines + 1)) begins RINEX 3 in a file of RINEX 4" -t list -o joined.list headless.rnx
+run "RINEX 4 behind RINEX 3" 5 "line $(($(wc -l < version3.nav) + 1)) begins RINEX 4 in a file of RINEX 3" -t list -o joined.list three_four.rnx
+is_gone "joined files of two versions" joined.list
+
+# ---- names, numbers
+name=$(printf 'x%.0s' {1..251})
+run "a name of 255 bytes" 0 "${name:0:250}" -t list -o "${name}.abc" station.navcap
+is_same "a name of 255 bytes" "${name}.abc" "$examples/station.list"
+run "a name of 256 bytes" 4 "the name is too long" -t list -o "${name}.abcd" station.navcap
+name=$(printf 'ü%.0s' {1..125})
+run "a name of 255 bytes, not of ASCII" 0 "$name.list" -t list -o "$name.list" station.navcap
+mkdir bad.d
+bad=$(printf 'bad\377.navcap')
+cp station.navcap "$bad"
+run "a name that is not UTF-8" 9 'navconvert: bad\xff.navcap: its name is not UTF-8' -t list -o bad.d "$bad" station.navcap
+is_same "the file after it" bad.d/station.list "$examples/station.list"
+run "a value that is not UTF-8" 9 'bad\xff.navcap is not UTF-8' -t list -o "$bad" station.navcap
+esc=$(printf 'a\033[31m\nb.navcap')
+run "a name with control characters" 3 'a\x1b[31m\x0ab.navcap: there is no such file' "$esc"
+cp station.navcap "$esc"
+run "a name with control characters, which is there" 0 'a\x1b[31m\x0ab.list: made of' -t list "$esc"
+run "a word with control characters" 2 '--a\x1b[31m' "$(printf -- '--a\033[31m')"
+run "an empty name" 3 "navconvert: '': the name of a file is empty" ""
+tried=$((tried + 1)) got=0
+"$navconvert" -t list - <&- > out 2> said || got=$?
+[ "$got" = 3 ] || differs "standard input that is closed" "status $got, not 3"
+grep -qF -- "-: standard input is closed" said || differs "standard input that is closed" "it does not say so"
+run "numbers with leading zeros" 0 "zero.rnx: " "${date[@]}" --leap 018 --week 02295 -o zero.rnx station.navcap
+is_same "numbers with leading zeros" zero.rnx "$examples/station.rnx"
+cp "$examples/station.list" mode.list
+chmod 640 mode.list
+run "an output that is replaced keeps its mode" 0 "mode.list" --overwrite -t list -o mode.list station.navcap
+[ "$(stat -c %a mode.list)" = 640 ] || differs "an output that is replaced keeps its mode" "$(stat -c %a mode.list)"
+for it in list rinex merged; do
+  [ $it = rinex ] && words='' || words="-t $it "
+  run "packed by gzip, to $it" 2 "gzip -dc FILE | navconvert ${words}-o OUT -" -t $it -o g.out <(gzip -c station.navcap)
+done
+printf 'BZh91AY&SY' > packed.bz2
+run "packed by bzip2" 2 "bzip2 -dc FILE | navconvert -t list -o OUT -" -t list packed.bz2
+printf '\3757zXZ\0\0' > packed.xz
+run "packed by xz" 2 "xz -dc FILE" packed.xz
+printf '#dP2024  1  1  0  0  0.00000000      96 ORBIT IGS20 HLM  IGS\n' > orbits.sp3
+run "precise orbits" 2 "it is a file of SP3, of precise orbits; it has no orbits to convert" orbits.sp3
+
 # ---- what is refused
 run "no such file" 3 "none.navcap: there is no such file" none.navcap
 run "a folder" 3 "in: it is a folder" in
 input=in run "a read that fails" 3 "reading it failed after 0 bytes: it is a folder" -t list -o broken.list -
-is_gone "a read that fails" broken.list.part
+is_gone "a read that fails" broken.list.navconvert.part
 cat > hang_up.py << 'END'
 import os, pty, subprocess, sys, tty
 reader, writer = pty.openpty()
@@ -171,7 +270,7 @@ run "an output that is there" 4 "there.rnx is there already" -o there.rnx statio
 run "an output that is replaced" 0 "there.rnx" "${date[@]}" --overwrite -o there.rnx station.navcap
 is_same "an output that is replaced" there.rnx "$examples/station.rnx"
 run "a device" 4 "/dev/null is no file" --overwrite -o /dev/null station.navcap
-run "a name that is too long" 4 "the name is too long" -o "$(printf 'x%.0s' {1..255})" station.navcap
+run "a name that is too long" 4 "the name is too long" -o "$(printf 'x%.0s' {1..256})" station.navcap
 mkdir other same.d
 cp "$examples/three.navcap" other/station.navcap
 for it in "" --overwrite; do
@@ -180,8 +279,15 @@ for it in "" --overwrite; do
   rm same.d/station.rnx
 done
 echo half > part.rnx.part
-run "a part that is there" 4 "part.rnx.part is there" -o part.rnx station.navcap
-[ "$(cat part.rnx.part)" = half ] || differs "a part that is there" "it was changed"
+echo half > part.rnx.navconvert.part
+run "a part that no run holds" 0 "part.rnx: " "${date[@]}" -o part.rnx station.navcap
+is_same "a part that no run holds" part.rnx "$examples/station.rnx"
+is_gone "a part that no run holds" part.rnx.navconvert.part
+[ "$(cat part.rnx.part)" = half ] || differs "a file of another program" "it was changed"
+rm part.rnx
+mkdir part.rnx.navconvert.part
+run "a folder in the place of a part" 4 "part.rnx.navconvert.part is there" -o part.rnx station.navcap
+rmdir part.rnx.navconvert.part
 run "the input as output" 4 "station.navcap is an input itself" --overwrite -o station.navcap station.navcap
 is_same "the input as output" station.navcap "$examples/station.navcap"
 ln station.navcap twin.navcap
@@ -233,10 +339,10 @@ tried=$((tried + 1))
 got=$?
 { [ "$got" = 4 ] && grep -q "too large" said; } || differs "a disk that is full" "status $got"
 is_gone "a disk that is full" full.rnx
-is_gone "a disk that is full" full.rnx.part
+is_gone "a disk that is full" full.rnx.navconvert.part
 tried=$((tried + 1))
 "$navconvert" -t list -o - station.navcap 2> said | true
-[ ! -s said ] || grep -q items said || differs "a reader that has gone" "it says something"
+[ ! -s said ] || grep -q "made of" said || differs "a reader that has gone" "it says something"
 tried=$((tried + 2))
 : > said
 "$navconvert" -t list --report shut.report -o shut.list station.navcap 2>&- || differs "no standard error" "status $?"
@@ -262,7 +368,7 @@ tried=$((tried + 1))
 python3 at_once.py "$navconvert" -t list -o once.list log.ubx || differs "a line that is written at once" "it comes in parts"
 mkfifo pipe
 cat station.navcap > pipe &
-run "a FIFO" 0 "p.list: made of 4 items" -t list -o p.list pipe
+run "a FIFO" 0 "p.list: made of 4 ephemerides and ionosphere records" -t list -o p.list pipe
 wait
 is_same "a FIFO" p.list "$examples/station.list"
 tried=$((tried + 1))
@@ -271,21 +377,37 @@ mkfifo slow
 job=$!
 exec 9> slow
 head -c 1000 station.navcap >&9
-sleep 1
-kill -INT "$job" 2> /dev/null || kill "$job"
-kill "$job" 2> /dev/null
+for ((i = 0; i < 100; i++)); do [ ! -e c.list.navconvert.part ] || break; sleep 0.1; done
+run "a run beside it" 4 "c.list.navconvert.part is there: another run is writing it" -t list -o c.list station.navcap
+run "a run beside it, with leave" 4 "another run is writing it" --overwrite -t list -o c.list station.navcap
+kill -TERM "$job"
 exec 9>&-
 wait "$job"
 is_gone "a run that was cut off" c.list
-[ -e c.list.part ] || differs "a run that was cut off" "no part is there"
-run "the run behind it" 4 "c.list.part is there" -t list -o c.list station.navcap
+[ -e c.list.navconvert.part ] || differs "a run that was cut off" "no part is there"
+run "the run after it" 0 "c.list: made of 4 " -t list -o c.list station.navcap
+is_same "the run after it" c.list "$examples/station.list"
+is_gone "the run after it" c.list.navconvert.part
+tried=$((tried + 1))
+mkfifo late
+"$navconvert" -t list -o named.list late 2> said &
+job=$!
+exec 9> late
+head -c 1000 station.navcap >&9
+for ((i = 0; i < 100; i++)); do [ ! -e named.list.navconvert.part ] || break; sleep 0.1; done
+echo old > named.list
+tail -c +1001 station.navcap >&9
+exec 9>&-
+wait "$job" && differs "a name that is taken meanwhile" "status 0"
+[ "$(cat named.list)" = old ] || differs "a name that is taken meanwhile" "it was replaced"
+is_gone "a name that is taken meanwhile" named.list.navconvert.part
 mkdir many
 for ((i = 0; i < 1000; i++)); do cp station.navcap "many/$i.navcap"; done
-run "a thousand files" 0 "999.list: made of 4 items" -t list many/*.navcap
+run "a thousand files" 0 "999.list: made of 4 " -t list many/*.navcap
 [ "$(find many -name '*.list' | wc -l)" = 1000 ] || differs "a thousand files" "not all are there"
 cp long.navcap grows.navcap
 (for ((i = 0; i < 20; i++)); do cat much; done >> grows.navcap) &
-run "a file that grows" 0 "g.list: made of 4 items" -t list -o g.list grows.navcap
+run "a file that grows" 0 "g.list: made of 4 " -t list -o g.list grows.navcap
 wait
 is_same "a file that grows" g.list "$examples/station.list"
 

@@ -10,6 +10,7 @@ use nav_io::{ReadSource, Sink};
 use std::alloc::Global;
 use std::fs::{OpenFile, OpenOptions};
 use std::io::ErrorKind;
+use std::os::unix::fs::{MetadataExt, chown};
 use std::rt::Files;
 use std::{fs, io};
 
@@ -18,17 +19,26 @@ use std::{fs, io};
 pub struct HostFolder<'a, R: Files> {
     alloc: Global,
     files: &'a R,
+    replaces: bool,
     faults: Faults,
 }
 
 impl<'a, R: Files> HostFolder<'a, R> {
-    /// A folder with a fault count of 0.
+    /// A folder with a fault count of 0, in which an output replaces the file of its name.
     pub fn new(alloc: Global, files: &'a R) -> HostFolder<'a, R>
+        ensures { ⟦<HostFolder<'a, R> as Folder>⟧.faults result ≡ 0 }
+    {
+        HostFolder::with(alloc, files, true)
+    }
+
+    /// A folder with a fault count of 0, in which an output replaces the file of its name or not.
+    pub fn with(alloc: Global, files: &'a R, replaces: bool) -> HostFolder<'a, R>
         ensures { ⟦<HostFolder<'a, R> as Folder>⟧.faults result ≡ 0 }
     {
         HostFolder {
             alloc,
             files,
+            replaces,
             faults: Faults::none(),
         }
     }
@@ -89,15 +99,16 @@ impl<R: Files> Folder for HostFolder<'_, R> {
         }
     }
 
-    /// Writes the buffer, syncs the file, and renames it. The part is removed where one of these
-    /// fails.
+    /// Writes the buffer, syncs the file, and renames it. A file that is replaced keeps its mode and,
+    /// where the system allows it, its owner; where none is to be replaced and one has the name by
+    /// now, it is `AlreadyThere`. The part is removed where one of these fails.
     fn publish(
         &mut self,
         draft: Gathered<R::File>,
         part: &str,
         name: &str,
     ) -> Result<(), FileFault> {
-        let fault = unnamed(self.files, draft, part, name);
+        let fault = unnamed(self.files, draft, part, name, self.replaces);
         if fault.is_some() {
             let _ = fs::remove_file(self.files, part);
         }
@@ -141,11 +152,12 @@ fn unnamed<R: Files>(
     draft: Gathered<R::File>,
     part: &str,
     name: &str,
+    replaces: bool,
 ) -> Option<ErrorKind>
     ensures { IsNone result → ⟦<Gathered<R::File> as Sink>⟧.faults draft ≡ 0 }
 {
     match draft.finish() {
-        Ok(file) => match synced(files, file, part, name) {
+        Ok(file) => match synced(files, file, part, name, replaces) {
             Ok(()) => None,
             Err(error) => Some(error.kind()),
         },
@@ -153,10 +165,44 @@ fn unnamed<R: Files>(
     }
 }
 
-// Syncs a file, and renames it.
-fn synced<R: Files>(files: &R, file: R::File, part: &str, name: &str) -> io::Result<()> {
+// Syncs a file, and gives it its name.
+fn synced<R: Files>(
+    files: &R,
+    file: R::File,
+    part: &str,
+    name: &str,
+    replaces: bool,
+) -> io::Result<()> {
+    if replaces {
+        keep_access(files, part, name);
+    }
     match file.sync_all() {
-        Ok(()) => fs::rename(files, part, name),
+        Ok(()) if replaces => fs::rename(files, part, name),
+        Ok(()) => renamed_new(files, part, name),
         Err(error) => Err(error),
+    }
+}
+
+// Gives the part the owner and the mode of the file that it replaces, as far as the system allows.
+fn keep_access<R: Files>(files: &R, part: &str, name: &str) {
+    if let Ok(there) = fs::metadata(files, name) {
+        let _ = chown(files, part, Some(there.uid()), Some(there.gid()));
+        let _ = fs::set_permissions(files, part, there.permissions());
+    }
+}
+
+// Renames a file to a name that none has. A file system without hard links is asked first whether
+// one has it.
+fn renamed_new<R: Files>(files: &R, part: &str, name: &str) -> io::Result<()> {
+    match fs::hard_link(files, part, name) {
+        Ok(()) => {
+            let _ = fs::remove_file(files, part);
+            Ok(())
+        }
+        Err(error) if error.kind() == ErrorKind::AlreadyExists => Err(error),
+        Err(_) if fs::symlink_metadata(files, name).is_ok() => {
+            Err(io::Error::from(ErrorKind::AlreadyExists))
+        }
+        Err(_) => fs::rename(files, part, name),
     }
 }

@@ -6,13 +6,15 @@ use Rattle.file_form.specs.declared.Kind.TheVariants as kinds
 use Rattle.file_step.specs.declared.faults.FileFault.{FileFault}
 use Rattle.file_step.specs.declared.faults.FileFault.TheVariants.{Other}
 use Rattle.file_words.specs.declared.says.Refusal.{Refusal}
-use Rattle.file_words.specs.declared.says.Refusal.TheVariants.{NoSuchConversion, NoConversion, Date, Week, Leap, NoName, NoFiles, SeveralFiles, AmongFiles, Site, NoLongName, NoTimes, NotOpened, ReadFault, OutputThere, NoFile, MadeBefore, PartThere, SameFile, SameReport, WriteFault, NotAccepted, NoMemory, ReportFault, TooLong, Word}
+use Rattle.file_words.specs.declared.says.Refusal.TheVariants.{NoSuchConversion, NoConversion, Unready, Foreign, Date, Week, Leap, NoName, NoFiles, SeveralFiles, AmongFiles, Site, NoLongName, NoTimes, NotOpened, Closed, EmptyName, ReadFault, OutputThere, NoFile, MadeBefore, PartThere, SameFile, SameReport, WriteFault, NotAccepted, Rinex3From, Rinex4From, NoMemory, ReportFault, TooLong, Word, NotUtf8}
 
 -- 2 for what was asked, 3 for the input, 4 for the output, 5 for a header, 6 for memory, 7 for the report, 8 for an input that
 -- is too long, 9 for a command-line word
 abbrev pub status_of : Refusal → ℕ
 status_of (NoSuchConversion kind) = 2
 status_of (NoConversion kind) = 2
+status_of (Unready what command target) = 2
+status_of (Foreign what) = 2
 status_of (Date text) = 2
 status_of (Week text) = 2
 status_of (Leap text) = 2
@@ -24,6 +26,8 @@ status_of (Site text) = 2
 status_of NoLongName = 2
 status_of NoTimes = 5
 status_of (NotOpened fault) = 3
+status_of Closed = 3
+status_of EmptyName = 3
 status_of (ReadFault count fault) = 3
 status_of (OutputThere name) = 4
 status_of (NoFile name) = 4
@@ -33,10 +37,13 @@ status_of (SameFile name) = 4
 status_of (SameReport name) = 4
 status_of (WriteFault name fault) = 4
 status_of (NotAccepted kind) = 5
+status_of (Rinex3From line) = 5
+status_of (Rinex4From line) = 5
 status_of NoMemory = 6
 status_of ReportFault = 7
 status_of TooLong = 8
-status_of Word = 9
+status_of (Word text) = 9
+status_of NotUtf8 = 9
 
 -- the form whose first line is not accepted; none for a capture that names no week, since with it a week is always given
 abbrev pub refused_form : Kind → Kind

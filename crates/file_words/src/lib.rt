@@ -7,7 +7,8 @@
 //!   ([`ending_of`]), and [`long_name`], that of a navigation file by the convention of RINEX 3 and
 //!   4 (RINEX 4.02, 5.2); [`fits`], whether a text is of a form;
 //! - [`Refusal`], why a file is not converted, as a message tells it, its sentence and the status of
-//!   the program, and [`run_refusal`], that of a run which broke off.
+//!   the program, and [`run_refusal`], that of a run which broke off; [`Shown`], a name as a sentence
+//!   shows it.
 //!
 //! ```rust
 //! let name = output_name(rt.alloc(), "data/station.navcap", "rnx")?;
@@ -22,6 +23,7 @@ mod names;
 mod options;
 mod runs;
 mod says;
+mod shown;
 mod words;
 
 pub use crate::form::fits;
@@ -30,4 +32,5 @@ pub use crate::names::output_name;
 pub use crate::options::{Values, words_for};
 pub use crate::runs::run_refusal;
 pub use crate::says::{Refusal, STANDARD_OUTPUT, kind_text, targets_of};
+pub use crate::shown::Shown;
 pub use crate::words::{ending_of, from_word, kind_named, target_named, to_word};

@@ -4,7 +4,9 @@ ghost use Rattle.std.specs.Prelude.{◌≡◌};
 ghost use Rattle.file_words.specs.KindTexts.{kind_text, targets_of};
 ghost use Rattle.file_words.specs.Says.{status_of};
 
-use file_form::Kind;
+use crate::shown::Shown;
+use crate::words::to_word;
+use file_form::{Kind, Target};
 use file_step::FileFault;
 use std::fmt;
 
@@ -18,6 +20,10 @@ pub enum Refusal<'a> {
     NoSuchConversion(Kind),
     /// No conversion takes a file of this form.
     NoConversion(Kind),
+    /// The file is such, and to be made ready by this command for a conversion to the target.
+    Unready(&'static str, &'static str, Target),
+    /// The file is of this other format, which has no orbits to convert.
+    Foreign(&'static str),
     /// The value of `--date` is not a date.
     Date(&'a str),
     /// The value of `--week` is not a valid reference week.
@@ -40,6 +46,10 @@ pub enum Refusal<'a> {
     NoTimes,
     /// The input was not opened.
     NotOpened(FileFault),
+    /// Standard input is closed.
+    Closed,
+    /// The name of an input is empty.
+    EmptyName,
     /// A read failed after this number of bytes.
     ReadFault(u64, FileFault),
     /// A file with the name of the output exists.
@@ -58,14 +68,20 @@ pub enum Refusal<'a> {
     WriteFault(&'a str, FileFault),
     /// The first line or the header of a file of this form is not accepted.
     NotAccepted(Kind),
+    /// From this line on a file of RINEX 4 has records of RINEX 3.
+    Rinex3From(u64),
+    /// From this line on a file of RINEX 3 has records of RINEX 4.
+    Rinex4From(u64),
     /// Memory was missing.
     NoMemory,
     /// The report could not be written.
     ReportFault,
     /// The input is too long.
     TooLong,
-    /// A command-line word is not UTF-8.
-    Word,
+    /// The value of an option is not UTF-8.
+    Word(&'a str),
+    /// The name of an input is not UTF-8.
+    NotUtf8,
 }
 
 impl Refusal<'_> {
@@ -76,6 +92,8 @@ impl Refusal<'_> {
         match self {
             Refusal::NoSuchConversion(_)
             | Refusal::NoConversion(_)
+            | Refusal::Unready(_, _, _)
+            | Refusal::Foreign(_)
             | Refusal::Date(_)
             | Refusal::Week(_)
             | Refusal::Leap(_)
@@ -85,7 +103,10 @@ impl Refusal<'_> {
             | Refusal::AmongFiles
             | Refusal::Site(_)
             | Refusal::NoLongName => 2,
-            Refusal::NotOpened(_) | Refusal::ReadFault(_, _) => 3,
+            Refusal::NotOpened(_)
+            | Refusal::Closed
+            | Refusal::EmptyName
+            | Refusal::ReadFault(_, _) => 3,
             Refusal::OutputThere(_)
             | Refusal::NoFile(_)
             | Refusal::MadeBefore(_)
@@ -93,11 +114,14 @@ impl Refusal<'_> {
             | Refusal::SameFile(_)
             | Refusal::SameReport(_)
             | Refusal::WriteFault(_, _) => 4,
-            Refusal::NotAccepted(_) | Refusal::NoTimes => 5,
+            Refusal::NotAccepted(_)
+            | Refusal::Rinex3From(_)
+            | Refusal::Rinex4From(_)
+            | Refusal::NoTimes => 5,
             Refusal::NoMemory => 6,
             Refusal::ReportFault => 7,
             Refusal::TooLong => 8,
-            Refusal::Word => 9,
+            Refusal::Word(_) | Refusal::NotUtf8 => 9,
         }
     }
 }
@@ -135,7 +159,7 @@ pub fn targets_of(kind: Kind) -> &'static str
     match kind {
         Kind::Capture1 | Kind::Capture2 => "that converts to rinex, rinex3, rtcm, list, count",
         Kind::Rinex4 => "that converts to rinex, rinex3, rtcm, list, capture, merged, cover",
-        Kind::Rinex3 => "that converts to rinex, rinex3, rtcm, list, capture",
+        Kind::Rinex3 => "that converts to rinex, rinex3, rtcm, list, capture, merged, cover",
         Kind::Stream => "that converts to rinex, rinex3, rtcm, frames",
         Kind::Rinex2 => "only versions 3 and 4 are read",
         Kind::Observations | Kind::Hatanaka | Kind::OtherRinex => "it has no orbits to convert",
@@ -183,9 +207,11 @@ impl Refusal<'_> {
     fn sentence(&self) -> &'static str {
         match self {
             Refusal::NoSuchConversion(_) | Refusal::NoConversion(_) => "it is {}; ",
+            Refusal::Unready(_, _, _) => "it is {}: ",
+            Refusal::Foreign(_) => "it is {}; it has no orbits to convert",
             Refusal::Date(_) => "--date {}: write it as \"20240101 000000 UTC\"",
             Refusal::Week(_) => "--week {}: 1024 to 8191, in digits alone",
-            Refusal::Leap(_) => "--leap {}: 0 to 99, in one or two digits",
+            Refusal::Leap(_) => "--leap {}: 0 to 99, in digits alone",
             Refusal::NoName => "it has no name of a file; name the output by -o",
             Refusal::NoFiles => "no file is named; - is standard input, --help says more",
             Refusal::SeveralFiles(_) => "{} is one file; for several name a folder that is there",
@@ -198,12 +224,16 @@ impl Refusal<'_> {
             }
             Refusal::NoTimes => "it has no ephemeris, by whose time it would be named",
             Refusal::NotOpened(_) | Refusal::NotAccepted(_) => "",
+            Refusal::Closed => "standard input is closed",
+            Refusal::EmptyName => "the name of a file is empty",
+            Refusal::Rinex3From(_) => "line {} begins RINEX 3 in a file of RINEX 4; split it there",
+            Refusal::Rinex4From(_) => "line {} begins RINEX 4 in a file of RINEX 3; split it there",
             Refusal::ReadFault(_, _) => "reading it failed after {} bytes: ",
             Refusal::OutputThere(_) => "{} is there already; --overwrite replaces it",
             Refusal::NoFile(_) => "{} is no file; -o - writes to standard output",
             Refusal::MadeBefore(_) => "{} was made of another file just now; name the output by -o",
             Refusal::PartThere(_) => {
-                "{} is there: another run is writing it, or one was cut off; remove it"
+                "{} is there: another run is writing it, or it is no file of navconvert"
             }
             Refusal::SameFile(_) => "{} is an input itself; name the output by -o",
             Refusal::SameReport(_) => "{} is the report; name the output by -o",
@@ -211,7 +241,8 @@ impl Refusal<'_> {
             Refusal::NoMemory => "there was no memory",
             Refusal::ReportFault => "the report was not written",
             Refusal::TooLong => "it has more than 4,294,967,295 bytes; cut it in parts",
-            Refusal::Word => "a word of the command line is not UTF-8",
+            Refusal::Word(_) => "{} is not UTF-8, and cannot be the value of an option",
+            Refusal::NotUtf8 => "its name is not UTF-8; navconvert -o OUT - < FILE reads it",
         }
     }
 
@@ -230,8 +261,21 @@ impl Refusal<'_> {
             | Refusal::PartThere(text)
             | Refusal::SameFile(text)
             | Refusal::SameReport(text)
-            | Refusal::WriteFault(text, _) => text,
+            | Refusal::WriteFault(text, _)
+            | Refusal::Word(text)
+            | Refusal::Unready(text, _, _)
+            | Refusal::Foreign(text) => text,
             _ => "",
+        }
+    }
+
+    // The number that the sentence names.
+    fn number(&self) -> Option<u64> {
+        match *self {
+            Refusal::ReadFault(number, _)
+            | Refusal::Rinex3From(number)
+            | Refusal::Rinex4From(number) => Some(number),
+            _ => None,
         }
     }
 
@@ -245,6 +289,7 @@ impl Refusal<'_> {
             | Refusal::ReadFault(_, fault)
             | Refusal::WriteFault(_, fault) => fault_text(fault),
             Refusal::NotAccepted(kind) => header_text(kind),
+            Refusal::Unready(_, command, _) => command,
             _ => "",
         }
     }
@@ -265,12 +310,28 @@ impl fmt::Display for Refusal<'_> {
         let sentence = self.sentence();
         let (before, after) = sentence.split_once("{}").unwrap_or((sentence, ""));
         f.write_str(before)?;
-        match self {
-            Refusal::ReadFault(count, _) => write!(f, "{count}")?,
-            _ => f.write_str(self.named())?,
+        match self.number() {
+            Some(number) => write!(f, "{number}")?,
+            None if before != sentence => Shown(self.named()).fmt(f)?,
+            None => {}
         }
         f.write_str(after)?;
         f.write_str(self.reason())?;
-        f.write_str(self.state())
+        f.write_str(self.state())?;
+        match self {
+            Refusal::Unready(_, _, target) => write_command(f, *target),
+            _ => Ok(()),
+        }
     }
+}
+
+// Writes the command that converts what it reads.
+fn write_command<W: fmt::Write>(f: &mut fmt::Formatter<W>, target: Target) -> fmt::Result {
+    f.write_str(" | navconvert ")?;
+    if !matches!(target, Target::Rinex) {
+        f.write_str("-t ")?;
+        f.write_str(to_word(target))?;
+        f.write_str(" ")?;
+    }
+    f.write_str("-o OUT -")
 }

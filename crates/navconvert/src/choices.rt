@@ -2,12 +2,15 @@
 
 use crate::clock::ClockWords;
 use crate::command::Asked;
-use crate::files::{Task, are_joined, convert_file, convert_joined};
+use crate::files::{Task, are_joined, convert_file, convert_joined, takes_several};
 use crate::outputs::{Output, output_of};
 use crate::reports::{is_headed, report_of};
+use crate::staged::{Before, staged_of};
 use crate::taken::Known;
 use crate::telling::{tell_file, tell_program};
-use file_words::{Refusal, Values, fits, is_site};
+use crate::words::is_broken;
+use file_form::Kind;
+use file_words::{Refusal, Values, is_site};
 use front_run::{Plan, is_date};
 use std::fs::File;
 use std::io::IsTerminal;
@@ -47,7 +50,10 @@ fn refused<'a>(rt: &HostRuntime, asked: &Asked<'a>) -> Option<Refusal<'a>> {
             return Some(Refusal::SeveralFiles(name));
         }
     }
-    refused_value(asked)
+    match refused_word(asked) {
+        None => refused_value(asked),
+        it => it,
+    }
 }
 
 // The value that is none.
@@ -58,14 +64,33 @@ fn refused_value<'a>(asked: &Asked<'a>) -> Option<Refusal<'a>> {
     }
 }
 
-// The number that is not written in digits alone, as many as it needs at most.
+// The number that is not written in digits alone.
 fn refused_number<'a>(asked: &Asked<'a>) -> Option<Refusal<'a>> {
     let leap = asked.leap();
-    if !fits(b"0", leap.as_bytes()) && !fits(b"00", leap.as_bytes()) {
+    if !is_number(leap) {
         return Some(Refusal::Leap(leap));
     }
     match asked.value("week") {
-        Some(week) if !fits(b"0000", week.as_bytes()) => Some(Refusal::Week(week)),
+        Some(week) if !is_number(week) => Some(Refusal::Week(week)),
+        _ => None,
+    }
+}
+
+// Whether a text is a number as navbridge reads it: up to 18 digits.
+fn is_number(text: &str) -> bool {
+    for byte in text.as_bytes() {
+        if !byte.is_ascii_digit() {
+            return false;
+        }
+    }
+    !text.is_empty() && text.len() <= 18
+}
+
+// The option whose value is not UTF-8.
+fn refused_word<'a>(asked: &Asked<'a>) -> Option<Refusal<'a>> {
+    match (asked.value("output"), asked.value("report")) {
+        (Some(name), _) if is_broken(name) => Some(Refusal::Word(name)),
+        (_, Some(name)) if is_broken(name) => Some(Refusal::Word(name)),
         _ => None,
     }
 }
@@ -89,6 +114,8 @@ pub(crate) fn convert_asked<'x, 'a>(
     let task = Task {
         rt,
         plan: plan_of(asked, clock),
+        staged: &[],
+        before: Before::new(),
         output: output_of(rt, asked),
         report,
         report_name: asked.value("report"),
@@ -100,7 +127,31 @@ pub(crate) fn convert_asked<'x, 'a>(
     };
     match asked.files() {
         None => 0,
-        Some(files) => convert_files(&task, files),
+        Some(files) => convert_staged(&task, files),
+    }
+}
+
+// Converts each file, or makes one output of several, those of RINEX 3 converted before; the status.
+fn convert_staged<'a>(task: &Task<'a>, files: &'a [&'a str]) -> u8 {
+    match staged_of(task, files) {
+        Err(status) => status,
+        Ok((staged, before)) => {
+            let task = Task {
+                plan: merging(task.plan),
+                staged: staged.as_slice(),
+                before,
+                ..*task
+            };
+            convert_files(&task, files)
+        }
+    }
+}
+
+// The plan by which files are merged: those of RINEX 3 are of RINEX 4 now.
+fn merging(plan: Plan) -> Plan {
+    match plan.form {
+        Some(Kind::Rinex3) if takes_several(plan.target) => Plan { form: None, ..plan },
+        _ => plan,
     }
 }
 

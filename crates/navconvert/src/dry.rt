@@ -1,19 +1,57 @@
 //! The commands of `navbridge` that do the same.
 
-use crate::files::Task;
+use crate::files::{Task, takes_several};
 use crate::forms::input_kind;
-use crate::inputs::opened;
-use crate::telling::tell_file;
+use crate::inputs::{Inputs, opened};
+use crate::staged::{is_three, plan_before};
+use crate::telling::{tell_file, tell_program, tell_refusal};
 use file_form::{Kind, is_copied};
+use file_words::Refusal;
 use front_run::{refusal_of, words_under};
 
 /// Prints the command that does what is asked of files, the first of which has this name, and where
 /// its output goes; the status.
 pub(crate) fn show_files(task: &Task, first: &str, files: &[&str], name: Option<&str>) -> u8 {
-    match input_kind(task, task.plan.form, opened(task.rt, files)) {
+    for file in files {
+        if takes_several(task.plan.target) && is_three(task, file) {
+            return show_before(task, files, name);
+        }
+    }
+    let inputs = Inputs {
+        names: files,
+        staged: &[],
+    };
+    match input_kind(task, task.plan.form, opened(task.rt, inputs)) {
         Ok(kind) => show_kind(task, first, files, name, kind),
         Err(refusal) => tell_file(task.rt, first, &refusal),
     }
+}
+
+// Prints the command that converts the files of RINEX 3 first.
+fn show_before(task: &Task, files: &[&str], name: Option<&str>) -> u8 {
+    let alloc = task.rt.alloc();
+    let before = words_under(alloc, &plan_before(task), Kind::Rinex3);
+    let (Ok(before), Ok(words)) = (before, words_under(alloc, &task.plan, Kind::Rinex4)) else {
+        return tell_program(task.rt, &Refusal::NoMemory);
+    };
+    let mut line = Line {
+        rt: task.rt,
+        whole: true,
+    };
+    line.text("{");
+    for file in files {
+        if is_three(task, file) {
+            line.text(" navbridge");
+            line.words(Some(before.as_slice()));
+            line.word(" < ", file);
+        } else {
+            line.word(" cat -- ", file);
+        }
+        line.text(";");
+    }
+    line.text(" } | navbridge");
+    line.words(Some(words.as_slice()));
+    line.end(name)
 }
 
 // Prints the command for files of this form.
@@ -25,7 +63,7 @@ fn show_kind(task: &Task, first: &str, files: &[&str], name: Option<&str>, kind:
         Ok(words) => show(task.rt, files, name, kind, Some(words.as_slice())),
         Err(stop) => {
             let refusal = refusal_of(&task.plan, stop, first, first);
-            tell_file(task.rt, first, &refusal)
+            tell_refusal(task, first, &refusal)
         }
     }
 }

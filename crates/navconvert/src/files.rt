@@ -2,12 +2,15 @@
 
 use crate::dry::show_files;
 use crate::forms::file_kind;
+use crate::inputs::{Inputs, Staged};
 use crate::outputs::{Output, name_of, owned, placed};
 use crate::place::Goal;
+use crate::staged::Before;
 use crate::steps::put;
-use crate::taken::{Known, is_read_once, is_same_file, taken};
-use crate::telling::tell_file;
+use crate::taken::{Known, is_closed, is_read_once, is_same_file, taken};
+use crate::telling::{tell_file, tell_refusal};
 use crate::times::long_name_of;
+use crate::words::is_broken;
 use file_form::{Kind, Target, is_copied, row_of};
 use file_step::FileFault;
 use file_words::{Refusal, STANDARD_OUTPUT, ending_of};
@@ -23,6 +26,10 @@ pub(crate) struct Task<'a> {
     pub rt: &'a HostRuntime,
     /// What is asked of each file.
     pub plan: Plan<'a>,
+    /// The bytes that stand for files which were converted before.
+    pub staged: &'a [Staged],
+    /// What was rejected and skipped of those.
+    pub before: Before,
     /// Where outputs go.
     pub output: Output<'a>,
     /// Where reports go.
@@ -43,15 +50,43 @@ pub(crate) struct Task<'a> {
 
 /// Converts a file, `-` for standard input, and says what became of it; the status.
 pub(crate) fn convert_file<'a>(task: &Task<'a>, file: &'a &'a str, known: &mut Known) -> u8 {
-    if *file != "-" && Path::new(*file).is_dir(task.rt) {
-        return tell_file(task.rt, file, &Refusal::NotOpened(FileFault::IsFolder));
+    if let Some(refusal) = unread(task, file) {
+        return tell_file(task.rt, file, &refusal);
     }
-    convert(task, file, from_ref(file), known)
+    let inputs = Inputs {
+        names: from_ref(file),
+        staged: task.staged,
+    };
+    convert(task, file, inputs, known)
+}
+
+// Why a file of this name is not read, where that shows before it is opened.
+fn unread(task: &Task, file: &str) -> Option<Refusal<'static>> {
+    if is_broken(file) {
+        Some(Refusal::NotUtf8)
+    } else if file.is_empty() {
+        Some(Refusal::EmptyName)
+    } else if file == "-" {
+        if is_closed(task.rt) {
+            Some(Refusal::Closed)
+        } else {
+            None
+        }
+    } else if Path::new(file).is_dir(task.rt) {
+        Some(Refusal::NotOpened(FileFault::IsFolder))
+    } else {
+        None
+    }
+}
+
+/// Whether several files make one output of this target.
+pub(crate) fn takes_several(target: Target) -> bool {
+    matches!(target, Target::Merged | Target::Cover)
 }
 
 /// Whether files make one output.
 pub(crate) fn are_joined(target: Target, files: &[&str]) -> bool {
-    files.len() > 1 && matches!(target, Target::Merged | Target::Cover)
+    files.len() > 1 && takes_several(target)
 }
 
 /// Makes one output of files, which has the name of the first where none is named; the status.
@@ -61,9 +96,13 @@ pub(crate) fn convert_joined<'a>(task: &Task<'a>, files: &'a [&'a str], known: &
             return status;
         }
     }
+    let inputs = Inputs {
+        names: files,
+        staged: task.staged,
+    };
     match files.first() {
         None => 0,
-        Some(first) => convert(task, first, files, known),
+        Some(first) => convert(task, first, inputs, known),
     }
 }
 
@@ -72,45 +111,52 @@ fn refused_form<'a>(task: &Task<'a>, file: &'a str) -> Option<u8> {
     if file == "-" || is_read_once(task.rt, file) {
         return Some(tell_file(task.rt, file, &Refusal::AmongFiles));
     }
-    let refusal = match file_kind(task, None, file) {
-        Err(refusal) => refusal,
-        Ok(kind) => match row_of(kind, task.plan.target) {
-            Some(_) => return None,
-            None => Refusal::NoSuchConversion(kind),
-        },
-    };
-    Some(tell_file(task.rt, file, &refusal))
+    if let Some(refusal) = unread(task, file) {
+        return Some(tell_file(task.rt, file, &refusal));
+    }
+    match file_kind(task, None, file) {
+        Err(refusal) => Some(tell_file(task.rt, file, &refusal)),
+        Ok(kind) if is_converted(kind, task.plan.target) => None,
+        Ok(kind) => Some(tell_refusal(task, file, &Refusal::NoSuchConversion(kind))),
+    }
+}
+
+// Whether a file of this form, which can be read again, is converted to this target.
+fn is_converted(kind: Kind, target: Target) -> bool {
+    is_copied(kind, target)
+        || row_of(kind, target).is_some()
+        || matches!(kind, Kind::Rinex3) && takes_several(target)
 }
 
 // Makes one output of files, the first of which has this name, `-` for standard input; the status.
-fn convert<'a>(task: &Task<'a>, first: &'a str, files: &'a [&'a str], known: &mut Known) -> u8 {
+fn convert<'a>(task: &Task<'a>, first: &'a str, inputs: Inputs<'a>, known: &mut Known) -> u8 {
     match task.output {
-        Output::Standard => convert_unnamed(task, first, files),
-        Output::Beside if first == "-" => convert_unnamed(task, first, files),
-        _ => match named(task, first, files) {
-            Ok(name) => put_free(task, first, files, name.as_str(), known),
+        Output::Standard => convert_unnamed(task, first, inputs),
+        Output::Beside if first == "-" => convert_unnamed(task, first, inputs),
+        _ => match named(task, first, inputs) {
+            Ok(name) => put_free(task, first, inputs, name.as_str(), known),
             Err(refusal) => tell_file(task.rt, first, &refusal),
         },
     }
 }
 
 // Makes the output on standard output, or shows the command for it; the status.
-fn convert_unnamed<'a>(task: &Task<'a>, first: &'a str, files: &'a [&'a str]) -> u8 {
+fn convert_unnamed<'a>(task: &Task<'a>, first: &'a str, inputs: Inputs<'a>) -> u8 {
     if task.site.is_some() {
         return tell_file(task.rt, first, &Refusal::NoLongName);
     }
     if task.dry {
-        return show_files(task, first, files, None);
+        return show_files(task, first, inputs.names, None);
     }
-    put(task, first, files, Goal::Standard, STANDARD_OUTPUT, first).0
+    put(task, first, inputs, Goal::Standard, STANDARD_OUTPUT, first).0
 }
 
 // The name of the output.
-fn named<'a>(task: &Task<'a>, first: &'a str, files: &'a [&'a str]) -> Result<String, Refusal<'a>> {
+fn named<'a>(task: &Task<'a>, first: &'a str, inputs: Inputs<'a>) -> Result<String, Refusal<'a>> {
     if let (Output::File(name), None) = (task.output, task.site) {
         return owned(task.rt.alloc(), name);
     }
-    match own_name(task, first, files) {
+    match own_name(task, first, inputs) {
         Ok(name) => placed(task.rt.alloc(), task.output, first, name.as_str()),
         Err(refusal) => Err(refusal),
     }
@@ -120,11 +166,11 @@ fn named<'a>(task: &Task<'a>, first: &'a str, files: &'a [&'a str]) -> Result<St
 fn own_name<'a>(
     task: &Task<'a>,
     first: &'a str,
-    files: &'a [&'a str],
+    inputs: Inputs<'a>,
 ) -> Result<String, Refusal<'a>> {
     match task.site {
         None => name_of(task.rt.alloc(), first, ending_of(task.plan.target)),
-        Some(site) => times_name(task, first, files, site),
+        Some(site) => times_name(task, first, inputs, site),
     }
 }
 
@@ -132,7 +178,7 @@ fn own_name<'a>(
 fn times_name<'a>(
     task: &Task<'a>,
     first: &'a str,
-    files: &'a [&'a str],
+    inputs: Inputs<'a>,
     site: &'a str,
 ) -> Result<String, Refusal<'a>> {
     match task.plan.target {
@@ -140,7 +186,7 @@ fn times_name<'a>(
             if is_read_once(task.rt, first) {
                 return Err(Refusal::AmongFiles);
             }
-            long_name_of(task, first, files, site)
+            long_name_of(task, first, inputs, site)
         }
         _ => Err(Refusal::NoLongName),
     }
@@ -158,7 +204,7 @@ fn is_report(task: &Task, name: &str) -> bool {
 fn put_free<'a>(
     task: &Task<'a>,
     first: &'a str,
-    files: &'a [&'a str],
+    inputs: Inputs<'a>,
     name: &str,
     known: &mut Known,
 ) -> u8 {
@@ -169,9 +215,9 @@ fn put_free<'a>(
         return tell_taken(task, first, &refusal);
     }
     if task.dry {
-        return show_files(task, first, files, Some(name));
+        return show_files(task, first, inputs.names, Some(name));
     }
-    let (status, is_made) = put(task, first, files, Goal::File, name, name);
+    let (status, is_made) = put(task, first, inputs, Goal::File, name, name);
     if is_made && known.add(task.rt, name).is_err() {
         return tell_file(task.rt, first, &Refusal::NoMemory);
     }
@@ -182,7 +228,7 @@ fn put_free<'a>(
 fn tell_taken(task: &Task, file: &str, refusal: &Refusal) -> u8 {
     match unconverted(task, file) {
         None => tell_file(task.rt, file, refusal),
-        Some(kind) => tell_file(task.rt, file, &Refusal::NoSuchConversion(kind)),
+        Some(kind) => tell_refusal(task, file, &Refusal::NoSuchConversion(kind)),
     }
 }
 
@@ -193,7 +239,7 @@ fn unconverted(task: &Task, file: &str) -> Option<Kind> {
     }
     let target = task.plan.target;
     match file_kind(task, task.plan.form, file) {
-        Ok(kind) if !is_copied(kind, target) && row_of(kind, target).is_none() => Some(kind),
+        Ok(kind) if !is_converted(kind, target) => Some(kind),
         _ => None,
     }
 }

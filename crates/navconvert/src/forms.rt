@@ -1,7 +1,7 @@
 //! The forms of files.
 
 use crate::files::Task;
-use crate::inputs::{Input, opened_first};
+use crate::inputs::{Input, opened_one};
 use file_folders::fault_of;
 use file_form::Kind;
 use file_step::{FileFault, PeekFault, Peeked};
@@ -15,7 +15,7 @@ pub(crate) fn file_kind(
     named: Option<Kind>,
     file: &str,
 ) -> Result<Kind, Refusal<'static>> {
-    input_kind(task, named, opened_first(task.rt, file, &[]))
+    input_kind(task, named, opened_one(task.rt, file))
 }
 
 /// The form under which an input that was opened is read, where this one is named.

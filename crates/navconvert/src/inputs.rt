@@ -22,37 +22,84 @@ pub(crate) enum Bytes<'a> {
     Files(Files<'a>),
 }
 
-/// The file that is open, and the names of those after it, of which some were opened.
+/// The bytes that stand for a file, where it was converted before.
+pub(crate) type Staged = Option<Vec<u8>>;
+
+/// Files that are read as one: their names, and the bytes that stand for them, where there are any.
+#[derive(Clone, Copy)]
+pub(crate) struct Inputs<'a> {
+    /// The names, `-` alone for standard input.
+    pub names: &'a [&'a str],
+    /// The bytes that stand for the first of them.
+    pub staged: &'a [Staged],
+}
+
+impl<'a> Inputs<'a> {
+    // What is read of the file at this place.
+    fn open(&self, rt: &HostRuntime, place: usize) -> io::Result<Option<Open<'a>>> {
+        if let Some(Some(bytes)) = self.staged.get(place) {
+            return Ok(Some(Open::Memory(bytes.as_slice())));
+        }
+        match self.names.get(place) {
+            None => Ok(None),
+            Some(name) => Ok(Some(Open::File(fs::open(rt, name)?))),
+        }
+    }
+}
+
+// What is read of one file.
+#[derive(Drop)]
+enum Open<'a> {
+    File(File),
+    Memory(&'a [u8]),
+}
+
+impl Open<'_> {
+    // Reads some of it.
+    fn read_some(&mut self, buf: &mut [u8]) -> io::Result<usize>
+        ensures { ReadsAtMost result buf.new }
+    {
+        match self {
+            Open::File(file) => file.read(buf),
+            Open::Memory(bytes) => bytes.read(buf),
+        }
+    }
+}
+
+/// The file that is open, and those after it, of which some were opened.
 #[derive(Drop)]
 pub(crate) struct Files<'a> {
     rt: &'a HostRuntime,
-    open: File,
-    rest: &'a [&'a str],
+    open: Open<'a>,
+    inputs: Inputs<'a>,
     place: usize,
 }
 
 impl Files<'_> {
     // Opens the next file; whether there is one.
     fn open_next(&mut self) -> io::Result<bool> {
-        let Some(name) = self.rest.get(self.place) else {
-            return Ok(false);
-        };
-        self.open = fs::open(self.rt, name)?;
-        self.place = self.place.saturating_add(1);
-        Ok(true)
+        let next = self.place.saturating_add(1);
+        match self.inputs.open(self.rt, next)? {
+            None => Ok(false),
+            Some(open) => {
+                self.open = open;
+                self.place = next;
+                Ok(true)
+            }
+        }
     }
 
     // Reads of the first file that has bytes left.
     fn read_some(&mut self, buf: &mut [u8]) -> io::Result<usize>
         ensures { ReadsAtMost result buf.new }
     {
-        for _ in 0..self.rest.len() {
-            let count = self.open.read(buf)?;
+        for _ in 0..self.inputs.names.len() {
+            let count = self.open.read_some(buf)?;
             if count > 0 || !self.open_next()? {
                 return Ok(count);
             }
         }
-        self.open.read(buf)
+        self.open.read_some(buf)
     }
 }
 
@@ -66,30 +113,39 @@ impl Read for Bytes<'_> {
     }
 }
 
-/// Opens files, `-` alone for standard input. No read of them has failed.
-pub(crate) fn opened<'a>(rt: &'a HostRuntime, files: &'a [&'a str]) -> Result<Input<'a>, FileFault>
+/// Opens files. No read of them has failed.
+pub(crate) fn opened<'a>(rt: &'a HostRuntime, inputs: Inputs<'a>) -> Result<Input<'a>, FileFault>
     ensures { IfOk result (λ input. ⟦<ReadSource<Bytes<'a>> as Source>⟧.faults input ≡ 0) }
 {
-    match files {
-        [file] if *file == "-" => Ok(ReadSource::new(Bytes::Standard(rt.stdin()))),
-        [first, rest @ ..] => opened_first(rt, first, rest),
-        [] => Err(FileFault::NotFound),
+    if let [file] = inputs.names {
+        if *file == "-" {
+            return Ok(ReadSource::new(Bytes::Standard(rt.stdin())));
+        }
+    }
+    match inputs.open(rt, 0) {
+        Ok(Some(open)) => Ok(ReadSource::new(Bytes::Files(Files {
+            rt,
+            open,
+            inputs,
+            place: 0,
+        }))),
+        Ok(None) => Err(FileFault::NotFound),
+        Err(error) => Err(fault_of(error.kind())),
     }
 }
 
-/// Opens a file, behind which others are read.
-pub(crate) fn opened_first<'a>(
-    rt: &'a HostRuntime,
-    first: &str,
-    rest: &'a [&'a str],
-) -> Result<Input<'a>, FileFault>
+/// Opens one file.
+pub(crate) fn opened_one<'a>(rt: &'a HostRuntime, file: &str) -> Result<Input<'a>, FileFault>
     ensures { IfOk result (λ input. ⟦<ReadSource<Bytes<'a>> as Source>⟧.faults input ≡ 0) }
 {
-    match fs::open(rt, first) {
+    match fs::open(rt, file) {
         Ok(open) => Ok(ReadSource::new(Bytes::Files(Files {
             rt,
-            open,
-            rest,
+            open: Open::File(open),
+            inputs: Inputs {
+                names: &[],
+                staged: &[],
+            },
             place: 0,
         }))),
         Err(error) => Err(fault_of(error.kind())),

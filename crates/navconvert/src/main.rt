@@ -14,33 +14,43 @@ mod dry;
 mod files;
 mod forms;
 mod inputs;
+mod made;
+mod messages;
 mod meter;
 mod notes;
 mod outputs;
+mod parts;
 mod place;
+mod records;
 mod reports;
+mod said;
+mod staged;
 mod steps;
+mod summary;
+mod systems;
 mod taken;
 mod tally;
 mod telling;
 mod times;
+mod watch;
+mod words;
 
 use crate::choices::{begin, convert_asked};
 use crate::clock::clock_of;
 use crate::command::{Asked, read_words};
 use crate::telling::tell_program;
-use file_words::Refusal;
+use crate::words::words_of;
+use file_words::{Refusal, Shown};
 use std::alloc::AllocError;
 use std::fs::File;
-use std::io::ErrorKind;
 use std::process::ExitCode;
-use std::{env, fs, io};
+use std::{fs, io};
 
 fn main(rt: HostRuntime) -> ExitCode {
     let _held = held_places(&rt);
     let status = match words_of(&rt) {
         Ok(words) => run(&rt, words.get(1..).unwrap_or(&[])),
-        Err(refusal) => tell_program(&rt, &refusal),
+        Err(AllocError) => tell_program(&rt, &Refusal::NoMemory),
     };
     ExitCode::from(status)
 }
@@ -75,25 +85,37 @@ fn convert_now(rt: &HostRuntime, asked: &Asked, report: Option<&File>) -> u8 {
     }
 }
 
-// The words of the command line, the name of the program first.
-fn words_of(rt: &HostRuntime) -> Result<Vec<String>, Refusal<'static>> {
-    let args = match env::args(rt) {
-        Ok(args) => args,
-        Err(error) if error.kind() == ErrorKind::OutOfMemory => return Err(Refusal::NoMemory),
-        Err(_) => return Err(Refusal::Word),
-    };
-    match args.collect(rt.alloc()) {
-        Ok(words) => Ok(words),
-        Err(AllocError) => Err(Refusal::NoMemory),
-    }
-}
-
 // Prints what is said of words that are no command line, or that ask for help or the version.
 fn tell_words(rt: &HostRuntime, error: &clap::Error) -> u8 {
-    match error.print(rt) {
+    let printed = match error.use_stderr() {
+        true => match shown_lines(rt, error) {
+            Ok(text) => eprint!(rt; "{text}"),
+            Err(AllocError) => error.print(rt),
+        },
+        false => error.print(rt),
+    };
+    match printed {
         Ok(()) => status_of(error),
         Err(_) => 4,
     }
+}
+
+// What is said of the words, each line as it is shown.
+fn shown_lines(rt: &HostRuntime, error: &clap::Error) -> Result<String, AllocError> {
+    let said = format!(in rt.alloc(); "{error}")?;
+    let mut text = String::new(rt.alloc());
+    let mut is_first = true;
+    for line in said.split('\n') {
+        if !is_first {
+            text.push('\n')?;
+        }
+        is_first = false;
+        if !line.is_empty() {
+            let shown = Shown(line);
+            text.push_str(format!(in rt.alloc(); "{shown}")?.as_str())?;
+        }
+    }
+    Ok(text)
 }
 
 // The status of words that are no command line, or that ask for help or the version.

@@ -1,6 +1,7 @@
 //! How far a conversion has come, on a terminal.
 
 use file_step::Progress;
+use file_words::Shown;
 use std::rt::Clock;
 
 // So long nothing is shown, and so long one line stands, in milliseconds.
@@ -48,7 +49,8 @@ impl<'a> Meter<'a> {
     fn show(&self, count: u64, time: u64) {
         let rate = count / time.max(1) / 1000;
         let done = count / 1_000_000;
-        let _ = eprint!(self.rt; "\r{}: {done} MB, {rate} MB/s ", self.file);
+        let file = Shown(self.file);
+        let _ = eprint!(self.rt; "\r{file}: {done} MB, {rate} MB/s ");
         if count < self.size {
             let percents = count / (self.size / 100).max(1);
             let left = time_left(count, self.size, time);

@@ -1,10 +1,18 @@
 //! The folder of a conversion: what is read may be standard input or several files, and what is
-//! made may go to standard output, or nowhere.
+//! made may go to standard output, to memory, or nowhere.
 
-use crate::inputs::{Input, opened};
+ghost use Rattle.std.specs.Prelude.{◌≡◌, IfOk};
+
+use crate::inputs::{Inputs, opened};
+use crate::made::Made;
+use crate::parts::begun;
+use crate::systems::Skips;
 use crate::times::Times;
+use crate::watch::{Watch, Watched};
 use file_folders::HostFolder;
-use file_step::{FileFault, Folder, Gathered};
+use file_form::Kind;
+use file_step::{FileFault, Folder, GATHERED, Gathered};
+use file_words::Refusal;
 use gnss_week::Moment;
 use nav_io::{Failed, Sink, WriteSink};
 use std::fs::File;
@@ -17,41 +25,73 @@ pub(crate) enum Goal {
     File,
     /// To standard output.
     Standard,
+    /// To memory.
+    Memory,
     /// Nowhere: its times are kept.
     Nowhere,
 }
 
-/// What is made, while it is written.
+// Where what is made is written.
 #[derive(Drop)]
-pub(crate) enum Draft {
-    /// A file.
+enum Outlet {
     File(Gathered<File>),
-    /// Standard output.
     Standard(WriteSink<Stdout>),
-    /// The times in it.
+    Memory(WriteSink<Vec<u8>>),
     Nowhere(Times),
 }
 
-impl Sink for Draft {
+impl Sink for Outlet {
     ghost use Rattle.std.specs.Prelude.{None};
-    ghost use Rattle.navconvert.specs.declared.place.Draft.TheVariants as drafts;
+    ghost use Rattle.navconvert.specs.declared.place.Outlet.TheVariants as outlets;
 
     ghost written = { λ _. None };
 
     ghost faults = { elim [
-      | drafts.File draft ↦ ⟦<Gathered<File> as Sink>⟧.faults draft
-      | drafts.Standard output ↦ ⟦<WriteSink<Stdout> as Sink>⟧.faults output
-      | drafts.Nowhere times ↦ ⟦<Times as Sink>⟧.faults times
+      | outlets.File draft ↦ ⟦<Gathered<File> as Sink>⟧.faults draft
+      | outlets.Standard output ↦ ⟦<WriteSink<Stdout> as Sink>⟧.faults output
+      | outlets.Memory output ↦ ⟦<WriteSink<Vec<u8>> as Sink>⟧.faults output
+      | outlets.Nowhere times ↦ ⟦<Times as Sink>⟧.faults times
     ] };
 
     /// Writes the piece where it goes.
     fn write(&mut self, piece: &[u8]) -> Result<(), Failed> {
         match self {
-            Draft::File(draft) => draft.write(piece),
-            Draft::Standard(output) => output.write(piece),
-            Draft::Nowhere(times) => times.write(piece),
+            Outlet::File(draft) => draft.write(piece),
+            Outlet::Standard(output) => output.write(piece),
+            Outlet::Memory(output) => output.write(piece),
+            Outlet::Nowhere(times) => times.write(piece),
         }
     }
+}
+
+/// What is made, while it is written.
+#[derive(Drop)]
+pub(crate) struct Draft {
+    outlet: Outlet,
+    made: Made,
+}
+
+impl Sink for Draft {
+    ghost use Rattle.std.specs.Prelude.{None};
+
+    ghost written = { λ _. None };
+
+    ghost faults = { λ s. ⟦<Outlet as Sink>⟧.faults s.outlet };
+
+    /// Writes the piece, and counts its records.
+    fn write(&mut self, piece: &[u8]) -> Result<(), Failed> {
+        self.made.see(piece);
+        self.outlet.write(piece)
+    }
+}
+
+/// What was seen of an input and of what was made of it.
+#[derive(Clone, Copy)]
+pub(crate) struct Seen {
+    /// The records and messages of other systems.
+    pub skips: Skips,
+    /// The records that were made.
+    pub made: Made,
 }
 
 /// The files of the system, of which some are read as one, and where what is made of them goes.
@@ -59,29 +99,87 @@ impl Sink for Draft {
 pub(crate) struct Place<'a> {
     folder: HostFolder<'a, HostRuntime>,
     rt: &'a HostRuntime,
-    files: &'a [&'a str],
+    inputs: Inputs<'a>,
     goal: Goal,
+    watch: Watch,
+    made: Made,
     /// The first and the last of the times in what was made and went nowhere.
     pub range: Option<(Moment, Moment)>,
+    /// What was made, and went to memory.
+    pub bytes: Option<Vec<u8>>,
 }
 
 impl<'a> Place<'a> {
-    /// For these files, `-` alone for standard input, and what goes there.
-    pub(crate) fn new(rt: &'a HostRuntime, files: &'a [&'a str], goal: Goal) -> Place<'a> {
+    /// For these files, and what goes there; whether a file that has the name of the output is
+    /// replaced.
+    pub(crate) fn new(
+        rt: &'a HostRuntime,
+        inputs: Inputs<'a>,
+        goal: Goal,
+        replaces: bool,
+    ) -> Place<'a> {
         Place {
-            folder: HostFolder::new(rt.alloc(), rt),
+            folder: HostFolder::with(rt.alloc(), rt, replaces),
             rt,
-            files,
+            inputs,
             goal,
+            watch: Watch::new(),
+            made: Made::new(),
             range: None,
+            bytes: None,
         }
+    }
+
+    /// What was seen of an input that was read under this form, and of what was made of it.
+    pub(crate) fn seen(&mut self, kind: Option<Kind>) -> Seen {
+        let skips = match kind {
+            None => Skips::new(),
+            Some(kind) => self.watch.skips(kind),
+        };
+        Seen {
+            skips,
+            made: self.made,
+        }
+    }
+
+    /// Where a navigation file has records of another version.
+    pub(crate) fn other(&self) -> Option<Refusal<'static>> {
+        self.watch.other()
+    }
+
+    // Begins what is made.
+    fn outlet(&self, part: &str) -> Result<Outlet, FileFault>
+        ensures { IfOk result (λ outlet. ⟦<Outlet as Sink>⟧.faults outlet ≡ 0) }
+    {
+        match self.goal {
+            Goal::File => match gathered(self.rt, part) {
+                Ok(draft) => Ok(Outlet::File(draft)),
+                Err(fault) => Err(fault),
+            },
+            Goal::Standard => Ok(Outlet::Standard(WriteSink::new(self.rt.stdout()))),
+            Goal::Memory => Ok(Outlet::Memory(WriteSink::new(Vec::new(self.rt.alloc())))),
+            Goal::Nowhere => Ok(Outlet::Nowhere(Times::new())),
+        }
+    }
+}
+
+// Begins a part, with a buffer.
+fn gathered(rt: &HostRuntime, part: &str) -> Result<Gathered<File>, FileFault>
+    ensures { IfOk result (λ draft. ⟦<Gathered<File> as Sink>⟧.faults draft ≡ 0) }
+{
+    let Ok(buffer) = Vec::with_capacity(rt.alloc(), GATHERED) else {
+        return Err(FileFault::NoMemory);
+    };
+    match begun(rt, part) {
+        Ok(file) => Ok(Gathered::new(buffer, file)),
+        Err(fault) => Err(fault),
     }
 }
 
 impl<'a> Folder for Place<'a> {
     ghost use Rattle.std.specs.Prelude.{None};
 
-    type Input = Input<'a>;
+    type Input = Watched<'a>;
 
     type Draft = Draft;
 
@@ -90,35 +188,43 @@ impl<'a> Folder for Place<'a> {
     ghost faults = { λ s. ⟦<HostFolder<'a, HostRuntime> as Folder>⟧.faults s.folder };
 
     /// Opens the files, whatever the name.
-    fn open(&mut self, _name: &str) -> Result<Input<'a>, FileFault> {
-        match opened(self.rt, self.files) {
-            Ok(input) => Ok(input),
+    fn open(&mut self, _name: &str) -> Result<Watched<'a>, FileFault> {
+        match opened(self.rt, self.inputs) {
+            Ok(input) => Ok(Watched::new(input)),
             Err(fault) => Err(self.folder.failed(fault)),
         }
     }
 
-    fn close(&mut self, input: Input<'a>) -> Result<(), FileFault> {
-        self.folder.told(input.fault())
+    /// Keeps what was seen.
+    fn close(&mut self, input: Watched<'a>) -> Result<(), FileFault> {
+        let fault = input.fault();
+        self.watch = input.into_watch();
+        self.folder.told(fault)
     }
 
-    /// Creates the file, where what is made goes to one.
+    /// Begins what is made.
     fn draft(&mut self, part: &str) -> Result<Draft, FileFault> {
-        match self.goal {
-            Goal::File => match self.folder.draft(part) {
-                Ok(draft) => Ok(Draft::File(draft)),
-                Err(fault) => Err(fault),
-            },
-            Goal::Standard => Ok(Draft::Standard(WriteSink::new(self.rt.stdout()))),
-            Goal::Nowhere => Ok(Draft::Nowhere(Times::new())),
+        match self.outlet(part) {
+            Ok(outlet) => Ok(Draft {
+                outlet,
+                made: Made::new(),
+            }),
+            Err(fault) => Err(self.folder.failed(fault)),
         }
     }
 
-    /// Gives the file its name, or keeps the times.
+    /// Gives the file its name, or keeps the bytes or the times.
     fn publish(&mut self, draft: Draft, part: &str, name: &str) -> Result<(), FileFault> {
-        match draft {
-            Draft::File(draft) => self.folder.publish(draft, part, name),
-            Draft::Standard(output) => self.folder.told(output.fault()),
-            Draft::Nowhere(times) => {
+        self.made = draft.made;
+        match draft.outlet {
+            Outlet::File(file) => self.folder.publish(file, part, name),
+            Outlet::Standard(output) => self.folder.told(output.fault()),
+            Outlet::Memory(output) => {
+                let fault = output.fault();
+                self.bytes = Some(output.into_writer());
+                self.folder.told(fault)
+            }
+            Outlet::Nowhere(times) => {
                 self.range = times.range;
                 Ok(())
             }
@@ -127,10 +233,11 @@ impl<'a> Folder for Place<'a> {
 
     /// Removes the part, where there is one.
     fn discard(&mut self, draft: Draft, part: &str) -> Result<(), FileFault> {
-        match draft {
-            Draft::File(draft) => self.folder.discard(draft, part),
-            Draft::Standard(output) => self.folder.told(output.fault()),
-            Draft::Nowhere(_) => Ok(()),
+        match draft.outlet {
+            Outlet::File(file) => self.folder.discard(file, part),
+            Outlet::Standard(output) => self.folder.told(output.fault()),
+            Outlet::Memory(output) => self.folder.told(output.fault()),
+            Outlet::Nowhere(_) => Ok(()),
         }
     }
 }

@@ -3,15 +3,17 @@
 ghost use Rattle.std.specs.Prelude.{◌≢◌};
 
 use crate::files::Task;
+use crate::inputs::Inputs;
 use crate::meter::Meter;
 use crate::notes::Notes;
 use crate::outputs::size_of;
+use crate::parts::part_name;
 use crate::place::{Goal, Place};
 use crate::tally::Tally;
 use crate::telling::{Saying, tell_file};
-use file_step::part_of;
+use file_step::FileFault;
 use file_words::Refusal;
-use front_run::{Outcome, Told, convert_one, finish};
+use front_run::{Outcome, Stop, Told, convert_one, finish};
 use std::fs::File;
 
 /// Converts files, the first of which has this name, to that of a name, or to what is named so;
@@ -20,21 +22,29 @@ use std::fs::File;
 pub(crate) fn put<'a>(
     task: &Task<'a>,
     first: &'a str,
-    files: &'a [&'a str],
+    inputs: Inputs<'a>,
     goal: Goal,
     name: &str,
     shown: &str,
 ) -> (u8, bool) {
-    let Ok(part) = part_of(task.rt.alloc(), name) else {
+    let Ok(part) = part_name(task.rt.alloc(), name) else {
         return (tell_file(task.rt, first, &Refusal::NoMemory), false);
     };
-    let mut place = Place::new(task.rt, files, goal);
-    let told = told_of(task.report, meter_of(task, first, files, goal));
+    if part.as_str() == name {
+        let refusal = Refusal::WriteFault(name, FileFault::NameTooLong);
+        return (tell_file(task.rt, first, &refusal), false);
+    }
+    let mut place = Place::new(task.rt, inputs, goal, task.overwrites);
+    let told = told_of(task.report, meter_of(task, first, inputs.names, goal));
     let outcome = converted(task, &mut place, told, first, part.as_str(), name);
+    if let (Err(Stop::Run(_, _, _, _, _)), Some(refusal)) = (outcome.done, place.other()) {
+        return (tell_file(task.rt, first, &refusal), false);
+    }
     let mut teller = Saying {
         task,
         file: first,
         name: shown,
+        seen: place.seen(outcome.kind),
         faults: 0,
     };
     let status = finish(&task.plan, &outcome, name, part.as_str(), &mut teller);

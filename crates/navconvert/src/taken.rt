@@ -6,6 +6,7 @@ use std::alloc::AllocError;
 use std::collections::BTreeSet;
 use std::fs;
 use std::fs::Metadata;
+use std::io::ErrorKind;
 use std::os::unix::fs::MetadataExt;
 use std::path::Path;
 
@@ -21,6 +22,9 @@ pub(crate) fn taken<'a>(
         Ok(there) if known.is_made(&there) => Some(Refusal::MadeBefore(name)),
         _ => match fs::symlink_metadata(rt, name) {
             Ok(there) => kept(&there, name, overwrites),
+            Err(error) if error.kind() == ErrorKind::InvalidFilename => {
+                Some(Refusal::WriteFault(name, FileFault::NameTooLong))
+            }
             Err(_) => None,
         },
     }
@@ -83,6 +87,14 @@ impl Known {
 /// The path of an input: of standard input, `-`, that of its descriptor.
 pub(crate) fn input_path(name: &str) -> &str {
     if name == "-" { "/dev/stdin" } else { name }
+}
+
+/// Whether standard input is closed: the root folder has its place then.
+pub(crate) fn is_closed(rt: &HostRuntime) -> bool {
+    match identity_of(rt, input_path("-")) {
+        None => true,
+        it => it == identity_of(rt, "/"),
+    }
 }
 
 /// Whether it can be read only once: a pipe, say.

@@ -3,16 +3,19 @@
 ghost use Rattle.std.specs.Prelude.{◌≡◌};
 ghost use Rattle.file_words.specs.Says.{status_of};
 
-use crate::files::Task;
+use crate::files::{Task, takes_several};
+use crate::place::Seen;
+use crate::summary::Summary;
 use crate::tally::{Tally, is_put};
-use file_form::{Kind, WeekRule, row_of};
+use file_form::Kind;
 use file_step::FileFault;
-use file_words::Refusal;
+use file_words::{Refusal, Shown};
 use front_run::{Outcome, Teller};
 use nav_io::Failed;
 use receiver_log::counts_text;
-use std::fmt;
-use std::io::IsTerminal;
+use std::fs;
+use std::io::{IsTerminal, Read};
+use std::path::Path;
 
 // What takes the line of a meter away: to its end, however long it is.
 const CLEARED: &str = "\r\x1b[K";
@@ -30,8 +33,68 @@ pub(crate) fn tell_file(rt: &HostRuntime, file: &str, refusal: &Refusal) -> u8
     ensures { result ≡ status_of refusal.now }
 {
     clear(rt);
-    let _ = eprintln!(rt; "navconvert: {file}: {refusal}");
+    let shown = Shown(file);
+    let _ = eprintln!(rt; "navconvert: {shown}: {refusal}");
     refusal.status()
+}
+
+/// Says why a file is not converted to what is asked, with the command that unpacks it where it is
+/// packed; the status.
+pub(crate) fn tell_refusal(task: &Task, file: &str, refusal: &Refusal) -> u8 {
+    match refusal {
+        Refusal::NoSuchConversion(kind) => {
+            tell_file(task.rt, file, &form_refusal(task, file, *kind))
+        }
+        _ => tell_file(task.rt, file, refusal),
+    }
+}
+
+// Why a file of this form is not converted to what is asked.
+fn form_refusal(task: &Task, file: &str, kind: Kind) -> Refusal<'static> {
+    let target = task.plan.target;
+    match kind {
+        Kind::Gzip => Refusal::Unready("packed by gzip; unpack it", "gzip -dc FILE", target),
+        Kind::Compress => Refusal::Unready(
+            "packed by compress; unpack it",
+            "gzip -dc FILE",
+            target,
+        ),
+        Kind::Zip => Refusal::Unready("an archive of zip; unpack it", "unzip -p FILE", target),
+        Kind::Rinex3 if takes_several(target) => {
+            let what = "a navigation file of RINEX 3 and read only once; convert it first";
+            Refusal::Unready(what, "navconvert -o - - < FILE", target)
+        }
+        Kind::Unknown => unknown_refusal(task, file).unwrap_or(Refusal::NoSuchConversion(kind)),
+        _ => Refusal::NoSuchConversion(kind),
+    }
+}
+
+// Why a file of no form that is converted is not: it is of another that is known.
+fn unknown_refusal(task: &Task, file: &str) -> Option<Refusal<'static>> {
+    let target = task.plan.target;
+    match first_bytes(task.rt, file) {
+        [b'B', b'Z', b'h', ..] => {
+            Some(Refusal::Unready("packed by bzip2; unpack it", "bzip2 -dc FILE", target))
+        }
+        [0xfd, b'7', b'z', b'X', b'Z', 0] => {
+            Some(Refusal::Unready("packed by xz; unpack it", "xz -dc FILE", target))
+        }
+        [b'#', b'a' | b'b' | b'c' | b'd', b'P' | b'V', ..] => {
+            Some(Refusal::Foreign("a file of SP3, of precise orbits"))
+        }
+        _ => None,
+    }
+}
+
+// The first six bytes of a file that can be read again; zeros, where it has fewer.
+fn first_bytes(rt: &HostRuntime, file: &str) -> [u8; 6] {
+    let mut first = [0; 6];
+    if Path::new(file).is_file(rt) {
+        if let Ok(mut open) = fs::open(rt, file) {
+            let _ = open.read(&mut first);
+        }
+    }
+    first
 }
 
 /// Who says what became of a file, under its name and that of its output.
@@ -43,6 +106,8 @@ pub(crate) struct Saying<'x, 'a> {
     pub file: &'x str,
     /// Its output.
     pub name: &'x str,
+    /// What was seen of both.
+    pub seen: Seen,
     /// How often a report could not be ended.
     pub faults: u64,
 }
@@ -57,7 +122,7 @@ impl<'a> Teller<Tally<'a>> for Saying<'_, 'a> {
         if let Refusal::WriteFault(_, FileFault::ReaderGone) = refusal {
             return;
         }
-        let _ = tell_file(self.task.rt, self.file, refusal);
+        let _ = tell_refusal(self.task, self.file, refusal);
     }
 
     fn done(&mut self, outcome: &Outcome<Tally<'a>>) -> Result<(), Failed> {
@@ -66,7 +131,7 @@ impl<'a> Teller<Tally<'a>> for Saying<'_, 'a> {
             return Err(Failed);
         }
         if !self.task.quiet {
-            tell_done(self.task, self.name, outcome);
+            tell_done(self.task, self.name, outcome, self.seen);
         }
         Ok(())
     }
@@ -81,103 +146,15 @@ fn is_counted(task: &Task, outcome: &Outcome<Tally>) -> bool {
 }
 
 // Says what became of a file, as one line that is written at once.
-fn tell_done(task: &Task, name: &str, outcome: &Outcome<Tally>) {
+fn tell_done(task: &Task, name: &str, outcome: &Outcome<Tally>, seen: Seen) {
     clear(task.rt);
-    let done = Done {
+    let done = Summary {
         task,
         name,
         outcome,
+        seen,
     };
     let _ = eprintln!(task.rt; "{done}");
-}
-
-// What became of a file: of what its output is made, what was refused, and the week of the clock
-// where it was read by that.
-#[derive(Clone, Copy)]
-struct Done<'x, 'a> {
-    task: &'x Task<'a>,
-    name: &'x str,
-    outcome: &'x Outcome<Tally<'a>>,
-}
-
-impl fmt::Display for Done<'_, '_> {
-    fn fmt<W: fmt::Write>(&self, f: &mut fmt::Formatter<W>) -> fmt::Result {
-        f.write_str(self.name)?;
-        write_made(f, self.outcome)?;
-        write_refused(f, self.outcome)?;
-        if let Some(counts) = &self.outcome.counts {
-            let names = ("message refused", "messages refused");
-            write_count(f, ", ", counts.refused, names)?;
-        }
-        write_week(f, self.task, self.outcome.kind)
-    }
-}
-
-// Writes what was made.
-fn write_made<W: fmt::Write>(f: &mut fmt::Formatter<W>, outcome: &Outcome<Tally>) -> fmt::Result {
-    let said = &outcome.report.said;
-    match (said.written, said.refused, &outcome.counts) {
-        (Some(items), _, _) => write_count(f, ": made of ", items, ("item", "items")),
-        (None, None, Some(counts)) => {
-            write_count(f, ": ", counts.subframes, ("subframe", "subframes"))?;
-            write_count(f, ", ", counts.pages, ("page", "pages"))
-        }
-        _ => f.write_str(": written"),
-    }
-}
-
-// Writes how many lines, records or frames were refused, where that was counted.
-fn write_refused<W: fmt::Write>(
-    f: &mut fmt::Formatter<W>,
-    outcome: &Outcome<Tally>,
-) -> fmt::Result {
-    match outcome.report.said.refused {
-        None => Ok(()),
-        Some(refused) => write_count(f, ", ", refused, refused_of(outcome.kind)),
-    }
-}
-
-// Writes a count, of one thing or of many, behind a text.
-fn write_count<W: fmt::Write>(
-    f: &mut fmt::Formatter<W>,
-    before: &str,
-    count: u64,
-    names: (&str, &str),
-) -> fmt::Result {
-    let name = if count == 1 { names.0 } else { names.1 };
-    write!(f, "{before}{count} {name}")
-}
-
-// Writes the week of the clock, where a file of this form was read by it.
-fn write_week<W: fmt::Write>(
-    f: &mut fmt::Formatter<W>,
-    task: &Task,
-    kind: Option<Kind>,
-) -> fmt::Result {
-    match kind {
-        Some(kind) if takes_clock(task, kind) => {
-            let week = task.plan.values.clock_week;
-            write!(f, ", read near week {week} of the clock")
-        }
-        _ => Ok(()),
-    }
-}
-
-// What is refused of a file that is read under this form, one and many.
-fn refused_of(kind: Option<Kind>) -> (&'static str, &'static str) {
-    match kind {
-        Some(Kind::Stream) => ("frame refused", "frames refused"),
-        Some(Kind::Rinex4 | Kind::Rinex3) => ("record refused", "records refused"),
-        _ => ("line refused", "lines refused"),
-    }
-}
-
-// Whether a file of this form is read by the week of the clock.
-fn takes_clock(task: &Task, kind: Kind) -> bool {
-    match (task.plan.values.week, row_of(kind, task.plan.target)) {
-        (None, Some(row)) => matches!(row.week, WeekRule::Always),
-        _ => false,
-    }
 }
 
 // Takes the line of a meter away, where there is a terminal.

@@ -3,11 +3,13 @@
 ghost use Rattle.std.specs.Prelude.{◌+◌, ◌≤◌, length};
 
 use crate::files::Task;
+use crate::inputs::Inputs;
 use crate::meter::Meter;
+use crate::parts::part_name;
 use crate::place::{Goal, Place};
 use crate::steps::{converted, told_of};
 use arrayvec::ArrayVec;
-use file_step::part_of;
+use file_step::FileFault;
 use file_words::{Refusal, fits, long_name};
 use front_run::refusal_of;
 use gnss_week::{Civil, Moment, moment_of};
@@ -123,10 +125,10 @@ fn number(digits: &[u8]) -> u16 {
 pub(crate) fn long_name_of<'a>(
     task: &Task<'a>,
     first: &'a str,
-    files: &'a [&'a str],
+    inputs: Inputs<'a>,
     site: &'a str,
 ) -> Result<String, Refusal<'a>> {
-    let (from, to) = range_of(task, first, files)?;
+    let (from, to) = range_of(task, first, inputs)?;
     match long_name(task.rt.alloc(), site, from, to) {
         Ok(name) => Ok(name),
         Err(AllocError) => Err(Refusal::NoMemory),
@@ -137,16 +139,25 @@ pub(crate) fn long_name_of<'a>(
 fn range_of<'a>(
     task: &Task<'a>,
     first: &'a str,
-    files: &'a [&'a str],
+    inputs: Inputs<'a>,
 ) -> Result<(Moment, Moment), Refusal<'a>> {
-    let Ok(part) = part_of(task.rt.alloc(), first) else {
+    let Ok(part) = part_name(task.rt.alloc(), first) else {
         return Err(Refusal::NoMemory);
     };
-    let mut place = Place::new(task.rt, files, Goal::Nowhere);
+    if part.as_str() == first {
+        return Err(Refusal::WriteFault(first, FileFault::NameTooLong));
+    }
+    let mut place = Place::new(task.rt, inputs, Goal::Nowhere, false);
     let told = told_of(None, Meter::off(task.rt));
     let outcome = converted(task, &mut place, told, first, part.as_str(), first);
     match outcome.done {
         Ok(()) => place.range.ok_or(Refusal::NoTimes),
-        Err(stop) => Err(refusal_of(&task.plan, stop, first, first)),
+        Err(stop) => {
+            Err(
+                place
+                    .other()
+                    .unwrap_or(refusal_of(&task.plan, stop, first, first)),
+            )
+        }
     }
 }
