@@ -1,8 +1,9 @@
-//! What a stream or a log has of other systems: its messages, by their headers alone.
+//! What a stream or a log has of other systems: its messages, by their headers.
 
 use crate::systems::{Skips, System, system_of_block, system_of_number, system_of_signal};
 use arrayvec::ArrayVec;
 use file_form::Kind;
+use memchr::memchr;
 
 // So many bytes tell what a message is: of UBX those up to the sigId.
 const ROOM: usize = 9;
@@ -14,11 +15,11 @@ enum Header {
     More,
     // it is none
     Wrong,
-    // a message of so many bytes, of this format and system
-    Message(usize, Format, Option<System>),
+    // a message of so many bytes, of this system
+    Message(usize, Option<System>),
 }
 
-// The format of a message.
+// The format of messages.
 #[derive(Clone, Copy)]
 enum Format {
     Rtcm,
@@ -26,108 +27,204 @@ enum Format {
     Sbf,
 }
 
-/// What was seen of a stream or a log so far. A message counts where another one, or the end, stands
-/// behind it; its checksum is not looked at.
+/// What was seen of a stream or a log so far, under each format that it may have.
 #[derive(Drop)]
 pub(crate) struct Messages {
-    header: ArrayVec<u8, ROOM>,
-    // how many bytes of a message are still to come
-    left: usize,
-    // the message before this place
-    last: Option<(Format, System)>,
-    rtcm: Skips,
-    ubx: Skips,
-    sbf: Skips,
+    rtcm: Walk,
+    ubx: Walk,
+    sbf: Walk,
 }
 
 impl Messages {
     /// Nothing yet.
     pub(crate) fn new() -> Messages {
         Messages {
-            header: ArrayVec::new(),
-            left: 0,
-            last: None,
-            rtcm: Skips::new(),
-            ubx: Skips::new(),
-            sbf: Skips::new(),
-        }
-    }
-
-    /// The messages that are skipped of a file of this form.
-    pub(crate) fn skips(&mut self, kind: Kind) -> Skips {
-        if self.left == 0 {
-            self.count_last();
-        }
-        match kind {
-            Kind::Stream => self.rtcm,
-            Kind::Ubx => self.ubx,
-            Kind::Sbf => self.sbf,
-            _ => Skips::new(),
+            rtcm: Walk::new(Format::Rtcm),
+            ubx: Walk::new(Format::Ubx),
+            sbf: Walk::new(Format::Sbf),
         }
     }
 
     /// Sees a piece.
     pub(crate) fn see(&mut self, piece: &[u8]) {
-        let mut place = 0;
+        self.rtcm.see(piece);
+        self.ubx.see(piece);
+        self.sbf.see(piece);
+    }
+
+    /// The messages that are skipped of a file of this form, which is at its end.
+    pub(crate) fn skips(&mut self, kind: Kind) -> Skips {
+        match kind {
+            Kind::Stream => self.rtcm.end(),
+            Kind::Ubx => self.ubx.end(),
+            Kind::Sbf => self.sbf.end(),
+            _ => Skips::new(),
+        }
+    }
+}
+
+// The messages of one format. One counts where another one, or the end, stands behind it; of UBX one
+// whose checksum is right.
+#[derive(Drop)]
+struct Walk {
+    format: Format,
+    header: ArrayVec<u8, ROOM>,
+    // how many bytes of a message are still to come
+    left: usize,
+    // the system of the message before this place
+    last: Option<System>,
+    // the sums of UBX's checksum (Fletcher's)
+    sums: (u8, u8),
+    skips: Skips,
+}
+
+impl Walk {
+    // Nothing yet.
+    fn new(format: Format) -> Walk {
+        Walk {
+            format,
+            header: ArrayVec::new(),
+            left: 0,
+            last: None,
+            sums: (0, 0),
+            skips: Skips::new(),
+        }
+    }
+
+    // Those that are skipped, at the end.
+    fn end(&mut self) -> Skips {
+        if self.left == 0 {
+            self.count_last();
+        }
+        self.skips
+    }
+
+    // Sees a piece.
+    fn see(&mut self, piece: &[u8]) {
+        let mut rest = piece;
         for _ in 0..piece.len() {
-            let passed = self.left.min(piece.len().saturating_sub(place));
-            self.left -= passed;
-            place = place.saturating_add(passed);
-            match piece.get(place) {
+            rest = self.pass(rest);
+            rest = self.search(rest);
+            match rest.split_first() {
                 None => return,
-                Some(byte) => self.see_byte(*byte),
+                Some((byte, behind)) => {
+                    self.see_byte(*byte);
+                    rest = behind;
+                }
             }
-            place = place.saturating_add(1);
+        }
+    }
+
+    // Passes over bytes of a message; those behind it.
+    fn pass<'a>(&mut self, rest: &'a [u8]) -> &'a [u8] {
+        let passed = self.left.min(rest.len());
+        let (within, behind) = rest.split_at(passed);
+        if self.last.is_some() && matches!(self.format, Format::Ubx) {
+            self.check(within);
+        }
+        self.left -= passed;
+        behind
+    }
+
+    // Looks for the first byte of a header, where none has begun; what begins with it.
+    fn search<'a>(&mut self, rest: &'a [u8]) -> &'a [u8] {
+        if self.left > 0 || !self.header.is_empty() || rest.is_empty() {
+            return rest;
+        }
+        match memchr(first_of(self.format), rest) {
+            Some(0) => {
+                self.count_last();
+                rest
+            }
+            Some(place) => {
+                self.drop_last();
+                rest.get(place..).unwrap_or(&[])
+            }
+            None => {
+                self.drop_last();
+                &[]
+            }
         }
     }
 
     // Sees a byte of a header.
     fn see_byte(&mut self, byte: u8) {
-        if self.header.is_empty() {
-            if !begins(byte) {
-                self.last = None;
-                return;
-            }
-            self.count_last();
-        }
         if self.header.try_push(byte).is_err() {
             self.header.clear();
         }
-        match header_of(self.header.as_slice()) {
+        match header_of(self.format, self.header.as_slice()) {
             Header::More => {}
             Header::Wrong => self.header.clear(),
-            Header::Message(size, format, system) => {
+            Header::Message(size, system) => {
                 self.left = size.saturating_sub(self.header.len());
+                self.last = system;
+                self.sums = sums_of((0, 0), self.header.as_slice().get(2..).unwrap_or(&[]));
                 self.header.clear();
-                self.last = system.map(|system| (format, system));
+            }
+        }
+    }
+
+    // Sees bytes of a UBX message, of which the last two are its checksum.
+    fn check(&mut self, within: &[u8]) {
+        let summed = self.left.saturating_sub(2).min(within.len());
+        let (data, sums) = within.split_at(summed);
+        self.sums = sums_of(self.sums, data);
+        let first = self.left - summed;
+        for (place, byte) in sums.iter().enumerate() {
+            let sum = if first.saturating_sub(place) == 2 {
+                self.sums.0
+            } else {
+                self.sums.1
+            };
+            if *byte != sum {
+                self.last = None;
             }
         }
     }
 
     // Counts the message before this place.
     fn count_last(&mut self) {
-        match self.last {
-            None => {}
-            Some((Format::Rtcm, system)) => self.rtcm.add(system, 1),
-            Some((Format::Ubx, system)) => self.ubx.add(system, 1),
-            Some((Format::Sbf, system)) => self.sbf.add(system, 1),
+        if let Some(system) = self.last {
+            self.skips.add(system, 1);
+        }
+        self.last = None;
+    }
+
+    // Gives the message before this place up, where something else stands behind it; one whose
+    // checksum was right counts.
+    fn drop_last(&mut self) {
+        if matches!(self.format, Format::Ubx) {
+            self.count_last();
         }
         self.last = None;
     }
 }
 
-// Whether a message begins with this byte.
-fn begins(byte: u8) -> bool {
-    matches!(byte, 0xd3 | 0xb5 | b'$')
+// Fletcher's sums of bytes, behind others.
+fn sums_of(before: (u8, u8), bytes: &[u8]) -> (u8, u8) {
+    let (mut first, mut second) = before;
+    for byte in bytes {
+        first = first.wrapping_add(*byte);
+        second = second.wrapping_add(first);
+    }
+    (first, second)
+}
+
+// The byte with which messages of a format begin.
+fn first_of(format: Format) -> u8 {
+    match format {
+        Format::Rtcm => 0xd3,
+        Format::Ubx => 0xb5,
+        Format::Sbf => b'$',
+    }
 }
 
 // What a header says.
-fn header_of(header: &[u8]) -> Header {
-    match header {
-        [0xd3, ..] => rtcm_header(header),
-        [0xb5, ..] => ubx_header(header),
-        [b'$', ..] => sbf_header(header),
-        _ => Header::Wrong,
+fn header_of(format: Format, header: &[u8]) -> Header {
+    match format {
+        Format::Rtcm => rtcm_header(header),
+        Format::Ubx => ubx_header(header),
+        Format::Sbf => sbf_header(header),
     }
 }
 
@@ -148,7 +245,7 @@ fn rtcm_header(header: &[u8]) -> Header {
             } else {
                 system_of_number(number)
             };
-            Header::Message(size.saturating_add(6), Format::Rtcm, system)
+            Header::Message(size.saturating_add(6), system)
         }
         _ => Header::More,
     }
@@ -159,13 +256,22 @@ fn ubx_header(header: &[u8]) -> Header {
     match header {
         [_, second, ..] if *second != b'b' => Header::Wrong,
         [_, _, class, id, low, high] if *class != 2 || *id != 0x13 => {
-            Header::Message(two(*high, *low).saturating_add(8), Format::Ubx, None)
+            sized(two(*high, *low).saturating_add(8), None)
         }
         [_, _, _, _, low, high, system, _, signal] => {
             let system = system_of_signal(*system, *signal);
-            Header::Message(two(*high, *low).saturating_add(8), Format::Ubx, system)
+            sized(two(*high, *low).saturating_add(8), system)
         }
         _ => Header::More,
+    }
+}
+
+// The header of a UBX message of so many bytes: more than 8,192 are none.
+fn sized(size: usize, system: Option<System>) -> Header {
+    if size > 8192 {
+        Header::Wrong
+    } else {
+        Header::Message(size, system)
     }
 }
 
@@ -175,11 +281,7 @@ fn sbf_header(header: &[u8]) -> Header {
         [_, second, ..] if *second != b'@' => Header::Wrong,
         [_, _, _, _, low, high, size_low, size_high] => {
             let number = u16::from(*high % 32) * 256 + u16::from(*low);
-            Header::Message(
-                two(*size_high, *size_low),
-                Format::Sbf,
-                system_of_block(number),
-            )
+            Header::Message(two(*size_high, *size_low), system_of_block(number))
         }
         _ => Header::More,
     }
