@@ -55,8 +55,8 @@ impl Summary<'_, '_> {
             (_, None) => match &self.outcome.counts {
                 None => f.write_str(": written"),
                 Some(counts) => {
-                    write_count(f, ": ", counts.subframes, ("subframe", "subframes"))?;
-                    write_count(f, ", ", counts.pages, ("page", "pages"))
+                    write_count(f, ": ", counts.capture.subframes, ("subframe", "subframes"))?;
+                    write_count(f, ", ", counts.capture.pages, ("page", "pages"))
                 }
             },
         }
@@ -89,7 +89,7 @@ impl Summary<'_, '_> {
         }
         let messages = match &self.outcome.counts {
             None => 0,
-            Some(counts) => counts.refused,
+            Some(counts) => counts.capture.refused,
         };
         write_some(f, any, messages, ("message rejected", "messages rejected"))
     }
@@ -97,7 +97,7 @@ impl Summary<'_, '_> {
     // How many records or messages are skipped.
     fn all_skipped(&self) -> u64 {
         match (&self.outcome.counts, self.outcome.kind) {
-            (Some(counts), _) => counts.other,
+            (Some(counts), _) => counts.log.other,
             (None, Some(Kind::Stream)) => self.count("unused"),
             (None, Some(Kind::Rinex4 | Kind::Rinex3)) => self.count("passed"),
             _ => 0,

@@ -1,3 +1,3 @@
+mod Comings
 mod LogSteps
 mod LogEnds
-mod SourceSteps

@@ -5,52 +5,71 @@ use Rattle.receiver_frames.specs.Headings.{Heading, format_of}
 use Rattle.one_run.specs.Reports.{report_line}
 use Rattle.receiver_messages.specs.declared.said.Reason.{Reason}
 use Rattle.receiver_messages.specs.declared.said.Said.{Said}
+use Rattle.receiver_log.specs.declared.reception.Reception.{Reception}
+use Rattle.receiver_log.specs.declared.state.Counts.{Counts}
 use Rattle.receiver_log.specs.declared.state.LogState.{LogState}
-use Rattle.receiver_log.specs.Log.{LinesGiven, begun, given}
+use Rattle.receiver_log.specs.declared.state.MessageCounts.{MessageCounts}
+use Rattle.receiver_log.specs.Log.{LinesGiven, begun, counted, given_at, none_counted}
+use Rattle.receiver_log.specs.Receptions.{decided_receptions, receptions_of}
 use Rattle.receiver_log.specs.Report.{counts_report, reason_word}
 
--- the lines of messages, from a state, by their content
-abbrev pub lines_from : (List ℕ → Said) → LogState → List (List ℕ) → List ℕ
-lines_from said s [] = []
-lines_from said s (m ∷ ms) =
-    (given s (length m) (said m)).text ++ lines_from said (given s (length m) (said m)).state ms
+-- the result of a reception
+abbrev pub given : LogState → Reception → LinesGiven
+given s r = given_at s r.time r.content
 
--- the state after messages
-abbrev pub state_after : (List ℕ → Said) → LogState → List (List ℕ) → LogState
-state_after said s [] = s
-state_after said s (m ∷ ms) = state_after said (given s (length m) (said m)).state ms
+-- the lines of receptions, from a state
+abbrev pub lines_from : LogState → List Reception → List ℕ
+lines_from s [] = []
+lines_from s (r ∷ rs) = (given s r).text ++ lines_from (given s r).state rs
+
+-- the state after receptions
+abbrev pub state_after : LogState → List Reception → LogState
+state_after s [] = s
+state_after s (r ∷ rs) = state_after (given s r).state rs
 
 -- the report line of a refused message, by its number in the log
 abbrev pub refusal_line : ℕ → Option Reason → List ℕ
 refusal_line number None = []
 refusal_line number (Some reason) = report_line (codes "message") number (reason_word reason)
 
--- the report line of a message, if it was refused
-abbrev pub refusal_text : LinesGiven → List ℕ
-refusal_text g = refusal_line g.state.counts.messages g.refused
+-- the report line of a reception, if it was refused
+abbrev pub refusal_text : LogState → Reception → List ℕ
+refusal_text s r = refusal_line r.number (given s r).refused
 
--- the report lines of messages
-abbrev pub refusals_from : (List ℕ → Said) → LogState → List (List ℕ) → List ℕ
-refusals_from said s [] = []
-refusals_from said s (m ∷ ms) =
-    refusal_text (given s (length m) (said m))
-    ++ refusals_from said (given s (length m) (said m)).state ms
+-- the report lines of receptions
+abbrev pub refusals_from : LogState → List Reception → List ℕ
+refusals_from s [] = []
+refusals_from s (r ∷ rs) = refusal_text s r ++ refusals_from (given s r).state rs
+
+-- the counts with these messages more
+abbrev pub counts_after : (List ℕ → Said) → MessageCounts → List (List ℕ) → MessageCounts
+counts_after said c [] = c
+counts_after said c (m ∷ ms) = counts_after said (counted c (length m) (said m)) ms
+
+-- the counts of a log's messages, and of what became of its subframes and pages
+abbrev pub counts_of : (List ℕ → Said) → List (List ℕ) → Counts
+counts_of said ms = record {
+  log = counts_after said none_counted ms;
+  capture = (state_after begun (receptions_of said ms)).counts;
+}
 
 -- the capture of the bytes of a log
 abbrev pub capture_of : Heading → (List ℕ → Said) → List ℕ → List ℕ
-capture_of heading said bytes = lines_from said begun (messages (format_of heading) bytes)
+capture_of heading said bytes =
+    lines_from begun (receptions_of said (messages (format_of heading) bytes))
 
 -- the report of a log: a line for each refused message, and the counts
 abbrev pub report_of : Heading → (List ℕ → Said) → List ℕ → List ℕ
 report_of heading said bytes =
-    refusals_from said begun (messages (format_of heading) bytes)
-    ++ counts_report (state_after said begun (messages (format_of heading) bytes)).counts
-    (length bytes)
+    refusals_from begun (receptions_of said (messages (format_of heading) bytes))
+    ++ counts_report (counts_of said (messages (format_of heading) bytes)) (length bytes)
 
--- the capture of the first bytes of a log: the lines of the decided messages, which stay whatever follows
+-- the capture of the first bytes of a log: the lines of what is received in the decided messages and stays whatever follows
 abbrev pub decided_capture : Heading → (List ℕ → Said) → List ℕ → List ℕ
-decided_capture heading said bytes = lines_from said begun (decided (format_of heading) bytes)
+decided_capture heading said bytes =
+    lines_from begun (decided_receptions said (decided (format_of heading) bytes))
 
--- the report lines of the decided messages
+-- the report lines of the same
 abbrev pub decided_report : Heading → (List ℕ → Said) → List ℕ → List ℕ
-decided_report heading said bytes = refusals_from said begun (decided (format_of heading) bytes)
+decided_report heading said bytes =
+    refusals_from begun (decided_receptions said (decided (format_of heading) bytes))

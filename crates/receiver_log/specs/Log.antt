@@ -1,4 +1,4 @@
--- The lines of a log's messages, message by message.
+-- The lines of a log's subframes and pages, one by one, and the counts of its messages.
 use Rattle.std.specs.Prelude.{◌≡◌, ℕ, ◌+◌, ◌-◌, ◌*◌, ◌/◌, ◌^◌, nat_lt, nat_le, min, Bool}
 use Rattle.std.specs.Prelude.{if◌then◌else◌, List, [], ◌++◌, codes, decimal}
 use Rattle.std.specs.Prelude.{Option, Some, None}
@@ -13,7 +13,8 @@ use Rattle.receiver_messages.specs.declared.said.Reason.TheVariants.{Untimed, La
 use Rattle.receiver_messages.specs.declared.said.Said.{Said}
 use Rattle.receiver_messages.specs.declared.said.Said.TheVariants.{Other, Time, Heard, Dated}
 use Rattle.receiver_log.specs.declared.state.LogState.{LogState}
-use Rattle.receiver_log.specs.declared.state.Counts.{Counts}
+use Rattle.receiver_log.specs.declared.state.CaptureCounts.{CaptureCounts}
+use Rattle.receiver_log.specs.declared.state.MessageCounts.{MessageCounts}
 
 -- one more; a count saturates at 2^64 - 1
 abbrev pub one_more : ℕ → ℕ
@@ -23,7 +24,7 @@ one_more n = min (n + 1) (2 ^ 64 - 1)
 abbrev pub more_if : Bool → ℕ → ℕ
 more_if b n = if b then one_more n else n
 
--- the result of a message: the new state, its lines, and the reason where it is refused
+-- the result of a subframe or a page: the new state, its lines, and the reason where it is refused
 pub record LinesGiven : Type 0 where
   pub state : LogState
   pub text : List ℕ
@@ -59,7 +60,7 @@ refused_by s reason = record {
 }
 
 -- the counts after a subframe that is written
-abbrev pub subframe_counted : Counts → List ℕ → Counts
+abbrev pub subframe_counted : CaptureCounts → List ℕ → CaptureCounts
 subframe_counted c words = record c {
   subframes = one_more c.subframes;
   turned = more_if (is_inverted words) c.turned;
@@ -102,61 +103,30 @@ given_at s None (Page sat signal even odd) = refused_by s Untimed
 given_at s (Some time) (Page sat signal even odd) =
     page_in s time sat signal even odd (reason_in (week_of s.week (time - 1)) (time - 1) time)
 
--- the result of a message of another type, or of a time message without a valid time
-abbrev pub passed_over : LogState → Option ℕ → LinesGiven
-passed_over s time = record {
-  state = record s { time = time; counts = record s.counts { other = one_more s.counts.other } };
-  text = [];
-  refused = None;
-}
+-- a time message counts where it gives a time; without one it counts as other
+abbrev pub counted_as : Said → MessageCounts → MessageCounts
+counted_as Other c = record c { other = one_more c.other }
+counted_as (Time (Some time)) c = record c { times = one_more c.times }
+counted_as (Time None) c = record c { other = one_more c.other }
+counted_as (Heard content) c = c
+counted_as (Dated time content) c = c
 
--- the result of a message, by its content
-abbrev pub given_by : LogState → Said → LinesGiven
-given_by s Other = passed_over s s.time
-given_by s (Time (Some time)) = record {
-  state = record s {
-    time = Some time;
-    counts =
-        record s.counts { times = one_more s.counts.times };
-  };
-  text = [];
-  refused = None;
-}
-given_by s (Time None) = passed_over s None
-given_by s (Heard content) = given_at s s.time content
-given_by s (Dated time content) = given_at s time content
+-- the counts with one more message of this many bytes and this content
+abbrev pub counted : MessageCounts → ℕ → Said → MessageCounts
+counted c bytes said = counted_as said (record c {
+  messages = one_more c.messages;
+  within = min (c.within + bytes) (2 ^ 64 - 1);
+})
 
--- the state with one more message of this many bytes counted
-abbrev pub counted : LogState → ℕ → LogState
-counted s bytes = record s {
-  counts =
-      record s.counts {
-        messages = one_more s.counts.messages;
-        within = min
-            (s.counts.within + bytes) (2 ^ 64 - 1);
-      };
-}
+-- the counts before the first message
+abbrev pub none_counted : MessageCounts
+none_counted = record { messages = 0; within = 0; times = 0; other = 0 }
 
--- the result of a message of this many bytes, which is counted
-abbrev pub given : LogState → ℕ → Said → LinesGiven
-given s bytes said = given_by (counted s bytes) said
-
--- the state before the first message
+-- the state before the first subframe or page
 abbrev pub begun : LogState
 begun = record {
-  time = None;
   week = None;
-  counts = record {
-    messages = 0;
-    within = 0;
-    times = 0;
-    subframes = 0;
-    pages = 0;
-    refused = 0;
-    other = 0;
-    turned = 0;
-    parity = 0;
-  };
+  counts = record { subframes = 0; pages = 0; refused = 0; turned = 0; parity = 0 };
 }
 
 -- state, lines and reason are those of the result

@@ -1,28 +1,27 @@
 -- The part of a log's capture that is left, and why a read of it fails.
 use Rattle.std.specs.Prelude.{◌≡◌, ◌≤◌, ℕ, ◌+◌, ◌-◌, ◌*◌, ◌^◌, nat_lt, Bool, false, if◌then◌else◌}
-use Rattle.std.specs.Prelude.{List, ◌++◌, length, Option, Some, None, Result, OnOk, OnErr, ◌⊎◌, ⊤}
+use Rattle.std.specs.Prelude.{List, [], ◌++◌, length, Option, Some, None, Result, OnOk, OnErr, ◌⊎◌, ⊤}
 use Rattle.nav_io.specs.Causes.{Rose}
-use Rattle.receiver_frames.specs.Messages.{messages}
-use Rattle.receiver_frames.specs.Headings.{Heading, format_of}
-use Rattle.receiver_frames.specs.State.{DeframerState}
+use Rattle.receiver_frames.specs.Headings.{Heading}
 use Rattle.receiver_messages.specs.declared.said.Said.{Said}
 use Rattle.receiver_log.specs.declared.state.LogState.{LogState}
 use Rattle.receiver_log.specs.Capture.{capture_of, lines_from}
 use Rattle.receiver_log.specs.LogRuns.{too_many}
+use Rattle.receiver_log.specs.Mirrors.{Place, ahead}
 
 -- the capture of a log's bytes, where they are known
 abbrev pub capture_left : Heading → (List ℕ → Said) → Option (List ℕ) → Option (List ℕ)
 capture_left heading said None = None
 capture_left heading said (Some bytes) = Some (capture_of heading said bytes)
 
--- what is left of the capture in the middle of a log: lines that wait, then those of the messages in the bytes held, in the
--- piece read and in what follows; after the end only in the bytes held
-abbrev pub left_of : Heading → (List ℕ → Said) → LogState → List ℕ → DeframerState → List ℕ
+-- what is left of the capture in the middle of a log: lines that wait, then those of the receptions to come, from the
+-- bytes held, from the piece read and from what follows; after the end only from the bytes held
+abbrev pub left_of : Heading → (List ℕ → Said) → LogState → List ℕ → Place → Bool → List ℕ
     → Option (List ℕ) → Option (List ℕ)
-left_of heading said s waiting held piece None = None
-left_of heading said s waiting held piece (Some following) =
-    Some (waiting ++ lines_from said s (messages (format_of heading)
-    (if held.finished then held.rest else held.rest ++ (piece ++ following))))
+left_of heading said s waiting place finished piece None = None
+left_of heading said s waiting place finished piece (Some following) =
+    Some (waiting ++ lines_from s (ahead heading said false place
+    (if finished then [] else piece ++ following)))
 
 -- the log's bytes are known, and with those read before are fewer than too_many
 abbrev pub is_short : ℕ → Option (List ℕ) → Bool

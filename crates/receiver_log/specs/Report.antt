@@ -17,9 +17,9 @@ reason_word Far = codes "far"
 -- the nine lines of counts, of a log of this many bytes
 abbrev pub counts_report : Counts → ℕ → List ℕ
 counts_report c bytes =
-    (((((((count_line (codes "messages") c.messages
-    ++ count_line (codes "skipped") (bytes - c.within))
-    ++ count_line (codes "times") c.times) ++ count_line (codes "subframes") c.subframes)
-    ++ count_line (codes "pages") c.pages) ++ count_line (codes "refused") c.refused)
-    ++ count_line (codes "other") c.other) ++ count_line (codes "turned") c.turned)
-    ++ count_line (codes "parity") c.parity
+    (((((((count_line (codes "messages") c.log.messages
+    ++ count_line (codes "skipped") (bytes - c.log.within))
+    ++ count_line (codes "times") c.log.times) ++ count_line (codes "subframes") c.capture.subframes)
+    ++ count_line (codes "pages") c.capture.pages) ++ count_line (codes "refused") c.capture.refused)
+    ++ count_line (codes "other") c.log.other) ++ count_line (codes "turned") c.capture.turned)
+    ++ count_line (codes "parity") c.capture.parity

@@ -1,4 +1,4 @@
-//! The lines of one message.
+//! The lines of one subframe or page.
 
 ghost use Rattle.std.specs.Prelude.{◌≡◌, ◌+◌, ◌-◌, ◌*◌};
 ghost use Rattle.std.specs.Prelude.{◌^◌, ◌<◌, ◌≤◌, ◌++◌};
@@ -6,16 +6,18 @@ ghost use Rattle.arrayvec.specs.ArrayVec.{array_vec_len};
 ghost use Rattle.std.specs.Prelude.{ℕ, Some, IfNone};
 ghost use Rattle.nav_eph.specs.declared.sat.System.TheVariants.{Gps, Gal};
 ghost use Rattle.receiver_messages.specs.declared.said.Content.TheVariants.{Subframe, Page};
-ghost use Rattle.receiver_messages.specs.Systems.{IsOfSystem, SaysOfSystem};
-ghost use Rattle.receiver_log.specs.Log.{Gives, given, given_at, head_text, refused_by};
+ghost use Rattle.receiver_messages.specs.Systems.{IsOfSystem};
+ghost use Rattle.receiver_log.specs.Capture.{given};
+ghost use Rattle.receiver_log.specs.Log.{Gives, given_at, head_text, refused_by};
 ghost use Rattle.receiver_log.specs.Log.{reason_in as reason_of, week_of as head_week};
 
 use crate::lines::{Lines, append_half, append_head, append_subframe};
+use crate::reception::Reception;
 use crate::state::LogState;
 use gnss_week::Moment;
 use nav_bits::{Bits, U};
 use nav_eph::{Sat, Signal};
-use receiver_messages::{Content, Reason, Said, read_words, subframe_bits};
+use receiver_messages::{Content, Reason, read_words, subframe_bits};
 
 // The seconds of a week.
 const WEEK: u64 = 604_800;
@@ -23,34 +25,14 @@ const WEEK: u64 = 604_800;
 // Half the range in weeks of a ten-bit week number.
 const FAR: u64 = 512;
 
-/// Processes a message of `bytes` bytes with this content: appends its lines, and gives the reason
-/// where it is refused.
-pub fn hear(state: &mut LogState, bytes: usize, said: &Said, lines: &mut Lines) -> Option<Reason>
+/// Processes a subframe or a page: appends its lines, and gives the reason where it is refused.
+pub fn hear(state: &mut LogState, reception: &Reception, lines: &mut Lines) -> Option<Reason>
     requires room { array_vec_len lines.old + 8192 ≤ 16384 }
-    requires system { SaysOfSystem said.now }
+    requires system { IsOfSystem reception.now.content }
     ensures { Gives state.new lines.old.items lines.new.items result
-        (given state.old bytes said.now) }
+        (given state.old reception.now) }
 {
-    state.counts.messages = state.counts.messages.saturating_add(1);
-    state.counts.within = state.counts.within.saturating_add(bytes as u64);
-    match said {
-        Said::Other => {
-            state.counts.other = state.counts.other.saturating_add(1);
-            None
-        }
-        Said::Time(Some(time)) => {
-            state.time = Some(*time);
-            state.counts.times = state.counts.times.saturating_add(1);
-            None
-        }
-        Said::Time(None) => {
-            state.time = None;
-            state.counts.other = state.counts.other.saturating_add(1);
-            None
-        }
-        Said::Heard(content) => hear_at(state, state.time, content, lines),
-        Said::Dated(time, content) => hear_at(state, *time, content, lines),
-    }
+    hear_at(state, reception.time, &reception.content, lines)
 }
 
 // Processes a subframe or a page received at a time.

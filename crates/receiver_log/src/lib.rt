@@ -5,7 +5,7 @@
 //! counted from the start of the week in the first line.
 //!
 //! - [`Receiver`], a format of messages and their content: `UbxJudge` and `SbfJudge`;
-//! - [`hear`], the lines of one message;
+//! - [`hear`], the lines of one subframe or page;
 //! - [`run_log`], which writes the capture of a log, and reports refused messages and counts;
 //! - [`LogSource`], over a source of the log's bytes, which gives the same capture however reads
 //!   cut it, so that a conversion of captures can read a log; [`refusal`] and [`counts_text`], what
@@ -21,7 +21,10 @@
 
 mod hearing;
 mod lines;
+mod log;
+mod queue;
 mod receiver;
+mod reception;
 mod report;
 mod run;
 mod source;
@@ -31,7 +34,8 @@ mod taking;
 pub use crate::hearing::hear;
 pub use crate::lines::Lines;
 pub use crate::receiver::Receiver;
+pub use crate::reception::Reception;
 pub use crate::report::{counts_text, refusal};
 pub use crate::run::run_log;
 pub use crate::source::{LogParts, LogSource, Refusals, Unheard};
-pub use crate::state::{Counts, LogState};
+pub use crate::state::{CaptureCounts, Counts, LogState, MessageCounts};

@@ -1,10 +1,10 @@
 //! Formats of receivers.
 
-ghost use Rattle.std.specs.Prelude.{◌≡◌, List, ℕ};
+ghost use Rattle.std.specs.Prelude.{◌≡◌, List, ℕ, Bool, true, false};
 ghost use Rattle.receiver_messages.specs.declared.said.Said.{Said as WhatIsSaid};
 ghost use Rattle.receiver_messages.specs.Sbf.{sbf_said as sbf_says};
 ghost use Rattle.receiver_messages.specs.Ubx.{ubx_said as ubx_says};
-ghost use Rattle.receiver_messages.specs.Systems.{SaysOfSystem};
+ghost use Rattle.receiver_messages.specs.Systems.{SaysOfSystem, SaysTimes};
 
 use receiver_frames::{Judge, SbfJudge, UbxJudge};
 use receiver_messages::{Said, sbf_said, ubx_said};
@@ -14,14 +14,20 @@ pub trait Receiver: Judge {
     // The content of a whole message.
     ghost said: { List ℕ → WhatIsSaid };
 
+    // Whether messages have times of their own; else time messages stand between them.
+    ghost has_times: { Bool };
+
     /// The content of a whole message.
     fn tell(message: &[u8]) -> Said
         ensures value { result ≡ said message.now }
-        ensures system { SaysOfSystem result };
+        ensures system { SaysOfSystem result }
+        ensures times { SaysTimes has_times result };
 }
 
 impl Receiver for UbxJudge {
     ghost said = { ubx_says };
+
+    ghost has_times = { false };
 
     fn tell(message: &[u8]) -> Said {
         ubx_said(message)
@@ -30,6 +36,8 @@ impl Receiver for UbxJudge {
 
 impl Receiver for SbfJudge {
     ghost said = { sbf_says };
+
+    ghost has_times = { true };
 
     fn tell(message: &[u8]) -> Said {
         sbf_said(message)

@@ -34,14 +34,18 @@ pub fn counts_text(counts: &Counts, taken: u64) -> Text
     ensures { result.items ≡ counts_report counts.now taken }
 {
     let mut text = Text::new();
-    append_count(&mut text, b"messages", counts.messages);
-    append_count(&mut text, b"skipped", taken.saturating_sub(counts.within));
-    append_count(&mut text, b"times", counts.times);
-    append_count(&mut text, b"subframes", counts.subframes);
-    append_count(&mut text, b"pages", counts.pages);
-    append_count(&mut text, b"refused", counts.refused);
-    append_count(&mut text, b"other", counts.other);
-    append_count(&mut text, b"turned", counts.turned);
-    append_count(&mut text, b"parity", counts.parity);
+    append_count(&mut text, b"messages", counts.log.messages);
+    append_count(
+        &mut text,
+        b"skipped",
+        taken.saturating_sub(counts.log.within),
+    );
+    append_count(&mut text, b"times", counts.log.times);
+    append_count(&mut text, b"subframes", counts.capture.subframes);
+    append_count(&mut text, b"pages", counts.capture.pages);
+    append_count(&mut text, b"refused", counts.capture.refused);
+    append_count(&mut text, b"other", counts.log.other);
+    append_count(&mut text, b"turned", counts.capture.turned);
+    append_count(&mut text, b"parity", counts.capture.parity);
     text
 }

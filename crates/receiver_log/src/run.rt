@@ -12,19 +12,13 @@ ghost use Rattle.one_run.specs.Runs.{world};
 ghost use Rattle.receiver_log.specs.LogRuns.{LogEnded, LogEndedBy};
 ghost use Rattle.receiver_log.specs.Report.{counts_report};
 
+use crate::log::{Log, PIECE, TOO_MANY};
 use crate::receiver::Receiver;
 use crate::report::counts_text;
-use crate::state::{Counts, LogState};
+use crate::state::Counts;
 use crate::taking::{process_messages, process_piece};
 use nav_io::{Failed, Sink, Source};
 use one_run::BridgeFault;
-use receiver_frames::Deframer;
-
-// The most bytes of one read.
-const PIECE: usize = 16_384;
-
-// The count of bytes from which a log is too long: 2^64 - 16,384.
-const TOO_MANY: u64 = 18_446_744_073_709_535_232;
 
 /// Writes the capture of a log, reports refused messages and counts, and gives the exit status.
 ///
@@ -85,21 +79,20 @@ fn convert_log<J: Receiver, S: Source, T: Sink, U: Sink>(
         report.new (U.written report.new) (U.faults report.new))
         result }
 {
-    let mut deframer: Deframer<J> = Deframer::new();
-    let mut state = LogState::new();
+    let mut log: Log<J> = Log::new();
     let mut piece = [0u8; PIECE];
     let mut taken: u64 = 0;
     while taken < TOO_MANY {
         match read_some(input, &mut piece) {
             Err(Failed) => return Err(BridgeFault::ReadFault),
             Ok(0) => {
-                deframer.finish();
-                process_messages(&mut deframer, &mut state, output, report)?;
-                return report_counts(&state.counts, taken, report);
+                log.finish();
+                process_messages(&mut log, output, report)?;
+                return report_counts(&log.counts(), taken, report);
             }
             Ok(count) => {
                 taken += count as u64;
-                process_piece(&mut deframer, &mut state, &piece[..count], output, report)?;
+                process_piece(&mut log, &piece[..count], output, report)?;
             }
         }
     }

@@ -5,32 +5,24 @@ ghost use Rattle.std.specs.Prelude.{◌≤◌, ◌++◌, ℕ, List, [], length};
 ghost use Rattle.std.specs.Prelude.{drop, take, nat_lt, ◌&&◌, true, false};
 ghost use Rattle.std.specs.Prelude.{IsTrue, IsOk, IfOk, OnOk, OnErr, MatchResult};
 ghost use Rattle.receiver_frames.specs.Headings.{format_of};
-ghost use Rattle.receiver_frames.specs.Messages.{messages};
 ghost use Rattle.receiver_frames.specs.State.{IsWaiting, MayFeed};
 ghost use Rattle.std.specs.Io.{ReadsAtMost};
 ghost use Rattle.std.specs.Io.KnownBytes.{Consumes, IsAtEnd, Keeps, ReadConsumes};
 ghost use Rattle.nav_io.specs.Causes.{HasCause};
-ghost use Rattle.receiver_log.specs.Log.{Gives, given};
 ghost use Rattle.receiver_log.specs.Capture.{lines_from};
+ghost use Rattle.receiver_log.specs.LogPlaces.{place_of};
+ghost use Rattle.receiver_log.specs.Mirrors.{ahead};
 ghost use Rattle.receiver_log.specs.LogRuns.{too_many};
-ghost use Rattle.receiver_log.specs.declared.state.LogState.{LogState as LogStateNow};
 ghost use Rattle.receiver_log.specs.LogLeft.{HasLogCause, KeepsLength};
 ghost use Rattle.receiver_log.specs.LogLeft.{capture_left, is_short, left_of, steps_left};
 
-use crate::{Counts, Lines, LogState, Receiver, hear};
+use crate::lines::Lines;
+use crate::log::{Log, PIECE, ROOM, Refusal, TOO_MANY};
+use crate::receiver::Receiver;
+use crate::state::Counts;
 use arrayvec::ArrayVec;
 use nav_io::{Failed, Source};
-use receiver_frames::Deframer;
 use receiver_messages::Reason;
-
-// The most bytes of one read.
-const PIECE: usize = 16_384;
-
-// While at most this many bytes of lines wait, the lines of one more message have room.
-const ROOM: usize = 8_192;
-
-// The count of bytes from which a log is too long: 2^64 - 16,384.
-const TOO_MANY: u64 = 18_446_744_073_709_535_232;
 
 /// Who is told which messages are refused. Nothing that it does changes what is read.
 pub trait Refusals: Drop {
@@ -69,10 +61,8 @@ pub struct LogParts<S: Source, N: Refusals> {
 pub struct LogSource<J: Receiver, S: Source, N: Refusals> {
     source: S,
     refusals: N,
-    deframer: Deframer<J>,
-    state: LogState,
-    // lines, of which the first `given` bytes were given
-    lines: Lines,
+    // with lines, of which the first `given` bytes were given
+    log: Log<J>,
     given: usize,
     // bytes read, of which the first `fed` were fed to the deframer
     piece: ArrayVec<u8, 16_384>,
@@ -97,9 +87,7 @@ impl<J: Receiver, S: Source, N: Refusals> LogSource<J, S, N> {
         LogSource {
             source,
             refusals,
-            deframer: Deframer::new(),
-            state: LogState::new(),
-            lines: ArrayVec::new(),
+            log: Log::new(),
             given: 0,
             piece: ArrayVec::new(),
             fed: 0,
@@ -119,9 +107,7 @@ impl<J: Receiver, S: Source, N: Refusals> LogSource<J, S, N> {
         let LogSource {
             source,
             refusals,
-            deframer: _,
-            state,
-            lines: _,
+            log,
             given: _,
             piece: _,
             fed: _,
@@ -131,7 +117,7 @@ impl<J: Receiver, S: Source, N: Refusals> LogSource<J, S, N> {
         LogParts {
             source,
             refusals,
-            counts: state.counts,
+            counts: log.counts(),
             taken,
         }
     }
@@ -139,20 +125,26 @@ impl<J: Receiver, S: Source, N: Refusals> LogSource<J, S, N> {
     // One step, where no line waits: hears the messages that are decided, or else feeds bytes or
     // reads some; whether anything may follow.
     fn step(&mut self) -> Result<bool, Failed>
-        requires given { length self.old.lines.items ≤ self.old.given }
+        requires given { length self.old.log.lines.items ≤ self.old.given }
         ensures left { Keeps
-            (left_of J.heading J.said self.old.state [] self.old.deframer
-            (drop self.old.fed self.old.piece.items) (S.left self.old.source))
-            (left_of J.heading J.said self.new.state (drop self.new.given self.new.lines.items)
-            self.new.deframer (drop self.new.fed self.new.piece.items) (S.left self.new.source)) }
+            (left_of J.heading J.said self.old.log.state []
+            (place_of self.old.log.deframer self.old.log.queue self.old.log.counts)
+            self.old.log.deframer.finished (drop self.old.fed self.old.piece.items)
+            (S.left self.old.source))
+            (left_of J.heading J.said self.new.log.state (drop self.new.given self.new.log.lines.items)
+            (place_of self.new.log.deframer self.new.log.queue self.new.log.counts)
+            self.new.log.deframer.finished (drop self.new.fed self.new.piece.items)
+            (S.left self.new.source)) }
         ensures end { IfOk result (λ more. more ≡ false → IsAtEnd
-            (left_of J.heading J.said self.new.state (drop self.new.given self.new.lines.items)
-            self.new.deframer (drop self.new.fed self.new.piece.items) (S.left self.new.source))) }
+            (left_of J.heading J.said self.new.log.state (drop self.new.given self.new.log.lines.items)
+            (place_of self.new.log.deframer self.new.log.queue self.new.log.counts)
+            self.new.log.deframer.finished (drop self.new.fed self.new.piece.items)
+            (S.left self.new.source))) }
         ensures onward { IfOk result (λ more. more ≡ true
             → steps_left self.new.taken (length self.new.piece.items - self.new.fed)
-            self.new.deframer.finished (nat_lt self.new.given (length self.new.lines.items))
+            self.new.log.deframer.finished (nat_lt self.new.given (length self.new.log.lines.items))
             < steps_left self.old.taken (length self.old.piece.items - self.old.fed)
-            self.old.deframer.finished false) }
+            self.old.log.deframer.finished false) }
         ensures cause { HasCause (S.faults self.old.source + self.old.faults)
             (S.faults self.new.source + self.new.faults) result }
         ensures fault { HasLogCause (S.faults self.old.source) (S.faults self.new.source)
@@ -164,23 +156,18 @@ impl<J: Receiver, S: Source, N: Refusals> LogSource<J, S, N> {
             → IsOk result × IsTrue (S.never_fails self.new.source)
             × IsTrue (is_short self.new.taken (S.left self.new.source)) }
     {
-        self.lines.clear();
+        self.log.lines.clear();
         self.given = 0;
-        hear_messages(
-            &mut self.deframer,
-            &mut self.state,
-            &mut self.lines,
-            &mut self.refusals,
-        );
-        if !self.lines.is_empty() {
+        hear_messages(&mut self.log, &mut self.refusals);
+        if !self.log.lines.is_empty() {
             return Ok(true);
         }
-        if !self.deframer.may_feed() {
+        if !self.log.deframer.may_feed() {
             return Ok(false);
         }
         refill(
             &mut self.source,
-            &mut self.deframer,
+            &mut self.log,
             &mut self.piece,
             &mut self.fed,
             &mut self.taken,
@@ -191,7 +178,8 @@ impl<J: Receiver, S: Source, N: Refusals> LogSource<J, S, N> {
 }
 
 impl<J: Receiver, S: Source, N: Refusals> Source for LogSource<J, S, N> {
-    ghost left = { λ s. left_of J.heading J.said s.state (drop s.given s.lines.items) s.deframer
+    ghost left = { λ s. left_of J.heading J.said s.log.state (drop s.given s.log.lines.items)
+        (place_of s.log.deframer s.log.queue s.log.counts) s.log.deframer.finished
         (drop s.fed s.piece.items) (S.left s.source) };
 
     ghost faults = { λ s. S.faults s.source + s.faults };
@@ -206,10 +194,14 @@ impl<J: Receiver, S: Source, N: Refusals> Source for LogSource<J, S, N> {
         requires asks { length into.old ≤ 16384 }
         ensures bound { ReadsAtMost result into.new }
         ensures bytes { ReadConsumes
-            (left_of J.heading J.said self.old.state (drop self.old.given self.old.lines.items)
-            self.old.deframer (drop self.old.fed self.old.piece.items) (S.left self.old.source))
-            (left_of J.heading J.said self.new.state (drop self.new.given self.new.lines.items)
-            self.new.deframer (drop self.new.fed self.new.piece.items) (S.left self.new.source))
+            (left_of J.heading J.said self.old.log.state (drop self.old.given self.old.log.lines.items)
+            (place_of self.old.log.deframer self.old.log.queue self.old.log.counts)
+            self.old.log.deframer.finished (drop self.old.fed self.old.piece.items)
+            (S.left self.old.source))
+            (left_of J.heading J.said self.new.log.state (drop self.new.given self.new.log.lines.items)
+            (place_of self.new.log.deframer self.new.log.queue self.new.log.counts)
+            self.new.log.deframer.finished (drop self.new.fed self.new.piece.items)
+            (S.left self.new.source))
             result into.new }
         ensures cause { HasCause (S.faults self.old.source + self.old.faults)
             (S.faults self.new.source + self.new.faults) result }
@@ -225,12 +217,12 @@ impl<J: Receiver, S: Source, N: Refusals> Source for LogSource<J, S, N> {
         if into.is_empty() {
             return Ok(0);
         }
-        while self.given >= self.lines.len() {
+        while self.given >= self.log.lines.len() {
             if !self.step()? {
                 return Ok(0);
             }
         }
-        let count = give(&self.lines, self.given, into);
+        let count = give(&self.log.lines, self.given, into);
         self.given += count;
         Ok(count)
     }
@@ -251,52 +243,29 @@ fn give(lines: &Lines, from: usize, into: &mut [u8]) -> usize
 }
 
 // Hears messages, until there are many lines or no message is decided.
-fn hear_messages<J: Receiver, N: Refusals>(
-    deframer: &mut Deframer<J>,
-    state: &mut LogState,
-    lines: &mut Lines,
-    refusals: &mut N,
-)
-    ensures stream { (following : List ℕ) → (deframer.old.finished ≡ true → following ≡ [])
-        → lines.old.items ++ lines_from J.said state.old
-        (messages (format_of J.heading) (deframer.old.rest ++ following))
-        ≡ lines.new.items ++ lines_from J.said state.new
-        (messages (format_of J.heading) (deframer.new.rest ++ following)) }
-    ensures finished { deframer.new.finished ≡ deframer.old.finished }
-    ensures none { length lines.new.items ≤ 8192
-        → IsWaiting (format_of J.heading) deframer.new.rest
-        × (deframer.new.finished ≡ true → deframer.new.rest ≡ []) }
+fn hear_messages<J: Receiver, N: Refusals>(log: &mut Log<J>, refusals: &mut N)
+    ensures stream { (following : List ℕ) → (log.old.deframer.finished ≡ true → following ≡ [])
+        → log.old.lines.items ++ lines_from log.old.state (ahead J.heading J.said false
+        (place_of log.old.deframer log.old.queue log.old.counts) following)
+        ≡ log.new.lines.items ++ lines_from log.new.state (ahead J.heading J.said false
+        (place_of log.new.deframer log.new.queue log.new.counts) following) }
+    ensures finished { log.new.deframer.finished ≡ log.old.deframer.finished }
+    ensures none { length log.new.lines.items ≤ 8192
+        → IsWaiting (format_of J.heading) log.new.deframer.rest
+        × (log.new.deframer.finished ≡ true → ahead J.heading J.said false
+        (place_of log.new.deframer log.new.queue log.new.counts) [] ≡ []) }
 {
-    while lines.len() <= ROOM {
-        if !deframer.next_message() {
+    while log.lines.len() <= ROOM {
+        if !log.step() {
             return;
         }
-        hear_message(deframer, state, lines, refusals);
+        tell(refusals, log.refused);
     }
 }
 
-// Hears the message that was taken last.
-fn hear_message<J: Receiver, N: Refusals>(
-    deframer: &Deframer<J>,
-    state: &mut LogState,
-    lines: &mut Lines,
-    refusals: &mut N,
-)
-    requires { length lines.old.items ≤ 8192 }
-    ensures state { state.new
-        ≡ (given state.old (length deframer.now.message) (J.said deframer.now.message)).state }
-    ensures lines { lines.new.items ≡ lines.old.items
-        ++ (given state.old (length deframer.now.message) (J.said deframer.now.message)).text }
-{
-    let message = deframer.message();
-    let said = J::tell(message);
-    let refused = hear(state, message.len(), &said, lines);
-    tell(refusals, state.counts.messages, refused);
-}
-
-// Tells that the message of this number is refused, where it is.
-fn tell<N: Refusals>(refusals: &mut N, number: u64, refused: Option<Reason>) {
-    if let Some(reason) = refused {
+// Tells which message the last step refused.
+fn tell<N: Refusals>(refusals: &mut N, refused: Option<Refusal>) {
+    if let Some(Refusal { number, reason }) = refused {
         refusals.refused(number, reason);
     }
 }
@@ -304,21 +273,24 @@ fn tell<N: Refusals>(refusals: &mut N, number: u64, refused: Option<Reason>) {
 // Feeds bytes that were read, or reads more, or signals the end.
 fn refill<S: Source, J: Receiver>(
     source: &mut S,
-    deframer: &mut Deframer<J>,
+    log: &mut Log<J>,
     piece: &mut ArrayVec<u8, 16_384>,
     fed: &mut usize,
     taken: &mut u64,
     faults: &mut u64,
 ) -> Result<(), Failed>
-    requires { MayFeed (format_of J.heading) deframer.old }
-    ensures left { (state : LogStateNow) → Keeps
-        (left_of J.heading J.said state [] deframer.old (drop fed.old piece.old.items)
-        (S.left source.old))
-        (left_of J.heading J.said state [] deframer.new (drop fed.new piece.new.items)
-        (S.left source.new)) }
+    requires { MayFeed (format_of J.heading) log.old.deframer }
+    ensures left { Keeps
+        (left_of J.heading J.said log.old.state []
+        (place_of log.old.deframer log.old.queue log.old.counts) log.old.deframer.finished
+        (drop fed.old piece.old.items) (S.left source.old))
+        (left_of J.heading J.said log.new.state []
+        (place_of log.new.deframer log.new.queue log.new.counts) log.new.deframer.finished
+        (drop fed.new piece.new.items) (S.left source.new)) }
+    ensures lines { log.new.lines.items ≡ log.old.lines.items }
     ensures onward { OnOk result (steps_left taken.new (length piece.new.items - fed.new)
-        deframer.new.finished false
-        < steps_left taken.old (length piece.old.items - fed.old) deframer.old.finished false) }
+        log.new.deframer.finished false
+        < steps_left taken.old (length piece.old.items - fed.old) log.old.deframer.finished false) }
     ensures cause { HasCause (S.faults source.old + faults.old)
         (S.faults source.new + faults.new) result }
     ensures fault { HasLogCause (S.faults source.old) (S.faults source.new) taken.new result }
@@ -331,7 +303,7 @@ fn refill<S: Source, J: Receiver>(
         × IsTrue (is_short taken.new (S.left source.new)) }
 {
     if *fed < piece.len() {
-        *fed += deframer.feed_some(&piece.as_slice()[*fed..]);
+        *fed += log.feed_some(&piece.as_slice()[*fed..]);
         return Ok(());
     }
     if *taken >= TOO_MANY {
@@ -342,7 +314,7 @@ fn refill<S: Source, J: Receiver>(
     *fed = 0;
     *taken += count as u64;
     if count == 0 {
-        deframer.finish();
+        log.finish();
     }
     Ok(())
 }

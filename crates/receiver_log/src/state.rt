@@ -1,63 +1,97 @@
-//! The state of a log.
+//! The state of a log, and its counts.
 
 ghost use Rattle.std.specs.Prelude.{◌≡◌};
-ghost use Rattle.receiver_log.specs.Log.{begun};
+ghost use Rattle.receiver_log.specs.Log.{begun, counted, none_counted};
 
-use gnss_week::Moment;
+use receiver_messages::Said;
 
-/// Counts of a log. Each saturates at 18,446,744,073,709,551,615.
+/// Counts of a log's messages. Each saturates at 18,446,744,073,709,551,615.
 #[derive(Clone, Copy, PartialEq, Eq)]
-pub struct Counts {
+pub struct MessageCounts {
     /// Complete messages with the right checksum.
     pub messages: u64,
     /// Bytes in them.
     pub within: u64,
     /// Time messages with a valid time.
     pub times: u64,
+    /// Messages of other types, and time messages without a valid time.
+    pub other: u64,
+}
+
+/// Counts of a log's subframes and pages. Each saturates at 18,446,744,073,709,551,615.
+#[derive(Clone, Copy, PartialEq, Eq)]
+pub struct CaptureCounts {
     /// Subframes written.
     pub subframes: u64,
     /// Pages written.
     pub pages: u64,
     /// Messages with a subframe or a page that were refused.
     pub refused: u64,
-    /// Messages of other types, and time messages without a valid time.
-    pub other: u64,
     /// Subframes whose words had to be inverted back.
     pub turned: u64,
     /// Subframes of which no reading has right parity.
     pub parity: u64,
 }
 
-/// The state of a log after some of its messages.
+/// Counts of a log.
+#[derive(Clone, Copy, PartialEq, Eq)]
+pub struct Counts {
+    /// Of its messages.
+    pub log: MessageCounts,
+    /// Of what became of its subframes and pages.
+    pub capture: CaptureCounts,
+}
+
+/// The state of a capture after some of a log's subframes and pages.
 #[derive(Clone, Copy, PartialEq, Eq)]
 pub struct LogState {
-    /// The time of the last time message; `None` where it was not valid, or before the first.
-    pub time: Option<Moment>,
     /// The week in the first line of the capture, once written.
     pub week: Option<u32>,
     /// The counts.
-    pub counts: Counts,
+    pub counts: CaptureCounts,
 }
 
 impl LogState {
-    /// The state before the first message.
+    /// The state before the first subframe or page.
     pub fn new() -> Self
         ensures { result ≡ begun }
     {
         LogState {
-            time: None,
             week: None,
-            counts: Counts {
-                messages: 0,
-                within: 0,
-                times: 0,
+            counts: CaptureCounts {
                 subframes: 0,
                 pages: 0,
                 refused: 0,
-                other: 0,
                 turned: 0,
                 parity: 0,
             },
+        }
+    }
+}
+
+impl MessageCounts {
+    // The counts before the first message.
+    pub(crate) fn new() -> Self
+        ensures { result ≡ none_counted }
+    {
+        MessageCounts {
+            messages: 0,
+            within: 0,
+            times: 0,
+            other: 0,
+        }
+    }
+
+    // Counts a message of this many bytes and this content.
+    pub(crate) fn count(&mut self, bytes: usize, said: &Said)
+        ensures { self.new ≡ counted self.old bytes said.now }
+    {
+        self.messages = self.messages.saturating_add(1);
+        self.within = self.within.saturating_add(bytes as u64);
+        match said {
+            Said::Other | Said::Time(None) => self.other = self.other.saturating_add(1),
+            Said::Time(Some(_)) => self.times = self.times.saturating_add(1),
+            Said::Heard(_) | Said::Dated(..) => {}
         }
     }
 }

@@ -9,49 +9,29 @@ ghost use Rattle.nav_io.specs.Prefix.{AppendsPrefix};
 ghost use Rattle.receiver_frames.specs.Headings.{format_of};
 ghost use Rattle.receiver_frames.specs.State.{IsWaiting, MayFeed};
 ghost use Rattle.one_run.specs.Causes.{HasItsCause, faults_of};
-ghost use Rattle.receiver_log.specs.Capture.{refusal_text};
-ghost use Rattle.receiver_log.specs.Log.{given};
+ghost use Rattle.receiver_log.specs.LogPlaces.{place_of, report_in};
+ghost use Rattle.receiver_log.specs.Mirrors.{ahead, fed_with};
 ghost use Rattle.receiver_log.specs.Steps.{Hears, Puts, Stops};
 
-use crate::hearing::hear;
 use crate::lines::Lines;
+use crate::log::{Log, ROOM, Refusal};
 use crate::receiver::Receiver;
 use crate::report::refusal;
-use crate::state::LogState;
-use arrayvec::ArrayVec;
 use nav_io::{Failed, Sink};
 use one_run::BridgeFault;
-use receiver_frames::Deframer;
 
-// While at most this many bytes of lines wait, the lines of one more message have room.
-const ROOM: usize = 8_192;
-
-// Processes the message found last, and reports it where it is refused.
-fn hear_message<J: Receiver, U: Sink>(
-    deframer: &Deframer<J>,
-    state: &mut LogState,
-    lines: &mut Lines,
-    report: &mut U,
-) -> Result<(), BridgeFault>
-    requires { length lines.old.items ≤ 8192 }
-    ensures state { OnOk result (state.new
-        ≡ (given state.old (length deframer.now.message) (J.said deframer.now.message)).state) }
-    ensures lines { OnOk result (lines.new.items ≡ lines.old.items
-        ++ (given state.old (length deframer.now.message) (J.said deframer.now.message)).text) }
+// Reports what the last step refused.
+fn report_refused<U: Sink>(refused: Option<Refusal>, report: &mut U) -> Result<(), BridgeFault>
     ensures told { OnOk result (Appends (U.written report.old) (U.written report.new)
-        (refusal_text (given state.old (length deframer.now.message)
-        (J.said deframer.now.message)))) }
+        (report_in refused)) }
     ensures part { OnErr result (AppendsPrefix (U.written report.old) (U.written report.new)
-        (refusal_text (given state.old (length deframer.now.message)
-        (J.said deframer.now.message)))) }
+        (report_in refused)) }
     ensures cause { HasItsCause (faults_of 0 0 (U.faults report.old))
         (faults_of 0 0 (U.faults report.new)) result }
     ensures kind { IfErr result (λ fault. fault ≡ BridgeFault.ReportFault) }
 {
-    let message = deframer.message();
-    let said = J::tell(message);
-    match hear(state, message.len(), &said, lines) {
-        Some(reason) => match report.write(refusal(state.counts.messages, reason).as_slice()) {
+    match refused {
+        Some(Refusal { number, reason }) => match report.write(refusal(number, reason).as_slice()) {
             Ok(()) => Ok(()),
             Err(Failed) => Err(BridgeFault::ReportFault),
         },
@@ -101,50 +81,61 @@ fn put_many<T: Sink>(lines: &mut Lines, output: &mut T) -> Result<(), BridgeFaul
 
 // Processes the decided messages, and writes their lines.
 pub(crate) fn process_messages<J: Receiver, T: Sink, U: Sink>(
-    deframer: &mut Deframer<J>,
-    state: &mut LogState,
+    log: &mut Log<J>,
     output: &mut T,
     report: &mut U,
 ) -> Result<(), BridgeFault>
-    ensures hears { OnOk result (Hears J.heading J.said (not deframer.old.finished)
-        deframer.old.rest deframer.new.rest state.old state.new
+    requires none { log.old.lines.items ≡ [] }
+    ensures hears { OnOk result (Hears J.heading J.said (not log.old.deframer.finished)
+        (place_of log.old.deframer log.old.queue log.old.counts)
+        (place_of log.new.deframer log.new.queue log.new.counts) log.old.state log.new.state
         (T.written output.old) (T.written output.new) [] []
         (U.written report.old) (U.written report.new)) }
-    ensures waiting { OnOk result (IsWaiting (format_of J.heading) deframer.new.rest) }
-    ensures finished { OnOk result (deframer.new.finished ≡ deframer.old.finished) }
-    ensures last { OnOk result (deframer.old.finished ≡ true → deframer.new.rest ≡ []) }
-    ensures stops { OnErr result (Stops J.heading J.said (not deframer.old.finished)
-        deframer.old.rest state.old (T.written output.old) (T.written output.new) []
+    ensures none { OnOk result (log.new.lines.items ≡ []) }
+    ensures waiting { OnOk result (IsWaiting (format_of J.heading) log.new.deframer.rest) }
+    ensures finished { OnOk result (log.new.deframer.finished ≡ log.old.deframer.finished) }
+    ensures rest { OnOk result (log.old.deframer.finished ≡ true → log.new.deframer.rest ≡ []) }
+    ensures last { OnOk result (ahead J.heading J.said (not log.new.deframer.finished)
+        (place_of log.new.deframer log.new.queue log.new.counts) [] ≡ []) }
+    ensures stops { OnErr result (Stops J.heading J.said (not log.old.deframer.finished)
+        (place_of log.old.deframer log.old.queue log.old.counts) log.old.state
+        (T.written output.old) (T.written output.new) []
         (U.written report.old) (U.written report.new)) }
     ensures cause { HasItsCause (faults_of 0 (T.faults output.old) (U.faults report.old))
         (faults_of 0 (T.faults output.new) (U.faults report.new)) result }
     ensures kinds { IfErr result (λ fault. (fault ≡ BridgeFault.WriteFault)
         ⊎ (fault ≡ BridgeFault.ReportFault)) }
 {
-    let mut lines: Lines = ArrayVec::new();
-    while deframer.next_message() {
-        hear_message(deframer, state, &mut lines, report)?;
-        put_many(&mut lines, output)?;
+    while log.step() {
+        report_refused(log.refused, report)?;
+        put_many(&mut log.lines, output)?;
     }
-    put_lines(&mut lines, output)
+    put_lines(&mut log.lines, output)
 }
 
 // Feeds a piece, processes the messages decided then, and writes their lines.
 pub(crate) fn process_piece<J: Receiver, T: Sink, U: Sink>(
-    deframer: &mut Deframer<J>,
-    state: &mut LogState,
+    log: &mut Log<J>,
     piece: &[u8],
     output: &mut T,
     report: &mut U,
 ) -> Result<(), BridgeFault>
-    requires { MayFeed (format_of J.heading) deframer.old }
+    requires may_feed { MayFeed (format_of J.heading) log.old.deframer }
+    requires none { log.old.lines.items ≡ [] }
+    requires last { ahead J.heading J.said true
+        (place_of log.old.deframer log.old.queue log.old.counts) [] ≡ [] }
     ensures hears { OnOk result (Hears J.heading J.said true
-        (deframer.old.rest ++ piece.now) deframer.new.rest state.old state.new
+        (fed_with (place_of log.old.deframer log.old.queue log.old.counts) piece.now)
+        (place_of log.new.deframer log.new.queue log.new.counts) log.old.state log.new.state
         (T.written output.old) (T.written output.new) [] []
         (U.written report.old) (U.written report.new)) }
-    ensures may_feed { OnOk result (MayFeed (format_of J.heading) deframer.new) }
+    ensures none { OnOk result (log.new.lines.items ≡ []) }
+    ensures last { OnOk result (ahead J.heading J.said true
+        (place_of log.new.deframer log.new.queue log.new.counts) [] ≡ []) }
+    ensures may_feed { OnOk result (MayFeed (format_of J.heading) log.new.deframer) }
     ensures stops { OnErr result (Stops J.heading J.said true
-        (deframer.old.rest ++ piece.now) state.old (T.written output.old) (T.written output.new) []
+        (fed_with (place_of log.old.deframer log.old.queue log.old.counts) piece.now)
+        log.old.state (T.written output.old) (T.written output.new) []
         (U.written report.old) (U.written report.new)) }
     ensures cause { HasItsCause (faults_of 0 (T.faults output.old) (U.faults report.old))
         (faults_of 0 (T.faults output.new) (U.faults report.new)) result }
@@ -153,8 +144,8 @@ pub(crate) fn process_piece<J: Receiver, T: Sink, U: Sink>(
 {
     let mut fed = 0;
     while fed < piece.len() {
-        fed += deframer.feed_some(&piece[fed..]);
-        process_messages(deframer, state, output, report)?;
+        fed += log.feed_some(&piece[fed..]);
+        process_messages(log, output, report)?;
     }
     Ok(())
 }

@@ -1,5 +1,6 @@
--- A subframe is of a GPS satellite, a page of a Galileo satellite.
-use Rattle.std.specs.Prelude.{◌≡◌}
+-- A subframe is of a GPS satellite, a page of a Galileo satellite; messages of a log with times of their own have no time
+-- messages between them.
+use Rattle.std.specs.Prelude.{◌≡◌, Bool, true, false}
 use Rattle.nav_eph.specs.declared.sat.System.TheVariants.{Gps, Gal}
 use Rattle.receiver_messages.specs.declared.said.Content.{Content}
 use Rattle.receiver_messages.specs.declared.said.Content.TheVariants.{Refused, Subframe, Page}
@@ -18,3 +19,10 @@ SaysOfSystem Other = Unit {0}
 SaysOfSystem (Time time) = Unit {0}
 SaysOfSystem (Heard content) = IsOfSystem content
 SaysOfSystem (Dated time content) = IsOfSystem content
+
+-- subframes and pages have times of their own, or else time messages stand between them
+abbrev pub SaysTimes : Bool → Said → Type 0
+SaysTimes has_times Other = Unit {0}
+SaysTimes has_times (Time time) = has_times ≡ false
+SaysTimes has_times (Heard content) = has_times ≡ false
+SaysTimes has_times (Dated time content) = has_times ≡ true

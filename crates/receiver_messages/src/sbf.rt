@@ -1,10 +1,10 @@
 //! The content of SBF blocks.
 
-ghost use Rattle.std.specs.Prelude.{◌≡◌, ◌+◌, ◌<◌, ◌≤◌, length};
+ghost use Rattle.std.specs.Prelude.{◌≡◌, ◌+◌, ◌<◌, ◌≤◌, length, true};
 ghost use Rattle.receiver_messages.specs.Sbf.{block_said as block_of, page_said as page_of};
 ghost use Rattle.receiver_messages.specs.Sbf.{pages_said as pages_of, sbf_said as said_of};
 ghost use Rattle.receiver_messages.specs.Sbf.{subframe_said as subframe_of, time_at};
-ghost use Rattle.receiver_messages.specs.Systems.{SaysOfSystem};
+ghost use Rattle.receiver_messages.specs.Systems.{SaysOfSystem, SaysTimes};
 
 use crate::halves::{even_of_sbf, odd_of_sbf};
 use crate::numbers::{four, two};
@@ -23,6 +23,7 @@ use nav_eph::{Signal, System};
 pub fn sbf_said(block: &[u8]) -> Said
     ensures value { result ≡ said_of block.now }
     ensures system { SaysOfSystem result }
+    ensures times { SaysTimes true result }
 {
     if block.len() < 8 {
         return Said::Other;
@@ -35,6 +36,7 @@ pub fn sbf_said(block: &[u8]) -> Said
 fn block_said(number: u32, block: &[u8]) -> Said
     ensures value { result ≡ block_of number block.now }
     ensures system { SaysOfSystem result }
+    ensures times { SaysTimes true result }
 {
     match number {
         4017 => subframe_said(block),
@@ -56,6 +58,7 @@ fn time_of(block: &[u8]) -> Option<Moment>
 fn subframe_said(block: &[u8]) -> Said
     ensures value { result ≡ subframe_of block.now }
     ensures system { SaysOfSystem result }
+    ensures times { SaysTimes true result }
 {
     if block.len() < 60 {
         return Said::Dated(None, Content::Refused(Reason::Length));
@@ -78,6 +81,7 @@ fn subframe_said(block: &[u8]) -> Said
 fn pages_said(block: &[u8]) -> Said
     ensures value { result ≡ pages_of block.now }
     ensures system { SaysOfSystem result }
+    ensures times { SaysTimes true result }
 {
     if block.len() < 52 {
         return Said::Dated(None, Content::Refused(Reason::Length));
@@ -94,6 +98,7 @@ fn page_said(signal: Signal, block: &[u8]) -> Said
     requires { 52 ≤ length block.now }
     ensures value { result ≡ page_of signal block.now }
     ensures system { SaysOfSystem result }
+    ensures times { SaysTimes true result }
 {
     let time = time_of(block);
     match satellite(System::Gal, block[14].saturating_sub(70)) {

@@ -1,10 +1,10 @@
 //! The content of UBX messages.
 
-ghost use Rattle.std.specs.Prelude.{◌≡◌, ◌+◌, ◌≤◌, length, IfSome};
+ghost use Rattle.std.specs.Prelude.{◌≡◌, ◌+◌, ◌≤◌, length, IfSome, false};
 ghost use Rattle.receiver_messages.specs.Ubx.{galileo_words as galileo_of, gps_words as gps_of};
 ghost use Rattle.receiver_messages.specs.Ubx.{payload_said as payload_of_kind, ubx_said as said_of};
 ghost use Rattle.receiver_messages.specs.Ubx.{satellite_of, words_said as words_of};
-ghost use Rattle.receiver_messages.specs.Systems.{IsOfSystem, SaysOfSystem};
+ghost use Rattle.receiver_messages.specs.Systems.{IsOfSystem, SaysOfSystem, SaysTimes};
 
 use crate::halves::{even_of_ubx, odd_of_ubx};
 use crate::said::{Content, Reason, Said};
@@ -20,6 +20,7 @@ use nav_eph::{Sat, Signal, System};
 pub fn ubx_said(message: &[u8]) -> Said
     ensures value { result ≡ said_of message.now }
     ensures system { SaysOfSystem result }
+    ensures times { SaysTimes false result }
 {
     if message.len() < 8 {
         return Said::Other;
@@ -32,6 +33,7 @@ pub fn ubx_said(message: &[u8]) -> Said
 fn payload_said(class: u8, number: u8, payload: &[u8]) -> Said
     ensures value { result ≡ payload_of_kind class number payload.now }
     ensures system { SaysOfSystem result }
+    ensures times { SaysTimes false result }
 {
     match (class, number) {
         (1, 0x20) => Said::Time(time_of_week(payload)),
@@ -47,6 +49,7 @@ fn payload_said(class: u8, number: u8, payload: &[u8]) -> Said
 fn words_said(payload: &[u8]) -> Said
     ensures value { result ≡ words_of payload.now }
     ensures system { SaysOfSystem result }
+    ensures times { SaysTimes false result }
 {
     if payload.len() < 8 {
         return Said::Heard(Content::Refused(Reason::Length));

@@ -1,13 +1,11 @@
-use Rattle.std.proofs.Common.{Bool, not, [], refl, subst, ap, ◌∙◌, arith}
+use Rattle.std.proofs.Common.{[], refl, ap, ◌∙◌, arith}
 use Rattle.std.proofs.lemmas.Result.{err_from_is_err_and}
-use Rattle.receiver_frames.specs.Headings.{format_of}
-use Rattle.receiver_frames.specs.State.{TakesMessage, TakesNone}
-use Rattle.receiver_log.proofs.LogSteps.{hears_last, hears_message, hears_nothing, on_err1, on_ok2}
-use Rattle.receiver_log.proofs.LogSteps.{stops_last, stops_put, stops_told}
+use Rattle.receiver_log.proofs.LogSteps.{hears_last, hears_nothing, hears_step, on_err1, on_ok1}
+use Rattle.receiver_log.proofs.LogSteps.{same_more, stops_last, stops_put, stops_told}
 use Rattle.receiver_log.proofs.taking.process_messages.Goals as goal
 
-pub loop-deframer-init : goal.loop-deframer-init
-loop-deframer-init g c = rw c.new-lines.ensures (record {
+pub loop-log-init : goal.loop-log-init
+loop-log-init g c = rw c.requires (record {
   hears = hears_nothing g.J.Judge.heading g.J.Receiver.said _ _ _ _ _ [];
   finished = refl;
   room = omega arith;
@@ -15,56 +13,47 @@ loop-deframer-init g c = rw c.new-lines.ensures (record {
   told = refl;
 })
 
-pub returns-in_err-hear_message-clause-stops : goal.returns-in_err-hear_message-clause-stops
-returns-in_err-hear_message-clause-stops g c =
+pub returns-in_err-report_refused-clause-stops : goal.returns-in_err-report_refused-clause-stops
+returns-in_err-report_refused-clause-stops g c =
     let p = err_from_is_err_and c.from_residual.result c.from_residual.ensures.1 in
-    let takes = subst (λ (b : Bool). TakesMessage (format_of g.J.Judge.heading)
-    (not b) c.loop-deframer.deframer.rest c.next_message.new.self.message
-    c.next_message.new.self.rest)
-    c.loop-deframer.invariant.finished (c.next_message.ensures.message c.loop-deframer-test.true) in
-    rw p.1 (stops_told g.J.Judge.heading g.J.Receiver.said _ _ _ _ _ _ _ _ _ _ _ _ _ _
-    c.loop-deframer.invariant.hears takes c.in_err-hear_message.ensures.part)
+    rw p.1 (stops_told g.J.Judge.heading g.J.Receiver.said _ _ _ _ _ _ _ _ _ _ _ _ _ _ _ _
+    c.loop-log.invariant.hears (same_more g.J.Judge.heading g.J.Receiver.said _ _ _ _ _ _ _ _ _
+    c.loop-log.invariant.finished (c.step.ensures.taken c.loop-log-test.true))
+    c.in_err-report_refused.ensures.part)
 
-pub loop-deframer-preserved : goal.loop-deframer-preserved
-loop-deframer-preserved g c =
-    let takes = subst (λ (b : Bool). TakesMessage (format_of g.J.Judge.heading)
-    (not b) c.loop-deframer.deframer.rest c.next_message.new.self.message
-    c.next_message.new.self.rest)
-    c.loop-deframer.invariant.finished (c.next_message.ensures.message c.loop-deframer-test.true) in
-    let told = c.in_ok-hear_message.ensures in
+pub loop-log-preserved : goal.loop-log-preserved
+loop-log-preserved g c =
+    let told = c.in_ok-report_refused.ensures in
     record {
-      hears = hears_message g.J.Judge.heading g.J.Receiver.said g.met.J.Judge.is_heading _ _ _ _ _ _
-          _ _ _ _ _ _ _ _ _ _ _ _ c.loop-deframer.invariant.hears takes
-          told.state told.lines told.told c.in_ok-put_many.ensures.puts;
-      finished = c.next_message.ensures.finished ∙ c.loop-deframer.invariant.finished;
+      hears = hears_step g.J.Judge.heading g.J.Receiver.said _ _ _ _ _ _ _ _ _ _ _ _ _ _ _ _ _ _
+          c.loop-log.invariant.hears (same_more g.J.Judge.heading g.J.Receiver.said _ _ _ _ _ _ _ _ _
+          c.loop-log.invariant.finished (c.step.ensures.taken c.loop-log-test.true))
+          told.told c.in_ok-put_many.ensures.puts;
+      finished = c.step.ensures.finished ∙ c.loop-log.invariant.finished;
       room = c.in_ok-put_many.ensures.room;
-      write = ap (λ f. f.output) c.in_ok-put_many.ensures.cause ∙ c.loop-deframer.invariant.write;
-      told = ap (λ f. f.report) told.cause ∙ c.loop-deframer.invariant.told;
+      write = ap (λ f. f.output) c.in_ok-put_many.ensures.cause ∙ c.loop-log.invariant.write;
+      told = ap (λ f. f.report) told.cause ∙ c.loop-log.invariant.told;
     }
 
 pub returns-in_err-put_many-clause-stops : goal.returns-in_err-put_many-clause-stops
 returns-in_err-put_many-clause-stops g c =
     let p = err_from_is_err_and c.from_residual-in_err-put_many.result
     c.from_residual-in_err-put_many.ensures.1 in
-    let takes = subst (λ (b : Bool). TakesMessage (format_of g.J.Judge.heading)
-    (not b) c.loop-deframer.deframer.rest c.next_message.new.self.message
-    c.next_message.new.self.rest)
-    c.loop-deframer.invariant.finished (c.next_message.ensures.message c.loop-deframer-test.true) in
-    let told = c.in_ok-hear_message.ensures in
-    rw p.1 (stops_put g.J.Judge.heading g.J.Receiver.said _ _ _ _ _ _ _ _ _ _ _ _ _ _ _ _
-    c.loop-deframer.invariant.hears takes told.lines told.told c.in_err-put_many.ensures.part)
+    rw p.1 (stops_put g.J.Judge.heading g.J.Receiver.said _ _ _ _ _ _ _ _ _ _ _ _ _ _ _ _ _
+    c.loop-log.invariant.hears (same_more g.J.Judge.heading g.J.Receiver.said _ _ _ _ _ _ _ _ _
+    c.loop-log.invariant.finished (c.step.ensures.taken c.loop-log-test.true))
+    c.in_ok-report_refused.ensures.told c.in_err-put_many.ensures.part)
 
 pub returns-clause-hears : goal.returns-clause-hears
 returns-clause-hears g c =
-    let none = subst (λ (b : Bool). TakesNone (format_of g.J.Judge.heading)
-    (not b) c.loop-deframer.deframer.rest c.next_message.new.self.rest)
-    c.loop-deframer.invariant.finished (c.next_message.ensures.none c.loop-deframer-test.false) in
-    on_ok2 c.put_lines.result c.put_lines.ensures.text c.put_lines.ensures.none
-    (λ text empty. hears_last g.J.Judge.heading g.J.Receiver.said g.met.J.Judge.is_heading _ _ _ _ _
-    _ _ _ _ _ _ _ _ _ c.loop-deframer.invariant.hears none text refl)
+    on_ok1 c.put_lines.result c.put_lines.ensures.text
+    (λ text. hears_last g.J.Judge.heading g.J.Receiver.said _ _ _ _ _ _ _ _ _ _ _ _ _ _ _
+    c.loop-log.invariant.hears (same_more g.J.Judge.heading g.J.Receiver.said _ _ _ _ _ _ _ _ _
+    c.loop-log.invariant.finished (c.step.ensures.none c.loop-log-test.false)) text)
 
 pub returns-clause-stops : goal.returns-clause-stops
 returns-clause-stops g c =
     on_err1 c.put_lines.result c.put_lines.ensures.part
-    (λ part. stops_last g.J.Judge.heading g.J.Receiver.said _ _ _ _ _ _ _ _ _ _ _ _
-    c.loop-deframer.invariant.hears part)
+    (λ part. stops_last g.J.Judge.heading g.J.Receiver.said _ _ _ _ _ _ _ _ _ _ _ _ _ _ _
+    c.loop-log.invariant.hears (same_more g.J.Judge.heading g.J.Receiver.said _ _ _ _ _ _ _ _ _
+    c.loop-log.invariant.finished (c.step.ensures.none c.loop-log-test.false)) part)

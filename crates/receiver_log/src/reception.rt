@@ -1,0 +1,15 @@
+//! Subframes and pages as they were received.
+
+use gnss_week::Moment;
+use receiver_messages::Content;
+
+/// A subframe or a page of a log, or the reason why a message gives none.
+#[derive(Clone, Copy, PartialEq, Eq)]
+pub struct Reception {
+    /// The number of its message in the log, from 1.
+    pub number: u64,
+    /// Its time of reception; `None` where that is not known.
+    pub time: Option<Moment>,
+    /// The subframe or the page.
+    pub content: Content,
+}
