@@ -12,6 +12,7 @@ mod checksum;
 #[cfg(test)]
 mod frames;
 #[cfg(test)]
+mod jumps;
 mod lines;
 #[cfg(test)]
 mod log_runs;

@@ -24,7 +24,7 @@ struct Reading {
 static READINGS: [Reading; 6] = [
     Reading {
         name: "at once",
-        cuts: &[132],
+        cuts: &[180],
         size: 400,
         fails: &[],
         capture: ALL,
@@ -38,7 +38,7 @@ static READINGS: [Reading; 6] = [
     },
     Reading {
         name: "seven bytes at a time",
-        cuts: &[75],
+        cuts: &[99],
         size: 7,
         fails: &[],
         capture: ALL,
@@ -46,22 +46,22 @@ static READINGS: [Reading; 6] = [
     // the end of the log can't be read
     Reading {
         name: "the read at the end fails",
-        cuts: &[132],
+        cuts: &[180],
         size: 64,
         fails: &[1],
         capture: ALL,
     },
-    // the first piece has the time and the page
+    // the first piece has the page and both times
     Reading {
         name: "the read behind the page fails",
-        cuts: &[76],
+        cuts: &[100],
         size: 64,
         fails: &[1],
         capture: PAGE,
     },
     Reading {
         name: "the first read fails",
-        cuts: &[76],
+        cuts: &[100],
         size: 64,
         fails: &[0],
         capture: "",

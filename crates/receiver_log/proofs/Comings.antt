@@ -1,9 +1,10 @@
 -- What is to come of a log's subframes and pages, message by message.
-use Rattle.std.proofs.Common.{◌≡◌, ℕ, ◌+◌, ◌<◌, ◌≤◌, ◌^◌, ◌&&◌, nat_le, min, not, Bool, true, false}
+use Rattle.std.proofs.Common.{◌≡◌, ℕ, ◌+◌, ◌-◌, ◌<◌, ◌≤◌, ◌^◌, ◌&&◌, nat_le, min, not, Bool, true, false}
 use Rattle.std.proofs.Common.{List, [], ◌∷◌, ◌++◌, length, map, refl, sym, ap, ◌∙◌, arith, subst}
-use Rattle.std.proofs.Common.{append_assoc, append-nil, length-append}
-use Rattle.std.proofs.lemmas.Bool.{lt-leb}
+use Rattle.std.proofs.Common.{append_assoc, append-nil, drop, length-append}
+use Rattle.std.proofs.lemmas.Bool.{both_ways, le-leb, lt-leb}
 use Rattle.std.specs.Prelude.{Option, Some, None, if◌then◌else◌}
+use Rattle.std.specs.Option.{is_some}
 use Rattle.receiver_messages.specs.declared.said.Content.{Content}
 use Rattle.receiver_messages.specs.declared.said.Said.{Said}
 use Rattle.receiver_messages.specs.declared.said.Said.TheVariants.{Other, Time, Heard, Dated}
@@ -11,7 +12,7 @@ use Rattle.receiver_log.specs.declared.queue.Pending.{Pending}
 use Rattle.receiver_log.specs.declared.reception.Reception.{Reception}
 use Rattle.receiver_log.specs.Log.{one_more}
 use Rattle.receiver_log.specs.Mirrors.{QueueState, behind_time, decision, stamped, to_come}
-use Rattle.receiver_log.specs.Receptions.{between, is_open, nearest, parts_round, parts_to}
+use Rattle.receiver_log.specs.Receptions.{between, has_time, is_open, nearest, parts_round, parts_to}
 use Rattle.receiver_log.specs.Receptions.{received, received_from}
 
 -- ---- the time
@@ -24,22 +25,15 @@ between_crowded : (first : ℕ) (second : Option ℕ) (parts : ℕ) → 1024 < p
     → between (Some first) second parts ≡ None
 between_crowded first None parts many = refl
 between_crowded first (Some second) parts many =
-    let few : nat_le parts 1024 ≡ false = lt-leb 1024 parts many in
+    let few : nat_le parts 1024 ≡ false = lt-leb parts 1024 many in
     rw (few, and_false (nat_le second (first + 60)), and_false (nat_le first (second + 1))) refl
 
 -- with too many between, there is no time
 decision_crowded : (more : Bool) (first : ℕ) (says : List Said) (parts : ℕ) → 1024 < parts
     → decision more (Some first) says parts ≡ Some None
 decision_crowded more first says parts many =
-    let few : nat_le parts 1024 ≡ false = lt-leb 1024 parts many in
-    rw (between_crowded first (nearest says) parts many, few) (by (has_time_not says))
-  where
-    has_time_not : List Said → Bool
-    has_time_not s = true
-
-    by : Bool → (if (not (Rattle.receiver_log.specs.Receptions.has_time says) && false) && more
-        then None else Some {T = Option ℕ} None) ≡ Some None
-    by b = rw (and_false (not (Rattle.receiver_log.specs.Receptions.has_time says))) refl
+    let few : nat_le parts 1024 ≡ false = lt-leb parts 1024 many in
+    rw (between_crowded first (nearest says) parts many, few, and_false (not (has_time says))) refl
 
 -- a time message decides
 pub decision_time : (more : Bool) (time next : Option ℕ) (says : List Said) (parts : ℕ)
@@ -66,7 +60,7 @@ decision_end (Some first) parts = rw (and_false (nat_le parts 1024)) refl
 -- while more may come, what waits is open
 pub decision_open : (first parts : ℕ) → parts ≤ 1024 → decision true (Some first) [] parts ≡ None
 decision_open first parts few =
-    let is : nat_le parts 1024 ≡ true = Rattle.std.proofs.lemmas.Bool.le-leb parts 1024 few in
+    let is : nat_le parts 1024 ≡ true = le-leb parts 1024 few in
     rw is refl
 
 -- ---- lists
@@ -234,6 +228,83 @@ none_comes waiting (Some first) n few none =
     nothing : (xs : List Pending) → stamped None xs ++ [] ≡ []
     nothing [] = refl
     nothing (x ∷ xs) = refl
+
+-- ---- in the words of the code
+
+pub queue_is : (q : QueueState) (items : List Pending) (taken : ℕ) (time : Option ℕ)
+    (settled : Option (Option ℕ))
+    → record { waiting = drop taken items; time = time; settled = settled } ≡ q
+    → q.settled ≡ None → taken ≡ 0
+    → q ≡ record { waiting = items; time = time; settled = None }
+queue_is q items taken time settled view unset zero =
+    sym view
+    ∙ ap (λ t. record { waiting = drop t items; time = time; settled = settled }) zero
+    ∙ ap (λ s. record { waiting = items; time = time; settled = s })
+    (ap (λ p. p.settled) view ∙ unset)
+
+module _ (more : Bool) (q : QueueState) (items new : List Pending) (taken : ℕ) (time : Option ℕ)
+    (x : Pending) (n : ℕ) (says : List Said)
+    (is : q ≡ record { waiting = items; time = time; settled = None }) (zero : taken ≡ 0)
+    (new_is : new ≡ items ++ x ∷ []) (number : x.number ≡ one_more n) where
+  over_by : (t : Option ℕ) → 1024 ≤ length items
+      → to_come more (record { waiting = items; time = t; settled = None }) n (Heard x.content ∷ says)
+      ≡ to_come more (record { waiting = items ++ x ∷ []; time = None; settled = Some None })
+      x.number says
+  over_by None many = part_untimed more items x n says number
+  over_by (Some first) many = part_crowded more items x first n says number many
+
+  pub put_over : 1024 < length new
+      → to_come more q n (Heard x.content ∷ says)
+      ≡ stamped (Some None) (drop taken new) ++ behind_time more None 0 x.number says
+  put_over many =
+      let size : length new ≡ length items + 1 = ap length new_is ∙ length-append items (x ∷ []) in
+      ap (λ p. to_come more p n (Heard x.content ∷ says)) is
+      ∙ over_by time (omega (arith, many, size))
+      ∙ sym (ap (λ t. stamped (Some None) (drop t new) ++ behind_time more None 0 x.number says) zero
+      ∙ ap (λ t. stamped (Some None) t ++ behind_time more None 0 x.number says) new_is)
+
+  untimed_by : (t : Option ℕ) → is_some t ≡ false
+      → to_come more (record { waiting = items; time = t; settled = None }) n (Heard x.content ∷ says)
+      ≡ stamped (Some None) (items ++ x ∷ []) ++ behind_time more t 0 x.number says
+  untimed_by None none = part_untimed more items x n says number
+  untimed_by (Some first) none = absurd (both_ways _ none refl)
+
+  pub put_untimed : is_some time ≡ false
+      → to_come more q n (Heard x.content ∷ says)
+      ≡ stamped (Some None) (drop taken new) ++ behind_time more time 0 x.number says
+  put_untimed none =
+      ap (λ p. to_come more p n (Heard x.content ∷ says)) is ∙ untimed_by time none
+      ∙ sym (ap (λ t. stamped (Some None) (drop t new) ++ behind_time more time 0 x.number says) zero
+      ∙ ap (λ t. stamped (Some None) t ++ behind_time more time 0 x.number says) new_is)
+
+  pub put_waits : (settled : Option (Option ℕ)) → settled ≡ None
+      → to_come more q n (Heard x.content ∷ says)
+      ≡ to_come more (record { waiting = drop taken new; time = time; settled = settled })
+      x.number says
+  put_waits settled unset =
+      ap (λ p. to_come more p n (Heard x.content ∷ says)) is
+      ∙ part_waits more items x time n says number
+      ∙ sym (ap (λ t. to_come more (record { waiting = drop t new; time = time; settled = settled })
+      x.number says) zero
+      ∙ ap (λ t. to_come more (record { waiting = t; time = time; settled = settled })
+      x.number says) new_is
+      ∙ ap (λ t. to_come more (record { waiting = items ++ x ∷ []; time = time; settled = t })
+      x.number says) unset)
+
+  pub put_dated : (own : Option ℕ) → time ≡ None → items ≡ []
+      → to_come more q n (Dated own x.content ∷ says)
+      ≡ stamped (Some own) (drop taken new) ++ behind_time more time 0 x.number says
+  put_dated own none empty =
+      ap (λ p. to_come more p n (Dated own x.content ∷ says)) is
+      ∙ ap (λ t. to_come more (record { waiting = items; time = t; settled = None }) n
+      (Dated own x.content ∷ says)) none
+      ∙ ap (λ t. to_come more (record { waiting = t; time = None; settled = None }) n
+      (Dated own x.content ∷ says)) empty
+      ∙ dated_comes more x own n says number
+      ∙ sym (ap (λ t. stamped (Some own) (drop t new) ++ behind_time more time 0 x.number says) zero
+      ∙ ap (λ t. stamped (Some own) t ++ behind_time more time 0 x.number says) new_is
+      ∙ ap (λ t. stamped (Some own) (t ++ x ∷ []) ++ behind_time more time 0 x.number says) empty
+      ∙ ap (λ t. stamped (Some own) (x ∷ []) ++ behind_time more t 0 x.number says) none)
 
 -- ---- the definition
 

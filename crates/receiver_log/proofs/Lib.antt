@@ -1,3 +1,4 @@
 mod Comings
 mod LogSteps
 mod LogEnds
+mod SourceSteps

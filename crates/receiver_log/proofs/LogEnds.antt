@@ -221,16 +221,17 @@ module _ (h : Heading) (said : List ℕ → Said) where
   }
 
   pub broken_end : (left l1 l2 w w1 w2 r r1 r2 : Option (List ℕ)) (place last : Place)
-      (finished : Bool) (state : LogState) (taken n : ℕ) (buffer : List ℕ)
+      (finished : Bool) (state now : LogState) (taken n : ℕ) (buffer : List ℕ)
       → LogSoFar h said left l1 w w1 r r1 place state taken → n ≡ 0 → Consumes l1 l2 (take n buffer)
-      → last ≡ place → finished ≡ true
-      → Stops h said (not finished) last state w1 w2 [] r1 r2
+      → last ≡ place → finished ≡ true → now ≡ state
+      → Stops h said (not finished) last now w1 w2 [] r1 r2
       → Broken h said left l2 w w2 r r2
-  broken_end left l1 l2 w w1 w2 r r1 r2 place last finished state taken n buffer far zero read same
-      over stops =
+  broken_end left l1 l2 w w1 w2 r r1 r2 place last finished state now taken n buffer far zero read
+      same over kept stops =
       let ends : Stops h said false place state w1 w2 [] r1 r2 =
       subst (λ p. Stops h said false p state w1 w2 [] r1 r2) same
-      (subst (λ b. Stops h said (not b) last state w1 w2 [] r1 r2) over stops) in
+      (subst (λ b. Stops h said (not b) last state w1 w2 [] r1 r2) over
+      (subst (λ t. Stops h said (not finished) last t w1 w2 [] r1 r2) kept stops)) in
       broken_by left l2 w w2 r r2 far.bytes false
       (consumes_none left l1 l2 far.bytes far.consumes (none_read l1 l2 n buffer zero read))
       (stops_on h said false (start_of far.bytes) place begun state w w1 w2 [] [] r r1 r2
@@ -248,19 +249,20 @@ module _ (h : Heading) (said : List ℕ → Said) where
     pub counts_are : counts ≡ counts_of said (messages (format_of h) taken)
 
   pub all_heard : (left l1 l2 w w1 w2 r r1 r2 : Option (List ℕ)) (place last new : Place)
-      (finished finished_new : Bool) (state next : LogState) (counts : Counts) (taken n : ℕ)
+      (finished finished_new : Bool) (state now next : LogState) (counts : Counts) (taken n : ℕ)
       (buffer : List ℕ)
       → LogSoFar h said left l1 w w1 r r1 place state taken → n ≡ 0 → Consumes l1 l2 (take n buffer)
-      → last ≡ place → finished ≡ true → finished_new ≡ finished
-      → Hears h said (not finished) last new state next w1 w2 [] [] r1 r2
+      → last ≡ place → finished ≡ true → now ≡ state → finished_new ≡ finished
+      → Hears h said (not finished) last new now next w1 w2 [] [] r1 r2
       → ahead h said (not finished_new) new [] ≡ [] → new.rest ≡ []
       → counts.log ≡ new.counts → counts.capture ≡ next.counts
       → Whole left l2 w w2 r r2 counts taken
-  all_heard left l1 l2 w w1 w2 r r1 r2 place last new finished finished_new state next counts taken n
-      buffer far zero read same over over_new hears none no_rest log capture =
+  all_heard left l1 l2 w w1 w2 r r1 r2 place last new finished finished_new state now next counts
+      taken n buffer far zero read same over kept over_new hears none no_rest log capture =
       let ends : Hears h said false place new state next w1 w2 [] [] r1 r2 =
       subst (λ p. Hears h said false p new state next w1 w2 [] [] r1 r2) same
-      (subst (λ b. Hears h said (not b) last new state next w1 w2 [] [] r1 r2) over hears) in
+      (subst (λ b. Hears h said (not b) last new state next w1 w2 [] [] r1 r2) over
+      (subst (λ t. Hears h said (not finished) last new t next w1 w2 [] [] r1 r2) kept hears)) in
       let nothing : ahead h said false new [] ≡ [] =
       subst (λ b. ahead h said (not b) new [] ≡ []) (over_new ∙ over) none in
       let all = hears_on h said false (start_of far.bytes) place new begun state next w w1 w2 [] []

@@ -117,7 +117,7 @@ module _ (h : Heading) (said : List ℕ → Said) where
     counts = λ following last. x.counts following last ∙ y.counts following last;
   }
 
-  ahead_fed : (more : Bool) (a : Place) (p following : List ℕ)
+  pub ahead_fed : (more : Bool) (a : Place) (p following : List ℕ)
       → ahead h said more (fed_with a p) following ≡ ahead h said more a (p ++ following)
   ahead_fed more a p following = ap
       (λ t. to_come more a.queue a.counts.messages (map said (messages_past (format_of h) more t 0)))
@@ -299,32 +299,34 @@ module _ (h : Heading) (said : List ℕ → Said) where
       ∙ ap (λ t. a.rest ++ t) (sym (take-add fed n piece)))
 
   pub hears_part : (a : Place) (piece : List ℕ) (fed n : ℕ) (b b1 d : Place) (finished : Bool)
-      (s s1 s2 : LogState) (w w1 w2 r r1 r2 : Option (List ℕ))
+      (s s1 now s2 : LogState) (w w1 w2 r r1 r2 : Option (List ℕ))
       → Hears h said true (fed_with a (take fed piece)) b s s1 w w1 [] [] r r1
-      → b1 ≡ fed_with b (take n (drop fed piece)) → finished ≡ false
-      → Hears h said (not finished) b1 d s1 s2 w1 w2 [] [] r1 r2
+      → b1 ≡ fed_with b (take n (drop fed piece)) → finished ≡ false → now ≡ s1
+      → Hears h said (not finished) b1 d now s2 w1 w2 [] [] r1 r2
       → Hears h said true (fed_with a (take (fed + n) piece)) d s s2 w w2 [] [] r r2
-  hears_part a piece fed n b b1 d finished s s1 s2 w w1 w2 r r1 r2 x fed_is still y =
+  hears_part a piece fed n b b1 d finished s s1 now s2 w w1 w2 r r1 r2 x fed_is still same y =
       let p = take n (drop fed piece) in
       let more : Hears h said true (fed_with b p) d s1 s2 w1 w2 [] [] r1 r2 =
       subst (λ t. Hears h said true t d s1 s2 w1 w2 [] [] r1 r2) fed_is
-      (subst (λ t. Hears h said (not t) b1 d s1 s2 w1 w2 [] [] r1 r2) still y) in
+      (subst (λ t. Hears h said (not t) b1 d s1 s2 w1 w2 [] [] r1 r2) still
+      (subst (λ t. Hears h said (not finished) b1 d t s2 w1 w2 [] [] r1 r2) same y)) in
       subst (λ t. Hears h said true t d s s2 w w2 [] [] r r2) (fed_part a piece fed n)
       (hears_on true (fed_with (fed_with a (take fed piece)) p) (fed_with b p) d s s1 s2
       w w1 w2 [] [] [] r r1 r2
       (hears_fed (fed_with a (take fed piece)) b p s s1 w w1 [] [] r r1 x) more)
 
   pub stops_part : (a : Place) (piece : List ℕ) (fed n : ℕ) (b b1 : Place) (finished : Bool)
-      (s s1 : LogState) (w w1 w2 r r1 r2 : Option (List ℕ))
+      (s s1 now : LogState) (w w1 w2 r r1 r2 : Option (List ℕ))
       → Hears h said true (fed_with a (take fed piece)) b s s1 w w1 [] [] r r1
-      → b1 ≡ fed_with b (take n (drop fed piece)) → finished ≡ false
-      → Stops h said (not finished) b1 s1 w1 w2 [] r1 r2
+      → b1 ≡ fed_with b (take n (drop fed piece)) → finished ≡ false → now ≡ s1
+      → Stops h said (not finished) b1 now w1 w2 [] r1 r2
       → Stops h said true (fed_with a piece) s w w2 [] r r2
-  stops_part a piece fed n b b1 finished s s1 w w1 w2 r r1 r2 x fed_is still y =
+  stops_part a piece fed n b b1 finished s s1 now w w1 w2 r r1 r2 x fed_is still same y =
       let p = take n (drop fed piece) in
       let more : Stops h said true (fed_with b p) s1 w1 w2 [] r1 r2 =
       subst (λ t. Stops h said true t s1 w1 w2 [] r1 r2) fed_is
-      (subst (λ t. Stops h said (not t) b1 s1 w1 w2 [] r1 r2) still y) in
+      (subst (λ t. Stops h said (not t) b1 s1 w1 w2 [] r1 r2) still
+      (subst (λ t. Stops h said (not finished) b1 t w1 w2 [] r1 r2) same y)) in
       let part : Stops h said true (fed_with a (take (fed + n) piece)) s w w2 [] r r2 =
       subst (λ t. Stops h said true t s w w2 [] r r2) (fed_part a piece fed n)
       (stops_on true (fed_with (fed_with a (take fed piece)) p) (fed_with b p) s s1

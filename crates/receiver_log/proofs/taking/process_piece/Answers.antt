@@ -28,8 +28,8 @@ loop-fed-preserved g c =
     let still = c.feed_some-fed.ensures.finished ∙ c.loop-fed.invariant.may_feed.0 in
     let took = c.in_ok-process_messages.ensures in
     record {
-      hears = hears_part g.J.Judge.heading g.J.Receiver.said _ _ _ _ _ _ _ _ _ _ _ _ _ _ _ _ _
-          c.loop-fed.invariant.hears fed still took.hears;
+      hears = hears_part g.J.Judge.heading g.J.Receiver.said _ _ _ _ _ _ _ _ _ _ _ _ _ _ _ _ _ _
+          c.loop-fed.invariant.hears fed still c.feed_some-fed.ensures.state took.hears;
       may_feed = (took.finished ∙ still, took.waiting);
       none = took.none;
       last = rw (took.finished ∙ still) at took.last;
@@ -51,5 +51,6 @@ returns-in_err-process_messages-clause-stops g c =
     ∙ ap (λ xs. fed_with (place_of log.deframer log.queue log.counts)
     (take c.feed_some-fed.result xs)) (take_rest c.args.piece.now c.loop-fed.fed) in
     let still = c.feed_some-fed.ensures.finished ∙ c.loop-fed.invariant.may_feed.0 in
-    rw p.1 (stops_part g.J.Judge.heading g.J.Receiver.said _ _ _ _ _ _ _ _ _ _ _ _ _ _ _
-    c.loop-fed.invariant.hears fed still c.in_err-process_messages.ensures.stops)
+    rw p.1 (stops_part g.J.Judge.heading g.J.Receiver.said _ _ _ _ _ _ _ _ _ _ _ _ _ _ _ _
+    c.loop-fed.invariant.hears fed still c.feed_some-fed.ensures.state
+    c.in_err-process_messages.ensures.stops)
