@@ -10,15 +10,13 @@ use Rattle.page_send.specs.Slots.{text_of_items}
 use Rattle.capture_lines.specs.Texts.{half_text}
 use Rattle.receiver_messages.specs.declared.said.Content.{Content}
 use Rattle.receiver_messages.specs.declared.said.Content.TheVariants.{Refused, Subframe, Page}
-use Rattle.receiver_messages.specs.declared.said.Said.{Said}
-use Rattle.receiver_messages.specs.declared.said.Said.TheVariants.{Other, Time, Heard, Dated}
+use Rattle.receiver_log.specs.declared.reception.Reception.{Reception}
 use Rattle.receiver_log.specs.declared.state.LogState.{LogState}
-use Rattle.receiver_log.specs.Capture.{lines_from}
-use Rattle.receiver_log.specs.Log.{LinesGiven, counted, given, given_at, head_line, reason_in, week_of}
-use Rattle.job_laws.specs.LogItems.{Timed, yielded, yielded_by, first_second, items_at}
-use Rattle.job_laws.specs.LogItems.{time_behind, week_before, week_of_log}
-use Rattle.job_laws.proofs.SaidRanges.{IsSaid, IsTime}
-use Rattle.job_laws.proofs.LogTexts.{lines_behind, log_texts, texts_both}
+use Rattle.receiver_log.specs.Capture.{given, lines_from}
+use Rattle.receiver_log.specs.Log.{LinesGiven, given_at, head_line, reason_in, week_of}
+use Rattle.job_laws.specs.LogItems.{first_second, items_at, items_of_log, week_before, week_of_log}
+use Rattle.job_laws.proofs.SaidRanges.{IsTime}
+use Rattle.job_laws.proofs.LogTexts.{lines_behind, log_texts, texts_append}
 
 -- the week of a first line
 abbrev week_at : ℕ → ℕ
@@ -42,25 +40,24 @@ in_range first low high = (omega (arith, low), omega (arith, high))
 -- what is given at a time, where no line was written
 abbrev First : Option ℕ → Option ℕ → Content → LogState → LinesGiven → Type 0
 First None time content s g =
-    (g.text ≡ []) × (g.state.week ≡ None) × (g.state.time ≡ s.time)
+    (g.text ≡ []) × (g.state.week ≡ None)
     × ((week : ℕ) → items_at week time content ≡ [])
 First (Some first) time content s g =
     (g.text ≡ head_line (week_at first) ++ text_of_items (items_at (week_at first) time content))
-    × (g.state.week ≡ Some (week_at first)) × (g.state.time ≡ s.time) × IsReference (week_at first)
+    × (g.state.week ≡ Some (week_at first)) × IsReference (week_at first)
 
 first_at : (s : LogState) (time : Option ℕ) (content : Content) → s.week ≡ None → IsTime time
     → First (first_second time content) time content s (given_at s time content)
-first_at s None (Refused reason) e is = (refl, e, refl, λ _. refl)
-first_at s None (Subframe sat words) e is = (refl, e, refl, λ _. refl)
-first_at s None (Page sat signal even odd) e is = (refl, e, refl, λ _. refl)
-first_at s (Some time) (Refused reason) e is = (refl, e, refl, λ _. refl)
+first_at s None (Refused reason) e is = (refl, e, λ _. refl)
+first_at s None (Subframe sat words) e is = (refl, e, λ _. refl)
+first_at s None (Page sat signal even odd) e is = (refl, e, λ _. refl)
+first_at s (Some time) (Refused reason) e is = (refl, e, λ _. refl)
 first_at s (Some time) (Subframe sat words) e is =
     let none = no_reason time time (omega arith) (omega arith) in
     let here : reason_in (week_of s.week time) time time ≡ None =
     ap (λ w. reason_in (week_of w time) time time) e ∙ none in (
       rw (here, e, none) (ap (λ t. head_line (week_at time) ++ t) (sym (append-nil _))),
       rw (here, e) refl,
-      rw here refl,
       in_range time (omega (arith, is.0)) is.1,
     )
 first_at s (Some time) (Page sat signal even odd) e is =
@@ -75,77 +72,49 @@ first_at s (Some time) (Page sat signal even odd) e is =
           ∙ ap (λ t. head_line (week_at (time - 1)) ++ (half_at (time - 1) even ++ t))
           (sym (append-nil (half_at time odd)))),
       rw (here, e) refl,
-      rw here refl,
       in_range (time - 1) (omega (arith, is.0)) (omega (arith, is.1)),
     )
 
 -- the text of a log
-abbrev pub IsText : Option ℕ → List Timed → List ℕ → Type 0
+abbrev pub IsText : Option ℕ → List Reception → List ℕ → Type 0
 IsText None log text = text ≡ []
 IsText (Some week) log text = (text ≡ head_line week ++ log_texts week log) × IsReference week
 
-passed : (week : Option ℕ) (x : Timed) (log : List Timed) (text : List ℕ)
+passed : (week : Option ℕ) (x : Reception) (log : List Reception) (text : List ℕ)
     → ((w : ℕ) → items_at w x.time x.content ≡ [])
     → IsText week log text → IsText week (x ∷ log) text
 unfolding log_texts
 passed None x log text none is = is
 passed (Some week) x log text none is = (rw (none week) is.0, is.1)
 
-module _ (said : List ℕ → Said) (each : (m : List ℕ) → IsSaid (said m)) where
-  -- what the messages after it give, where no line was written
-  abbrev Behind : List (List ℕ) → Type 0
-  Behind ms = (s : LogState) → s.week ≡ None → IsTime s.time
-      → IsText (week_of_log (yielded_by said s.time ms)) (yielded_by said s.time ms)
-      (lines_from said s ms)
+-- the times of receptions are in their range
+abbrev pub AreTimes : List Reception → Type 0
+AreTimes [] = Unit {0}
+AreTimes (x ∷ xs) = IsTime x.time × AreTimes xs
 
-  by_first : (s : LogState) (time : Option ℕ) (content : Content) (ms : List (List ℕ)) (g : LinesGiven)
-      (first : Option ℕ)
-      → First first time content s g → IsTime s.time → Behind ms
-      → IsText (week_before first (week_of_log (yielded_by said s.time ms)))
-      (record { time = time; content = content } ∷ yielded_by said s.time ms)
-      (g.text ++ lines_from said g.state ms)
-  unfolding log_texts
-  by_first s time content ms g None is ranged behind =
-      let log = yielded_by said s.time ms in
-      let more : IsText (week_of_log log) log (lines_from said g.state ms) =
-      subst (λ t. IsText (week_of_log (yielded_by said t ms)) (yielded_by said t ms)
-      (lines_from said g.state ms)) is.2 (behind g.state is.1 (subst IsTime (sym is.2) ranged)) in
-      rw is.0 (passed (week_of_log log) (record { time = time; content = content }) log
-      (lines_from said g.state ms) is.3 more)
-  by_first s time content ms g (Some first) is ranged behind =
-      let week = week_at first in
-      let log = yielded_by said s.time ms in
-      let more : lines_from said g.state ms ≡ log_texts week log =
-      lines_behind said g.state week ms is.1
-      ∙ ap (λ t. log_texts week (yielded_by said t ms)) is.2 in (
-        ap (λ t. g.text ++ t) more ∙ ap (λ t. t ++ log_texts week log) is.0
-            ∙ append_assoc (head_line week) (text_of_items (items_at week time content))
-            (log_texts week log)
-            ∙ ap (λ t. head_line week ++ t)
-            (ap (λ items. text_of_items items ++ log_texts week log)
-            (sym (append-nil (items_at week time content)))
-            ∙ sym (texts_both week (record { time = time; content = content } ∷ []) log)),
-        is.3,
-      )
+-- what those after it give, where no line was written
+abbrev Behind : List Reception → Type 0
+Behind rs = (s : LogState) → s.week ≡ None → IsText (week_of_log rs) rs (lines_from s rs)
 
-  by_message : (s : LogState) (bytes : ℕ) (x : Said) (ms : List (List ℕ)) → s.week ≡ None
-      → IsTime s.time → IsSaid x → Behind ms
-      → IsText (week_of_log (yielded s.time x ++ yielded_by said (time_behind s.time x) ms))
-      (yielded s.time x ++ yielded_by said (time_behind s.time x) ms)
-      ((given s bytes x).text ++ lines_from said (given s bytes x).state ms)
-  by_message s bytes Other ms e ranged is behind = behind (given s bytes Other).state e ranged
-  by_message s bytes (Time None) ms e ranged is behind =
-      behind (given s bytes (Time None)).state e tt
-  by_message s bytes (Time (Some time)) ms e ranged is behind =
-      behind (given s bytes (Time (Some time))).state e is
-  by_message s bytes (Heard content) ms e ranged is behind =
-      by_first (counted s bytes) s.time content ms _ _
-      (first_at (counted s bytes) s.time content e ranged) ranged behind
-  by_message s bytes (Dated time content) ms e ranged is behind =
-      by_first (counted s bytes) time content ms _ _
-      (first_at (counted s bytes) time content e is.0) ranged behind
+by_first : (s : LogState) (r : Reception) (rs : List Reception) (g : LinesGiven) (first : Option ℕ)
+    → First first r.time r.content s g → Behind rs
+    → IsText (week_before first (week_of_log rs)) (r ∷ rs) (g.text ++ lines_from g.state rs)
+unfolding log_texts
+by_first s r rs g None is behind =
+    rw is.0 (passed (week_of_log rs) r rs (lines_from g.state rs) is.1.1 (behind g.state is.1.0))
+by_first s r rs g (Some first) is behind =
+    let week = week_at first in (
+      ap (λ t. g.text ++ t) (lines_behind g.state week rs is.1.0)
+          ∙ ap (λ t. t ++ log_texts week rs) is.0
+          ∙ append_assoc (head_line week) (text_of_items (items_at week r.time r.content))
+          (log_texts week rs)
+          ∙ ap (λ t. head_line week ++ t)
+          (sym (texts_append (items_at week r.time r.content) (items_of_log week rs))),
+      is.1.1,
+    )
 
-  pub lines_are_text : (ms : List (List ℕ)) → Behind ms
-  lines_are_text [] s e ranged = refl
-  lines_are_text (m ∷ ms) s e ranged =
-      by_message s (length m) (said m) ms e ranged (each m) (lines_are_text ms)
+pub lines_are_text : (rs : List Reception) → AreTimes rs → Behind rs
+lines_are_text [] times s e = refl
+lines_are_text (r ∷ rs) times s e =
+    by_first s r rs (given s r) (first_second r.time r.content)
+    (first_at s r.time r.content e times.0) (lines_are_text rs times.1)

@@ -1,6 +1,6 @@
 -- The capture of a log as lines.
 use Rattle.std.proofs.Common.{◌≡◌, ℕ, ◌+◌, ◌-◌, ◌*◌, ◌^◌, ◌<◌, ◌≤◌, ◌&&◌, nat_lt, nat_le, Bool}
-use Rattle.std.proofs.Common.{true}
+use Rattle.std.proofs.Common.{true, map}
 use Rattle.std.proofs.Common.{false, List, [], ◌∷◌, ◌++◌, length, All, codes, decimal, refl, sym}
 use Rattle.std.proofs.Common.{ap, ◌∙◌, arith, append_assoc, length-append}
 use Rattle.std.proofs.lemmas.Bool.{and_parts, leb-false, leb-true}
@@ -36,12 +36,15 @@ use Rattle.receiver_messages.specs.declared.said.Said.{Said}
 use Rattle.receiver_messages.specs.declared.said.Said.TheVariants.{Other, Time, Heard, Dated}
 use Rattle.receiver_log.specs.Capture as logs
 use Rattle.receiver_log.specs.Log.{begun, head_line, reason_in}
-use Rattle.job_laws.specs.LogItems.{Timed, yielded, yielded_by, items_at, items_of_log, time_behind}
+use Rattle.receiver_log.specs.declared.reception.Reception.{Reception}
+use Rattle.receiver_log.specs.Receptions.{between, is_open, nearest, parts_round, received_from}
+use Rattle.receiver_log.specs.Receptions.{receptions_of}
+use Rattle.job_laws.specs.LogItems.{items_at, items_of_log}
 use Rattle.job_laws.specs.LogItems.{unless, week_of_log}
 use Rattle.job_laws.specs.LogHeard.{IsHeardBy, IsHeardThrough, parts_heard}
-use Rattle.job_laws.proofs.LogBegins.{IsText, lines_are_text}
+use Rattle.job_laws.proofs.LogBegins.{AreTimes, IsText, lines_are_text}
 use Rattle.job_laws.proofs.LogTexts.{log_texts}
-use Rattle.job_laws.proofs.SaidRanges.{IsContent, IsSaid}
+use Rattle.job_laws.proofs.SaidRanges.{IsContent, IsSaid, IsTime}
 
 -- what the laws of lines say
 pub record ChainLaws : Type 0 where
@@ -116,30 +119,57 @@ spelt_at laws week (Some time) (Page sat signal even odd) is =
           ),
         )
 
--- what is yielded is in its ranges
-abbrev AreContents : List Timed → Type 0
+-- what is received is in its ranges
+abbrev AreContents : List Reception → Type 0
 AreContents [] = Unit {0}
 AreContents (x ∷ xs) = IsContent x.content × AreContents xs
 
-contents_append : (xs ys : List Timed) → AreContents xs → AreContents ys → AreContents (xs ++ ys)
-contents_append [] ys a b = b
-contents_append (x ∷ xs) ys a b = (a.0, contents_append xs ys a.1 b)
+-- all messages are
+abbrev AreSaid : List Said → Type 0
+AreSaid [] = Unit {0}
+AreSaid (x ∷ xs) = IsSaid x × AreSaid xs
 
-yielded_contents : (time : Option ℕ) (x : Said) → IsSaid x → AreContents (yielded time x)
-yielded_contents time Other is = tt
-yielded_contents time (Time next) is = tt
-yielded_contents time (Heard content) is = (is, tt)
-yielded_contents time (Dated own content) is = (is.1, tt)
+nearest_is : (says : List Said) → AreSaid says → IsTime (nearest says)
+nearest_is [] are = tt
+nearest_is (Other ∷ says) are = nearest_is says are.1
+nearest_is (Time time ∷ says) are = are.0
+nearest_is (Heard content ∷ says) are = nearest_is says are.1
+nearest_is (Dated time content ∷ says) are = nearest_is says are.1
 
-log_contents : (said : List ℕ → Said) → ((m : List ℕ) → IsSaid (said m))
-    → (time : Option ℕ) (ms : List (List ℕ)) → AreContents (yielded_by said time ms)
-log_contents said each time [] = tt
-log_contents said each time (m ∷ ms) =
-    contents_append (yielded time (said m)) (yielded_by said (time_behind time (said m)) ms)
-    (yielded_contents time (said m) (each m))
-    (log_contents said each (time_behind time (said m)) ms)
+between_is : (first second : Option ℕ) (parts : ℕ) → IsTime first → IsTime (between first second parts)
+between_is None second parts is = tt
+between_is (Some first) None parts is = tt
+between_is (Some first) (Some second) parts is =
+    by (nat_le first (second + 1) && nat_le second (first + 60) && nat_le parts 1024)
+  where
+    by : (b : Bool) → IsTime (if b then Some first else None)
+    by true = is
+    by false = tt
 
-spelt_log : ChainLaws → (week : ℕ) (log : List Timed) → AreContents log
+received_are : (before says : List Said) → AreSaid before → AreSaid says
+    → AreContents (received_from false before says) × AreTimes (received_from false before says)
+received_are before [] b a = (tt, tt)
+received_are before (Other ∷ says) b a = received_are (Other ∷ before) says (a.0, b) a.1
+received_are before (Time time ∷ says) b a = received_are (Time time ∷ before) says (a.0, b) a.1
+received_are before (Dated time content ∷ says) b a =
+    let more = received_are (Dated time content ∷ before) says (a.0, b) a.1 in
+    ((a.0.1, more.0), (a.0.0, more.1))
+received_are before (Heard content ∷ says) b a =
+    let more = received_are (Heard content ∷ before) says (a.0, b) a.1 in
+    let parts = parts_round before says in
+    rw (and_false (is_open (nearest before) says parts))
+    ((a.0, more.0), (between_is (nearest before) (nearest says) parts (nearest_is before b), more.1))
+  where
+    and_false : (b : Bool) → (b && false) ≡ false
+    and_false true = refl
+    and_false false = refl
+
+messages_said : (said : List ℕ → Said) → ((m : List ℕ) → IsSaid (said m)) → (ms : List (List ℕ))
+    → AreSaid (map said ms)
+messages_said said each [] = tt
+messages_said said each (m ∷ ms) = (each m, messages_said said each ms)
+
+spelt_log : ChainLaws → (week : ℕ) (log : List Reception) → AreContents log
     → AreSpelt (items_of_log week log)
 spelt_log laws week [] is = tt
 spelt_log laws week (x ∷ xs) is =
@@ -232,7 +262,7 @@ head_ends week rest =
 
 -- ---- the capture
 
-heard_by : ChainLaws → (week : Option ℕ) (log : List Timed) (text : List ℕ) → AreContents log
+heard_by : ChainLaws → (week : Option ℕ) (log : List Reception) (text : List ℕ) → AreContents log
     → IsText week log text → IsHeardBy week log text
 unfolding log_texts
 heard_by laws None log text contents is = is
@@ -256,11 +286,11 @@ heard_by laws (Some week) log text contents is =
 
 pub heard_through : ChainLaws → (heading : Heading) (said : List ℕ → Said)
     → ((m : List ℕ) → IsSaid (said m)) → (bytes : List ℕ)
-    → IsHeardThrough (yielded_by said None (messages (format_of heading) bytes))
+    → IsHeardThrough (receptions_of said (messages (format_of heading) bytes))
     (logs.capture_of heading said bytes)
 heard_through laws heading said each bytes =
     let ms = messages (format_of heading) bytes in
-    let log = yielded_by said None ms in
-    heard_by laws (week_of_log log) log (logs.capture_of heading said bytes)
-    (log_contents said each None ms)
-    (lines_are_text said each ms begun refl tt)
+    let log = receptions_of said ms in
+    let are = received_are [] (map said ms) tt (messages_said said each ms) in
+    heard_by laws (week_of_log log) log (logs.capture_of heading said bytes) are.0
+    (lines_are_text log are.1 begun refl)

@@ -10,10 +10,11 @@ use Rattle.outlets.specs.Targets.{back_text, prefix_text}
 use Rattle.captures.specs.Captures.{Capture, accepted_line, capture_of, counts_of, counts_text}
 use Rattle.captures.specs.Captures.{output_of, periods, texts_of, whole_text}
 use Rattle.job_laws.specs.LogHeard.{IsHeardAs, IsHeardBy, parts_heard}
-use Rattle.job_laws.specs.LogItems.{Timed, items_of_log}
+use Rattle.receiver_log.specs.declared.reception.Reception.{Reception}
+use Rattle.job_laws.specs.LogItems.{items_of_log}
 use Rattle.job_laws.specs.LogTaken.{IsTaken, IsTakenBy, log_output}
 
-pub taken : (week : ℕ) (log : List Timed) (text : List ℕ) → IsHeardAs week log text
+pub taken : (week : ℕ) (log : List Reception) (text : List ℕ) → IsHeardAs week log text
     → IsTaken week log text
 unfolding accepted_line output_of
 taken week log text heard =
@@ -40,7 +41,7 @@ taken week log text heard =
       named_output_is = λ to. ap (λ (c : Option Capture). whole_text to c) named ∙ written to;
     }
 
-pub taken_by : (week : Option ℕ) (log : List Timed) (text : List ℕ) → IsHeardBy week log text
+pub taken_by : (week : Option ℕ) (log : List Reception) (text : List ℕ) → IsHeardBy week log text
     → IsTakenBy week log text
 taken_by (Some week) log text heard = taken week log text heard
 taken_by None log text none = λ named. ap (λ t. capture_of named t) none

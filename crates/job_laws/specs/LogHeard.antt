@@ -6,7 +6,8 @@ use Rattle.capture_lines.specs.Heads.{head_of}
 use Rattle.capture_log.specs.Events.{nothing_known}
 use Rattle.capture_log.specs.Log.{line_items_of, log_from, parts_in, parts_of}
 use Rattle.nav_io.specs.Lines.{Line, lines_by}
-use Rattle.job_laws.specs.LogItems.{Timed, items_of_log, week_of_log}
+use Rattle.receiver_log.specs.declared.reception.Reception.{Reception}
+use Rattle.job_laws.specs.LogItems.{items_of_log, week_of_log}
 
 -- the parts received from items
 abbrev pub parts_heard : ℕ → List LineItem → List Part
@@ -15,7 +16,7 @@ parts_heard window items = parts_in (log_from window nothing_known 2 items)
 -- The text is a capture of the week of the log: its first line names the week and a window of two
 -- hours, and the lines after it stand for the items of the log; so the parts received from the lines
 -- are those received from the items.
-pub record IsHeardAs (week : ℕ) (log : List Timed) (text : List ℕ) : Type 0 where
+pub record IsHeardAs (week : ℕ) (log : List Reception) (text : List ℕ) : Type 0 where
   pub first : List ℕ
   pub lines : List Line
   pub lines_are : lines_by false text ≡ record { text = first; long = false } ∷ lines
@@ -24,10 +25,10 @@ pub record IsHeardAs (week : ℕ) (log : List Timed) (text : List ℕ) : Type 0 
   pub parts_are : parts_of 7200 lines ≡ parts_heard 7200 (items_of_log week log)
 
 -- a log without a week gives an empty text
-abbrev pub IsHeardBy : Option ℕ → List Timed → List ℕ → Type 0
+abbrev pub IsHeardBy : Option ℕ → List Reception → List ℕ → Type 0
 IsHeardBy (Some week) log text = IsHeardAs week log text
 IsHeardBy None log text = text ≡ []
 
 -- the text is the capture of what the log yields
-abbrev pub IsHeardThrough : List Timed → List ℕ → Type 0
+abbrev pub IsHeardThrough : List Reception → List ℕ → Type 0
 IsHeardThrough log text = IsHeardBy (week_of_log log) log text

@@ -1,5 +1,4 @@
--- What a log yields: its subframes and pages, each with its time, and the capture items that they
--- become.
+-- The capture items that a log's subframes and pages become, each with its time of reception.
 use Rattle.std.specs.Prelude.{ℕ, ◌-◌, ◌*◌, ◌/◌, List, [], ◌∷◌, ◌++◌, Option, Some, None}
 use Rattle.capture_lines.specs.declared.item.LineItem.{LineItem}
 use Rattle.capture_lines.specs.declared.item.LineItem.TheVariants.{Lnav, Half}
@@ -7,35 +6,8 @@ use Rattle.receiver_messages.specs.Words.{read_words, subframe_bytes}
 use Rattle.receiver_messages.specs.declared.said.Content.{Content}
 use Rattle.receiver_messages.specs.declared.said.Content.TheVariants.{Refused, Subframe, Page}
 use Rattle.receiver_messages.specs.declared.said.Reason.{Reason}
-use Rattle.receiver_messages.specs.declared.said.Said.{Said}
-use Rattle.receiver_messages.specs.declared.said.Said.TheVariants.{Other, Time, Heard, Dated}
+use Rattle.receiver_log.specs.declared.reception.Reception.{Reception}
 use Rattle.receiver_log.specs.Log.{reason_in}
-
--- a subframe or a page with its time, or the reason why there is none
-pub record Timed : Type 0 where
-  pub time : Option ℕ
-  pub content : Content
-
--- the time after a message: a time message sets it, or clears it
-abbrev pub time_behind : Option ℕ → Said → Option ℕ
-time_behind time Other = time
-time_behind time (Time next) = next
-time_behind time (Heard content) = time
-time_behind time (Dated own content) = time
-
--- what a message yields: a subframe or a page that has no time of its own has that of the last time
--- message
-abbrev pub yielded : Option ℕ → Said → List Timed
-yielded time Other = []
-yielded time (Time next) = []
-yielded time (Heard content) = record { time = time; content = content } ∷ []
-yielded time (Dated own content) = record { time = own; content = content } ∷ []
-
--- what messages yield from a time on, where `said` reads a message
-abbrev pub yielded_by : (List ℕ → Said) → Option ℕ → List (List ℕ) → List Timed
-yielded_by said time [] = []
-yielded_by said time (m ∷ ms) = yielded time (said m)
-    ++ yielded_by said (time_behind time (said m)) ms
 
 -- the second of its first line: the even part of a page was transmitted a second before its time
 abbrev pub first_second : Option ℕ → Content → Option ℕ
@@ -50,7 +22,7 @@ week_before (Some first) following = Some ((first - 7200) / 604800)
 week_before None following = following
 
 -- the week of a log: that of the first of its lines
-abbrev pub week_of_log : List Timed → Option ℕ
+abbrev pub week_of_log : List Reception → Option ℕ
 week_of_log [] = None
 week_of_log (x ∷ xs) = week_before (first_second x.time x.content) (week_of_log xs)
 
@@ -72,6 +44,6 @@ items_at week (Some time) (Page sat signal even odd) =
     ∷ [])
 
 -- the items of what a log yields
-abbrev pub items_of_log : ℕ → List Timed → List LineItem
+abbrev pub items_of_log : ℕ → List Reception → List LineItem
 items_of_log week [] = []
 items_of_log week (x ∷ xs) = items_at week x.time x.content ++ items_of_log week xs

@@ -8,11 +8,12 @@ use Rattle.captures.specs.declared.counts.CaptureCounts.{CaptureCounts}
 use Rattle.captures.specs.Captures.{Capture, capture_of, counts_of, counts_text, output_of, periods}
 use Rattle.captures.specs.Captures.{texts_of}
 use Rattle.job_laws.specs.LogHeard.{parts_heard}
-use Rattle.job_laws.specs.LogItems.{Timed, items_of_log, week_of_log}
+use Rattle.receiver_log.specs.declared.reception.Reception.{Reception}
+use Rattle.job_laws.specs.LogItems.{items_of_log, week_of_log}
 
 -- the output for a log of this week in this form: the periods of the parts received from its items
 -- and, where the form has them, these counts
-abbrev pub log_output : Target → ℕ → List Timed → CaptureCounts → List ℕ
+abbrev pub log_output : Target → ℕ → List Reception → CaptureCounts → List ℕ
 log_output to week log counts =
     prefix_text to
     ++ (texts_of to (periods_of week 7200 (parts_heard 7200 (items_of_log week log)))
@@ -21,7 +22,7 @@ log_output to week log counts =
 -- The text is a capture, whether or not the command line names its week: it has the log's week, a
 -- window of two hours, and lines that stand for the items of the log. Its periods and its output are
 -- those of the parts received from these.
-pub record IsTaken (week : ℕ) (log : List Timed) (text : List ℕ) : Type 0 where
+pub record IsTaken (week : ℕ) (log : List Reception) (text : List ℕ) : Type 0 where
   pub capture : Capture
   pub is : capture_of None text ≡ Some capture
   pub is_named : capture_of (Some week) text ≡ Some capture
@@ -37,10 +38,10 @@ pub record IsTaken (week : ℕ) (log : List Timed) (text : List ℕ) : Type 0 wh
       → output_of to (Some week) text ≡ log_output to week log (counts_of capture)
 
 -- where a log has no week, the text is no capture
-abbrev pub IsTakenBy : Option ℕ → List Timed → List ℕ → Type 0
+abbrev pub IsTakenBy : Option ℕ → List Reception → List ℕ → Type 0
 IsTakenBy (Some week) log text = IsTaken week log text
 IsTakenBy None log text = (named : Option ℕ) → capture_of named text ≡ None
 
 -- the text is read as the capture of what the log yields
-abbrev pub IsTakenThrough : List Timed → List ℕ → Type 0
+abbrev pub IsTakenThrough : List Reception → List ℕ → Type 0
 IsTakenThrough log text = IsTakenBy (week_of_log log) log text

@@ -1,15 +1,16 @@
 //! Laws of logs of receivers: each is the contract of an empty function.
 
-ghost use Rattle.std.specs.Prelude.{ℕ, List, None};
+ghost use Rattle.std.specs.Prelude.{ℕ, List};
 ghost use Rattle.receiver_frames.specs.Headings.{format_of};
 ghost use Rattle.receiver_frames.specs.Messages.{messages};
 ghost use Rattle.receiver_frames.specs.UbxForm.{ubx};
 ghost use Rattle.receiver_frames.specs.SbfForm.{sbf};
 ghost use Rattle.receiver_messages.specs.Sbf.{sbf_said};
 ghost use Rattle.receiver_messages.specs.Ubx.{ubx_said};
+ghost use Rattle.receiver_log.specs.declared.reception.Reception.{Reception};
 ghost use Rattle.receiver_log.specs.Capture.{capture_of};
+ghost use Rattle.receiver_log.specs.Receptions.{receptions_of};
 ghost use Rattle.job_laws.specs.LogHeard.{IsHeardAs, IsHeardThrough};
-ghost use Rattle.job_laws.specs.LogItems.{Timed, yielded_by};
 ghost use Rattle.job_laws.specs.LogTaken.{IsTaken, IsTakenThrough};
 
 /// The capture of a log's bytes has an accepted first line, and its further lines stand, one by
@@ -17,10 +18,10 @@ ghost use Rattle.job_laws.specs.LogTaken.{IsTaken, IsTakenThrough};
 /// what these yield. Where the log yields none with a time, the capture is empty.
 pub fn a_log_is_heard_through_its_capture()
     ensures ubx { (bytes : List ℕ) → IsHeardThrough
-        (yielded_by ubx_said None (messages (format_of ubx) bytes))
+        (receptions_of ubx_said (messages (format_of ubx) bytes))
         (capture_of ubx ubx_said bytes) }
     ensures sbf { (bytes : List ℕ) → IsHeardThrough
-        (yielded_by sbf_said None (messages (format_of sbf) bytes))
+        (receptions_of sbf_said (messages (format_of sbf) bytes))
         (capture_of sbf sbf_said bytes) }
 {
     nav_io::written_lines_are_given();
@@ -34,7 +35,7 @@ pub fn a_log_is_heard_through_its_capture()
 /// converted to: with this week, a window of 7,200 s, and lines that stand for the log's items. Its
 /// periods are those of the parts received from these.
 pub fn a_heard_log_is_a_capture()
-    ensures { (week : ℕ) (log : List Timed) (text : List ℕ) → IsHeardAs week log text
+    ensures { (week : ℕ) (log : List Reception) (text : List ℕ) → IsHeardAs week log text
         → IsTaken week log text }
 {}
 
@@ -43,10 +44,10 @@ pub fn a_heard_log_is_a_capture()
 /// capture.
 pub fn a_log_is_converted_through_its_capture()
     ensures ubx { (bytes : List ℕ) → IsTakenThrough
-        (yielded_by ubx_said None (messages (format_of ubx) bytes))
+        (receptions_of ubx_said (messages (format_of ubx) bytes))
         (capture_of ubx ubx_said bytes) }
     ensures sbf { (bytes : List ℕ) → IsTakenThrough
-        (yielded_by sbf_said None (messages (format_of sbf) bytes))
+        (receptions_of sbf_said (messages (format_of sbf) bytes))
         (capture_of sbf sbf_said bytes) }
 {
     a_log_is_heard_through_its_capture();

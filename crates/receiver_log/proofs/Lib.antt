@@ -1,4 +1,5 @@
 mod Comings
 mod LogSteps
 mod LogEnds
+mod OneStep
 mod SourceSteps

@@ -134,7 +134,7 @@ impl<J: Receiver> Log<J> {
             self.take_message();
             return true;
         }
-        if self.deframer.may_feed() || self.queue.is_empty() {
+        if self.queue.is_empty() || self.deframer.may_feed() {
             return false;
         }
         self.queue.end();
