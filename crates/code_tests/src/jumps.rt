@@ -1,6 +1,12 @@
 //! Logs whose times jump.
 
 use crate::log_runs::{Form, IN_TWO, Log};
+use crate::small_log::{LOG, PAGE};
+use std::alloc::{AllocError, Global};
+use std::test::Fail;
+
+// A message of a subframe or page that is refused by its length.
+const SHORT: &[u8] = b"\xb5\x62\x02\x13\x00\x00\x15\x41";
 
 pub(crate) static JUMPS: [Log; 2] = [
     Log {
@@ -211,3 +217,25 @@ pub(crate) static JUMPS: [Log; 2] = [
         ..IN_TWO
     },
 ];
+
+// Whether of a page and so many refused messages between two times this is written.
+fn writes(alloc: Global, refused: u32, capture: &str) -> Result<bool, AllocError> {
+    let mut bytes = LOG[..24].to_vec(alloc)?;
+    for _ in 0..refused {
+        bytes.extend_from_slice(SHORT)?;
+    }
+    bytes.extend_from_slice(&LOG[24..100])?;
+    let log = Log {
+        bytes: bytes.as_slice(),
+        capture,
+        ..IN_TWO
+    };
+    log.ends_so(alloc)
+}
+
+#[test]
+fn at_most_1024_lie_between_two_times(rt: HostRuntime) -> Result<(), Fail> {
+    assert!(rt; writes(rt.alloc(), 1_023, PAGE)?);
+    assert!(rt; writes(rt.alloc(), 1_024, "")?);
+    Ok(())
+}

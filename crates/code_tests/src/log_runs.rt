@@ -63,7 +63,7 @@ pub(crate) const IN_TWO: Log<'static> = Log {
 
 // An empty sink.
 fn sink_of(alloc: Global, fails: &[u32]) -> Result<MemSink, AllocError> {
-    MemSink::new(alloc, 1000, fails.to_vec(alloc)?)
+    MemSink::new(alloc, 40_000, fails.to_vec(alloc)?)
 }
 
 impl Log<'_> {

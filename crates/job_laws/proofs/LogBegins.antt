@@ -101,16 +101,16 @@ by_first : (s : LogState) (r : Reception) (rs : List Reception) (g : LinesGiven)
     → IsText (week_before first (week_of_log rs)) (r ∷ rs) (g.text ++ lines_from g.state rs)
 unfolding log_texts
 by_first s r rs g None is behind =
-    rw is.0 (passed (week_of_log rs) r rs (lines_from g.state rs) is.1.1 (behind g.state is.1.0))
+    rw is.0 (passed (week_of_log rs) r rs (lines_from g.state rs) is.2 (behind g.state is.1))
 by_first s r rs g (Some first) is behind =
     let week = week_at first in (
-      ap (λ t. g.text ++ t) (lines_behind g.state week rs is.1.0)
+      ap (λ t. g.text ++ t) (lines_behind g.state week rs is.1)
           ∙ ap (λ t. t ++ log_texts week rs) is.0
           ∙ append_assoc (head_line week) (text_of_items (items_at week r.time r.content))
           (log_texts week rs)
           ∙ ap (λ t. head_line week ++ t)
           (sym (texts_append (items_at week r.time r.content) (items_of_log week rs))),
-      is.1.1,
+      is.2,
     )
 
 pub lines_are_text : (rs : List Reception) → AreTimes rs → Behind rs

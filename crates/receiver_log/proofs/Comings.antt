@@ -1,5 +1,5 @@
 -- What is to come of a log's subframes and pages, message by message.
-use Rattle.std.proofs.Common.{◌≡◌, ℕ, ◌+◌, ◌-◌, ◌<◌, ◌≤◌, ◌^◌, ◌&&◌, nat_le, min, not, Bool, true, false}
+use Rattle.std.proofs.Common.{◌≡◌, ℕ, suc, ◌+◌, ◌-◌, ◌<◌, ◌≤◌, ◌^◌, ◌&&◌, nat_le, min, not, Bool, true, false}
 use Rattle.std.proofs.Common.{List, [], ◌∷◌, ◌++◌, length, map, refl, sym, ap, ◌∙◌, arith, subst}
 use Rattle.std.proofs.Common.{append_assoc, append-nil, drop, length-append}
 use Rattle.std.proofs.lemmas.Bool.{both_ways, le-leb, lt-leb}
@@ -21,12 +21,17 @@ and_false : (b : Bool) → (b && false) ≡ false
 and_false true = refl
 and_false false = refl
 
+and3_false : (a b : Bool) → (a && b && false) ≡ false
+and3_false true true = refl
+and3_false true false = refl
+and3_false false b = refl
+
 between_crowded : (first : ℕ) (second : Option ℕ) (parts : ℕ) → 1024 < parts
     → between (Some first) second parts ≡ None
 between_crowded first None parts many = refl
 between_crowded first (Some second) parts many =
     let few : nat_le parts 1024 ≡ false = lt-leb parts 1024 many in
-    rw (few, and_false (nat_le second (first + 60)), and_false (nat_le first (second + 1))) refl
+    rw (few, and3_false (nat_le first (second + 1)) (nat_le second (first + 60))) refl
 
 -- with too many between, there is no time
 decision_crowded : (more : Bool) (first : ℕ) (says : List Said) (parts : ℕ) → 1024 < parts
@@ -311,6 +316,9 @@ module _ (more : Bool) (q : QueueState) (items new : List Pending) (taken : ℕ)
 number_more : (k : ℕ) → one_more (min k (2 ^ 64 - 1)) ≡ min (k + 1) (2 ^ 64 - 1)
 number_more k = omega arith
 
+number_next : (k : ℕ) → min (suc k) (2 ^ 64 - 1) ≡ one_more (min k (2 ^ 64 - 1))
+number_next k = omega arith
+
 pub comes_as_defined : (more : Bool) (before says : List Said)
     → received_from more before says
     ≡ behind_time more (nearest before) (parts_to before) (min (length before) (2 ^ 64 - 1)) says
@@ -318,28 +326,32 @@ comes_as_defined more before [] = refl
 comes_as_defined more before (Other ∷ says) =
     comes_as_defined more (Other ∷ before) says
     ∙ ap (λ k. behind_time more (nearest before) (parts_to before) k says)
-    (sym (number_more (length before)))
+    (number_next (length before))
 comes_as_defined more before (Time next ∷ says) =
     comes_as_defined more (Time next ∷ before) says
-    ∙ ap (λ k. behind_time more next 0 k says) (sym (number_more (length before)))
+    ∙ ap (λ k. behind_time more next 0 k says) (number_next (length before))
 comes_as_defined more before (Dated own content ∷ says) =
-    let number = number_more (length before) in
     ap (λ t. record { number = min (length before + 1) (2 ^ 64 - 1); time = own; content = content }
-    ∷ t) (comes_as_defined more (Dated own content ∷ before) says)
+    ∷ t)
+    (comes_as_defined more (Dated own content ∷ before) says
+    ∙ ap (λ k. behind_time more (nearest before) (parts_to before + 1) k says)
+    (number_next (length before)))
     ∙ ap (λ k. record { number = k; time = own; content = content }
-    ∷ behind_time more (nearest before) (parts_to before + 1) k says) (sym number)
+    ∷ behind_time more (nearest before) (parts_to before + 1)
+    (one_more (min (length before) (2 ^ 64 - 1))) says) (sym (number_more (length before)))
 comes_as_defined more before (Heard content ∷ says) =
-    let number = number_more (length before) in
     let parts = parts_to before + 1 + parts_to says in
+    let rest = behind_time more (nearest before) (parts_to before + 1)
+    (one_more (min (length before) (2 ^ 64 - 1))) says in
     ap (λ t. received more before (Heard content) says ++ t)
-    (comes_as_defined more (Heard content ∷ before) says)
-    ∙ ap (λ t. t ++ behind_time more (nearest before) (parts_to before + 1)
-    (min (length before + 1) (2 ^ 64 - 1)) says)
+    (comes_as_defined more (Heard content ∷ before) says
+    ∙ ap (λ k. behind_time more (nearest before) (parts_to before + 1) k says)
+    (number_next (length before)))
+    ∙ ap (λ t. t ++ rest)
     (chosen (is_open (nearest before) says parts && more)
     (between (nearest before) (nearest says) parts) (min (length before + 1) (2 ^ 64 - 1)) content)
     ∙ ap (λ k. stamped (decision more (nearest before) says parts)
-    (record { number = k; content = content } ∷ [])
-    ++ behind_time more (nearest before) (parts_to before + 1) k says) (sym number)
+    (record { number = k; content = content } ∷ []) ++ rest) (sym (number_more (length before)))
   where
     chosen : (b : Bool) (time : Option ℕ) (number : ℕ) (content : Content)
         → (if b then [] else record { number = number; time = time; content = content } ∷ [])

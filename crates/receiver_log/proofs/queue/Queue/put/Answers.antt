@@ -10,7 +10,7 @@ use Rattle.receiver_log.proofs.queue.Queue.put.Goals as goal
 pub returns-then-len-gt-MOST-clause-comes : goal.returns-then-len-gt-MOST-clause-comes
 returns-then-len-gt-MOST-clause-comes c = λ more before says number.
     let q = c.self.inside in
-    let held = c.self.invariant.1.0 (ap (λ p. p.settled) c.self.view_is ∙ c.requires.settled) in
+    let held = c.self.invariant.1 (ap (λ p. p.settled) c.self.view_is ∙ c.requires.settled) in
     put_over more c.args.self.now q.pending.items c.append.new.pending.items q.taken q.time
     c.args.part.now before says
     (queue_is c.args.self.now q.pending.items q.taken q.time q.settled c.self.view_is
@@ -20,13 +20,13 @@ returns-then-len-gt-MOST-clause-comes c = λ more before says number.
 pub invariant_of-self-else-is_none : goal.invariant_of-self-else-is_none
 invariant_of-self-else-is_none c =
     let q = c.self.inside in
-    let held = c.self.invariant.1.0 (ap (λ p. p.settled) c.self.view_is ∙ c.requires.settled) in
+    let held = c.self.invariant.1 (ap (λ p. p.settled) c.self.view_is ∙ c.requires.settled) in
     let few : length c.append.new.pending.items ≤ 1024 =
     omega (arith, c.if-len-gt-MOST.false, c.len.ensures.value) in (
       omega (arith, held.0),
       λ unset. (held.0, few, λ none. absurd (both_ways _ (ap is_some none) c.if-is_none.ensures)),
       rw c.append.ensures (All-append (λ (x : Pending). IsOfSystem x.content) q.pending.items
-      (c.args.part.now ∷ []) c.self.invariant.1.1
+      (c.args.part.now ∷ []) c.self.invariant.2
       (All-cons (λ (x : Pending). IsOfSystem x.content) c.args.part.now [] c.requires.system
       (All-nil (λ (x : Pending). IsOfSystem x.content)))),
     )
@@ -34,7 +34,7 @@ invariant_of-self-else-is_none c =
 pub returns-then-is_none-clause-comes : goal.returns-then-is_none-clause-comes
 returns-then-is_none-clause-comes c = λ more before says number.
     let q = c.self.inside in
-    let held = c.self.invariant.1.0 (ap (λ p. p.settled) c.self.view_is ∙ c.requires.settled) in
+    let held = c.self.invariant.1 (ap (λ p. p.settled) c.self.view_is ∙ c.requires.settled) in
     put_untimed more c.args.self.now q.pending.items c.append.new.pending.items q.taken q.time
     c.args.part.now before says
     (queue_is c.args.self.now q.pending.items q.taken q.time q.settled c.self.view_is
@@ -45,7 +45,7 @@ pub returns-else-is_none-clause-comes : goal.returns-else-is_none-clause-comes
 returns-else-is_none-clause-comes c = λ more before says number.
     let q = c.self.inside in
     let unset = ap (λ p. p.settled) c.self.view_is ∙ c.requires.settled in
-    let held = c.self.invariant.1.0 unset in
+    let held = c.self.invariant.1 unset in
     put_waits more c.args.self.now q.pending.items c.append.new.pending.items q.taken q.time
     c.args.part.now before says
     (queue_is c.args.self.now q.pending.items q.taken q.time q.settled c.self.view_is
