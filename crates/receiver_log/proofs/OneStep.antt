@@ -1,6 +1,6 @@
 -- One step of a log: what waited is given, a message is taken, or the end is reached.
 use Rattle.std.proofs.Common.{◌≡◌, ℕ, Bool, true, false, not, List, [], ◌∷◌, ◌++◌, length, map}
-use Rattle.std.proofs.Common.{refl, sym, ap, subst, ◌∙◌, append-nil}
+use Rattle.std.proofs.Common.{refl, sym, ap, subst, ◌∙◌, append-nil, inl, inr}
 use Rattle.std.specs.Prelude.{Option, Some, None}
 use Rattle.receiver_frames.specs.Headings.{Heading, IsHeading, format_of}
 use Rattle.receiver_frames.specs.Messages.{messages, decided, messages_past}
@@ -12,7 +12,7 @@ use Rattle.receiver_log.specs.declared.state.LogState.{LogState}
 use Rattle.receiver_log.specs.declared.state.MessageCounts.{MessageCounts}
 use Rattle.receiver_log.specs.Capture.{counts_after, given, refusal_line}
 use Rattle.receiver_log.specs.Log.{counted}
-use Rattle.receiver_log.specs.Mirrors.{Place, QueueState, to_come}
+use Rattle.receiver_log.specs.Mirrors.{Place, QueueState, ahead, to_come}
 use Rattle.receiver_log.specs.Steps.{StepTaken}
 
 -- both queues have the same to come
@@ -120,3 +120,27 @@ module _ (h : Heading) (said : List ℕ → Said) where
         lines_are = sym (append-nil l);
         report_is = refl;
       }
+
+  -- no message is decided of bytes that wait
+  waiting_decided : (rest : List ℕ) → IsWaiting (format_of h) rest
+      → decided (format_of h) rest ≡ []
+  waiting_decided [] w = refl
+  waiting_decided (x ∷ xs) w = elim w [ inl e ↦ cc | inr o ↦ rw o refl ]
+
+  -- nothing more is decided
+  pub last_step : (finished : Bool) (rest : List ℕ) (c : MessageCounts) (q : QueueState)
+      → IsWaiting (format_of h) rest → (finished ≡ true → rest ≡ [])
+      → ((n : ℕ) → to_come true q n [] ≡ [])
+      → (finished ≡ true → (n : ℕ) → to_come false q n [] ≡ [])
+      → ahead h said (not finished) (record { rest = rest; queue = q; counts = c }) [] ≡ []
+  last_step false rest c q waits none goes ends =
+      ap (λ t. to_come true q c.messages (map said (decided (format_of h) t))) (append-nil rest)
+      ∙ ap (λ ms. to_come true q c.messages (map said ms)) (waiting_decided rest waits)
+      ∙ goes c.messages
+  last_step true rest c q waits none goes ends =
+      ap (λ t. to_come false q c.messages (map said (messages (format_of h) (t ++ [])))) (none refl)
+      ∙ ends refl c.messages
+
+pub empty_ends : (q : QueueState) → q.settled ≡ None → q.waiting ≡ [] → (n : ℕ)
+    → to_come false q n [] ≡ []
+empty_ends q unset empty n = rw (unset, empty) refl

@@ -134,7 +134,10 @@ impl<J: Receiver> Log<J> {
             self.take_message();
             return true;
         }
-        if self.queue.is_empty() || self.deframer.may_feed() {
+        if self.queue.is_empty() {
+            return false;
+        }
+        if self.deframer.may_feed() {
             return false;
         }
         self.queue.end();
@@ -153,6 +156,7 @@ impl<J: Receiver> Log<J> {
         ensures deframer { self.new.deframer ≡ self.old.deframer }
         ensures state { self.new.state ≡ self.old.state }
         ensures lines { self.new.lines.items ≡ self.old.lines.items }
+        ensures refused { self.new.refused ≡ self.old.refused }
         ensures few { length self.new.queue.waiting ≤ length self.old.queue.waiting + 1 }
     {
         let message = self.deframer.message();

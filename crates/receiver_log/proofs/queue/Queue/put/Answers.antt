@@ -26,9 +26,9 @@ invariant_of-self-else-is_none c =
       omega (arith, held.0),
       λ unset. (held.0, few, λ none. absurd (both_ways _ (ap is_some none) c.if-is_none.ensures)),
       rw c.append.ensures (All-append (λ (x : Pending). IsOfSystem x.content) q.pending.items
-      (c.args.part.now ∷ []) c.self.invariant.2
-      (All-cons (λ (x : Pending). IsOfSystem x.content) c.args.part.now [] c.requires.system
-      (All-nil (λ (x : Pending). IsOfSystem x.content)))),
+          (c.args.part.now ∷ []) c.self.invariant.2
+          (All-cons (λ (x : Pending). IsOfSystem x.content) c.args.part.now [] c.requires.system
+          (All-nil (λ (x : Pending). IsOfSystem x.content)))),
     )
 
 pub returns-then-is_none-clause-comes : goal.returns-then-is_none-clause-comes

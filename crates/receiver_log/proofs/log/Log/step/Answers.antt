@@ -1,0 +1,37 @@
+use Rattle.std.proofs.Common.{◌≡◌, true, false, ap, ◌∙◌}
+use Rattle.std.proofs.lemmas.Bool.{both_ways}
+use Rattle.receiver_log.specs.Capture.{refusal_line}
+use Rattle.receiver_log.proofs.OneStep.{empty_ends, end_step, given_step, last_step, message_step}
+use Rattle.receiver_log.proofs.OneStep.{none_step}
+use Rattle.receiver_log.proofs.log.Log.step.Goals as goal
+
+pub returns-in-Some-clause-taken : goal.returns-in-Some-clause-taken
+returns-in-Some-clause-taken g c = λ _.
+    given_step g.J.Judge.heading g.J.Receiver.said _ _ _ _ _ _ _ _ _ _ c.in-Some.reception
+    c.in-Some.ensures.some c.hear-reason.ensures.state_is c.hear-reason.ensures.lines
+    (c.refusal_of-self.ensures
+    ∙ ap (refusal_line c.in-Some.reception.number) c.hear-reason.ensures.refused_is)
+
+pub returns-then-next_message-clause-taken : goal.returns-then-next_message-clause-taken
+returns-then-next_message-clause-taken g c = λ _.
+    rw (
+      c.take_message.ensures.deframer,
+      c.take_message.ensures.state,
+      c.take_message.ensures.lines,
+      c.take_message.ensures.refused,
+    ) (message_step g.J.Judge.heading g.J.Receiver.said g.met.J.Judge.is_heading _ _ _ _ _ _ _ _ _ _
+    _ (c.next_message.ensures.message c.if-next_message.true) c.in_default.ensures.none.1
+    c.take_message.ensures.comes c.take_message.ensures.counts)
+
+pub returns-then-is_empty-clause-none : goal.returns-then-is_empty-clause-none
+returns-then-is_empty-clause-none g c = λ _.
+    none_step g.J.Judge.heading g.J.Receiver.said g.met.J.Judge.is_heading _ _ _ _ _ _ _ _
+    (c.next_message.ensures.none c.if-next_message.false) c.in_default.ensures.none.1
+
+pub returns-then-may_feed-clause-none : goal.returns-then-may_feed-clause-none
+returns-then-may_feed-clause-none g c = λ _.
+    none_step g.J.Judge.heading g.J.Receiver.said g.met.J.Judge.is_heading _ _ _ _ _ _ _ _
+    (c.next_message.ensures.none c.if-next_message.false) c.in_default.ensures.none.1
+
+pub returns-clause-taken : goal.returns-clause-taken
+returns-clause-taken g c = λ _. ?
