@@ -1,4 +1,4 @@
-use Rattle.std.proofs.Common.{◌≡◌, true, false, ap, ◌∙◌}
+use Rattle.std.proofs.Common.{◌≡◌, Bool, true, false, not, refl, ap, ◌∙◌}
 use Rattle.std.proofs.lemmas.Bool.{both_ways}
 use Rattle.receiver_log.specs.Capture.{refusal_line}
 use Rattle.receiver_log.proofs.OneStep.{empty_ends, end_step, given_step, last_step, message_step}
@@ -33,5 +33,14 @@ returns-then-may_feed-clause-none g c = λ _.
     none_step g.J.Judge.heading g.J.Receiver.said g.met.J.Judge.is_heading _ _ _ _ _ _ _ _
     (c.next_message.ensures.none c.if-next_message.false) c.in_default.ensures.none.1
 
+over_by : (b : Bool) → ((b ≡ false) → ⊥) → not b ≡ false
+over_by true f = refl
+over_by false f = absurd (f refl)
+
 pub returns-clause-taken : goal.returns-clause-taken
-returns-clause-taken g c = λ _. ?
+returns-clause-taken g c = λ _.
+    let none = c.next_message.ensures.none c.if-next_message.false in
+    end_step g.J.Judge.heading g.J.Receiver.said g.met.J.Judge.is_heading _ _ _ _ _ _ _ _ _
+    (over_by c.args.self.now.deframer.finished (λ began. both_ways false refl
+    (c.if-may_feed.ensures.1 (c.next_message.ensures.finished ∙ began, none.waiting))))
+    none c.in_default.ensures.none.1 c.end.ensures.comes
