@@ -4,8 +4,8 @@ use Rattle.receiver_log.specs.Mirrors.{work_left}
 use Rattle.receiver_log.specs.Steps.{Hears}
 use Rattle.receiver_log.proofs.taking.process_messages.Given as goal
 
-abbrev pub invariant-loop-log : goal.invariant-loop-log
-invariant-loop-log g l = record {
+abbrev pub invariant-loop-report : goal.invariant-loop-report
+invariant-loop-report g l = record {
   hears : Hears g.J.Judge.heading g.J.Receiver.said (not l.fn.log.deframer.finished)
       (place_of l.fn.log.deframer l.fn.log.queue l.fn.log.counts)
       (place_of l.log.deframer l.log.queue l.log.counts)
@@ -17,5 +17,5 @@ invariant-loop-log g l = record {
   told : g.U.Sink.faults l.report ≡ g.U.Sink.faults l.fn.report;
 }
 
-abbrev pub decreases-loop-log : goal.decreases-loop-log
-decreases-loop-log g l = work_left (place_of l.log.deframer l.log.queue l.log.counts)
+abbrev pub decreases-loop-report : goal.decreases-loop-report
+decreases-loop-report g l = work_left (place_of l.log.deframer l.log.queue l.log.counts)
