@@ -10,7 +10,7 @@ const SHORT: &[u8] = b"\xb5\x62\x02\x13\x00\x00\x15\x41";
 
 pub(crate) static JUMPS: [Log; 2] = [
     Log {
-        name: "before the first time and behind the last, steps of up to a minute, jumps, disowned times",
+        name: "gaps, steps of up to a minute, jumps, times that are not valid",
         bytes: b"\
             \xb5\x62\x02\x13\x2c\x00\x02\x0b\x01\x00\x09\x07\x02\x00\x28\xe4\x28\x02\xb0\x89\
             \x83\x74\x2c\xeb\x3a\xc8\x00\xc0\x8a\x49\xa3\x3b\x75\xbc\xf0\x6a\x86\x52\x43\x0a\

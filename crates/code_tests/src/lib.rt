@@ -13,6 +13,7 @@ mod checksum;
 mod frames;
 #[cfg(test)]
 mod jumps;
+#[cfg(test)]
 mod lines;
 #[cfg(test)]
 mod log_runs;
