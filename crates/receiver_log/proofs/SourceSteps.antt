@@ -1,20 +1,33 @@
 -- Steps of a reader of logs: bytes are fed, and messages processed.
 use Rattle.std.proofs.Common.{append-nil, ◌≡◌, ℕ, ◌+◌, Bool, true, false, cond, List, [], ◌++◌}
-use Rattle.std.proofs.Common.{length, take, drop, refl, sym, ap, ◌∙◌, append_assoc, arith, length-append}
+use Rattle.std.proofs.Common.{length, map, take, drop, refl, sym, ap, ◌∙◌, append_assoc, arith, length-append}
 use Rattle.std.specs.Prelude.{Option, Some, None}
 use Rattle.std.specs.Io.KnownBytes.{Keeps, Consumes}
 use Rattle.std.proofs.lemmas.List.{take-append-drop, drop-drop}
 use Rattle.std.proofs.lemmas.Bool.{both_ways}
-use Rattle.receiver_frames.specs.Headings.{Heading}
+use Rattle.receiver_frames.specs.Headings.{Heading, format_of}
+use Rattle.receiver_frames.specs.Messages.{messages}
 use Rattle.receiver_messages.specs.declared.said.Said.{Said}
 use Rattle.receiver_log.specs.declared.state.LogState.{LogState}
 use Rattle.receiver_log.specs.Capture.{lines_from, state_after}
-use Rattle.receiver_log.specs.LogLeft.{KeepsLength, left_of}
-use Rattle.receiver_log.specs.Mirrors.{Place, ahead, fed_with}
+use Rattle.receiver_log.specs.LogLeft.{KeepsLength, capture_left, left_of}
+use Rattle.receiver_log.specs.Log.{begun}
+use Rattle.receiver_log.specs.Mirrors.{Place, ahead, fed_with, start_of}
 use Rattle.receiver_log.specs.Steps.{StepTaken}
+use Rattle.receiver_log.proofs.Comings.{comes_as_defined}
 use Rattle.receiver_log.proofs.LogSteps.{ahead_fed, lines_on}
 
 module _ (h : Heading) (said : List ℕ → Said) where
+  -- nothing was read yet
+  pub start_left : (s : LogState) (lines : List ℕ) (p : Place) (f : Bool) (piece : List ℕ)
+      (left : Option (List ℕ))
+      → s ≡ begun → lines ≡ [] → p ≡ start_of [] → f ≡ false → piece ≡ []
+      → left_of h said s lines p f piece left ≡ capture_left h said left
+  start_left s lines p f piece None begins none start began empty = refl
+  start_left s lines p f piece (Some xs) begins none start began empty =
+      rw (begins, none, start, began, empty) (ap (λ rs. Some (lines_from begun rs))
+      (sym (comes_as_defined false [] (map said (messages (format_of h) xs)))))
+
   -- bytes of a piece are fed
   pub fed_keeps : (s s1 : LogState) (p new : Place) (f f1 : Bool) (piece : List ℕ) (fed n : ℕ)
       (left : Option (List ℕ))

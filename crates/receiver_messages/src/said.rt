@@ -51,7 +51,7 @@ pub enum Said {
     Other,
     /// The receiver's time from here on; `None` where it is not valid.
     Time(Option<Moment>),
-    /// A subframe or a page, received at the time of the last time message.
+    /// A subframe or a page without a time of its own: time messages stand around it.
     Heard(Content),
     /// A subframe or a page with its own time of reception.
     Dated(Option<Moment>, Content),

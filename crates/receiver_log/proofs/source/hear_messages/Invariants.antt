@@ -1,4 +1,4 @@
-use Rattle.std.proofs.Common.{◌≡◌, ◌++◌, true, ℕ, List, [], length}
+use Rattle.std.proofs.Common.{◌≡◌, ◌++◌, true, false, ℕ, List, []}
 use Rattle.receiver_log.specs.Capture.{lines_from}
 use Rattle.receiver_log.specs.LogPlaces.{place_of}
 use Rattle.receiver_log.specs.Mirrors.{ahead, work_left}

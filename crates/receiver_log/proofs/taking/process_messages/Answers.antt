@@ -5,7 +5,7 @@ use Rattle.receiver_log.proofs.LogSteps.{same_more, stops_last, stops_put, stops
 use Rattle.receiver_log.proofs.taking.process_messages.Goals as goal
 
 pub loop-report-init : goal.loop-report-init
-loop-report-init g c = rw c.requires (record {
+loop-report-init g c = rw c.requires.none (record {
   hears = hears_nothing g.J.Judge.heading g.J.Receiver.said _ _ _ _ _ [];
   finished = refl;
   room = omega arith;

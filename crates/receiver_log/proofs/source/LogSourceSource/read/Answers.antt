@@ -32,9 +32,10 @@ loop-self-preserved g c =
     }
 
 pub returns-clause-bytes : goal.returns-clause-bytes
-returns-clause-bytes g c = (
-  given_consumes g.J.Judge.heading g.J.Receiver.said _ c.loop-self.self.log.state
-      c.loop-self.self.log.lines.items c.loop-self.self.given c.give-count.result
-      _ _ _ _ _ c.loop-self.invariant.left c.give-count.ensures.bytes,
+returns-clause-bytes g c = let s = c.loop-self.self in (
+  given_consumes g.J.Judge.heading g.J.Receiver.said _ s.log.state s.log.lines.items s.given
+      c.give-count.result (place_of s.log.deframer s.log.queue s.log.counts)
+      s.log.deframer.finished (drop s.fed s.piece.items) (g.S.Source.left s.source) _
+      c.loop-self.invariant.left c.give-count.ensures.bytes,
   λ none room. let some = c.give-count.ensures.some room in absurd (omega (arith, none, some)),
 )
