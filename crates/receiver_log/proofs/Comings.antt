@@ -1,7 +1,7 @@
 -- What is to come of a log's subframes and pages, message by message.
 use Rattle.std.proofs.Common.{◌≡◌, ℕ, suc, ◌+◌, ◌-◌, ◌<◌, ◌≤◌, ◌^◌, ◌&&◌, nat_le, min, not, Bool, true, false}
-use Rattle.std.proofs.Common.{List, [], ◌∷◌, ◌++◌, length, map, refl, sym, ap, ◌∙◌, arith, subst}
-use Rattle.std.proofs.Common.{append_assoc, append-nil, drop, length-append}
+use Rattle.std.proofs.Common.{List, [], ◌∷◌, ◌++◌, length, refl, sym, ap, ◌∙◌, arith}
+use Rattle.std.proofs.Common.{append_assoc, drop, length-append}
 use Rattle.std.proofs.lemmas.Bool.{both_ways, le-leb, lt-leb}
 use Rattle.std.specs.Prelude.{Option, Some, None, if◌then◌else◌}
 use Rattle.std.specs.Option.{is_some}
@@ -9,10 +9,9 @@ use Rattle.receiver_messages.specs.declared.said.Content.{Content}
 use Rattle.receiver_messages.specs.declared.said.Said.{Said}
 use Rattle.receiver_messages.specs.declared.said.Said.TheVariants.{Other, Time, Heard, Dated}
 use Rattle.receiver_log.specs.declared.queue.Pending.{Pending}
-use Rattle.receiver_log.specs.declared.reception.Reception.{Reception}
 use Rattle.receiver_log.specs.Log.{one_more}
 use Rattle.receiver_log.specs.Mirrors.{QueueState, behind_time, decision, stamped, to_come}
-use Rattle.receiver_log.specs.Receptions.{between, has_time, is_open, nearest, parts_round, parts_to}
+use Rattle.receiver_log.specs.Receptions.{between, has_time, is_open, nearest, parts_to}
 use Rattle.receiver_log.specs.Receptions.{received, received_from}
 
 -- ---- the time

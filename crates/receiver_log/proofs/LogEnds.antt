@@ -1,5 +1,5 @@
 -- The ends of a run over a log.
-use Rattle.std.proofs.Common.{◌≡◌, ◌⊎◌, ℕ, ◌+◌, ◌<◌, ◌≤◌, Bool, true, false, not, List, [], ◌∷◌}
+use Rattle.std.proofs.Common.{◌≡◌, ◌⊎◌, ℕ, ◌+◌, ◌<◌, ◌≤◌, Bool, true, false, not, List, []}
 use Rattle.std.proofs.Common.{◌++◌}
 use Rattle.std.proofs.Common.{length, map, take, refl, sym, ap, subst, ◌∙◌, append-nil}
 use Rattle.std.proofs.Common.{inl, inr, length-append}
@@ -17,7 +17,6 @@ use Rattle.one_run.specs.declared.fault.BridgeFault.TheVariants.{ReadFault, Writ
 use Rattle.one_run.specs.declared.fault.BridgeFault.TheVariants.{TooLong}
 use Rattle.one_run.proofs.Surface.{prefix_behind, prefix_longer, whole_prefix}
 use Rattle.receiver_messages.specs.declared.said.Said.{Said}
-use Rattle.receiver_log.specs.declared.reception.Reception.{Reception}
 use Rattle.receiver_log.specs.declared.state.Counts.{Counts}
 use Rattle.receiver_log.specs.declared.state.LogState.{LogState}
 use Rattle.receiver_log.specs.Capture.{capture_of, counts_after, counts_of, decided_capture}
@@ -28,7 +27,7 @@ use Rattle.receiver_log.specs.LogRuns.{LogBroke, LogEnded, too_many}
 use Rattle.receiver_log.specs.Mirrors.{Place, ahead, behind_time, fed_with, start_of}
 use Rattle.receiver_log.specs.Receptions.{decided_receptions, received_from, receptions_of}
 use Rattle.receiver_log.specs.Report.{counts_report}
-use Rattle.receiver_log.specs.Steps.{Hears, Passes, Stops}
+use Rattle.receiver_log.specs.Steps.{Hears, Stops}
 use Rattle.receiver_log.proofs.Comings.{comes_as_defined}
 use Rattle.receiver_log.proofs.LogSteps.{hears_fed, hears_nothing, hears_on, lines_prefix}
 use Rattle.receiver_log.proofs.LogSteps.{refusals_prefix, stops_of, stops_on}

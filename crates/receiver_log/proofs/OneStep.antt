@@ -1,9 +1,9 @@
 -- One step of a log: what waited is given, a message is taken, or the end is reached.
 use Rattle.std.proofs.Common.{◌≡◌, ℕ, Bool, true, false, not, List, [], ◌∷◌, ◌++◌, length, map}
 use Rattle.std.proofs.Common.{refl, sym, ap, subst, ◌∙◌, append-nil, inl, inr}
-use Rattle.std.specs.Prelude.{Option, Some, None}
+use Rattle.std.specs.Prelude.{None}
 use Rattle.receiver_frames.specs.Headings.{Heading, IsHeading, format_of}
-use Rattle.receiver_frames.specs.Messages.{messages, decided, messages_past}
+use Rattle.receiver_frames.specs.Messages.{messages, decided}
 use Rattle.receiver_frames.specs.State.{IsWaiting, TakesMessage, TakesNone}
 use Rattle.receiver_frames.proofs.Surface.{decided_message, decided_none}
 use Rattle.receiver_messages.specs.declared.said.Said.{Said}
@@ -12,7 +12,7 @@ use Rattle.receiver_log.specs.declared.state.LogState.{LogState}
 use Rattle.receiver_log.specs.declared.state.MessageCounts.{MessageCounts}
 use Rattle.receiver_log.specs.Capture.{counts_after, given, refusal_line}
 use Rattle.receiver_log.specs.Log.{counted}
-use Rattle.receiver_log.specs.Mirrors.{Place, QueueState, ahead, to_come}
+use Rattle.receiver_log.specs.Mirrors.{QueueState, ahead, to_come}
 use Rattle.receiver_log.specs.Steps.{StepTaken}
 
 -- both queues have the same to come

@@ -1,4 +1,4 @@
-use Rattle.std.proofs.Common.{◌≡◌, ◌-◌, [], true}
+use Rattle.std.proofs.Common.{◌≡◌, ◌-◌, []}
 use Rattle.std.specs.Prelude.{IsTrue}
 use Rattle.receiver_frames.specs.Headings.{format_of}
 use Rattle.receiver_frames.specs.State.{MayFeed}

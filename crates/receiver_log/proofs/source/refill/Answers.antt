@@ -1,4 +1,4 @@
-use Rattle.std.proofs.Common.{◌≡◌, take, drop, ap, ◌∙◌}
+use Rattle.std.proofs.Common.{take, drop, ap, ◌∙◌}
 use Rattle.std.proofs.lemmas.List.{take_rest}
 use Rattle.receiver_log.specs.LogPlaces.{place_of}
 use Rattle.receiver_log.specs.Mirrors.{fed_with}

@@ -1,7 +1,7 @@
 use Rattle.std.proofs.Common.{◌≡◌, Bool, true, false, not, refl, ap, ◌∙◌}
 use Rattle.std.proofs.lemmas.Bool.{both_ways}
 use Rattle.receiver_log.specs.Capture.{refusal_line}
-use Rattle.receiver_log.proofs.OneStep.{empty_ends, end_step, given_step, last_step, message_step}
+use Rattle.receiver_log.proofs.OneStep.{end_step, given_step, message_step}
 use Rattle.receiver_log.proofs.OneStep.{none_step}
 use Rattle.receiver_log.proofs.log.Log.step.Goals as goal
 

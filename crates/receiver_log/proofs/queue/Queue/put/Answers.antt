@@ -1,4 +1,4 @@
-use Rattle.std.proofs.Common.{◌≡◌, ◌≤◌, ℕ, None, true, All, [], ◌∷◌, ap, length, ◌∙◌, sym, arith}
+use Rattle.std.proofs.Common.{◌≤◌, [], ◌∷◌, ap, length, ◌∙◌, arith}
 use Rattle.std.proofs.lemmas.Bool.{both_ways}
 use Rattle.std.proofs.lemmas.List.Elements.{All-append, All-cons, All-nil}
 use Rattle.std.specs.Option.{is_some}
