@@ -42,9 +42,10 @@ pub fn run_job<S: Source, T: Sink, U: Sink>(
         Job::SendRinex3(week) => send_rinex3(*week, input, output, report).map(Done::Sent),
         Job::Merge(words) => run_merge(alloc, words, input, output, report).map(Done::Merged),
         Job::Cover => run_cover(alloc, input, output, report).map(Done::Covered),
-        Job::Seed(job) => run_seed(
-            alloc, job.seed, job.sats, job.week, job.to, output, report,
-        )
-        .map(Done::Generated),
+        Job::Seed(job) => {
+            run_seed(alloc, job.seed, job.sats, job.week, job.to, output, report).map(
+                Done::Generated,
+            )
+        }
     }
 }

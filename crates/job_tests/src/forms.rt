@@ -188,7 +188,11 @@ static LOGS: [Log; 3] = [
 
 // Whether these bytes tell this form, all at once and as a source that gives three at a time.
 fn is_told(alloc: Global, bytes: &[u8], kind: Kind) -> Result<bool, AllocError> {
-    let source = MemSource::new(bytes.to_vec(alloc)?, [3; 32].to_vec(alloc)?, Vec::new(alloc));
+    let source = MemSource::new(
+        bytes.to_vec(alloc)?,
+        [3; 32].to_vec(alloc)?,
+        Vec::new(alloc),
+    );
     let mut peeked = Peeked::new(alloc, source);
     let Ok(looked) = look(None, &mut peeked) else {
         return Ok(false);
@@ -203,7 +207,11 @@ fn logs_that_are_cut_tell_forms(rt: HostRuntime) -> Result<(), Fail> {
         for cut in 0..40 {
             if cut <= log.last {
                 let rest = &log.bytes[cut.min(log.bytes.len())..];
-                assert!(rt; is_told(rt.alloc(), rest, log.kind)?, "{} from {cut}", log.name);
+                assert!(rt;
+                    is_told(rt.alloc(), rest, log.kind)?,
+                    "{} from {cut}",
+                    log.name
+                );
             }
         }
     }
