@@ -1,10 +1,10 @@
 #!/usr/bin/env bash
-# Makes mistakes with navconvert, and prints a table of what each says: that of docs/MISTAKES.md.
+# Makes usage errors with navconvert, and prints a table of its messages: examples/expected/mistakes.txt.
 #
 #   checks/mistakes.sh [--navconvert FILE] [--check]
 #
 #   --navconvert FILE  navconvert (NAVCONVERT, or crates/navconvert/out/navconvert)
-#   --check            compare with docs/MISTAKES.md, and print what differs
+#   --check            compare with examples/expected/mistakes.txt, and print what differs
 #
 # Status: 0 done, or nothing differs; 1 something differs; 2 the words are wrong, or the program is not there.
 set -u
@@ -12,7 +12,7 @@ set -u
 navconvert='' check=''
 options '--navconvert: --check' "$@"
 built navconvert navconvert
-examples=$top/examples page=$top/docs/MISTAKES.md
+examples=$top/examples table=$top/examples/expected/mistakes.txt
 work_folder
 cd "$work" || exit 1
 
@@ -129,7 +129,7 @@ all() {
 
 if [ -n "$check" ]; then
   all > made
-  sed -n '/^| Mistake/,$p' "$page" | diff - made
+  diff "$table" made
 else
   all
 fi
