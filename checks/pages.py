@@ -1,0 +1,164 @@
+#!/usr/bin/env python3
+"""Checks the pages: their words, their length, their generated parts, and the commands that they show.
+
+    checks/pages.py [--check] [--write] [--words PAGE] [--commands]
+
+    --write       lowers the counts of checks/words.txt and checks/budget.txt to those of today, and writes the generated parts
+    --words PAGE  prints each place of PAGE with a word of checks/words.txt
+    --commands    fails if a program for the commands is missing, where else they are skipped
+
+checks/words.txt has a line for each word that a page should not use: a regular expression, what to write in its place, and the
+count of today in each page that still has it. A higher count fails. Backticks, code blocks and generated parts are left out.
+checks/budget.txt has the words that each page may have; code blocks count, generated parts do not.
+
+A generated part is between <!-- generated: NAME --> and <!-- end -->; checks/generate.py makes it. A code block that begins
+with ```console is run in a copy of examples/: the lines after `$ ` are commands, and what they print must be what stands below
+them; a line `...` stands for any number of lines.
+
+Status: 0 all is as it should be; 1 something differs; 2 the arguments are wrong.
+"""
+
+import glob
+import os
+import re
+import shutil
+import subprocess
+import sys
+import tempfile
+
+OPTIONS = {"--check", "--write", "--words", "--commands"}
+TOP = os.path.join(os.path.dirname(os.path.realpath(__file__)), "..")
+WORDS, BUDGET = "checks/words.txt", "checks/budget.txt"
+arguments = sys.argv[1:]
+if arguments in (["-h"], ["--help"]):
+    sys.exit(print(__doc__, end=""))
+shown = arguments[-1] if "--words" in arguments else ""
+if not set(arguments) - {shown} <= OPTIONS or shown.startswith("-"):
+    print("pages: these are not its options; --help", file=sys.stderr)
+    sys.exit(2)
+os.chdir(TOP)
+PAGES = sorted(glob.glob("*.md") + glob.glob("docs/*.md") + glob.glob("examples/*.md") + glob.glob("bench/*.md"))
+MANUALS = sorted(glob.glob("docs/*.1") + glob.glob("examples/station/*.1"))
+WRITE = "--write" in arguments
+wrong = 0
+
+
+def tell(what):
+    global wrong
+    wrong += 1
+    print(what)
+
+
+def read(path):
+    with open(path, encoding="utf-8") as it:
+        return it.read()
+
+
+def written(text):
+    """The text without its generated parts; lines keep their numbers."""
+    return re.sub(r"<!-- generated:.*?<!-- end -->", lambda it: "\n" * it[0].count("\n"), text, flags=re.S)
+
+
+def prose(path):
+    """The lines without code, links' targets and, of a manual, without macros that name options and files."""
+    text = written(read(path))
+    if path.endswith(".1"):
+        text = re.sub(r"^\.Bd -literal.*?^\.Ed", lambda it: "\n" * it[0].count("\n"), text, flags=re.M | re.S)
+        text = re.sub(r"^\.(Dl|Nm|Fl|Pa|Cm|Li|Op|Xr|\\\").*$", "", text, flags=re.M)
+    else:
+        text = re.sub(r"^( *)```.*?^ *```$", lambda it: "\n" * it[0].count("\n"), text, flags=re.M | re.S)
+        text = re.sub(r"`[^`\n]*`|\]\([^)]*\)", " ", text)
+    return text.splitlines()
+
+
+def words():
+    lines = []
+    for line in read(WORDS).splitlines():
+        if not line.strip() or line.startswith("#"):
+            lines.append(line)
+            continue
+        word, better, *counts = (it.strip() for it in line.split(" | "))
+        known = dict(it.rsplit(":", 1) for it in (counts[0].split() if counts else []))
+        left = {}
+        for page in PAGES + MANUALS:
+            places = [(at, it) for at, it in enumerate(prose(page), 1)
+                      for found in re.finditer(rf"\b(?:{word})\b", it, re.I) if not found[0].isupper()]
+            limit = known.get(page, "0")
+            if page == shown:
+                for at, it in places:
+                    print(f"{page}:{at}: {word} -> {better}: {it.strip()[:110]}")
+            if limit == "any":
+                left[page] = limit
+                continue
+            if len(places) > int(limit):
+                tell(f"{page}: '{word}' {len(places)} times, of {limit}; write: {better}; checks/pages.py --words {page}")
+            if places:
+                left[page] = str(min(len(places), int(limit)))
+        counted = " ".join(f"{page}:{count}" for page, count in left.items())
+        lines.append(f"{word} | {better}" + (f" | {counted}" if left else ""))
+    if WRITE:
+        with open(WORDS, "w", encoding="utf-8") as it:
+            it.write("\n".join(lines) + "\n")
+
+
+def budget():
+    known = dict(line.split() for line in read(BUDGET).splitlines() if line and not line.startswith("#"))
+    head = [line for line in read(BUDGET).splitlines() if line.startswith("#")]
+    now = {page: sum(bool(re.search(r"\w", it)) for it in written(read(page)).split()) for page in PAGES}
+    for page, count in now.items():
+        limit = int(known.get(page, 0))
+        if count > limit:
+            tell(f"{page}: {count} words, of {limit}: shorten it, or take the words from another page in {BUDGET}")
+    total, limit = sum(now.values()), int(known["sum"])
+    if total > limit:
+        tell(f"all pages: {total} words, of {limit}")
+    if WRITE:
+        kept = {page: min(count, int(known.get(page, 0))) for page, count in now.items()}
+        with open(BUDGET, "w", encoding="utf-8") as it:
+            it.write("\n".join(head + [f"{a} {b}" for a, b in kept.items()] + [f"sum {min(total, limit)}"]) + "\n")
+    return total
+
+
+def commands():
+    """Runs the console blocks; how many, and why they are skipped."""
+    blocks = [(page, it[1]) for page in PAGES for it in re.finditer(r"^```console\n(.*?)^```$", read(page), re.M | re.S)]
+    path = []
+    for name in ("navbridge", "navlog", "navconvert"):
+        file = os.environ.get({"navbridge": "PROGRAM"}.get(name, name.upper()), f"crates/{name}/out/{name}")
+        if not os.access(file, os.X_OK):
+            return len(blocks), f"no {file}"
+        path.append((name, os.path.realpath(file)))
+    with tempfile.TemporaryDirectory() as folder:
+        for name, file in path:
+            os.makedirs(f"{folder}/bin", exist_ok=True)
+            os.symlink(file, f"{folder}/bin/{name}")
+        for number, (page, block) in enumerate(blocks):
+            place = f"{folder}/{page.replace('/', '_')}"
+            if not os.path.exists(place):
+                shutil.copytree("examples", place, symlinks=True)
+            for part in re.split(r"^\$ ", block, flags=re.M)[1:]:
+                command, _, expected = part.partition("\n")
+                while command.endswith("\\") or command.count("'") % 2:
+                    more, _, expected = expected.partition("\n")
+                    command += "\n" + more
+                environment = dict(os.environ, PATH=f"{folder}/bin:{os.environ['PATH']}", LC_ALL="C.UTF-8")
+                got = subprocess.run(
+                    ["bash", "-c", command], cwd=place, env=environment, stdin=subprocess.DEVNULL,
+                    stdout=subprocess.PIPE, stderr=subprocess.STDOUT, text=True, timeout=120,
+                ).stdout
+                pattern = re.escape(expected).replace(re.escape("...\n"), "(?:.*\n)*")
+                if not re.fullmatch(pattern, got):
+                    tell(f"{page}: $ {command}\n  prints\n" + re.sub("^", "    ", got, flags=re.M))
+    return len(blocks), ""
+
+
+words()
+total = budget()
+if os.path.exists("checks/generate.py"):
+    if subprocess.run(["checks/generate.py", "--write" if WRITE else "--check"]).returncode:
+        wrong += 1
+count, why = commands()
+if why and "--commands" in arguments:
+    tell(why)
+print(f"{len(PAGES)} pages of {total} words, {count} blocks of commands {f'not run ({why})' if why else 'run'}, {wrong} differ")
+sys.exit(1 if wrong else 0)
