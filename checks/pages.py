@@ -9,7 +9,7 @@
 
 checks/words.txt has a line for each word that a page should not use: a regular expression, what to write in its place, and the
 count of today in each page that still has it. A higher count fails. Backticks, code blocks and generated parts are left out.
-checks/budget.txt has the words that each page may have; code blocks count, generated parts do not.
+checks/budget.txt has the words that each page may have, in steps of 50; code blocks count, generated parts do not.
 
 A generated part is between <!-- generated: NAME --> and <!-- end -->; checks/generate.py makes it. A code block that begins
 with ```console is run in a copy of examples/: the lines after `$ ` are commands, and what they print must be what stands below
@@ -113,9 +113,9 @@ def budget():
     if total > limit:
         tell(f"all pages: {total} words, of {limit}")
     if WRITE:
-        kept = {page: min(count, int(known.get(page, 0))) for page, count in now.items()}
+        kept = {page: min(-(-count // 50) * 50, int(known.get(page, 0))) for page, count in now.items()}
         with open(BUDGET, "w", encoding="utf-8") as it:
-            it.write("\n".join(head + [f"{a} {b}" for a, b in kept.items()] + [f"sum {min(total, limit)}"]) + "\n")
+            it.write("\n".join(head + [f"{a} {b}" for a, b in kept.items()] + [f"sum {min(-(-total // 100) * 100, limit)}"]) + "\n")
     return total
 
 
