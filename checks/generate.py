@@ -13,7 +13,7 @@ A generated part is between <!-- generated: NAME --> and <!-- end -->. NAME is
     crates       each crate, the first sentence of its sources, and the crates that it uses
     definitions  each file of definitions, and the comment line at its head
     contracts    public functions of the crates that the heading names: the first sentence of their comment, and their clauses
-    statuses     the exit statuses, of the man page of navbridge
+    conversions  what navbridge reads and writes, of the table in its man page
     runs         the runs of examples/runs.txt
 
 Status: 0 they are the same, or written; 1 they differ; 2 the arguments are wrong.
@@ -128,10 +128,15 @@ def contracts(within):
     return table(["Says", "Function: clauses"], rows)
 
 
-def statuses(_):
-    text = re.search(r"^\.Sh EXIT STATUS\n(.*?)^\.El", read("docs/navbridge.1"), re.M | re.S)[1]
-    rows = [[it[1], " ".join(it[2].split()).replace("\\(dq", '"')] for it in re.finditer(r"^\.It (\d)\n(.*?)(?=^\.It|\Z)", text, re.M | re.S)]
-    return table(["Status", "Meaning"], rows)
+def conversions(_):
+    of = {}
+    for it in re.finditer(r"^\.It (\w+) Ta ([^\n]*?) Ta", read("docs/navbridge.1"), re.M):
+        of.setdefault(it[1], set()).update(it[2].split(", "))
+    names = [("RTCM 3 stream", "stream"), ("RINEX 4", "rinex"), ("RINEX 3.02 to 3.05", "rinex3"), ("capture", "capture")]
+    columns = ["rinex", "rinex3", "rtcm", "list", "merged", "cover", "capture", "count", "frames"]
+    # a log is read as its capture
+    rows = [("u-blox or Septentrio log", of["capture"] | {"capture"})] + [(name, of[it]) for name, it in names]
+    return table(["From, to", *(f"`{it}`" for it in columns)], [[name, *("x" if it in targets else "" for it in columns)] for name, targets in rows])
 
 
 def runs(_):
@@ -152,7 +157,7 @@ def toolchain(_):
 
 MAKERS = {
     "toolchain": toolchain, "layers": layers, "crates": crate_rows, "definitions": definitions, "contracts": contracts,
-    "statuses": statuses, "runs": runs,
+    "conversions": conversions, "runs": runs,
 }
 wrong = 0
 for page in sorted(glob.glob("*.md") + glob.glob("docs/*.md") + glob.glob("examples/*.md") + glob.glob("bench/*.md")):
