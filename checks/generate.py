@@ -12,7 +12,8 @@ A generated part is between <!-- generated: NAME --> and <!-- end -->. NAME is
     layers       the crates, by how many stand below each (crates.txt)
     crates       each crate, the first sentence of its sources, and the crates that it uses
     definitions  each file of definitions, and the comment line at its head
-    contracts    public functions of the crates that the heading names: the first sentence of their comment, and their clauses
+    contracts    public functions of the crates that the heading names: the first sentence of their comment, where it has four words,
+                 and their clauses
     conversions  what navbridge reads and writes, of the table in its man page
     runs         the runs of examples/runs.txt
 
@@ -113,8 +114,12 @@ def contracts(within):
         for path in sorted(glob.glob(f"crates/{crate}/src/**/*.rt", recursive=True)):
             text = read(path)
             traits = [range(it.start(), it.end()) for it in re.finditer(r"^pub (?:unsafe )?trait .*?^}", text, re.M | re.S)]
-            found = list(re.finditer(function + r"|^pub trait|^(?:pub )?(?:impl|struct|enum|mod)\b", text, re.M))
+            found = list(re.finditer(function + r"|^(?:pub )?(?:impl|struct|enum|mod|trait)\b[^\n]*", text, re.M))
+            of = ""
             for at, it in enumerate(found):
+                if not it[5]:
+                    named = re.match(r"(?:pub )?(?:impl|trait)\b(?:<[^{]*?>)? ?(?:[^{]*\bfor )?&?(?:mut )?(\w+)", it[0])
+                    of = f"{named[1]}::" if named else ""
                 if not it[5] or not (it[4] or any(it.start() in trait for trait in traits)):
                     continue
                 rest = text[it.end() : found[at + 1].start() if at + 1 < len(found) else len(text)]
@@ -122,8 +127,10 @@ def contracts(within):
                 names = list(dict.fromkeys(re.findall(r"\bensures\*?\s+(\w+)\s*\{", head)))
                 if "ensures" not in head or it[3] and it[4] and not names:
                     continue
-                said = first_sentence(it[1].replace("///", "").split("\n \n")[0].split("\n\n")[0])
-                place = f"`{it[5]}`" + (": " + ", ".join(f"`{name}`" for name in names) if names else "")
+                said = first_sentence(re.split(r"\n[ \t]*\n", it[1].replace("///", ""))[0])
+                if len(said.split()) < 4:
+                    continue
+                place = f"`{of if it[3] else ''}{it[5]}`" + (": " + ", ".join(f"`{name}`" for name in names) if names else "")
                 rows.append([said, place])
     return table(["Says", "Function: clauses"], rows)
 

@@ -29,6 +29,8 @@ import tempfile
 OPTIONS = {"--check", "--write", "--words", "--commands"}
 TOP = os.path.join(os.path.dirname(os.path.realpath(__file__)), "..")
 WORDS, BUDGET = "checks/words.txt", "checks/budget.txt"
+# what scripts in the commands use: a block is left out where it is not installed
+NEEDS = {"cover_picture.sh": "gnuplot", "merge_archive": "python3"}
 arguments = sys.argv[1:]
 if arguments in (["-h"], ["--help"]):
     sys.exit(print(__doc__, end=""))
@@ -132,7 +134,9 @@ def commands():
         for name, file in path:
             os.makedirs(f"{folder}/bin", exist_ok=True)
             os.symlink(file, f"{folder}/bin/{name}")
-        for number, (page, block) in enumerate(blocks):
+        for page, block in blocks:
+            if any(script in block and not shutil.which(program) for script, program in NEEDS.items()):
+                continue
             place = f"{folder}/{page.replace('/', '_')}"
             if not os.path.exists(place):
                 shutil.copytree("examples", place, symlinks=True)
