@@ -143,7 +143,9 @@ def conversions(_):
     columns = ["rinex", "rinex3", "rtcm", "list", "merged", "cover", "capture", "count", "frames"]
     # a log is read as its capture
     rows = [("u-blox or Septentrio log", of["capture"] | {"capture"})] + [(name, of[it]) for name, it in names]
-    return table(["From, to", *(f"`{it}`" for it in columns)], [[name, *("x" if it in targets else "" for it in columns)] for name, targets in rows])
+    made = table(["From, to", *(f"`{it}`" for it in columns)], [[name, *("x" if it in targets else "" for it in columns)] for name, targets in rows])
+    # without blanks, as the README is short
+    return [re.sub(r" ?\| ?", "|", line) for line in made]
 
 
 def runs(_):
