@@ -37,7 +37,8 @@ pub(crate) fn put<'a>(
     let mut place = Place::new(task.rt, inputs, goal, task.overwrites);
     let told = told_of(task.report, meter_of(task, first, inputs.names, goal));
     let outcome = converted(task, &mut place, told, first, part.as_str(), name);
-    if let (Err(Stop::Run(_, _, _, _, _)), Some(refusal)) = (outcome.done, place.other()) {
+    let stopped = matches!(outcome.done, Err(Stop::Run(_, _, _, _, _) | Stop::Look(_)));
+    if let (true, Some(refusal)) = (stopped, place.other()) {
         return (tell_file(task.rt, first, &refusal), false);
     }
     let mut teller = Saying {
