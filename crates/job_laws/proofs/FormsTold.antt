@@ -75,8 +75,12 @@ told_3 : {C : Type 0} (count : List ItemRead → C) (bytes : List ℕ) → IsSom
 told_3 count bytes some =
     file_told rinex3 count Rinex3 bytes (λ line lines is navigation version. three_told line bytes (first_line bytes line lines is) navigation version) some
 
+-- whether there are counts, as a meaning without counts says it
+abbrev forgotten : {C : Type 0} → (C → Done) → Option C → Option (Unit {0})
+forgotten f counts = option_map (λ (done : Done). tt) (option_map f counts)
+
 -- what is counted of a job is what its run counts
-counted : {C : Type 0} (f : C → Done) (counts : Option C) → IsSome (option_map (λ (done : Done). tt) (option_map f counts)) → IsSome counts
+counted : {C : Type 0} (f : C → Done) (counts : Option C) → IsSome (forgotten f counts) → IsSome counts
 counted f None some = absurd (never some)
 counted f (Some counts) some = refl
 
