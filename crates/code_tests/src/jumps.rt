@@ -1,7 +1,7 @@
 //! Logs whose times jump.
 
 use crate::log_runs::{Form, IN_TWO, Log};
-use crate::small_log::{LOG, PAGE};
+use crate::small_log::{LOG, PAGE, writes};
 use std::alloc::{AllocError, Global};
 use std::test::Fail;
 
@@ -219,23 +219,18 @@ pub(crate) static JUMPS: [Log; 2] = [
 ];
 
 // Whether of a page and so many refused messages between two times this is written.
-fn writes(alloc: Global, refused: u32, capture: &str) -> Result<bool, AllocError> {
+fn writes_between(alloc: Global, refused: u32, capture: &'static str) -> Result<bool, AllocError> {
     let mut bytes = LOG[..24].to_vec(alloc)?;
     for _ in 0..refused {
         bytes.extend_from_slice(SHORT)?;
     }
     bytes.extend_from_slice(&LOG[24..100])?;
-    let log = Log {
-        bytes: bytes.as_slice(),
-        capture,
-        ..IN_TWO
-    };
-    log.ends_so(alloc)
+    writes(alloc, bytes.as_slice(), capture)
 }
 
 #[test]
 fn at_most_1024_lie_between_two_times(rt: HostRuntime) -> Result<(), Fail> {
-    assert!(rt; writes(rt.alloc(), 1_023, PAGE)?);
-    assert!(rt; writes(rt.alloc(), 1_024, "")?);
+    assert!(rt; writes_between(rt.alloc(), 1_023, PAGE)?);
+    assert!(rt; writes_between(rt.alloc(), 1_024, "")?);
     Ok(())
 }

@@ -160,7 +160,11 @@ static MESSAGES: [Message; 5] = [
 ];
 
 // Whether a run over these bytes ends with 0, and writes so.
-fn writes<'a>(alloc: Global, bytes: &'a [u8], capture: &'a str) -> Result<bool, AllocError> {
+pub(crate) fn writes<'a>(
+    alloc: Global,
+    bytes: &'a [u8],
+    capture: &'a str,
+) -> Result<bool, AllocError> {
     let log = Log {
         bytes,
         failing: NOTHING_FAILS,
