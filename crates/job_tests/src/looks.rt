@@ -46,15 +46,23 @@ fn come_again(alloc: Global, peeked: Peeked<MemSource>) -> Result<bool, AllocErr
     Ok(is_counted && bytes.as_slice() == TEXT)
 }
 
+// Looks further, by one read, while fewer than 80 bytes were looked at.
+fn look_on(peeked: &mut Peeked<MemSource>) -> Result<usize, PeekFault> {
+    if peeked.prefix().len() < 80 {
+        return peeked.look_on(80);
+    }
+    Ok(0)
+}
+
 // Whether that is so where it was looked at so often, by reads of three bytes, which are the first.
 fn are_given_again(alloc: Global, looks: usize) -> Result<bool, AllocError> {
     let mut peeked = Peeked::new(alloc, source_of(alloc, TEXT, 99)?);
     let mut is_seen = true;
     for number in 0..looks {
-        let count = 3.min(TEXT.len() - (3 * number).min(TEXT.len()));
-        is_seen = is_seen && matches!(peeked.look_on(80), Ok(it) if it == count);
+        let left = TEXT.len().saturating_sub(number.saturating_mul(3));
+        is_seen = is_seen && matches!(look_on(&mut peeked), Ok(count) if count == left.min(3));
     }
-    is_seen = is_seen && peeked.prefix() == &TEXT[..(3 * looks).min(TEXT.len())];
+    is_seen = is_seen && peeked.prefix() == &TEXT[..looks.saturating_mul(3).min(TEXT.len())];
     Ok(is_seen && come_again(alloc, peeked)?)
 }
 
@@ -69,7 +77,7 @@ fn bytes_that_were_looked_at_come_again(rt: HostRuntime) -> Result<(), Fail> {
 #[test]
 fn read_that_fails_is_told(rt: HostRuntime) -> Result<(), Fail> {
     let mut peeked = Peeked::new(rt.alloc(), source_of(rt.alloc(), TEXT, 1)?);
-    let is_first = peeked.look_on(80).is_ok();
-    assert!(rt; is_first && matches!(peeked.look_on(80), Err(PeekFault::ReadFault)));
+    let is_first = look_on(&mut peeked).is_ok();
+    assert!(rt; is_first && matches!(look_on(&mut peeked), Err(PeekFault::ReadFault)));
     Ok(())
 }

@@ -122,7 +122,7 @@ impl Walk {
         if self.last.is_some() && matches!(self.format, Format::Ubx) {
             self.check(within);
         }
-        self.left -= passed;
+        self.left = self.left.saturating_sub(passed);
         behind
     }
 

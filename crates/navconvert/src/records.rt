@@ -54,7 +54,7 @@ impl Records {
                 break;
             };
             self.see_end(&rest[..end]);
-            rest = &rest[end + 1..];
+            rest = rest.get(end.saturating_add(1)..).unwrap_or(&[]);
         }
         self.keep(rest);
     }

@@ -128,10 +128,12 @@ pub(crate) fn long_name_of<'a>(
     inputs: Inputs<'a>,
     site: &'a str,
 ) -> Result<String, Refusal<'a>> {
-    let (from, to) = range_of(task, first, inputs)?;
-    match long_name(task.rt.alloc(), site, from, to) {
-        Ok(name) => Ok(name),
-        Err(AllocError) => Err(Refusal::NoMemory),
+    match range_of(task, first, inputs) {
+        Ok((from, to)) => match long_name(task.rt.alloc(), site, from, to) {
+            Ok(name) => Ok(name),
+            Err(AllocError) => Err(Refusal::NoMemory),
+        },
+        Err(refusal) => Err(refusal),
     }
 }
 
@@ -152,12 +154,9 @@ fn range_of<'a>(
     let outcome = converted(task, &mut place, told, first, part.as_str(), first);
     match outcome.done {
         Ok(()) => place.range.ok_or(Refusal::NoTimes),
-        Err(stop) => {
-            Err(
-                place
-                    .other()
-                    .unwrap_or(refusal_of(&task.plan, stop, first, first)),
-            )
-        }
+        Err(stop) => match place.other() {
+            Some(refusal) => Err(refusal),
+            None => Err(refusal_of(&task.plan, stop, first, first)),
+        },
     }
 }
