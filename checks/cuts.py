@@ -127,7 +127,8 @@ def main():
             said = done.stdout.splitlines()
             for name in names:
                 all_of += 1
-                if not any(f"--from {kind}" in line and f"'{name}'" in line for line in said):
+                told = (f"--from {kind}", f"--from={kind}'")
+                if not any(f"'{name}'" in line and any(it in line for it in told) for line in said):
                     wrong += 1
                     print(f"{kind} {name}: not told")
     print(f"{all_of - wrong} of {all_of} cut logs told")
