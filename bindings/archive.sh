@@ -75,7 +75,7 @@ if [ -z "$built" ]; then
   libraries=$copy/crates
 fi
 lacks=''
-for it in $found; do [ -f "$libraries/$it/out/rlib/$it.rlib" ] || lacks="$lacks $it"; done
+for it in $found; do [ -e "$libraries/$it/out/rlib/$it.rlib" ] || lacks="$lacks $it"; done
 if [ -n "$lacks" ]; then
   echo "archive: not built:$lacks; \`rt ci\` at the top of the checkout builds them, or bindings/archive.sh without --built" >&2
   exit 2
