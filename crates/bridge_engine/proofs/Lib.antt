@@ -13,5 +13,6 @@ mod Ends
 mod Headlines
 mod OneJob
 mod RowJobs
+pub mod Surface
 mod TableRows
 mod Told

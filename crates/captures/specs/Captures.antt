@@ -1,5 +1,5 @@
 -- The capture that some bytes are, and what is written and reported of it.
-use Rattle.std.specs.Prelude.{ℕ, ◌+◌, ◌-◌, ◌==◌, true, false, if◌then◌else◌, List, [], ◌∷◌, ◌++◌, length, take, codes, map, sum, Option, None, Some}
+use Rattle.std.specs.Prelude.{ℕ, ◌^◌, ◌+◌, ◌-◌, ◌==◌, true, false, if◌then◌else◌, List, [], ◌∷◌, ◌++◌, length, take, codes, map, sum, Option, None, Some}
 use Rattle.std.specs.List.{flat_map}
 use Rattle.nav_io.specs.Lines.{Line, lines_by}
 use Rattle.nav_eph.specs.declared.items.NavItem.{NavItem}
@@ -200,6 +200,7 @@ target_meaning to week = record {
   reads = true;
   reports = true;
   memory = true;
+  limit = 2 ^ 32;
   counts = λ bytes. counts_in (capture_of week bytes);
   whole = record { output = output_of to week; report = report_of_capture week };
   least = least_output to week;

@@ -1,5 +1,5 @@
 -- What the runs over a generated capture write, report and count.
-use Rattle.std.specs.Prelude.{ℕ, Bool, true, false, List, [], ◌++◌, length, codes, Some, None}
+use Rattle.std.specs.Prelude.{ℕ, ◌^◌, Bool, true, false, List, [], ◌++◌, length, codes, Some, None}
 use Rattle.nav_io.specs.Lines.{lines_by}
 use Rattle.one_run.specs.Runs.{Meaning, no_least}
 use Rattle.nav_vectors.specs.Capture.{lines_of}
@@ -43,6 +43,7 @@ seed_meaning to seed n r = record {
   reads = false;
   reports = is_counted to;
   memory = true;
+  limit = 2 ^ 32;
   counts = λ bytes. Some (seed_counts to seed n r);
   whole = record { output = λ bytes. seed_output to seed n r; report = λ bytes. seed_report to seed n r };
   least = no_least;

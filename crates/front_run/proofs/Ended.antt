@@ -12,6 +12,7 @@ use Rattle.one_run.specs.declared.fault.BridgeFault.{BridgeFault}
 use Rattle.one_run.specs.declared.fault.BridgeFault.TheVariants.{NoMemory}
 use Rattle.bridge_engine.specs.Job.{GivesJob, IsJob}
 use Rattle.bridge_engine.specs.Meanings.{meaning_of}
+use Rattle.bridge_engine.proofs.Surface.{limit_of}
 use Rattle.bridge_engine.specs.declared.job.Job.{Job}
 
 -- ---- bytes are written in one way
@@ -83,7 +84,7 @@ complete_by one words job b a status is reads some (inl (other, gives, ended)) =
     if_some b.left _ (λ bytes there can no_read no_write no_report.
     ∥∥₁_elim is (Prim.hlevel props) (λ same.
     let ended : EndedBy m b a status = subst (λ (j : Job). EndedBy (meaning_of j) b a status) (one words other job gives same) ended in
-    let end = at_some (bytes_for m b) _ bytes (left_of m b reads ∙ there) (complete_of m b a ended.result ended.ended) can.1 can.0 no_read no_write (inr no_report) in
+    let end = at_some (bytes_for m b) _ bytes (left_of m b reads ∙ there) (complete_of m b a ended.result ended.ended) (subst (λ (n : ℕ). length bytes < n) (sym (limit_of job)) can.1) can.0 no_read no_write (inr no_report) in
     two_ends ended.result status ended.is some (both ended.result m.memory end))) where
       both : (r : Result (Unit {0}) BridgeFault) (memory : Bool) → IsOk r ⊎ (IsErrOf r NoMemory × (memory ≡ true)) → IsOk r ⊎ (IsErrOf r NoMemory × (true ≡ true))
       both r memory (inl ok) = inl ok

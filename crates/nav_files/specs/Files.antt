@@ -1,5 +1,5 @@
 -- What is written and reported of a RINEX navigation file: its items in the order of its records, repeats included.
-use Rattle.std.specs.Prelude.{ℕ, Bool, true, false, List, [], ◌∷◌, ◌++◌, length, codes, map, sum, Option, None, Some, Result, Ok, Err}
+use Rattle.std.specs.Prelude.{ℕ, ◌^◌, Bool, true, false, List, [], ◌∷◌, ◌++◌, length, codes, map, sum, Option, None, Some, Result, Ok, Err}
 use Rattle.std.specs.List.{flat_map}
 use Rattle.nav_eph.specs.declared.items.NavItem.{NavItem}
 use Rattle.rinex_read.specs.Files.{but_last, early_reads, file_reads, whole_reads}
@@ -102,6 +102,7 @@ file_meaning f memory text told output report count = record {
   reads = true;
   reports = true;
   memory = memory;
+  limit = 2 ^ 32;
   counts = λ bytes. counted_in count (file_reads f bytes);
   whole = record { output = λ bytes. text_in output (file_reads f bytes); report = λ bytes. text_in report (file_reads f bytes) };
   least = λ bytes. text_before text (early_reads f bytes);

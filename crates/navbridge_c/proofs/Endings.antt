@@ -10,6 +10,7 @@ use Rattle.one_run.specs.Runs.{Broke, Done, Ended, World, world}
 use Rattle.one_run.specs.Ends.{RanBy, status_of}
 use Rattle.bridge_engine.specs.Job.{GivesJob, IsJob}
 use Rattle.bridge_engine.specs.Meanings.{meaning_of}
+use Rattle.bridge_engine.proofs.Surface.{limit_of}
 use Rattle.bridge_engine.specs.declared.job.Job.{Job}
 use Rattle.c_records.specs.Rooms.{StandsIn}
 use Rattle.navbridge_c.specs.Conversions.{Converts, ForJob, HasEnded, IsBegun, IsWhole, Made, made_of, nothing, read_by}
@@ -162,7 +163,7 @@ module _ {S T U : Type 0} (left : S → List ℕ) (written : T → List ℕ) (wr
       let all : done.taken ≡ read_by job (left i) = all_taken m.reads (left i) (left i') done.taken done.consumes done.end in
       record {
         accepted = subst (λ (l : List ℕ). IsSome (m.counts l)) all (subst (λ (x : Option (Unit {0})). IsSome x) (sym done.counted) refl);
-        fits = subst (λ (l : List ℕ). length l < 2 ^ 32) all done.fits;
+        fits = subst (λ (l : List ℕ). length l < 2 ^ 32) all (subst (λ (n : ℕ). length done.taken < n) (limit_of job) done.fits);
         output = grown _ _ _ none done.text ∙ ap m.whole.output all;
         report = grown _ _ _ silent done.told ∙ ap m.whole.report all;
       }
@@ -203,7 +204,7 @@ module _ {S T U : Type 0} (left : S → List ℕ) (written : T → List ℕ) (wr
       memory_end words _ _ texts (inr (job, is, begun_of job i i' o o' r r' ReportFault none silent broke))
   by_end words job i i' o o' r r' (Err TooLong) texts is none silent broke =
       long_end words _ _ job texts is (begun_of job i i' o o' r r' TooLong none silent broke)
-      (long_taken (meaning_of job).reads (left i) (left i') broke.taken broke.consumes broke.says)
+      (long_taken (meaning_of job).reads (left i) (left i') broke.taken broke.consumes (broke.says ∙ limit_of job))
 
   -- by what the top call ensures
   pub ended_in_memory : (words : List (List ℕ)) (i i' : S) (o o' : T) (r r' : U) (status : ℕ) → All IsUtf8 words → written o ≡ [] → reported r ≡ []

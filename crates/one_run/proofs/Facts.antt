@@ -1,5 +1,5 @@
 -- What follows from how a run ended.
-use Rattle.std.proofs.Common.{◌≡◌, ◌⊎◌, inl, inr, ◌^◌, ◌<◌, ◌≤◌, ℕ, Bool, false, true, List, ◌++◌, length, Option, None, Some, Result, Ok, Err, refl, sym, ap, subst, ◌∙◌, arith, append-nil, length-append}
+use Rattle.std.proofs.Common.{◌≡◌, ◌⊎◌, inl, inr, ◌<◌, ◌≤◌, ℕ, Bool, false, true, List, ◌++◌, length, Option, None, Some, Result, Ok, Err, refl, sym, ap, subst, ◌∙◌, arith, append-nil, length-append}
 use Rattle.std.specs.Prelude.{IfSome, IfOk, IsSome, IsOk, IsErr, IsErrOf, OnOk}
 use Rattle.std.specs.Io.KnownBytes.{Appends, Consumes, IsAtEnd}
 use Rattle.nav_io.specs.Causes.{Rose}
@@ -63,11 +63,11 @@ leaves_of m b a (Ok counts) done = done.leaves
 leaves_of m b a (Err fault) broke = broke.leaves
 
 pub long_of : {C S T U : Type 0} (m : Meaning C) (b a : World S T U) (r : Result C BridgeFault) → Ended m b a r
-    → IfSome (bytes_for m b) (λ bytes. 2 ^ 32 ≤ length bytes → IsErr r)
+    → IfSome (bytes_for m b) (λ bytes. m.limit ≤ length bytes → IsErr r)
 long_of {C = C} m b a (Ok counts) done =
-    taken_all _ _ done.taken (λ bytes. 2 ^ 32 ≤ length bytes → IsErr {T = C} {E = BridgeFault} (Ok counts)) done.consumes done.end (λ long. absurd (omega (arith, long, done.fits)))
+    taken_all _ _ done.taken (λ bytes. m.limit ≤ length bytes → IsErr {T = C} {E = BridgeFault} (Ok counts)) done.consumes done.end (λ long. absurd (omega (arith, long, done.fits)))
 long_of {C = C} m b a (Err fault) broke =
-    if_some _ (λ bytes. 2 ^ 32 ≤ length bytes → IsErr {T = C} {E = BridgeFault} (Err fault)) (λ bytes is long. refl)
+    if_some _ (λ bytes. m.limit ≤ length bytes → IsErr {T = C} {E = BridgeFault} (Err fault)) (λ bytes is long. refl)
 
 pub accepted_of : {C S T U : Type 0} (m : Meaning C) (b a : World S T U) (r : Result C BridgeFault) → Ended m b a r
     → IsOk r ⊎ (IsErrOf r WriteFault ⊎ (IsErrOf r ReportFault ⊎ IsErrOf r NoMemory)) → Accepts m b
@@ -84,7 +84,7 @@ accepted_of {C = C} m b a r ended end = by_end r ended end where
 
 -- a run succeeds, or finds no memory, where its input is accepted and nothing fails
 pub complete_of : {C S T U : Type 0} (m : Meaning C) (b a : World S T U) (r : Result C BridgeFault) → Ended m b a r
-    → IfSome (bytes_for m b) (λ bytes. length bytes < 2 ^ 32 → IsSome (m.counts bytes)
+    → IfSome (bytes_for m b) (λ bytes. length bytes < m.limit → IsSome (m.counts bytes)
     → (Rose b.reads_failed a.reads_failed → ⊥) → (Rose b.writes_failed a.writes_failed → ⊥)
     → (m.reports ≡ false) ⊎ (Rose b.reports_failed a.reports_failed → ⊥)
     → IsOk r ⊎ (IsErrOf r NoMemory × (m.memory ≡ true)))
@@ -95,7 +95,7 @@ complete_of {C = C} m b a r ended = if_some _ _ (λ bytes is. by_end r ended byt
   none_there : (o : Option C) → o ≡ None → IsSome o → ⊥
   none_there o none some = let e : false ≡ true = subst (λ (x : Option C). IsSome x) none some in cc
 
-  by_end : (r : Result C BridgeFault) → Ended m b a r → (bytes : List ℕ) → bytes_for m b ≡ Some bytes → length bytes < 2 ^ 32 → IsSome (m.counts bytes)
+  by_end : (r : Result C BridgeFault) → Ended m b a r → (bytes : List ℕ) → bytes_for m b ≡ Some bytes → length bytes < m.limit → IsSome (m.counts bytes)
       → (Rose b.reads_failed a.reads_failed → ⊥) → (Rose b.writes_failed a.writes_failed → ⊥)
       → (m.reports ≡ false) ⊎ (Rose b.reports_failed a.reports_failed → ⊥)
       → IsOk r ⊎ (IsErrOf r NoMemory × (m.memory ≡ true))

@@ -12,6 +12,7 @@ giving f m = record {
   reads = m.reads;
   reports = m.reports;
   memory = m.memory;
+  limit = m.limit;
   counts = λ bytes. option_map f (m.counts bytes);
   whole = m.whole;
   least = m.least;

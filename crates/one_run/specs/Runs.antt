@@ -1,5 +1,5 @@
 -- The contract of a run: what it writes and reports of its input, and how it ended.
-use Rattle.std.specs.Prelude.{◌≡◌, ◌^◌, ◌<◌, ℕ, Bool, true, false, List, [], length, Option, None, Some, Result, Ok, Err, IfSome, IsSome, IsTrue, if◌then◌else◌}
+use Rattle.std.specs.Prelude.{◌≡◌, ◌<◌, ℕ, Bool, true, false, List, [], length, Option, None, Some, Result, Ok, Err, IfSome, IsSome, IsTrue, if◌then◌else◌}
 use Rattle.std.specs.Io.KnownBytes.{Appends, Consumes, IsAtEnd}
 use Rattle.nav_io.specs.Causes.{Rose}
 use Rattle.nav_io.specs.Prefix.{AppendsPrefix, IsPrefix}
@@ -19,6 +19,8 @@ pub record Meaning (C : Type 0) : Type 0 where
   pub reports : Bool
   -- whether it allocates memory
   pub memory : Bool
+  -- the number of bytes at which an input is too long
+  pub limit : ℕ
   -- what it counts in the bytes; none where they do not begin as the format requires
   pub counts : List ℕ → Option C
   -- what it writes and reports of a whole input
@@ -90,7 +92,7 @@ pub record Done {C S T U : Type 0} (m : Meaning C) (before after : World S T U) 
   pub taken : List ℕ
   pub consumes : Consumes (bytes_for m before) (bytes_for m after) taken
   pub end : IsAtEnd (bytes_for m after)
-  pub fits : length taken < 2 ^ 32
+  pub fits : length taken < m.limit
   pub counted : m.counts taken ≡ Some counts
   pub text : Appends before.written after.written (m.whole.output taken)
   pub told : Appends before.reported after.reported (m.whole.report taken)
@@ -113,7 +115,7 @@ Says m taken before after WriteFault = Rose before.writes_failed after.writes_fa
 Says m taken before after ReportFault = (m.reports ≡ true) × Rose before.reports_failed after.reports_failed × Accepts m before
 Says m taken before after NotThisForm =
     (m.counts taken ≡ None) × Refuses m before × (after.output ≡ before.output) × (after.report ≡ before.report)
-Says m taken before after TooLong = length taken ≡ 2 ^ 32
+Says m taken before after TooLong = length taken ≡ m.limit
 Says m taken before after NoMemory = (m.memory ≡ true) × Accepts m before
 
 -- The run ended early with a fault: a prefix of the output of the bytes read was written, no less than the least, and a

@@ -15,7 +15,8 @@ pub enum BridgeFault {
     /// The input does not begin as its format requires.
     #[error("NotThisForm")]
     NotThisForm,
-    /// The input has more than 4,294,967,295 bytes.
+    /// The input has at least as many bytes as the run's limit: 4,294,967,296 for the jobs of
+    /// navbridge.
     #[error("TooLong")]
     TooLong,
     /// Memory could not be allocated.

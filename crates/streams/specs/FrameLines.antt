@@ -1,5 +1,5 @@
 -- The line of a frame, and what a run makes of a stream of frames.
-use Rattle.std.specs.Prelude.{ℕ, ◌+◌, ◌*◌, ◌/◌, true, false, List, [], ◌∷◌, ◌++◌, length, Some, codes, decimal}
+use Rattle.std.specs.Prelude.{ℕ, ◌^◌, ◌+◌, ◌*◌, ◌/◌, true, false, List, [], ◌∷◌, ◌++◌, length, Some, codes, decimal}
 use Rattle.rtcm_frame.specs.Frames.{frames}
 use Rattle.rtcm_frame.specs.State.{payload_of}
 use Rattle.one_run.specs.Runs.{Meaning}
@@ -21,6 +21,7 @@ frames_meaning = record {
   reads = true;
   reports = false;
   memory = false;
+  limit = 2 ^ 32;
   counts = λ bytes. Some (record { frames = length (frames bytes) });
   whole = record { output = output_of line_of; report = λ bytes. [] };
   least = least_of line_of;

@@ -1,5 +1,5 @@
 -- The items of a stream of RTCM frames, each at its first occurrence, and what is written and reported of the stream.
-use Rattle.std.specs.Prelude.{ℕ, ◌+◌, ◌-◌, ◌||◌, Bool, true, false, if◌then◌else◌, List, [], ◌∷◌, ◌++◌, length, take, codes, map, sum, Some, Result, Ok, Err}
+use Rattle.std.specs.Prelude.{ℕ, ◌^◌, ◌+◌, ◌-◌, ◌||◌, Bool, true, false, if◌then◌else◌, List, [], ◌∷◌, ◌++◌, length, take, codes, map, sum, Some, Result, Ok, Err}
 use Rattle.std.specs.List.{flat_map}
 use Rattle.nav_eph.specs.Items.{same_item}
 use Rattle.nav_eph.specs.declared.items.NavItem.{NavItem}
@@ -139,6 +139,7 @@ stream_meaning_by prefix text r = record {
   reads = true;
   reports = true;
   memory = true;
+  limit = 2 ^ 32;
   counts = λ bytes. Some (stream_counts r bytes);
   whole = record { output = stream_output_by prefix text r; report = stream_report r };
   least = least_output_by prefix text r;
