@@ -1,3 +1,4 @@
 pub mod ItemTexts
 pub mod PeriodLines
 pub mod Targets
+pub mod Times

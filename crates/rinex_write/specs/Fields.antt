@@ -1,6 +1,8 @@
 -- Items as lists of fields, in the order of their columns, and the epochs of their records.
-use Rattle.std.specs.Prelude.{ℕ, ◌+◌, ◌*◌, List, [], ◌∷◌, ℤ, pos}
+use Rattle.std.specs.Prelude.{ℕ, ◌+◌, ◌*◌, List, [], ◌∷◌, Option, None, Some, ℤ, pos}
 use Rattle.gnss_week.specs.Functions.{moment_near}
+use Rattle.nav_eph.specs.declared.items.NavItem.{NavItem}
+use Rattle.nav_eph.specs.declared.items.NavItem.TheVariants.{Gps, Gal, Ion}
 use Rattle.nav_eph.specs.declared.items.GpsEph.{GpsEph}
 use Rattle.nav_eph.specs.declared.items.GalEph.{GalEph}
 use Rattle.nav_eph.specs.declared.items.SentSecond.{SentSecond}
@@ -53,3 +55,9 @@ gps_epoch e = moment_near (604800 * e.toe_week + 16 * e.a.toe) (16 * e.clock.toc
 
 unfoldable pub galileo_epoch : GalEph → ℕ
 galileo_epoch e = moment_near (604800 * e.toe_week + 60 * e.w1.toe) (60 * e.w4.toc)
+
+-- the epoch of an item that is an ephemeris
+abbrev pub epoch_of : NavItem → Option ℕ
+epoch_of (Gps e) = Some (gps_epoch e)
+epoch_of (Gal e) = Some (galileo_epoch e)
+epoch_of (Ion e) = None

@@ -6,7 +6,8 @@ ghost use Rattle.nav_io.specs.Writes.{Writes};
 ghost use Rattle.nav_eph.specs.Ranges.{HasGalRanges, HasGpsRanges, HasIonRanges};
 ghost use Rattle.nav_eph.specs.declared.items.NavItem.TheVariants.{Gps, Gal, Ion};
 ghost use Rattle.rinex_write.specs.Columns.{joined_rows};
-ghost use Rattle.rinex_write.specs.Fields.{gps_epoch, galileo_epoch, gps_fields, galileo_fields};
+ghost use Rattle.rinex_write.specs.Fields.{epoch_of, gps_epoch, galileo_epoch};
+ghost use Rattle.rinex_write.specs.Fields.{gps_fields, galileo_fields};
 ghost use Rattle.rinex_write.specs.Fields.{gps_ionosphere_fields, galileo_ionosphere_fields};
 ghost use Rattle.rinex_write.specs.Layouts.{Kind};
 ghost use Rattle.rinex_write.specs.Mirrors.{AreReady, IsTable};
@@ -45,6 +46,17 @@ fn galileo_epoch(e: &GalEph) -> Moment
     let week = u64::from(e.toe_week.value());
     let toe = Moment::from_seconds(604_800 * week + 60 * e.w1.toe.value());
     nearest_moment(toe, Second::from_number((60 * e.w4.toc.value()) as u32))
+}
+
+/// The epoch of an ephemeris in its record, toc as GPS time; `None` for an ionosphere.
+pub fn epoch_of(item: &NavItem) -> Option<Moment>
+    ensures { result ≡ epoch_of item.now }
+{
+    match item {
+        NavItem::Gps(e) => Some(gps_epoch(e)),
+        NavItem::Gal(e) => Some(galileo_epoch(e)),
+        NavItem::Ion(_) => None,
+    }
 }
 
 // Appends the title of a record.

@@ -8,6 +8,8 @@
 //! [`write_header3`] and [`write_item3`] do the same for version 3.05, which has no ionosphere
 //! record.
 //!
+//! [`epoch_of`] is the epoch of an ephemeris.
+//!
 //! A record (RINEX 4.01, GPS LNAV and Galileo INAV navigation records) is a table of columns, one
 //! number each: a [`Column`] has the unit of its number, and the [`Rule`] by which number and field
 //! correspond. Each number is the exact value of the raw integer, correctly rounded to thirteen
@@ -37,7 +39,7 @@ mod write3;
 
 pub use crate::columns::{Column, Rule};
 pub use crate::header::{write_header, write_header_of};
-pub use crate::item::{write_body, write_item};
+pub use crate::item::{epoch_of, write_body, write_item};
 pub use crate::laws::{
     columns_are_good, fields_fit_their_columns, headers_are_lines, records_are_a_title_and_a_body,
     texts_concatenate,
