@@ -15,6 +15,9 @@ use Rattle.rtcm_eph.specs.Reading.{item_in}
 use Rattle.rtcm_frame.specs.State.{payload_of}
 use Rattle.one_run.specs.Runs.{AppendsBetween}
 use Rattle.streams.specs.declared.counts.StreamCounts.{StreamCounts}
+use Rattle.outlets.specs.Times.{times_of, with_item as timed}
+use Rattle.outlets.specs.declared.times.Times.{Times}
+use Rattle.outlets.proofs.Surface.{times_more}
 use Rattle.streams.specs.Streams.{Reading, readings, has, items_of_readings, first_places, first_places_behind, reading_report, readings_report, counts_of_readings, is_refused, is_unused, readings_output}
 use Rattle.streams.specs.Mirrors.{GivenState, KeptPlaces, StandsIn, StreamBroke, StreamSoFar, any_alike, is_given, once_text, sent_alike, with_fault, with_item, with_refusal, with_unused}
 use Rattle.streams.proofs.AlikeLemmas.{Laws, looked_for, read_own}
@@ -109,41 +112,49 @@ any_more (i ∷ is) item other =
 
 -- ---- one frame more
 
-counts_are : (c : StreamCounts) (frames refused unused items : ℕ) → c.frames ≡ frames → c.refused ≡ refused → c.unused ≡ unused → c.items ≡ items
-    → c ≡ record { frames = frames; refused = refused; unused = unused; items = items }
-counts_are c frames refused unused items a b d e = rw (sym a, sym b, sym d, sym e) refl
+counts_are : (c : StreamCounts) (frames refused unused items : ℕ) (times : Option Times) → c.frames ≡ frames → c.refused ≡ refused → c.unused ≡ unused
+    → c.items ≡ items → c.times ≡ times → c ≡ record { frames = frames; refused = refused; unused = unused; items = items; times = times }
+counts_are c frames refused unused items times a b d e f = rw (sym a, sym b, sym d, sym e, sym f) refl
 
 once_count : (b : Bool) (item : NavItem) (n : ℕ) → (if b then n else n + 1) ≡ n + length (once b item)
 once_count true item n = omega arith
 once_count false item n = omega arith
 
-counts_item : (rs : List Reading) (item : NavItem) → with_item (counts_of_readings rs) (has (items_of_readings rs) item) ≡ counts_of_readings (rs ++ Ok item ∷ [])
+once_times : (b : Bool) (items : List NavItem) (item : NavItem) → (if b then times_of items else timed (times_of items) item) ≡ times_of (items ++ once b item)
+once_times true items item = ap times_of (sym (append-nil items))
+once_times false items item = sym (times_more items item)
+
+counts_item : (rs : List Reading) (item : NavItem) → with_item (counts_of_readings rs) (has (items_of_readings rs) item) item ≡ counts_of_readings (rs ++ Ok item ∷ [])
 counts_item rs item =
-    counts_are (with_item (counts_of_readings rs) (has (items_of_readings rs) item)) _ _ _ _
+    counts_are (with_item (counts_of_readings rs) (has (items_of_readings rs) item) item) _ _ _ _ _
     (omega (arith, length-append rs (Ok item ∷ [])))
     (omega (arith, count-append is_refused rs (Ok item ∷ [])))
     (omega (arith, count-append is_unused rs (Ok item ∷ [])))
     (once_count (has (items_of_readings rs) item) item (length (first_places (items_of_readings rs)))
     ∙ sym (length-append (first_places (items_of_readings rs)) (once (has (items_of_readings rs) item) item))
     ∙ ap length (sym (first_places_more (items_of_readings rs) item)) ∙ ap (λ (l : List NavItem). length (first_places l)) (sym (items_more rs item)))
+    (once_times (has (items_of_readings rs) item) (first_places (items_of_readings rs)) item
+    ∙ ap times_of (sym (first_places_more (items_of_readings rs) item)) ∙ ap (λ (l : List NavItem). times_of (first_places l)) (sym (items_more rs item)))
 
 counts_refused : (rs : List Reading) (fault : MessageFault) → is_refused (Err fault) ≡ 1 → is_unused (Err fault) ≡ 0
     → with_refusal (counts_of_readings rs) ≡ counts_of_readings (rs ++ Err fault ∷ [])
 counts_refused rs fault refused unused =
-    counts_are (with_refusal (counts_of_readings rs)) _ _ _ _
+    counts_are (with_refusal (counts_of_readings rs)) _ _ _ _ _
     (omega (arith, length-append rs (Err fault ∷ [])))
     (omega (arith, count-append is_refused rs (Err fault ∷ []), refused))
     (omega (arith, count-append is_unused rs (Err fault ∷ []), unused))
     (ap (λ (l : List NavItem). length (first_places l)) (sym (items_same rs fault)))
+    (ap (λ (l : List NavItem). times_of (first_places l)) (sym (items_same rs fault)))
 
 counts_unused : (rs : List Reading) (fault : MessageFault) → is_refused (Err fault) ≡ 0 → is_unused (Err fault) ≡ 1
     → with_unused (counts_of_readings rs) ≡ counts_of_readings (rs ++ Err fault ∷ [])
 counts_unused rs fault refused unused =
-    counts_are (with_unused (counts_of_readings rs)) _ _ _ _
+    counts_are (with_unused (counts_of_readings rs)) _ _ _ _ _
     (omega (arith, length-append rs (Err fault ∷ [])))
     (omega (arith, count-append is_refused rs (Err fault ∷ []), refused))
     (omega (arith, count-append is_unused rs (Err fault ∷ []), unused))
     (ap (λ (l : List NavItem). length (first_places l)) (sym (items_same rs fault)))
+    (ap (λ (l : List NavItem). times_of (first_places l)) (sym (items_same rs fault)))
 
 counts_fault : (rs : List Reading) (fault : MessageFault) → with_fault (counts_of_readings rs) fault ≡ counts_of_readings (rs ++ Err fault ∷ [])
 counts_fault rs NoNumber = counts_unused rs NoNumber refl refl
@@ -181,7 +192,7 @@ pub so_far_item : (r : ℕ) (prefix : List ℕ) (text : NavItem → List ℕ) (p
     → item_in r (payload_of frame) ≡ Ok item → before ≡ is_given given item
     → any_alike (items_of_readings (readings r past)) item ≡ has (items_of_readings (readings r past)) item
     → StreamSoFar r prefix text past w w1 u u1 given c
-    → Appends w1 w2 (once_text text before item) → c1 ≡ with_item c before
+    → Appends w1 w2 (once_text text before item) → c1 ≡ with_item c before item
     → ((other : NavItem) → is_given given_new other ≡ (sent_alike item other || is_given given other))
     → sent_alike item item ≡ true → KeptPlaces given given_new (payload_of frame)
     → StreamSoFar r prefix text (past ++ frame ∷ []) w w2 u u1 given_new c1
@@ -193,7 +204,7 @@ so_far_item r prefix text past frame item w w1 w2 u u1 given given_new c c1 befo
       output = subst (Appends w w2) (sym (ap (readings_output prefix text) more ∙ output_item prefix text rs item))
           (Appends-trans w w1 w2 _ _ far.output (subst (λ (b : Bool). Appends w1 w2 (once_text text b item)) there output));
       report = subst (Appends u u1) (sym (ap (readings_report 1) more ∙ report_more 1 rs (Ok item) ∙ append-nil (readings_report 1 rs))) far.report;
-      counts_are = counts ∙ ap (λ (x : StreamCounts). with_item x before) far.counts_are ∙ ap (λ (b : Bool). with_item (counts_of_readings rs) b) there
+      counts_are = counts ∙ ap (λ (x : StreamCounts). with_item x before item) far.counts_are ∙ ap (λ (b : Bool). with_item (counts_of_readings rs) b item) there
           ∙ counts_item rs item ∙ ap counts_of_readings (sym more);
       holds = λ other. adds other ∙ ap (λ (b : Bool). sent_alike item other || b) (far.holds other) ∙ sym (any_more (items_of_readings rs) item other)
           ∙ ap (λ (l : List NavItem). any_alike l other) (sym (items_more rs item)) ∙ ap (λ (l : List Reading). any_alike (items_of_readings l) other) (sym more);
@@ -203,12 +214,12 @@ so_far_item r prefix text past frame item w w1 w2 u u1 given given_new c c1 befo
 -- a frame whose payload is kept
 pub so_far_again : (r : ℕ) (prefix : List ℕ) (text : NavItem → List ℕ) (past : List (List ℕ)) (frame : List ℕ)
     (w w1 u u1 : Option (List ℕ)) (given : GivenState) (c c1 : StreamCounts) (laws : Laws r)
-    → StandsIn given (payload_of frame) → StreamSoFar r prefix text past w w1 u u1 given c → c1 ≡ with_item c true
+    → StandsIn given (payload_of frame) → StreamSoFar r prefix text past w w1 u u1 given c → ((item : NavItem) → c1 ≡ with_item c true item)
     → StreamSoFar r prefix text (past ++ frame ∷ []) w w1 u u1 given c1
 so_far_again r prefix text past frame w w1 u u1 given c c1 laws stands far counts =
     let known = is_known r given (payload_of frame) stands far.known in
     so_far_item r prefix text past frame known.item w w1 w1 u u1 given given c c1 true known.is (sym known.given)
-    (looked_for r past (payload_of frame) known.item laws known.is) far (Appends-nil w1) counts
+    (looked_for r past (payload_of frame) known.item laws known.is) far (Appends-nil w1) (counts known.item)
     (adds_nothing given known.item known.given) (read_own r (payload_of frame) known.item laws known.is) (inl refl, inl refl)
 
 -- a frame that is refused or not used

@@ -17,6 +17,7 @@ use Rattle.rtcm_eph.specs.Writing.{bytes_1019, bytes_1046}
 use Rattle.rtcm_eph.specs.declared.fault.MessageFault.{MessageFault}
 use Rattle.rtcm_eph.specs.declared.fault.MessageFault.TheVariants.{NoNumber, OtherMessage, Short, BadSat, BadTime, SpareSisa}
 use Rattle.rtcm_frame.specs.Frames.{decided, frames}
+use Rattle.outlets.specs.Times.{with_item as timed}
 use Rattle.one_run.specs.Runs.{AppendsBetween}
 use Rattle.one_run.specs.declared.fault.BridgeFault.{BridgeFault}
 use Rattle.one_run.specs.declared.fault.BridgeFault.TheVariants.{ReadFault, WriteFault, ReportFault, NotThisForm, TooLong, NoMemory}
@@ -136,11 +137,11 @@ once_text text before item = if before then [] else text item
 
 -- the counts with one more frame that is refused
 abbrev pub with_refusal : StreamCounts → StreamCounts
-with_refusal c = record { frames = c.frames + 1; refused = c.refused + 1; unused = c.unused; items = c.items }
+with_refusal c = record { frames = c.frames + 1; refused = c.refused + 1; unused = c.unused; items = c.items; times = c.times }
 
 -- the counts with one more frame that is not used
 abbrev pub with_unused : StreamCounts → StreamCounts
-with_unused c = record { frames = c.frames + 1; refused = c.refused; unused = c.unused + 1; items = c.items }
+with_unused c = record { frames = c.frames + 1; refused = c.refused; unused = c.unused + 1; items = c.items; times = c.times }
 
 -- the counts with one more frame that has this fault
 abbrev pub with_fault : StreamCounts → MessageFault → StreamCounts
@@ -151,13 +152,14 @@ with_fault c BadSat = with_refusal c
 with_fault c BadTime = with_refusal c
 with_fault c SpareSisa = with_refusal c
 
--- the counts with one more frame that yields an item, which was given before or was not
-abbrev pub with_item : StreamCounts → Bool → StreamCounts
-with_item c before = record {
+-- the counts with one more frame that yields this item, which was given before or was not
+abbrev pub with_item : StreamCounts → Bool → NavItem → StreamCounts
+with_item c before item = record {
   frames = c.frames + 1;
   refused = c.refused;
   unused = c.unused;
   items = if before then c.items else c.items + 1;
+  times = if before then c.times else timed c.times item;
 }
 
 -- The frames `past` begin the stream, and all that they give was written, reported, counted and kept.

@@ -13,6 +13,7 @@ use Rattle.one_run.specs.Runs.{Meaning}
 use Rattle.streams.specs.declared.target.StreamTo.{StreamTo}
 use Rattle.streams.specs.declared.counts.StreamCounts.{StreamCounts}
 use Rattle.outlets.specs.Targets.{prefix_text, item_text}
+use Rattle.outlets.specs.Times.{times_of}
 use Rattle.streams.specs.Targets.{target_of_stream}
 
 -- the reading of a frame: its item for the reference week r, or the first fault
@@ -94,6 +95,7 @@ counts_of_readings rs = record {
   refused = sum (map is_refused rs);
   unused = sum (map is_unused rs);
   items = length (first_places (items_of_readings rs));
+  times = times_of (first_places (items_of_readings rs));
 }
 
 -- the counts of the frames of the bytes

@@ -4,6 +4,7 @@ ghost use Rattle.std.specs.Prelude.{◌≡◌, []};
 ghost use Rattle.streams.specs.Streams.{counts_of_readings, stream_counts_text};
 
 use one_run::{Text, append_count};
+use outlets::Times;
 
 /// What a run over a stream counts.
 #[derive(Clone, Copy, PartialEq, Eq)]
@@ -16,6 +17,8 @@ pub struct StreamCounts {
     pub unused: u64,
     /// The distinct items, each at its first occurrence.
     pub items: u64,
+    /// The first and the last epoch of these items.
+    pub times: Option<Times>,
 }
 
 impl StreamCounts {
@@ -28,12 +31,13 @@ impl StreamCounts {
             refused: 0,
             unused: 0,
             items: 0,
+            times: None,
         }
     }
 }
 
 /// The text of the counts of a stream: a line for each, its name, a space and the number, in the
-/// order of the fields.
+/// order of the fields; the times are not written.
 #[tactic(auto, unfolding(crate::specs::Streams::stream_counts_text))]
 pub(crate) fn stream_counts_text(counts: &StreamCounts) -> Text
     ensures { result.items ≡ stream_counts_text counts.now }

@@ -24,7 +24,7 @@ use gnss_week::RefWeek;
 use nav_eph::{NavItem, equality_is_decided};
 use nav_io::{Failed, Sink};
 use one_run::{BridgeFault, report_text};
-use outlets::Target;
+use outlets::{Target, with_item};
 use rtcm_eph::{
     MessageFault, item_function, message_bytes, read_item, sent_1019_is_read, sent_1046_is_read,
 };
@@ -114,7 +114,7 @@ fn give_item<T: Sink>(
     ensures output { OnOk result (Appends (T.written output.old) (T.written output.new)
         (once_text (item_text to.now 0) (is_given given.old item.now) item.now)) }
     ensures counts { OnOk result
-        (counts.new ≡ with_item counts.old (is_given given.old item.now)) }
+        (counts.new ≡ with_item counts.old (is_given given.old item.now) item.now) }
     ensures given { OnOk result ((other : NavItem) → is_given given.new other
         ≡ (sent_alike item.now other || is_given given.old other)) }
     ensures kept { OnOk result (KeptPlaces given.old given.new payload.now) }
@@ -134,6 +134,7 @@ fn give_item<T: Sink>(
         Ok(true) => match to.put(0, item, output) {
             Ok(()) => {
                 counts.items += 1;
+                counts.times = with_item(counts.times, item);
                 counts.frames += 1;
                 Ok(())
             }

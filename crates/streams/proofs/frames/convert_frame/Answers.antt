@@ -74,4 +74,4 @@ returns-then-knows-clause-goes g c =
       decides = c.equality_is_decided.ensures.items;
     } in
     λ past start begun far.
-    so_far_again c.args.r _ _ past c.args.frame.now _ _ _ _ _ _ _ laws (subst (StandsIn c.args.given.now) c.payload-payload.ensures.value (c.knows.ensures c.if-knows.true)) far refl
+    so_far_again c.args.r _ _ past c.args.frame.now _ _ _ _ _ _ _ laws (subst (StandsIn c.args.given.now) c.payload-payload.ensures.value (c.knows.ensures c.if-knows.true)) far (λ item. refl)
