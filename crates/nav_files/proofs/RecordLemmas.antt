@@ -3,13 +3,16 @@ use Rattle.std.proofs.Common.{◌≡◌, ℕ, ◌+◌, ◌≤◌, ◌*◌, ◌^�
 use Rattle.std.specs.Prelude.{Option, Some, None, IfSome, IfNone}
 use Rattle.std.specs.List.{sum_by}
 use Rattle.std.proofs.lemmas.List.Sums.{sum-map, sum_by-append}
+use Rattle.rinex_read.specs.Files.{items_of}
 use Rattle.rinex_read.specs.Forms.{Form}
 use Rattle.rinex_read.specs.States.{EarlySteps, NearSteps, RecordsState, GivesRead, GivesRecord, GivesNone, held_count, lines_left}
 use Rattle.rinex_read.specs.declared.judged.ItemRead.{ItemRead}
 use Rattle.rinex_read.specs.declared.judged.ItemRead.TheVariants.{Item, Refused, PassedOver, End}
 use Rattle.nav_files.specs.declared.counts.RinexCounts.{RinexCounts}
 use Rattle.nav_files.specs.Files.{counts_of_reads, is_refused_read, is_passed, is_item}
-use Rattle.nav_files.specs.Mirrors.{IsRecord, counted}
+use Rattle.nav_files.specs.Mirrors.{IsRecord, counted, read_times}
+use Rattle.outlets.specs.Times.{times_with, with_item}
+use Rattle.outlets.specs.declared.times.Times.{Times}
 
 -- steps of a reader, one after another, and those in which all was given that has ended early
 abbrev pub Follow : Form → Type 0
@@ -29,18 +32,30 @@ count-append : (kind : ItemRead → ℕ) (xs ys : List ItemRead) → sum (map ki
 count-append kind xs ys =
     sum-map kind (xs ++ ys) ∙ sum_by-append kind xs ys ∙ sym (ap (λ m. m + sum (map kind ys)) (sum-map kind xs) ∙ ap (λ m. sum_by kind xs + m) (sum-map kind ys))
 
-counts_are : (c : RinexCounts) (records refused passed items : ℕ) → c.records ≡ records → c.refused ≡ refused → c.passed ≡ passed → c.items ≡ items
-    → c ≡ record { records = records; refused = refused; passed = passed; items = items }
-counts_are c records refused passed items a b d e = rw (sym a, sym b, sym d, sym e) refl
+counts_are : (c : RinexCounts) (records refused passed items : ℕ) (times : Option Times) → c.records ≡ records → c.refused ≡ refused → c.passed ≡ passed
+    → c.items ≡ items → c.times ≡ times → c ≡ record { records = records; refused = refused; passed = passed; items = items; times = times }
+counts_are c records refused passed items times a b d e f = rw (sym a, sym b, sym d, sym e, sym f) refl
+
+times_more : (times : Option Times) (given : List ItemRead) (read : ItemRead)
+    → read_times (times_with times (items_of given)) read ≡ times_with times (items_of (given ++ read ∷ []))
+times_more times [] (Item line item) = refl
+times_more times [] (Refused line reason) = refl
+times_more times [] (PassedOver line) = refl
+times_more times [] End = refl
+times_more times (Item line item ∷ given) read = times_more (with_item times item) given read
+times_more times (Refused line reason ∷ given) read = times_more times given read
+times_more times (PassedOver line ∷ given) read = times_more times given read
+times_more times (End ∷ given) read = times_more times given read
 
 -- the counts of records with one more
 pub counts_more : (given : List ItemRead) (read : ItemRead) → counted (counts_of_reads given) read ≡ counts_of_reads (given ++ read ∷ [])
 counts_more given read =
-    counts_are (counted (counts_of_reads given) read) _ _ _ _
+    counts_are (counted (counts_of_reads given) read) _ _ _ _ _
     (omega (arith, length-append given (read ∷ [])))
     (omega (arith, count-append is_refused_read given (read ∷ [])))
     (omega (arith, count-append is_passed given (read ∷ [])))
     (omega (arith, count-append is_item given (read ∷ [])))
+    (times_more _ given read)
 
 -- ---- steps
 

@@ -68,7 +68,7 @@ count-append kind xs ys =
     sum-map kind (xs ++ ys) ∙ sum_by-append kind xs ys ∙ sym (ap (λ m. m + sum (map kind ys)) (sum-map kind xs) ∙ ap (λ m. sum_by kind xs + m) (sum-map kind ys))
 
 counts_are : (c : RinexCounts) (records refused passed items : ℕ) → c.records ≡ records → c.refused ≡ refused → c.passed ≡ passed → c.items ≡ items
-    → c ≡ record { records = records; refused = refused; passed = passed; items = items }
+    → c ≡ record { records = records; refused = refused; passed = passed; items = items; times = c.times }
 counts_are c records refused passed items a b d e = rw (sym a, sym b, sym d, sym e) refl
 
 -- the counts of records with one more

@@ -12,6 +12,7 @@ use Rattle.rinex_read.specs.declared.judged.ItemRead.TheVariants.{Item, Refused,
 use Rattle.rinex_write.specs.Texts.{header_lines, text_of}
 use Rattle.rinex_write.specs.declared.words.HeaderWords.{HeaderWords}
 use Rattle.outlets.specs.ItemTexts.{rinex_item, satellite_text}
+use Rattle.outlets.specs.Times.{times_of}
 use Rattle.one_run.specs.Reports.{count_line}
 use Rattle.nav_files.specs.declared.counts.RinexCounts.{RinexCounts}
 use Rattle.one_run.specs.Runs.{Meaning}
@@ -37,6 +38,7 @@ merge_counts reads = let c = counts_of_reads reads in record {
   passed = c.passed;
   items = c.items;
   kept = length (merged_of (items_of reads));
+  times = times_of (merged_of (items_of reads));
 }
 
 -- the text of these counts: a line for each, in the order of the fields

@@ -2,7 +2,7 @@
 use Rattle.std.specs.Prelude.{ℕ, ◌^◌, Bool, true, false, List, [], ◌∷◌, ◌++◌, length, codes, map, sum, Option, None, Some, Result, Ok, Err}
 use Rattle.std.specs.List.{flat_map}
 use Rattle.nav_eph.specs.declared.items.NavItem.{NavItem}
-use Rattle.rinex_read.specs.Files.{but_last, early_reads, file_reads, whole_reads}
+use Rattle.rinex_read.specs.Files.{but_last, early_reads, file_reads, items_of, whole_reads}
 use Rattle.rinex_read.specs.Forms.{Form}
 use Rattle.rinex_read.specs.declared.judged.HeaderFault.{HeaderFault}
 use Rattle.rinex_read.specs.declared.judged.ItemRead.{ItemRead}
@@ -10,6 +10,7 @@ use Rattle.rinex_read.specs.declared.judged.ItemRead.TheVariants.{Item, Refused,
 use Rattle.rinex_read.specs.declared.reason.Reason.{Reason}
 use Rattle.rinex_read.specs.declared.reason.Reason.TheVariants.{BadSat, Short, NotANumber, Blank, OutOfRange, NoSuchDate, Week, Fit, EpochStep, EpochFar}
 use Rattle.outlets.specs.Targets.{prefix_text, item_text}
+use Rattle.outlets.specs.Times.{times_of}
 use Rattle.outlets.specs.declared.target.Target.{Target}
 use Rattle.one_run.specs.Reports.{report_line, count_line}
 use Rattle.one_run.specs.Runs.{Meaning}
@@ -70,6 +71,7 @@ counts_of_reads reads = record {
   refused = sum (map is_refused_read reads);
   passed = sum (map is_passed reads);
   items = sum (map is_item reads);
+  times = times_of (items_of reads);
 }
 
 -- the text of these counts: a line for each, in the order of the fields

@@ -29,6 +29,7 @@ counted c x = record {
   refused = c.refused + is_refused_told x;
   passed = c.passed + is_passed x;
   items = c.items + is_item x;
+  times = c.times;
 }
 
 -- every record counted is refused, passed over or an item

@@ -8,6 +8,8 @@ use Rattle.rinex_read.specs.declared.judged.ItemRead.{ItemRead}
 use Rattle.rinex_read.specs.declared.judged.ItemRead.TheVariants.{Item, Refused, PassedOver, End}
 use Rattle.one_run.specs.declared.fault.BridgeFault.{BridgeFault}
 use Rattle.one_run.specs.declared.fault.BridgeFault.TheVariants.{ReadFault, NotThisForm, TooLong}
+use Rattle.outlets.specs.Times.{with_item}
+use Rattle.outlets.specs.declared.times.Times.{Times}
 use Rattle.nav_files.specs.declared.counts.RinexCounts.{RinexCounts}
 use Rattle.nav_files.specs.Files.{is_refused_read, is_passed, is_item}
 
@@ -18,6 +20,13 @@ IsRecord (Refused line reason) = Unit {0}
 IsRecord (PassedOver line) = Unit {0}
 IsRecord End = ⊥
 
+-- the times together with the epoch of the item of a record
+abbrev pub read_times : Option Times → ItemRead → Option Times
+read_times times (Item line item) = with_item times item
+read_times times (Refused line reason) = times
+read_times times (PassedOver line) = times
+read_times times End = times
+
 -- the counts with one record more
 abbrev pub counted : RinexCounts → ItemRead → RinexCounts
 counted c read = record {
@@ -25,6 +34,7 @@ counted c read = record {
   refused = c.refused + is_refused_read read;
   passed = c.passed + is_passed read;
   items = c.items + is_item read;
+  times = read_times c.times read;
 }
 
 -- every record counted is refused, passed over or an item

@@ -102,6 +102,7 @@ counts_of_tolds all = record {
   refused = sum (map is_refused_told all);
   passed = sum (map is_passed all);
   items = sum (map is_item all);
+  times = None;
 }
 
 -- what is written of the records of a file: the capture that transmits its items

@@ -4,6 +4,7 @@ ghost use Rattle.std.specs.Prelude.{◌≡◌, []};
 ghost use Rattle.nav_files.specs.Files.{counts_of_reads, file_counts_text};
 
 use one_run::{Text, append_count};
+use outlets::Times;
 
 /// What a run over a navigation file counts.
 #[derive(Clone, Copy, PartialEq, Eq)]
@@ -16,6 +17,8 @@ pub struct RinexCounts {
     pub passed: u64,
     /// The items, repeats included.
     pub items: u64,
+    /// The first and the last epoch of the items; `None` also of a file that is sent.
+    pub times: Option<Times>,
 }
 
 impl RinexCounts {
@@ -28,12 +31,13 @@ impl RinexCounts {
             refused: 0,
             passed: 0,
             items: 0,
+            times: None,
         }
     }
 }
 
 /// The text of the counts of a navigation file: a line for each, its name, a space and the number,
-/// in the order of the fields.
+/// in the order of the fields; the times are not written.
 #[tactic(auto, unfolding(crate::specs::Files::file_counts_text))]
 pub fn file_counts_text(counts: &RinexCounts) -> Text
     ensures { result.items ≡ file_counts_text counts.now }

@@ -7,6 +7,7 @@ ghost use Rattle.nav_eph.specs.declared.items.NavItem.{NavItem};
 ghost use Rattle.nav_lists.specs.Merging.{merged_of};
 ghost use Rattle.rinex_write.specs.Texts.{header_lines, text_of};
 ghost use Rattle.outlets.specs.ItemTexts.{rinex_item};
+ghost use Rattle.outlets.specs.Times.{times_of};
 ghost use Rattle.nav_files.specs.Files.{counts_of_reads, read_report};
 ghost use Rattle.nav_files.specs.Mirrors.{AreCounted};
 ghost use Rattle.rinex_read.specs.Files.{items_of};
@@ -22,6 +23,7 @@ use nav_eph::NavItem;
 use nav_io::{Failed, Sink};
 use nav_lists::{Merge, merging};
 use one_run::{BridgeFault, Text, append_count};
+use outlets::{Times, with_items};
 use rinex_read::ItemRead;
 use rinex_write::{HeaderWords, write_header, write_item};
 use std::alloc::AllocError;
@@ -60,6 +62,18 @@ fn write_items<T: Sink>(merge: &Merge, out: &mut T) -> Result<(), Failed>
         write_few(few.as_slice(), out)?;
     }
     Ok(())
+}
+
+// The first and the last epoch of the items of a list.
+fn times_in(merge: &Merge) -> Option<Times>
+    ensures { result ≡ times_of merge.now }
+{
+    let mut times = None;
+    let mut left = merge.items();
+    'items: while let Some(few) = left.next_few() {
+        times = with_items(times, few.as_slice());
+    }
+    times
 }
 
 // Adds an item.
@@ -149,6 +163,7 @@ impl Taker for Merging {
             passed: state.counts.passed,
             items: state.counts.items,
             kept: state.merge.len() as u64,
+            times: times_in(&state.merge),
         }
     }
 

@@ -1,5 +1,7 @@
 //! What a merge counts.
 
+use outlets::Times;
+
 /// What a run that merges navigation files counts.
 #[derive(Clone, Copy, PartialEq, Eq)]
 pub struct MergeCounts {
@@ -13,4 +15,6 @@ pub struct MergeCounts {
     pub items: u64,
     /// The items that were written.
     pub kept: u64,
+    /// The first and the last epoch of the items that were written.
+    pub times: Option<Times>,
 }

@@ -12,6 +12,7 @@ ghost use Rattle.nav_files.specs.Mirrors.{AreCounted, BreaksRead, IsRecord, coun
 use crate::counts::RinexCounts;
 use nav_io::{LineFault, Source};
 use one_run::BridgeFault;
+use outlets::with_item;
 use rinex_read::{FileForm, ItemRead, Reason, RecordReader};
 
 /// The fault of a run whose reading of lines failed so.
@@ -52,7 +53,10 @@ pub fn count_read(read: &ItemRead, counts: &mut RinexCounts)
     ensures counted { AreCounted counts.new }
 {
     match read {
-        ItemRead::Item { .. } => counts.items += 1,
+        ItemRead::Item { item, .. } => {
+            counts.items += 1;
+            counts.times = with_item(counts.times, item);
+        }
         ItemRead::Refused { .. } => counts.refused += 1,
         ItemRead::PassedOver { .. } => counts.passed += 1,
         ItemRead::End => {}

@@ -16,6 +16,7 @@ pub(crate) fn no_counts() -> RinexCounts
         refused: 0,
         passed: 0,
         items: 0,
+        times: None,
     }
 }
 
