@@ -8,7 +8,7 @@ use Rattle.std.proofs.lemmas.List.Sums.{sum-map, sum_by-cons}
 use Rattle.std.specs.List.{sum_by}
 use Rattle.nav_eph.specs.declared.part.Part.{Part}
 use Rattle.nav_io.specs.Prefix.{AppendsPrefix, IsPrefix}
-use Rattle.periods.specs.PeriodLists.{IsPeriodPrefix}
+use Rattle.periods.specs.PeriodLists.{IsPeriodPrefix, item_in, items_in}
 use Rattle.periods.specs.PeriodsOf.{closed_of, periods_of}
 use Rattle.periods.specs.Verdicts.{closed_place}
 use Rattle.periods.specs.declared.closed.Closed.{Closed}
@@ -20,6 +20,9 @@ use Rattle.slot_assembly.proofs.Surface.{Gives, HasValues, gives_start, gives_mo
 use Rattle.outlets.specs.declared.target.Target.{Target}
 use Rattle.captures.specs.declared.counts.Said.{Said}
 use Rattle.outlets.specs.Targets.{period_text}
+use Rattle.outlets.specs.Times.{times_of, times_with}
+use Rattle.outlets.specs.declared.times.Times.{Times}
+use Rattle.outlets.proofs.Surface.{times_behind}
 use Rattle.captures.specs.Captures.{texts_of, verdicts, is_whole, is_partial, is_contradicted, is_nohealth, is_again}
 use Rattle.one_run.specs.Runs.{AppendsBetween}
 use Rattle.captures.specs.Flushed.{HasRoom, Flushed, said, said_of, total_said}
@@ -51,16 +54,23 @@ verdicts_more kind (x ∷ cs) c =
     verdicts_cons kind x (cs ++ c ∷ []) ∙ sym (add_more (kind x.verdict) (verdicts kind cs) (kind c.verdict) (verdicts kind (cs ++ c ∷ [])) (verdicts_more kind cs c))
     ∙ ap (λ n. n + kind c.verdict) (sym (verdicts_cons kind x cs))
 
-abbrev said_by : ℕ → ℕ → ℕ → ℕ → ℕ → Said
-said_by a b c d e = record { whole = a; partial = b; contradicted = c; nohealth = d; again = e }
+abbrev said_by : ℕ → ℕ → ℕ → ℕ → ℕ → Option Times → Said
+said_by a b c d e times = record { whole = a; partial = b; contradicted = c; nohealth = d; again = e; times = times }
 
-same_said : (a b c d e f g h i j : ℕ) → a ≡ f → b ≡ g → c ≡ h → d ≡ i → e ≡ j → said_by a b c d e ≡ said_by f g h i j
-same_said a b c d e f g h i j p q r s t = rw (p, q, r, s, t) refl
+same_said : (a b c d e f g h i j : ℕ) (times more : Option Times) → a ≡ f → b ≡ g → c ≡ h → d ≡ i → e ≡ j → times ≡ more → said_by a b c d e times ≡ said_by f g h i j more
+same_said a b c d e f g h i j times more p q r s t u = rw (p, q, r, s, t, u) refl
+
+-- the times with the item of one period more
+closed_times : (times : Option Times) (cs : List Closed) (c : Closed) → times_with times (items_in (cs ++ c ∷ [])) ≡ times_with (times_with times (items_in cs)) (item_in c.verdict)
+closed_times times [] c = ap (times_with times) (append-nil (item_in c.verdict))
+closed_times times (x ∷ cs) c =
+    times_behind times (item_in x.verdict) (items_in (cs ++ c ∷ [])) ∙ closed_times (times_with times (item_in x.verdict)) cs c
+    ∙ ap (λ (t : Option Times). times_with t (item_in c.verdict)) (sym (times_behind times (item_in x.verdict) (items_in cs)))
 
 -- one period more
 pub said_more : (cs : List Closed) (c : Closed) → said_of (cs ++ c ∷ []) ≡ said (said_of cs) c.verdict
-said_more cs c = same_said _ _ _ _ _ _ _ _ _ _ (verdicts_more is_whole cs c) (verdicts_more is_partial cs c) (verdicts_more is_contradicted cs c) (verdicts_more is_nohealth cs c)
-    (verdicts_more is_again cs c)
+said_more cs c = same_said _ _ _ _ _ _ _ _ _ _ _ _ (verdicts_more is_whole cs c) (verdicts_more is_partial cs c) (verdicts_more is_contradicted cs c) (verdicts_more is_nohealth cs c)
+    (verdicts_more is_again cs c) (closed_times _ cs c)
 
 one_verdict : (v : Verdict) → is_whole v + is_partial v + is_contradicted v + is_nohealth v + is_again v ≡ 1
 one_verdict (Whole item) = refl

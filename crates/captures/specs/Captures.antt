@@ -15,6 +15,7 @@ use Rattle.one_run.specs.Runs.{Meaning}
 use Rattle.outlets.specs.declared.target.Target.{Target}
 use Rattle.outlets.specs.declared.target.Target.TheVariants.{Rinex, Rinex3, Rtcm, ToList, Count}
 use Rattle.outlets.specs.Targets.{back_text, prefix_text, period_text}
+use Rattle.outlets.specs.Times.{times_of}
 use Rattle.captures.specs.declared.target.CaptureTo.{CaptureTo}
 use Rattle.captures.specs.declared.target.CaptureTo.TheVariants as captures
 use Rattle.captures.specs.declared.counts.CaptureCounts.{CaptureCounts}
@@ -120,6 +121,7 @@ counts_of c = record {
   contradicted = verdicts is_contradicted (periods c);
   nohealth = verdicts is_nohealth (periods c);
   again = verdicts is_again (periods c);
+  times = times_of (items c);
 }
 
 -- the text of counts: a line for each, in the order of the fields

@@ -3,11 +3,13 @@ use Rattle.std.specs.Prelude.{◌≡◌, ℕ, ◌+◌, ◌^◌, ◌<◌, ◌≤�
 use Rattle.std.specs.Io.KnownBytes.{Appends}
 use Rattle.nav_io.specs.Causes.{Rose}
 use Rattle.nav_eph.specs.declared.part.Part.{Part}
+use Rattle.periods.specs.PeriodLists.{item_in, items_in}
 use Rattle.periods.specs.PeriodsOf.{closed_of, periods_of}
 use Rattle.periods.specs.declared.closed.Closed.{Closed}
 use Rattle.periods.specs.declared.closed.Verdict.{Verdict}
 use Rattle.slot_assembly.specs.Standing.{Standing}
 use Rattle.slot_assembly.specs.Given.{flushed}
+use Rattle.outlets.specs.Times.{times_of, times_with}
 use Rattle.outlets.specs.declared.target.Target.{Target}
 use Rattle.captures.specs.declared.counts.CaptureCounts.{CaptureCounts}
 use Rattle.captures.specs.declared.counts.Tally.{Tally}
@@ -24,6 +26,7 @@ said s verdict = record {
   contradicted = s.contradicted + is_contradicted verdict;
   nohealth = s.nohealth + is_nohealth verdict;
   again = s.again + is_again verdict;
+  times = times_with s.times (item_in verdict);
 }
 
 -- the number of periods that were counted
@@ -38,6 +41,7 @@ said_of cs = record {
   contradicted = verdicts is_contradicted cs;
   nohealth = verdicts is_nohealth cs;
   again = verdicts is_again cs;
+  times = times_of (items_in cs);
 }
 
 -- the counts of a capture with this number of lines
@@ -53,6 +57,7 @@ with_counts lines t s = record {
   contradicted = s.contradicted;
   nohealth = s.nohealth;
   again = s.again;
+  times = s.times;
 }
 
 -- the assembly has the parts and is flushed at the watermark: the texts of all periods closed there were written, and the

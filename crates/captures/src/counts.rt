@@ -7,6 +7,7 @@ ghost use Rattle.captures.specs.Converts.{no_tally};
 ghost use Rattle.captures.specs.Flushed.{said, said_of, total_said, with_counts};
 
 use one_run::{Text, append_count};
+use outlets::{Times, with_item};
 use periods::Verdict;
 
 /// What a run over a capture counts.
@@ -32,6 +33,8 @@ pub struct CaptureCounts {
     pub nohealth: u64,
     /// The periods that repeat the last complete one of their key.
     pub again: u64,
+    /// The first and the last epoch of the items of the whole periods.
+    pub times: Option<Times>,
 }
 
 // The counts of the events of lines, other than parts.
@@ -57,7 +60,7 @@ impl Tally {
     }
 }
 
-// How many periods have each verdict.
+// How many periods have each verdict, and the times of the whole ones.
 #[derive(Clone, Copy)]
 pub(crate) struct Said {
     pub(crate) whole: u64,
@@ -65,6 +68,7 @@ pub(crate) struct Said {
     pub(crate) contradicted: u64,
     pub(crate) nohealth: u64,
     pub(crate) again: u64,
+    pub(crate) times: Option<Times>,
 }
 
 impl Said {
@@ -78,6 +82,7 @@ impl Said {
             contradicted: 0,
             nohealth: 0,
             again: 0,
+            times: None,
         }
     }
 
@@ -88,7 +93,10 @@ impl Said {
         ensures total { total_said self.new ≡ total_said self.old + 1 }
     {
         match verdict {
-            Verdict::Whole(_) => self.whole += 1,
+            Verdict::Whole(item) => {
+                self.whole += 1;
+                self.times = with_item(self.times, item);
+            }
             Verdict::Partial => self.partial += 1,
             Verdict::Contradicted => self.contradicted += 1,
             Verdict::NoHealth => self.nohealth += 1,
@@ -112,11 +120,12 @@ pub(crate) fn counts_with(lines: u32, tally: &Tally, said: &Said) -> CaptureCoun
         contradicted: said.contradicted,
         nohealth: said.nohealth,
         again: said.again,
+        times: said.times,
     }
 }
 
 /// The text of the counts of a capture: a line for each, its name, a space and the number, in the
-/// order of the fields.
+/// order of the fields; the times are not written.
 #[tactic(auto, unfolding(crate::specs::Captures::counts_text))]
 pub(crate) fn capture_counts_text(counts: &CaptureCounts) -> Text
     ensures { result.items ≡ counts_text counts.now }
