@@ -1,7 +1,11 @@
 //! What a job that is done has counted.
 
+ghost use Rattle.std.specs.Prelude.{◌≡◌};
+ghost use Rattle.bridge_engine.specs.Counts.{made_of, refused_of, times_in};
+
 use captures::{CaptureCounts, SeedCounts};
 use nav_files::{MergeCounts, RinexCounts};
+use outlets::Times;
 use streams::{FrameCounts, StreamCounts};
 
 /// What a job that is done has counted.
@@ -23,4 +27,59 @@ pub enum Done {
     Covered(RinexCounts),
     /// A generated capture.
     Generated(SeedCounts),
+}
+
+impl Done {
+    /// How many items were made: whole periods, items, or those kept in a merge; `None` of frames,
+    /// and of a generated capture that was written.
+    pub fn made(&self) -> Option<u64>
+        ensures { result ≡ made_of self.now }
+    {
+        match self {
+            Done::Frames(_) => None,
+            Done::Capture(counts) => Some(counts.whole),
+            Done::Stream(counts) => Some(counts.items),
+            Done::File(counts) => Some(counts.items),
+            Done::Sent(counts) => Some(counts.items),
+            Done::Merged(counts) => Some(counts.kept),
+            Done::Covered(counts) => Some(counts.items),
+            Done::Generated(SeedCounts::Written { .. }) => None,
+            Done::Generated(SeedCounts::Counted(counts)) => Some(counts.whole),
+        }
+    }
+
+    /// How many frames, lines or records were refused; `None` as of [`Done::made`].
+    pub fn refused(&self) -> Option<u64>
+        ensures { result ≡ refused_of self.now }
+    {
+        match self {
+            Done::Frames(_) => None,
+            Done::Capture(counts) => Some(counts.refused),
+            Done::Stream(counts) => Some(counts.refused),
+            Done::File(counts) => Some(counts.refused),
+            Done::Sent(counts) => Some(counts.refused),
+            Done::Merged(counts) => Some(counts.refused),
+            Done::Covered(counts) => Some(counts.refused),
+            Done::Generated(SeedCounts::Written { .. }) => None,
+            Done::Generated(SeedCounts::Counted(counts)) => Some(counts.refused),
+        }
+    }
+
+    /// The first and the last epoch of the ephemerides among the items; `None` where there is no
+    /// ephemeris, of a file that is sent, and as of [`Done::made`].
+    pub fn times(&self) -> Option<Times>
+        ensures { result ≡ times_in self.now }
+    {
+        match self {
+            Done::Frames(_) => None,
+            Done::Capture(counts) => counts.times,
+            Done::Stream(counts) => counts.times,
+            Done::File(counts) => counts.times,
+            Done::Sent(counts) => counts.times,
+            Done::Merged(counts) => counts.times,
+            Done::Covered(counts) => counts.times,
+            Done::Generated(SeedCounts::Written { .. }) => None,
+            Done::Generated(SeedCounts::Counted(counts)) => counts.times,
+        }
+    }
 }

@@ -51,4 +51,5 @@ pub use nav_files::{
     send_rinex3,
 };
 pub use one_run::{BridgeFault, Status};
+pub use outlets::Times;
 pub use streams::{FrameCounts, StreamCounts, StreamTo, run_frames, run_stream};
