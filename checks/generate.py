@@ -6,7 +6,7 @@
     --check  prints each page whose generated parts differ (without an option too)
     --write  writes them
 
-A generated part is between <!-- generated: NAME --> and <!-- end -->. NAME is
+A generated part is between <!-- generated: NAME --> and <!-- end -->; a word after NAME is its argument. NAME is
 
     toolchain    the kit that proved this (`rt version`; left as it is where rt is not installed)
     layers       the crates, by how many stand below each (crates.txt)
@@ -16,10 +16,21 @@ A generated part is between <!-- generated: NAME --> and <!-- end -->. NAME is
                  and their clauses
     conversions  what navbridge reads and writes, of the table in its man page
     runs         the runs of examples/runs.txt
+    messages     the fields of RTCM messages 1019 and 1046; words, subframes: those of I/NAV and LNAV (specs/ of their crates)
+    parity, ura  the parity equations of LNAV; the values of URA
+    fields       the fields of ephemerides and ionosphere parameters, their widths and scales (crates/nav_eph/src)
+    statuses     what the man pages say of each exit status; the numbers are those of the sources
+    reasons PAGE the reasons of rejection in the man page docs/PAGE.1; they are those that the sources print
+    codes        the return codes of bindings/c/navbridge.h
+    outcomes     what may become of a file in examples/merge_archive.py
+    results FILE a table of bench/results
+
+A man page or script that has other numbers or reasons than the sources is named, and fails.
 
 Status: 0 they are the same, or written; 1 they differ; 2 the arguments are wrong.
 """
 
+import ast
 import glob
 import os
 import re
@@ -45,6 +56,15 @@ def first_sentence(text):
     text = re.sub(r"\[(`[^`]*`)\](\([^)]*\))?", r"\1", " ".join(text.split()))
     found = re.match(r".*?[^.\d][.:](?= [A-Z`]| ?$)", text + " ")
     return (found[0] if found else text).rstrip(".: ").replace("|", "\\|")
+
+
+wrong = 0
+
+
+def tell(what):
+    global wrong
+    wrong += 1
+    print(what)
 
 
 crates = {}
@@ -164,18 +184,185 @@ def toolchain(_):
     return ["`" + subprocess.run(["rt", "version"], capture_output=True, text=True).stdout.strip() + "`"]
 
 
+def layouts(path, word, number):
+    """Lists of fields in the definitions, each with its width in bits."""
+    rows = []
+    for it in re.finditer(rf"^fields_{word}(\d+) \w =\n(.*?)\n\n", read(path), re.M | re.S):
+        found = re.findall(r"(?:unsigned|signed|reserved) (\d+)(?: (?:\w\.)?(\w+))?", it[2])
+        names = [f"{number if name.isdigit() else name or 'reserved'} {bits}" for bits, name in found]
+        rows.append([it[1], str(sum(int(bits) for bits, _ in found)), ", ".join(names)])
+    return table([number.capitalize(), "Bits", "Fields in order, with their widths"], rows)
+
+
+def messages(_):
+    return layouts("crates/rtcm_eph/specs/Messages.antt", "", "message number")
+
+
+def words(_):
+    return layouts("crates/inav_word/specs/Words.antt", "word", "word type")
+
+
+def subframes(_):
+    """Bit n of the standard is at offset n - 1."""
+    rows = []
+    for it in re.finditer(r"^(head|subframe\d|page\d+)_at bits at = record \{\n(.*?)^\}", read("crates/lnav_subframe/specs/Subframes.antt"), re.M | re.S):
+        fields = []
+        for name, value in re.findall(r"^  (\w+) = (.*);", it[2], re.M):
+            ranges = [(int(a) + 1, int(a) + int(b)) for a, b in re.findall(r"\(at \+ (\d+)\) (\d+)", value)]
+            if it[1] == "head" or name != "tow_count":
+                fields.append(f"{name} " + " and ".join(f"{a}-{b}" if a < b else f"{a}" for a, b in ranges))
+        name = "all" if it[1] == "head" else re.sub(r"^(\D+)", lambda of: "" if of[1] == "subframe" else "4, page ", it[1])
+        rows.append([name, ", ".join(fields)])
+    return table(["Subframe", "Fields, with their bits"], rows)
+
+
+def parity(_):
+    text = read("crates/lnav_subframe/specs/Parity.antt")
+    rows = []
+    for bit, star, row in re.findall(r"pub d(\d+) : IsEven word last \d+ \((d\d+)_star last\) (row_\d+)", text):
+        bits = re.findall(r"\d+", re.search(rf"^{row} = (.*)", text, re.M)[1])
+        rows.append([f"D{bit}", " ".join([f"{star.upper()}\\*", *(f"d{it}" for it in bits)])])
+    return table(["Bit", "Sum of"], rows)
+
+
+def ura(_):
+    text = read("crates/rinex_write/specs/Accuracies.antt")
+    metres = lambda name: [f"{int(it) / 100:g}" for it in re.findall(r"\d+", re.search(rf"^{name} =(.*?)\[\]", text, re.M | re.S)[1])]
+    nominal, upper = metres("ura_nominal"), metres("ura_greatest")
+    return table(["Index", *map(str, range(16))], [["nominal", *nominal], ["upper", *upper, "none"]])
+
+
+def fields(_):
+    """Fields that are of equal width and scale in both systems are one row."""
+    rows, ranges = {}, {}
+    for doc, name in re.findall(r"((?:^///[^\n]*\n)+)^#[^\n]*\npub struct (\w+) ", read("crates/nav_eph/src/steps.rt"), re.M):
+        ranges[name] = (re.search(r"0 to [\d,]*\d(, or \d+)?", doc)[0], int(re.search(r"in (\d+) bits", doc)[1]))
+    for path in ("gps", "galileo", "ion"):
+        for struct in re.finditer(r"^pub struct (\w+) \{\n(.*?)^\}", read(f"crates/nav_eph/src/{path}.rt"), re.M | re.S):
+            if not struct[1].startswith(("Gps", "Gal")) or struct[1] in ("GpsEph", "GalEph"):
+                continue
+            for doc, name, kind in re.findall(r"((?:    ///[^\n]*\n)+)    pub (\w+): ([\w<>]+),", struct[2]):
+                doc = re.sub(r"^In ", "in ", " ".join(doc.replace("///", " ").split()).rstrip("."))
+                text, _, scale = doc.rpartition("in ") if re.search(r"\bin (2\^|steps)", doc, re.I) else (doc, "", "")
+                text = re.sub(r",? ?(In )?$", "", text) if scale else re.sub(r", an index$", "", text)
+                of = re.fullmatch(r"([US])<(\d+)>", kind)
+                limits, bits = ("", int(of[2])) if of else ranges[kind]
+                signed, scale = "yes" if of and of[1] == "S" else "no", ", ".join(filter(None, [scale, limits]))
+                systems = rows.setdefault((name, bits, signed, scale), {})
+                systems.setdefault(struct[1][:3], text)
+    made = []
+    for (name, bits, signed, scale), systems in rows.items():
+        of = {"Gps": "GPS", "Gal": "Galileo"}
+        text = next(iter(systems.values()))
+        made.append([f"`{name}`", "both" if len(systems) == 2 else of[next(iter(systems))], text, str(bits), signed, scale])
+    return table(["Field", "System", "Meaning", "Bits", "Signed", "Scale and unit"], made)
+
+
+def man_lists(page, section):
+    """The lists of a section of a man page, each of its terms and their texts."""
+    text = re.search(rf"^\.Sh {section}\n(.*?)(?=^\.Sh|\Z)", read(page), re.M | re.S)[1]
+    lists = re.findall(r"^\.Bl -tag[^\n]*\n(.*?)^\.El", text, re.M | re.S)
+    return [re.findall(r"^\.It ([^\n]*)\n((?:(?!\.It )[^\n]*\n)*)", it, re.M) for it in lists]
+
+
+def plain(text):
+    """The text of a man page as that of a page."""
+    out = ""
+    for line in text.splitlines():
+        before = " "
+        if line.startswith(".Pq"):
+            line = re.sub(r"^\.Pq (?:Ar (\w+) No (.*)|(.*))", lambda it: f"({it[1]} {it[2]})" if it[1] else f"({it[3]})", line)
+        elif line.startswith(".Fl -"):
+            line = re.sub(r"^\.Fl -(\S+)", r"`--\1`", line).replace(" ,", ",").replace(" .", ".")
+        elif line.startswith((".Li ", ".Ar ", ".Pa ", ".Cm ", ".Ql ", ".Nm ", ".Ev ", ".Sy ")):
+            line = re.sub(r"^\.\w\w (\S+) ?(.*)", r"`\1`\2", line)
+        elif line.startswith("."):
+            raise SystemExit(f"generate: a macro that it does not know: {line}")
+        out += before + line
+    return out.strip().rstrip(".")
+
+
+def numbers(path, pattern):
+    return set(re.findall(pattern, read(path)))
+
+
+def statuses(_):
+    """Of each man page the list of exit statuses; the numbers must be those of the sources."""
+    engine = numbers("crates/one_run/src/status.rt", r"Status::\w+ => (\d+),")
+    front = {"0"} | numbers("crates/file_words/src/says.rt", r"(?:Refusal::\w+(?:\([^)]*\))?|\|) => (\d+),")
+    pages = {
+        "navbridge": ("docs/navbridge.1", engine),
+        # a log has no first line that could be rejected, and the text of an argument is compared as bytes
+        "navlog": ("docs/navlog.1", engine - {"5", "9"}),
+        "navconvert": ("docs/navconvert.1", front),
+        "merge_archive": ("docs/merge_archive.1", set(re.findall(r"(?:Exit status:|;)\s+(\d) ", re.search(r"Exit status: .*?\n\n|Exit status: .*?\"\"\"", read("examples/merge_archive.py"), re.S)[0]))),
+        "navreport": ("docs/navreport.1", None),
+        "navbridge-station": ("examples/station/navbridge-station.1", set(re.findall(r"(?:Status of run:|;) (\d) ", re.search(r"# Status of run: .*?\. Of record", read("examples/station/navbridge-station"), re.S)[0].replace("\n# ", " ")))),
+    }
+    texts = {}
+    for name, (page, known) in pages.items():
+        found = dict(man_lists(page, "EXIT STATUS")[0])
+        if known is not None and set(found) != known:
+            tell(f"{page}: exit statuses {sorted(found)}, and the sources have {sorted(known)}")
+        for number, text in found.items():
+            texts.setdefault(int(number), {}).setdefault(plain(text), []).append(f"`{name}`")
+    return table(["Status", "Programs", "Meaning"], [[str(at), ", ".join(names), text] for at in sorted(texts) for text, names in texts[at].items()])
+
+
+def reasons(page):
+    """Of a man page the reasons in its list; they must be those that the sources print."""
+    sources = {"navlog": ["receiver_log/src/report.rt"],
+               "navbridge": ["captures/src/report.rt", "streams/src/frames.rt", "nav_files/src/records.rt", "nav_files/src/told.rt"]}[page]
+    known = set()
+    for path in sources:
+        text = read(f"crates/{path}")
+        known |= set(re.findall(r"(?:Refusal|Reason|SendFault|MessageFault)::\w+(?: \{ \w+ \})? => \{?\s*(?:append\(text, |refuse\(number, )?b\"(\w+)", text))
+    known |= {"malformed", "late"} if page == "navbridge" else set()
+    for it in man_lists(f"docs/{page}.1", "DIAGNOSTICS"):
+        terms = [re.sub(r"^Li ", "", term).replace(" , ", ", ").replace(" Ar n", " N").split(", ") for term, _ in it]
+        found = {name.split()[0] for names in terms for name in names}
+        if terms[0][0].split()[0] in known:
+            break
+    if found != known:
+        tell(f"docs/{page}.1: reasons that the sources have and it does not, or the other way round: {sorted(found ^ known)}")
+    return table(["Reason", "Meaning"], [
+        [", ".join(f"`{name}`" for name in names), plain(text).replace("(n is", "(N is")] for names, (_, text) in zip(terms, it)
+    ])
+
+
+def codes(_):
+    text = read("bindings/c/navbridge.h")
+    rows = [[it[2], f"`{it[1]}`", it[3].replace("|", "\\|")] for it in re.finditer(r"^    (NB_\w+) = (\d+),? +/\*\*< (.*?) \*/", text[: text.index("} nb_status")], re.M)]
+    return table(["Number", "Name", "Meaning"], rows)
+
+
+def outcomes(_):
+    text = read("examples/merge_archive.py")
+    known = ast.literal_eval(re.search(r"^OUTCOMES = (\{.*?^\})", text, re.M | re.S)[1])
+    used = {a or b or c for a, b, c in re.findall(r"Unusable\(\"([\w ]+)\"|outcome(?:\"\] = |=)\"([\w ]+)\"|\.row\(\w+(?:\.\w+)?, \"([\w ]+)\"", text)}
+    if used - set(known):
+        tell(f"examples/merge_archive.py: outcomes that OUTCOMES lacks: {sorted(used - set(known))}")
+    return table(["Outcome", "The file", "Records merged"], [[f"`{it}`", *about] for it, about in known.items()])
+
+
+def results(name):
+    """A table in a file: its first line is the head, and cells are between |."""
+    rows = [[it.strip() for it in line.split("|")] for line in read(f"bench/results/{name}.txt").splitlines() if line and not line.startswith("#")]
+    return table(rows[0], rows[1:])
+
+
 MAKERS = {
     "toolchain": toolchain, "layers": layers, "crates": crate_rows, "definitions": definitions, "contracts": contracts,
-    "conversions": conversions, "runs": runs,
+    "conversions": conversions, "runs": runs, "messages": messages, "words": words, "subframes": subframes, "parity": parity, "ura": ura, "fields": fields,
+    "statuses": statuses, "reasons": reasons, "codes": codes, "outcomes": outcomes, "results": results,
 }
-wrong = 0
 for page in sorted(glob.glob("*.md") + glob.glob("docs/*.md") + glob.glob("examples/*.md") + glob.glob("bench/*.md")):
     old = read(page)
     heading, new = "", []
-    for part in re.split(r"(^<!-- generated: \w+ -->\n.*?^<!-- end -->$)", old, flags=re.M | re.S):
-        it = re.match(r"<!-- generated: (\w+) -->", part)
+    for part in re.split(r"(^<!-- generated: [\w ]+ -->\n.*?^<!-- end -->$)", old, flags=re.M | re.S):
+        it = re.match(r"<!-- generated: (\w+) ?(\w*) -->", part)
         if it:
-            made = MAKERS[it[1]](heading)
+            made = MAKERS[it[1]](it[2] or heading)
             if made is not None:
                 part = "\n".join([it[0], *made, "<!-- end -->"])
         else:
@@ -186,6 +373,5 @@ for page in sorted(glob.glob("*.md") + glob.glob("docs/*.md") + glob.glob("examp
             with open(page, "w", encoding="utf-8") as file:
                 file.write("".join(new))
         else:
-            wrong += 1
-            print(f"{page}: its generated parts differ; checks/generate.py --write")
+            tell(f"{page}: its generated parts differ; checks/generate.py --write")
 sys.exit(1 if wrong else 0)

@@ -65,7 +65,29 @@ UNPACKED = 1 << 30  # one file may have so many bytes unpacked
 ONE_RUN = 3 << 30  # and one run of navbridge is given at most these (it takes 4 GiB)
 RULES = 2  # what earlier runs left is used where they read files by the same rules
 PART_DATE = ["--date", "20000101 000000 UTC", "--leap", "0"]  # the header of a part says nothing
-READS = ("read", "ends short", "mixed")  # outcomes of files whose records are in the result
+# what may become of a file: what it is, and which of its records are merged
+OUTCOMES = {
+    "read": ("was read to its end", "all"),
+    "ends short": ("has a last record with too few lines, or a last line without an end", "all but the last"),
+    "mixed": ("has records of the other version without a header, or an invalid second header", "the others"),
+    "unfinished": ("is in a directory, and its name ends in `.part`", "none"),
+    "left out": ("belongs to a merge, or is in a directory that was read already; it is not counted as a file", "none"),
+    "cut": ("is packed, and ends early", "none"),
+    "damaged": ("is packed, and has a wrong checksum", "none"),
+    "too large": ("has more than 1 GiB unpacked", "none"),
+    "packed": ("is packed by a program other than gzip and compress", "none"),
+    "empty": ("has no bytes, or zero bytes only", "none"),
+    "version": ("has a version that is not read, as in `version 2.11`", "none"),
+    "no version": ("has no version in its first line", "none"),
+    "no navigation file": ("is RINEX of another kind", "none"),
+    "no RINEX": ("does not begin as RINEX does", "none"),
+    "no end of header": ("has a header without an end", "none"),
+    "missing": ("does not exist", "none"),
+    "unreadable": ("cannot be opened or read", "none"),
+    "no file": ("is a pipe or a device", "none"),
+    "rejected": ("makes `navbridge` alone exit with another status than 0", "none"),
+}
+READS = tuple(it for it, (_, merged) in OUTCOMES.items() if merged != "none")
 # outcomes that are known before a file is opened; what is left out is no file, and no fault
 UNOPENED = ("missing", "unreadable", "no file", "unfinished", "left out")
 
