@@ -21,6 +21,7 @@ A generated part is between <!-- generated: NAME --> and <!-- end -->; a word af
     fields       the fields of ephemerides and ionosphere parameters, their widths and scales (crates/nav_eph/src)
     statuses     what the man pages say of each exit status; the numbers are those of the sources
     reasons PAGE the reasons of rejection in the man page docs/PAGE.1; they are those that the sources print
+    counts PAGE  the counts of a report there, likewise
     codes        the return codes of bindings/c/navbridge.h
     outcomes     what may become of a file in examples/merge_archive.py
     results FILE a table of bench/results
@@ -282,52 +283,59 @@ def plain(text):
     return out.strip().rstrip(".")
 
 
-def numbers(path, pattern):
-    return set(re.findall(pattern, read(path)))
+def help_numbers(path, pattern):
+    """The exit statuses that the help of a script lists, as `0 ..; 1 ..`."""
+    return set(re.findall(r"(?:^|; )(\d) ", " ".join(re.search(pattern, read(path), re.S)[1].replace("\n# ", " ").split())))
 
 
 def statuses(_):
     """Of each man page the list of exit statuses; the numbers must be those of the sources."""
-    engine = numbers("crates/one_run/src/status.rt", r"Status::\w+ => (\d+),")
-    front = {"0"} | numbers("crates/file_words/src/says.rt", r"(?:Refusal::\w+(?:\([^)]*\))?|\|) => (\d+),")
+    engine = set(re.findall(r"Status::\w+ => (\d+),", read("crates/one_run/src/status.rt")))
+    front = set(re.findall(r" => (\d+),", re.search(r"pub fn status\(.*?\n    \}\n", read("crates/file_words/src/says.rt"), re.S)[0]))
     pages = {
         "navbridge": ("docs/navbridge.1", engine),
-        # a log has no first line that could be rejected, and the text of an argument is compared as bytes
+        # a log has no first line that could be rejected, and an argument is compared as bytes
         "navlog": ("docs/navlog.1", engine - {"5", "9"}),
-        "navconvert": ("docs/navconvert.1", front),
-        "merge_archive": ("docs/merge_archive.1", set(re.findall(r"(?:Exit status:|;)\s+(\d) ", re.search(r"Exit status: .*?\n\n|Exit status: .*?\"\"\"", read("examples/merge_archive.py"), re.S)[0]))),
-        "navreport": ("docs/navreport.1", None),
-        "navbridge-station": ("examples/station/navbridge-station.1", set(re.findall(r"(?:Status of run:|;) (\d) ", re.search(r"# Status of run: .*?\. Of record", read("examples/station/navbridge-station"), re.S)[0].replace("\n# ", " ")))),
+        "navconvert": ("docs/navconvert.1", front | {"0"}),
+        "merge_archive": ("docs/merge_archive.1", help_numbers("examples/merge_archive.py", r"\nExit status: (.*?)\n\"")),
+        "navreport": ("docs/navreport.1", help_numbers("examples/report/command.py", r"\nExit status: (.*?)\n\"")),
+        "navbridge-station": ("examples/station/navbridge-station.1", help_numbers("examples/station/navbridge-station", r"# Exit status of run: (.*?)\. Of record")),
     }
-    texts = {}
+    rows = []
     for name, (page, known) in pages.items():
-        found = dict(man_lists(page, "EXIT STATUS")[0])
-        if known is not None and set(found) != known:
-            tell(f"{page}: exit statuses {sorted(found)}, and the sources have {sorted(known)}")
-        for number, text in found.items():
-            texts.setdefault(int(number), {}).setdefault(plain(text), []).append(f"`{name}`")
-    return table(["Status", "Programs", "Meaning"], [[str(at), ", ".join(names), text] for at in sorted(texts) for text, names in texts[at].items()])
+        found = man_lists(page, "EXIT STATUS")[0]
+        if {number for number, _ in found} != known:
+            tell(f"{page}: exit statuses {sorted(number for number, _ in found)}, and the sources have {sorted(known)}")
+        rows += [[f"`{name}`", number, plain(text)] for number, text in found]
+    return table(["Program", "Status", "Meaning"], rows)
 
 
-def reasons(page):
-    """Of a man page the reasons in its list; they must be those that the sources print."""
-    sources = {"navlog": ["receiver_log/src/report.rt"],
-               "navbridge": ["captures/src/report.rt", "streams/src/frames.rt", "nav_files/src/records.rt", "nav_files/src/told.rt"]}[page]
-    known = set()
-    for path in sources:
-        text = read(f"crates/{path}")
-        known |= set(re.findall(r"(?:Refusal|Reason|SendFault|MessageFault)::\w+(?: \{ \w+ \})? => \{?\s*(?:append\(text, |refuse\(number, )?b\"(\w+)", text))
-    known |= {"malformed", "late"} if page == "navbridge" else set()
+def printed(page, known, head):
+    """The list of a man page's DIAGNOSTICS that has most of the words that the sources print; it must have all, and no other."""
+    lists = []
     for it in man_lists(f"docs/{page}.1", "DIAGNOSTICS"):
         terms = [re.sub(r"^Li ", "", term).replace(" , ", ", ").replace(" Ar n", " N").split(", ") for term, _ in it]
         found = {name.split()[0] for names in terms for name in names}
-        if terms[0][0].split()[0] in known:
-            break
-    if found != known:
-        tell(f"docs/{page}.1: reasons that the sources have and it does not, or the other way round: {sorted(found ^ known)}")
-    return table(["Reason", "Meaning"], [
-        [", ".join(f"`{name}`" for name in names), plain(text).replace("(n is", "(N is")] for names, (_, text) in zip(terms, it)
-    ])
+        lists.append((len(found & known), found ^ known, list(zip(terms, (text for _, text in it)))))
+    _, others, found = max(lists, key=lambda it: it[0])
+    if others:
+        tell(f"docs/{page}.1: words that the sources print and it lacks, or the other way round: {', '.join(sorted(others))}")
+    return table([head, "Meaning"], [[", ".join(f"`{it}`" for it in names), plain(text).replace("(n is", "(N is")] for names, text in found])
+
+
+def reasons(page):
+    sources = {"navlog": ["receiver_log/src/report.rt"],
+               "navbridge": ["captures/src/report.rt", "streams/src/frames.rt", "nav_files/src/records.rt", "nav_files/src/told.rt"]}[page]
+    known = {"malformed", "late"} if page == "navbridge" else set()
+    for path in sources:
+        arms = r"(?:Refusal|Reason|SendFault|MessageFault)::\w+(?: \{ \w+ \})? => \{?\s*(?:append\(text, |refuse\(number, )?b\"(\w+)"
+        known |= set(re.findall(arms, read(f"crates/{path}")))
+    return printed(page, known, "Reason")
+
+
+def counts(page):
+    path = {"navlog": "receiver_log/src/report.rt", "navbridge": "captures/src/counts.rt"}[page]
+    return printed(page, set(re.findall(r"append_count\(\s*&mut text,\s*b\"(\w+)", read(f"crates/{path}"))), "Count")
 
 
 def codes(_):
@@ -354,7 +362,7 @@ def results(name):
 MAKERS = {
     "toolchain": toolchain, "layers": layers, "crates": crate_rows, "definitions": definitions, "contracts": contracts,
     "conversions": conversions, "runs": runs, "messages": messages, "words": words, "subframes": subframes, "parity": parity, "ura": ura, "fields": fields,
-    "statuses": statuses, "reasons": reasons, "codes": codes, "outcomes": outcomes, "results": results,
+    "statuses": statuses, "reasons": reasons, "counts": counts, "codes": codes, "outcomes": outcomes, "results": results,
 }
 for page in sorted(glob.glob("*.md") + glob.glob("docs/*.md") + glob.glob("examples/*.md") + glob.glob("bench/*.md")):
     old = read(page)

@@ -1,6 +1,6 @@
 /**
  * @file navbridge.h
- * @brief Broadcast orbits of GPS and Galileo: messages, subframes, pages, records and whole conversions, proved.
+ * @brief Broadcast orbits of GPS and Galileo: messages, subframes, pages, records and complete conversions, proved.
  *
  * C99 and C++. Link with libnavbridge.a (docs/LIBRARY.md says how it is made); nothing else is needed but the C library, and
  * -lm for the functions of this header that give doubles.
@@ -8,11 +8,11 @@
  * Structs hold the integers that were broadcast, unscaled; the comment of each field has its scale and width, and the
  * functions at the end of this header give doubles in SI units and radians.
  *
- * No call keeps a pointer, writes behind the sizes that it is given, or has a state of its own: calls on separate data may run
+ * No call keeps a pointer, writes past the sizes that it is given, or has a state of its own: calls on separate data may run
  * at once.
  *
- * @par What the caller owes
- * Every pointer is valid for the size beside it and aligned for its type; NULL only with the size 0. What a call writes
+ * @par What the caller must ensure
+ * Every pointer is valid for the size next to it and aligned for its type; NULL only with the size 0. What a call writes
  * overlaps nothing else that it is given. No call from a signal handler, or from the forked child of a process with threads.
  */
 #ifndef NAVBRIDGE_H
@@ -23,26 +23,26 @@
 #include <stddef.h>
 #include <stdint.h>
 
-/** The version of this header: the library answers the same number (nb_version()). */
+/** The version of this header: the library returns the same number (nb_version()). */
 #define NB_VERSION 3
 
 #ifdef __cplusplus
 extern "C" {
 #endif
 
-/** Answers of the calls that give a status: 0, or the reason. No two have one number, and none changes its number. */
+/** Return codes: 0, or the reason. No two have the same number, and none changes its number. */
 typedef enum nb_status {
     NB_OK = 0,            /**< all was done */
-    NB_NO_JOB = 2,        /**< nb_convert(): the words name no job */
-    NB_OUTPUT_ROOM = 4,   /**< nb_convert(): the output is longer than its room; its length says how long */
-    NB_NOT_THIS_FORM = 5, /**< nb_convert(): the first line of a capture, or the header of a navigation file, is refused */
-    NB_NO_MEMORY = 6,     /**< malloc or realloc gave none */
-    NB_REPORT_ROOM = 7,   /**< nb_convert(): the report is longer than its room; its length says how long */
-    NB_TOO_LONG = 8,      /**< nb_convert(): the input has more than 4,294,967,295 bytes; nb_push(): as it says */
-    NB_NO_TEXT = 9,       /**< nb_convert(): a word is not UTF-8 */
-    NB_NOT_PUSHED = 10,   /**< nb_push_open(): the input of the words' job cannot be pushed: only nb_convert() does it */
+    NB_NO_JOB = 2,        /**< nb_convert(): the arguments name no conversion */
+    NB_OUTPUT_ROOM = 4,   /**< nb_convert(): the output is longer than its buffer; its length is returned */
+    NB_NOT_THIS_FORM = 5, /**< nb_convert(): the first line of a capture, or the header of a navigation file, is rejected */
+    NB_NO_MEMORY = 6,     /**< out of memory: malloc or realloc failed */
+    NB_REPORT_ROOM = 7,   /**< nb_convert(): the report is longer than its buffer; its length is returned */
+    NB_TOO_LONG = 8,      /**< nb_convert(): the input has more than 4,294,967,295 bytes; nb_push(): see there */
+    NB_NO_TEXT = 9,       /**< nb_convert(): an argument is not UTF-8 */
+    NB_NOT_PUSHED = 10,   /**< nb_push_open(): the input of this conversion cannot be pushed: use nb_convert() */
     NB_ENDED = 11,        /**< nb_push(), nb_push_finish(): nb_push_finish() was called before */
-    NB_CLOSED = 12,       /**< nb_push(), nb_push_finish(): no job is open */
+    NB_CLOSED = 12,       /**< nb_push(), nb_push_finish(): no conversion is open */
 
     NB_NO_NUMBER = 16,     /**< a payload of fewer than two bytes, which has no message number */
     NB_OTHER_MESSAGE = 17, /**< a message other than 1019 and 1046 */
@@ -51,24 +51,24 @@ typedef enum nb_status {
     NB_BAD_TIME = 20,      /**< toe or toc past the end of the week */
     NB_SPARE_SISA = 21,    /**< a spare SISA index, 126 to 254 */
     NB_NO_WEEK = 22,       /**< the reference week is not 1024 to 8191 */
-    NB_NO_ITEM = 23,       /**< the numbers stand for nothing: a kind that is none, a field out of its range, two issues */
+    NB_NO_ITEM = 23,       /**< no valid item: an unknown kind, a field out of its range, parts of two issues */
     NB_NO_VERSION = 24,    /**< a version of navigation files other than 3 and 4 */
     NB_NO_MESSAGE = 25,    /**< ionospheric parameters, which no message carries */
 
-    NB_RECORD_SATELLITE = 32,   /**< the record names no satellite of its system, or two */
+    NB_RECORD_SATELLITE = 32,   /**< the record has no satellite of its system, or two */
     NB_RECORD_SHORT = 33,       /**< the record ends before the last line of its kind */
-    NB_RECORD_NO_NUMBER = 34,   /**< a number or a part of the date is none */
+    NB_RECORD_NO_NUMBER = 34,   /**< a number or a part of the date is no number */
     NB_RECORD_BLANK = 35,       /**< a column is blank that must not be */
     NB_RECORD_RANGE = 36,       /**< a number is out of the range of its field */
     NB_RECORD_NO_DATE = 37,     /**< the calendar has no such day, or the clock no such time */
-    NB_RECORD_WEEK = 38,        /**< the date lies in no week that has a number here */
+    NB_RECORD_WEEK = 38,        /**< the date is in no week from 1 to 16,382 */
     NB_RECORD_FIT = 39,         /**< the fit interval is 2 or 3 hours, to which no flag corresponds */
     NB_RECORD_STEP = 40,        /**< the epoch is no multiple of the step of toc */
     NB_RECORD_FAR = 41,         /**< the epoch is not within half a week of toe */
-    NB_RECORD_PASSED_OVER = 42, /**< a record of another kind */
+    NB_RECORD_PASSED_OVER = 42, /**< a record of another kind, which is skipped */
 
-    NB_SUBFRAME_PREAMBLE = 48,  /**< neither the preamble nor its complement stands first */
-    NB_SUBFRAME_PARITY_1 = 49,  /**< the first word of wrong parity is word 1; nb_parity_word() gives its number */
+    NB_SUBFRAME_PREAMBLE = 48,  /**< it begins neither with the preamble nor with its complement */
+    NB_SUBFRAME_PARITY_1 = 49,  /**< word 1 is the first with wrong parity; nb_parity_word() returns its number */
     NB_SUBFRAME_PARITY_2 = 50,  /**< word 2 */
     NB_SUBFRAME_PARITY_3 = 51,  /**< word 3 */
     NB_SUBFRAME_PARITY_4 = 52,  /**< word 4 */
@@ -81,20 +81,20 @@ typedef enum nb_status {
     NB_SUBFRAME_TOW = 59,       /**< the TOW count is 100,800 or more */
     NB_SUBFRAME_UNUSED = 60,    /**< not subframe 1, 2 or 3, nor page 18 of subframe 4 */
     NB_SUBFRAME_TIME = 61,      /**< toc or toe past the end of the week */
-    NB_NO_SATELLITE = 62,       /**< the satellite that was named is not 1 to 32 (GPS) or 1 to 36 (Galileo) */
-    NB_NO_TOW_COUNT = 63,       /**< the TOW count that was given is 100,800 or more */
+    NB_NO_SATELLITE = 62,       /**< the given satellite is not 1 to 32 (GPS) or 1 to 36 (Galileo) */
+    NB_NO_TOW_COUNT = 63,       /**< the given TOW count is 100,800 or more */
 
-    NB_PAGE_ALERT = 65,     /**< a part is of an alert page */
+    NB_PAGE_ALERT = 65,     /**< a page part is of an alert page */
     NB_PAGE_NO_PAIR = 66,   /**< the parts are not an even one and an odd one */
-    NB_PAGE_CRC = 67,       /**< the CRC is wrong: a bit is, or the parts are of two pages */
+    NB_PAGE_CRC = 67,       /**< the CRC is wrong: a damaged bit, or parts of two pages */
     NB_WORD_UNUSED = 68,    /**< the word type is not 1 to 5 */
     NB_WORD_SATELLITE = 69, /**< word type 4 names another satellite */
     NB_WORD_TIME = 70,      /**< toe, toc or TOW past the end of the week */
     NB_WORD_SISA = 71,      /**< a spare SISA index, 126 to 254 */
-    NB_NO_SIGNAL = 72       /**< a signal that is no nb_signal */
+    NB_NO_SIGNAL = 72       /**< the given signal is no nb_signal */
 } nb_status;
 
-/** Some bytes, which nobody changes. */
+/** Some bytes, which no call changes. */
 typedef struct nb_bytes {
     const uint8_t *at; /**< the first of them */
     size_t size;       /**< how many */
@@ -119,7 +119,7 @@ typedef struct nb_gps_clock {
     int32_t tgd;   /**< group delay, 2^-31 s: 8 bits */
 } nb_gps_clock;
 
-/** What subframe 1 says beside the clock (IS-GPS-200, 20.3.3.3.1). */
+/** The fields of subframe 1 other than the clock (IS-GPS-200, 20.3.3.3.1). */
 typedef struct nb_gps_side {
     uint32_t l2_code; /**< the codes on L2: 2 bits */
     uint32_t ura;     /**< user range accuracy, an index: 4 bits */
@@ -264,7 +264,7 @@ typedef enum nb_kind {
     NB_GALILEO_ION = 4 /**< Galileo ionospheric parameters */
 } nb_kind;
 
-/** An ephemeris or ionospheric parameters. What is not of its kind is never looked at, and left as it is. */
+/** An ephemeris or ionospheric parameters. Members of another kind are ignored, and left unchanged. */
 typedef struct nb_item {
     uint32_t kind; /**< an nb_kind */
     nb_gps gps;    /**< of kind NB_GPS */
@@ -278,23 +278,23 @@ typedef struct nb_item {
 uint32_t nb_version(void);
 
 /**
- * @brief A whole conversion: what the program navbridge does with these words, over memory.
+ * @brief A complete conversion: what the program navbridge does with these arguments, in memory.
  *
- * @param words       the words of the command line behind the program's name, as `--from=stream`; docs/navbridge.1 has them
+ * @param words       the arguments of navbridge without the program's name, as `--from=stream` (docs/navbridge.1)
  * @param n_words     how many
  * @param input       what the program would read
  * @param n           how many bytes
- * @param output      room for what it would write; the prefix that fits is put there
- * @param room        how many bytes
- * @param used        set to the length of the whole output, which may be more than the room
- * @param report      room for what it would report
- * @param report_room how many bytes
- * @param report_used set to the length of the whole report
+ * @param output      a buffer for what it would write, which gets the prefix that fits
+ * @param room        its size in bytes
+ * @param used        set to the length of the complete output, which may be more than the buffer
+ * @param report      a buffer for what it would report
+ * @param report_room its size in bytes
+ * @param report_used set to the length of the complete report
  * @return NB_OK, NB_NO_JOB, NB_OUTPUT_ROOM, NB_NOT_THIS_FORM, NB_NO_MEMORY, NB_REPORT_ROOM, NB_TOO_LONG or NB_NO_TEXT. After
  *         NB_NO_MEMORY and NB_TOO_LONG a prefix of the output and of the report was made; after NB_NO_JOB, NB_NOT_THIS_FORM and
  *         NB_NO_TEXT nothing.
  *
- * It takes memory: the output and the report once more, and what the job keeps. All is given back.
+ * It allocates a copy of the output and of the report, and what the conversion retains. All of it is released.
  */
 nb_status nb_convert(const nb_bytes *words, size_t n_words, const uint8_t *input, size_t n, uint8_t *output, size_t room,
                      size_t *used, uint8_t *report, size_t report_room, size_t *report_used);
@@ -306,12 +306,12 @@ nb_status nb_convert(const nb_bytes *words, size_t n_words, const uint8_t *input
 /** The most bytes that a frame has. */
 #define NB_FRAME_MOST 1029
 
-/** Whether these bytes are one whole frame with a right checksum, and nothing else. */
+/** Whether these bytes are one complete frame with a right checksum, and nothing else. */
 bool nb_is_frame(const uint8_t *bytes, size_t n);
 
 /**
  * @brief Makes the frame of a payload.
- * @return its size, n + 6, which may be more than the room: the prefix that fits is put. 0 where the payload has more than
+ * @return its size, n + 6, which may be more than the buffer: the prefix that fits is written. 0 if the payload has more than
  *         1,023 bytes.
  */
 size_t nb_frame_make(const uint8_t *payload, size_t n, uint8_t *frame, size_t room);
@@ -319,16 +319,16 @@ size_t nb_frame_make(const uint8_t *payload, size_t n, uint8_t *frame, size_t ro
 /**
  * @brief Reads message 1019 (GPS) or 1046 (Galileo I/NAV) of the payload of a frame.
  * @param week a week near that of the message, 1024 to 8191: the message has its week modulo 1024 or 4096
- * @param item set where the answer is NB_OK, and left as it is otherwise; its transmission time is not known
+ * @param item set if NB_OK is returned, otherwise unchanged; its transmission time is not known
  * @return NB_OK, NB_NO_WEEK, or the first of NB_NO_NUMBER, NB_OTHER_MESSAGE, NB_SHORT, NB_BAD_SATELLITE, NB_BAD_TIME and
- *         NB_SPARE_SISA that holds. Bytes behind the message are not looked at.
+ *         NB_SPARE_SISA that applies. Bytes after the message are ignored.
  */
 nb_status nb_message_read(const uint8_t *payload, size_t n, uint32_t week, nb_item *item);
 
 /**
  * @brief Makes the frame of message 1019 or 1046 of an ephemeris: 67 or 69 bytes.
- * @param used set to its size, which may be more than the room: the prefix that fits is put
- * @return NB_OK, NB_NO_ITEM or NB_NO_MESSAGE; but for NB_OK nothing is put, and the size is 0
+ * @param used set to its size, which may be more than the buffer: the prefix that fits is written
+ * @return NB_OK, NB_NO_ITEM or NB_NO_MESSAGE; without NB_OK nothing is written, and the size is 0
  */
 nb_status nb_message_write(const nb_item *item, uint8_t *frame, size_t room, size_t *used);
 
@@ -342,11 +342,11 @@ typedef struct nb_subframe_bits {
     uint8_t bytes[38]; /**< the bytes */
 } nb_subframe_bits;
 
-/** The content of a subframe. What is not of its number is never looked at, and left as it is. */
+/** The content of a subframe. Fields that its number does not have are ignored, and left unchanged. */
 typedef struct nb_subframe {
     uint32_t number;     /**< 1 to 3, or 4 for page 18 of subframe 4 */
     uint32_t wn;         /**< week number modulo 1024, of subframe 1: 10 bits */
-    uint32_t second;     /**< transmission time, s of the week, of subframes 1 and 4; not looked at where one is written */
+    uint32_t second;     /**< transmission time, s of the week, of subframes 1 and 4; ignored when a subframe is written */
     nb_gps_clock clock;  /**< of subframe 1 */
     nb_gps_side side;    /**< of subframe 1 */
     nb_gps_orbit_a a;    /**< of subframe 2 */
@@ -358,16 +358,16 @@ typedef struct nb_subframe {
 /**
  * @brief Reads a subframe; one with inverted polarity is inverted first.
  * @param satellite the GPS satellite that sent it, 1 to 32
- * @param subframe  set where the answer is NB_OK, and left as it is otherwise
+ * @param subframe  set if NB_OK is returned, otherwise unchanged
  * @return NB_OK, NB_NO_SATELLITE, or the first of NB_SUBFRAME_PREAMBLE, NB_SUBFRAME_PARITY_1 to NB_SUBFRAME_PARITY_10,
- *         NB_SUBFRAME_TOW, NB_SUBFRAME_UNUSED and NB_SUBFRAME_TIME that holds
+ *         NB_SUBFRAME_TOW, NB_SUBFRAME_UNUSED and NB_SUBFRAME_TIME that applies
  */
 nb_status nb_subframe_read(const nb_subframe_bits *bits, uint32_t satellite, nb_subframe *subframe);
 
 /**
  * @brief Makes the bits of a subframe: TLM message, flags and reserved bits 0, the last four bits 0.
  * @param tow_count the start of the next subframe, in units of 6 s from the start of the week: 0 to 100,799
- * @param bits      set where the answer is NB_OK, and left as it is otherwise
+ * @param bits      set if NB_OK is returned, otherwise unchanged
  * @return NB_OK, NB_NO_TOW_COUNT or NB_NO_ITEM
  */
 nb_status nb_subframe_write(const nb_subframe *subframe, uint32_t tow_count, nb_subframe_bits *bits);
@@ -383,7 +383,7 @@ typedef struct nb_page_bits {
     uint8_t odd[15];  /**< the odd part, sent one second later */
 } nb_page_bits;
 
-/** The content of the word of a page. What is not of its type is never looked at, and left as it is. */
+/** The content of the word of a page. Fields that its type does not have are ignored, and left unchanged. */
 typedef struct nb_word {
     uint32_t number;      /**< the word type, 1 to 5 */
     uint32_t wn;          /**< Galileo week number modulo 4096, of word type 5: 12 bits */
@@ -397,18 +397,18 @@ typedef struct nb_word {
 } nb_word;
 
 /**
- * @brief Reads the word of a page. Tail bits, and the eight bits behind the CRC, are ignored.
+ * @brief Reads the word of a page. Tail bits, and the eight bits after the CRC, are ignored.
  * @param satellite the Galileo satellite that sent it, 1 to 36
- * @param word      set where the answer is NB_OK, and left as it is otherwise
+ * @param word      set if NB_OK is returned, otherwise unchanged
  * @return NB_OK, NB_NO_SATELLITE, or the first of NB_PAGE_ALERT, NB_PAGE_NO_PAIR, NB_PAGE_CRC, NB_WORD_UNUSED,
- *         NB_WORD_SATELLITE, NB_WORD_TIME and NB_WORD_SISA that holds
+ *         NB_WORD_SATELLITE, NB_WORD_TIME and NB_WORD_SISA that applies
  */
 nb_status nb_page_read(const nb_page_bits *page, uint32_t satellite, nb_word *word);
 
 /**
  * @brief Makes the page of a word: nominal, reserved and tail bits 0.
  * @param satellite the Galileo satellite that sends it, 1 to 36; word type 4 names it
- * @param page      set where the answer is NB_OK, and left as it is otherwise
+ * @param page      set if NB_OK is returned, otherwise unchanged
  * @return NB_OK, NB_NO_SATELLITE or NB_NO_ITEM
  */
 nb_status nb_page_write(const nb_word *word, uint32_t satellite, nb_page_bits *page);
@@ -416,26 +416,26 @@ nb_status nb_page_write(const nb_word *word, uint32_t satellite, nb_page_bits *p
 /**@}*/
 
 /** @name I/NAV page parts, joined to pages (Galileo OS SIS ICD, 4.3.2)
- * A receiver hears the two parts of a page one second apart, of many satellites at once, some twice, some not at all. Page parts
- * that were taken wait here for their partners: a part of the same satellite and signal and of the other kind, the odd one a
- * second after the even one, with which the CRC is right. They stand in memory of the caller's, and take more from malloc.
+ * A receiver gets the two parts of a page one second apart, of many satellites at once, some twice, some not at all. Page parts
+ * wait here for their partners: a part of the same satellite and signal and of the other kind, the odd one a second after the
+ * even one, with which the CRC is right. They are in memory of the caller, and allocate more by malloc.
  *
  *     nb_pages_init(&it, 60);
- *     for each part that is heard:
+ *     for each part that is received:
  *         if (nb_pages_take(&it, part, stamp, satellite, NB_E1B) == NB_OK)
  *             while (nb_pages_next(&it, &joined)) nb_page_read(&joined.page, satellite, &word);
  *     nb_pages_close(&it);
  */
 /**@{*/
 
-/** The most bytes that page parts take; nb_pages_size() tells how many they do take. */
+/** The most bytes that page parts need; nb_pages_size() returns the number. */
 #define NB_PAGES_MOST 1024
 
-/** Room for page parts, of no use before nb_pages_init(), and to be touched by the calls below alone, one at a time. Between two
- * calls it may be moved elsewhere, by memcpy. */
+/** Memory for page parts, initialised by nb_pages_init(), and used by the calls below only, one at a time. Between two calls it may be
+ * moved by memcpy. */
 typedef union nb_pages {
     uint64_t aligned;            /**< so that it is aligned */
-    uint8_t room[NB_PAGES_MOST]; /**< bytes, whose meaning is the library's */
+    uint8_t room[NB_PAGES_MOST]; /**< private bytes of the library */
 } nb_pages;
 
 /** The signal on which a part was received. */
@@ -446,40 +446,40 @@ typedef enum nb_signal {
 
 /** A page whose parts belong together. */
 typedef struct nb_joined {
-    nb_page_bits page; /**< its parts: those that were taken, but for reserved and tail bits, which are 0 */
-    uint32_t stamp;    /**< the stamp of its odd part */
+    nb_page_bits page; /**< its parts as received, with reserved and tail bits 0 */
+    uint32_t stamp;    /**< the time tag of its odd part */
 } nb_joined;
 
-/** How many bytes page parts take, at most NB_PAGES_MOST: for those who do not know this header's nb_pages. */
+/** The bytes that page parts need, at most NB_PAGES_MOST, for programs without this header. */
 size_t nb_pages_size(void);
 
 /**
- * @brief Makes page parts of this memory, whatever it held: none was taken.
- * @param window in seconds, 60 to 14,400; less is taken as 60, more as 14,400. A part is kept while its stamp is at most the
- *               window and one second below the greatest.
+ * @brief Initialises this memory, whatever its content.
+ * @param window in seconds, 60 to 14,400; less is taken as 60, more as 14,400. A part is retained while its time tag is at most
+ *               the window and one second below the greatest.
  */
 void nb_pages_init(nb_pages *at, uint32_t window);
 
 /**
- * @brief Takes a part, in any order with the others. What was not asked for of the part before is gone.
+ * @brief Takes a part, in any order with the others. Pages of the part before that were not fetched are dropped.
  * @param part      its 120 bits, 15 bytes, most significant bit first
- * @param stamp     when it was received, in whole seconds of any clock that does not jump
+ * @param stamp     the time tag: when it was received, in seconds of any clock that does not jump
  * @param satellite the Galileo satellite that sent it, 1 to 36
  * @param signal    an nb_signal
- * @return NB_OK; or the first of NB_NO_SATELLITE, NB_PAGE_ALERT, NB_NO_SIGNAL and NB_NO_MEMORY that holds, and then nothing is
- *         changed
+ * @return NB_OK; or the first of NB_NO_SATELLITE, NB_PAGE_ALERT, NB_NO_SIGNAL and NB_NO_MEMORY that applies, and then
+ *         nothing is changed
  */
 nb_status nb_pages_take(nb_pages *at, const uint8_t *part, uint32_t stamp, uint32_t satellite, uint32_t signal);
 
 /**
- * @brief Gives the next page that the last part makes with its partners: none where there is no partner yet, or where the same
- *        part is kept already; several where several parts are partners.
- * @param page set where there is one
- * @return 1, or 0 where there is none
+ * @brief Returns the next page of the last part and its partners: none if there is no partner yet, or if the same part was
+ *        taken before; several if several parts are partners.
+ * @param page set if there is one
+ * @return 1, or 0 if there is none
  */
 uint32_t nb_pages_next(nb_pages *at, nb_joined *page);
 
-/** Gives back all memory that the parts hold: none is kept, and the window is of 60 seconds. */
+/** Releases all memory of the parts: none is retained, and the window is 60 seconds. */
 void nb_pages_close(nb_pages *at);
 
 /**@}*/
@@ -488,30 +488,30 @@ void nb_pages_close(nb_pages *at);
 /**@{*/
 
 /**
- * @brief Reads one record: its lines, with LF or CR LF. Lines behind the last of its kind, and columns behind the 80th, are
- *        not looked at.
+ * @brief Reads one record: its lines, with LF or CR LF. Lines after the last of its kind, and columns after the 80th, are
+ *        ignored.
  * @param version 4 for RINEX 4, where the record begins with the line that begins with `>`; 3 for RINEX 3, without it
- * @param item    set where the answer is NB_OK, and left as it is otherwise
+ * @param item    set if NB_OK is returned, otherwise unchanged
  * @return NB_OK; NB_NO_VERSION; NB_RECORD_PASSED_OVER; or the first of NB_RECORD_SATELLITE to NB_RECORD_FAR that is found, in
- *         this order: satellite, number of lines, the same satellite in the line of the date, date, numbers, what they make
+ *         this order: satellite, number of lines, the same satellite in the line of the date, date, numbers, epoch
  */
 nb_status nb_record_read(const uint8_t *text, size_t n, uint32_t version, nb_item *item);
 
 /**
  * @brief Writes the record of an item: its lines, each with LF.
  * @param version 4 for RINEX 4.01, with the line that begins with `>`; 3 for RINEX 3.05, without it
- * @param used    set to the length of the record, which may be more than the room: the prefix that fits is put. Ionospheric
- *                parameters have no record in version 3, and its length is 0
- * @return NB_OK, NB_NO_VERSION or NB_NO_ITEM; but for NB_OK nothing is put, and the length is 0
+ * @param used    set to the length of the record, which may be more than the buffer: the prefix that fits is written.
+ *                Ionospheric parameters have no record in version 3, and the length is 0
+ * @return NB_OK, NB_NO_VERSION or NB_NO_ITEM; without NB_OK nothing is written, and the length is 0
  */
 nb_status nb_record_write(const nb_item *item, uint32_t version, uint8_t *text, size_t room, size_t *used);
 
 /**@}*/
 
 /** @name Frames of a stream
- * A deframer finds the frames in bytes that come in pieces of any size. A frame may begin at each byte D3: where it is whole and
- * its checksum right the search goes on behind it, and else at the next byte. It stands in memory of the caller's, takes none
- * itself, and is dropped by being forgotten.
+ * A deframer finds the frames in bytes that come in pieces of any size. A frame may begin at each byte D3: if it is complete and
+ * its checksum right, the search continues after it, otherwise at the next byte. It is in memory of the caller, allocates
+ * nothing, and needs no call at its end.
  *
  *     nb_deframer_init(&it);
  *     for (;;) {
@@ -526,46 +526,46 @@ nb_status nb_record_write(const nb_item *item, uint32_t version, uint8_t *text, 
  */
 /**@{*/
 
-/** The most bytes that a deframer takes; nb_deframer_size() tells how many it does take. */
+/** The most bytes that a deframer needs; nb_deframer_size() returns the number. */
 #define NB_DEFRAMER_MOST 24576
 
-/** Room for a deframer, of no use before nb_deframer_init(), and to be touched by the calls below alone, one at a time. Between
- * two calls it may be moved elsewhere, by memcpy. */
+/** Memory for a deframer, initialised by nb_deframer_init(), and used by the calls below only, one at a time. Between two calls it may be
+ * moved by memcpy. */
 typedef union nb_deframer {
     uint64_t aligned;               /**< so that it is aligned */
-    uint8_t room[NB_DEFRAMER_MOST]; /**< bytes, whose meaning is the library's */
+    uint8_t room[NB_DEFRAMER_MOST]; /**< private bytes of the library */
 } nb_deframer;
 
-/** How many bytes a deframer takes, at most NB_DEFRAMER_MOST: for those who do not know this header's nb_deframer. */
+/** The bytes that a deframer needs, at most NB_DEFRAMER_MOST, for programs without this header. */
 size_t nb_deframer_size(void);
 
-/** Makes a deframer of this memory, whatever it held: no byte was fed. */
+/** Initialises this memory, whatever its content. */
 void nb_deframer_init(nb_deframer *at);
 
 /**
  * @brief Feeds bytes from the start of a piece.
- * @return how many were taken: at least one; but none where there are none, where a frame is decided that nb_deframer_next() was
- *         not asked for, and behind nb_deframer_finish().
+ * @return how many were taken: at least one; none if n is 0, if nb_deframer_next() has a frame to return, and after
+ *         nb_deframer_finish().
  */
 size_t nb_deframer_feed(nb_deframer *at, const uint8_t *bytes, size_t n);
 
 /**
- * @brief Gives the next frame of what was fed, and passes what stands before its end.
- * @param frame room for it, which wants NB_FRAME_MOST bytes: the prefix that fits is put there
- * @return its size, 6 to 1,029. 0 where no frame is decided: what is left is empty or begins with an incomplete frame. Behind
- *         nb_deframer_finish() 0 says that there is no further frame.
+ * @brief Returns the next frame of the bytes so far, and drops the bytes up to its end.
+ * @param frame a buffer, which should have NB_FRAME_MOST bytes: it gets the prefix that fits
+ * @return its size, 6 to 1,029. 0 if no frame is decided: the bytes that are left are none or begin with an incomplete frame.
+ *         After nb_deframer_finish() 0 means that there is no further frame.
  */
 size_t nb_deframer_next(nb_deframer *at, uint8_t *frame, size_t room);
 
-/** Says that no byte follows: a frame that is incomplete stays so, and the bytes behind its first are then searched. */
+/** Ends the input: a frame that is incomplete stays so, and the bytes after its first are searched. */
 void nb_deframer_finish(nb_deframer *at);
 
 /**@}*/
 
 /** @name Conversions whose input is pushed
- * What nb_convert() does of a whole input, of one that comes in pieces of any size: a capture (`--from=capture`) to whatever it is
- * converted to, a stream (`--from=stream`) to RINEX or to frames of its ephemerides. It stands in memory of the caller's, and
- * keeps what it writes and reports until it is closed; the output and the report are taken as they come, into rooms of any size.
+ * What nb_convert() does, for an input that comes in pieces of any size: a capture (`--from=capture`) to any target, a stream
+ * (`--from=stream`) to RINEX or to frames of its ephemerides. It is in memory of the caller, and retains its output and report
+ * until it is closed; both are taken as they come, into buffers of any size.
  *
  *     status = nb_push_open(&it, words, n_words);
  *     while (status == NB_OK) {
@@ -577,29 +577,29 @@ void nb_deframer_finish(nb_deframer *at);
  *     }
  *     nb_push_close(&it);
  *
- * Whatever the pieces, what is taken up to the end is what nb_convert() puts of the whole input. Before the end it is what the
- * bytes decide, whatever follows: the record of an ephemeris of a stream is there as soon as its frame is whole, that of a
- * capture as soon as its period is closed.
+ * Whatever the pieces, the output up to the end is that of nb_convert() for the complete input. Before the end it is what the
+ * bytes decide, whatever follows: the record of an ephemeris of a stream is available as soon as its frame is complete, that of
+ * a capture as soon as its issue is closed.
  */
 /**@{*/
 
-/** The most bytes that a conversion takes; nb_push_size() tells how many it does take. */
+/** The most bytes that a conversion needs; nb_push_size() returns the number. */
 #define NB_PUSH_MOST 65536
 
-/** Room for a conversion, of no use before nb_push_open(), and to be touched by the calls below alone, one at a time. Between two
- * calls it may be moved elsewhere, by memcpy. */
+/** Memory for a conversion, initialised by nb_push_open(), and used by the calls below only, one at a time. Between two calls it may be
+ * moved by memcpy. */
 typedef union nb_push_state {
     uint64_t aligned;           /**< so that it is aligned */
-    uint8_t room[NB_PUSH_MOST]; /**< bytes, whose meaning is the library's */
+    uint8_t room[NB_PUSH_MOST]; /**< private bytes of the library */
 } nb_push_state;
 
-/** How many bytes a conversion takes, at most NB_PUSH_MOST: for those who do not know this header's nb_push_state. */
+/** The bytes that a conversion needs, at most NB_PUSH_MOST, for programs without this header. */
 size_t nb_push_size(void);
 
 /**
- * @brief Makes a conversion of this memory, whatever it held, and opens the job that the words give. Call nb_push_close() at its
- *        end, whatever was answered, and before it is opened anew: it holds memory.
- * @param words   the words of the command line behind the program's name, as for nb_convert()
+ * @brief Initialises this memory, whatever its content, and opens the conversion that the arguments name. Call nb_push_close() at
+ *        its end, whatever was returned, and before it is opened again: it has allocated memory.
+ * @param words   the arguments, as for nb_convert()
  * @param n_words how many
  * @return NB_OK, NB_NO_JOB, NB_NO_MEMORY, NB_NO_TEXT or NB_NOT_PUSHED
  */
@@ -607,24 +607,24 @@ nb_status nb_push_open(nb_push_state *at, const nb_bytes *words, size_t n_words)
 
 /**
  * @brief Pushes the next bytes of the input.
- * @return NB_OK; NB_NOT_THIS_FORM where the first line of a capture is refused; NB_NO_MEMORY, behind which what was written and
- *         reported is a prefix of what the whole gives; NB_TOO_LONG where a capture has 2^32 bytes, or a stream 2^64. Each answer
- *         but NB_OK is given by each further call, and so is that of nb_push_open(); NB_ENDED behind nb_push_finish(), NB_CLOSED
- *         behind nb_push_close().
+ * @return NB_OK; NB_NOT_THIS_FORM if the first line of a capture is rejected; NB_NO_MEMORY, after which output and report are a
+ *         prefix of those of the complete input; NB_TOO_LONG if a capture has 2^32 bytes, or a stream 2^64. After any code but
+ *         NB_OK, also of nb_push_open(), each further call returns it; NB_ENDED after nb_push_finish(), NB_CLOSED after
+ *         nb_push_close().
  */
 nb_status nb_push(nb_push_state *at, const uint8_t *bytes, size_t n);
 
-/** Says that no byte follows: an incomplete frame may hide whole ones, a last line may lack its end, what is open of a capture is
- * closed, and the report ends with the counts. NB_OK, or as nb_push(), but NB_TOO_LONG never comes here. */
+/** Ends the input: an incomplete frame may contain complete ones, a last line may lack its end, the open issues of a capture are
+ * closed, and the report ends with the counts. Returns NB_OK, or as nb_push(), but never NB_TOO_LONG. */
 nb_status nb_push_finish(nb_push_state *at);
 
-/** Puts the next bytes of the output, as many as wait and fit, and tells how many: 0 where none waits, or there is no room. */
+/** Writes the next bytes of the output, as many as are available and fit, and returns how many. */
 size_t nb_push_take(nb_push_state *at, uint8_t *room, size_t n);
 
 /** The same of the report. */
 size_t nb_push_take_report(nb_push_state *at, uint8_t *room, size_t n);
 
-/** Gives back all memory that the conversion holds. What was not taken is gone. */
+/** Releases all memory of the conversion. Output and report that were not taken are lost. */
 void nb_push_close(nb_push_state *at);
 
 /**@}*/
@@ -673,7 +673,7 @@ static inline size_t nb_frame_wanted(const uint8_t *bytes, size_t n) {
 /** An orbit and its clock in SI units, angles in radians. */
 typedef struct nb_orbit {
     double toe;       /**< time of the ephemeris, s of the week toe_week */
-    double toc;       /**< time of the clock's data, s of that week; below 0 or from 604,800 on in the week before or behind */
+    double toc;       /**< time of the clock's data, s of that week; below 0 or from 604,800 on in the week before or after */
     double af0;       /**< clock bias, s */
     double af1;       /**< clock drift, s/s */
     double af2;       /**< clock drift rate, s/s^2 */
