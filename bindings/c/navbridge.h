@@ -431,8 +431,8 @@ nb_status nb_page_write(const nb_word *word, uint32_t satellite, nb_page_bits *p
 /** The most bytes that page parts need; nb_pages_size() returns the number. */
 #define NB_PAGES_MOST 1024
 
-/** Memory for page parts, initialised by nb_pages_init(), and used by the calls below only, one at a time. Between two calls it may be
- * moved by memcpy. */
+/** Memory for page parts, initialised by nb_pages_init(), and used by the calls below only, one at a time. Between two calls it
+ * may be moved by memcpy. */
 typedef union nb_pages {
     uint64_t aligned;            /**< so that it is aligned */
     uint8_t room[NB_PAGES_MOST]; /**< private bytes of the library */
@@ -529,8 +529,8 @@ nb_status nb_record_write(const nb_item *item, uint32_t version, uint8_t *text, 
 /** The most bytes that a deframer needs; nb_deframer_size() returns the number. */
 #define NB_DEFRAMER_MOST 24576
 
-/** Memory for a deframer, initialised by nb_deframer_init(), and used by the calls below only, one at a time. Between two calls it may be
- * moved by memcpy. */
+/** Memory for a deframer, initialised by nb_deframer_init(), and used by the calls below only, one at a time. Between two calls it
+ * may be moved by memcpy. */
 typedef union nb_deframer {
     uint64_t aligned;               /**< so that it is aligned */
     uint8_t room[NB_DEFRAMER_MOST]; /**< private bytes of the library */
@@ -586,8 +586,8 @@ void nb_deframer_finish(nb_deframer *at);
 /** The most bytes that a conversion needs; nb_push_size() returns the number. */
 #define NB_PUSH_MOST 65536
 
-/** Memory for a conversion, initialised by nb_push_open(), and used by the calls below only, one at a time. Between two calls it may be
- * moved by memcpy. */
+/** Memory for a conversion, initialised by nb_push_open(), and used by the calls below only, one at a time. Between two calls it
+ * may be moved by memcpy. */
 typedef union nb_push_state {
     uint64_t aligned;           /**< so that it is aligned */
     uint8_t room[NB_PUSH_MOST]; /**< private bytes of the library */
